@@ -1,0 +1,5 @@
+use Rattle.dt_cred.proofs.Decimals.{Scanned}
+use Rattle.dt_cred.proofs.class.decimal.Given as goal
+
+abbrev pub invariant-loop-digit : goal.invariant-loop-digit
+invariant-loop-digit l = Scanned l.digits l.digit-index l.number

@@ -1,0 +1,2 @@
+pub mod Class
+pub mod Rights

@@ -1,0 +1,15 @@
+//! Who may trace what: accounts with their privileges, the classes of probes, and the table that ties them.
+//!
+//! `permits`, `may_enable` and `admits` answer exactly what the table in `specs/Rights.antt` says, and a probe's class
+//! is the one that its provider's name stands for (`specs/Class.antt`). No call takes memory.
+#![tactic(auto)]
+
+mod account;
+mod class;
+mod probe;
+mod rights;
+
+pub use account::{Account, Privs, Process};
+pub use class::Class;
+pub use probe::Probe;
+pub use rights::{Mode, admits, may_enable, permits};

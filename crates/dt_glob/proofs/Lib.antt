@@ -1,0 +1,5 @@
+pub mod SignLemmas
+pub mod ReadingLemmas
+pub mod MatchLemmas
+pub mod PlaceLemmas
+pub mod TokenLemmas

@@ -1,0 +1,9 @@
+pub mod Sign
+pub mod Item
+pub mod Matches
+pub mod Spells
+pub mod Fault
+pub mod Reading
+pub mod Place
+pub mod Token
+pub mod Run

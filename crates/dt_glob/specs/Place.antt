@@ -1,0 +1,41 @@
+-- Where the check of a text stands behind some signs.
+use Rattle.std.specs.Prelude.{◌≡◌, ◌≢◌, Bool, true, false, if◌then◌else◌, List, [], ◌∷◌, ◌++◌, Result, Ok, Err}
+use Rattle.dt_glob.specs.declared.sign.Sign.{Sign}
+use Rattle.dt_glob.specs.declared.place.Place.{Place}
+use Rattle.dt_glob.specs.declared.place.Place.TheVariants.{Outside, Opened, Negated, Inside}
+use Rattle.dt_glob.specs.declared.fault.GlobFault.{GlobFault}
+use Rattle.dt_glob.specs.declared.fault.GlobFault.TheVariants.{EmptySet}
+use Rattle.dt_glob.specs.Sign.{opening, closing, bang}
+use Rattle.dt_glob.specs.Spells.{Lacks, BeginsWith, mark}
+use Rattle.dt_glob.specs.Fault.{AreItems}
+use Rattle.dt_glob.specs.Reading.{is_plain}
+
+-- where one more sign leads
+abbrev pub step_of : Place → Sign → Result Place GlobFault
+step_of Outside sign = if is_plain 91 sign then Ok Opened else Ok Outside
+step_of Opened sign = if is_plain 93 sign then Err EmptySet else (if is_plain 33 sign then Ok Negated else Ok Inside)
+step_of Negated sign = if is_plain 93 sign then Err EmptySet else Ok Inside
+step_of Inside sign = if is_plain 93 sign then Ok Outside else Ok Inside
+
+-- whole items and the front of a set, which has an element already
+pub record IsInside (signs : List Sign) : Type 0 where
+  pub front : List Sign
+  pub negated : Bool
+  pub inside : List Sign
+  pub cut : signs ≡ front ++ opening ∷ (mark negated ++ inside)
+  pub items : AreItems front
+  pub marked : negated ≡ false → ¬ BeginsWith bang inside
+  pub unended : Lacks closing inside
+  pub some : inside ≢ []
+
+-- whole items and how a set begins
+pub record HasOpened (negated : Bool) (signs : List Sign) : Type 0 where
+  pub front : List Sign
+  pub cut : signs ≡ front ++ opening ∷ mark negated
+  pub items : AreItems front
+
+abbrev pub StandsAt : Place → List Sign → Type 0
+StandsAt Outside signs = AreItems signs
+StandsAt Opened signs = HasOpened false signs
+StandsAt Negated signs = HasOpened true signs
+StandsAt Inside signs = IsInside signs

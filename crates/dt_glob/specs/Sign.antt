@@ -1,0 +1,51 @@
+-- The bytes of a pattern's text: a byte behind a `\` is escaped, and any other byte is plain.
+use Rattle.std.specs.Prelude.{◌≢◌, ℕ, List, [], ◌∷◌, ◌++◌}
+use Rattle.dt_glob.specs.declared.sign.Sign.{Sign}
+use Rattle.dt_glob.specs.declared.sign.Sign.TheVariants.{Plain, Escaped}
+
+-- the byte that a sign stands for
+abbrev pub byte_of : Sign → ℕ
+byte_of (Plain byte) = byte
+byte_of (Escaped byte) = byte
+
+-- a `\`
+abbrev pub escape : ℕ
+escape = 92
+
+-- how a sign is written
+abbrev pub sign_text : Sign → List ℕ
+sign_text (Plain byte) = byte ∷ []
+sign_text (Escaped byte) = escape ∷ byte ∷ []
+
+-- how signs are written, one after another
+abbrev pub text_of : List Sign → List ℕ
+text_of [] = []
+text_of (sign ∷ signs) = sign_text sign ++ text_of signs
+
+-- no `\` is plain
+abbrev pub IsSign : Sign → Type 0
+IsSign (Plain byte) = byte ≢ escape
+IsSign (Escaped byte) = Unit {0}
+
+abbrev pub AreSigns : List Sign → Type 0
+AreSigns [] = Unit {0}
+AreSigns (sign ∷ signs) = IsSign sign × AreSigns signs
+
+-- the signs that have a meaning: a star, a question mark, brackets, an exclamation mark and a dash
+abbrev pub star : Sign
+star = Plain 42
+
+abbrev pub question : Sign
+question = Plain 63
+
+abbrev pub opening : Sign
+opening = Plain 91
+
+abbrev pub closing : Sign
+closing = Plain 93
+
+abbrev pub bang : Sign
+bang = Plain 33
+
+abbrev pub dash : Sign
+dash = Plain 45

@@ -1,0 +1,69 @@
+-- What items a pattern's text spells.
+use Rattle.std.specs.Prelude.{◌≡◌, ◌≢◌, ℕ, ◌⊎◌, Bool, true, false, List, [], ◌∷◌, ◌++◌}
+use Rattle.dt_glob.specs.declared.sign.Sign.{Sign}
+use Rattle.dt_glob.specs.declared.sign.Sign.TheVariants.{Plain, Escaped}
+use Rattle.dt_glob.specs.declared.element.Element.{Element}
+use Rattle.dt_glob.specs.declared.element.Element.TheVariants.{Single, Range}
+use Rattle.dt_glob.specs.Sign.{byte_of, text_of, AreSigns, star, question, opening, closing, bang, dash}
+use Rattle.dt_glob.specs.Item.{Item, Star, AnyByte, Literal, OneOf}
+
+-- a plain `-` with a sign behind it
+abbrev pub BeginsRangeEnd : List Sign → Type 0
+BeginsRangeEnd [] = ⊥
+BeginsRangeEnd (sign ∷ []) = ⊥
+BeginsRangeEnd (sign ∷ last ∷ signs) = sign ≡ dash
+
+-- The inside of a set, element by element. A byte, a plain `-` and a byte make a range, unless the first is a
+-- plain `-` itself. Any other byte, and a plain `-` at which an element begins, is an element of its own.
+abbrev pub SpellsElements : List Sign → List Element → Type 0
+SpellsElements signs [] = signs ≡ []
+SpellsElements signs (Single byte ∷ elements) = (sign : Sign) × (rest : List Sign) × (signs ≡ sign ∷ rest)
+    × (byte ≡ byte_of sign) × ((sign ≡ dash) ⊎ (¬ BeginsRangeEnd rest)) × SpellsElements rest elements
+SpellsElements signs (Range first last ∷ elements) = (front : Sign) × (back : Sign) × (rest : List Sign)
+    × (signs ≡ front ∷ dash ∷ back ∷ rest) × (first ≡ byte_of front) × (last ≡ byte_of back) × (front ≢ dash)
+    × SpellsElements rest elements
+
+-- this sign is none of the list
+abbrev pub Lacks : Sign → List Sign → Type 0
+Lacks sign [] = Unit {0}
+Lacks sign (next ∷ signs) = (next ≢ sign) × Lacks sign signs
+
+abbrev pub BeginsWith : Sign → List Sign → Type 0
+BeginsWith sign [] = ⊥
+BeginsWith sign (next ∷ signs) = next ≡ sign
+
+-- how a negated set begins, behind its `[`
+abbrev pub mark : Bool → List Sign
+mark true = bang ∷ []
+mark false = []
+
+-- a set without its brackets: it has an element, no plain `]`, and begins with a plain `!` where it is negated only
+pub record SpellsSet (signs : List Sign) (negated : Bool) (elements : List Element) : Type 0 where
+  pub inside : List Sign
+  pub begins : signs ≡ mark negated ++ inside
+  pub marked : negated ≡ false → ¬ BeginsWith bang inside
+  pub unended : Lacks closing inside
+  pub some : inside ≢ []
+  pub spells : SpellsElements inside elements
+
+-- signs that spell one item
+abbrev pub SpellsItem : List Sign → Item → Type 0
+SpellsItem signs Star = signs ≡ star ∷ []
+SpellsItem signs AnyByte = signs ≡ question ∷ []
+SpellsItem signs (Literal byte) = (signs ≡ Escaped byte ∷ [])
+    ⊎ ((signs ≡ Plain byte ∷ []) × (Plain byte ≢ star) × (Plain byte ≢ question) × (Plain byte ≢ opening))
+SpellsItem signs (OneOf negated elements) = (inner : List Sign) × (signs ≡ opening ∷ (inner ++ closing ∷ []))
+    × SpellsSet inner negated elements
+
+-- the signs can be cut into pieces that spell the items in order
+abbrev pub SpellsItems : List Sign → List Item → Type 0
+SpellsItems signs [] = signs ≡ []
+SpellsItems signs (item ∷ items) = (front : List Sign) × (rest : List Sign) × (signs ≡ front ++ rest)
+    × SpellsItem front item × SpellsItems rest items
+
+-- the text is a pattern of these items
+pub record Spells (text : List ℕ) (items : List Item) : Type 0 where
+  pub signs : List Sign
+  pub written : text ≡ text_of signs
+  pub are_signs : AreSigns signs
+  pub spells : SpellsItems signs items

@@ -1,0 +1,22 @@
+//! Patterns over short texts of bytes, as a tracing request uses them to name many probes at once.
+//!
+//! A text of at most 63 bytes is a pattern or has one fault, never both, and reading it takes no memory
+//! (`Pattern::parse`). A pattern matches a text exactly when the text can be cut into pieces that the pattern's items
+//! match in order (`Pattern::matches`), and telling so takes polynomial time.
+//! Where the definitions stand: `specs/Sign.antt` for the bytes of a pattern's text, `specs/Item.antt` for items,
+//! `specs/Spells.antt` for what a text spells, `specs/Fault.antt` for its first fault, and `specs/Matches.antt`.
+#![tactic(auto)]
+
+mod element;
+mod fault;
+mod pattern;
+mod place;
+mod run;
+mod sign;
+mod token;
+
+pub use fault::GlobFault;
+pub use pattern::{Pattern, one_answer};
+
+#[cfg(test)]
+mod tests;

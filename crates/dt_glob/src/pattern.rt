@@ -1,0 +1,151 @@
+//! Patterns: read, kept and matched.
+
+ghost use Rattle.std.specs.Prelude.{◌≡◌, ℕ, ◌≤◌, ◌↔◌, ◌⊎◌, List, [], length, IsTrue, IfOk, IfErr, OnOk};
+ghost use Rattle.dt_glob.specs.declared.fault.GlobFault.{GlobFault};
+ghost use Rattle.dt_glob.specs.Item.{Item};
+ghost use Rattle.dt_glob.specs.Matches.{Matches};
+ghost use Rattle.dt_glob.specs.Spells.{Spells};
+ghost use Rattle.dt_glob.specs.Fault.{FaultOf};
+
+use crate::fault::GlobFault;
+use crate::place::Place;
+use crate::run::Run;
+use crate::sign::Sign;
+use arrayvec::ArrayVec;
+use std::marker::Model;
+
+/// The most bytes that a pattern's text may have.
+const PATTERN_MAX: usize = 63;
+
+/// A pattern: a list of items, which matches the texts that can be cut into pieces that its items match in order.
+///
+/// | item | matches |
+/// |---|---|
+/// | `*` | any text, the empty one too |
+/// | `?` | any one byte |
+/// | `\` and a byte | that byte |
+/// | `[`set`]` | one byte in the set |
+/// | `[!`set`]` | one byte not in the set |
+/// | any other byte | itself |
+///
+/// A set has bytes and ranges, as in `[a-z_]`: a range is all bytes from its first to its last. Each byte of a set may
+/// have a `\` in front of it, and then stands for itself. A `-` is a byte of the set where an element begins and in
+/// front of the closing `]`; elsewhere it makes a range of the bytes beside it.
+#[derive(Debug, Drop)]
+pub struct Pattern {
+    text: ArrayVec<u8, PATTERN_MAX>,
+}
+
+impl Model for Pattern {
+    ghost use Rattle.std.specs.Prelude.{List};
+    ghost use Rattle.dt_glob.specs.Item.{Item};
+    ghost use Rattle.dt_glob.specs.Spells.{Spells};
+    ghost use Rattle.dt_glob.specs.Reading.{items_of};
+
+    ghost Value = { List Item };
+
+    ghost view = { λ p. items_of p.text.items };
+
+    ghost invariant = { λ p. Spells p.text.items (items_of p.text.items) };
+}
+
+impl Pattern {
+    /// Reads the pattern that a text of at most 63 bytes spells, and takes no memory. A text that is no pattern has
+    /// one fault, the first from the left: `EmptySet` at the `]` of a set without an element, `Unclosed` at the end of
+    /// a text whose last set has no `]`, and `LoneEscape` at a `\` that ends the text.
+    pub fn parse(text: &[u8]) -> Result<Pattern, GlobFault>
+        requires { length text.now ≤ 63 }
+        ensures found { IfOk result (λ pattern. Spells text.now pattern) }
+        ensures fault { IfErr result (FaultOf text.now) }
+    {
+        check(text)?;
+        let Ok(text) = ArrayVec::try_from(text) else {
+            unreachable!()
+        };
+        Ok(Pattern { text })
+    }
+
+    /// Whether the pattern matches the whole text. The time is at most proportional to the pattern's length times the
+    /// length of both together, however many stars there are.
+    pub fn matches(&self, text: &[u8]) -> bool
+        ensures { IsTrue result ↔ Matches self.now text.now }
+    {
+        matches_text(self.text.as_slice(), text)
+    }
+
+    /// Whether this is the pattern of the empty text, which matches the empty text alone. Where an empty pattern is to
+    /// match everything, ask this first.
+    pub fn is_empty(&self) -> bool
+        ensures { IsTrue result ↔ (self.now ≡ []) }
+    {
+        self.text.is_empty()
+    }
+
+    /// The text that the pattern was read from.
+    pub fn as_bytes(&self) -> &[u8]
+        ensures { Spells result.now self.now }
+    {
+        self.text.as_slice()
+    }
+}
+
+/// Whether a text is a pattern, and if not its first fault.
+fn check(text: &[u8]) -> Result<(), GlobFault>
+    ensures found { OnOk result ((items : List Item) × Spells text.now items) }
+    ensures fault { IfErr result (FaultOf text.now) }
+{
+    let mut place = Place::Outside;
+    let mut rest = text;
+    while let Some((sign, behind)) = Sign::split_first(rest) {
+        place = place.step(sign)?;
+        rest = behind;
+    }
+    if !rest.is_empty() {
+        return Err(GlobFault::LoneEscape);
+    }
+    match place {
+        Place::Outside => Ok(()),
+        _ => Err(GlobFault::Unclosed),
+    }
+}
+
+/// Whether a pattern's text matches a text. A star takes as little as the items up to the next star allow: each of
+/// those takes one byte, so where they fit later, they fit here and leave more to what follows.
+fn matches_text(pattern: &[u8], text: &[u8]) -> bool
+    requires { (items : List Item) × Spells pattern.now items }
+    ensures { (items : List Item) → Spells pattern.now items →
+        (IsTrue result ↔ Matches items text.now) }
+{
+    let mut unread = pattern;
+    let mut left = text;
+    let mut behind_star = false;
+    loop {
+        match Run::of(unread, left) {
+            Run::Matched => return true,
+            Run::Star { behind, rest } => {
+                behind_star = true;
+                unread = behind;
+                left = rest;
+            }
+            Run::Failed => {
+                if !behind_star {
+                    return false;
+                }
+                let Some((_, rest)) = left.split_first() else {
+                    return false;
+                };
+                left = rest;
+            }
+        }
+    }
+}
+
+/// Each text is a pattern of one list of items or has one fault, and never both.
+pub fn one_answer()
+    ensures some { (text : List ℕ) →
+        ((items : List Item) × Spells text items) ⊎ ((fault : GlobFault) × FaultOf text fault) }
+    ensures one_pattern { (text : List ℕ) (a b : List Item) → Spells text a → Spells text b → a ≡ b }
+    ensures one_fault { (text : List ℕ) (a b : GlobFault) → FaultOf text a → FaultOf text b → a ≡ b }
+    ensures never_both { (text : List ℕ) (items : List Item) (fault : GlobFault) →
+        Spells text items → FaultOf text fault → ⊥ }
+{}

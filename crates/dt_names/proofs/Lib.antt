@@ -1,0 +1,5 @@
+pub mod Padding
+pub mod Names
+pub mod Aligning
+pub mod Clean
+pub mod Tuples

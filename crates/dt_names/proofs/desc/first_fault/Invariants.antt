@@ -1,0 +1,5 @@
+use Rattle.dt_names.proofs.Clean.{Scanned}
+use Rattle.dt_names.proofs.desc.first_fault.Given as goal
+
+abbrev pub invariant-loop-byte : goal.invariant-loop-byte
+invariant-loop-byte l = Scanned l.text l.byte-index l.colons l.field_len

@@ -1,0 +1,4 @@
+pub mod ShortText
+pub mod Name
+pub mod Desc
+pub mod Tuple

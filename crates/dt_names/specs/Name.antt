@@ -1,0 +1,18 @@
+-- What a name is.
+use Rattle.std.specs.Prelude.{◌≢◌, ℕ, ◌≤◌, List, length, All}
+
+-- A name byte is a visible ASCII character, but none of : , / { } and the double quote.
+pub record IsNameByte (byte : ℕ) : Type 0 where
+  pub above_blanks : 33 ≤ byte
+  pub below_delete : byte ≤ 126
+  pub no_colon : byte ≢ 58
+  pub no_comma : byte ≢ 44
+  pub no_slash : byte ≢ 47
+  pub no_open_brace : byte ≢ 123
+  pub no_close_brace : byte ≢ 125
+  pub no_quote : byte ≢ 34
+
+-- A name has at most 31 bytes, each of them a name byte.
+pub record IsName (bytes : List ℕ) : Type 0 where
+  pub short : length bytes ≤ 31
+  pub plain : All IsNameByte bytes

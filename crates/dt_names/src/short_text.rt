@@ -1,0 +1,67 @@
+ghost use Rattle.std.specs.Prelude.{◌≡◌, ◌-◌, ◌≤◌, ◌↔◌, ◌++◌, IsSome, IfSome, length, replicate};
+
+use std::marker::Model;
+
+/// The most bytes that a [`ShortText`] holds.
+pub const SHORT_TEXT_MAX: usize = 31;
+
+/// A text of at most 31 bytes, which lie in the value itself.
+///
+/// It is kept as a record shows it: 32 bytes, of which those behind the text are zero. So a copy takes no memory,
+/// and neither does [`padded`](ShortText::padded). Contracts see a `ShortText` as the list of its bytes.
+#[derive(Clone, Copy, PartialEq, Eq)]
+pub struct ShortText {
+    padded: [u8; 32],
+    len: usize,
+}
+
+impl Model for ShortText {
+    ghost use Rattle.std.specs.Prelude.{ℕ, ◌-◌, ◌++◌, List, length, take, replicate};
+    ghost use Rattle.dt_names.specs.ShortText.{IsPadded, cells-from_shown, length-shown};
+
+    ghost Value = { List ℕ };
+
+    ghost view = { λ t. take t.len t.padded };
+
+    ghost invariant = { λ t. IsPadded t.padded t.len };
+
+    ghost inverse = { λ xs. record { padded = xs ++ replicate (32 - length xs) 0; len = length xs } };
+
+    ghost inverse_ok = { λ t h i. record {
+      padded = cells-from_shown t.padded t.len h i;
+      len = length-shown t.padded t.len h i;
+    } };
+}
+
+impl ShortText {
+    /// The text of these bytes, or `None` where there are more than 31.
+    pub fn new(bytes: &[u8]) -> Option<Self>
+        ensures fits { IsSome result ↔ (length bytes.now ≤ 31) }
+        ensures value { IfSome result (λ text. text ≡ bytes.now) }
+    {
+        if bytes.len() > SHORT_TEXT_MAX {
+            return None;
+        }
+        let mut padded = [0; 32];
+        padded[..bytes.len()].copy_from_slice(bytes);
+        Some(ShortText {
+            padded,
+            len: bytes.len(),
+        })
+    }
+
+    /// The bytes of the text.
+    pub fn as_bytes(&self) -> &[u8]
+        ensures value { result.now ≡ self.now }
+        ensures fits { length result.now ≤ 31 }
+    {
+        &self.padded[..self.len]
+    }
+
+    /// The text as a record shows it: its bytes, and zeros up to 32 bytes in all.
+    pub fn padded(&self) -> &[u8; 32]
+        ensures { result.now ≡ self.now ++ replicate (32 - length self.now) 0 }
+    {
+        &self.padded
+    }
+}
