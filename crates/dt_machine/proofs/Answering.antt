@@ -1,0 +1,221 @@
+-- A text has one answer.
+use Rattle.std.proofs.Common.{◌≡◌, ◌∙◌, ◌<◌, ◌+◌, ◌⊎◌, inl, inr, ℕ, [], ◌∷◌, List, Some, slice_get, get_or, length, codes, lit<, refl, sym, ap, subst, arith}
+use Rattle.std.proofs.Math.Logic.{∥∥₁_prop}
+use Rattle.std.proofs.lemmas.Bool.{false≢true}
+use mathlib.Core.HLevel.{is_prop→PathP}
+use Rattle.serde_json.specs.Data.{Data}
+use Rattle.dt_names.specs.declared.tuple.ProbeTuple.{ProbeTuple}
+use Rattle.dt_cred.specs.Class.{IsClassOf}
+use Rattle.dt_cred.specs.declared.class.Class.{Class}
+use Rattle.dt_cred.specs.declared.class.Class.TheVariants.{Dtrace, Syscall, Profile, Pid, Other}
+use Rattle.dt_cred.specs.declared.probe.Probe.{Probe as ProbeType}
+use Rattle.dt_machine.specs.declared.fault.FaultNumber.{FaultNumber}
+use Rattle.dt_machine.specs.declared.fault.FaultNumber.TheVariants.{Json, Shape, Cpus, Account, Process, Probe, Script, Firing, Foreign, Memory}
+use Rattle.dt_machine.specs.declared.fault.MachineFault.{MachineFault}
+use Rattle.dt_machine.specs.Reading.{AllRight, AllRightIn, IsFirstWrong, IsFirstWrongIn, Passes, Finds, Registers, IsJson, IsFirstFault, IsFaultOf, IsDescribed, IsScriptFault, number_of, scripts_in, probes_in}
+use Rattle.dt_machine.specs.Registry.{Registry, Contents, Belongs}
+use Rattle.dt_machine.specs.Rows.{FiringRow, AreProbes, HasRoom, IsRightFiring, scripts}
+use Rattle.dt_machine.proofs.Faults.{one_number}
+use Rattle.dt_machine.proofs.Spelling.{spells_one, names_one, apart, no_pid_syscall, no_pid_profile, no_pid_dtrace}
+
+same_some : {A : Type 0} (x y : A) → Some x ≡ Some y → x ≡ y
+same_some x y e = cc
+
+-- the three ways in which two numbers stand
+order : (a b : ℕ) → (a < b) ⊎ ((a ≡ b) ⊎ (b < a))
+order a b = grind arith
+
+-- a provider has one class
+no_two : {C : Type 0} (a b : List ℕ) (provider : List ℕ) → provider ≡ a → provider ≡ b → (a ≡ b → ⊥) → C
+no_two a b provider p q differ = absurd (differ (sym p ∙ q))
+
+dtrace_syscall : codes "dtrace" ≡ codes "syscall" → ⊥
+dtrace_syscall e = cc
+
+dtrace_profile : codes "dtrace" ≡ codes "profile" → ⊥
+dtrace_profile e = cc
+
+syscall_profile : codes "syscall" ≡ codes "profile" → ⊥
+syscall_profile e = apart 115 112 (ap (λ (bytes : List ℕ). get_or bytes 0 0) e) (lit< tt)
+
+class_one : (provider : List ℕ) (a b : Class) → IsClassOf provider a → IsClassOf provider b → a ≡ b
+class_one provider Dtrace Dtrace p q = refl
+class_one provider Dtrace Syscall p q = absurd (dtrace_syscall (sym p ∙ q))
+class_one provider Dtrace Profile p q = absurd (dtrace_profile (sym p ∙ q))
+class_one provider Dtrace (Pid n) p q = absurd (no_pid_dtrace q.digits (sym q.spelled ∙ p))
+class_one provider Dtrace Other p q = absurd (q.0 p)
+class_one provider Syscall Dtrace p q = absurd (dtrace_syscall (sym q ∙ p))
+class_one provider Syscall Syscall p q = refl
+class_one provider Syscall Profile p q = absurd (syscall_profile (sym p ∙ q))
+class_one provider Syscall (Pid n) p q = absurd (no_pid_syscall q.digits (sym p ∙ q.spelled))
+class_one provider Syscall Other p q = absurd (q.1 p)
+class_one provider Profile Dtrace p q = absurd (dtrace_profile (sym q ∙ p))
+class_one provider Profile Syscall p q = absurd (syscall_profile (sym q ∙ p))
+class_one provider Profile Profile p q = refl
+class_one provider Profile (Pid n) p q = absurd (no_pid_profile q.digits (sym p ∙ q.spelled))
+class_one provider Profile Other p q = absurd (q.2 p)
+class_one provider (Pid m) Dtrace p q = absurd (no_pid_dtrace p.digits (sym p.spelled ∙ q))
+class_one provider (Pid m) Syscall p q = absurd (no_pid_syscall p.digits (sym q ∙ p.spelled))
+class_one provider (Pid m) Profile p q = absurd (no_pid_profile p.digits (sym q ∙ p.spelled))
+class_one provider (Pid m) (Pid n) p q = ap Pid (names_one provider m n p q)
+class_one provider (Pid m) Other p q = absurd (q.3 m p)
+class_one provider Other Dtrace p q = absurd (p.0 q)
+class_one provider Other Syscall p q = absurd (p.1 q)
+class_one provider Other Profile p q = absurd (p.2 q)
+class_one provider Other (Pid n) p q = absurd (p.3 n q)
+class_one provider Other Other p q = refl
+
+-- a probe is its number, its names and its class
+probe_path : (p q : ProbeType) → p.id ≡ q.id → p.tuple ≡ q.tuple → p.class ≡ q.class → p ≡ q
+probe_path p q e f g = λ i. record { id = e i; tuple = f i; class = g i; classed = is_prop→PathP (λ j. ∥ IsClassOf (f j).provider (g j) ∥₁) (λ j. ∥∥₁_prop) p.classed q.classed i }
+
+probes_one : (id : ℕ) (texts : List (List ℕ)) (ps qs : List ProbeType) → AreProbes id texts ps → AreProbes id texts qs → ps ≡ qs
+probes_one id [] [] [] a b = refl
+probes_one id [] [] (q ∷ qs) a b = absurd b
+probes_one id [] (p ∷ ps) qs a b = absurd a
+probes_one id (t ∷ ts) [] qs a b = absurd a
+probes_one id (t ∷ ts) (p ∷ ps) [] a b = absurd b
+probes_one id (t ∷ ts) (p ∷ ps) (q ∷ qs) a b =
+    let tuple = spells_one t p.tuple q.tuple a.1 b.1 in
+    let C : ProbeTuple → Type 0 = λ u. IsClassOf u.provider q.class in
+    let class = class_one p.tuple.provider p.class q.class a.2 (subst C (sym tuple) b.2) in
+    let head = probe_path p q (a.0 ∙ sym b.0) tuple class in
+    let tail = probes_one (id + 1) ts ps qs a.3 b.3 in
+    λ i. head i ∷ tail i
+
+pub registry_one : (d : Data) (r s : Registry) → Registers d r → Registers d s → r ≡ s
+registry_one d r s a b =
+    let cpus = same_some r.cpus s.cpus (sym a.cpus ∙ b.cpus) in
+    let accounts = a.accounts ∙ sym b.accounts in
+    let processes = a.processes ∙ sym b.processes in
+    let probes = probes_one 1 (codes "dtrace:::BEGIN" ∷ codes "dtrace:::END" ∷ probes_in d) r.probes s.probes a.probes b.probes in
+    λ i. record { cpus = cpus i; accounts = accounts i; processes = processes i; probes = probes i }
+
+-- the first wrong row is one
+clash_rows : {A : Type 0} (R : List A → A → Type 0) (rows : List A) (i j : ℕ) → i < j → IsFirstWrong R rows i → IsFirstWrong R rows j → ⊥
+clash_rows R rows i j less a b = a.wrong (b.right_before i a.row less a.there)
+
+first_one : {A : Type 0} (R : List A → A → Type 0) (rows : List A) (i j : ℕ) → IsFirstWrong R rows i → IsFirstWrong R rows j → i ≡ j
+first_one R rows i j a b = elim (order i j) [
+  | inl less ↦ absurd (clash_rows R rows i j less a b)
+  | inr rest ↦ elim rest [ inl same ↦ same | inr more ↦ absurd (clash_rows R rows j i more b a) ]
+]
+
+none_wrong : {A : Type 0} (R : List A → A → Type 0) (rows : List A) (i : ℕ) → AllRight R rows → IsFirstWrong R rows i → ⊥
+none_wrong R rows i right a = a.wrong (right i a.row a.there)
+
+none_wrong_in : {A : Type 0} (R : List A → A → Type 0) (all : List (List A)) (cpu i : ℕ) → AllRightIn R all → IsFirstWrongIn R all cpu i → ⊥
+none_wrong_in R all cpu i right a = none_wrong R a.script i (right cpu a.script a.there) a.first
+
+clash_scripts : {A : Type 0} (R : List A → A → Type 0) (all : List (List A)) (c k i j : ℕ) → c < k → IsFirstWrongIn R all c i → IsFirstWrongIn R all k j → ⊥
+clash_scripts R all c k i j less a b = none_wrong R a.script i (b.right_before c a.script less a.there) a.first
+
+first_one_in : {A : Type 0} (R : List A → A → Type 0) (all : List (List A)) (c k i j : ℕ) → IsFirstWrongIn R all c i → IsFirstWrongIn R all k j → (c ≡ k) × (i ≡ j)
+first_one_in {A} R all c k i j a b = elim (order c k) [
+  | inl less ↦ absurd (clash_scripts R all c k i j less a b)
+  | inr rest ↦ elim rest [
+    | inl same ↦
+        (let moved : slice_get all k ≡ Some a.script = ap (slice_get all) (sym same) ∙ a.there in
+        let one = same_some a.script b.script (sym moved ∙ b.there) in
+        let F : List A → Type 0 = λ script. IsFirstWrong R script i in
+        (same, first_one R b.script i j (subst F one a.first) b.first))
+    | inr more ↦ absurd (clash_scripts R all k c j i more b a)
+  ]
+]
+
+both_places : (c k i j : ℕ) → (c ≡ 0) × (i ≡ 0) → (k ≡ 0) × (j ≡ 0) → (c ≡ k) × (i ≡ j)
+both_places c k i j a b = (a.0 ∙ sym b.0, a.1 ∙ sym b.1)
+
+script_one : (cpus : ℕ) (all : List (List FiringRow)) (c k i j : ℕ) → IsScriptFault cpus all c i → IsScriptFault cpus all k j → (c ≡ k) × (i ≡ j)
+script_one cpus all c k i j (inl a) (inl b) = both_places c k i j a.1 b.1
+script_one cpus all c k i j (inl a) (inr b) = absurd (a.0 b.0)
+script_one cpus all c k i j (inr a) (inl b) = absurd (b.0 a.0)
+script_one cpus all c k i j (inr a) (inr b) = first_one_in HasRoom all c k i j a.1 b.1
+
+script_clear : (cpus : ℕ) (all : List (List FiringRow)) (c i : ℕ) → cpus ≡ length all → AllRightIn HasRoom all → IsScriptFault cpus all c i → ⊥
+script_clear cpus all c i same right (inl a) = a.0 same
+script_clear cpus all c i same right (inr a) = none_wrong_in HasRoom all c i right a.1
+
+-- what the tests of a number find, they find at one place
+place_one : (number : FaultNumber) (d : Data) (c k i j : ℕ) → Finds number d c i → Finds number d k j → (c ≡ k) × (i ≡ j)
+place_one Json d c k i j a b = absurd a
+place_one Shape d c k i j a b = both_places c k i j a.1 b.1
+place_one Cpus d c k i j a b = both_places c k i j a.1 b.1
+place_one Account d c k i j a b = (a.0 ∙ sym b.0, first_one _ _ i j a.1 b.1)
+place_one Process d c k i j a b = (a.0 ∙ sym b.0, first_one _ _ i j a.1 b.1)
+place_one Probe d c k i j a b = (a.0 ∙ sym b.0, first_one _ _ i j a.1 b.1)
+place_one Script d c k i j a b =
+    let same = same_some a.0 b.0 (sym a.1 ∙ b.1) in
+    let S : ℕ → Type 0 = λ n. IsScriptFault n (scripts_in d) c i in
+    script_one b.0 (scripts_in d) c k i j (subst S same a.2) b.2
+place_one Firing d c k i j a b =
+    let same = registry_one d a.0 b.0 a.1 b.1 in
+    let F : Registry → Type 0 = λ r. IsFirstWrongIn (IsRightFiring r) (scripts_in d) c i in
+    first_one_in (IsRightFiring b.0) (scripts_in d) c k i j (subst F same a.2) b.2
+place_one Foreign d c k i j a b =
+    let same = registry_one d a.0 b.0 a.1 b.1 in
+    let F : Registry → Type 0 = λ r. IsFirstWrongIn (λ _ firing. Belongs r firing) (scripts 0 (scripts_in d)) c i in
+    first_one_in (λ _ firing. Belongs b.0 firing) (scripts 0 (scripts_in d)) c k i j (subst F same a.2) b.2
+place_one Memory d c k i j a b = absurd a
+
+-- tests that find nothing don't find anything
+pub passes_finds : (number : FaultNumber) (d : Data) (c i : ℕ) → Passes number d → Finds number d c i → ⊥
+passes_finds Json d c i p f = f
+passes_finds Shape d c i p f = false≢true (sym f.0 ∙ p)
+passes_finds Cpus d c i p f = f.0 p
+passes_finds Account d c i p f = none_wrong _ _ i p f.1
+passes_finds Process d c i p f = none_wrong _ _ i p f.1
+passes_finds Probe d c i p f = none_wrong _ _ i p f.1
+passes_finds Script d c i p f = script_clear f.0 (scripts_in d) c i (same_some f.0 _ (sym f.1 ∙ p.0)) p.1 f.2
+passes_finds Firing d c i p f =
+    let same = registry_one d p.0 f.0 p.1 f.1 in
+    let R : Registry → Type 0 = λ r. AllRightIn (IsRightFiring r) (scripts_in d) in
+    none_wrong_in (IsRightFiring f.0) (scripts_in d) c i (subst R same p.2) f.2
+passes_finds Foreign d c i p f =
+    let same = registry_one d p.0 f.0 p.1 f.1 in
+    let R : Registry → Type 0 = λ r. AllRightIn (λ _ firing. Belongs r firing) (scripts 0 (scripts_in d)) in
+    none_wrong_in (λ _ firing. Belongs f.0 firing) (scripts 0 (scripts_in d)) c i (subst R same p.2) f.2
+passes_finds Memory d c i p f = f
+
+same_fault : (a b : MachineFault) → a.number ≡ b.number → a.cpu ≡ b.cpu → a.row ≡ b.row → a ≡ b
+same_fault a b p q r = λ i. record { number = p i; cpu = q i; row = r i }
+
+fault_one : (d : Data) (a b : MachineFault) → IsFirstFault d a → IsFirstFault d b → a ≡ b
+fault_one d a b f g = elim (order (number_of a.number) (number_of b.number)) [
+  | inl less ↦ absurd (passes_finds a.number d a.cpu a.row (g.none_before a.number less) f.found)
+  | inr rest ↦ elim rest [
+    | inl same ↦
+        (let number = one_number a.number b.number same in
+        let F : FaultNumber → Type 0 = λ n. Finds n d a.cpu a.row in
+        let place = place_one b.number d a.cpu b.cpu a.row b.row (subst F number f.found) g.found in
+        same_fault a b number place.0 place.1)
+    | inr more ↦ absurd (passes_finds b.number d b.cpu b.row (f.none_before b.number more) g.found)
+  ]
+]
+
+data_one : (text : List ℕ) (d e : Data) → IsJson text d → IsJson text e → d ≡ e
+data_one text d e a b = same_some d e (sym a.value ∙ b.value)
+
+pub one_fault : (text : List ℕ) (a b : MachineFault) → IsFaultOf text a → IsFaultOf text b → a ≡ b
+one_fault text a b (inl f) (inl g) = f.1 ∙ sym g.1
+one_fault text a b (inl f) (inr g) = absurd (f.0 g.0 g.1)
+one_fault text a b (inr f) (inl g) = absurd (g.0 f.0 f.1)
+one_fault text a b (inr f) (inr g) =
+    let same = data_one text f.0 g.0 f.1 g.1 in
+    let F : Data → Type 0 = λ d. IsFirstFault d a in
+    fault_one g.0 a b (subst F same f.2) g.2
+
+pub never_both : (text : List ℕ) (a : Contents) (b : MachineFault) → IsDescribed text a → IsFaultOf text b → ⊥
+never_both text a b f (inl g) = g.0 f.data_of f.json
+never_both text a b f (inr g) =
+    let same = data_one text g.0 f.data_of g.1 f.json in
+    let F : Data → Type 0 = λ d. IsFirstFault d b in
+    passes_finds b.number f.data_of b.cpu b.row (f.right b.number) (subst F same g.2).found
+
+pub one_machine : (text : List ℕ) (a b : Contents) → IsDescribed text a → IsDescribed text b → a ≡ b
+one_machine text a b f g =
+    let same = data_one text f.data_of g.data_of f.json g.json in
+    let R : Data → Type 0 = λ d. Registers d a.registry in
+    let registry = registry_one g.data_of a.registry b.registry (subst R same f.registry) g.registry in
+    let firings = f.firings ∙ ap (λ d. scripts 0 (scripts_in d)) same ∙ sym g.firings in
+    λ i. record { registry = registry i; scripts = firings i }

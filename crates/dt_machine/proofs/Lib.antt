@@ -1,0 +1,11 @@
+pub mod Answering
+pub mod ByPid
+pub mod Exits
+pub mod Faults
+pub mod Firings
+pub mod Lists
+pub mod Padding
+pub mod Registries
+pub mod Searching
+pub mod Soundness
+pub mod Spelling

@@ -1,0 +1,11 @@
+use Rattle.std.proofs.Common.{◌≡◌, ◌-◌, ◌++◌, map, take, replicate, All, IsSome}
+use Rattle.serde_json.specs.View.{view}
+use Rattle.dt_machine.specs.Given.{unsigned}
+use Rattle.dt_machine.specs.Rows.{value}
+use Rattle.dt_machine.proofs.numbers.frames_of.Given as goal
+
+abbrev pub invariant-loop-i : goal.invariant-loop-i
+invariant-loop-i l = record {
+  each : All IsSome (take l.i (map unsigned (map view l.list)));
+  found : l.found ≡ map value (take l.i (map unsigned (map view l.list))) ++ replicate (8 - l.i) 0;
+}

@@ -1,0 +1,16 @@
+use Rattle.std.proofs.Common.{◌≡◌, ◌≤◌, ◌<◌, ◌^◌, map, take, All, IsSome}
+use Rattle.dt_cred.specs.declared.account.Process.{Process}
+use Rattle.dt_machine.specs.Rows.{ProcessRow, IsRightProcess, process}
+use Rattle.dt_machine.specs.Sections.{process_rows, Indexes}
+use Rattle.dt_machine.proofs.Searching.{RightUpTo}
+use Rattle.dt_machine.proofs.processes.read_processes.Given as goal
+
+abbrev pub invariant-loop-value : goal.invariant-loop-value
+invariant-loop-value l = record {
+  few : l.value-index ≤ 1024;
+  right : RightUpTo IsRightProcess (process_rows l.rows) l.value-index;
+  known : All (λ (row : ProcessRow). IsSome row.pid) (take l.value-index (process_rows l.rows));
+  read : l.processes.items ≡ map process (take l.value-index (process_rows l.rows));
+  small : All (λ (found : Process). found.pid < 2 ^ 32) l.processes.items;
+  indexes : Indexes l.by_pid l.processes.items;
+}

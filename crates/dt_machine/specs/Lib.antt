@@ -1,0 +1,8 @@
+pub mod Interest
+pub mod Registry
+pub mod Inside
+pub mod Given
+pub mod Shape
+pub mod Rows
+pub mod Reading
+pub mod Sections

@@ -1,0 +1,83 @@
+ghost use Rattle.std.specs.Prelude.{◌≡◌};
+
+use std::alloc::{AllocError, AllocFailed};
+use std::fmt;
+use thiserror::Error;
+
+/// What a machine file is refused for. The causes are tested in this order, each over the whole file.
+#[derive(Clone, Copy, Debug, PartialEq, Eq)]
+pub enum FaultNumber {
+    /// The text is no JSON, or no UTF-8.
+    Json = 1,
+    /// It is no object, a key is missing, or a value is of the wrong kind.
+    Shape = 2,
+    /// There are not 1 to 64 processors.
+    Cpus = 3,
+    /// An account that is not right, or the seventeenth.
+    Account = 4,
+    /// A process that is not right, or the 1,025th.
+    Process = 5,
+    /// A probe that is not right, or the 4,097th.
+    Probe = 6,
+    /// There is not one script for each processor, or one has more than 65,536 firings.
+    Script = 7,
+    /// A firing that is not right by itself.
+    Firing = 8,
+    /// A firing of a `pid` provider's probe in another process.
+    Foreign = 9,
+    /// Memory ran out.
+    Memory = 10,
+}
+
+impl fmt::Display for FaultNumber {
+    fn fmt<W: fmt::Write>(&self, f: &mut fmt::Formatter<W>) -> fmt::Result {
+        let number = *self as u8;
+        write!(f, "{number}")
+    }
+}
+
+/// Why a machine file was refused, and where: `cpu` and `row` count from 0, and are 0 where none is meant.
+#[derive(Clone, Copy, Debug, PartialEq, Eq, Error)]
+#[error("machine refused {number} at {cpu} {row}")]
+pub struct MachineFault {
+    pub number: FaultNumber,
+    pub cpu: u32,
+    pub row: u32,
+}
+
+impl From<AllocError> for MachineFault {
+    ghost use Rattle.std.specs.Prelude.{◌≡◌};
+    ghost use Rattle.dt_machine.specs.declared.fault.FaultNumber.TheVariants.{Memory};
+
+    ghost from_gives = { λ _ fault. fault.number ≡ Memory };
+
+    fn from(_refused: AllocError) -> MachineFault {
+        FaultNumber::Memory.nowhere()
+    }
+}
+
+impl<T: Drop> From<AllocFailed<T>> for MachineFault {
+    ghost use Rattle.std.specs.Prelude.{◌≡◌};
+    ghost use Rattle.dt_machine.specs.declared.fault.FaultNumber.TheVariants.{Memory};
+
+    ghost from_gives = { λ _ fault. fault.number ≡ Memory };
+
+    fn from(_refused: AllocFailed<T>) -> MachineFault {
+        FaultNumber::Memory.nowhere()
+    }
+}
+
+impl FaultNumber {
+    ghost use Rattle.dt_machine.specs.declared.fault.MachineFault.{MachineFault};
+
+    /// The fault of this number where no processor and no row is meant.
+    pub(crate) fn nowhere(self) -> MachineFault
+        ensures { result ≡ record { number = self; cpu = 0; row = 0 } }
+    {
+        MachineFault {
+            number: self,
+            cpu: 0,
+            row: 0,
+        }
+    }
+}

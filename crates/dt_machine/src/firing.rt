@@ -1,0 +1,24 @@
+use dt_cred::Mode;
+
+/// One firing of a probe, as a processor's script has it.
+#[derive(Clone, Copy, Debug, PartialEq, Eq)]
+pub struct Firing {
+    /// The processor in whose script it stands, from 0 on.
+    pub cpu: u32,
+    /// Its place in that script, from 0 on.
+    pub place: u32,
+    /// The identifier of its probe.
+    pub probe: u32,
+    /// The process in which the probe fired.
+    pub pid: u32,
+    pub tid: u32,
+    pub mode: Mode,
+    /// From 0 to 9,223,372,036,854,775,807.
+    pub timestamp: i64,
+    /// The probe's arguments, and zeros.
+    pub args: [i64; 10],
+    /// The frames in the kernel, and zeros.
+    pub kstack: [u64; 8],
+    /// The frames in the process, and zeros.
+    pub ustack: [u64; 8],
+}

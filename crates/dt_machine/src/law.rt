@@ -1,0 +1,11 @@
+ghost use Rattle.std.specs.Prelude.{◌≡◌, ℕ, List};
+ghost use Rattle.dt_machine.specs.Registry.{Contents};
+ghost use Rattle.dt_machine.specs.Reading.{IsDescribed, IsFaultOf};
+ghost use Rattle.dt_machine.specs.declared.fault.MachineFault.{MachineFault};
+
+/// Law: a text describes one machine at most, has one first fault at most, and never both.
+pub fn one_answer()
+    ensures one_machine { (text : List ℕ) (a b : Contents) → IsDescribed text a → IsDescribed text b → a ≡ b }
+    ensures one_fault { (text : List ℕ) (a b : MachineFault) → IsFaultOf text a → IsFaultOf text b → a ≡ b }
+    ensures never_both { (text : List ℕ) (a : Contents) (b : MachineFault) → IsDescribed text a → IsFaultOf text b → ⊥ }
+{}

@@ -1,0 +1,169 @@
+ghost use Rattle.std.specs.Prelude.{◌≡◌, ◌≢◌, IfOk, IfErr, option_and_then, slice_get};
+ghost use Rattle.std.specs.Option.{option_copied};
+ghost use Rattle.serde_json.specs.Data.{Data};
+ghost use Rattle.serde_json.specs.View.{view};
+ghost use Rattle.dt_machine.specs.Reading.{IsJson};
+
+use crate::fault::{FaultNumber, MachineFault};
+use crate::firing::Firing;
+use crate::foreign::first_foreign;
+use crate::given::list_at;
+use crate::scripts::read_scripts;
+use crate::sections::Sections;
+use dt_cred::{Account, Probe, Process};
+use serde_json::Value;
+use std::alloc::Global;
+use std::collections::HashMap;
+use std::marker::Model;
+
+/// A machine as its file describes it: its processors, accounts, processes and probes, and for each processor the
+/// script of the firings that it will make.
+///
+/// Contracts see a machine as its `Contents`: the registry, and the scripts. No reader takes memory.
+#[derive(Drop)]
+pub struct Machine {
+    cpus: u32,
+    accounts: Vec<Account>,
+    processes: Vec<Process>,
+    by_pid: HashMap<u32, Process>,
+    probes: Vec<Probe>,
+    scripts: Vec<Vec<Firing>>,
+}
+
+impl Model for Machine {
+    ghost use Rattle.dt_machine.specs.Registry.{Contents};
+
+    ghost Value = { Contents };
+
+    ghost use Rattle.dt_machine.specs.Inside.{contents_of, IsKept};
+
+    ghost view = { contents_of };
+
+    ghost invariant = { IsKept };
+}
+
+impl Machine {
+    ghost use Rattle.dt_machine.specs.Registry.{IsSound, account_of, process_of, probe_of, firing_at};
+    ghost use Rattle.dt_machine.specs.Reading.{IsDescribed, IsFaultOf, IsFirstFault};
+    ghost use Rattle.dt_machine.specs.Sections.{UnlessMemory, IsReady, registry_of, contents_with};
+
+    /// Reads a machine file: a JSON object with the keys `cpus`, `accounts`, `processes`, `probes` and `scripts`.
+    ///
+    /// The machine is the one that the text describes, and a fault other than [`FaultNumber::Memory`] is the first
+    /// that the text shows. Memory is wanted for the JSON value, and for the machine, which has each firing once.
+    pub fn read(alloc: Global, text: &[u8]) -> Result<Machine, MachineFault>
+        ensures ok { IfOk result (λ machine. IsDescribed text.now machine) }
+        ensures sound { IfOk result (λ machine. IsSound machine) }
+        ensures fault { IfErr result (λ fault. UnlessMemory fault (IsFaultOf text.now fault)) }
+    {
+        let file = parse(alloc, text)?;
+        let sections = Sections::read(alloc, &file)?;
+        let scripts = read_scripts(alloc, &sections, list_at(&file, "scripts"))?;
+        drop(file);
+        match first_foreign(&sections, scripts.as_slice()) {
+            Some((cpu, row)) => Err(MachineFault {
+                number: FaultNumber::Foreign,
+                cpu,
+                row,
+            }),
+            None => Ok(Machine::new(sections, scripts)),
+        }
+    }
+
+    fn new(sections: Sections, scripts: Vec<Vec<Firing>>) -> Machine
+        requires sound { IsSound (contents_with (registry_of sections) scripts.items) }
+        requires ready { IsReady sections }
+        ensures { result ≡ contents_with (registry_of sections) scripts.items }
+    {
+        let Sections {
+            cpus,
+            accounts,
+            processes,
+            by_pid,
+            probes,
+        } = sections;
+        Machine {
+            cpus,
+            accounts,
+            processes,
+            by_pid,
+            probes,
+            scripts,
+        }
+    }
+
+    /// How many processors there are, from 1 to 64. They are numbered from 0 on.
+    pub fn cpus(&self) -> u32
+        ensures value { result ≡ self.now.registry.cpus }
+        ensures sound { IsSound self.now }
+    {
+        self.cpus
+    }
+
+    /// The probe of an identifier: 1 is `BEGIN`, 2 is `END`, and those of the file follow in its order.
+    pub fn probe(&self, id: u32) -> Option<&Probe>
+        ensures value { option_copied result ≡ probe_of self.now.registry id }
+        ensures sound { IsSound self.now }
+    {
+        let probes = self.probes.as_slice();
+        if id == 0 {
+            return None;
+        }
+        probes.get(id as usize - 1)
+    }
+
+    /// The probes, in the order of their identifiers.
+    pub fn probes(&self) -> &[Probe]
+        ensures value { result.now ≡ self.now.registry.probes }
+        ensures sound { IsSound self.now }
+    {
+        self.probes.as_slice()
+    }
+
+    /// The process of a number.
+    pub fn process(&self, pid: u32) -> Option<&Process>
+        ensures value { option_copied result ≡ process_of self.now.registry pid }
+        ensures sound { IsSound self.now }
+    {
+        self.by_pid.get(&pid)
+    }
+
+    /// The account of a name.
+    pub fn account(&self, name: &[u8]) -> Option<&Account>
+        ensures value { option_copied result ≡ account_of self.now.registry name.now }
+        ensures sound { IsSound self.now }
+    {
+        self.accounts
+            .iter()
+            .find(|account| account.name.as_bytes() == name)
+    }
+
+    /// The firing at a place of a processor's script.
+    pub fn firing(&self, cpu: u32, place: u32) -> Option<&Firing>
+        ensures value { option_copied result ≡ firing_at self.now.scripts cpu place }
+        ensures sound { IsSound self.now }
+    {
+        self.scripts.get(cpu as usize)?.get(place as usize)
+    }
+}
+
+/// The value of a text.
+fn parse(alloc: Global, text: &[u8]) -> Result<Value, MachineFault>
+    ensures ok { IfOk result (λ value. IsJson text.now (view value)) }
+    ensures fault { IfErr result (λ fault. fault.number ≢ FaultNumber.Memory
+        → ((d : Data) → IsJson text.now d → ⊥) × (fault ≡ record { number = FaultNumber.Json; cpu = 0; row = 0 })) }
+{
+    match Value::from_slice(alloc, text) {
+        Ok(value) => Ok(value),
+        Err(error) => {
+            if error.is_memory() {
+                Err(FaultNumber::Memory.nowhere())
+            } else {
+                Err(FaultNumber::Json.nowhere())
+            }
+        }
+    }
+}
+
+#[cfg(test)]
+mod tests;

@@ -1,0 +1,122 @@
+ghost use Rattle.std.specs.Prelude.{◌≡◌, ◌≢◌, ◌↔◌, ◌≤◌, ◌<◌, ◌+◌, [], ◌∷◌, All, List, ℕ, Some, None, IsTrue, IsSome, IfOk, IfErr, MatchOption, MatchBool, codes, map, length, find, slice_get, ◌==◌};
+ghost use Rattle.std.specs.List.{list_any};
+ghost use Rattle.dt_names.specs.Tuple.{SpellsTuple};
+ghost use Rattle.dt_cred.specs.Class.{IsClassOf};
+ghost use Rattle.dt_cred.specs.declared.probe.Probe.{Probe};
+ghost use Rattle.dt_machine.specs.Rows.{AreProbes, IsRightProbe};
+ghost use Rattle.dt_machine.specs.Reading.{AllRight};
+ghost use Rattle.dt_machine.specs.Sections.{UnlessMemory, IsMiss, IsTraced, eq_tuples, texts};
+
+use crate::fault::{FaultNumber, MachineFault};
+use crate::given::text_of;
+use dt_cred::{Class, Probe, Process};
+use dt_names::ProbeTuple;
+use serde_json::Value;
+use std::alloc::{AllocError, Global};
+
+const PROBES_MAX: usize = 4096;
+
+/// `BEGIN`, `END` and the file's probes, or the first of these that is not right.
+pub(crate) fn read_probes(
+    alloc: Global,
+    rows: &[Value],
+    processes: &[Process],
+) -> Result<Vec<Probe>, MachineFault>
+    ensures right { IfOk result (λ _. AllRight (IsRightProbe processes.now) (texts rows.now)) }
+    ensures probes { IfOk result (λ probes.
+        AreProbes 1 (codes "dtrace:::BEGIN" ∷ codes "dtrace:::END" ∷ texts rows.now) probes.items) }
+    ensures fault { IfErr result (λ fault.
+        UnlessMemory fault (IsMiss FaultNumber.Probe (IsRightProbe processes.now) (texts rows.now) fault)) }
+{
+    let mut probes = own_probes(alloc)?;
+    for value in rows {
+        match probe_of(
+            &probes.as_slice()[2..],
+            processes,
+            text_of(value).as_bytes(),
+        ) {
+            Some(probe) => probes.push(probe)?,
+            None => {
+                return Err(MachineFault {
+                    number: FaultNumber::Probe,
+                    cpu: 0,
+                    row: probes.len() as u32 - 2,
+                });
+            }
+        }
+    }
+    Ok(probes)
+}
+
+/// The probes that every machine has: `BEGIN` and `END`.
+fn own_probes(alloc: Global) -> Result<Vec<Probe>, AllocError>
+    ensures { IfOk result (λ probes. AreProbes 1 (codes "dtrace:::BEGIN" ∷ codes "dtrace:::END" ∷ []) probes.items) }
+{
+    let mut probes = Vec::new(alloc);
+    probes.push(Probe::new(1, ProbeTuple::parse(b"dtrace:::BEGIN").unwrap()))?;
+    probes.push(Probe::new(2, ProbeTuple::parse(b"dtrace:::END").unwrap()))?;
+    Ok(probes)
+}
+
+/// The probe of a row, if it is right behind these of the file.
+fn probe_of(before: &[Probe], processes: &[Process], text: &[u8]) -> Option<Probe>
+    ensures { (rows : List (List ℕ)) → AreProbes 3 rows before.now
+        → MatchOption result (IsRightProbe processes.now rows text.now → ⊥)
+        (λ probe. IsRightProbe processes.now rows text.now
+        × (probe.id ≡ length before.now + 3) × SpellsTuple text.now probe.tuple
+        × IsClassOf probe.tuple.provider probe.class) }
+{
+    if before.len() >= PROBES_MAX {
+        return None;
+    }
+    let tuple = ProbeTuple::parse(text)?;
+    if is_taken(before, &tuple) {
+        return None;
+    }
+    let probe = Probe::new(before.len() as u32 + 3, tuple);
+    if !is_traced(probe.class, processes) {
+        return None;
+    }
+    Some(probe)
+}
+
+fn is_taken(probes: &[Probe], tuple: &ProbeTuple) -> bool
+    ensures { MatchBool result
+        ((k : ℕ) × (probe : Probe) × (slice_get probes.now k ≡ Some probe) × (probe.tuple ≡ tuple.now))
+        (All (λ probe. probe.tuple ≢ tuple.now) probes.now) }
+{
+    for probe in probes {
+        if is_same(&probe.tuple, tuple) {
+            return true;
+        }
+    }
+    false
+}
+
+fn is_same(a: &ProbeTuple, b: &ProbeTuple) -> bool
+    ensures { result ≡ eq_tuples a.now b.now }
+{
+    a.provider.as_bytes() == b.provider.as_bytes()
+        && a.module.as_bytes() == b.module.as_bytes()
+        && a.function.as_bytes() == b.function.as_bytes()
+        && a.name.as_bytes() == b.name.as_bytes()
+}
+
+/// Whether a probe of the file may have this class: its process is there, and it is not of `dtrace`.
+fn is_traced(class: Class, processes: &[Process]) -> bool
+    ensures { IsTrue result ↔ IsTraced processes.now class }
+{
+    match class {
+        Class::Dtrace => false,
+        Class::Pid(pid) => is_process(processes, pid),
+        Class::Syscall | Class::Profile | Class::Other => true,
+    }
+}
+
+fn is_process(processes: &[Process], pid: u128) -> bool
+    ensures { result ≡ list_any (λ process. process.pid == pid) processes.now }
+{
+    processes
+        .iter()
+        .any(|process| u128::from(process.pid) == pid)
+}

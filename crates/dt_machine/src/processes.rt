@@ -1,0 +1,87 @@
+ghost use Rattle.std.specs.Prelude.{◌≡◌, ◌≢◌, ◌^◌, ◌↔◌, ◌≤◌, ◌<◌, All, List, Some, None, IsTrue, IsSome, IfOk, IfErr, MatchOption, map, length, find, ◌==◌};
+ghost use Rattle.serde_json.specs.View.{view};
+ghost use Rattle.dt_machine.specs.Rows.{ProcessRow, process_row, process, value as number_in, IsBelow, IsExecname, IsRightProcess};
+ghost use Rattle.dt_machine.specs.Reading.{AllRight};
+ghost use Rattle.dt_machine.specs.Sections.{UnlessMemory, IsMiss, Indexes, process_rows};
+
+use crate::fault::{FaultNumber, MachineFault};
+use crate::given::{text_at, u32_of, unsigned_at};
+use dt_cred::Process;
+use dt_names::ShortText;
+use serde_json::Value;
+use std::alloc::Global;
+use std::collections::HashMap;
+
+const PROCESSES_MAX: usize = 1024;
+
+/// The processes, in the file's order and by their numbers, or the first that is not right.
+pub(crate) fn read_processes(
+    alloc: Global,
+    rows: &[Value],
+) -> Result<(Vec<Process>, HashMap<u32, Process>), MachineFault>
+    ensures right { IfOk result (λ _. AllRight IsRightProcess (process_rows rows.now)) }
+    ensures processes { IfOk result (λ found. found.0.items ≡ map process (process_rows rows.now)) }
+    ensures small { IfOk result (λ found. All (λ process. process.pid < 2 ^ 32) found.0.items) }
+    ensures by_pid { IfOk result (λ found. Indexes found.1 found.0.items) }
+    ensures fault { IfErr result (λ fault.
+        UnlessMemory fault (IsMiss FaultNumber.Process IsRightProcess (process_rows rows.now) fault)) }
+{
+    let mut processes = Vec::new(alloc);
+    let mut by_pid = HashMap::new(alloc);
+    for value in rows {
+        match process_of(processes.len(), &by_pid, value) {
+            Some(process) => {
+                drop(by_pid.insert(process.pid, process)?);
+                processes.push(process)?;
+            }
+            None => {
+                return Err(MachineFault {
+                    number: FaultNumber::Process,
+                    cpu: 0,
+                    row: processes.len() as u32,
+                });
+            }
+        }
+    }
+    Ok((processes, by_pid))
+}
+
+/// The process of a row, if it is right behind these many processes, which are found by their numbers.
+fn process_of(before: usize, by_pid: &HashMap<u32, Process>, row: &Value) -> Option<Process>
+    ensures { (rows : List ProcessRow) → before ≡ length rows → All (λ r. IsSome r.pid) rows
+        → Indexes by_pid.now (map process rows)
+        → MatchOption result (IsRightProcess rows (process_row (view row.now)) → ⊥)
+        (λ found. IsRightProcess rows (process_row (view row.now))
+        × (found ≡ process (process_row (view row.now)))
+        × (find (λ earlier. earlier.pid == found.pid) (map process rows) ≡ None)) }
+{
+    let pid = pid_of(unsigned_at(row, "pid", None))?;
+    let uid = u32_of(unsigned_at(row, "uid", None))?;
+    let execname = execname_of(text_at(row, "execname", "").as_bytes())?;
+    if before >= PROCESSES_MAX {
+        return None;
+    }
+    if by_pid.get(&pid).is_some() {
+        return None;
+    }
+    Some(Process { pid, uid, execname })
+}
+
+fn pid_of(number: Option<u64>) -> Option<u32>
+    ensures { MatchOption result (IsBelow 1000000 number → ⊥)
+        (λ found. IsBelow 1000000 number × (found ≡ number_in number)) }
+{
+    match number {
+        Some(number) if number <= 999_999 => Some(number as u32),
+        _ => None,
+    }
+}
+
+fn execname_of(text: &[u8]) -> Option<ShortText>
+    ensures { MatchOption result (IsExecname text.now → ⊥) (λ found. IsExecname text.now × (found ≡ text.now)) }
+{
+    if !text.iter().all(|byte| *byte >= b' ' && *byte <= b'~') {
+        return None;
+    }
+    ShortText::new(text)
+}

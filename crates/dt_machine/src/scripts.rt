@@ -1,0 +1,161 @@
+ghost use Rattle.std.specs.Prelude.{◌≡◌, ◌≢◌, ◌^◌, ◌↔◌, ◌≤◌, ◌<◌, ℕ, All, List, Some, None, IsTrue, IsSome, IsSomeAnd, IfOk, IfErr, IfSome, MatchOption, map, length, slice_get, pos};
+ghost use Rattle.serde_json.specs.View.{view};
+ghost use Rattle.dt_machine.specs.Given.{items_of};
+ghost use Rattle.dt_machine.specs.Registry.{process_of};
+ghost use Rattle.dt_machine.specs.Rows.{FiringRow, firing_row, firing, script, scripts as scripts_of, mode, value as number_in, IsBelow, IsMode, HasRoom, IsGivenProbe, IsRightFiring};
+ghost use Rattle.dt_machine.specs.Reading.{AllRight, AllRightIn, IsFirstWrong, IsFirstWrongIn};
+ghost use Rattle.dt_machine.specs.Sections.{UnlessMemory, IsReady, firing_rows, scripts_rows, registry_of};
+
+use crate::fault::{FaultNumber, MachineFault};
+use crate::firing::Firing;
+use crate::given::{items_of, list_at, text_at, u32_of, unsigned_at};
+use crate::numbers::{arguments_of, frames_of};
+use crate::sections::Sections;
+use dt_cred::Mode;
+use serde_json::Value;
+use std::alloc::Global;
+
+const FIRINGS_MAX: usize = 65_536;
+
+/// The first processor whose script has too many firings.
+pub(crate) fn first_long(scripts: &[Value]) -> Option<u32>
+    requires { length scripts.now ≤ 64 }
+    ensures { MatchOption result (AllRightIn HasRoom (scripts_rows scripts.now))
+        (λ cpu. IsFirstWrongIn HasRoom (scripts_rows scripts.now) cpu 65536) }
+{
+    for (cpu, script) in scripts.iter().enumerate() {
+        if items_of(script).len() > FIRINGS_MAX {
+            return Some(cpu as u32);
+        }
+    }
+    None
+}
+
+/// The scripts, or the first firing that is not right.
+pub(crate) fn read_scripts(
+    alloc: Global,
+    sections: &Sections,
+    scripts: &[Value],
+) -> Result<Vec<Vec<Firing>>, MachineFault>
+    requires few { length scripts.now ≤ 64 }
+    requires short { AllRightIn HasRoom (scripts_rows scripts.now) }
+    requires ready { IsReady sections.now }
+    ensures right { IfOk result (λ _.
+        AllRightIn (IsRightFiring (registry_of sections.now)) (scripts_rows scripts.now)) }
+    ensures scripts { IfOk result (λ found. map (λ s. s.items) found.items ≡ scripts_of 0 (scripts_rows scripts.now)) }
+    ensures fault { IfErr result (λ fault. UnlessMemory fault ((fault.number ≡ FaultNumber.Firing)
+        × IsFirstWrongIn (IsRightFiring (registry_of sections.now)) (scripts_rows scripts.now) fault.cpu fault.row)) }
+{
+    let mut found = Vec::new(alloc);
+    for (cpu, script) in scripts.iter().enumerate() {
+        let firings = read_script(alloc, sections, cpu as u32, items_of(script))?;
+        found.push(firings)?;
+    }
+    Ok(found)
+}
+
+/// The script of a processor, or the first firing that is not right.
+fn read_script(
+    alloc: Global,
+    sections: &Sections,
+    cpu: u32,
+    rows: &[Value],
+) -> Result<Vec<Firing>, MachineFault>
+    requires short { length rows.now ≤ 65536 }
+    requires ready { IsReady sections.now }
+    ensures right { IfOk result (λ _. AllRight (IsRightFiring (registry_of sections.now)) (firing_rows rows.now)) }
+    ensures script { IfOk result (λ found. found.items ≡ script cpu 0 (firing_rows rows.now)) }
+    ensures fault { IfErr result (λ fault. UnlessMemory fault ((fault.number ≡ FaultNumber.Firing) × (fault.cpu ≡ cpu)
+        × IsFirstWrong (IsRightFiring (registry_of sections.now)) (firing_rows rows.now) fault.row)) }
+{
+    let mut found = Vec::with_capacity(alloc, rows.len())?;
+    for (place, row) in rows.iter().enumerate() {
+        match firing_of(sections, cpu, place as u32, row) {
+            Some(firing) => found.push(firing)?,
+            None => {
+                return Err(MachineFault {
+                    number: FaultNumber::Firing,
+                    cpu,
+                    row: place as u32,
+                });
+            }
+        }
+    }
+    Ok(found)
+}
+
+/// The firing of a row, if it is right by itself.
+fn firing_of(sections: &Sections, cpu: u32, place: u32, row: &Value) -> Option<Firing>
+    requires { IsReady sections.now }
+    ensures { (before : List FiringRow) → MatchOption result
+        (IsRightFiring (registry_of sections.now) before (firing_row (view row.now)) → ⊥)
+        (λ found. IsRightFiring (registry_of sections.now) before (firing_row (view row.now))
+        × (found ≡ firing cpu place (firing_row (view row.now)))) }
+{
+    let probe = probe_of(sections, unsigned_at(row, "probe", None))?;
+    let pid = pid_of(sections, unsigned_at(row, "pid", None))?;
+    let tid = u32_of(unsigned_at(row, "tid", Some(1)))?;
+    let mode = mode_of(text_at(row, "mode", "user"))?;
+    let timestamp = timestamp_of(unsigned_at(row, "timestamp", Some(0)))?;
+    let args = arguments_of(list_at(row, "args"))?;
+    let kstack = frames_of(list_at(row, "kstack"))?;
+    let ustack = frames_of(list_at(row, "ustack"))?;
+    Some(Firing {
+        cpu,
+        place,
+        probe,
+        pid,
+        tid,
+        mode,
+        timestamp,
+        args,
+        kstack,
+        ustack,
+    })
+}
+
+fn probe_of(sections: &Sections, number: Option<u64>) -> Option<u32>
+    requires { IsReady sections.now }
+    ensures { MatchOption result (IsSomeAnd number (IsGivenProbe (registry_of sections.now)) → ⊥)
+        (λ id. IsSomeAnd number (IsGivenProbe (registry_of sections.now)) × (id ≡ number_in number)) }
+{
+    let number = number?;
+    if number < 3 || number > sections.probes.len() as u64 {
+        return None;
+    }
+    Some(number as u32)
+}
+
+fn pid_of(sections: &Sections, number: Option<u64>) -> Option<u32>
+    requires { IsReady sections.now }
+    ensures { MatchOption result
+        (IsSomeAnd number (λ pid. IsSome (process_of (registry_of sections.now) pid)) → ⊥)
+        (λ pid. IsSomeAnd number (λ pid. IsSome (process_of (registry_of sections.now) pid))
+        × (pid ≡ number_in number)) }
+{
+    let pid = u32_of(number)?;
+    match sections.by_pid.get(&pid) {
+        Some(_) => Some(pid),
+        None => None,
+    }
+}
+
+fn mode_of(text: &str) -> Option<Mode>
+    ensures { MatchOption result (IsMode text.now → ⊥) (λ found. IsMode text.now × (found ≡ mode text.now)) }
+{
+    match text {
+        "user" => Some(Mode::User),
+        "kernel" => Some(Mode::Kernel),
+        _ => None,
+    }
+}
+
+fn timestamp_of(number: Option<u64>) -> Option<i64>
+    ensures { MatchOption result (IsBelow (2 ^ 63) number → ⊥)
+        (λ found. IsBelow (2 ^ 63) number × (found ≡ pos (number_in number))) }
+{
+    match number {
+        Some(number) if number <= 0x7fff_ffff_ffff_ffff => Some(number as i64),
+        _ => None,
+    }
+}
