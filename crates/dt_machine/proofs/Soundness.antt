@@ -1,7 +1,8 @@
 -- What holds of a machine whose file is right.
-use Rattle.std.proofs.Common.{◌≡◌, ◌≢◌, ◌∙◌, ◌+◌, ◌<◌, ◌≤◌, ℕ, zero, suc, [], ◌∷◌, List, Option, Some, None, IsSome, IfSome, IsSomeAnd, All, AllPairs, map, take, slice_get, get_or, length, option_map, codes, lit<, refl, sym, ap, subst, arith, add-zero}
-use Rattle.std.specs.Prelude.{option_and_then}
+use Rattle.std.proofs.Common.{◌≡◌, ◌≢◌, ◌∙◌, ◌+◌, ◌<◌, ◌≤◌, ◌==◌, ℕ, Bool, true, false, cond, zero, suc, [], ◌∷◌, List, Option, Some, None, IsSome, IfSome, IsSomeAnd, All, AllPairs, map, take, slice_get, get_or, length, option_map, codes, lit<, refl, sym, ap, subst, arith, add-zero}
+use Rattle.std.specs.Prelude.{find, option_and_then}
 use Rattle.std.proofs.lemmas.List.{length-map, get_or-take, length-take-le}
+use Rattle.std.proofs.lemmas.List.Elements.{All-head, All-tail}
 use Rattle.std.proofs.lemmas.Option.{slice_get-map, slice_get_within, get_or_from_slice_get}
 use Rattle.serde_json.specs.Data.{Data}
 use Rattle.dt_cred.specs.declared.account.Account.{Account as AccountType}
@@ -11,10 +12,10 @@ use Rattle.dt_machine.specs.declared.firing.Firing.{Firing as FiringType}
 use Rattle.dt_machine.specs.declared.fault.FaultNumber.TheVariants.{Cpus, Account, Process, Probe, Script}
 use Rattle.dt_machine.specs.Reading.{AllRight, AllRightIn, Passes, Registers, accounts_in, processes_in, probes_in, scripts_in}
 use Rattle.dt_machine.specs.Registry.{Registry, Belongs, IsSound, IsNumbered, IsPlaced, probe_of, process_of, firing_at}
-use Rattle.dt_machine.specs.Rows.{AccountRow, ProcessRow, FiringRow, account, process, firing, script, scripts, value, AreProbes, IsRightAccount, IsRightProcess, IsRightFiring, HasRoom}
+use Rattle.dt_machine.specs.Rows.{AccountRow, ProcessRow, FiringRow, account, process, firing, script, scripts, value, AreProbes, IsBelow, IsRightAccount, IsRightProcess, IsRightFiring, HasRoom}
 use Rattle.dt_machine.specs.Sections.{IsKnown, AreSections, registry_of}
 use Rattle.dt_machine.specs.declared.sections.Sections.{Sections}
-use Rattle.dt_machine.proofs.ByPid.{below_some}
+use Rattle.dt_machine.proofs.ByPid.{at_pid, below_some}
 use Rattle.dt_machine.proofs.Firings.{within, few_rows, short_enough}
 use Rattle.dt_machine.proofs.Spelling.{length-probes, spelled_at, first_probe, second_probe}
 
@@ -52,6 +53,27 @@ pub pids_apart : (rows : List ProcessRow) → AllRight IsRightProcess rows → A
 pids_apart rows right =
     pairs process (λ (a b : ProcessType). a.pid ≢ b.pid) IsRightProcess rows right
     (λ i j x y right_x right_y less there high. pids_differ x y (take j rows) (take i rows) right_x right_y (before_at rows i j x (λ (e : ProcessRow). e.pid ≢ y.pid) less there (omega arith) right_y.new))
+
+-- the number of every process is of six digits at most
+below_value : (number : Option ℕ) → IsBelow 1000000 number → value number ≤ 999999
+below_value None h = absurd h
+below_value (Some n) h = omega arith
+
+small_rows : (rows : List ProcessRow) → AllRight IsRightProcess rows → All (λ row. value row.pid ≤ 999999) rows
+small_rows rows right k d inside =
+    let at = within rows k inside in
+    let is : get_or rows k d ≡ at.0 = get_or_from_slice_get rows k at.0 d at.1 in
+    subst (λ (row : ProcessRow). value row.pid ≤ 999999) (sym is) (below_value at.0.pid (right k at.0 at.1).pid)
+
+one_or_other : {A : Type 0} (b : Bool) (x : A) (o : Option A) (P : A → Type 0) → P x → IfSome o P → IfSome (cond b (Some x) o) P
+one_or_other true x o P here there = here
+one_or_other false x o P here there = there
+
+small_pid : (rows : List ProcessRow) (pid : ℕ) → All (λ row. value row.pid ≤ 999999) rows → IfSome (find (at_pid pid) (map process rows)) (λ p. p.pid ≤ 999999)
+small_pid [] pid each = tt
+small_pid (row ∷ rows) pid each =
+    one_or_other (value row.pid == pid) (process row) (find (at_pid pid) (map process rows)) (λ (p : ProcessType). p.pid ≤ 999999)
+    (All-head (λ r. value r.pid ≤ 999999) row rows each) (small_pid rows pid (All-tail (λ r. value r.pid ≤ 999999) row rows each))
 
 -- the firings of a script, and the scripts
 same_some : {A : Type 0} (x y : A) → Some x ≡ Some y → x ≡ y
@@ -198,6 +220,7 @@ sound d registry h belong =
       names = subst A (sym r.accounts) (names_apart (accounts_in d) h.accounts);
       few_processes = omega (arith, ap length r.processes, length-map (processes_in d) process);
       pids = subst P (sym r.processes) (pids_apart (processes_in d) h.processes);
+      small_pids = λ pid. subst (λ (ps : List ProcessType). IfSome (find (at_pid pid) ps) (λ process. process.pid ≤ 999999)) (sym r.processes) (small_pid (processes_in d) pid (small_rows (processes_in d) h.processes));
       few_probes = omega arith;
       first = first_probe (codes "dtrace:::BEGIN") (codes "dtrace:::END") (probes_in d) registry.probes r.probes;
       second = second_probe (codes "dtrace:::BEGIN") (codes "dtrace:::END") (probes_in d) registry.probes r.probes;

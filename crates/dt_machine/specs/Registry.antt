@@ -70,6 +70,7 @@ pub record IsSound (contents : Contents) : Type 0 where
   pub names : AllPairs (λ a b. a.name ≢ b.name) contents.registry.accounts
   pub few_processes : length contents.registry.processes ≤ 1024
   pub pids : AllPairs (λ a b. a.pid ≢ b.pid) contents.registry.processes
+  pub small_pids : (pid : ℕ) → IfSome (process_of contents.registry pid) (λ process. process.pid ≤ 999999)
   pub few_probes : length contents.registry.probes ≤ 4098
   pub first : IsSomeAnd (probe_of contents.registry 1) (λ probe. SpellsTuple (codes "dtrace:::BEGIN") probe.tuple)
   pub second : IsSomeAnd (probe_of contents.registry 2) (λ probe. SpellsTuple (codes "dtrace:::END") probe.tuple)

@@ -30,6 +30,12 @@ pub enum FaultNumber {
 }
 
 impl fmt::Display for FaultNumber {
+    ghost use Rattle.std.specs.Prelude.{Some};
+    ghost use Rattle.std.specs.Fmt.{decimal};
+    ghost use Rattle.dt_machine.specs.Reading.{number_of};
+
+    ghost output = { λ number. Some (decimal (number_of number)) };
+
     fn fmt<W: fmt::Write>(&self, f: &mut fmt::Formatter<W>) -> fmt::Result {
         let number = *self as u8;
         write!(f, "{number}")
