@@ -1,0 +1,3 @@
+pub mod Descriptions
+pub mod Bodies
+pub mod Clauses

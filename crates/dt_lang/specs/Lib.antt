@@ -1,0 +1,4 @@
+pub mod Argument
+pub mod Fault
+pub mod Program
+pub mod Parse

@@ -1,0 +1,53 @@
+ghost use Rattle.std.specs.Prelude.{◌≡◌};
+ghost use Rattle.dt_lang.specs.declared.fault.LangFault.TheVariants.{Memory};
+
+use std::alloc::{AllocError, AllocFailed};
+use std::fmt;
+use thiserror::Error;
+
+/// The cause for which a text is no program.
+#[derive(Clone, Copy, Debug, PartialEq, Eq)]
+pub enum Why {
+    /// No program begins with the text up to there.
+    Syntax,
+}
+
+impl fmt::Display for Why {
+    ghost use Rattle.std.specs.Prelude.{Some};
+    ghost use Rattle.dt_lang.specs.Fault.{word_of};
+
+    ghost output = { λ why. Some (word_of why) };
+
+    fn fmt<W: fmt::Write>(&self, f: &mut fmt::Formatter<W>) -> fmt::Result {
+        f.write_str(match self {
+            Why::Syntax => "Syntax",
+        })
+    }
+}
+
+/// Why a text was not read as a program.
+#[derive(Clone, Copy, Debug, PartialEq, Eq, Error)]
+pub enum LangFault {
+    /// The text is no program: the offset of the byte at which that shows, and the cause.
+    #[error("{why} at {at}")]
+    Program { at: usize, why: Why },
+    /// Memory ran out.
+    #[error("out of memory")]
+    Memory,
+}
+
+impl From<AllocError> for LangFault {
+    ghost from_gives = { λ _ e. e ≡ Memory };
+
+    fn from(_failed: AllocError) -> Self {
+        LangFault::Memory
+    }
+}
+
+impl<T: Drop> From<AllocFailed<T>> for LangFault {
+    ghost from_gives = { λ _ e. e ≡ Memory };
+
+    fn from(_failed: AllocFailed<T>) -> Self {
+        LangFault::Memory
+    }
+}

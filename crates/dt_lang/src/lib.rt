@@ -1,0 +1,14 @@
+//! The clause language: a text is read as a program, or refused with the place and the cause.
+//!
+//! Of the language stands today: one clause, without blanks and comments, of one whole description (no `*`, `?`, `\`,
+//! `[`) and `{}` or `{trace(argN)}`. The definition stands in `specs/Program.antt`: how a text is read (`Reads`). A text
+//! has one reading (`one_reading`, `has_reading`), and `Program::parse` gives it.
+#![tactic(auto)]
+
+mod fault;
+mod parse;
+mod program;
+
+pub use fault::{LangFault, Why};
+pub use parse::{has_reading, one_reading};
+pub use program::{Argument, Clause, Description, Expr, FIELD_MAX, Program, Statement};
