@@ -1,0 +1,41 @@
+-- Processes that a number finds, and tests of mapped lists.
+use Rattle.std.proofs.Common.{◌≡◌, ℕ, ◌<◌, ◌≤◌, ◌||◌, ◌&&◌, eqb, Bool, true, false, List, [], ◌∷◌, Option, Some, None, cond, map, refl, sym, ap, ◌∙◌, subst, ◌⊎◌, inl, inr, arith}
+use Rattle.std.specs.List.{list_any, find}
+use Rattle.std.specs.Option.{IfSome}
+use Rattle.std.proofs.lemmas.Bool.{eqb-true}
+use Rattle.dt_cred.specs.declared.account.Process.{Process}
+use Rattle.dt_cred.specs.declared.class.Class.{Class}
+use Rattle.dt_cred.specs.declared.class.Class.TheVariants.{Pid}
+use Rattle.dt_consumer.specs.Ecbs.{traced_process}
+use Rattle.dt_machine.specs.Registry.{Registry, process_of}
+
+pub list_any-map : {X Y : Type 0} (f : X → Y) (p : Y → Bool) (xs : List X) → list_any p (map f xs) ≡ list_any (λ x. p (f x)) xs
+list_any-map f p [] = refl
+list_any-map f p (x ∷ xs) = ap (λ b. p (f x) || b) (list_any-map f p xs)
+
+found_here : {X : Type 0} (test : X → Bool) (x : X) (later : Option X) (b : Bool) → test x ≡ b → ((y : X) → later ≡ Some y → test y ≡ true) → (y : X) → cond b (Some x) later ≡ Some y → test y ≡ true
+found_here test x later true e rest y h = let same : x ≡ y = cc in subst (λ z. test z ≡ true) same e
+found_here test x later false e rest y h = rest y h
+
+find_passes : {X : Type 0} (test : X → Bool) (xs : List X) (y : X) → find test xs ≡ Some y → test y ≡ true
+find_passes test [] y h = cc
+find_passes test (x ∷ xs) y h = found_here test x (find test xs) (test x) refl (find_passes test xs) y h
+
+nobody : (registry : Registry) (n : ℕ) (o : Option Process) → process_of registry n ≡ o → IfSome o (λ process. process.pid ≤ 999999) → 999999 < n → o ≡ None
+nobody registry n None e small far = refl
+nobody registry n (Some process) e small far =
+    absurd (omega (arith, small, far, eqb-true process.pid n (find_passes (λ p. eqb p.pid n) registry.processes process e)))
+
+pub no_process : (registry : Registry) → ((pid : ℕ) → IfSome (process_of registry pid) (λ process. process.pid ≤ 999999)) → (n : ℕ) → 999999 < n → process_of registry n ≡ None
+no_process registry small n far = nobody registry n (process_of registry n) refl (small n) far
+
+pub both : (may described r : Bool) → may ≡ true → r ≡ described → r ≡ (may && described)
+both may described r holds e = e ∙ sym (ap (λ b. b && described) holds)
+
+-- a number past all process numbers finds none, and neither does the stand-in for it
+pub process_found : (registry : Registry) → ((pid : ℕ) → IfSome (process_of registry pid) (λ process. process.pid ≤ 999999))
+    → (class : Class) (pid n : ℕ) (o : Option Process) → class ≡ Pid pid → ((n ≡ pid) × (pid ≤ 999999)) ⊎ ((n ≡ 4294967295) × (999999 < pid))
+    → o ≡ process_of registry n → o ≡ traced_process registry class
+process_found registry small class pid n o is (inl near) e = e ∙ ap (process_of registry) near.0 ∙ sym (ap (traced_process registry) is)
+process_found registry small class pid n o is (inr far) e =
+    e ∙ no_process registry small n (omega arith) ∙ sym (no_process registry small pid far.1) ∙ sym (ap (traced_process registry) is)

@@ -1,0 +1,15 @@
+use Rattle.std.proofs.Common.{sym, ◌∙◌, subst}
+use Rattle.dt_consumer.specs.Draft.{Drafted}
+use Rattle.dt_consumer.proofs.consumer.Consumer.apply.Goals as goal
+
+pub returns-in-Enable : goal.returns-in-Enable
+returns-in-Enable c = λ account life line s drafted.
+    c.enable.ensures account c.args._machine.now.registry life line s (subst (Drafted account c.args._machine.now.registry life line) (sym c.into_change.ensures ∙ c.in-Enable.is) drafted)
+
+pub returns-in-Go : goal.returns-in-Go
+returns-in-Go c = λ account life line s drafted.
+    c.begin.ensures account c.args._machine.now.registry life line s (subst (Drafted account c.args._machine.now.registry life line) (sym c.into_change.ensures ∙ c.in-Go.is) drafted)
+
+pub returns-in-Snap : goal.returns-in-Snap
+returns-in-Snap c = λ account life line s drafted.
+    c.empty.ensures account c.args._machine.now.registry life line s (subst (Drafted account c.args._machine.now.registry life line) (sym c.into_change.ensures ∙ c.in-Snap.is) drafted)

@@ -1,0 +1,22 @@
+use Rattle.dt_consumer.proofs.AskLemmas.{if_ok_map, asks_enable, asks_go, asks_snap}
+use Rattle.dt_consumer.proofs.consumer.Consumer.draft_command.Goals as goal
+
+pub returns-in-Enable : goal.returns-in-Enable
+returns-in-Enable c =
+    if_ok_map _ _ c.draft_enable.result
+    (λ draft h. λ account life ask s fresh asks.
+    let read = asks_enable c.args.command.now c.in-Enable.text ask c.in-Enable.is asks in
+    rw read.1 (h account life read.0 s fresh (rw c.as_bytes.ensures.value read.2)))
+    c.draft_enable.ensures
+
+pub returns-in-Go : goal.returns-in-Go
+returns-in-Go c =
+    if_ok_map _ _ c.draft_go.result
+    (λ draft h. λ account life ask s fresh asks. rw (asks_go c.args.command.now ask c.in-Go.is asks) (h account life s fresh))
+    c.draft_go.ensures
+
+pub returns-in-Snap : goal.returns-in-Snap
+returns-in-Snap c =
+    if_ok_map _ _ c.draft_snap.result
+    (λ draft h. λ account life ask s fresh asks. rw (asks_snap c.args.command.now c.in-Snap.cpu ask c.in-Snap.is asks) (h account life s fresh))
+    c.draft_snap.ensures

@@ -1,0 +1,24 @@
+use Rattle.std.proofs.Common.{Ok, Err, sym, ap, ◌∙◌, subst}
+use Rattle.dt_lang.specs.Program.{program, fault, form_of}
+use Rattle.dt_consumer.specs.Ask.{enable}
+use Rattle.dt_consumer.specs.Draft.{IsDraftOf}
+use Rattle.dt_consumer.proofs.AskLemmas.{if_ok_map}
+use Rattle.dt_consumer.proofs.ProgramLemmas.{fault_refused}
+use Rattle.dt_consumer.proofs.consumer.Consumer.draft_enable.Goals as goal
+
+pub returns-in-Ok : goal.returns-in-Ok
+returns-in-Ok c =
+    if_ok_map _ _ c.draft_program.result
+    (λ draft h. λ account life reading s fresh reads.
+    subst (λ r. IsDraftOf account c.args.machine.now.registry life (Ok (enable r)) draft) (c.one_reading.ensures c.args.text.now (program (form_of c.in-Ok.program)) reading c.in-Ok.ensures.read reads)
+    (h account life s fresh (sym s.same_phase ∙ c.is_inactive.ensures.0 c.if-not-is_inactive.false)))
+    c.draft_program.ensures
+
+pub returns-in-Err : goal.returns-in-Err
+returns-in-Err c =
+    if_ok_map _ _ c.draft_of_fault.result
+    (λ draft h. λ account life reading s fresh reads.
+    subst (λ r. IsDraftOf account c.args.machine.now.registry life (Ok (enable r)) draft)
+    (c.one_reading.ensures c.args.text.now (fault h.0 h.1) reading (c.in-Err.ensures.fault h.0 h.1 (ap Err h.2)) reads)
+    (fault_refused account c.args.machine.now.registry life fresh (sym s.same_phase ∙ c.is_inactive.ensures.0 c.if-not-is_inactive.false) h.0 h.1 draft h.3 h.4))
+    c.draft_of_fault.ensures

@@ -1,0 +1,5 @@
+use Rattle.dt_consumer.proofs.ReplyLaws.{some_answer}
+use Rattle.dt_consumer.proofs.laws.some_reply.Goals as goal
+
+pub returns : goal.returns
+returns c = some_answer

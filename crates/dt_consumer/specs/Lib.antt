@@ -1,0 +1,12 @@
+pub mod Ask
+pub mod Answer
+pub mod Ecbs
+pub mod Life
+pub mod Records
+pub mod Places
+pub mod Kept
+pub mod Buffers
+pub mod Reply
+pub mod Draft
+pub mod Sees
+pub mod StandsFor

@@ -1,0 +1,10 @@
+/// What a consumer asks for by one line.
+#[derive(Debug, Drop)]
+pub enum Command {
+    /// Enable the probes that a program's clauses describe.
+    Enable { text: String },
+    /// Begin to trace.
+    Go,
+    /// Read the principal buffer of a processor.
+    Snap { cpu: u64 },
+}

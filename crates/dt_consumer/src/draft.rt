@@ -1,0 +1,92 @@
+ghost use Rattle.std.specs.Prelude.{◌≡◌, ◌↔◌, List, Result, IsTrue};
+
+use crate::buffer::Switch;
+use crate::ecb::{Ecb, Enabled};
+use crate::refusal::Refusal;
+use crate::reply::Reply;
+use dt_lang::Clause;
+
+/// What a line changes.
+#[derive(Drop)]
+pub(crate) enum Change {
+    /// The line is counted, and that is all.
+    Nothing,
+    /// These clauses and their ECBs are enabled too.
+    Enable {
+        clauses: Vec<Clause>,
+        ecbs: Vec<Ecb>,
+    },
+    /// Tracing begins.
+    Go {
+        rows: Vec<Vec<Enabled>>,
+        buffers: Vec<Switch>,
+    },
+    /// The buffer of a processor was read.
+    Snap {
+        cpu: usize,
+    },
+    /// The line isn't even counted.
+    Refuse,
+}
+
+/// What a line will be answered, and all that it will change: the memory for it is taken already.
+#[derive(Drop)]
+pub struct Draft {
+    pub(crate) reply: Reply,
+    pub(crate) change: Change,
+}
+
+impl Draft {
+    ghost use Rattle.dt_cred.specs.declared.account.Account.{Account};
+    ghost use Rattle.dt_machine.specs.Registry.{Registry};
+    ghost use Rattle.dt_consumer.specs.Ask.{Ask};
+    ghost use Rattle.dt_consumer.specs.Draft.{IsAcceptedGo, IsDraftOf};
+    ghost use Rattle.dt_consumer.specs.Life.{Item};
+    ghost use Rattle.dt_consumer.specs.declared.refusal.Refusal.{Refusal};
+
+    /// A line that is refused, counted, and changes nothing else.
+    pub(crate) fn refused(refusal: Refusal) -> Self
+        ensures reply { result.reply ≡ Reply.Refused refusal }
+        ensures change { result.change ≡ Change.Nothing }
+    {
+        Draft {
+            reply: Reply::Refused(refusal),
+            change: Change::Nothing,
+        }
+    }
+
+    /// A line over the quota: refused, and not even counted.
+    pub(crate) fn over() -> Self
+        ensures reply { result.reply ≡ Reply.Refused Refusal.Quota }
+        ensures change { result.change ≡ Change.Refuse }
+    {
+        Draft {
+            reply: Reply::Refused(Refusal::Quota),
+            change: Change::Refuse,
+        }
+    }
+
+    /// The reply to the line.
+    pub fn reply(&self) -> &Reply
+        ensures { result.now ≡ self.now.reply }
+    {
+        &self.reply
+    }
+
+    /// Whether the line is a `go` that is accepted, so that tracing begins as it is applied.
+    pub fn publishes(&self) -> bool
+        ensures { (account : Account) (registry : Registry) (life : List Item) (line : Result Ask Refusal) → IsDraftOf account registry life line self.now
+            → (IsTrue result ↔ IsAcceptedGo life line) }
+    {
+        matches!(&self.change, Change::Go { .. })
+    }
+
+    /// The change alone.
+    pub(crate) fn into_change(self) -> Change
+        ensures { result ≡ self.change }
+    {
+        let Draft { reply, change } = self;
+        drop(reply);
+        change
+    }
+}

@@ -1,0 +1,200 @@
+//! The drafts of a consumer's lines.
+ghost use Rattle.std.specs.Prelude.{◌≡◌, ◌≤◌, ◌↔◌, ℕ, List, Result, Ok, Err, true, false, length, IsTrue, IfOk};
+ghost use Rattle.dt_cred.specs.declared.account.Account.{Account};
+ghost use Rattle.dt_lang.specs.Program as lang;
+ghost use Rattle.dt_lang.specs.declared.fault.Why.{Why};
+ghost use Rattle.dt_lang.specs.Program.{Reading, Reads, form_of};
+ghost use Rattle.dt_consumer.specs.Ask.{Ask, Asks, enable, go, snap};
+ghost use Rattle.dt_consumer.specs.Draft.{IsDraftOf, LineAsks, is_over};
+ghost use Rattle.dt_consumer.specs.Life.{Item, phase};
+ghost use Rattle.dt_consumer.specs.StandsFor.{StandsFor};
+ghost use Rattle.dt_consumer.specs.declared.phase.Phase.TheVariants.{Inactive};
+ghost use Rattle.dt_consumer.specs.declared.refusal.Refusal.{Refusal};
+
+use crate::buffer::Switch;
+use crate::command::Command;
+use crate::consumer::Consumer;
+use crate::draft::{Change, Draft};
+use crate::enabling::{ecbs_from, first_unmatched};
+use crate::phase::Phase;
+use crate::programs::ECBS_MAX;
+use crate::refusal::Refusal;
+use crate::reply::Reply;
+use crate::rows::rows_of;
+use crate::taking::take_at;
+use dt_lang::{LangFault, Program, one_reading};
+use dt_machine::Machine;
+use std::alloc::{AllocError, Global};
+
+/// The most lines of one session.
+const LINES_MAX: u32 = 1024;
+
+/// The identifier of the probe that fires as tracing begins.
+const BEGIN: usize = 1;
+
+impl Consumer {
+    /// Whether the consumer may still enable, and has yet to begin.
+    fn is_inactive(&self) -> bool
+        ensures { IsTrue result ↔ (self.now.phase ≡ Inactive) }
+    {
+        self.phase == Phase::Inactive
+    }
+
+    /// The draft of a `snap`.
+    pub(crate) fn draft_snap(
+        &self,
+        alloc: Global,
+        machine: &Machine,
+        cpu: u64,
+    ) -> Result<Draft, AllocError>
+        ensures { IfOk result (λ draft. (account : Account) (life : List Item) → StandsFor account machine.now.registry self.now life → is_over life ≡ false
+            → IsDraftOf account machine.now.registry life (Ok (snap cpu)) draft) }
+    {
+        if cpu >= u64::from(machine.cpus()) {
+            return Ok(Draft::refused(Refusal::NoCpu));
+        }
+        let Phase::Active = self.phase else {
+            return Ok(Draft::refused(Refusal::Busy));
+        };
+        let cpu = cpu as u32;
+        let Some(buffer) = self.buffers.get(cpu as usize) else {
+            return Ok(Draft::refused(Refusal::NoCpu));
+        };
+        let reply = Reply::Snapped {
+            cpu,
+            data: Vec::from_slice(alloc, buffer.kept())?,
+            drops: buffer.drops(),
+            filled: false,
+        };
+        Ok(Draft {
+            reply,
+            change: Change::Snap { cpu: cpu as usize },
+        })
+    }
+
+    /// The draft of a `go`: rows and buffers, and what BEGIN records.
+    pub(crate) fn draft_go(&self, alloc: Global, machine: &Machine) -> Result<Draft, AllocError>
+        ensures { IfOk result (λ draft. (account : Account) (life : List Item) → StandsFor account machine.now.registry self.now life → is_over life ≡ false
+            → IsDraftOf account machine.now.registry life (Ok go) draft) }
+    {
+        if !self.is_inactive() {
+            return Ok(Draft::refused(Refusal::Busy));
+        }
+        let rows = rows_of(
+            alloc,
+            self.programs.ecbs(),
+            machine.probes().len() as u32 + 1,
+        )?;
+        let mut buffers = Switch::for_each(alloc, machine.cpus())?;
+        take_at(
+            &mut buffers,
+            0,
+            self.programs.clauses(),
+            &rows[BEGIN],
+            &[0; 10],
+        );
+        Ok(Draft {
+            reply: Reply::Done,
+            change: Change::Go { rows, buffers },
+        })
+    }
+
+    /// The draft of an `enable`.
+    pub(crate) fn draft_enable(
+        &self,
+        alloc: Global,
+        machine: &Machine,
+        text: &[u8],
+    ) -> Result<Draft, AllocError>
+        ensures { IfOk result (λ draft. (account : Account) (life : List Item) (reading : Reading) → StandsFor account machine.now.registry self.now life → is_over life ≡ false
+            → Reads text.now reading → IsDraftOf account machine.now.registry life (Ok (enable reading)) draft) }
+    {
+        if !self.is_inactive() {
+            return Ok(Draft::refused(Refusal::Busy));
+        }
+        one_reading();
+        match Program::parse(alloc, text) {
+            Ok(program) => self.draft_program(alloc, machine, program),
+            Err(fault) => draft_of_fault(fault),
+        }
+    }
+
+    /// The draft of an `enable` of a program, asked in time.
+    fn draft_program(
+        &self,
+        alloc: Global,
+        machine: &Machine,
+        program: Program,
+    ) -> Result<Draft, AllocError>
+        requires { length program.clauses.items ≤ 64 }
+        ensures { IfOk result (λ draft. (account : Account) (life : List Item) → StandsFor account machine.now.registry self.now life → is_over life ≡ false
+            → phase life ≡ Inactive → IsDraftOf account machine.now.registry life (Ok (enable (lang.program (form_of program)))) draft) }
+    {
+        let Program { clauses } = program;
+        if let Some(clause) = first_unmatched(&self.account, machine, &clauses) {
+            return Ok(Draft::refused(Refusal::NoMatch { clause }));
+        }
+        let place = self.programs.clauses().len();
+        let ecbs = ecbs_from(alloc, &self.account, machine, &clauses, place)?;
+        let before = self.programs.ecbs().len();
+        if ecbs.len() > ECBS_MAX - before {
+            return Ok(Draft::refused(Refusal::Limit));
+        }
+        let reply = Reply::Enabled {
+            count: ecbs.len() as u32,
+            first: before as u32 + 1,
+        };
+        Ok(Draft {
+            reply,
+            change: Change::Enable { clauses, ecbs },
+        })
+    }
+
+    /// The reply to a line and all that it will change. It changes nothing, and takes all the memory that the change
+    /// needs: an error leaves everything as it was.
+    pub fn draft(
+        &self,
+        alloc: Global,
+        machine: &Machine,
+        line: &Result<Command, Refusal>,
+    ) -> Result<Draft, AllocError>
+        ensures { IfOk result (λ draft. (account : Account) (life : List Item) (asked : Result Ask Refusal) → StandsFor account machine.now.registry self.now life
+            → LineAsks line.now asked → IsDraftOf account machine.now.registry life asked draft) }
+    {
+        if self.lines >= LINES_MAX {
+            return Ok(Draft::over());
+        }
+        match line {
+            Err(refusal) => Ok(Draft::refused(*refusal)),
+            Ok(command) => self.draft_command(alloc, machine, command),
+        }
+    }
+
+    /// The draft of a command within the quota.
+    fn draft_command(
+        &self,
+        alloc: Global,
+        machine: &Machine,
+        command: &Command,
+    ) -> Result<Draft, AllocError>
+        ensures { IfOk result (λ draft. (account : Account) (life : List Item) (ask : Ask) → StandsFor account machine.now.registry self.now life → is_over life ≡ false
+            → Asks command.now ask → IsDraftOf account machine.now.registry life (Ok ask) draft) }
+    {
+        match command {
+            Command::Enable { text } => self.draft_enable(alloc, machine, text.as_bytes()),
+            Command::Go => self.draft_go(alloc, machine),
+            Command::Snap { cpu } => self.draft_snap(alloc, machine, *cpu),
+        }
+    }
+}
+
+/// The draft of an `enable` of a text that is no program.
+fn draft_of_fault(fault: LangFault) -> Result<Draft, AllocError>
+    ensures { IfOk result (λ draft. (at : ℕ) × (why : Why) × (fault ≡ LangFault.Program at why)
+        × (draft.reply ≡ Reply.Refused (Refusal.Program at why)) × (draft.change ≡ Change.Nothing)) }
+{
+    match fault {
+        LangFault::Program { at, why } => Ok(Draft::refused(Refusal::Program { at, why })),
+        LangFault::Memory => Err(AllocError),
+    }
+}

@@ -1,0 +1,21 @@
+//! What holds of the definition of replies alone: a line has one.
+ghost use Rattle.std.specs.Prelude.{◌≡◌, List, Result};
+ghost use Rattle.dt_cred.specs.declared.account.Account.{Account};
+ghost use Rattle.dt_machine.specs.Registry.{Registry};
+ghost use Rattle.dt_consumer.specs.Answer.{Answer};
+ghost use Rattle.dt_consumer.specs.Ask.{Ask};
+ghost use Rattle.dt_consumer.specs.Life.{Item};
+ghost use Rattle.dt_consumer.specs.Reply.{Replies};
+ghost use Rattle.dt_consumer.specs.declared.refusal.Refusal.{Refusal};
+
+/// A line has at most one reply.
+pub fn one_reply()
+    ensures { (account : Account) (registry : Registry) (life : List Item) (line : Result Ask Refusal) (a b : Answer)
+        → Replies account registry life line a → Replies account registry life line b → a ≡ b }
+{}
+
+/// Each line has a reply.
+pub fn some_reply()
+    ensures { (account : Account) (registry : Registry) (life : List Item) (line : Result Ask Refusal)
+        → (answer : Answer) × Replies account registry life line answer }
+{}

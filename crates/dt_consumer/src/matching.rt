@@ -1,0 +1,65 @@
+//! Which probes a clause takes effect on.
+ghost use Rattle.std.specs.Prelude.{◌≡◌};
+ghost use Rattle.std.specs.List.{list_any};
+ghost use Rattle.std.specs.Option.{option_copied};
+ghost use Rattle.dt_lang.specs.Program.{form_of_clause, form_of_description};
+ghost use Rattle.dt_consumer.specs.Ecbs as spec;
+
+use dt_cred::{Account, Class, Probe, Process, may_enable};
+use dt_lang::{Clause, Description};
+use dt_machine::Machine;
+use dt_names::{Name, ProbeTuple};
+
+/// Whether a probe matches a clause: the account may enable it, and one of the descriptions asks for it.
+pub(crate) fn is_matched(
+    account: &Account,
+    machine: &Machine,
+    clause: &Clause,
+    probe: &Probe,
+) -> bool
+    ensures { result ≡ spec.is_matched account.now machine.now.registry (form_of_clause clause.now) probe.now }
+{
+    may_enable(account, probe, traced_process(machine, probe.class))
+        && is_described(clause, &probe.tuple)
+}
+
+/// The process that a `pid` provider traces.
+fn traced_process(machine: &Machine, class: Class) -> Option<&Process>
+    ensures { option_copied result ≡ spec.traced_process machine.now.registry class }
+{
+    match class {
+        // No process has the greatest number of 32 bits, nor one past it.
+        Class::Pid(pid) => {
+            let pid = if pid <= 999_999 { pid as u32 } else { u32::MAX };
+            machine.process(pid)
+        }
+        _ => None,
+    }
+}
+
+/// Whether one of a clause's descriptions asks for the probe.
+fn is_described(clause: &Clause, tuple: &ProbeTuple) -> bool
+    ensures { result ≡ list_any (λ description. spec.asks_for (form_of_description description) tuple.now) clause.now.descriptions.items }
+{
+    clause
+        .descriptions
+        .iter()
+        .any(|description| asks_for(description, tuple))
+}
+
+/// Whether each field of a description asks for its name.
+fn asks_for(description: &Description, tuple: &ProbeTuple) -> bool
+    ensures { result ≡ spec.asks_for (form_of_description description.now) tuple.now }
+{
+    field_asks_for(&description.provider, &tuple.provider)
+        && field_asks_for(&description.module, &tuple.module)
+        && field_asks_for(&description.function, &tuple.function)
+        && field_asks_for(&description.name, &tuple.name)
+}
+
+/// An empty field asks for nothing, any other for the whole name.
+fn field_asks_for(field: &[u8], name: &Name) -> bool
+    ensures { result ≡ spec.field_asks_for field.now name.now }
+{
+    field.is_empty() || field == name.as_bytes()
+}
