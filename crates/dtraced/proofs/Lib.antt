@@ -1,0 +1,11 @@
+pub mod Lines
+pub mod Decimals
+pub mod Steps
+pub mod Texts
+pub mod Asks
+pub mod Cuts
+pub mod StepLists
+pub mod Counts
+pub mod Sessions
+pub mod Streams
+pub mod OneOutput

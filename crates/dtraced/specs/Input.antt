@@ -1,0 +1,50 @@
+-- Which steps an input is, or at which line it is refused.
+use Rattle.std.specs.Prelude.{◌≡◌, ◌≢◌, ℕ, ◌-◌, ◌<◌, ◌≤◌, ◌==◌, Bool, true, false, List, [], ◌∷◌, ◌++◌, All, length, take, map, filter, IsTrue, IsSomeAnd}
+use Rattle.std.specs.List.{slice_split, AllByRecursion}
+use Rattle.dt_machine.specs.Registry.{Registry, account_of}
+use Rattle.dtraced.specs.Step.{Act, opens, calls, fires, spelling, is_open, IsWritable}
+
+abbrev pub is_newline : ℕ → Bool
+is_newline byte = byte == 10
+
+-- all but the last
+abbrev pub all_but_last : List (List ℕ) → List (List ℕ)
+all_but_last pieces = take (length pieces - 1) pieces
+
+-- the pieces in front of each newline; what stands behind the last one is no line
+abbrev pub lines_of : List ℕ → List (List ℕ)
+lines_of text = all_but_last (slice_split is_newline text)
+
+-- no byte of the text is a newline
+abbrev pub HasNoNewline : List ℕ → Type 0
+HasNoNewline text = All (λ byte. byte ≢ 10) text
+
+-- The text is cut at its first newline.
+pub record IsCut (text line rest : List ℕ) : Type 0 where
+  pub whole : text ≡ line ++ (10 ∷ rest)
+  pub first : HasNoNewline line
+
+abbrev pub is_written : List ℕ → Bool
+is_written [] = false
+is_written (byte ∷ line) = true
+
+-- The step is one on this machine: it opens a session of an account with the privilege dtrace_kernel, it calls, or
+-- it fires on one of the processors.
+abbrev pub IsKnown : Registry → Act → Type 0
+IsKnown registry (opens name) = IsSomeAnd (account_of registry name) (λ account. IsTrue account.privs.dtrace_kernel)
+IsKnown registry (calls line) = Unit {0}
+IsKnown registry (fires cpu) = cpu < registry.cpus
+
+-- The lines that aren't empty are these steps, in order, and at most one of them opens a session.
+pub record AreSteps (registry : Registry) (lines : List (List ℕ)) (acts : List Act) : Type 0 where
+  pub spelled : filter is_written lines ≡ map spelling acts
+  pub writable : AllByRecursion IsWritable acts
+  pub known : AllByRecursion (IsKnown registry) acts
+  pub once : length (filter is_open acts) ≤ 1
+
+-- The n-th line is the first that is refused: the lines before it are steps, and with it they are none.
+pub record IsRefused (registry : Registry) (lines : List (List ℕ)) (n : ℕ) : Type 0 where
+  pub some : 1 ≤ n
+  pub within : n ≤ length lines
+  pub before : (acts : List Act) × AreSteps registry (take (n - 1) lines) acts
+  pub none : (acts : List Act) → AreSteps registry (take n lines) acts → ⊥

@@ -1,0 +1,73 @@
+-- What a consumer asks for by a line.
+use Rattle.std.specs.Prelude.{◌≡◌, ℕ, List, length, codes, bytes_eq, nat_lt, if◌then◌else◌, Option, Some, None, option_map, option_and_then, ok_or, Result, Ok, Err}
+use Rattle.std.specs.Str.{is_utf8}
+use Rattle.std.specs.String.{string_bytes}
+use Rattle.serde_json.specs.Data.{Data}
+use Rattle.serde_json.specs.Read.{read}
+use Rattle.serde_json.specs.Find.{get, as_str, as_number, as_u64}
+use Rattle.dt_lang.specs.Program.{Reading, Reads}
+use Rattle.dt_consumer.specs.Ask.{Ask, enable, go, snap}
+use Rattle.dt_consumer.specs.declared.command.Command.{Command}
+use Rattle.dt_consumer.specs.declared.command.Command.TheVariants.{Enable, Go, Snap}
+use Rattle.dt_consumer.specs.declared.refusal.Refusal.{Refusal}
+use Rattle.dt_consumer.specs.declared.refusal.Refusal.TheVariants.{Json, Request as NoRequest, LineLong}
+
+-- what a line says, before a program is read in it
+pub data Request : Type 0 where
+  to_enable : (text : List ℕ) → Request
+  to_go : Request
+  to_snap : (cpu : ℕ) → Request
+
+-- a command without where its text lies in memory
+abbrev pub request_of : Command → Request
+request_of (Enable text) = to_enable (string_bytes text)
+request_of Go = to_go
+request_of (Snap cpu) = to_snap cpu
+
+-- the text of an object's field, where it is one
+abbrev pub text_at : List ℕ → Data → Option (List ℕ)
+text_at key d = option_and_then as_str (get key d)
+
+-- the number of an object's field, where it is one of 64 bits without a sign
+abbrev pub number_at : List ℕ → Data → Option ℕ
+number_at key d = option_and_then as_u64 (option_and_then as_number (get key d))
+
+-- what the command of this name asks for; None where there is no such command, or a field of it is missing or of
+-- another kind
+abbrev pub named_request : List ℕ → Data → Option Request
+named_request name d =
+    if bytes_eq name (codes "enable") then option_map to_enable (text_at (codes "text") d)
+    else if bytes_eq name (codes "go") then Some to_go
+    else if bytes_eq name (codes "snap") then option_map to_snap (number_at (codes "cpu") d)
+    else None
+
+-- what a JSON value asks for: its field `cmd` names the command
+abbrev pub requested_by : Data → Result Request Refusal
+requested_by d = ok_or (option_and_then (λ name. named_request name d) (text_at (codes "cmd") d)) NoRequest
+
+abbrev pub requested_or_no_json : Option Data → Result Request Refusal
+requested_or_no_json None = Err Json
+requested_or_no_json (Some d) = requested_by d
+
+-- what the bytes of a line say, or why they are refused
+abbrev pub requested : List ℕ → Result Request Refusal
+requested line = requested_or_no_json (if is_utf8 line then read line else None)
+
+-- the most bytes of a line
+abbrev pub LINE_MAX : ℕ
+LINE_MAX = 65536
+
+-- the same of a line of any length
+abbrev pub requested_by_line : List ℕ → Result Request Refusal
+requested_by_line line = if nat_lt LINE_MAX (length line) then Err LineLong else requested line
+
+-- A request asks this of a consumer: the program of an `enable` is the one that its text is read as.
+abbrev pub Means : Result Request Refusal → Result Ask Refusal → Type 0
+Means (Ok (to_enable text)) ask = (reading : Reading) × Reads text reading × (ask ≡ Ok (enable reading))
+Means (Ok to_go) ask = ask ≡ Ok go
+Means (Ok (to_snap cpu)) ask = ask ≡ Ok (snap cpu)
+Means (Err refusal) ask = ask ≡ Err refusal
+
+-- A line asks this of a consumer.
+abbrev pub Asks : List ℕ → Result Ask Refusal → Type 0
+Asks line ask = Means (requested_by_line line) ask

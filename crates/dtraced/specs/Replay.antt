@@ -1,0 +1,60 @@
+-- What a replay writes.
+use Rattle.std.specs.Prelude.{◌≡◌, ℕ, List, [], ◌∷◌, ◌++◌, codes, reverse, Option, Some, None, MatchOption, length, filter, if◌then◌else◌}
+use Rattle.std.specs.List.{flat_map}
+use Rattle.dt_cred.specs.declared.account.Account.{Account}
+use Rattle.dt_machine.specs.Registry.{Registry, Contents, account_of, firing_at}
+use Rattle.dt_machine.specs.declared.firing.Firing.{Firing}
+use Rattle.dt_consumer.specs.Answer.{Answer}
+use Rattle.dtraced.specs.Alone.{Reached, own_line, firing_made, Alone}
+use Rattle.dtraced.specs.Input.{AreSteps, lines_of}
+use Rattle.dtraced.specs.Reply.{reply_text}
+use Rattle.dtraced.specs.Step.{Act, opens, calls, fires, is_fire_of, is_opened}
+
+-- The steps so far are called the past; the newest goes first.
+
+-- how many firings of a processor were asked for
+abbrev pub taken : ℕ → List Act → ℕ
+taken cpu past = length (filter (is_fire_of cpu) past)
+
+abbrev pub reached_by : Option Firing → List Reached
+reached_by None = []
+reached_by (Some firing) = firing_made firing ∷ []
+
+-- what a step brings to a consumer: its line, or the next firing of the processor's script, where one is left
+abbrev pub brings : Contents → List Act → Act → List Reached
+brings contents past (opens name) = []
+brings contents past (calls line) = own_line line ∷ []
+brings contents past (fires cpu) = reached_by (firing_at contents.scripts cpu (taken cpu past))
+
+-- what reached the consumer since its session was opened, the newest first
+abbrev pub view : Contents → List Act → List Reached
+view contents [] = []
+view contents (act ∷ past) = if is_opened past then brings contents past act ++ view contents past else []
+
+-- the account of the session
+abbrev pub account_opened : Registry → List Act → Option Account
+account_opened registry [] = None
+account_opened registry (opens name ∷ past) = account_of registry name
+account_opened registry (calls line ∷ past) = account_opened registry past
+account_opened registry (fires cpu ∷ past) = account_opened registry past
+
+-- the answers of the one session; without one there are none
+abbrev pub AreAnswers : Contents → List Act → List Answer → Type 0
+AreAnswers contents past answers =
+    MatchOption (account_opened contents.registry past) (answers ≡ [])
+    (λ account. Alone account contents.registry (view contents past) answers)
+
+-- the line that is written for an answer: the seat, a blank, the reply
+abbrev pub output_line : Answer → List ℕ
+output_line answer = codes "0 " ++ reply_text answer
+
+abbrev pub output_of : List Answer → List ℕ
+output_of answers = flat_map output_line answers
+
+-- What is written for an input on a machine: the replies to its lines, each on a line of its own.
+pub record IsReplay (contents : Contents) (text output : List ℕ) : Type 0 where
+  pub acts : List Act
+  pub answers : List Answer
+  pub steps : AreSteps contents.registry (lines_of text) acts
+  pub alone : AreAnswers contents (reverse acts) answers
+  pub written : output ≡ output_of answers

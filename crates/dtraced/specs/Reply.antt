@@ -1,0 +1,49 @@
+-- The line that a consumer is answered: JSON with the keys in the order of their bytes and no blanks.
+use Rattle.std.specs.Prelude.{ℕ, List, [], ◌∷◌, ◌++◌, true, codes}
+use Rattle.hex.specs.Hex.{encode_lower}
+use Rattle.serde_json.specs.Data.{Data, boolean, number, unsigned, string, object, Members, no_members, member}
+use Rattle.serde_json.specs.Written.{compact_text}
+use Rattle.dt_lang.specs.declared.fault.Why.{Why}
+use Rattle.dt_lang.specs.declared.fault.Why.TheVariants.{Syntax}
+use Rattle.dt_consumer.specs.Answer.{Answer, done, enabled, snapped, refused}
+use Rattle.dt_consumer.specs.declared.refusal.Refusal.{Refusal}
+use Rattle.dt_consumer.specs.declared.refusal.Refusal.TheVariants.{Json, Request, LineLong, Program, NoMatch, Limit, Busy, NoCpu, Quota, Memory}
+
+-- the name of a cause for which a text is no program
+abbrev pub why_name : Why → List ℕ
+why_name Syntax = codes "Syntax"
+
+abbrev pub of_number : ℕ → Data
+of_number n = number (unsigned n)
+
+-- a refusal's number and name, and the keys behind them
+abbrev pub coded : ℕ → List ℕ → Members → Members
+coded n name behind = member (codes "error") (of_number n) (member (codes "name") (string name) behind)
+
+abbrev pub refusal_members : Refusal → Members
+refusal_members Json = coded 1 (codes "Json") no_members
+refusal_members Request = coded 2 (codes "Request") no_members
+refusal_members LineLong = coded 3 (codes "LineLong") no_members
+refusal_members (Program at why) = member (codes "at") (of_number at) (coded 4 (codes "Program") (member (codes "why") (string (why_name why)) no_members))
+refusal_members (NoMatch clause) = member (codes "clause") (of_number clause) (coded 5 (codes "NoMatch") no_members)
+refusal_members Limit = coded 9 (codes "Limit") no_members
+refusal_members Busy = coded 10 (codes "Busy") no_members
+refusal_members NoCpu = coded 12 (codes "NoCpu") no_members
+refusal_members Quota = coded 15 (codes "Quota") no_members
+refusal_members Memory = coded 16 (codes "Memory") no_members
+
+-- the last key of what is no refusal, and the keys behind it
+abbrev pub ok_and : Members → Members
+ok_and behind = member (codes "ok") (boolean true) behind
+
+abbrev pub reply_members : Answer → Members
+reply_members done = ok_and no_members
+reply_members (enabled count first) = member (codes "count") (of_number count) (member (codes "first") (of_number first) (ok_and no_members))
+reply_members (snapped cpu bytes drops filled) =
+    member (codes "cpu") (of_number cpu) (member (codes "data") (string (encode_lower bytes))
+    (member (codes "drops") (of_number drops) (member (codes "filled") (boolean filled) (ok_and no_members))))
+reply_members (refused refusal) = refusal_members refusal
+
+-- the line with its newline
+abbrev pub reply_text : Answer → List ℕ
+reply_text answer = compact_text (object (reply_members answer)) ++ 10 ∷ []

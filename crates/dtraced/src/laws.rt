@@ -1,0 +1,15 @@
+//! What holds of the definition of a replay alone: its output is one.
+ghost use Rattle.std.specs.Prelude.{◌≡◌, ℕ, List};
+ghost use Rattle.dt_machine.specs.Registry.{Contents};
+ghost use Rattle.dtraced.specs.Replay.{IsReplay};
+
+use dt_consumer::one_reply;
+use dt_lang::one_reading;
+
+/// Law: for an input on a machine one output is written at most.
+pub(crate) fn one_output()
+    ensures { (contents : Contents) (text a b : List ℕ) → IsReplay contents text a → IsReplay contents text b → a ≡ b }
+{
+    one_reading();
+    one_reply();
+}

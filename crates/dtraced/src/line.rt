@@ -1,0 +1,99 @@
+ghost use Rattle.std.specs.Prelude.{◌≡◌, ◌≢◌, Result, Ok, Err, IfOk, IfErr, option_map};
+ghost use Rattle.serde_json.specs.View.{view};
+ghost use Rattle.dt_consumer.specs.Ask.{Ask, Asks as CommandAsks};
+ghost use Rattle.dt_consumer.specs.Draft.{LineAsks};
+ghost use Rattle.dtraced.specs.Line.{text_at, number_at, request_of, requested_by, requested, requested_by_line, Asks};
+ghost use Rattle.dt_consumer.specs.declared.refusal.Refusal.{Refusal};
+
+use dt_consumer::{Command, Refusal};
+use dt_lang::has_reading;
+use serde_json::Value;
+use std::alloc::{AllocError, Global};
+
+/// The most bytes of a line, its newline apart.
+const LINE_MAX: usize = 65_536;
+
+/// What a consumer asks for by a line, or why the line is refused, given without its newline.
+pub(crate) fn read_line(alloc: Global, line: &[u8]) -> Result<Result<Command, Refusal>, AllocError>
+    ensures { IfOk result (λ asked. (ask : Result Ask Refusal) × Asks line.now ask × LineAsks asked ask) }
+{
+    match ask_line(alloc, line) {
+        Ok(command) => Ok(Ok(command)),
+        Err(refusal) => {
+            if refusal == Refusal::Memory {
+                return Err(AllocError);
+            }
+            Ok(Err(refusal))
+        }
+    }
+}
+
+/// What a consumer asks for by a line of any length, given without its newline.
+///
+/// A line of more than 65,536 bytes is refused as such, whatever stands in it; any other is read by [`command_of`].
+fn ask_line(alloc: Global, line: &[u8]) -> Result<Command, Refusal>
+    ensures ok { IfOk result (λ command. requested_by_line line.now ≡ Ok (request_of command)) }
+    ensures asks { IfOk result (λ command. (ask : Ask) × CommandAsks command ask) }
+    ensures err { IfErr result (λ refusal. refusal ≢ Refusal.Memory → requested_by_line line.now ≡ Err refusal) }
+{
+    if line.len() > LINE_MAX {
+        return Err(Refusal::LineLong);
+    }
+    command_of(alloc, line)
+}
+
+/// What a consumer asks for by the bytes of a line, given without its newline.
+///
+/// The line is a JSON object, whose `cmd` names the command; keys that are none of the command's are ignored.
+/// What is no JSON is refused `Json`. What is no object, names no command, or lacks a field or has it of another JSON
+/// kind is refused `Request`. Any line may be refused `Memory`, and may then be asked again.
+fn command_of(alloc: Global, line: &[u8]) -> Result<Command, Refusal>
+    ensures ok { IfOk result (λ command. requested line.now ≡ Ok (request_of command)) }
+    ensures asks { IfOk result (λ command. (ask : Ask) × CommandAsks command ask) }
+    ensures err { IfErr result (λ refusal. refusal ≢ Refusal.Memory → requested line.now ≡ Err refusal) }
+{
+    match Value::from_slice(alloc, line) {
+        Ok(request) => requested_command(alloc, &request),
+        Err(fault) if fault.is_memory() => Err(Refusal::Memory),
+        Err(_) => Err(Refusal::Json),
+    }
+}
+
+/// What a JSON value asks for.
+fn requested_command(alloc: Global, request: &Value) -> Result<Command, Refusal>
+    ensures ok { IfOk result (λ command. requested_by (view request.now) ≡ Ok (request_of command)) }
+    ensures asks { IfOk result (λ command. (ask : Ask) × CommandAsks command ask) }
+    ensures err { IfErr result (λ refusal. refusal ≢ Refusal.Memory → requested_by (view request.now) ≡ Err refusal) }
+{
+    match text_field(request, "cmd").ok_or(Refusal::Request)? {
+        "enable" => {
+            let text = text_field(request, "text").ok_or(Refusal::Request)?;
+            let text = String::from_str(alloc, text).map_err(|_| Refusal::Memory)?;
+            has_reading(text.as_bytes());
+            Ok(Command::Enable { text })
+        }
+        "go" => Ok(Command::Go),
+        "snap" => {
+            let cpu = number_field(request, "cpu").ok_or(Refusal::Request)?;
+            Ok(Command::Snap { cpu })
+        }
+        _ => Err(Refusal::Request),
+    }
+}
+
+/// The text of a field, where it is one.
+fn text_field<'v>(request: &'v Value, key: &str) -> Option<&'v str>
+    ensures { option_map (λ text. text.now) result ≡ text_at key.now (view request.now) }
+{
+    request.get(key).and_then(Value::as_str)
+}
+
+/// The number of a field, where it is one that fits 64 bits and has no sign.
+fn number_field(request: &Value, key: &str) -> Option<u64>
+    ensures { result ≡ number_at key.now (view request.now) }
+{
+    request.get(key).and_then(Value::as_u64)
+}
+
+#[cfg(test)]
+mod tests;

@@ -1,0 +1,63 @@
+use super::*;
+use std::test::Fail;
+
+/// How a line is answered, as the names of the variants print.
+fn told(alloc: Global, line: &[u8]) -> Result<String, Fail> {
+    let text = match ask_line(alloc, line) {
+        Ok(command) => format!(in alloc; "{command:?}")?,
+        Err(refusal) => format!(in alloc; "{refusal:?}")?,
+    };
+    Ok(text)
+}
+
+#[test]
+fn answers_each_line(rt: HostRuntime) -> Result<(), Fail> {
+    let rows: [(&[u8], &str); 17] = [
+        (b"{\"cmd\":\"go\"}", "Go"),
+        (
+            b"{\"cmd\": \"enable\", \"text\": \"x{}\"}",
+            "Enable { text: \"x{}\" }",
+        ),
+        (b"{\"cmd\":\"snap\",\"cpu\":1}", "Snap { cpu: 1 }"),
+        (
+            b" {\"cpu\":7,\"cmd\":\"go\",\"cmd\":\"snap\",\"cpu\":18446744073709551615,\"x\":null}\r",
+            "Snap { cpu: 18446744073709551615 }",
+        ),
+        (b"", "Json"),
+        (b"[", "Json"),
+        (b"{\"cmd\":\"go\"} {}", "Json"),
+        (b"{\"cmd\":\"\xff\"}", "Json"),
+        (b"[]", "Request"),
+        (b"{}", "Request"),
+        (b"{\"cmd\":1}", "Request"),
+        (b"{\"cmd\":\"stop\"}", "Request"),
+        (b"{\"cmd\":\"enable\",\"text\":1}", "Request"),
+        (b"{\"cmd\":\"snap\"}", "Request"),
+        (b"{\"cmd\":\"snap\",\"cpu\":-1}", "Request"),
+        (b"{\"cmd\":\"snap\",\"cpu\":1.0}", "Request"),
+        (
+            b"{\"cmd\":\"snap\",\"cpu\":18446744073709551616}",
+            "Request",
+        ),
+    ];
+    for (line, wanted) in rows {
+        let text = told(rt.alloc(), line)?;
+        assert_eq!(rt; text.as_str(), wanted, "{line:?}");
+    }
+    Ok(())
+}
+
+/// How a line of this many brackets is answered.
+fn told_of_brackets(alloc: Global, len: usize) -> Result<String, Fail> {
+    let line = vec![in alloc; b'['; len]?;
+    told(alloc, &line)
+}
+
+#[test]
+fn measures_before_it_reads(rt: HostRuntime) -> Result<(), Fail> {
+    for (len, wanted) in [(65_536, "Json"), (65_537, "LineLong")] {
+        let text = told_of_brackets(rt.alloc(), len)?;
+        assert_eq!(rt; text.as_str(), wanted);
+    }
+    Ok(())
+}

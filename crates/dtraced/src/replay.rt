@@ -1,0 +1,144 @@
+//! A replay: a machine file and step lines, from bytes to bytes.
+ghost use Rattle.std.specs.Prelude.{◌≡◌, ◌≢◌, ◌<◌, ℕ, List, [], ◌∷◌, IfOk, IfErr, IfSome, IfNone, OnOk, length, take};
+ghost use Rattle.std.specs.Io.KnownBytes.{Appends, Keeps};
+ghost use Rattle.dt_machine.specs.Reading.{IsDescribed, IsFaultOf};
+ghost use Rattle.dt_machine.specs.Registry.{Contents};
+ghost use Rattle.dt_machine.specs.Sections.{UnlessMemory};
+ghost use Rattle.dt_machine.specs.declared.fault.MachineFault.{MachineFault};
+ghost use Rattle.dtraced.specs.Faults.{IsFaultOfReading, IsFaultOfSteps};
+ghost use Rattle.dtraced.specs.Input.{lines_of, IsCut, HasNoNewline, IsRefused};
+ghost use Rattle.dtraced.specs.Replay.{IsReplay};
+
+use crate::run::Run;
+use dt_machine::{Machine, MachineFault};
+use std::alloc::{AllocError, Global};
+use std::io::{ErrorKind, Read, Write};
+use thiserror::Error;
+
+/// The most reads of an input.
+const READS_MAX: u64 = 1 << 28;
+
+/// How many bytes are asked of an input at once.
+const CHUNK: usize = 8192;
+
+/// Why a replay wrote nothing, or not all. They are tested in this order; want of memory can come at any point behind
+/// the first and before the last.
+#[derive(Clone, Copy, Debug, PartialEq, Eq, Error)]
+pub enum ReplayFault {
+    /// The machine file is refused.
+    #[error("{0}")]
+    Machine(MachineFault),
+    /// A read failed, or the input hadn't ended after 2^28 reads.
+    #[error("fault")]
+    Read,
+    /// This line of the input, counted from 1, is no step, or none that may stand there.
+    #[error("line {0}: refused")]
+    Line(usize),
+    /// A write failed. A beginning of the output may have been written.
+    #[error("fault")]
+    Write,
+    /// Memory ran out.
+    #[error("fault")]
+    Memory,
+}
+
+/// Replays an input on a machine: reads both whole, takes the steps in order, and writes the replies.
+pub fn replay<R: Read, W: Write>(
+    alloc: Global,
+    machine: &[u8],
+    reader: &mut R,
+    writer: &mut W,
+) -> Result<(), ReplayFault>
+    ensures ok { OnOk result (IfSome (R.remaining reader.old) (λ input. (contents : Contents) × (output : List ℕ)
+        × IsDescribed machine.now contents × IsReplay contents input output × Appends (W.contents writer.old) (W.contents writer.new) output)) }
+    ensures machine { IfErr result (λ fault. (refused : MachineFault) → fault ≡ ReplayFault.Machine refused
+        → UnlessMemory refused (IsFaultOf machine.now refused)) }
+    ensures line { IfErr result (λ fault. (n : ℕ) → fault ≡ ReplayFault.Line n → IfSome (R.remaining reader.old) (λ input.
+        (contents : Contents) × IsDescribed machine.now contents × IsRefused contents.registry (lines_of input) n)) }
+    ensures nothing_written { IfErr result (λ fault. fault ≢ ReplayFault.Write → Keeps (W.contents writer.old) (W.contents writer.new)) }
+    ensures beginning_written { IfErr result (λ fault. fault ≡ ReplayFault.Write → IfSome (R.remaining reader.old) (λ input.
+        (contents : Contents) × (output : List ℕ) × (count : ℕ) × IsDescribed machine.now contents × IsReplay contents input output
+        × Appends (W.contents writer.old) (W.contents writer.new) (take count output))) }
+{
+    let machine = match Machine::read(alloc, machine) {
+        Ok(machine) => machine,
+        Err(fault) => return Err(ReplayFault::Machine(fault)),
+    };
+    let input = read_input(alloc, reader)?;
+    let output = output_of(alloc, &machine, &input)?;
+    write_output(writer, &output)
+}
+
+/// All bytes of a reader.
+fn read_input<R: Read>(alloc: Global, reader: &mut R) -> Result<Vec<u8>, ReplayFault>
+    ensures ok { IfOk result (λ input. IfSome (R.remaining reader.old) (λ bytes. input.items ≡ bytes)) }
+    ensures err { IfErr result IsFaultOfReading }
+{
+    let mut input = Vec::new(alloc);
+    let mut chunk = [0; CHUNK];
+    for _read in 0..READS_MAX {
+        match reader.read(&mut chunk) {
+            Ok(0) => return Ok(input),
+            Ok(count) => match input.extend_from_slice(&chunk[..count]) {
+                Ok(()) => {}
+                Err(_) => return Err(ReplayFault::Memory),
+            },
+            Err(fault) if fault.kind() == ErrorKind::Interrupted => {}
+            Err(_) => return Err(ReplayFault::Read),
+        }
+    }
+    Err(ReplayFault::Read)
+}
+
+/// What is written for an input.
+fn output_of(alloc: Global, machine: &Machine, input: &[u8]) -> Result<Vec<u8>, ReplayFault>
+    ensures ok { IfOk result (λ output. IsReplay machine.now input.now output.items) }
+    ensures err { IfErr result (IsFaultOfSteps machine.now input.now) }
+{
+    let mut run = Run::new(alloc);
+    let mut rest = input;
+    let mut number = 0;
+    while let Some((line, more)) = next_line(rest) {
+        rest = more;
+        number += 1;
+        match run.take_line(alloc, machine, line) {
+            Ok(true) => {}
+            Ok(false) => return Err(ReplayFault::Line(number)),
+            Err(AllocError) => return Err(ReplayFault::Memory),
+        }
+    }
+    Ok(run.output)
+}
+
+/// The text in front of the first newline, and what stands behind it.
+fn next_line(text: &[u8]) -> Option<(&[u8], &[u8])>
+    ensures found { IfSome result (λ parts. IsCut text.now parts.0.now parts.1.now) }
+    ensures none { IfNone result (HasNoNewline text.now) }
+{
+    let at = text.iter().position(|byte| *byte == b'\n')?;
+    Some((&text[..at], &text[at + 1..]))
+}
+
+/// Writes all bytes, and flushes.
+fn write_output<W: Write>(writer: &mut W, output: &[u8]) -> Result<(), ReplayFault>
+    ensures ok { OnOk result (Appends (W.contents writer.old) (W.contents writer.new) output.now) }
+    ensures err { IfErr result (λ fault. (count : ℕ) × (fault ≡ ReplayFault.Write)
+        × Appends (W.contents writer.old) (W.contents writer.new) (take count output.now)) }
+{
+    let mut rest = output;
+    for _write in 0..u64::MAX {
+        if rest.is_empty() {
+            return writer.flush().map_err(|_| ReplayFault::Write);
+        }
+        match writer.write(rest) {
+            Ok(0) => return Err(ReplayFault::Write),
+            Ok(count) => rest = &rest[count..],
+            Err(fault) if fault.kind() == ErrorKind::Interrupted => {}
+            Err(_) => return Err(ReplayFault::Write),
+        }
+    }
+    Err(ReplayFault::Write)
+}
+
+#[cfg(test)]
+mod tests;
