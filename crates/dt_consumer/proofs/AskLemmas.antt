@@ -1,16 +1,17 @@
 -- What lines ask for.
-use Rattle.std.proofs.Common.{◌≡◌, ℕ, ◌<◌, false, List, Result, Ok, Err, refl, ap, subst}
+use Rattle.std.proofs.Common.{◌≡◌, ℕ, ◌<◌, false, List, Option, Result, Ok, Err, refl, ap, subst}
 use Rattle.std.specs.Result.{IfOk}
 use Rattle.std.specs.Prelude.{String}
 use Rattle.std.specs.Global.{Global}
 use Rattle.std.specs.String.{string_bytes}
 use Rattle.std.proofs.lemmas.Bool.{lt-leb}
+use Rattle.dt_lang.specs.Description.{DescForm, ReadsDescription}
 use Rattle.dt_lang.specs.Program.{Reading, Reads}
-use Rattle.dt_consumer.specs.Ask.{Ask, Asks, enable, go, snap}
+use Rattle.dt_consumer.specs.Ask.{Ask, Asks, enable, go, snap, list}
 use Rattle.dt_consumer.specs.Draft.{LineAsks, is_over}
 use Rattle.dt_consumer.specs.Life.{Item, lines}
 use Rattle.dt_consumer.specs.declared.command.Command.{Command}
-use Rattle.dt_consumer.specs.declared.command.Command.TheVariants.{Enable, Go, Snap}
+use Rattle.dt_consumer.specs.declared.command.Command.TheVariants.{Enable, Go, Snap, List as ListOf}
 use Rattle.dt_consumer.specs.declared.refusal.Refusal.{Refusal}
 
 pub if_ok_map : {T E : Type 0} (P Q : T → Type 0) (r : Result T E) → ((x : T) → P x → Q x) → IfOk r P → IfOk r Q
@@ -34,26 +35,14 @@ ok_asks command (Err same) h = absurd h
 pub asks_ok : (line : Result Command Refusal) (command : Command) (asked : Result Ask Refusal) → line ≡ Ok command → LineAsks line asked → (ask : Ask) × (asked ≡ Ok ask) × Asks command ask
 asks_ok line command asked e h = let P : Result Command Refusal → Type 0 = λ l. LineAsks l asked in ok_asks command asked (subst P e h)
 
-enable_asks : (text : String Global) (ask : Ask) → Asks (Enable text) ask → (reading : Reading) × (ask ≡ enable reading) × Reads (string_bytes text) reading
-enable_asks text (enable reading) h = (reading, refl, h)
-enable_asks text go h = absurd h
-enable_asks text (snap n) h = absurd h
-
-pub asks_enable : (command : Command) (text : String Global) (ask : Ask) → command ≡ Enable text → Asks command ask → (reading : Reading) × (ask ≡ enable reading) × Reads (string_bytes text) reading
-asks_enable command text ask e h = let P : Command → Type 0 = λ k. Asks k ask in enable_asks text ask (subst P e h)
-
-go_asks : (ask : Ask) → Asks Go ask → ask ≡ go
-go_asks (enable reading) h = absurd h
-go_asks go h = refl
-go_asks (snap n) h = absurd h
+pub asks_enable : (command : Command) (text : String Global) (ask : Ask) → command ≡ Enable text → Asks command ask → (reading : Reading) × Reads (string_bytes text) reading × (ask ≡ enable reading)
+asks_enable command text ask e h = let P : Command → Type 0 = λ k. Asks k ask in subst P e h
 
 pub asks_go : (command : Command) (ask : Ask) → command ≡ Go → Asks command ask → ask ≡ go
-asks_go command ask e h = let P : Command → Type 0 = λ k. Asks k ask in go_asks ask (subst P e h)
-
-snap_asks : (cpu : ℕ) (ask : Ask) → Asks (Snap cpu) ask → ask ≡ snap cpu
-snap_asks cpu (enable reading) h = absurd h
-snap_asks cpu go h = absurd h
-snap_asks cpu (snap n) h = ap snap h
+asks_go command ask e h = let P : Command → Type 0 = λ k. Asks k ask in subst P e h
 
 pub asks_snap : (command : Command) (cpu : ℕ) (ask : Ask) → command ≡ Snap cpu → Asks command ask → ask ≡ snap cpu
-asks_snap command cpu ask e h = let P : Command → Type 0 = λ k. Asks k ask in snap_asks cpu ask (subst P e h)
+asks_snap command cpu ask e h = let P : Command → Type 0 = λ k. Asks k ask in subst P e h
+
+pub asks_list : (command : Command) (probe : String Global) (ask : Ask) → command ≡ ListOf probe → Asks command ask → (reading : Option DescForm) × ReadsDescription (string_bytes probe) reading × (ask ≡ list reading)
+asks_list command probe ask e h = let P : Command → Type 0 = λ k. Asks k ask in subst P e h

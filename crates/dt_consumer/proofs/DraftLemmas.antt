@@ -8,9 +8,13 @@ use Rattle.std.proofs.lemmas.Bool.{cases_Bool, ne_eqb, le-leb, lt-leb}
 use Rattle.dt_cred.specs.declared.account.Account.{Account}
 use Rattle.dt_machine.specs.Registry.{Registry}
 use Rattle.dt_lang.specs.Program.{ClauseForm, program, fault}
+use Rattle.dt_lang.specs.Description.{DescForm}
 use Rattle.dt_lang.specs.declared.fault.Why.{Why}
-use Rattle.dt_consumer.specs.Answer.{Answer, snapped, refused, answer_of}
-use Rattle.dt_consumer.specs.Ask.{Ask, enable, go, snap}
+use Rattle.dt_lang.specs.declared.fault.Why.TheVariants.{Probe}
+use Rattle.dt_cred.specs.declared.probe.Probe.{Probe as AProbe}
+use Rattle.dt_consumer.specs.Ecbs as enabling
+use Rattle.dt_consumer.specs.Answer.{Answer, snapped, listed, refused, answer_of}
+use Rattle.dt_consumer.specs.Ask.{Ask, enable, go, snap, list}
 use Rattle.dt_consumer.specs.Buffers.{ShowsIn}
 use Rattle.dt_consumer.specs.declared.buffer.Switch.{Switch}
 use Rattle.dt_consumer.specs.Draft.{is_over, IsIdle, Drafted, IsDraftOf}
@@ -22,8 +26,8 @@ use Rattle.dt_consumer.specs.declared.draft.Draft.{Draft}
 use Rattle.dt_consumer.specs.declared.phase.Phase.{Phase}
 use Rattle.dt_consumer.specs.declared.phase.Phase.TheVariants.{Inactive, Active}
 use Rattle.dt_consumer.specs.declared.refusal.Refusal.{Refusal}
-use Rattle.dt_consumer.specs.declared.refusal.Refusal.TheVariants.{Busy, NoCpu, Quota}
-use Rattle.dt_consumer.specs.declared.reply.Reply.TheVariants.{Refused, Snapped}
+use Rattle.dt_consumer.specs.declared.refusal.Refusal.TheVariants.{Program, Busy, NoCpu, Quota}
+use Rattle.dt_consumer.specs.declared.reply.Reply.TheVariants.{Refused, Snapped, Listed}
 use Rattle.dt_consumer.proofs.AttemptLemmas.{attempts-idle, attempts-inactive}
 
 two_phases : (b : Bool) → (cond b Active Inactive ≡ Active) ⊎ (cond b Active Inactive ≡ Inactive)
@@ -77,6 +81,15 @@ module _ (account : Account) (registry : Registry) (life : List Item) where
 
   pub idle_program : (clauses : List ClauseForm) → (is_inactive (phase life) && not (is_some (refusal_of_program account registry (clauses_of account registry life) clauses))) ≡ false → IsIdle account registry life (Ok (enable (program clauses)))
   idle_program clauses e = record { enables_nothing = ap (λ b. cond b clauses []) e; same_phase = refl; reads_nothing = λ cpu inside. idle_reads (asked (Ok (enable (program clauses)))) (λ k. refl) (λ k. refl) cpu }
+
+  pub idle_list : (reading : Option DescForm) → IsIdle account registry life (Ok (list reading))
+  idle_list reading = record { enables_nothing = refl; same_phase = refl; reads_nothing = λ cpu inside. idle_reads (asked (Ok (list reading))) (λ k. refl) (λ k. refl) cpu }
+
+  pub list_refused : (draft : Draft) → draft.reply ≡ Refused (Program 0 Probe) → draft.change ≡ Nothing → is_over life ≡ false → IsDraftOf account registry life (Ok (list None)) draft
+  list_refused draft reply change fresh = refused_draft (Ok (list None)) (Program 0 Probe) draft reply change fresh refl (idle_list None)
+
+  pub list_draft : (desc : DescForm) (probes : Vec AProbe) → is_over life ≡ false → probes.items ≡ enabling.listed account registry desc → IsDraftOf account registry life (Ok (list (Some desc))) (record { reply = Listed probes; change = Nothing })
+  list_draft desc probes fresh e = record { replies = in_quota (Ok (list (Some desc))) (listed probes.items) fresh (ap listed e); makes = (fresh, idle_list (Some desc)) }
 
   pub idle_past : (n : ℕ) → registry.cpus ≤ n → IsIdle account registry life (Ok (snap n))
   idle_past n past = record {

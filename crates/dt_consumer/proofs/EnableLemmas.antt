@@ -9,7 +9,7 @@ use Rattle.dt_cred.specs.declared.probe.Probe.{Probe}
 use Rattle.dt_machine.specs.Registry.{Registry}
 use Rattle.dt_lang.specs.Program.{ClauseForm, form_of_clause, program, fault}
 use Rattle.dt_lang.specs.declared.program.Clause.{Clause}
-use Rattle.dt_consumer.specs.Ask.{enable, go, snap}
+use Rattle.dt_consumer.specs.Ask.{enable, go, snap, list}
 use Rattle.dt_consumer.specs.Ecbs.{ecbs_of, pairs_of, matched, numbered}
 use Rattle.dt_consumer.specs.Life.{Item, asked, fired, phase, lines, is_inactive, is_unmatched, clauses_of, clauses_added, refusal_of_program, first_unmatched, or_else}
 use Rattle.dt_consumer.specs.Places.{key_of, keys_at, keys_from}
@@ -74,6 +74,7 @@ module _ (account : Account) (registry : Registry) where
   added_many now before (asked (Ok (enable (fault at why)))) place = omega arith
   added_many now before (asked (Ok go)) place = omega arith
   added_many now before (asked (Ok (snap cpu))) place = omega arith
+  added_many now before (asked (Ok (list reading))) place = omega arith
   added_many now before (asked (Err refusal)) place = omega arith
   added_many now before (fired firing) place = omega arith
 

@@ -5,8 +5,8 @@ use Rattle.std.specs.Option.{MatchOption}
 use Rattle.dt_cred.specs.declared.account.Account.{Account}
 use Rattle.dt_machine.specs.Registry.{Registry}
 use Rattle.dt_lang.specs.Program.{program, fault}
-use Rattle.dt_consumer.specs.Answer.{Answer, done, enabled, snapped, refused}
-use Rattle.dt_consumer.specs.Ask.{Ask, enable, go, snap}
+use Rattle.dt_consumer.specs.Answer.{Answer, done, enabled, snapped, listed, refused}
+use Rattle.dt_consumer.specs.Ask.{Ask, enable, go, snap, list}
 use Rattle.dt_consumer.specs.Draft.{is_over}
 use Rattle.dt_consumer.specs.Life.{Item, phase, is_inactive, ecbs}
 use Rattle.dt_consumer.specs.Records.{attempts}
@@ -40,6 +40,8 @@ module _ (account : Account) (registry : Registry) (life : List Item) where
   one_accepted (enable (program clauses)) a b ha hb = ha ∙ sym hb
   one_accepted (enable (fault at why)) a b ha hb = absurd ha
   one_accepted go a b ha hb = ha ∙ sym hb
+  one_accepted (list None) a b ha hb = absurd ha
+  one_accepted (list (Some desc)) a b ha hb = ha ∙ sym hb
   one_accepted (snap cpu) a b ha hb =
       let same = one_shown BUFFER_SIZE (attempts (ecbs account registry life) life cpu) ha.0 hb.0 ha.1 hb.1 ha.2 hb.2 in
       ha.3 ∙ ap (λ bytes. snapped cpu bytes ha.1 false) same.0 ∙ ap (λ drops. snapped cpu hb.0 drops false) same.1 ∙ sym hb.3
@@ -55,6 +57,8 @@ module _ (account : Account) (registry : Registry) (life : List Item) where
   some_accepted (enable (program clauses)) e = (enabled _ _, refl)
   some_accepted (enable (fault at why)) e = absurd (always_refused (is_inactive (phase life)) (Program at why) Busy e)
   some_accepted go e = (done, refl)
+  some_accepted (list None) e = cc
+  some_accepted (list (Some desc)) e = (listed _, refl)
   some_accepted (snap cpu) e =
       let shown = some_shown BUFFER_SIZE (attempts (ecbs account registry life) life cpu) in
       (snapped cpu shown.0 shown.1 false, (shown.0, shown.1, shown.2, refl))

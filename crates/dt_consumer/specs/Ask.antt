@@ -1,24 +1,21 @@
 -- What is asked by a line, without where it lies in memory.
-use Rattle.std.specs.Prelude.{◌≡◌, ℕ}
+use Rattle.std.specs.Prelude.{◌≡◌, ℕ, Option}
 use Rattle.std.specs.String.{string_bytes}
+use Rattle.dt_lang.specs.Description.{DescForm, ReadsDescription}
 use Rattle.dt_lang.specs.Program.{Reading, Reads}
 use Rattle.dt_consumer.specs.declared.command.Command.{Command}
-use Rattle.dt_consumer.specs.declared.command.Command.TheVariants.{Enable, Go, Snap}
+use Rattle.dt_consumer.specs.declared.command.Command.TheVariants.{Enable, Go, Snap, List as ListOf}
 
--- a command, with the reading of its program
+-- a command, with the reading of its program or its description
 pub data Ask : Type 0 where
   enable : Reading → Ask
   go : Ask
   snap : (cpu : ℕ) → Ask
+  list : Option DescForm → Ask
 
--- A command asks for this: the program is the one that its text is read as.
+-- A command asks for this: the program or the description is the one that its text is read as.
 abbrev pub Asks : Command → Ask → Type 0
-Asks (Enable text) (enable reading) = Reads (string_bytes text) reading
-Asks Go go = Unit {0}
-Asks (Snap cpu) (snap n) = n ≡ cpu
-Asks (Enable text) go = ⊥
-Asks (Enable text) (snap n) = ⊥
-Asks Go (enable reading) = ⊥
-Asks Go (snap n) = ⊥
-Asks (Snap cpu) (enable reading) = ⊥
-Asks (Snap cpu) go = ⊥
+Asks (Enable text) ask = (reading : Reading) × Reads (string_bytes text) reading × (ask ≡ enable reading)
+Asks Go ask = ask ≡ go
+Asks (Snap cpu) ask = ask ≡ snap cpu
+Asks (ListOf probe) ask = (reading : Option DescForm) × ReadsDescription (string_bytes probe) reading × (ask ≡ list reading)

@@ -5,7 +5,7 @@ use Rattle.dt_cred.specs.declared.account.Account.{Account}
 use Rattle.dt_machine.specs.Registry.{Registry}
 use Rattle.dt_machine.specs.declared.firing.Firing.{Firing}
 use Rattle.dt_lang.specs.Program.{ClauseForm, program, fault}
-use Rattle.dt_consumer.specs.Ask.{Ask, enable, go, snap}
+use Rattle.dt_consumer.specs.Ask.{Ask, enable, go, snap, list}
 use Rattle.dt_consumer.specs.Ecbs.{Ecb, matched, ecbs_of}
 use Rattle.dt_consumer.specs.declared.phase.Phase.{Phase}
 use Rattle.dt_consumer.specs.declared.phase.Phase.TheVariants.{Inactive, Active, Stopped}
@@ -27,6 +27,7 @@ abbrev pub is_go : Item → Bool
 is_go (asked (Ok go)) = true
 is_go (asked (Ok (enable reading))) = false
 is_go (asked (Ok (snap cpu))) = false
+is_go (asked (Ok (list reading))) = false
 is_go (asked (Err refusal)) = false
 is_go (fired firing) = false
 
@@ -82,6 +83,7 @@ module _ (account : Account) (registry : Registry) where
   clauses_added now before (asked (Ok (enable (fault at why)))) = []
   clauses_added now before (asked (Ok go)) = []
   clauses_added now before (asked (Ok (snap cpu))) = []
+  clauses_added now before (asked (Ok (list reading))) = []
   clauses_added now before (asked (Err refusal)) = []
   clauses_added now before (fired firing) = []
 

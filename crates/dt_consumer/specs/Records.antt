@@ -7,7 +7,7 @@ use Rattle.dt_lang.specs.Argument.{argument_number}
 use Rattle.dt_lang.specs.declared.program.Expr.TheVariants.{Arg}
 use Rattle.dt_lang.specs.declared.program.Statement.{Statement}
 use Rattle.dt_lang.specs.declared.program.Statement.TheVariants.{Trace}
-use Rattle.dt_consumer.specs.Ask.{enable, go, snap}
+use Rattle.dt_consumer.specs.Ask.{enable, go, snap, list}
 use Rattle.dt_consumer.specs.Ecbs.{Ecb, of_probe}
 use Rattle.dt_consumer.specs.Life.{Item, asked, fired, since_go}
 
@@ -47,6 +47,7 @@ abbrev pub is_snap_of : ℕ → Item → Bool
 is_snap_of cpu (asked (Ok (snap n))) = n == cpu
 is_snap_of cpu (asked (Ok (enable reading))) = false
 is_snap_of cpu (asked (Ok go)) = false
+is_snap_of cpu (asked (Ok (list reading))) = false
 is_snap_of cpu (asked (Err refusal)) = false
 is_snap_of cpu (fired firing) = false
 

@@ -3,8 +3,10 @@ use Rattle.std.specs.Prelude.{◌≡◌, ℕ, ◌+◌, ◌-◌, false, List, ◌
 use Rattle.dt_cred.specs.declared.account.Account.{Account}
 use Rattle.dt_machine.specs.Registry.{Registry}
 use Rattle.dt_lang.specs.Program.{program, fault}
-use Rattle.dt_consumer.specs.Answer.{Answer, done, enabled, snapped, refused}
-use Rattle.dt_consumer.specs.Ask.{Ask, enable, go, snap}
+use Rattle.dt_lang.specs.declared.fault.Why.TheVariants.{Probe}
+use Rattle.dt_consumer.specs.Answer.{Answer, done, enabled, snapped, listed, refused}
+use Rattle.dt_consumer.specs.Ask.{Ask, enable, go, snap, list}
+use Rattle.dt_consumer.specs.Ecbs as enabling
 use Rattle.dt_consumer.specs.Ecbs.{ecbs_of}
 use Rattle.dt_consumer.specs.Kept.{Shows}
 use Rattle.dt_consumer.specs.Life.{Item, lines, phase, is_inactive, clauses_of, ecbs, refusal_of_program, LINES_MAX}
@@ -25,6 +27,8 @@ module _ (account : Account) (registry : Registry) (life : List Item) where
   refusal_of go = if is_inactive (phase life) then None else Some Busy
   refusal_of (snap cpu) =
       if nat_le registry.cpus cpu then Some NoCpu else (if is_inactive (phase life) then Some Busy else None)
+  refusal_of (list None) = Some (Program 0 Probe)
+  refusal_of (list (Some desc)) = None
 
   -- the answer to an accepted command
   abbrev pub Accepted : Ask → Answer → Type 0
@@ -38,6 +42,8 @@ module _ (account : Account) (registry : Registry) (life : List Item) where
   Accepted (snap cpu) answer =
       (bytes : List ℕ) × (drops : ℕ) × Shows BUFFER_SIZE (attempts (ecbs account registry life) life cpu) bytes drops
       × (answer ≡ snapped cpu bytes drops false)
+  Accepted (list None) answer = ⊥
+  Accepted (list (Some desc)) answer = answer ≡ listed (enabling.listed account registry desc)
 
   abbrev pub RepliesInQuota : Result Ask Refusal → Answer → Type 0
   RepliesInQuota (Err refusal) answer = answer ≡ refused refusal

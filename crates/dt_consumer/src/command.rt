@@ -7,4 +7,6 @@ pub enum Command {
     Go,
     /// Read the principal buffer of a processor.
     Snap { cpu: u64 },
+    /// List the probes that a description asks for.
+    List { probe: String },
 }

@@ -1,10 +1,11 @@
 //! The drafts of a consumer's lines.
-ghost use Rattle.std.specs.Prelude.{◌≡◌, ◌≤◌, ◌↔◌, ℕ, List, Result, Ok, Err, true, false, length, IsTrue, IfOk};
+ghost use Rattle.std.specs.Prelude.{◌≡◌, ◌≤◌, ◌↔◌, ℕ, List, Option, Result, Ok, Err, true, false, length, IsTrue, IfOk};
 ghost use Rattle.dt_cred.specs.declared.account.Account.{Account};
 ghost use Rattle.dt_lang.specs.Program as lang;
 ghost use Rattle.dt_lang.specs.declared.fault.Why.{Why};
 ghost use Rattle.dt_lang.specs.Program.{Reading, Reads, form_of};
-ghost use Rattle.dt_consumer.specs.Ask.{Ask, Asks, enable, go, snap};
+ghost use Rattle.dt_lang.specs.Description.{DescForm, ReadsDescription};
+ghost use Rattle.dt_consumer.specs.Ask.{Ask, Asks, enable, go, snap, list};
 ghost use Rattle.dt_consumer.specs.Draft.{IsDraftOf, LineAsks, is_over};
 ghost use Rattle.dt_consumer.specs.Life.{Item, phase};
 ghost use Rattle.dt_consumer.specs.StandsFor.{StandsFor};
@@ -16,13 +17,14 @@ use crate::command::Command;
 use crate::consumer::Consumer;
 use crate::draft::{Change, Draft};
 use crate::enabling::{ecbs_from, first_unmatched};
+use crate::listing::probes_listed;
 use crate::phase::Phase;
 use crate::programs::ECBS_MAX;
 use crate::refusal::Refusal;
 use crate::reply::Reply;
 use crate::rows::rows_of;
 use crate::taking::take_at;
-use dt_lang::{LangFault, Program, one_reading};
+use dt_lang::{Description, LangFault, Program, Why, one_description, one_reading};
 use dt_machine::Machine;
 use std::alloc::{AllocError, Global};
 
@@ -150,6 +152,30 @@ impl Consumer {
         })
     }
 
+    /// The draft of a `list`.
+    pub(crate) fn draft_list(
+        &self,
+        alloc: Global,
+        machine: &Machine,
+        text: &[u8],
+    ) -> Result<Draft, AllocError>
+        ensures { IfOk result (λ draft. (account : Account) (life : List Item) (reading : Option DescForm) → StandsFor account machine.now.registry self.now life → is_over life ≡ false
+            → ReadsDescription text.now reading → IsDraftOf account machine.now.registry life (Ok (list reading)) draft) }
+    {
+        one_description();
+        let Some(description) = Description::parse(text) else {
+            return Ok(Draft::refused(Refusal::Program {
+                at: 0,
+                why: Why::Probe,
+            }));
+        };
+        let probes = probes_listed(alloc, &self.account, machine, &description)?;
+        Ok(Draft {
+            reply: Reply::Listed { probes },
+            change: Change::Nothing,
+        })
+    }
+
     /// The reply to a line and all that it will change. It changes nothing, and takes all the memory that the change
     /// needs: an error leaves everything as it was.
     pub fn draft(
@@ -184,6 +210,7 @@ impl Consumer {
             Command::Enable { text } => self.draft_enable(alloc, machine, text.as_bytes()),
             Command::Go => self.draft_go(alloc, machine),
             Command::Snap { cpu } => self.draft_snap(alloc, machine, *cpu),
+            Command::List { probe } => self.draft_list(alloc, machine, probe.as_bytes()),
         }
     }
 }

@@ -14,6 +14,7 @@ mod drafting;
 mod ecb;
 mod enabling;
 mod laws;
+mod listing;
 mod matching;
 mod phase;
 #[cfg(test)]

@@ -2,10 +2,12 @@
 ghost use Rattle.std.specs.Prelude.{◌≡◌};
 ghost use Rattle.std.specs.List.{list_any};
 ghost use Rattle.std.specs.Option.{option_copied};
-ghost use Rattle.dt_lang.specs.Program.{form_of_clause, form_of_description};
+ghost use Rattle.dt_lang.specs.Description.{form_of_description};
+ghost use Rattle.dt_lang.specs.Program.{form_of_clause};
 ghost use Rattle.dt_consumer.specs.Ecbs as spec;
 
 use dt_cred::{Account, Class, Probe, Process, may_enable};
+use dt_glob::Pattern;
 use dt_lang::{Clause, Description};
 use dt_machine::Machine;
 use dt_names::{Name, ProbeTuple};
@@ -19,8 +21,26 @@ pub(crate) fn is_matched(
 ) -> bool
     ensures { result ≡ spec.is_matched account.now machine.now.registry (form_of_clause clause.now) probe.now }
 {
+    is_allowed(account, machine, probe) && is_described(clause, &probe.tuple)
+}
+
+/// Whether a probe is listed for a description: the account may enable it, and the description asks for it.
+pub(crate) fn is_listed(
+    account: &Account,
+    machine: &Machine,
+    description: &Description,
+    probe: &Probe,
+) -> bool
+    ensures { result ≡ spec.is_listed account.now machine.now.registry (form_of_description description.now) probe.now }
+{
+    is_allowed(account, machine, probe) && asks_for(description, &probe.tuple)
+}
+
+/// Whether the account may enable a probe.
+fn is_allowed(account: &Account, machine: &Machine, probe: &Probe) -> bool
+    ensures { result ≡ spec.is_allowed account.now machine.now.registry probe.now }
+{
     may_enable(account, probe, traced_process(machine, probe.class))
-        && is_described(clause, &probe.tuple)
 }
 
 /// The process that a `pid` provider traces.
@@ -57,9 +77,9 @@ fn asks_for(description: &Description, tuple: &ProbeTuple) -> bool
         && field_asks_for(&description.name, &tuple.name)
 }
 
-/// An empty field asks for nothing, any other for the whole name.
-fn field_asks_for(field: &[u8], name: &Name) -> bool
+/// An empty field asks for nothing, any other for the names that its pattern matches.
+fn field_asks_for(field: &Pattern, name: &Name) -> bool
     ensures { result ≡ spec.field_asks_for field.now name.now }
 {
-    field.is_empty() || field == name.as_bytes()
+    field.is_empty() || field.matches(name.as_bytes())
 }

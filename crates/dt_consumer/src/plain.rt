@@ -6,7 +6,7 @@ use crate::command::Command;
 use crate::refusal::Refusal;
 use crate::reply::Reply;
 use dt_cred::{Account, Class, Probe, Process, admits, may_enable};
-use dt_lang::{Clause, Description, Expr, LangFault, Program, Statement};
+use dt_lang::{Clause, Description, Expr, LangFault, Program, Statement, Why};
 use dt_machine::{Firing, Machine};
 use dt_names::ProbeTuple;
 use std::alloc::{AllocError, Global};
@@ -73,6 +73,7 @@ impl<'a> Plain<'a> {
             Ok(Command::Go) if is_active(life) => Ok(Reply::Refused(Refusal::Busy)),
             Ok(Command::Go) => Ok(Reply::Done),
             Ok(Command::Snap { cpu }) => self.reply_to_snap(life, *cpu),
+            Ok(Command::List { probe }) => self.reply_to_list(probe.as_bytes()),
         }
     }
 
@@ -123,6 +124,24 @@ impl<'a> Plain<'a> {
             drops,
             filled: false,
         })
+    }
+
+    fn reply_to_list(&self, text: &[u8]) -> Result<Reply, AllocError> {
+        let Some(description) = Description::parse(text) else {
+            return Ok(Reply::Refused(Refusal::Program {
+                at: 0,
+                why: Why::Probe,
+            }));
+        };
+        let mut probes = Vec::new(self.alloc);
+        for probe in self.machine.probes() {
+            if may_enable(self.account, probe, self.traced_process(probe.class))
+                && asks_for(&description, &probe.tuple)
+            {
+                probes.push(*probe)?;
+            }
+        }
+        Ok(Reply::Listed { probes })
     }
 
     /// The clauses of the accepted programs, in order of acceptance.
@@ -334,8 +353,7 @@ fn asks_for(description: &Description, tuple: &ProbeTuple) -> bool {
         (&description.function, &tuple.function),
         (&description.name, &tuple.name),
     ] {
-        let field = field.as_slice();
-        if !field.is_empty() && field != name.as_bytes() {
+        if !field.is_empty() && !field.matches(name.as_bytes()) {
             return false;
         }
     }

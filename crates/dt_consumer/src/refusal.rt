@@ -9,7 +9,7 @@ pub enum Refusal {
     Request,
     /// 3: the line has more than 65,536 bytes.
     LineLong,
-    /// 4: the text is no program.
+    /// 4: the text is no program, or in a `list` no description.
     Program { at: usize, why: Why },
     /// 5: a clause matches no probe that the account may enable; clauses count from 1.
     NoMatch { clause: u32 },

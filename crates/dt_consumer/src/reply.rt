@@ -1,4 +1,5 @@
 use crate::refusal::Refusal;
+use dt_cred::Probe;
 
 /// What a consumer is answered to one line.
 #[derive(Debug, Drop)]
@@ -16,6 +17,10 @@ pub enum Reply {
         data: Vec<u8>,
         drops: u64,
         filled: bool,
+    },
+    /// The probes that a description asks for and the account may enable, by rising identifier.
+    Listed {
+        probes: Vec<Probe>,
     },
     /// The line was refused.
     Refused(Refusal),

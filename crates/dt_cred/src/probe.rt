@@ -5,7 +5,7 @@ use crate::class::Class;
 use dt_names::ProbeTuple;
 
 /// A probe of the machine: where it can fire, and how it is numbered.
-#[derive(Clone, Copy, PartialEq, Eq)]
+#[derive(Clone, Copy, Debug, PartialEq, Eq)]
 pub struct Probe {
     /// 1 for `BEGIN`, 2 for `END`, from 3 on in the order of the machine file.
     pub id: u32,

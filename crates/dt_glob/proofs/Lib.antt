@@ -1,5 +1,6 @@
 pub mod SignLemmas
 pub mod ReadingLemmas
 pub mod MatchLemmas
+pub mod TestLemmas
 pub mod PlaceLemmas
 pub mod TokenLemmas

@@ -1,6 +1,7 @@
 pub mod Sign
 pub mod Item
 pub mod Matches
+pub mod Test
 pub mod Spells
 pub mod Fault
 pub mod Reading

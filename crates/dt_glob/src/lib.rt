@@ -3,8 +3,11 @@
 //! A text of at most 63 bytes is a pattern or has one fault, never both, and reading it takes no memory
 //! (`Pattern::parse`). A pattern matches a text exactly when the text can be cut into pieces that the pattern's items
 //! match in order (`Pattern::matches`), and telling so takes polynomial time.
+//! The relation of pattern and text has a test beside it, by which definitions of other crates can filter lists, and
+//! the two always agree (`tests_agree`).
 //! Where the definitions stand: `specs/Sign.antt` for the bytes of a pattern's text, `specs/Item.antt` for items,
-//! `specs/Spells.antt` for what a text spells, `specs/Fault.antt` for its first fault, and `specs/Matches.antt`.
+//! `specs/Spells.antt` for what a text spells, `specs/Fault.antt` for its first fault, `specs/Matches.antt`, and
+//! `specs/Test.antt` for the test.
 #![tactic(auto)]
 
 mod element;
@@ -16,7 +19,7 @@ mod sign;
 mod token;
 
 pub use fault::GlobFault;
-pub use pattern::{Pattern, one_answer};
+pub use pattern::{Pattern, one_answer, tests_agree};
 
 #[cfg(test)]
 mod tests;

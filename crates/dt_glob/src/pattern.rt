@@ -4,6 +4,7 @@ ghost use Rattle.std.specs.Prelude.{◌≡◌, ℕ, ◌≤◌, ◌↔◌, ◌⊎
 ghost use Rattle.dt_glob.specs.declared.fault.GlobFault.{GlobFault};
 ghost use Rattle.dt_glob.specs.Item.{Item};
 ghost use Rattle.dt_glob.specs.Matches.{Matches};
+ghost use Rattle.dt_glob.specs.Test.{is_match};
 ghost use Rattle.dt_glob.specs.Spells.{Spells};
 ghost use Rattle.dt_glob.specs.Fault.{FaultOf};
 
@@ -68,7 +69,8 @@ impl Pattern {
     /// Whether the pattern matches the whole text. The time is at most proportional to the pattern's length times the
     /// length of both together, however many stars there are.
     pub fn matches(&self, text: &[u8]) -> bool
-        ensures { IsTrue result ↔ Matches self.now text.now }
+        ensures matches { IsTrue result ↔ Matches self.now text.now }
+        ensures test { result ≡ is_match self.now text.now }
     {
         matches_text(self.text.as_slice(), text)
     }
@@ -148,4 +150,9 @@ pub fn one_answer()
     ensures one_fault { (text : List ℕ) (a b : GlobFault) → FaultOf text a → FaultOf text b → a ≡ b }
     ensures never_both { (text : List ℕ) (items : List Item) (fault : GlobFault) →
         Spells text items → FaultOf text fault → ⊥ }
+{}
+
+/// Law: the relation of a pattern and a text that it matches, and the test beside it, say the same.
+pub fn tests_agree()
+    ensures { (items : List Item) (text : List ℕ) → (IsTrue (is_match items text) ↔ Matches items text) }
 {}

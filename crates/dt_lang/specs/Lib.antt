@@ -1,4 +1,5 @@
 pub mod Argument
+pub mod Description
 pub mod Fault
 pub mod Program
 pub mod Parse

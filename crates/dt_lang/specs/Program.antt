@@ -1,11 +1,10 @@
 -- What a program is, without where it lies in memory, and which texts are programs.
-use Rattle.std.specs.Prelude.{◌≡◌, ◌≢◌, ◌⊎◌, ℕ, ◌+◌, ◌<◌, List, [], ◌∷◌, ◌++◌, map, codes, All}
-use Rattle.dt_names.specs.Desc.{Desc, Describes}
+use Rattle.std.specs.Prelude.{◌≡◌, ◌⊎◌, ℕ, ◌+◌, ◌<◌, List, [], ◌∷◌, ◌++◌, map, codes}
+use Rattle.dt_lang.specs.Description.{DescForm, DescribesPatterns, form_of_description}
 use Rattle.dt_lang.specs.Argument.{argument_number}
 use Rattle.dt_lang.specs.declared.fault.Why.{Why}
 use Rattle.dt_lang.specs.declared.fault.Why.TheVariants.{Syntax}
 use Rattle.dt_lang.specs.declared.program.Clause.{Clause}
-use Rattle.dt_lang.specs.declared.program.Description.{Description}
 use Rattle.dt_lang.specs.declared.program.Expr.TheVariants.{Arg}
 use Rattle.dt_lang.specs.declared.program.Program.{Program}
 use Rattle.dt_lang.specs.declared.program.Statement.{Statement}
@@ -13,11 +12,8 @@ use Rattle.dt_lang.specs.declared.program.Statement.TheVariants.{Trace}
 
 -- a clause: what its descriptions ask for, and its statements
 pub record ClauseForm : Type 0 where
-  pub descriptions : List Desc
+  pub descriptions : List DescForm
   pub statements : List Statement
-
-abbrev pub form_of_description : Description → Desc
-form_of_description d = record { provider = d.provider.items; «module» = d.module.items; function = d.function.items; name = d.name.items }
 
 abbrev pub form_of_clause : Clause → ClauseForm
 form_of_clause c = record { descriptions = map form_of_description c.descriptions.items; statements = c.statements.items }
@@ -29,14 +25,6 @@ form_of p = map form_of_clause p.clauses.items
 pub data Reading : Type 0 where
   program : List ClauseForm → Reading
   fault : (at : ℕ) → Why → Reading
-
--- A byte that stands for itself in a field: none of * ? \ [
-abbrev pub IsPlainByte : ℕ → Type 0
-IsPlainByte byte = (byte ≢ 42) × (byte ≢ 63) × (byte ≢ 92) × (byte ≢ 91)
-
--- the text has no pattern in it, so each of its fields is empty or a whole name
-abbrev pub IsWhole : List ℕ → Type 0
-IsWhole text = All IsPlainByte text
 
 -- the one statement that traces an argument
 abbrev pub IsTraceOf : ℕ → List Statement → Type 0
@@ -50,15 +38,14 @@ SpellsBody text statements =
     ((text ≡ codes "{}") × (statements ≡ []))
     ⊎ ((n : ℕ) × (n < 10) × (text ≡ codes "{trace(arg" ++ ((48 + n) ∷ codes ")}")) × IsTraceOf n statements)
 
--- The text is one clause: a whole description, and its braces.
+-- The text is one clause: a description, and its braces.
 pub record SpellsClause (text : List ℕ) (clause : ClauseForm) : Type 0 where
   pub head : List ℕ
   pub body : List ℕ
-  pub desc : Desc
+  pub form : DescForm
   pub spelled : text ≡ head ++ body
-  pub described : Describes head desc
-  pub whole : IsWhole head
-  pub descriptions : clause.descriptions ≡ desc ∷ []
+  pub described : DescribesPatterns head form
+  pub descriptions : clause.descriptions ≡ form ∷ []
   pub statements : SpellsBody body clause.statements
 
 -- A text is read as the one clause that it spells; any other is refused at its first byte.

@@ -10,6 +10,8 @@ use thiserror::Error;
 pub enum Why {
     /// No program begins with the text up to there.
     Syntax,
+    /// The text is no description of probes.
+    Probe,
 }
 
 impl fmt::Display for Why {
@@ -21,6 +23,7 @@ impl fmt::Display for Why {
     fn fmt<W: fmt::Write>(&self, f: &mut fmt::Formatter<W>) -> fmt::Result {
         f.write_str(match self {
             Why::Syntax => "Syntax",
+            Why::Probe => "Probe",
         })
     }
 }

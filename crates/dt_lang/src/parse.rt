@@ -1,14 +1,13 @@
-ghost use Rattle.std.specs.Prelude.{◌≡◌, ℕ, ◌≤◌, ◌↔◌, List, [], ◌∷◌, length, Err, IsTrue, IfOk, IfSome, IfNone, OnSome};
-ghost use Rattle.dt_names.specs.Desc.{Desc, Describes};
+ghost use Rattle.std.specs.Prelude.{◌≡◌, ℕ, List, [], ◌∷◌, Err, IfOk, IfSome, IfNone};
+ghost use Rattle.dt_lang.specs.Description.{form_of_description};
 ghost use Rattle.dt_lang.specs.Parse.{statements_of, IsSplitAtBrace, HasNoBrace};
-ghost use Rattle.dt_lang.specs.Program.{ClauseForm, form_of, form_of_description, Reading, program, fault, IsPlainByte, IsWhole, SpellsBody, SpellsClause, Reads};
+ghost use Rattle.dt_lang.specs.Program.{ClauseForm, form_of, Reading, program, fault, SpellsBody, SpellsClause, Reads};
 ghost use Rattle.dt_lang.specs.declared.fault.Why.{Why};
 ghost use Rattle.dt_lang.specs.declared.program.Statement.{Statement};
 
+use crate::description::{Description, one_description};
 use crate::fault::{LangFault, Why};
-use crate::program::{Argument, Clause, Description, Expr, FIELD_MAX, Program, Statement};
-use arrayvec::ArrayVec;
-use dt_names::{ProbeDesc, one_answer};
+use crate::program::{Argument, Clause, Expr, Program, Statement};
 use std::alloc::{AllocError, Global};
 
 /// What stands in the braces of a clause.
@@ -19,7 +18,7 @@ enum Body {
 }
 
 impl Program {
-    /// Reads a program: one clause, which is a whole description and directly behind it `{}` or `{trace(argN)}`.
+    /// Reads a program: one clause, which is a description and directly behind it `{}` or `{trace(argN)}`.
     ///
     /// Any other text is refused at its first byte.
     pub fn parse(alloc: Global, text: &[u8]) -> Result<Self, LangFault>
@@ -53,7 +52,7 @@ fn parts_of(text: &[u8]) -> Option<(Description, Body)>
 {
     let (head, rest) = split_at_brace(text)?;
     let body = body_of(rest)?;
-    let description = description_of(head)?;
+    let description = Description::parse(head)?;
     Some((description, body))
 }
 
@@ -83,44 +82,6 @@ fn body_of(text: &[u8]) -> Option<Body>
     Some(Body::One(Statement::Trace(Expr::Arg(argument))))
 }
 
-/// The description that a text is, where none of its bytes makes a pattern.
-fn description_of(text: &[u8]) -> Option<Description>
-    ensures found { IfSome result (λ description. Describes text.now (form_of_description description)) }
-    ensures whole { OnSome result (IsWhole text.now) }
-    ensures none { IfNone result ((desc : Desc) → Describes text.now desc → IsWhole text.now → ⊥) }
-{
-    if !text.iter().all(|byte| is_plain_byte(*byte)) {
-        return None;
-    }
-    one_answer();
-    let Ok(fields) = ProbeDesc::parse(text) else {
-        return None;
-    };
-    Some(Description {
-        provider: kept(fields.provider),
-        module: kept(fields.module),
-        function: kept(fields.function),
-        name: kept(fields.name),
-    })
-}
-
-/// Whether a byte stands for itself in a field, and makes no pattern of it.
-fn is_plain_byte(byte: u8) -> bool
-    ensures { IsTrue result ↔ IsPlainByte byte }
-{
-    !matches!(byte, b'*' | b'?' | b'\\' | b'[')
-}
-
-/// A copy of a field.
-fn kept(field: &[u8]) -> ArrayVec<u8, FIELD_MAX>
-    requires { length field.now ≤ FIELD_MAX }
-    ensures { result.items ≡ field.now }
-{
-    let mut copy = ArrayVec::new();
-    copy.try_extend_from_slice(field).unwrap();
-    copy
-}
-
 /// The statements of a clause with these braces.
 fn statements_in(alloc: Global, body: Body) -> Result<Vec<Statement>, AllocError>
     ensures { IfOk result (λ statements. statements.items ≡ statements_of body) }
@@ -136,7 +97,9 @@ fn statements_in(alloc: Global, body: Body) -> Result<Vec<Statement>, AllocError
 /// Law: a text has at most one reading.
 pub fn one_reading()
     ensures { (text : List ℕ) (a b : Reading) → Reads text a → Reads text b → a ≡ b }
-{}
+{
+    one_description();
+}
 
 /// Law, for a text at hand: it has a reading. It goes over the text once and takes no memory.
 pub fn has_reading(text: &[u8])

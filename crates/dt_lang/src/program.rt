@@ -1,9 +1,6 @@
 ghost use Rattle.std.specs.Prelude.{◌≡◌, ◌<◌, ◌≤◌, ◌↔◌, IsSome, IfSome, vec_len};
 
-use arrayvec::ArrayVec;
-
-/// The most bytes of a description's field.
-pub const FIELD_MAX: usize = 63;
+use crate::description::Description;
 
 /// An argument of the firing.
 #[derive(Clone, Copy, Debug, PartialEq, Eq)]
@@ -64,15 +61,6 @@ pub enum Expr {
 pub enum Statement {
     /// `trace(e)`: the record gets the value of the expression.
     Trace(Expr),
-}
-
-/// A description as a clause keeps it: four fields, of which an empty one asks for nothing.
-#[derive(Drop)]
-pub struct Description {
-    pub provider: ArrayVec<u8, 63>,
-    pub module: ArrayVec<u8, 63>,
-    pub function: ArrayVec<u8, 63>,
-    pub name: ArrayVec<u8, 63>,
 }
 
 /// What is to be done at the probes that some descriptions ask for. (illumos Dynamic Tracing Guide, "Program

@@ -9,3 +9,5 @@ pub mod Counts
 pub mod Sessions
 pub mod Streams
 pub mod OneOutput
+pub mod Floats
+pub mod ListedTexts

@@ -4,15 +4,16 @@ use Rattle.std.specs.List.{AllByRecursion}
 use Rattle.dt_cred.specs.declared.account.Account.{Account}
 use Rattle.dt_machine.specs.Registry.{Registry, Contents}
 use Rattle.dt_machine.specs.declared.firing.Firing.{Firing}
+use Rattle.dt_lang.specs.Description.{DescForm, ReadsDescription}
 use Rattle.dt_lang.specs.Program.{Reading, Reads}
 use Rattle.dt_consumer.specs.Answer.{Answer}
-use Rattle.dt_consumer.specs.Ask.{Ask, enable}
+use Rattle.dt_consumer.specs.Ask.{Ask, enable, list}
 use Rattle.dt_consumer.specs.Draft.{behind}
 use Rattle.dt_consumer.specs.Life.{Item}
 use Rattle.dt_consumer.specs.Reply.{Replies}
 use Rattle.dt_consumer.specs.declared.refusal.Refusal.{Refusal}
 use Rattle.dtraced.specs.Alone.{Reached, own_line, firing_made, IsBehindFiring, IsLifeOf, IsReplyTo, Alone}
-use Rattle.dtraced.specs.Line.{Asks, Means, Request, to_enable, to_go, to_snap, requested_by_line}
+use Rattle.dtraced.specs.Line.{Asks, Means, Request, to_enable, to_go, to_snap, to_list, requested_by_line}
 use Rattle.dtraced.specs.Replay.{view, account_opened, AreAnswers, IsReplay, output_of}
 use Rattle.dtraced.specs.Step.{Act, spelling, IsWritable}
 use Rattle.dtraced.proofs.Steps.{one_step}
@@ -28,11 +29,13 @@ same_acts (x ∷ a) (y ∷ b) p q e =
     cc
 
 module _ (one_reading : (text : List ℕ) (a b : Reading) → Reads text a → Reads text b → a ≡ b)
+    (one_description : (text : List ℕ) (a b : Option DescForm) → ReadsDescription text a → ReadsDescription text b → a ≡ b)
     (one_reply : (account : Account) (registry : Registry) (life : List Item) (line : Result Ask Refusal) (a b : Answer) → Replies account registry life line a → Replies account registry life line b → a ≡ b) where
   same_meaning : (request : Result Request Refusal) (a b : Result Ask Refusal) → Means request a → Means request b → a ≡ b
   same_meaning (Ok (to_enable text)) a b h k = h.2 ∙ ap (λ reading. Ok (enable reading)) (one_reading text h.0 k.0 h.1 k.1) ∙ sym k.2
   same_meaning (Ok to_go) a b h k = h ∙ sym k
   same_meaning (Ok (to_snap cpu)) a b h k = h ∙ sym k
+  same_meaning (Ok (to_list probe)) a b h k = h.2 ∙ ap (λ reading. Ok (list reading)) (one_description probe h.0 k.0 h.1 k.1) ∙ sym k.2
   same_meaning (Err refusal) a b h k = h ∙ sym k
 
   same_ask : (line : List ℕ) (a b : Result Ask Refusal) → Asks line a → Asks line b → a ≡ b

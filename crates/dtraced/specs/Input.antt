@@ -1,6 +1,7 @@
 -- Which steps an input is, or at which line it is refused.
-use Rattle.std.specs.Prelude.{◌≡◌, ◌≢◌, ℕ, ◌-◌, ◌<◌, ◌≤◌, ◌==◌, Bool, true, false, List, [], ◌∷◌, ◌++◌, All, length, take, map, filter, IsTrue, IsSomeAnd}
+use Rattle.std.specs.Prelude.{◌≡◌, ◌≢◌, ℕ, ◌-◌, ◌<◌, ◌≤◌, ◌==◌, ◌⊎◌, Bool, true, false, List, [], ◌∷◌, ◌++◌, All, length, take, map, filter, IsTrue, IsSomeAnd}
 use Rattle.std.specs.List.{slice_split, AllByRecursion}
+use Rattle.dt_cred.specs.declared.account.Privs.{Privs}
 use Rattle.dt_machine.specs.Registry.{Registry, account_of}
 use Rattle.dtraced.specs.Step.{Act, opens, calls, fires, spelling, is_open, IsWritable}
 
@@ -28,10 +29,14 @@ abbrev pub is_written : List ℕ → Bool
 is_written [] = false
 is_written (byte ∷ line) = true
 
--- The step is one on this machine: it opens a session of an account with the privilege dtrace_kernel, it calls, or
--- it fires on one of the processors.
+-- one of the three privileges without which an account can open no session
+abbrev pub HasDtrace : Privs → Type 0
+HasDtrace privs = IsTrue privs.dtrace_user ⊎ (IsTrue privs.dtrace_proc ⊎ IsTrue privs.dtrace_kernel)
+
+-- The step is one on this machine: it opens a session of an account with a dtrace privilege, it calls, or it
+-- fires on one of the processors.
 abbrev pub IsKnown : Registry → Act → Type 0
-IsKnown registry (opens name) = IsSomeAnd (account_of registry name) (λ account. IsTrue account.privs.dtrace_kernel)
+IsKnown registry (opens name) = IsSomeAnd (account_of registry name) (λ account. HasDtrace account.privs)
 IsKnown registry (calls line) = Unit {0}
 IsKnown registry (fires cpu) = cpu < registry.cpus
 

@@ -5,10 +5,11 @@ use Rattle.std.specs.String.{string_bytes}
 use Rattle.serde_json.specs.Data.{Data}
 use Rattle.serde_json.specs.Read.{read}
 use Rattle.serde_json.specs.Find.{get, as_str, as_number, as_u64}
+use Rattle.dt_lang.specs.Description.{DescForm, ReadsDescription}
 use Rattle.dt_lang.specs.Program.{Reading, Reads}
-use Rattle.dt_consumer.specs.Ask.{Ask, enable, go, snap}
+use Rattle.dt_consumer.specs.Ask.{Ask, enable, go, snap, list}
 use Rattle.dt_consumer.specs.declared.command.Command.{Command}
-use Rattle.dt_consumer.specs.declared.command.Command.TheVariants.{Enable, Go, Snap}
+use Rattle.dt_consumer.specs.declared.command.Command.TheVariants.{Enable, Go, Snap, List as ListOf}
 use Rattle.dt_consumer.specs.declared.refusal.Refusal.{Refusal}
 use Rattle.dt_consumer.specs.declared.refusal.Refusal.TheVariants.{Json, Request as NoRequest, LineLong}
 
@@ -17,12 +18,14 @@ pub data Request : Type 0 where
   to_enable : (text : List ℕ) → Request
   to_go : Request
   to_snap : (cpu : ℕ) → Request
+  to_list : (probe : List ℕ) → Request
 
 -- a command without where its text lies in memory
 abbrev pub request_of : Command → Request
 request_of (Enable text) = to_enable (string_bytes text)
 request_of Go = to_go
 request_of (Snap cpu) = to_snap cpu
+request_of (ListOf probe) = to_list (string_bytes probe)
 
 -- the text of an object's field, where it is one
 abbrev pub text_at : List ℕ → Data → Option (List ℕ)
@@ -39,6 +42,7 @@ named_request name d =
     if bytes_eq name (codes "enable") then option_map to_enable (text_at (codes "text") d)
     else if bytes_eq name (codes "go") then Some to_go
     else if bytes_eq name (codes "snap") then option_map to_snap (number_at (codes "cpu") d)
+    else if bytes_eq name (codes "list") then option_map to_list (text_at (codes "probe") d)
     else None
 
 -- what a JSON value asks for: its field `cmd` names the command
@@ -61,11 +65,12 @@ LINE_MAX = 65536
 abbrev pub requested_by_line : List ℕ → Result Request Refusal
 requested_by_line line = if nat_lt LINE_MAX (length line) then Err LineLong else requested line
 
--- A request asks this of a consumer: the program of an `enable` is the one that its text is read as.
+-- A request asks this of a consumer: its program or its description is the one that its text is read as.
 abbrev pub Means : Result Request Refusal → Result Ask Refusal → Type 0
 Means (Ok (to_enable text)) ask = (reading : Reading) × Reads text reading × (ask ≡ Ok (enable reading))
 Means (Ok to_go) ask = ask ≡ Ok go
 Means (Ok (to_snap cpu)) ask = ask ≡ Ok (snap cpu)
+Means (Ok (to_list probe)) ask = (reading : Option DescForm) × ReadsDescription probe reading × (ask ≡ Ok (list reading))
 Means (Err refusal) ask = ask ≡ Err refusal
 
 -- A line asks this of a consumer.

@@ -4,12 +4,13 @@ ghost use Rattle.dt_machine.specs.Registry.{Contents};
 ghost use Rattle.dtraced.specs.Replay.{IsReplay};
 
 use dt_consumer::one_reply;
-use dt_lang::one_reading;
+use dt_lang::{one_description, one_reading};
 
 /// Law: for an input on a machine one output is written at most.
 pub(crate) fn one_output()
     ensures { (contents : Contents) (text a b : List ℕ) → IsReplay contents text a → IsReplay contents text b → a ≡ b }
 {
     one_reading();
+    one_description();
     one_reply();
 }

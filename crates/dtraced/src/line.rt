@@ -6,7 +6,7 @@ ghost use Rattle.dtraced.specs.Line.{text_at, number_at, request_of, requested_b
 ghost use Rattle.dt_consumer.specs.declared.refusal.Refusal.{Refusal};
 
 use dt_consumer::{Command, Refusal};
-use dt_lang::has_reading;
+use dt_lang::{has_description, has_reading};
 use serde_json::Value;
 use std::alloc::{AllocError, Global};
 
@@ -76,6 +76,12 @@ fn requested_command(alloc: Global, request: &Value) -> Result<Command, Refusal>
         "snap" => {
             let cpu = number_field(request, "cpu").ok_or(Refusal::Request)?;
             Ok(Command::Snap { cpu })
+        }
+        "list" => {
+            let probe = text_field(request, "probe").ok_or(Refusal::Request)?;
+            let probe = String::from_str(alloc, probe).map_err(|_| Refusal::Memory)?;
+            has_description(probe.as_bytes());
+            Ok(Command::List { probe })
         }
         _ => Err(Refusal::Request),
     }

@@ -1,12 +1,14 @@
-ghost use Rattle.std.specs.Prelude.{◌≡◌, ℕ, ◌<◌, List, ◌++◌, Bool, if◌then◌else◌, IfOk, codes, decimal};
-ghost use Rattle.std.specs.List.{AllByRecursion};
+ghost use Rattle.std.specs.Prelude.{◌≡◌, ℕ, ◌<◌, List, ◌++◌, Bool, if◌then◌else◌, IfOk, codes, decimal, map};
+ghost use Rattle.std.specs.List.{AllByRecursion, join_with_byte};
+ghost use Rattle.dt_cred.specs.declared.probe.Probe.{Probe};
 ghost use Rattle.serde_json.specs.Data.{object, no_members};
 ghost use Rattle.serde_json.specs.View.{view};
 ghost use Rattle.hex.specs.Hex.{encode_lower};
-ghost use Rattle.dt_consumer.specs.Answer.{done, enabled, snapped, refused, answer_of};
-ghost use Rattle.dtraced.specs.Reply.{why_name, coded, refusal_members, reply_members, reply_text};
+ghost use Rattle.dt_consumer.specs.Answer.{done, enabled, snapped, listed, refused, answer_of};
+ghost use Rattle.dtraced.specs.Reply.{why_name, coded, refusal_members, probe_data, probe_text, reply_members, reply_text};
 
 use dt_consumer::{Refusal, Reply};
+use dt_cred::Probe;
 use dt_lang::Why;
 use serde_json::{Value, json};
 use std::alloc::{AllocError, Global};
@@ -34,6 +36,7 @@ fn reply_value(alloc: Global, reply: &Reply) -> Result<Value, AllocError>
             drops,
             filled,
         } => snapped_value(alloc, *cpu, data, *drops, *filled),
+        Reply::Listed { probes } => listed_value(alloc, probes),
         Reply::Refused(refusal) => refusal_value(alloc, *refusal),
     }
 }
@@ -49,6 +52,23 @@ fn snapped_value(
 {
     let digits = hex::encode(alloc, bytes)?;
     json!(in alloc; {"cpu": cpu, "data": digits, "drops": drops, "filled": filled, "ok": true})
+}
+
+fn listed_value(alloc: Global, probes: &[Probe]) -> Result<Value, AllocError>
+    ensures { IfOk result (λ value. view value ≡ object (reply_members (listed probes.now))) }
+{
+    let mut values = Vec::new(alloc);
+    for probe in probes {
+        values.push(probe_value(alloc, probe)?)?;
+    }
+    json!(in alloc; {"ok": true, "probes": values})
+}
+
+fn probe_value(alloc: Global, probe: &Probe) -> Result<Value, AllocError>
+    ensures { IfOk result (λ value. view value ≡ probe_data probe.now) }
+{
+    let name = probe.tuple.to_string(alloc)?;
+    json!(in alloc; {"id": probe.id, "name": name})
 }
 
 fn refusal_value(alloc: Global, refusal: Refusal) -> Result<Value, AllocError>
@@ -84,6 +104,7 @@ fn name_of(why: Why) -> &'static str
 {
     match why {
         Why::Syntax => "Syntax",
+        Why::Probe => "Probe",
     }
 }
 
@@ -97,12 +118,16 @@ pub(crate) fn reply_texts()
         ≡ codes "{\"cpu\":" ++ decimal cpu ++ codes ",\"data\":\"" ++ encode_lower bytes
         ++ codes "\",\"drops\":" ++ decimal drops
         ++ codes ",\"filled\":" ++ (if filled then codes "true" else codes "false") ++ codes ",\"ok\":true}\n" }
+    ensures listed { (probes : List Probe) → reply_text (listed probes)
+        ≡ codes "{\"ok\":true,\"probes\":[" ++ join_with_byte 44 (map probe_text probes) ++ codes "]}\n" }
 
     ensures json { reply_text (refused Refusal.Json) ≡ codes "{\"error\":1,\"name\":\"Json\"}\n" }
     ensures request { reply_text (refused Refusal.Request) ≡ codes "{\"error\":2,\"name\":\"Request\"}\n" }
     ensures line_long { reply_text (refused Refusal.LineLong) ≡ codes "{\"error\":3,\"name\":\"LineLong\"}\n" }
     ensures program { (at : ℕ) → reply_text (refused (Refusal.Program at Why.Syntax))
         ≡ codes "{\"at\":" ++ decimal at ++ codes ",\"error\":4,\"name\":\"Program\",\"why\":\"Syntax\"}\n" }
+    ensures description { (at : ℕ) → reply_text (refused (Refusal.Program at Why.Probe))
+        ≡ codes "{\"at\":" ++ decimal at ++ codes ",\"error\":4,\"name\":\"Program\",\"why\":\"Probe\"}\n" }
     ensures no_match { (clause : ℕ) → reply_text (refused (Refusal.NoMatch clause))
         ≡ codes "{\"clause\":" ++ decimal clause ++ codes ",\"error\":5,\"name\":\"NoMatch\"}\n" }
     ensures limit { reply_text (refused Refusal.Limit) ≡ codes "{\"error\":9,\"name\":\"Limit\"}\n" }

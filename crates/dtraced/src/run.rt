@@ -78,7 +78,7 @@ impl Run {
         }
     }
 
-    /// Opens the session of an account. None may be open, and the account must have the privilege dtrace_kernel.
+    /// Opens the session of an account. None may be open, and the account must have a dtrace privilege.
     fn open(&mut self, alloc: Global, machine: &Machine, name: &[u8]) -> Result<bool, AllocError>
         ensures taken { result ≡ Ok true → (past : List Act) → IsBehind machine.now past self.old
             → IsAllowed machine.now.registry past (opens name.now) × IsBehind machine.now (opens name.now ∷ past) self.new }
@@ -91,7 +91,7 @@ impl Run {
         let Some(account) = machine.account(name) else {
             return Ok(false);
         };
-        if !account.privs.dtrace_kernel {
+        if !account.privs.has_dtrace() {
             return Ok(false);
         }
         self.consumer = Some(Consumer::new(alloc, *account, machine)?);

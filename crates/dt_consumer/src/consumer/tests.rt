@@ -238,3 +238,56 @@ fn an_accepted_go_alone_publishes(rt: HostRuntime) -> Result<(), Fail> {
     assert!(rt; !over.publishes());
     Ok(())
 }
+
+/// The probes that an account is told of, by identifier.
+fn listed(alloc: Global, machine: &Machine, name: &str, text: &str) -> Result<String, Fail> {
+    let mut consumer = consumer(alloc, machine, name)?;
+    let probe = String::from_str(alloc, text)?;
+    let draft = consumer.draft(alloc, machine, &Ok(Command::List { probe }))?;
+    let told = match draft.reply() {
+        Reply::Listed { probes } => {
+            let mut told = String::new(alloc);
+            for probe in probes {
+                let text = format!(in alloc; "{} {} ", probe.id, probe.tuple)?;
+                told.push_str(text.as_str())?;
+            }
+            told
+        }
+        reply => format!(in alloc; "{reply:?}")?,
+    };
+    consumer.apply(machine, draft);
+    Ok(told)
+}
+
+#[test]
+fn probes_are_listed_for_their_account(rt: HostRuntime) -> Result<(), Fail> {
+    let alloc = rt.alloc();
+    let machine = machine(alloc, "[],[]")?;
+    let rows = [
+        ("root", "read:entry", "3 syscall::read:entry "),
+        (
+            "root",
+            "[!a-e]*:::*e*",
+            "3 syscall::read:entry 4 profile:::tick-1sec 5 fbt:genunix:kmem_alloc:entry ",
+        ),
+        (
+            "ann",
+            "",
+            "1 dtrace:::BEGIN 2 dtrace:::END 3 syscall::read:entry 4 profile:::tick-1sec ",
+        ),
+        ("ann", "fbt:::", ""),
+        ("ann", "kmem*:", ""),
+        ("root", "kmem*:", "5 fbt:genunix:kmem_alloc:entry "),
+        (
+            "root",
+            "a:b:c:d:e",
+            "Refused(Program { at: 0, why: Probe })",
+        ),
+        ("root", "[a", "Refused(Program { at: 0, why: Probe })"),
+    ];
+    for (name, text, wanted) in rows {
+        let told = listed(alloc, &machine, name, text)?;
+        assert_eq!(rt; told.as_str(), wanted, "{name} {text}");
+    }
+    Ok(())
+}

@@ -5,7 +5,7 @@ use std::test::Fail;
 
 const NAMES: [&str; 3] = ["root", "ann", "eve"];
 
-const TEXTS: [&str; 12] = [
+const TEXTS: [&str; 15] = [
     "syscall::read:entry{trace(arg0)}",
     "entry{}",
     "BEGIN{trace(arg3)}",
@@ -18,7 +18,12 @@ const TEXTS: [&str; 12] = [
     "read:entry{",
     "",
     "END{}",
+    "[!a-s]*:{trace(arg2)}",
+    "s*:::[\\r-z]*{trace(arg1)}",
+    "?[a:::{}",
 ];
+
+const PROBES: [&str; 6] = ["", "entry", "*:::[!e]*", "[b-c", "a:b:c:d:e", "pid1?0:::"];
 
 /// A machine of two processors and these probes, with firings that some accounts are shown and some aren't.
 fn machine(alloc: Global, probes: &str) -> Result<Machine, Fail> {
@@ -46,6 +51,11 @@ fn enable(alloc: Global, text: &str) -> Result<Item, Fail> {
     Ok(Item::Line(Ok(Command::Enable {
         text: String::from_str(alloc, text)?,
     })))
+}
+
+fn list(alloc: Global, text: &str) -> Result<Item, Fail> {
+    let probe = String::from_str(alloc, text)?;
+    Ok(Item::Line(Ok(Command::List { probe })))
 }
 
 fn snap(cpu: u64) -> Item {
@@ -97,11 +107,15 @@ fn thrown(alloc: Global, machine: &Machine, dice: &mut Dice) -> Result<Vec<Item>
             2 => Item::Line(Err(Refusal::Json)),
             3 if place > 5 => Item::Line(Ok(Command::Go)),
             4..=9 if place < 20 => {
-                let text = TEXTS.get(dice.below(12) as usize).ok_or("no text")?;
+                let text = TEXTS.get(dice.below(15) as usize).ok_or("no text")?;
                 enable(alloc, text)?
             }
             4 => snap(18_446_744_073_709_551_615),
             5 => enable(alloc, "entry{}")?,
+            7 => {
+                let text = PROBES.get(dice.below(6) as usize).ok_or("no text")?;
+                list(alloc, text)?
+            }
             6 => snap(1),
             _ => thrown_firing(machine, dice)?,
         };
@@ -138,6 +152,9 @@ fn is_same(reply: &Reply, other: &Reply) -> bool {
                 && data.as_slice() == other_data.as_slice()
                 && drops == other_drops
                 && filled == other_filled
+        }
+        (Reply::Listed { probes }, Reply::Listed { probes: others }) => {
+            probes.as_slice() == others.as_slice()
         }
         (Reply::Refused(refusal), Reply::Refused(other_refusal)) => refusal == other_refusal,
         _ => false,
@@ -191,6 +208,8 @@ struct Tally {
     limited: u32,
     busy: u32,
     over: u32,
+    listed: u32,
+    described: u32,
 }
 
 impl Tally {
@@ -204,6 +223,13 @@ impl Tally {
                 Reply::Refused(Refusal::Limit) => &mut self.limited,
                 Reply::Refused(Refusal::Busy) => &mut self.busy,
                 Reply::Refused(Refusal::Quota) => &mut self.over,
+                Reply::Refused(
+                    Refusal::Program {
+                        why: Why::Probe,
+                        ..
+                    },
+                ) => &mut self.described,
+                Reply::Listed { probes } if !probes.is_empty() => &mut self.listed,
                 _ => continue,
             };
             *kind = kind.saturating_add(1);
@@ -224,6 +250,7 @@ fn thrown_lists(rt: HostRuntime) -> Result<(), Fail> {
         }
     }
     assert!(rt; tally.enabled > 20 && tally.read > 20 && tally.unmatched > 5 && tally.busy > 20);
+    assert!(rt; tally.listed > 10 && tally.described > 2);
     Ok(())
 }
 

@@ -11,7 +11,7 @@ const fn traces(argument: Argument) -> Option<Statement> {
 
 #[test]
 fn reads_one_clause_and_nothing_else(rt: HostRuntime) -> Result<(), Fail> {
-    let rows: [(&[u8], Option<Wanted>); 17] = [
+    let rows: [(&[u8], Option<Wanted>); 21] = [
         (b"{}", Some(([b"", b"", b"", b""], None))),
         (
             b"syscall::read:entry{}",
@@ -35,7 +35,14 @@ fn reads_one_clause_and_nothing_else(rt: HostRuntime) -> Result<(), Fail> {
         (b"BEGIN{trace(1)}", None),
         (b"BEGIN{trace(arga)}", None),
         (b"BEGIN{trace(arg0);}", None),
-        (b"sys*:::{}", None),
+        (b"sys*:::{}", Some(([b"sys*", b"", b"", b""], None))),
+        (
+            b"\\*:[!a-c]?{}",
+            Some(([b"", b"", b"\\*", b"[!a-c]?"], None)),
+        ),
+        (b"[a:::{}", None),
+        (b"[]{}", None),
+        (b"a\\{}", None),
         (b"a:b:c:d:e{}", None),
         (b"BEGIN,END{}", None),
     ];
@@ -55,10 +62,10 @@ fn reads_one_clause_and_nothing_else(rt: HostRuntime) -> Result<(), Fail> {
                 let clause = &program.clauses[0];
                 assert_eq!(rt; clause.descriptions.len(), 1, "in {text:?}");
                 let description = &clause.descriptions[0];
-                assert_eq!(rt; description.provider.as_slice(), fields[0], "in {text:?}");
-                assert_eq!(rt; description.module.as_slice(), fields[1], "in {text:?}");
-                assert_eq!(rt; description.function.as_slice(), fields[2], "in {text:?}");
-                assert_eq!(rt; description.name.as_slice(), fields[3], "in {text:?}");
+                assert_eq!(rt; description.provider.as_bytes(), fields[0], "in {text:?}");
+                assert_eq!(rt; description.module.as_bytes(), fields[1], "in {text:?}");
+                assert_eq!(rt; description.function.as_bytes(), fields[2], "in {text:?}");
+                assert_eq!(rt; description.name.as_bytes(), fields[3], "in {text:?}");
                 assert_eq!(rt;
                     clause.statements.first().copied(),
                     statement,

@@ -12,13 +12,18 @@ fn told(alloc: Global, line: &[u8]) -> Result<String, Fail> {
 
 #[test]
 fn answers_each_line(rt: HostRuntime) -> Result<(), Fail> {
-    let rows: [(&[u8], &str); 17] = [
+    let rows: [(&[u8], &str); 19] = [
         (b"{\"cmd\":\"go\"}", "Go"),
         (
             b"{\"cmd\": \"enable\", \"text\": \"x{}\"}",
             "Enable { text: \"x{}\" }",
         ),
         (b"{\"cmd\":\"snap\",\"cpu\":1}", "Snap { cpu: 1 }"),
+        (
+            b"{\"cmd\":\"list\",\"probe\":\"a\"}",
+            "List { probe: \"a\" }",
+        ),
+        (b"{\"cmd\":\"list\"}", "Request"),
         (
             b" {\"cpu\":7,\"cmd\":\"go\",\"cmd\":\"snap\",\"cpu\":18446744073709551615,\"x\":null}\r",
             "Snap { cpu: 18446744073709551615 }",

@@ -11,12 +11,132 @@ const MACHINE: &str = "{\"cpus\":2,
 \"probes\":[\"syscall::read:entry\",\"profile:::tick-1sec\",\"fbt:genunix:kmem_alloc:entry\"],
 \"scripts\":[[{\"probe\":3,\"pid\":100,\"args\":[7]}],[]]}";
 
-/// What is written for an input, and whether that is what was wanted.
+/// Whether this is written for an input on the machine.
 fn writes(alloc: Global, input: &str, wanted: &str) -> Result<bool, Fail> {
+    writes_on(alloc, MACHINE, input, wanted)
+}
+
+fn writes_on(alloc: Global, machine: &str, input: &str, wanted: &str) -> Result<bool, Fail> {
     let mut output = Vec::new(alloc);
     let mut reader = Cursor::new(input.as_bytes());
-    replay(alloc, MACHINE.as_bytes(), &mut reader, &mut output)?;
+    replay(alloc, machine.as_bytes(), &mut reader, &mut output)?;
     Ok(output.as_slice() == wanted.as_bytes())
+}
+
+/// A machine with a further account, these probes and this script of its first processor.
+fn machine_of(alloc: Global, probes: &str, script: &str) -> Result<String, Fail> {
+    Ok(format!(in alloc;
+        r#"{{"cpus":2,
+"accounts":[{{"name":"root","uid":0,"privs":["dtrace_kernel"]}},{{"name":"ann","uid":501,"privs":["dtrace_user"]}},
+{{"name":"bob","uid":501,"privs":["dtrace_proc"]}},{{"name":"joe","uid":501,"privs":["proc_owner"]}}],
+"processes":[{{"pid":100,"uid":501,"execname":"sh"}},{{"pid":200,"uid":0,"execname":"cron"}}],
+"probes":["syscall::read:entry","profile:::tick-1sec","fbt:genunix:kmem_alloc:entry"{probes}],
+"scripts":[[{script}],[]]}}"#
+    )?)
+}
+
+#[test]
+fn profile_firings_of_the_kernel(rt: HostRuntime) -> Result<(), Fail> {
+    let alloc = rt.alloc();
+    for (name, mode, hex) in [
+        ("ann", "kernel", ""),
+        ("root", "kernel", "00000001"),
+        ("ann", "user", "00000001"),
+    ] {
+        let script = format!(in alloc; "{{\"probe\":4,\"pid\":100,\"mode\":\"{mode}\"}}")?;
+        let machine = machine_of(alloc, "", script.as_str())?;
+        let input = format!(in alloc;
+            "open 0 {name}\ncall 0 {{\"cmd\":\"enable\",\"text\":\"profile:::{{}}\"}}\ncall 0 {{\"cmd\":\"go\"}}\nfire 0\ncall 0 {{\"cmd\":\"snap\",\"cpu\":0}}\n"
+        )?;
+        let wanted = format!(in alloc;
+            "0 {{\"count\":1,\"first\":1,\"ok\":true}}\n0 {{\"ok\":true}}\n0 {{\"cpu\":0,\"data\":\"{hex}\",\"drops\":0,\"filled\":false,\"ok\":true}}\n"
+        )?;
+        assert!(rt;
+            writes_on(alloc, machine.as_str(), input.as_str(), wanted.as_str())?,
+            "{name} {mode}"
+        );
+    }
+    Ok(())
+}
+
+#[test]
+fn probes_are_listed(rt: HostRuntime) -> Result<(), Fail> {
+    let alloc = rt.alloc();
+    let machine = machine_of(
+        alloc,
+        ",\"syscall::close:entry\",\"syscall:::entry\",\"syscall::*:entry\"",
+        "",
+    )?;
+    let rows = [
+        (
+            r"syscall::[!a-c]*:entry",
+            r#"{"ok":true,"probes":[{"id":3,"name":"syscall::read:entry"},{"id":8,"name":"syscall::*:entry"}]}"#,
+        ),
+        (
+            r"\\*:entry",
+            r#"{"ok":true,"probes":[{"id":8,"name":"syscall::*:entry"}]}"#,
+        ),
+        (
+            "fbt::kmem_alloc:entry",
+            r#"{"ok":true,"probes":[{"id":5,"name":"fbt:genunix:kmem_alloc:entry"}]}"#,
+        ),
+        (
+            "read:entry",
+            r#"{"ok":true,"probes":[{"id":3,"name":"syscall::read:entry"}]}"#,
+        ),
+        ("nothing", r#"{"ok":true,"probes":[]}"#),
+        (
+            "[a:entry",
+            r#"{"at":0,"error":4,"name":"Program","why":"Probe"}"#,
+        ),
+    ];
+    for (text, wanted) in rows {
+        let input = format!(in alloc;
+            "open 0 root\ncall 0 {{\"cmd\":\"list\",\"probe\":\"{text}\"}}\n"
+        )?;
+        let wanted = format!(in alloc; "0 {wanted}\n")?;
+        assert!(rt;
+            writes_on(alloc, machine.as_str(), input.as_str(), wanted.as_str())?,
+            "{text}"
+        );
+    }
+    Ok(())
+}
+
+#[test]
+fn what_an_account_may_enable(rt: HostRuntime) -> Result<(), Fail> {
+    let alloc = rt.alloc();
+    let machine = machine_of(alloc, ",\"pid100:a:f:entry\"", "")?;
+    let rows = [
+        (
+            r#"ann call 0 {"cmd":"list","probe":""}"#,
+            r#"{"ok":true,"probes":[{"id":1,"name":"dtrace:::BEGIN"},{"id":2,"name":"dtrace:::END"},{"id":3,"name":"syscall::read:entry"},{"id":4,"name":"profile:::tick-1sec"}]}"#,
+        ),
+        (
+            r#"ann call 0 {"cmd":"enable","text":"fbt:::entry{}"}"#,
+            r#"{"clause":1,"error":5,"name":"NoMatch"}"#,
+        ),
+        (
+            r#"bob call 0 {"cmd":"list","probe":""}"#,
+            r#"{"ok":true,"probes":[{"id":1,"name":"dtrace:::BEGIN"},{"id":2,"name":"dtrace:::END"},{"id":6,"name":"pid100:a:f:entry"}]}"#,
+        ),
+        (
+            r#"root call 0 {"cmd":"enable","text":"pid100:::{}"}"#,
+            r#"{"clause":1,"error":5,"name":"NoMatch"}"#,
+        ),
+    ];
+    for (line, wanted) in rows {
+        let (name, call) = line.split_once(' ').ok_or("two parts")?;
+        let input = format!(in alloc; "open 0 {name}\n{call}\n")?;
+        let wanted = format!(in alloc; "0 {wanted}\n")?;
+        assert!(rt;
+            writes_on(alloc, machine.as_str(), input.as_str(), wanted.as_str())?,
+            "{line}"
+        );
+    }
+    let fault = fault_of(alloc, machine.as_str(), "open 0 joe\n")?;
+    assert_eq!(rt; fault.as_str(), "line 1: refused");
+    Ok(())
 }
 
 #[test]
@@ -89,7 +209,6 @@ fn fault_of(alloc: Global, machine: &str, input: &str) -> Result<String, Fail> {
 fn refused_inputs(rt: HostRuntime) -> Result<(), Fail> {
     let rows = [
         ("open 0 root\ncall 0 []\nopen 0 root\n", "line 3: refused"),
-        ("open 0 ann\n", "line 1: refused"),
         ("open 0 \n", "line 1: refused"),
         ("\nopen 0 bob\nfire 9\n", "line 2: refused"),
         ("open 1 root\n", "line 1: refused"),

@@ -1,6 +1,7 @@
 use Rattle.std.proofs.Common.{◌≡◌, codes, decimal, append_assoc, refl}
 use Rattle.std.specs.Fmt.{digits}
 use Rattle.serde_json.proofs.OnLiterals.{serde_json_on_literals}
+use Rattle.dtraced.proofs.ListedTexts.{text-listed}
 use Rattle.dtraced.proofs.Texts.{text-snapped}
 use Rattle.dtraced.proofs.reply.reply_texts.Goals as goal
 
@@ -62,3 +63,10 @@ returns-clause-quota c = refl
 pub returns-clause-memory : goal.returns-clause-memory
 unfolding serde_json_on_literals digits
 returns-clause-memory c = refl
+
+pub returns-clause-description : goal.returns-clause-description
+unfolding serde_json_on_literals
+returns-clause-description c = λ at. simp (four, append_assoc)
+
+pub returns-clause-listed : goal.returns-clause-listed
+returns-clause-listed c = text-listed

@@ -1,4 +1,4 @@
-use Rattle.dt_consumer.proofs.AskLemmas.{if_ok_map, asks_enable, asks_go, asks_snap}
+use Rattle.dt_consumer.proofs.AskLemmas.{if_ok_map, asks_enable, asks_go, asks_snap, asks_list}
 use Rattle.dt_consumer.proofs.consumer.Consumer.draft_command.Goals as goal
 
 pub returns-in-Enable : goal.returns-in-Enable
@@ -6,7 +6,7 @@ returns-in-Enable c =
     if_ok_map _ _ c.draft_enable.result
     (λ draft h. λ account life ask s fresh asks.
     let read = asks_enable c.args.command.now c.in-Enable.text ask c.in-Enable.is asks in
-    rw read.1 (h account life read.0 s fresh (rw c.as_bytes.ensures.value read.2)))
+    rw read.2 (h account life read.0 s fresh (rw c.as_bytes.ensures.value read.1)))
     c.draft_enable.ensures
 
 pub returns-in-Go : goal.returns-in-Go
@@ -20,3 +20,11 @@ returns-in-Snap c =
     if_ok_map _ _ c.draft_snap.result
     (λ draft h. λ account life ask s fresh asks. rw (asks_snap c.args.command.now c.in-Snap.cpu ask c.in-Snap.is asks) (h account life s fresh))
     c.draft_snap.ensures
+
+pub returns-in-List : goal.returns-in-List
+returns-in-List c =
+    if_ok_map _ _ c.draft_list.result
+    (λ draft h. λ account life ask s fresh asks.
+    let read = asks_list c.args.command.now c.in-List.probe ask c.in-List.is asks in
+    rw read.2 (h account life read.0 s fresh (rw c.as_bytes-in-List.ensures.value read.1)))
+    c.draft_list.ensures

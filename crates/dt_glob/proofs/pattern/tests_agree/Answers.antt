@@ -1,0 +1,5 @@
+use Rattle.dt_glob.proofs.TestLemmas.{Decides-is_match}
+use Rattle.dt_glob.proofs.pattern.tests_agree.Goals as goal
+
+pub returns : goal.returns
+returns c = Decides-is_match

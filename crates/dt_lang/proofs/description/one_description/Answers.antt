@@ -1,0 +1,5 @@
+use Rattle.dt_lang.proofs.Descriptions.{same_reading_of_description}
+use Rattle.dt_lang.proofs.description.one_description.Goals as goal
+
+pub returns : goal.returns
+returns c = same_reading_of_description c.one_answer-2.ensures.one_pattern
