@@ -15,7 +15,7 @@ use Rattle.std.specs.Str.{bytes_eq}
 use Rattle.dt_names.specs.declared.tuple.ProbeTuple.{ProbeTuple}
 use Rattle.dt_machine.specs.Given.{text_of}
 use Rattle.serde_json.specs.Data.{Data}
-use Rattle.dt_machine.specs.Reading.{IsFirstWrong, Passes, number_of, Registers}
+use Rattle.dt_machine.specs.Reading.{IsFirstWrong, Nowhere, Passes, number_of, Registers}
 use Rattle.dt_machine.specs.Registry.{Registry, Contents, probe_of, process_of}
 use Rattle.dt_machine.specs.declared.firing.Firing.{Firing}
 use Rattle.dt_cred.specs.declared.class.Class.{Class}
@@ -25,6 +25,10 @@ use Rattle.dt_machine.specs.declared.sections.Sections.{Sections}
 -- the fault is want of memory, or it is as said
 abbrev pub UnlessMemory : MachineFault → Type 0 → Type 0
 UnlessMemory fault P = fault.number ≢ Memory → P
+
+-- want of memory names no processor and no row
+abbrev pub NowhereIfMemory : MachineFault → Type 0
+NowhereIfMemory fault = fault.number ≡ Memory → Nowhere fault.cpu fault.row
 
 -- the fault of a number at the first row that is not right
 pub record IsMiss {A : Type 0} (wanted : FaultNumber) (IsRight : List A → A → Type 0) (rows : List A) (fault : MachineFault) : Type 0 where

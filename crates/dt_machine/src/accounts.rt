@@ -5,7 +5,7 @@ ghost use Rattle.serde_json.specs.View.{view};
 ghost use Rattle.dt_machine.specs.Given.{text_of};
 ghost use Rattle.dt_machine.specs.Rows.{AccountRow, account_row, account, privs, lists, IsAccountByte, IsAccountName, IsPriv, IsRightAccount};
 ghost use Rattle.dt_machine.specs.Reading.{AllRight};
-ghost use Rattle.dt_machine.specs.Sections.{UnlessMemory, IsMiss, account_rows, texts};
+ghost use Rattle.dt_machine.specs.Sections.{NowhereIfMemory, UnlessMemory, IsMiss, account_rows, texts};
 
 use crate::fault::{FaultNumber, MachineFault};
 use crate::given::{list_at, text_at, text_of, u32_of, unsigned_at};
@@ -20,6 +20,7 @@ const ACCOUNTS_MAX: usize = 16;
 pub(crate) fn read_accounts(alloc: Global, rows: &[Value]) -> Result<Vec<Account>, MachineFault>
     ensures right { IfOk result (λ _. AllRight IsRightAccount (account_rows rows.now)) }
     ensures accounts { IfOk result (λ accounts. accounts.items ≡ map account (account_rows rows.now)) }
+    ensures memory { IfErr result NowhereIfMemory }
     ensures fault { IfErr result (λ fault.
         UnlessMemory fault (IsMiss FaultNumber.Account IsRightAccount (account_rows rows.now) fault)) }
 {

@@ -55,7 +55,7 @@ impl From<AllocError> for MachineFault {
     ghost use Rattle.std.specs.Prelude.{◌≡◌};
     ghost use Rattle.dt_machine.specs.declared.fault.FaultNumber.TheVariants.{Memory};
 
-    ghost from_gives = { λ _ fault. fault.number ≡ Memory };
+    ghost from_gives = { λ _ fault. fault ≡ record { number = Memory; cpu = 0; row = 0 } };
 
     fn from(_refused: AllocError) -> MachineFault {
         FaultNumber::Memory.nowhere()
@@ -66,7 +66,7 @@ impl<T: Drop> From<AllocFailed<T>> for MachineFault {
     ghost use Rattle.std.specs.Prelude.{◌≡◌};
     ghost use Rattle.dt_machine.specs.declared.fault.FaultNumber.TheVariants.{Memory};
 
-    ghost from_gives = { λ _ fault. fault.number ≡ Memory };
+    ghost from_gives = { λ _ fault. fault ≡ record { number = Memory; cpu = 0; row = 0 } };
 
     fn from(_refused: AllocFailed<T>) -> MachineFault {
         FaultNumber::Memory.nowhere()

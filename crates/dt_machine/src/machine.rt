@@ -3,6 +3,7 @@ ghost use Rattle.std.specs.Option.{option_copied};
 ghost use Rattle.serde_json.specs.Data.{Data};
 ghost use Rattle.serde_json.specs.View.{view};
 ghost use Rattle.dt_machine.specs.Reading.{IsJson};
+ghost use Rattle.dt_machine.specs.Sections.{NowhereIfMemory};
 
 use crate::fault::{FaultNumber, MachineFault};
 use crate::firing::Firing;
@@ -54,6 +55,7 @@ impl Machine {
     pub fn read(alloc: Global, text: &[u8]) -> Result<Machine, MachineFault>
         ensures ok { IfOk result (λ machine. IsDescribed text.now machine) }
         ensures sound { IfOk result (λ machine. IsSound machine) }
+        ensures memory { IfErr result NowhereIfMemory }
         ensures fault { IfErr result (λ fault. UnlessMemory fault (IsFaultOf text.now fault)) }
     {
         let file = parse(alloc, text)?;
@@ -150,6 +152,7 @@ impl Machine {
 /// The value of a text.
 fn parse(alloc: Global, text: &[u8]) -> Result<Value, MachineFault>
     ensures ok { IfOk result (λ value. IsJson text.now (view value)) }
+    ensures memory { IfErr result NowhereIfMemory }
     ensures fault { IfErr result (λ fault. fault.number ≢ FaultNumber.Memory
         → ((d : Data) → IsJson text.now d → ⊥) × (fault ≡ record { number = FaultNumber.Json; cpu = 0; row = 0 })) }
 {

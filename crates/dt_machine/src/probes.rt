@@ -5,7 +5,7 @@ ghost use Rattle.dt_cred.specs.Class.{IsClassOf};
 ghost use Rattle.dt_cred.specs.declared.probe.Probe.{Probe};
 ghost use Rattle.dt_machine.specs.Rows.{AreProbes, IsRightProbe};
 ghost use Rattle.dt_machine.specs.Reading.{AllRight};
-ghost use Rattle.dt_machine.specs.Sections.{UnlessMemory, IsMiss, IsTraced, eq_tuples, texts};
+ghost use Rattle.dt_machine.specs.Sections.{NowhereIfMemory, UnlessMemory, IsMiss, IsTraced, eq_tuples, texts};
 
 use crate::fault::{FaultNumber, MachineFault};
 use crate::given::text_of;
@@ -25,6 +25,7 @@ pub(crate) fn read_probes(
     ensures right { IfOk result (λ _. AllRight (IsRightProbe processes.now) (texts rows.now)) }
     ensures probes { IfOk result (λ probes.
         AreProbes 1 (codes "dtrace:::BEGIN" ∷ codes "dtrace:::END" ∷ texts rows.now) probes.items) }
+    ensures memory { IfErr result NowhereIfMemory }
     ensures fault { IfErr result (λ fault.
         UnlessMemory fault (IsMiss FaultNumber.Probe (IsRightProbe processes.now) (texts rows.now) fault)) }
 {

@@ -2,7 +2,7 @@ ghost use Rattle.std.specs.Prelude.{◌≡◌, ◌≢◌, ◌^◌, ◌↔◌, �
 ghost use Rattle.serde_json.specs.View.{view};
 ghost use Rattle.dt_machine.specs.Rows.{ProcessRow, process_row, process, value as number_in, IsBelow, IsExecname, IsRightProcess};
 ghost use Rattle.dt_machine.specs.Reading.{AllRight};
-ghost use Rattle.dt_machine.specs.Sections.{UnlessMemory, IsMiss, Indexes, process_rows};
+ghost use Rattle.dt_machine.specs.Sections.{NowhereIfMemory, UnlessMemory, IsMiss, Indexes, process_rows};
 
 use crate::fault::{FaultNumber, MachineFault};
 use crate::given::{text_at, u32_of, unsigned_at};
@@ -23,6 +23,7 @@ pub(crate) fn read_processes(
     ensures processes { IfOk result (λ found. found.0.items ≡ map process (process_rows rows.now)) }
     ensures small { IfOk result (λ found. All (λ process. process.pid < 2 ^ 32) found.0.items) }
     ensures by_pid { IfOk result (λ found. Indexes found.1 found.0.items) }
+    ensures memory { IfErr result NowhereIfMemory }
     ensures fault { IfErr result (λ fault.
         UnlessMemory fault (IsMiss FaultNumber.Process IsRightProcess (process_rows rows.now) fault)) }
 {

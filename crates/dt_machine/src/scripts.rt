@@ -4,7 +4,7 @@ ghost use Rattle.dt_machine.specs.Given.{items_of};
 ghost use Rattle.dt_machine.specs.Registry.{process_of};
 ghost use Rattle.dt_machine.specs.Rows.{FiringRow, firing_row, firing, script, scripts as scripts_of, mode, value as number_in, IsBelow, IsMode, HasRoom, IsGivenProbe, IsRightFiring};
 ghost use Rattle.dt_machine.specs.Reading.{AllRight, AllRightIn, IsFirstWrong, IsFirstWrongIn};
-ghost use Rattle.dt_machine.specs.Sections.{UnlessMemory, IsReady, firing_rows, scripts_rows, registry_of};
+ghost use Rattle.dt_machine.specs.Sections.{NowhereIfMemory, UnlessMemory, IsReady, firing_rows, scripts_rows, registry_of};
 
 use crate::fault::{FaultNumber, MachineFault};
 use crate::firing::Firing;
@@ -43,6 +43,7 @@ pub(crate) fn read_scripts(
     ensures right { IfOk result (λ _.
         AllRightIn (IsRightFiring (registry_of sections.now)) (scripts_rows scripts.now)) }
     ensures scripts { IfOk result (λ found. map (λ s. s.items) found.items ≡ scripts_of 0 (scripts_rows scripts.now)) }
+    ensures memory { IfErr result NowhereIfMemory }
     ensures fault { IfErr result (λ fault. UnlessMemory fault ((fault.number ≡ FaultNumber.Firing)
         × IsFirstWrongIn (IsRightFiring (registry_of sections.now)) (scripts_rows scripts.now) fault.cpu fault.row)) }
 {
@@ -65,6 +66,7 @@ fn read_script(
     requires ready { IsReady sections.now }
     ensures right { IfOk result (λ _. AllRight (IsRightFiring (registry_of sections.now)) (firing_rows rows.now)) }
     ensures script { IfOk result (λ found. found.items ≡ script cpu 0 (firing_rows rows.now)) }
+    ensures memory { IfErr result NowhereIfMemory }
     ensures fault { IfErr result (λ fault. UnlessMemory fault ((fault.number ≡ FaultNumber.Firing) × (fault.cpu ≡ cpu)
         × IsFirstWrong (IsRightFiring (registry_of sections.now)) (firing_rows rows.now) fault.row)) }
 {

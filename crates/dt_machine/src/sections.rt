@@ -26,11 +26,12 @@ pub(crate) struct Sections {
 }
 
 impl Sections {
-    ghost use Rattle.dt_machine.specs.Sections.{UnlessMemory, AreSections};
+    ghost use Rattle.dt_machine.specs.Sections.{NowhereIfMemory, UnlessMemory, AreSections};
 
     /// The sections of a file, or the first fault of those that go before the firings.
     pub(crate) fn read(alloc: Global, file: &Value) -> Result<Sections, MachineFault>
         ensures ok { IfOk result (λ sections. AreSections (view file.now) sections) }
+        ensures memory { IfErr result NowhereIfMemory }
         ensures fault { IfErr result (λ fault. UnlessMemory fault (IsFirstFault (view file.now) fault)) }
     {
         if !is_machine(file) {
