@@ -8,7 +8,7 @@ use Rattle.std.proofs.lemmas.List.Sums.{count_by_more_yes, count_by_more_no, sum
 use Rattle.std.proofs.lemmas.List.{take_all}
 use Rattle.std.proofs.Math.Seq.{drop-cons}
 use Rattle.std.proofs.Math.ListN.{drop_of_length-le}
-use Rattle.dt_names.specs.Desc.{is_colon, fields, IsField, NoColonWithin, Shows, NoneShown, Desc, Describes, IsFirstFault}
+use Rattle.dt_names.specs.Desc.{is_colon, fields, IsField, NoColonWithin, ShowsFault, NoneShown, Desc, Describes, IsFirstFault}
 use Rattle.dt_names.specs.declared.desc.NameFault.{NameFault}
 use Rattle.dt_names.specs.declared.desc.NameFault.TheVariants.{BadByte, TooLong, TooManyFields}
 
@@ -21,7 +21,8 @@ pub data Clean : ℕ → List ℕ → Type 0 where
 -- the fields of such a rest: the first goes on with the n bytes
 abbrev FirstGoesOn : ℕ → List (List ℕ) → Type 0
 FirstGoesOn n [] = ⊥
-FirstGoesOn n (first ∷ others) = (n + length first ≤ 63) × AllByRecursion IsNameByte first × AllByRecursion IsField others
+FirstGoesOn n (first ∷ others) = (n + length first ≤ 63) × AllByRecursion IsNameByte first
+    × AllByRecursion IsField others
 
 onto : (n x : ℕ) (parts : List (List ℕ)) → IsNameByte x → FirstGoesOn (suc n) parts → FirstGoesOn n (onto_first x parts)
 onto n x [] b h = absurd h
@@ -32,10 +33,14 @@ all_fields [] h = absurd h
 all_fields (first ∷ others) h = (record { short = omega (arith, h.0); plain = h.1 }, h.2)
 
 at_colon : (n x : ℕ) (xs : List ℕ) → x ≡ 58 → n ≤ 63 → FirstGoesOn 0 (fields xs) → FirstGoesOn n (fields (x ∷ xs))
-at_colon n x xs e h rest = subst (FirstGoesOn n) (sym (slice_split-cons_yes is_colon x xs (eq-eqb x 58 e))) (omega arith, tt, all_fields (fields xs) rest)
+at_colon n x xs e h rest =
+    subst (FirstGoesOn n) (sym (slice_split-cons_yes is_colon x xs (eq-eqb x 58 e)))
+    (omega arith, tt, all_fields (fields xs) rest)
 
 at_byte : (n x : ℕ) (xs : List ℕ) → IsNameByte x → FirstGoesOn (suc n) (fields xs) → FirstGoesOn n (fields (x ∷ xs))
-at_byte n x xs b rest = subst (FirstGoesOn n) (sym (slice_split-cons_no is_colon x xs (ne_eqb x 58 b.no_colon))) (onto n x (fields xs) b rest)
+at_byte n x xs b rest =
+    subst (FirstGoesOn n) (sym (slice_split-cons_no is_colon x xs (ne_eqb x 58 b.no_colon)))
+    (onto n x (fields xs) b rest)
 
 first_goes_on : {n : ℕ} {text : List ℕ} → Clean n text → FirstGoesOn n (fields text)
 first_goes_on (ended h) = (omega arith, tt, tt)
@@ -57,9 +62,11 @@ pub record Scanned (text : List ℕ) (i colons run : ℕ) : Type 0 where
   pub clean : Clean run (drop i text) → Clean 0 text
 
 -- what the byte at i shows is all that the bytes before i + 1 show more than those before i
-none_shown_more : (text : List ℕ) (i : ℕ) → NoneShown text i → ((fault : NameFault) → Shows text i fault → ⊥) → NoneShown text (i + 1)
+none_shown_more : (text : List ℕ) (i : ℕ) → NoneShown text i → ((fault : NameFault) → ShowsFault text i fault → ⊥)
+    → NoneShown text (i + 1)
 none_shown_more text i before here k fault h shown =
-    ⊎_elim (λ e. here fault (subst (λ j. Shows text j fault) e shown)) (λ ne. before k fault (omega arith) shown) (cases_eq k i)
+    ⊎_elim (λ e. here fault (subst (λ j. ShowsFault text j fault) e shown)) (λ ne. before k fault (omega arith) shown)
+    (cases_eq k i)
 
 pub scanned_none : (text : List ℕ) → Scanned text 0 0 0
 scanned_none text = record {
@@ -77,7 +84,7 @@ module _ (text : List ℕ) (i colons run : ℕ) (s : Scanned text i colons run) 
   front_is : drop i text ≡ get_or text i 0 ∷ drop (i + 1) text
   front_is = rw add-one (drop-cons text i 0 inside)
 
-  colon_shows_none : get_or text i 0 ≡ 58 → colons < 3 → (fault : NameFault) → Shows text i fault → ⊥
+  colon_shows_none : get_or text i 0 ≡ 58 → colons < 3 → (fault : NameFault) → ShowsFault text i fault → ⊥
   colon_shows_none e room BadByte shown = shown.1 e
   colon_shows_none e room TooLong shown = shown.0.no_colon e
   colon_shows_none e room TooManyFields shown = omega (arith, s.counted, shown.1)
@@ -97,7 +104,7 @@ module _ (text : List ℕ) (i colons run : ℕ) (s : Scanned text i colons run) 
       simpler : (i : ℕ) → i + 1 - 0 - 1 ≡ i
       simpler i = omega arith
 
-  byte_shows_none : IsNameByte (get_or text i 0) → run < 63 → (fault : NameFault) → Shows text i fault → ⊥
+  byte_shows_none : IsNameByte (get_or text i 0) → run < 63 → (fault : NameFault) → ShowsFault text i fault → ⊥
   byte_shows_none b room BadByte shown = shown.0 b
   byte_shows_none b room TooLong shown =
       shown.2 (i - run - 1) (omega (arith, shown.1)) (omega (arith, shown.1)) (s.begun (omega (arith, shown.1)))
@@ -109,7 +116,9 @@ module _ (text : List ℕ) (i colons run : ℕ) (s : Scanned text i colons run) 
     few = s.few;
     short = omega arith;
     passed = omega (arith, s.passed);
-    unbroken = λ k low high. ⊎_elim (λ e. λ at. b.no_colon (rw (← e) at)) (λ ne. s.unbroken k (omega (arith, low, s.passed)) (omega arith)) (cases_eq k i);
+    unbroken = λ k low high.
+        ⊎_elim (λ e. λ at. b.no_colon (rw (← e) at)) (λ ne. s.unbroken k (omega (arith, low, s.passed)) (omega arith))
+        (cases_eq k i);
     begun = λ h. rw (simpler i run) (s.begun (omega (arith, h)));
     none_shown = none_shown_more text i s.none_shown (byte_shows_none b room);
     clean = λ rest. s.clean (subst (Clean run) (sym front_is) (more b (rw (← add-one run) rest)));
@@ -126,7 +135,8 @@ first_from_fields (first ∷ others) some h = (omega (arith, h.0.short), h.0.pla
 parts_some : (text : List ℕ) → 0 < length (fields text)
 parts_some text = omega (arith, length-slice_split is_colon text)
 
-onto_back : (n x : ℕ) (parts : List (List ℕ)) → 0 < length parts → FirstGoesOn n (onto_first x parts) → IsNameByte x × FirstGoesOn (suc n) parts
+onto_back : (n x : ℕ) (parts : List (List ℕ)) → 0 < length parts → FirstGoesOn n (onto_first x parts) → IsNameByte x
+    × FirstGoesOn (suc n) parts
 onto_back n x [] some h = absurd (omega arith)
 onto_back n x (first ∷ others) some h = (h.1.0, (omega (arith, h.0), h.1.1, h.2))
 
@@ -136,12 +146,15 @@ clean-from_first n (x ∷ xs) h =
     ⊎_elim
     (λ e. let at = subst (FirstGoesOn n) (slice_split-cons_yes is_colon x xs (eq-eqb x 58 e)) h in
     colon e (omega (arith, at.0)) (clean-from_first 0 xs (first_from_fields (fields xs) (parts_some xs) at.2)))
-    (λ ne. let at = onto_back n x (fields xs) (parts_some xs) (subst (FirstGoesOn n) (slice_split-cons_no is_colon x xs (ne_eqb x 58 ne)) h) in
+    (λ ne. let at =
+    onto_back n x (fields xs) (parts_some xs)
+    (subst (FirstGoesOn n) (slice_split-cons_no is_colon x xs (ne_eqb x 58 ne)) h) in
     more at.0 (clean-from_first (suc n) xs at.1))
     (cases_eq x 58)
 
 -- each byte of a clean rest is a colon or a name byte
-clean_byte : {n : ℕ} {text : List ℕ} → Clean n text → (k : ℕ) → k < length text → (get_or text k 0 ≡ 58) ⊎ IsNameByte (get_or text k 0)
+clean_byte : {n : ℕ} {text : List ℕ} → Clean n text → (k : ℕ) → k < length text → (get_or text k 0 ≡ 58)
+    ⊎ IsNameByte (get_or text k 0)
 clean_byte (ended h) k inside = absurd (omega arith)
 clean_byte (colon e h rest) zero inside = inl e
 clean_byte (colon e h rest) (suc k) inside = clean_byte rest k (omega arith)
@@ -154,13 +167,16 @@ clean_short (colon e h rest) = h
 clean_short (more b rest) = omega (arith, clean_short rest)
 
 -- a field that begins before such a rest has no room for a 64th byte in it
-run_short : {n : ℕ} {text : List ℕ} → Clean n text → (k : ℕ) → k < length text → NoColonWithin text 0 (suc k) → n + k < 63
+run_short : {n : ℕ} {text : List ℕ} → Clean n text → (k : ℕ) → k < length text → NoColonWithin text 0 (suc k)
+    → n + k < 63
 run_short (ended h) k inside none = absurd (omega arith)
 run_short (colon e h rest) k inside none = absurd (none 0 (omega arith) (omega arith) e)
 run_short (more b rest) zero inside none = omega (arith, clean_short rest)
-run_short (more b rest) (suc k) inside none = omega (arith, run_short rest k (omega arith) (λ j low high. none (suc j) (omega arith) (omega arith)))
+run_short (more b rest) (suc k) inside none =
+    omega (arith, run_short rest k (omega arith) (λ j low high. none (suc j) (omega arith) (omega arith)))
 
-no_64th : {n : ℕ} {text : List ℕ} → Clean n text → (k : ℕ) → k < length text → 63 ≤ k → NoColonWithin text (k - 63) (suc k) → ⊥
+no_64th : {n : ℕ} {text : List ℕ} → Clean n text → (k : ℕ) → k < length text → 63 ≤ k
+    → NoColonWithin text (k - 63) (suc k) → ⊥
 no_64th (ended h) k inside far none = omega arith
 no_64th (colon e h rest) zero inside far none = omega arith
 no_64th (more b rest) zero inside far none = omega arith
@@ -175,22 +191,34 @@ no_64th (more b rest) (suc k) inside far none =
     (λ past. no_64th rest k (omega arith) past (λ j low high. none (suc j) (omega arith) (omega arith)))
     (cases_lt k 63)
 
-shows_none : (text : List ℕ) → Clean 0 text → length (fields text) ≤ 4 → (at : ℕ) → at < length text → (fault : NameFault) → Shows text at fault → ⊥
+shows_none : (text : List ℕ) → Clean 0 text → length (fields text) ≤ 4 → (at : ℕ) → at < length text
+    → (fault : NameFault) → ShowsFault text at fault → ⊥
 shows_none text clean few at inside BadByte shown = ⊎_elim shown.1 shown.0 (clean_byte clean at inside)
 shows_none text clean few at inside TooLong shown =
-    no_64th clean at inside shown.1 (λ k low high. ⊎_elim (λ e. λ is. shown.0.no_colon (rw (← e) is)) (λ ne. shown.2 k low (omega arith)) (cases_eq k at))
+    no_64th clean at inside shown.1
+    (λ k low high. ⊎_elim (λ e. λ is. shown.0.no_colon (rw (← e) is)) (λ ne. shown.2 k low (omega arith))
+    (cases_eq k at))
 shows_none text clean few at inside TooManyFields shown =
-    omega (arith, length-slice_split is_colon text, count_by_more_yes is_colon text at 0 inside (eq-eqb _ 58 shown.0), shown.1, sum_by-take-le (λ x. cond (is_colon x) 1 0) text (at + 1))
+    omega (
+      arith,
+      length-slice_split is_colon text,
+      count_by_more_yes is_colon text at 0 inside (eq-eqb _ 58 shown.0),
+      shown.1,
+      sum_by-take-le (λ x. cond (is_colon x) 1 0) text (at + 1),
+    )
 
 pub never_both : (text : List ℕ) (desc : Desc) (fault : NameFault) → Describes text desc → IsFirstFault text fault → ⊥
 never_both text desc fault d f =
-    shows_none text (clean-from_first 0 text (first_from_fields (fields text) (parts_some text) d.each)) d.few f.at f.within fault f.shown
+    shows_none text (clean-from_first 0 text (first_from_fields (fields text) (parts_some text) d.each)) d.few f.at
+    f.within fault f.shown
 
 -- what the scan knows at the end
-pub few_fields : (text : List ℕ) (i colons run : ℕ) → Scanned text i colons run → length text ≤ i → length (fields text) ≤ 4
+pub few_fields : (text : List ℕ) (i colons run : ℕ) → Scanned text i colons run → length text ≤ i
+    → length (fields text) ≤ 4
 few_fields text i colons run s ends =
     omega (arith, length-slice_split is_colon text, s.counted, s.few, ap (count_by is_colon) (take_all i text ends))
 
-pub clean_fields : (text : List ℕ) (i colons run : ℕ) → Scanned text i colons run → length text ≤ i → AllByRecursion IsField (fields text)
+pub clean_fields : (text : List ℕ) (i colons run : ℕ) → Scanned text i colons run → length text ≤ i
+    → AllByRecursion IsField (fields text)
 clean_fields text i colons run s ends =
     fields-from_clean text (s.clean (rw (drop_of_length-le text ends) (ended s.short)))

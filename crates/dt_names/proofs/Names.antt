@@ -10,4 +10,5 @@ pub name_text : (bytes name : List ℕ) → bytes ≡ name → IsName name → I
 name_text bytes name e h = subst IsUtf8 (sym e) (IsUtf8-from_ascii name ascii)
   where
     ascii : IsAscii name
-    ascii i = ⊎_elim (λ inside. omega (arith, (h.plain i 0 inside).below_delete)) (λ past. omega (arith, get_or_past name i 0 past)) (cases_lt i (length name))
+    ascii i = ⊎_elim (λ inside. omega (arith, (h.plain i 0 inside).below_delete))
+        (λ past. omega (arith, get_or_past name i 0 past)) (cases_lt i (length name))

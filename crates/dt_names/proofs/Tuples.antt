@@ -16,17 +16,25 @@ some-from_test [] r e fails = λ _. true≢false (sym e ∙ fails)
 some-from_test (x ∷ xs) r e fails = λ is. cc
 
 -- a tuple's fields are the four
-pub tuple_fields : (text provider module' function name : List ℕ) (tuple : ProbeTuple) → SpellsTuple text tuple → provider ∷ module' ∷ function ∷ name ∷ [] ≡ drop (length (fields text)) (replicate 4 [] ++ fields text) → (provider ≡ tuple.provider) × (name ≡ tuple.name)
+pub tuple_fields : (text provider module' function name : List ℕ) (tuple : ProbeTuple) → SpellsTuple text tuple
+    → provider ∷ module' ∷ function ∷ name ∷ [] ≡ drop (length (fields text)) (replicate 4 [] ++ fields text)
+    → (provider ≡ tuple.provider) × (name ≡ tuple.name)
 tuple_fields text provider module' function name tuple s h =
     let whole = four_fields text (provider ∷ module' ∷ function ∷ name ∷ []) (colons_of text _ _ _ _ s.spelled) h in
-    let same : provider ∷ module' ∷ function ∷ name ∷ [] ≡ tuple.provider ∷ tuple.module ∷ tuple.function ∷ tuple.name ∷ [] = sym whole ∙ s.spelled in
+    let same : provider ∷ module' ∷ function ∷ name ∷ []
+    ≡ tuple.provider ∷ tuple.module ∷ tuple.function ∷ tuple.name ∷ [] = sym whole ∙ s.spelled in
     (cc, cc)
 
-pub spells : (text provider module' function name : List ℕ) (tuple : ProbeTuple) → fields text ≡ provider ∷ module' ∷ function ∷ name ∷ []
+pub spells : (text provider module' function name : List ℕ) (tuple : ProbeTuple) → fields text
+    ≡ provider ∷ module' ∷ function ∷ name ∷ []
     → tuple.provider ≡ provider → tuple.module ≡ module' → tuple.function ≡ function → tuple.name ≡ name
-    → IsName provider → IsName module' → IsName function → IsName name → provider ≢ [] → name ≢ [] → SpellsTuple text tuple
+    → IsName provider → IsName module' → IsName function → IsName name → provider ≢ [] → name ≢ []
+    → SpellsTuple text tuple
 spells text provider module' function name tuple h p m f n p-named m-named f-named n-named p-some n-some = record {
-  spelled = h ∙ sym (ap (λ x. x ∷ tuple.module ∷ tuple.function ∷ tuple.name ∷ []) p ∙ ap (λ x. provider ∷ x ∷ tuple.function ∷ tuple.name ∷ []) m ∙ ap (λ x. provider ∷ module' ∷ x ∷ tuple.name ∷ []) f ∙ ap (λ x. provider ∷ module' ∷ function ∷ x ∷ []) n);
+  spelled = h ∙ sym
+      (ap (λ x. x ∷ tuple.module ∷ tuple.function ∷ tuple.name ∷ []) p
+      ∙ ap (λ x. provider ∷ x ∷ tuple.function ∷ tuple.name ∷ []) m
+      ∙ ap (λ x. provider ∷ module' ∷ x ∷ tuple.name ∷ []) f ∙ ap (λ x. provider ∷ module' ∷ function ∷ x ∷ []) n);
   provider_named = rw p p-named;
   module_named = rw m m-named;
   function_named = rw f f-named;

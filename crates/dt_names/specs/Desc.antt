@@ -5,6 +5,7 @@ use Rattle.dt_names.specs.Name.{IsNameByte}
 use Rattle.dt_names.specs.declared.desc.NameFault.{NameFault}
 use Rattle.dt_names.specs.declared.desc.NameFault.TheVariants.{BadByte, TooLong, TooManyFields}
 use Rattle.dt_names.specs.declared.desc.ProbeDesc.{ProbeDesc}
+use Rattle.dt_names.specs.declared.desc.TheConstants.{FIELD_MAX, FIELDS_MAX}
 
 -- the four fields of a description, of which an empty one asks for nothing
 pub record Desc : Type 0 where
@@ -26,15 +27,15 @@ fields text = slice_split is_colon text
 
 -- A field of a description has at most 63 bytes, each of them a name byte.
 pub record IsField (field : List ℕ) : Type 0 where
-  pub short : length field ≤ 63
+  pub short : length field ≤ FIELD_MAX
   pub plain : AllByRecursion IsNameByte field
 
 -- The text is one to four fields, and read from right to left they are those of the description: where there are
 -- fewer than four, the first ones are empty.
 pub record Describes (text : List ℕ) (desc : Desc) : Type 0 where
-  pub few : length (fields text) ≤ 4
+  pub few : length (fields text) ≤ FIELDS_MAX
   pub each : AllByRecursion IsField (fields text)
-  pub aligned : replicate (4 - length (fields text)) [] ++ fields text
+  pub aligned : replicate (FIELDS_MAX - length (fields text)) [] ++ fields text
       ≡ desc.provider ∷ desc.module ∷ desc.function ∷ desc.name ∷ []
 
 -- the bytes from place `from` on and before place `at` are no colons
@@ -43,18 +44,19 @@ NoColonWithin text from at = (k : ℕ) → from ≤ k → k < at → slice_index
 
 -- The byte at a place shows a fault: one that is neither a name byte nor a colon, the 64th byte of a field, the
 -- fourth colon.
-abbrev pub Shows : List ℕ → ℕ → NameFault → Type 0
-Shows text at BadByte = (IsNameByte (slice_index text at) → ⊥) × (slice_index text at ≢ 58)
-Shows text at TooLong = IsNameByte (slice_index text at) × (63 ≤ at) × NoColonWithin text (at - 63) at
-Shows text at TooManyFields = (slice_index text at ≡ 58) × (count_by is_colon (take at text) ≡ 3)
+abbrev pub ShowsFault : List ℕ → ℕ → NameFault → Type 0
+ShowsFault text at BadByte = (IsNameByte (slice_index text at) → ⊥) × (slice_index text at ≢ 58)
+ShowsFault text at TooLong = IsNameByte (slice_index text at) × (FIELD_MAX ≤ at)
+    × NoColonWithin text (at - FIELD_MAX) at
+ShowsFault text at TooManyFields = (slice_index text at ≡ 58) × (count_by is_colon (take at text) ≡ FIELDS_MAX - 1)
 
 -- no byte before this place shows a fault
 abbrev pub NoneShown : List ℕ → ℕ → Type 0
-NoneShown text at = (k : ℕ) (fault : NameFault) → k < at → Shows text k fault → ⊥
+NoneShown text at = (k : ℕ) (fault : NameFault) → k < at → ShowsFault text k fault → ⊥
 
 -- the fault that the first byte from the left shows
 pub record IsFirstFault (text : List ℕ) (fault : NameFault) : Type 0 where
   pub at : ℕ
   pub within : at < length text
-  pub shown : Shows text at fault
+  pub shown : ShowsFault text at fault
   pub none_before : NoneShown text at

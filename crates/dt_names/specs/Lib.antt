@@ -1,3 +1,4 @@
+-- What a name, a probe's text and a probe description are.
 pub mod ShortText
 pub mod Name
 pub mod Desc

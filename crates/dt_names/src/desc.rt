@@ -1,4 +1,5 @@
-ghost use Rattle.std.specs.Prelude.{◌≡◌, ℕ, ◌≤◌, [], ◌∷◌, ◌++◌, length, drop, replicate, List, IfOk, IfErr, IfSome, IfNone};
+//! Probe descriptions: the text of one to four fields, and the first fault of a text that is none.
+ghost use Rattle.std.specs.Prelude.{◌≡◌, ℕ, ◌≤◌, ◌⊎◌, [], ◌∷◌, ◌++◌, length, drop, replicate, List, IfOk, IfErr, IfSome, IfNone};
 ghost use Rattle.std.specs.List.{AllByRecursion};
 ghost use Rattle.dt_names.specs.Desc.{Desc, desc_of, fields, IsField, Describes, IsFirstFault};
 ghost use Rattle.dt_names.specs.declared.desc.NameFault.{NameFault};
@@ -7,10 +8,10 @@ use crate::name::is_name_byte;
 use thiserror::Error;
 
 /// The most bytes of a description's field: more than a name has, since a field may be a pattern.
-const FIELD_MAX: usize = 63;
+pub const FIELD_MAX: usize = 63;
 
 /// The most fields of a description.
-const FIELDS_MAX: usize = 4;
+pub const FIELDS_MAX: usize = 4;
 
 /// Why a text is no description: the fault of the first byte from the left that shows one.
 #[derive(Clone, Copy, Debug, PartialEq, Eq, Error)]
@@ -57,7 +58,7 @@ impl<'a> ProbeDesc<'a> {
     /// The last four fields of a text, as a description has them: the ones that it lacks are empty.
     pub(crate) fn aligned(text: &'a [u8]) -> Self
         ensures { result.provider.now ∷ result.module.now ∷ result.function.now ∷ result.name.now ∷ []
-            ≡ drop (length (fields text.now)) (replicate 4 [] ++ fields text.now) }
+            ≡ drop (length (fields text.now)) (replicate FIELDS_MAX [] ++ fields text.now) }
     {
         let mut desc = ProbeDesc {
             provider: &[],
@@ -80,7 +81,7 @@ impl<'a> ProbeDesc<'a> {
 /// The fault of the first byte from the left that shows one.
 fn first_fault(text: &[u8]) -> Option<NameFault>
     ensures found { IfSome result (IsFirstFault text.now) }
-    ensures few { IfNone result (length (fields text.now) ≤ 4) }
+    ensures few { IfNone result (length (fields text.now) ≤ FIELDS_MAX) }
     ensures each { IfNone result (AllByRecursion IsField (fields text.now)) }
 {
     let mut colons = 0;
@@ -103,8 +104,11 @@ fn first_fault(text: &[u8]) -> Option<NameFault>
     None
 }
 
-/// Law: a text is a description in one way at most, has one first fault at most, and never both.
+/// Law: each text is a description or has a first fault, never both; it is a description in one way at most, and has
+/// one first fault at most.
 pub fn one_answer()
+    ensures some_answer { (text : List ℕ) → ((desc : Desc) × Describes text desc)
+        ⊎ ((fault : NameFault) × IsFirstFault text fault) }
     ensures one_description { (text : List ℕ) (a b : Desc) → Describes text a → Describes text b → a ≡ b }
     ensures one_fault { (text : List ℕ) (a b : NameFault) → IsFirstFault text a → IsFirstFault text b → a ≡ b }
     ensures never_both { (text : List ℕ) (a : Desc) (b : NameFault) → Describes text a → IsFirstFault text b → ⊥ }

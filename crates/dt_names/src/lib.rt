@@ -11,7 +11,7 @@ mod name;
 mod short_text;
 mod tuple;
 
-pub use desc::{NameFault, ProbeDesc, one_answer};
-pub use name::{Name, is_name_byte};
-pub use short_text::{SHORT_TEXT_MAX, ShortText};
+pub use desc::{FIELD_MAX, FIELDS_MAX, NameFault, ProbeDesc, one_answer};
+pub use name::{NAME_MAX, Name, is_name_byte};
+pub use short_text::{PADDED_SIZE, SHORT_TEXT_MAX, ShortText};
 pub use tuple::ProbeTuple;

@@ -1,9 +1,13 @@
+//! Names: what a part of a probe, or an account, is called.
 ghost use Rattle.std.specs.Prelude.{◌≡◌, ◌-◌, ◌↔◌, [], ◌++◌, IsTrue, IsSome, Some, IfSome, length, replicate};
 ghost use Rattle.dt_names.specs.Name.{IsNameByte, IsName};
 
-use crate::short_text::ShortText;
+use crate::short_text::{PADDED_SIZE, SHORT_TEXT_MAX, ShortText};
 use std::marker::Model;
 use std::{fmt, str};
+
+/// The most bytes that a [`Name`] has.
+pub const NAME_MAX: usize = SHORT_TEXT_MAX;
 
 /// Whether a name may have this byte: a visible ASCII character, but none of `:` `,` `/` `{` `}` `"`.
 pub const fn is_name_byte(byte: u8) -> bool
@@ -75,8 +79,8 @@ impl Name {
     }
 
     /// The name as a record shows it: its bytes, and zeros up to 32 bytes in all.
-    pub fn padded(&self) -> &[u8; 32]
-        ensures { result.now ≡ self.now ++ replicate (32 - length self.now) 0 }
+    pub fn padded(&self) -> &[u8; PADDED_SIZE]
+        ensures { result.now ≡ self.now ++ replicate (PADDED_SIZE - length self.now) 0 }
     {
         self.text.padded()
     }

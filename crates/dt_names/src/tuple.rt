@@ -1,3 +1,4 @@
+//! The four names of a probe, and the text that spells them.
 ghost use Rattle.std.specs.Prelude.{◌≡◌, IfSome, IfNone, count_by};
 ghost use Rattle.dt_names.specs.Desc.{is_colon};
 

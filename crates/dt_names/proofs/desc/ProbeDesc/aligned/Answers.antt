@@ -10,6 +10,7 @@ loop-field-preserved c = turn (λ x. x.now) c.loop-field.yielded _ _ _ _ _ c.loo
 
 pub returns : goal.returns
 returns c =
-    let all = YieldsList-end (YieldsList-from_slice_split _ is_colon c.args.text.now (cc) (cc) (cc) (λ x r q k. search (rules, tests)))
+    let all = YieldsList-end
+    (YieldsList-from_slice_split _ is_colon c.args.text.now (cc) (cc) (cc) (λ x r q k. search (rules, tests)))
     c.loop-field.yielded _ c.loop-field.yielded_by _ _ c.in-None.is c.next.ensures.steps in
     finished _ _ _ _ c.loop-field.invariant all.0 all.1
