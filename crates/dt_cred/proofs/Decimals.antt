@@ -22,9 +22,11 @@ pub record Scanned (digits : List ℕ) (i number : ℕ) : Type 0 where
   pub bounded : number < 10 ^ i
   pub each : All IsDigit (take i digits)
 
-pub scanned_more : (digits : List ℕ) (i number : ℕ) → Scanned digits i number → i < length digits → IsDigit (get_or digits i 0) → Scanned digits (i + 1) (10 * number + (get_or digits i 0 - 48))
+pub scanned_more : (digits : List ℕ) (i number : ℕ) → Scanned digits i number → i < length digits
+    → IsDigit (get_or digits i 0) → Scanned digits (i + 1) (10 * number + (get_or digits i 0 - 48))
 scanned_more digits i number s inside digit = record {
-  read = ap (λ n. 10 * n + (get_or digits i 0 - 48)) s.read ∙ sym (fold_more (λ n d. 10 * n + (d - 48)) 0 digits i 0 inside);
+  read = ap (λ n. 10 * n + (get_or digits i 0 - 48)) s.read
+      ∙ sym (fold_more (λ n d. 10 * n + (d - 48)) 0 digits i 0 inside);
   bounded =
       let power : 10 ^ (i + 1) ≡ 10 * 10 ^ i = ap (λ k. 10 ^ k) (add-one i) ∙ pow-succ' 10 i in
       rw power (omega (arith, s.bounded, digit.0, digit.1));

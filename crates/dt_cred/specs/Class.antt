@@ -29,4 +29,5 @@ IsClassOf provider Dtrace = provider ≡ codes "dtrace"
 IsClassOf provider Syscall = provider ≡ codes "syscall"
 IsClassOf provider Profile = provider ≡ codes "profile"
 IsClassOf provider (Pid pid) = NamesProcess provider pid
-IsClassOf provider Other = (provider ≢ codes "dtrace") × (provider ≢ codes "syscall") × (provider ≢ codes "profile") × ((pid : ℕ) → NamesProcess provider pid → ⊥)
+IsClassOf provider Other = (provider ≢ codes "dtrace") × (provider ≢ codes "syscall") × (provider ≢ codes "profile")
+    × ((pid : ℕ) → NamesProcess provider pid → ⊥)

@@ -1,4 +1,6 @@
-ghost use Rattle.std.specs.Prelude.{◌↔◌, ◌⊎◌, IsTrue};
+//! Accounts with their privileges, and processes.
+ghost use Rattle.std.specs.Prelude.{◌↔◌, IsTrue};
+ghost use Rattle.dt_cred.specs.Rights.{HasDtrace};
 
 use dt_names::{Name, ShortText};
 
@@ -18,7 +20,7 @@ pub struct Privs {
 impl Privs {
     /// Whether one of the three dtrace privileges is held, without which an account can open no session.
     pub fn has_dtrace(self) -> bool
-        ensures { IsTrue result ↔ (IsTrue self.dtrace_user ⊎ (IsTrue self.dtrace_proc ⊎ IsTrue self.dtrace_kernel)) }
+        ensures { IsTrue result ↔ HasDtrace self }
     {
         self.dtrace_user || self.dtrace_proc || self.dtrace_kernel
     }

@@ -1,7 +1,11 @@
+//! The class of a probe, by its provider's name.
 ghost use Rattle.std.specs.Prelude.{◌≡◌, ◌≢◌, ◌≤◌, ℕ, length, MatchOption};
 ghost use Rattle.dt_cred.specs.Class.{IsClassOf, IsDecimal, number_of};
 
-use dt_names::Name;
+use dt_names::{NAME_MAX, Name};
+
+/// The most digits of a process number that a provider's name has room for, after `pid`.
+const DIGITS_MAX: usize = NAME_MAX - 3;
 
 /// The class of a probe, which decides what an account needs to enable it and to be shown its firings.
 #[derive(Clone, Copy, Debug, PartialEq, Eq)]
@@ -39,8 +43,9 @@ impl Class {
 
 /// The number that decimal digits without a leading zero write, or `None` for any other text.
 fn decimal(digits: &[u8]) -> Option<u128>
-    requires { length digits.now ≤ 28 }
-    ensures { MatchOption result (IsDecimal digits.now → ⊥) (λ number. IsDecimal digits.now × (number_of digits.now ≡ number)) }
+    requires { length digits.now ≤ DIGITS_MAX }
+    ensures { MatchOption result (IsDecimal digits.now → ⊥)
+        (λ number. IsDecimal digits.now × (number_of digits.now ≡ number)) }
 {
     if digits.is_empty() || (digits[0] == b'0' && digits.len() != 1) {
         return None;

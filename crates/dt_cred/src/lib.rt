@@ -1,7 +1,8 @@
 //! Who may trace what: accounts with their privileges, the classes of probes, and the table that ties them.
 //!
 //! `permits`, `may_enable` and `admits` answer exactly what the table in `specs/Rights.antt` says, and a probe's class
-//! is the one that its provider's name stands for (`specs/Class.antt`). No call takes memory.
+//! is the one that its provider's name stands for (`specs/Class.antt`). The table stands as tests too, by which other
+//! crates' definitions filter lists, and the two always agree (`tests_agree`). No call takes memory.
 #![tactic(auto)]
 
 mod account;
@@ -12,4 +13,4 @@ mod rights;
 pub use account::{Account, Privs, Process};
 pub use class::Class;
 pub use probe::Probe;
-pub use rights::{Mode, admits, may_enable, permits};
+pub use rights::{Mode, admits, may_enable, permits, tests_agree};

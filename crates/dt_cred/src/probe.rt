@@ -1,3 +1,4 @@
+//! Probes of a machine: their numbers, names and classes.
 ghost use Rattle.std.specs.Prelude.{◌≡◌};
 ghost use Rattle.dt_cred.specs.Class.{IsClassOf};
 

@@ -1,11 +1,13 @@
+//! What an account may enable, and which firings it is shown.
 ghost use Rattle.std.specs.Prelude.{◌≡◌, ◌↔◌, IsTrue, Option};
 ghost use Rattle.std.specs.Option.{option_copied};
 ghost use Rattle.dt_cred.specs.Rights as spec;
 ghost use Rattle.dt_cred.specs.declared.account.Account.{Account};
+ghost use Rattle.dt_cred.specs.declared.account.Privs.{Privs};
 ghost use Rattle.dt_cred.specs.declared.account.Process.{Process};
 ghost use Rattle.dt_cred.specs.declared.class.Class.{Class};
 ghost use Rattle.dt_cred.specs.declared.rights.Mode.{Mode};
-ghost use Rattle.dt_cred.specs.Rights.{Permits, MayTrace, MayEnable, Admits};
+ghost use Rattle.dt_cred.specs.Rights.{HasDtrace, Permits, MayTrace, MayEnable, Admits};
 
 use crate::account::{Account, Process};
 use crate::class::Class;
@@ -73,8 +75,15 @@ pub fn admits(account: &Account, probe: &Probe, mode: Mode, process: &Process) -
 
 /// Law: the table and its tests say the same.
 pub fn tests_agree()
-    ensures enables { (account : Account) (class : Class) (process : Option Process) → IsTrue (spec.may_enable account class process) ↔ MayEnable account class process }
-    ensures admits { (account : Account) (class : Class) (mode : Mode) (process : Process) → IsTrue (spec.admits account class mode process) ↔ Admits account class mode process }
+    ensures opens { (privs : Privs) → IsTrue (spec.has_dtrace privs) ↔ HasDtrace privs }
+    ensures permits { (account : Account) (process : Process) → IsTrue (spec.permits account process)
+        ↔ Permits account process }
+    ensures traces { (account : Account) (process : Process) → IsTrue (spec.may_trace account process)
+        ↔ MayTrace account process }
+    ensures enables { (account : Account) (class : Class) (process : Option Process)
+        → IsTrue (spec.may_enable account class process) ↔ MayEnable account class process }
+    ensures admits { (account : Account) (class : Class) (mode : Mode) (process : Process)
+        → IsTrue (spec.admits account class mode process) ↔ Admits account class mode process }
 {}
 
 #[cfg(test)]

@@ -4,74 +4,101 @@ use crate::Privs;
 use dt_names::{Name, ProbeTuple, ShortText};
 use std::test::Fail;
 
-const NONE: Privs = Privs {
-    dtrace_user: false,
-    dtrace_proc: false,
-    dtrace_kernel: false,
-    proc_owner: false,
-};
+/// In each line a probe, the privileges that an account of uid 501 holds (`u` dtrace_user, `p` dtrace_proc, `k`
+/// dtrace_kernel, `o` proc_owner, `-` none), and what follows, `y` or `n`:
+/// - whether it may enable the probe, where process 100 is its own, where it is another user's, and where it isn't there;
+/// - whether it is shown a firing of its own process in user and in kernel mode, and of the other user's in both modes;
+/// - whether it has permission over its own process, and over the other user's;
+/// - whether it holds a dtrace privilege.
+const TABLE: &str = "
+dtrace:::BEGIN - nnn/yyyy/yn/n
+dtrace:::BEGIN o nnn/yyyy/yy/n
+dtrace:::BEGIN u yyy/yyyy/yn/y
+dtrace:::BEGIN p yyy/yyyy/yn/y
+dtrace:::BEGIN k yyy/yyyy/yn/y
+syscall::read:entry u yyy/yynn/yn/y
+syscall::read:entry uo yyy/yyyy/yy/y
+syscall::read:entry p nnn/yynn/yn/y
+syscall::read:entry k yyy/yyyy/yn/y
+profile:::tick u yyy/ynnn/yn/y
+profile:::tick uo yyy/ynyn/yy/y
+profile:::tick po nnn/ynyn/yy/y
+profile:::tick k yyy/yyyy/yn/y
+pid100:a:f:entry p ynn/yyyy/yn/y
+pid100:a:f:entry po yyn/yyyy/yy/y
+pid100:a:f:entry k ynn/yyyy/yn/y
+pid100:a:f:entry uo nnn/yyyy/yy/y
+pid7:a:f:entry po nnn/yyyy/yy/y
+fbt:::entry k yyy/yyyy/yn/y
+fbt:::entry uo nnn/yyyy/yy/y
+";
 
-const USER: Privs = Privs {
-    dtrace_user: true,
-    dtrace_proc: false,
-    dtrace_kernel: false,
-    proc_owner: false,
-};
-
-const PROC: Privs = Privs {
-    dtrace_user: false,
-    dtrace_proc: true,
-    dtrace_kernel: false,
-    proc_owner: false,
-};
-
-const KERNEL: Privs = Privs {
-    dtrace_user: false,
-    dtrace_proc: false,
-    dtrace_kernel: true,
-    proc_owner: false,
-};
-
-const OWNER: Privs = Privs {
-    dtrace_user: false,
-    dtrace_proc: false,
-    dtrace_kernel: false,
-    proc_owner: true,
-};
-
-const USER_OWNER: Privs = Privs {
-    dtrace_user: true,
-    dtrace_proc: false,
-    dtrace_kernel: false,
-    proc_owner: true,
-};
-
-const PROC_OWNER: Privs = Privs {
-    dtrace_user: false,
-    dtrace_proc: true,
-    dtrace_kernel: false,
-    proc_owner: true,
-};
-
-/// An account of uid 501.
-fn account(privs: Privs) -> Result<Account, Fail> {
-    Ok(Account {
-        name: Name::new(b"ann").ok_or("no name")?,
+/// An account of uid 501 with the privileges of these letters.
+fn account(held: &str) -> Option<Account> {
+    let privs = Privs {
+        dtrace_user: held.contains('u'),
+        dtrace_proc: held.contains('p'),
+        dtrace_kernel: held.contains('k'),
+        proc_owner: held.contains('o'),
+    };
+    Some(Account {
+        name: Name::new(b"ann")?,
         uid: 501,
         privs,
     })
 }
 
-fn process(pid: u32, uid: u32) -> Result<Process, Fail> {
-    Ok(Process {
-        pid,
+/// Process 100 of this user.
+fn process(uid: u32) -> Option<Process> {
+    Some(Process {
+        pid: 100,
         uid,
-        execname: ShortText::new(b"sh").ok_or("no text")?,
+        execname: ShortText::new(b"sh")?,
     })
 }
 
-fn probe(text: &[u8]) -> Result<Probe, Fail> {
-    Ok(Probe::new(3, ProbeTuple::parse(text).ok_or("no probe")?))
+fn probe(text: &[u8]) -> Option<Probe> {
+    Some(Probe::new(3, ProbeTuple::parse(text)?))
+}
+
+const fn letter(is_so: bool) -> u8 {
+    if is_so { b'y' } else { b'n' }
+}
+
+/// What the table says of a probe and these privileges.
+fn answers(text: &str, held: &str) -> Option<[u8; 13]> {
+    let probe = probe(text.as_bytes())?;
+    let account = account(held)?;
+    let own = process(501)?;
+    let other = process(0)?;
+    Some([
+        letter(may_enable(&account, &probe, Some(&own))),
+        letter(may_enable(&account, &probe, Some(&other))),
+        letter(may_enable(&account, &probe, None)),
+        b'/',
+        letter(admits(&account, &probe, Mode::User, &own)),
+        letter(admits(&account, &probe, Mode::Kernel, &own)),
+        letter(admits(&account, &probe, Mode::User, &other)),
+        letter(admits(&account, &probe, Mode::Kernel, &other)),
+        b'/',
+        letter(permits(&account, &own)),
+        letter(permits(&account, &other)),
+        b'/',
+        letter(account.privs.has_dtrace()),
+    ])
+}
+
+#[test]
+fn follows_the_table(rt: HostRuntime) -> Result<(), Fail> {
+    for line in TABLE.lines() {
+        let mut words = line.split_whitespace();
+        let (Some(text), Some(held), Some(want)) = (words.next(), words.next(), words.next()) else {
+            continue;
+        };
+        let got = answers(text, held).ok_or("no probe")?;
+        assert_eq!(rt; got.as_slice(), want.as_bytes(), "{line}");
+    }
+    Ok(())
 }
 
 #[test]
@@ -96,83 +123,8 @@ fn classes_follow_the_provider(rt: HostRuntime) -> Result<(), Fail> {
         (b"dtrac:::BEGIN", Class::Other),
     ];
     for (text, class) in rows {
-        assert_eq!(rt; probe(text)?.class, class, "{text:?}");
+        let probe = probe(text).ok_or("no probe")?;
+        assert_eq!(rt; probe.class, class, "{text:?}");
     }
     Ok(())
-}
-
-#[test]
-fn enables_by_the_table(rt: HostRuntime) -> Result<(), Fail> {
-    let own = process(100, 501)?;
-    let other = process(100, 0)?;
-    // for each provider: the privileges, and whether they enable it where the process is the account's, another
-    // user's, and not there
-    let rows: [(&[u8], Privs, [bool; 3]); 17] = [
-        (b"dtrace:::BEGIN", NONE, [false; 3]),
-        (b"dtrace:::BEGIN", OWNER, [false; 3]),
-        (b"dtrace:::BEGIN", USER, [true; 3]),
-        (b"dtrace:::BEGIN", PROC, [true; 3]),
-        (b"dtrace:::BEGIN", KERNEL, [true; 3]),
-        (b"syscall::read:entry", USER, [true; 3]),
-        (b"syscall::read:entry", PROC, [false; 3]),
-        (b"syscall::read:entry", KERNEL, [true; 3]),
-        (b"profile:::tick", USER, [true; 3]),
-        (b"profile:::tick", PROC_OWNER, [false; 3]),
-        (b"pid100:a:f:entry", PROC, [true, false, false]),
-        (b"pid100:a:f:entry", PROC_OWNER, [true, true, false]),
-        (b"pid100:a:f:entry", KERNEL, [true, false, false]),
-        (b"pid100:a:f:entry", USER_OWNER, [false; 3]),
-        (b"pid7:a:f:entry", PROC_OWNER, [false; 3]),
-        (b"fbt:::entry", KERNEL, [true; 3]),
-        (b"fbt:::entry", USER_OWNER, [false; 3]),
-    ];
-    for (text, privs, want) in rows {
-        let account = account(privs)?;
-        let probe = probe(text)?;
-        let got = [
-            may_enable(&account, &probe, Some(&own)),
-            may_enable(&account, &probe, Some(&other)),
-            may_enable(&account, &probe, None),
-        ];
-        assert_eq!(rt; got, want, "{text:?} with {privs:?}");
-    }
-    Ok(())
-}
-
-#[test]
-fn admits_by_the_table(rt: HostRuntime) -> Result<(), Fail> {
-    let own = process(100, 501)?;
-    let other = process(200, 0)?;
-    // for each provider: own process in user and in kernel mode, another user's in user and in kernel mode
-    let rows: [(&[u8], Privs, [bool; 4]); 8] = [
-        (b"syscall::read:entry", USER, [true, true, false, false]),
-        (b"syscall::read:entry", USER_OWNER, [true; 4]),
-        (b"syscall::read:entry", KERNEL, [true; 4]),
-        (b"profile:::tick", USER, [true, false, false, false]),
-        (b"profile:::tick", USER_OWNER, [true, false, true, false]),
-        (b"profile:::tick", KERNEL, [true; 4]),
-        (b"pid100:a:f:entry", PROC, [true; 4]),
-        (b"fbt:::entry", KERNEL, [true; 4]),
-    ];
-    for (text, privs, want) in rows {
-        let account = account(privs)?;
-        let probe = probe(text)?;
-        let got = [
-            admits(&account, &probe, Mode::User, &own),
-            admits(&account, &probe, Mode::Kernel, &own),
-            admits(&account, &probe, Mode::User, &other),
-            admits(&account, &probe, Mode::Kernel, &other),
-        ];
-        assert_eq!(rt; got, want, "{text:?} with {privs:?}");
-    }
-    assert!(rt; permits(&account(NONE)?, &own));
-    assert!(rt; !permits(&account(KERNEL)?, &other));
-    assert!(rt; permits(&account(OWNER)?, &other));
-    Ok(())
-}
-
-#[test]
-fn opens_for_the_dtrace_privileges(rt: HostRuntime) {
-    let got = [NONE, USER, PROC, KERNEL, OWNER].map(Privs::has_dtrace);
-    assert_eq!(rt; got, [false, true, true, true, false]);
 }

@@ -1,3 +1,4 @@
+-- What the scan of a number knows at each digit.
 use Rattle.dt_cred.proofs.Decimals.{Scanned}
 use Rattle.dt_cred.proofs.class.decimal.Given as goal
 
