@@ -1,3 +1,4 @@
+-- The lemmas of this crate's proofs.
 pub mod SignLemmas
 pub mod ReadingLemmas
 pub mod MatchLemmas

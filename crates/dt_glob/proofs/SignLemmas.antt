@@ -3,13 +3,13 @@ use Rattle.std.proofs.Common.{◌≡◌, ◌≢◌, ℕ, ◌⊎◌, inl, inr, Bo
 use Rattle.std.proofs.lemmas.Bool.{false≢true}
 use Rattle.dt_glob.specs.declared.sign.Sign.{Sign}
 use Rattle.dt_glob.specs.declared.sign.Sign.TheVariants.{Plain, Escaped}
-use Rattle.dt_glob.specs.Sign.{sign_text, text_of, IsSign, AreSigns, closing, bang}
+use Rattle.dt_glob.specs.Sign.{sign_text, text_of_signs, IsSign, AreSigns, closing, bang}
 use Rattle.dt_glob.specs.Spells.{Lacks, mark}
 use Rattle.dt_glob.specs.Reading.{is_plain}
 
-pub text_of-append : (a b : List Sign) → text_of (a ++ b) ≡ text_of a ++ text_of b
-text_of-append [] b = refl
-text_of-append (sign ∷ a) b = rw (text_of-append a b) (sym (append_assoc (sign_text sign) (text_of a) (text_of b)))
+pub text_of_signs-append : (a b : List Sign) → text_of_signs (a ++ b) ≡ text_of_signs a ++ text_of_signs b
+text_of_signs-append [] b = refl
+text_of_signs-append (sign ∷ a) b = rw (text_of_signs-append a b) (sym (append_assoc (sign_text sign) (text_of_signs a) (text_of_signs b)))
 
 pub AreSigns-append : (a b : List Sign) → AreSigns a → AreSigns b → AreSigns (a ++ b)
 AreSigns-append [] b p q = q
@@ -24,13 +24,15 @@ AreSigns-back [] b p = p
 AreSigns-back (sign ∷ a) b p = AreSigns-back a b p.1
 
 -- a text begins with one sign at most
-pub same_sign : (a b : Sign) (r s : List ℕ) → IsSign a → IsSign b → sign_text a ++ r ≡ sign_text b ++ s → (a ≡ b) × (r ≡ s)
+pub same_sign : (a b : Sign) (r s : List ℕ) → IsSign a → IsSign b → sign_text a ++ r ≡ sign_text b ++ s → (a ≡ b)
+    × (r ≡ s)
 same_sign (Plain x) (Plain y) r s p q e = (cc, cc)
 same_sign (Plain x) (Escaped y) r s p q e = let k : x ≡ 92 = cc in absurd (p k)
 same_sign (Escaped x) (Plain y) r s p q e = let k : y ≡ 92 = cc in absurd (q k)
 same_sign (Escaped x) (Escaped y) r s p q e = (cc, cc)
 
-pub plain_cases : (own : ℕ) (sign : Sign) → ((is_plain own sign ≡ true) × (sign ≡ Plain own)) ⊎ ((is_plain own sign ≡ false) × (sign ≢ Plain own))
+pub plain_cases : (own : ℕ) (sign : Sign) → ((is_plain own sign ≡ true) × (sign ≡ Plain own))
+    ⊎ ((is_plain own sign ≡ false) × (sign ≢ Plain own))
 plain_cases own (Plain byte) = grind arith
 plain_cases own (Escaped byte) = inr (refl, λ e. cc)
 

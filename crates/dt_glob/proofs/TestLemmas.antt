@@ -5,7 +5,7 @@ use Rattle.std.proofs.lemmas.Bool.{false≢true, leb-true, le-leb}
 use Rattle.std.proofs.lemmas.Bool.Decides.{Decides-eqb, Decides-and, Decides-or, Decides-not, Decides-like}
 use Rattle.dt_glob.specs.declared.element.Element.{Element}
 use Rattle.dt_glob.specs.declared.element.Element.TheVariants.{Single, Range}
-use Rattle.dt_glob.specs.Item.{Item, Star, AnyByte, Literal, OneOf, Holds, HoldsAny, Takes}
+use Rattle.dt_glob.specs.PatternItem.{PatternItem, Star, AnyByte, Literal, OneOf, Holds, HoldsAny, Takes}
 use Rattle.dt_glob.specs.Matches.{Matches}
 use Rattle.dt_glob.specs.Test.{holds, holds_any, takes, is_match}
 use Rattle.dt_glob.proofs.MatchLemmas.{Matches-take, Matches-taken, Matches-star_none, Matches-star_more, Matches-star_cases, Matches-star_empty}
@@ -18,14 +18,16 @@ Decides-nat_le a b = (leb-true a b, le-leb a b)
 
 Decides-holds : (element : Element) (byte : ℕ) → Decides (holds element byte) (Holds element byte)
 Decides-holds (Single own) byte = Decides-eqb byte own
-Decides-holds (Range first last) byte = Decides-and (nat_le first byte) (nat_le byte last) (Decides-nat_le first byte) (Decides-nat_le byte last)
+Decides-holds (Range first last) byte =
+    Decides-and (nat_le first byte) (nat_le byte last) (Decides-nat_le first byte) (Decides-nat_le byte last)
 
 Decides-holds_any : (elements : List Element) (byte : ℕ) → Decides (holds_any elements byte) (HoldsAny elements byte)
 Decides-holds_any [] byte = Decides-never (λ h. h)
 Decides-holds_any (element ∷ elements) byte =
-    Decides-or (holds element byte) (holds_any elements byte) (Decides-holds element byte) (Decides-holds_any elements byte)
+    Decides-or (holds element byte) (holds_any elements byte) (Decides-holds element byte)
+    (Decides-holds_any elements byte)
 
-Decides-takes : (item : Item) (byte : ℕ) → Decides (takes item byte) (Takes item byte)
+Decides-takes : (item : PatternItem) (byte : ℕ) → Decides (takes item byte) (Takes item byte)
 Decides-takes Star byte = Decides-never (λ h. h)
 Decides-takes AnyByte byte = (λ e. tt, λ t. refl)
 Decides-takes (Literal own) byte = Decides-eqb byte own
@@ -33,10 +35,13 @@ Decides-takes (OneOf true elements) byte = Decides-not (holds_any elements byte)
 Decides-takes (OneOf false elements) byte = Decides-holds_any elements byte
 
 -- an item that is no star takes the byte in front, if there is one
-Decides-at_end : (item : Item) (items : List Item) → item ≢ Star → Decides false (Matches (item ∷ items) [])
-Decides-at_end item items n = Decides-never (λ m. let first = Matches-taken item items [] n m in let none = first.text_is in cc)
+Decides-at_end : (item : PatternItem) (items : List PatternItem) → item ≢ Star
+    → Decides false (Matches (item ∷ items) [])
+Decides-at_end item items n =
+    Decides-never (λ m. let first = Matches-taken item items [] n m in let none = first.text_is in cc)
 
-Decides-first : (item : Item) (items : List Item) (byte : ℕ) (rest : List ℕ) → item ≢ Star → Decides (is_match items rest) (Matches items rest)
+Decides-first : (item : PatternItem) (items : List PatternItem) (byte : ℕ) (rest : List ℕ) → item ≢ Star
+    → Decides (is_match items rest) (Matches items rest)
     → Decides (takes item byte && is_match items rest) (Matches (item ∷ items) (byte ∷ rest))
 Decides-first item items byte rest n d =
     Decides-like (takes item byte && is_match items rest)
@@ -47,7 +52,7 @@ Decides-first item items byte rest n d =
     (rw bytes first.takes, rw rests first.matches))
     (Decides-and (takes item byte) (is_match items rest) (Decides-takes item byte) d)
 
-pub Decides-is_match : (items : List Item) (text : List ℕ) → Decides (is_match items text) (Matches items text)
+pub Decides-is_match : (items : List PatternItem) (text : List ℕ) → Decides (is_match items text) (Matches items text)
 Decides-is_match [] [] = (λ e. refl, λ m. refl)
 Decides-is_match [] (byte ∷ rest) = Decides-never (λ m. cc)
 Decides-is_match (Star ∷ items) [] =
@@ -56,6 +61,8 @@ Decides-is_match (Star ∷ items) (byte ∷ rest) =
     Decides-like (is_match items (byte ∷ rest) || is_match (Star ∷ items) rest)
     (λ s. elim s [ inl m ↦ Matches-star_none items (byte ∷ rest) m | inr m ↦ Matches-star_more items byte rest m ])
     (Matches-star_cases items byte rest)
-    (Decides-or (is_match items (byte ∷ rest)) (is_match (Star ∷ items) rest) (Decides-is_match items (byte ∷ rest)) (Decides-is_match (Star ∷ items) rest))
+    (Decides-or (is_match items (byte ∷ rest)) (is_match (Star ∷ items) rest) (Decides-is_match items (byte ∷ rest))
+    (Decides-is_match (Star ∷ items) rest))
 Decides-is_match (item ∷ items) [] = Decides-at_end item items (λ e. cc)
-Decides-is_match (item ∷ items) (byte ∷ rest) = Decides-first item items byte rest (λ e. cc) (Decides-is_match items rest)
+Decides-is_match (item ∷ items) (byte ∷ rest) =
+    Decides-first item items byte rest (λ e. cc) (Decides-is_match items rest)

@@ -3,13 +3,13 @@ use Rattle.std.specs.Prelude.{◌≡◌, ℕ, ◌⊎◌, Bool, List, [], ◌∷�
 use Rattle.dt_glob.specs.declared.sign.Sign.{Sign}
 use Rattle.dt_glob.specs.declared.fault.GlobFault.{GlobFault}
 use Rattle.dt_glob.specs.declared.fault.GlobFault.TheVariants.{Unclosed, EmptySet, LoneEscape}
-use Rattle.dt_glob.specs.Sign.{escape, text_of, AreSigns, opening, closing}
-use Rattle.dt_glob.specs.Item.{Item}
+use Rattle.dt_glob.specs.Sign.{escape, text_of_signs, AreSigns, opening, closing}
+use Rattle.dt_glob.specs.PatternItem.{PatternItem}
 use Rattle.dt_glob.specs.Spells.{Lacks, mark, SpellsItems}
 
 -- whole items
 abbrev pub AreItems : List Sign → Type 0
-AreItems signs = (items : List Item) × SpellsItems signs items
+AreItems signs = (items : List PatternItem) × SpellsItems signs items
 
 -- whole items, and a set that no `]` has ended
 pub record EndsInSet (signs : List Sign) : Type 0 where
@@ -21,10 +21,10 @@ pub record EndsInSet (signs : List Sign) : Type 0 where
 
 abbrev pub FaultOf : List ℕ → GlobFault → Type 0
 -- the text ends in a set
-FaultOf text Unclosed = (signs : List Sign) × (text ≡ text_of signs) × AreSigns signs × EndsInSet signs
+FaultOf text Unclosed = (signs : List Sign) × (text ≡ text_of_signs signs) × AreSigns signs × EndsInSet signs
 -- a set ends before it has an element, whatever follows
 FaultOf text EmptySet = (front : List Sign) × (negated : Bool) × (rest : List ℕ)
-    × (text ≡ text_of (front ++ opening ∷ (mark negated ++ closing ∷ [])) ++ rest) × AreSigns front × AreItems front
+    × (text ≡ text_of_signs (front ++ opening ∷ (mark negated ++ closing ∷ [])) ++ rest) × AreSigns front × AreItems front
 -- the text ends in a `\` with nothing behind it, in a set or behind whole items
-FaultOf text LoneEscape = (signs : List Sign) × (text ≡ text_of signs ++ escape ∷ []) × AreSigns signs
+FaultOf text LoneEscape = (signs : List Sign) × (text ≡ text_of_signs signs ++ escape ∷ []) × AreSigns signs
     × (AreItems signs ⊎ EndsInSet signs)

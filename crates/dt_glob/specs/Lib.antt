@@ -1,5 +1,6 @@
+-- Patterns: what texts spell, what they match, and their faults.
 pub mod Sign
-pub mod Item
+pub mod PatternItem
 pub mod Matches
 pub mod Test
 pub mod Spells

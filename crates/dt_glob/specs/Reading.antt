@@ -8,7 +8,7 @@ use Rattle.dt_glob.specs.declared.element.Element.TheVariants.{Single, Range}
 use Rattle.dt_glob.specs.declared.fault.GlobFault.{GlobFault}
 use Rattle.dt_glob.specs.declared.fault.GlobFault.TheVariants.{Unclosed, EmptySet, LoneEscape}
 use Rattle.dt_glob.specs.Sign.{byte_of}
-use Rattle.dt_glob.specs.Item.{Item, Star, AnyByte, Literal, OneOf}
+use Rattle.dt_glob.specs.PatternItem.{PatternItem, Star, AnyByte, Literal, OneOf}
 
 abbrev pub is_plain : ℕ → Sign → Bool
 is_plain own (Plain byte) = byte == own
@@ -24,8 +24,10 @@ behind sign read = record read { signs = sign ∷ read.signs }
 
 unfoldable pub signs_of : List ℕ → Signs
 signs_of [] = record { signs = []; lone = false }
-signs_of (byte ∷ []) = if byte == 92 then record { signs = []; lone = true } else record { signs = Plain byte ∷ []; lone = false }
-signs_of (byte ∷ next ∷ text) = if byte == 92 then behind (Escaped next) (signs_of text) else behind (Plain byte) (signs_of (next ∷ text))
+signs_of (byte ∷ []) =
+    if byte == 92 then record { signs = []; lone = true } else record { signs = Plain byte ∷ []; lone = false }
+signs_of (byte ∷ next ∷ text) =
+    if byte == 92 then behind (Escaped next) (signs_of text) else behind (Plain byte) (signs_of (next ∷ text))
 
 unfoldable pub elements_of : List Sign → List Element
 elements_of [] = []
@@ -37,37 +39,39 @@ elements_of (sign ∷ next ∷ last ∷ signs) =
     else Single (byte_of sign) ∷ elements_of (next ∷ last ∷ signs))
 
 -- an item that is no set
-abbrev pub item_of : Sign → Item
+abbrev pub item_of : Sign → PatternItem
 item_of (Plain byte) = if byte == 42 then Star else (if byte == 63 then AnyByte else Literal byte)
 item_of (Escaped byte) = Literal byte
 
-abbrev pub also : Item → Result (List Item) GlobFault → Result (List Item) GlobFault
+abbrev pub also : PatternItem → Result (List PatternItem) GlobFault → Result (List PatternItem) GlobFault
 also item (Ok items) = Ok (item ∷ items)
 also item (Err fault) = Err fault
 
 -- a set of this inside, and then the rest
-abbrev pub set_and : List Sign → Result (List Item) GlobFault → Result (List Item) GlobFault
+abbrev pub set_and : List Sign → Result (List PatternItem) GlobFault → Result (List PatternItem) GlobFault
 set_and [] rest = Err EmptySet
 set_and (sign ∷ []) rest = if is_plain 33 sign then Err EmptySet else also (OneOf false (elements_of (sign ∷ []))) rest
 set_and (sign ∷ next ∷ signs) rest =
-    if is_plain 33 sign then also (OneOf true (elements_of (next ∷ signs))) rest else also (OneOf false (elements_of (sign ∷ next ∷ signs))) rest
+    if is_plain 33 sign then also (OneOf true (elements_of (next ∷ signs))) rest
+    else also (OneOf false (elements_of (sign ∷ next ∷ signs))) rest
 
 -- `inside` is what has come of an open set
-unfoldable pub items_from : Bool → Option (List Sign) → List Sign → Result (List Item) GlobFault
+unfoldable pub items_from : Bool → Option (List Sign) → List Sign → Result (List PatternItem) GlobFault
 items_from lone None [] = if lone then Err LoneEscape else Ok []
 items_from lone (Some inside) [] = if lone then Err LoneEscape else Err Unclosed
 items_from lone None (sign ∷ signs) =
     if is_plain 91 sign then items_from lone (Some []) signs else also (item_of sign) (items_from lone None signs)
 items_from lone (Some inside) (sign ∷ signs) =
-    if is_plain 93 sign then set_and inside (items_from lone None signs) else items_from lone (Some (inside ++ sign ∷ [])) signs
+    if is_plain 93 sign then set_and inside (items_from lone None signs)
+    else items_from lone (Some (inside ++ sign ∷ [])) signs
 
 -- the items of a text, or its first fault
-unfoldable pub reading_of : List ℕ → Result (List Item) GlobFault
+unfoldable pub reading_of : List ℕ → Result (List PatternItem) GlobFault
 reading_of text = let read = signs_of text in items_from read.lone None read.signs
 
-abbrev pub items_or_none : Result (List Item) GlobFault → List Item
+abbrev pub items_or_none : Result (List PatternItem) GlobFault → List PatternItem
 items_or_none (Ok items) = items
 items_or_none (Err fault) = []
 
-unfoldable pub items_of : List ℕ → List Item
-items_of text = items_or_none (reading_of text)
+unfoldable pub items_of_text : List ℕ → List PatternItem
+items_of_text text = items_or_none (reading_of text)

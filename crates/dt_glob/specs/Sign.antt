@@ -18,9 +18,9 @@ sign_text (Plain byte) = byte ∷ []
 sign_text (Escaped byte) = escape ∷ byte ∷ []
 
 -- how signs are written, one after another
-abbrev pub text_of : List Sign → List ℕ
-text_of [] = []
-text_of (sign ∷ signs) = sign_text sign ++ text_of signs
+abbrev pub text_of_signs : List Sign → List ℕ
+text_of_signs [] = []
+text_of_signs (sign ∷ signs) = sign_text sign ++ text_of_signs signs
 
 -- no `\` is plain
 abbrev pub IsSign : Sign → Type 0

@@ -4,8 +4,8 @@ use Rattle.dt_glob.specs.declared.sign.Sign.{Sign}
 use Rattle.dt_glob.specs.declared.sign.Sign.TheVariants.{Plain, Escaped}
 use Rattle.dt_glob.specs.declared.element.Element.{Element}
 use Rattle.dt_glob.specs.declared.element.Element.TheVariants.{Single, Range}
-use Rattle.dt_glob.specs.Sign.{byte_of, text_of, AreSigns, star, question, opening, closing, bang, dash}
-use Rattle.dt_glob.specs.Item.{Item, Star, AnyByte, Literal, OneOf}
+use Rattle.dt_glob.specs.Sign.{byte_of, text_of_signs, AreSigns, star, question, opening, closing, bang, dash}
+use Rattle.dt_glob.specs.PatternItem.{PatternItem, Star, AnyByte, Literal, OneOf}
 
 -- a plain `-` with a sign behind it
 abbrev pub BeginsRangeEnd : List Sign → Type 0
@@ -47,7 +47,7 @@ pub record SpellsSet (signs : List Sign) (negated : Bool) (elements : List Eleme
   pub spells : SpellsElements inside elements
 
 -- signs that spell one item
-abbrev pub SpellsItem : List Sign → Item → Type 0
+abbrev pub SpellsItem : List Sign → PatternItem → Type 0
 SpellsItem signs Star = signs ≡ star ∷ []
 SpellsItem signs AnyByte = signs ≡ question ∷ []
 SpellsItem signs (Literal byte) = (signs ≡ Escaped byte ∷ [])
@@ -56,14 +56,14 @@ SpellsItem signs (OneOf negated elements) = (inner : List Sign) × (signs ≡ op
     × SpellsSet inner negated elements
 
 -- the signs can be cut into pieces that spell the items in order
-abbrev pub SpellsItems : List Sign → List Item → Type 0
+abbrev pub SpellsItems : List Sign → List PatternItem → Type 0
 SpellsItems signs [] = signs ≡ []
 SpellsItems signs (item ∷ items) = (front : List Sign) × (rest : List Sign) × (signs ≡ front ++ rest)
     × SpellsItem front item × SpellsItems rest items
 
 -- the text is a pattern of these items
-pub record Spells (text : List ℕ) (items : List Item) : Type 0 where
+pub record Spells (text : List ℕ) (items : List PatternItem) : Type 0 where
   pub signs : List Sign
-  pub written : text ≡ text_of signs
+  pub written : text ≡ text_of_signs signs
   pub are_signs : AreSigns signs
   pub spells : SpellsItems signs items

@@ -2,7 +2,7 @@
 use Rattle.std.specs.Prelude.{ℕ, ◌==◌, ◌&&◌, ◌||◌, not, nat_le, Bool, true, false, List, [], ◌∷◌}
 use Rattle.dt_glob.specs.declared.element.Element.{Element}
 use Rattle.dt_glob.specs.declared.element.Element.TheVariants.{Single, Range}
-use Rattle.dt_glob.specs.Item.{Item, Star, AnyByte, Literal, OneOf}
+use Rattle.dt_glob.specs.PatternItem.{PatternItem, Star, AnyByte, Literal, OneOf}
 
 -- the element of a set holds the byte
 abbrev pub holds : Element → ℕ → Bool
@@ -15,7 +15,7 @@ holds_any [] byte = false
 holds_any (element ∷ elements) byte = holds element byte || holds_any elements byte
 
 -- the item takes this one byte: a star takes texts instead
-abbrev pub takes : Item → ℕ → Bool
+abbrev pub takes : PatternItem → ℕ → Bool
 takes Star byte = false
 takes AnyByte byte = true
 takes (Literal own) byte = byte == own
@@ -23,7 +23,7 @@ takes (OneOf true elements) byte = not (holds_any elements byte)
 takes (OneOf false elements) byte = holds_any elements byte
 
 -- The items match the text. A star takes no byte, or one and then stays.
-abbrev pub is_match : List Item → List ℕ → Bool
+abbrev pub is_match : List PatternItem → List ℕ → Bool
 is_match [] [] = true
 is_match [] (byte ∷ rest) = false
 is_match (Star ∷ items) [] = is_match items []

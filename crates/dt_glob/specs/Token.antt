@@ -4,14 +4,14 @@ use Rattle.dt_glob.specs.declared.sign.Sign.{Sign}
 use Rattle.dt_glob.specs.declared.element.Element.{Element}
 use Rattle.dt_glob.specs.declared.token.Token.{Token}
 use Rattle.dt_glob.specs.declared.token.Token.TheVariants as token
-use Rattle.dt_glob.specs.Sign.{text_of, AreSigns, closing}
-use Rattle.dt_glob.specs.Item.{Item, Star, AnyByte, Literal, OneOf}
+use Rattle.dt_glob.specs.Sign.{text_of_signs, AreSigns, closing}
+use Rattle.dt_glob.specs.PatternItem.{PatternItem, Star, AnyByte, Literal, OneOf}
 use Rattle.dt_glob.specs.Spells.{Lacks, SpellsElements, SpellsSet, Spells}
 
 -- the text is signs that spell these elements
 pub record ShowsElements (text : List ℕ) (elements : List Element) : Type 0 where
   pub signs : List Sign
-  pub written : text ≡ text_of signs
+  pub written : text ≡ text_of_signs signs
   pub are_signs : AreSigns signs
   pub spells : SpellsElements signs elements
 
@@ -22,16 +22,17 @@ pub record ReadsElement (element : Element) (elements : List Element) (rest : Li
   pub shows : ShowsElements rest tail
 
 -- the token is this item
-abbrev pub IsToken : Token → Item → Type 0
+abbrev pub IsToken : Token → PatternItem → Type 0
 IsToken token.Star item = item ≡ Star
 IsToken token.AnyByte item = item ≡ AnyByte
 IsToken (token.Literal byte) item = item ≡ Literal byte
-IsToken (token.OneOf negated text) item = (elements : List Element) × (item ≡ OneOf negated elements) × ShowsElements text.now elements
+IsToken (token.OneOf negated text) item = (elements : List Element) × (item ≡ OneOf negated elements)
+    × ShowsElements text.now elements
 
 -- the items are the token's, and those that the text behind it spells
-pub record ReadsToken (token : Token) (items : List Item) (rest : List ℕ) : Type 0 where
-  pub item : Item
-  pub tail : List Item
+pub record ReadsToken (token : Token) (items : List PatternItem) (rest : List ℕ) : Type 0 where
+  pub item : PatternItem
+  pub tail : List PatternItem
   pub items_are : items ≡ item ∷ tail
   pub is_token : IsToken token item
   pub spells : Spells rest tail
@@ -39,7 +40,7 @@ pub record ReadsToken (token : Token) (items : List Item) (rest : List ℕ) : Ty
 -- the text is an inside of a set, a plain `]`, the first one, and what stands behind that
 pub record ClosesAt (text inside rest : List ℕ) : Type 0 where
   pub signs : List Sign
-  pub inside_is : inside ≡ text_of signs
+  pub inside_is : inside ≡ text_of_signs signs
   pub are_signs : AreSigns signs
   pub unended : Lacks closing signs
   pub cut : text ≡ inside ++ 93 ∷ rest
@@ -47,6 +48,6 @@ pub record ClosesAt (text inside rest : List ℕ) : Type 0 where
 -- the text, behind a `[`, begins with the rest of this set
 pub record BeginsSet (text : List ℕ) (negated : Bool) (elements : List Element) (behind : List ℕ) : Type 0 where
   pub inner : List Sign
-  pub written : text ≡ text_of inner ++ 93 ∷ behind
+  pub written : text ≡ text_of_signs inner ++ 93 ∷ behind
   pub are_signs : AreSigns inner
   pub spells : SpellsSet inner negated elements

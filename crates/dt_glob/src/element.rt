@@ -2,7 +2,7 @@
 
 ghost use Rattle.std.specs.Prelude.{◌≡◌, ◌<◌, ◌↔◌, List, [], length, IsTrue, IfSome, IfNone};
 ghost use Rattle.dt_glob.specs.declared.element.Element.{Element};
-ghost use Rattle.dt_glob.specs.Item.{Holds, HoldsAny};
+ghost use Rattle.dt_glob.specs.PatternItem.{Holds, HoldsAny};
 ghost use Rattle.dt_glob.specs.Token.{ShowsElements, ReadsElement};
 
 use crate::sign::{Sign, strip_byte};

@@ -5,7 +5,7 @@
 //! match in order (`Pattern::matches`), and telling so takes polynomial time.
 //! The relation of pattern and text has a test beside it, by which definitions of other crates can filter lists, and
 //! the two always agree (`tests_agree`).
-//! Where the definitions stand: `specs/Sign.antt` for the bytes of a pattern's text, `specs/Item.antt` for items,
+//! Where the definitions stand: `specs/Sign.antt` for the bytes of a pattern's text, `specs/PatternItem.antt` for items,
 //! `specs/Spells.antt` for what a text spells, `specs/Fault.antt` for its first fault, `specs/Matches.antt`, and
 //! `specs/Test.antt` for the test.
 #![tactic(auto)]
@@ -19,7 +19,7 @@ mod sign;
 mod token;
 
 pub use fault::GlobFault;
-pub use pattern::{Pattern, one_answer, tests_agree};
+pub use pattern::{PATTERN_MAX, Pattern, one_answer, tests_agree};
 
 #[cfg(test)]
 mod tests;

@@ -2,7 +2,7 @@
 
 ghost use Rattle.std.specs.Prelude.{◌≡◌, ℕ, ◌≤◌, ◌↔◌, ◌⊎◌, List, [], length, IsTrue, IfOk, IfErr, OnOk};
 ghost use Rattle.dt_glob.specs.declared.fault.GlobFault.{GlobFault};
-ghost use Rattle.dt_glob.specs.Item.{Item};
+ghost use Rattle.dt_glob.specs.PatternItem.{PatternItem};
 ghost use Rattle.dt_glob.specs.Matches.{Matches};
 ghost use Rattle.dt_glob.specs.Test.{is_match};
 ghost use Rattle.dt_glob.specs.Spells.{Spells};
@@ -16,7 +16,7 @@ use arrayvec::ArrayVec;
 use std::marker::Model;
 
 /// The most bytes that a pattern's text may have.
-const PATTERN_MAX: usize = 63;
+pub const PATTERN_MAX: usize = 63;
 
 /// A pattern: a list of items, which matches the texts that can be cut into pieces that its items match in order.
 ///
@@ -39,15 +39,15 @@ pub struct Pattern {
 
 impl Model for Pattern {
     ghost use Rattle.std.specs.Prelude.{List};
-    ghost use Rattle.dt_glob.specs.Item.{Item};
+    ghost use Rattle.dt_glob.specs.PatternItem.{PatternItem};
     ghost use Rattle.dt_glob.specs.Spells.{Spells};
-    ghost use Rattle.dt_glob.specs.Reading.{items_of};
+    ghost use Rattle.dt_glob.specs.Reading.{items_of_text};
 
-    ghost Value = { List Item };
+    ghost Value = { List PatternItem };
 
-    ghost view = { λ p. items_of p.text.items };
+    ghost view = { λ p. items_of_text p.text.items };
 
-    ghost invariant = { λ p. Spells p.text.items (items_of p.text.items) };
+    ghost invariant = { λ p. Spells p.text.items (items_of_text p.text.items) };
 }
 
 impl Pattern {
@@ -55,7 +55,7 @@ impl Pattern {
     /// one fault, the first from the left: `EmptySet` at the `]` of a set without an element, `Unclosed` at the end of
     /// a text whose last set has no `]`, and `LoneEscape` at a `\` that ends the text.
     pub fn parse(text: &[u8]) -> Result<Pattern, GlobFault>
-        requires { length text.now ≤ 63 }
+        requires { length text.now ≤ PATTERN_MAX }
         ensures found { IfOk result (λ pattern. Spells text.now pattern) }
         ensures fault { IfErr result (FaultOf text.now) }
     {
@@ -93,7 +93,7 @@ impl Pattern {
 
 /// Whether a text is a pattern, and if not its first fault.
 fn check(text: &[u8]) -> Result<(), GlobFault>
-    ensures found { OnOk result ((items : List Item) × Spells text.now items) }
+    ensures found { OnOk result ((items : List PatternItem) × Spells text.now items) }
     ensures fault { IfErr result (FaultOf text.now) }
 {
     let mut place = Place::Outside;
@@ -114,8 +114,8 @@ fn check(text: &[u8]) -> Result<(), GlobFault>
 /// Whether a pattern's text matches a text. A star takes as little as the items up to the next star allow: each of
 /// those takes one byte, so where they fit later, they fit here and leave more to what follows.
 fn matches_text(pattern: &[u8], text: &[u8]) -> bool
-    requires { (items : List Item) × Spells pattern.now items }
-    ensures { (items : List Item) → Spells pattern.now items →
+    requires { (items : List PatternItem) × Spells pattern.now items }
+    ensures { (items : List PatternItem) → Spells pattern.now items →
         (IsTrue result ↔ Matches items text.now) }
 {
     let mut unread = pattern;
@@ -142,17 +142,17 @@ fn matches_text(pattern: &[u8], text: &[u8]) -> bool
     }
 }
 
-/// Each text is a pattern of one list of items or has one fault, and never both.
+/// Law: each text is a pattern of one list of items or has one fault, and never both.
 pub fn one_answer()
     ensures some { (text : List ℕ) →
-        ((items : List Item) × Spells text items) ⊎ ((fault : GlobFault) × FaultOf text fault) }
-    ensures one_pattern { (text : List ℕ) (a b : List Item) → Spells text a → Spells text b → a ≡ b }
+        ((items : List PatternItem) × Spells text items) ⊎ ((fault : GlobFault) × FaultOf text fault) }
+    ensures one_pattern { (text : List ℕ) (a b : List PatternItem) → Spells text a → Spells text b → a ≡ b }
     ensures one_fault { (text : List ℕ) (a b : GlobFault) → FaultOf text a → FaultOf text b → a ≡ b }
-    ensures never_both { (text : List ℕ) (items : List Item) (fault : GlobFault) →
+    ensures never_both { (text : List ℕ) (items : List PatternItem) (fault : GlobFault) →
         Spells text items → FaultOf text fault → ⊥ }
 {}
 
 /// Law: the relation of a pattern and a text that it matches, and the test beside it, say the same.
 pub fn tests_agree()
-    ensures { (items : List Item) (text : List ℕ) → (IsTrue (is_match items text) ↔ Matches items text) }
+    ensures { (items : List PatternItem) (text : List ℕ) → (IsTrue (is_match items text) ↔ Matches items text) }
 {}

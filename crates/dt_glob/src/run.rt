@@ -1,7 +1,7 @@
 //! A pattern against a text, up to the pattern's first star.
 
 ghost use Rattle.std.specs.Prelude.{List};
-ghost use Rattle.dt_glob.specs.Item.{Item};
+ghost use Rattle.dt_glob.specs.PatternItem.{PatternItem};
 ghost use Rattle.dt_glob.specs.Spells.{Spells};
 ghost use Rattle.dt_glob.specs.Run.{IsRun, LeavesLess};
 
@@ -21,8 +21,8 @@ pub(crate) enum Run<'a> {
 impl<'a> Run<'a> {
     /// Takes a byte for each item, until a star.
     pub(crate) fn of(pattern: &'a [u8], text: &'a [u8]) -> Run<'a>
-        requires { (items : List Item) × Spells pattern.now items }
-        ensures run { (items : List Item) → Spells pattern.now items → IsRun result items text.now }
+        requires { (items : List PatternItem) × Spells pattern.now items }
+        ensures run { (items : List PatternItem) → Spells pattern.now items → IsRun result items text.now }
         ensures shorter { LeavesLess result pattern.now }
     {
         let mut unread = pattern;

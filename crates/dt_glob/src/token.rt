@@ -2,7 +2,7 @@
 
 ghost use Rattle.std.specs.Prelude.{◌≡◌, ℕ, ◌<◌, ◌↔◌, Bool, List, [], length, IsTrue, IfSome, IfNone};
 ghost use Rattle.dt_glob.specs.declared.element.Element.{Element};
-ghost use Rattle.dt_glob.specs.Item.{Item, OneOf, Takes};
+ghost use Rattle.dt_glob.specs.PatternItem.{PatternItem, OneOf, Takes};
 ghost use Rattle.dt_glob.specs.Spells.{Spells};
 ghost use Rattle.dt_glob.specs.Token.{IsToken, ReadsToken, BeginsSet, ClosesAt};
 
@@ -25,8 +25,8 @@ pub(crate) enum Token<'a> {
 impl<'a> Token<'a> {
     /// The item at the front of a pattern's text, and what stands behind it.
     pub(crate) fn split_first(text: &'a [u8]) -> Option<(Token<'a>, &'a [u8])>
-        requires { (items : List Item) × Spells text.now items }
-        ensures some { IfSome result (λ found. (items : List Item) → Spells text.now items →
+        requires { (items : List PatternItem) × Spells text.now items }
+        ensures some { IfSome result (λ found. (items : List PatternItem) → Spells text.now items →
             ReadsToken found.0 items found.1.now) }
         ensures shorter { IfSome result (λ found. length found.1.now < length text.now) }
         ensures none { IfNone result (text.now ≡ []) }
@@ -42,8 +42,8 @@ impl<'a> Token<'a> {
 
     /// Whether the item takes this one byte. A star takes none by itself.
     pub(crate) fn takes(&self, byte: u8) -> bool
-        requires { (item : Item) × IsToken self.now item }
-        ensures { (item : Item) → IsToken self.now item → (IsTrue result ↔ Takes item byte) }
+        requires { (item : PatternItem) × IsToken self.now item }
+        ensures { (item : PatternItem) → IsToken self.now item → (IsTrue result ↔ Takes item byte) }
     {
         match *self {
             Token::Star => false,

@@ -12,15 +12,18 @@ split_first-requires c = let left = c.loop-element.invariant c.requires.0 c.requ
 pub returns-then-holds : goal.returns-then-holds
 returns-then-holds c elements h =
     let left = c.loop-element.invariant elements h in
-    let yes = left_holds c.in-Some.element elements c.loop-element.rest.now c.in-Some.behind.now c.args.byte left c.in-Some.ensures.some (c.holds.ensures.0 c.if-holds.true) in
+    let yes = left_holds c.in-Some.element elements c.loop-element.rest.now c.in-Some.behind.now c.args.byte left
+    c.in-Some.ensures.some (c.holds.ensures.0 c.if-holds.true) in
     (λ _. yes, λ _. refl)
 
 pub loop-element-preserved : goal.loop-element-preserved
 loop-element-preserved c elements h =
-    left_more c.in-Some.element elements c.loop-element.rest.now c.in-Some.behind.now c.args.byte (c.loop-element.invariant elements h) c.in-Some.ensures.some
+    left_more c.in-Some.element elements c.loop-element.rest.now c.in-Some.behind.now c.args.byte
+    (c.loop-element.invariant elements h) c.in-Some.ensures.some
     (λ k. false≢true (sym c.if-holds.false ∙ c.holds.ensures.1 k))
 
 pub returns : goal.returns
 returns c elements h =
-    let none = left_none elements c.loop-element.rest.now c.args.byte (c.loop-element.invariant elements h) c.in_default.ensures.none in
+    let none = left_none elements c.loop-element.rest.now c.args.byte (c.loop-element.invariant elements h)
+    c.in_default.ensures.none in
     (λ e. absurd (false≢true e), λ k. absurd (none k))

@@ -9,5 +9,6 @@ loop-sign-init c = seeks_first c.args.text.now c.requires.0 c.requires.1 c.requi
 pub loop-sign-preserved : goal.loop-sign-preserved
 loop-sign-preserved c =
     let f = c.in-Some.ensures.some in
-    seeks_more c.args.text.now c.loop-sign.inside c.loop-sign.rest.now c.in-Some.sign c.in-Some.behind.now c.loop-sign.invariant f.0
+    seeks_more c.args.text.now c.loop-sign.inside c.loop-sign.rest.now c.in-Some.sign c.in-Some.behind.now
+    c.loop-sign.invariant f.0
     (λ e. false≢true (sym c.if-is_plain.false ∙ c.is_plain.ensures.1 e)) f.1

@@ -1,10 +1,10 @@
 use Rattle.dt_glob.specs.Spells.{Spells}
-use Rattle.dt_glob.specs.Reading.{items_of}
-use Rattle.dt_glob.proofs.ReadingLemmas.{items_of-spelled}
+use Rattle.dt_glob.specs.Reading.{items_of_text}
+use Rattle.dt_glob.proofs.ReadingLemmas.{items_of_text-spelled}
 use Rattle.dt_glob.proofs.pattern.Pattern.parse.Goals as goal
 
-spelled : (c : goal.In-Ok) → Spells c.args.text.now (items_of c.args.text.now)
-spelled c = let h = c.in_ok-check.ensures.found in rw (items_of-spelled c.args.text.now h.0 h.1) h.1
+spelled : (c : goal.In-Ok) → Spells c.args.text.now (items_of_text c.args.text.now)
+spelled c = let h = c.in_ok-check.ensures.found in rw (items_of_text-spelled c.args.text.now h.0 h.1) h.1
 
 pub invariant_of-result : goal.invariant_of-result
 invariant_of-result c = rw c.in-Ok.ensures.0 (spelled c)
