@@ -32,7 +32,8 @@ same_trace n m e [] t h k = absurd h
 same_trace n m e (Trace (Arg a) ∷ x ∷ s) t h k = absurd h
 same_trace n m e (Trace (Arg a) ∷ []) [] h k = absurd k
 same_trace n m e (Trace (Arg a) ∷ []) (Trace (Arg b) ∷ y ∷ t) h k = absurd k
-same_trace n m e (Trace (Arg a) ∷ []) (Trace (Arg b) ∷ []) h k = ap (λ x. Trace (Arg x) ∷ []) (same_argument a b (h ∙ e ∙ sym k))
+same_trace n m e (Trace (Arg a) ∷ []) (Trace (Arg b) ∷ []) h k =
+    ap (λ x. Trace (Arg x) ∷ []) (same_argument a b (h ∙ e ∙ sym k))
 
 -- the text of a trace of the argument whose digit this is
 abbrev pub trace_text : ℕ → List ℕ
@@ -48,7 +49,8 @@ pub same_statements : (text : List ℕ) (s t : List Statement) → SpellsBody te
 same_statements text s t h k =
     ⊎_elim
     (λ a. ⊎_elim (λ b. a.1 ∙ sym b.1) (λ b. absurd (no_empty_trace text _ a.0 b.2)) k)
-    (λ a. ⊎_elim (λ b. absurd (no_empty_trace text _ b.0 a.2)) (λ b. same_trace a.0 b.0 (omega (arith, digit_of text _ _ a.2 b.2)) s t a.3 b.3) k)
+    (λ a. ⊎_elim (λ b. absurd (no_empty_trace text _ b.0 a.2))
+    (λ b. same_trace a.0 b.0 (omega (arith, digit_of text _ _ a.2 b.2)) s t a.3 b.3) k)
     h
 
 pub brace_of_body : (text : List ℕ) (s : List Statement) → SpellsBody text s → get_or text 0 0 ≡ 123
@@ -60,14 +62,17 @@ only_item (x ∷ []) e = refl
 only_item (x ∷ y ∷ xs) e = absurd (omega arith)
 
 -- what is left of a text without its front and its end is one digit
-pub is_trace_text : (text rest middle : List ℕ) → text ≡ codes "{trace(arg" ++ rest → rest ≡ middle ++ codes ")}" → length middle ≡ 1 → text ≡ trace_text (get_or middle 0 0)
+pub is_trace_text : (text rest middle : List ℕ) → text ≡ codes "{trace(arg" ++ rest → rest ≡ middle ++ codes ")}"
+    → length middle ≡ 1 → text ≡ trace_text (get_or middle 0 0)
 is_trace_text text rest middle e f one =
     e ∙ ap (λ r. codes "{trace(arg" ++ r) (f ∙ ap (λ m. m ++ codes ")}") (only_item middle one))
 
-pub spells_trace : (text : List ℕ) (digit n : ℕ) (argument : Argument) → text ≡ trace_text digit → 48 ≤ digit → n ≡ digit - 48 → argument_number argument ≡ n → n < 10 → SpellsBody text (Trace (Arg argument) ∷ [])
+pub spells_trace : (text : List ℕ) (digit n : ℕ) (argument : Argument) → text ≡ trace_text digit → 48 ≤ digit → n
+    ≡ digit - 48 → argument_number argument ≡ n → n < 10 → SpellsBody text (Trace (Arg argument) ∷ [])
 spells_trace text digit n argument e low is named small =
     inr (n, small, e ∙ ap trace_text (omega arith), named)
 
-pub no_such_argument : (text : List ℕ) (digit n : ℕ) → text ≡ trace_text digit → n ≡ digit - 48 → (n < 10 → ⊥) → (s : List Statement) → SpellsBody text s → ⊥
+pub no_such_argument : (text : List ℕ) (digit n : ℕ) → text ≡ trace_text digit → n ≡ digit - 48 → (n < 10 → ⊥)
+    → (s : List Statement) → SpellsBody text s → ⊥
 no_such_argument text digit n e is large s h =
     ⊎_elim (λ a. no_empty_trace text digit a.0 e) (λ a. omega (arith, a.1, digit_of text _ _ e a.2, large)) h

@@ -1,16 +1,16 @@
 -- What a description of patterns asks for.
 use Rattle.std.specs.Prelude.{ℕ, List, Option, Some, None}
 use Rattle.dt_names.specs.Desc.{Desc, Describes}
-use Rattle.dt_glob.specs.Item.{Item}
+use Rattle.dt_glob.specs.PatternItem.{PatternItem}
 use Rattle.dt_glob.specs.Spells.{Spells}
 use Rattle.dt_lang.specs.declared.description.Description.{Description}
 
 -- the items of the patterns of four fields; an empty field has none, and asks for nothing
 pub record DescForm : Type 0 where
-  pub provider : List Item
-  pub «module» : List Item
-  pub function : List Item
-  pub name : List Item
+  pub provider : List PatternItem
+  pub «module» : List PatternItem
+  pub function : List PatternItem
+  pub name : List PatternItem
 
 abbrev pub form_of_description : Description → DescForm
 form_of_description d = record { provider = d.provider; «module» = d.module; function = d.function; name = d.name }

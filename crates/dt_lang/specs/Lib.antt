@@ -1,3 +1,4 @@
+-- Programs and descriptions of patterns: what texts are read as.
 pub mod Argument
 pub mod Description
 pub mod Fault

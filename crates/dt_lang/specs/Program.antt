@@ -1,9 +1,10 @@
 -- What a program is, without where it lies in memory, and which texts are programs.
-use Rattle.std.specs.Prelude.{◌≡◌, ◌⊎◌, ℕ, ◌+◌, ◌<◌, List, [], ◌∷◌, ◌++◌, map, codes}
+use Rattle.std.specs.Prelude.{◌≡◌, ◌≢◌, ◌⊎◌, ℕ, ◌+◌, ◌<◌, List, [], ◌∷◌, ◌++◌, map, codes}
 use Rattle.dt_lang.specs.Description.{DescForm, DescribesPatterns, form_of_description}
 use Rattle.dt_lang.specs.Argument.{argument_number}
 use Rattle.dt_lang.specs.declared.fault.Why.{Why}
 use Rattle.dt_lang.specs.declared.fault.Why.TheVariants.{Syntax}
+use Rattle.dt_lang.specs.declared.program.TheConstants.{ARGUMENTS}
 use Rattle.dt_lang.specs.declared.program.Clause.{Clause}
 use Rattle.dt_lang.specs.declared.program.Expr.TheVariants.{Arg}
 use Rattle.dt_lang.specs.declared.program.Program.{Program}
@@ -16,7 +17,8 @@ pub record ClauseForm : Type 0 where
   pub statements : List Statement
 
 abbrev pub form_of_clause : Clause → ClauseForm
-form_of_clause c = record { descriptions = map form_of_description c.descriptions.items; statements = c.statements.items }
+form_of_clause c =
+    record { descriptions = map form_of_description c.descriptions.items; statements = c.statements.items }
 
 abbrev pub form_of : Program → List ClauseForm
 form_of p = map form_of_clause p.clauses.items
@@ -36,14 +38,15 @@ IsTraceOf n (statement ∷ other ∷ statements) = ⊥
 abbrev pub SpellsBody : List ℕ → List Statement → Type 0
 SpellsBody text statements =
     ((text ≡ codes "{}") × (statements ≡ []))
-    ⊎ ((n : ℕ) × (n < 10) × (text ≡ codes "{trace(arg" ++ ((48 + n) ∷ codes ")}")) × IsTraceOf n statements)
+    ⊎ ((n : ℕ) × (n < ARGUMENTS) × (text ≡ codes "{trace(arg" ++ ((48 + n) ∷ codes ")}")) × IsTraceOf n statements)
 
--- The text is one clause: a description, and its braces.
+-- The text is one clause: a description, which has a byte at least, and its braces.
 pub record SpellsClause (text : List ℕ) (clause : ClauseForm) : Type 0 where
   pub head : List ℕ
   pub body : List ℕ
   pub form : DescForm
   pub spelled : text ≡ head ++ body
+  pub some : head ≢ []
   pub described : DescribesPatterns head form
   pub descriptions : clause.descriptions ≡ form ∷ []
   pub statements : SpellsBody body clause.statements

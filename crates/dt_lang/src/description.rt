@@ -1,9 +1,10 @@
+//! Descriptions whose fields are patterns.
 ghost use Rattle.std.specs.Prelude.{◌≡◌, ℕ, ◌≤◌, List, Option, length, IfSome, IfNone};
-ghost use Rattle.dt_glob.specs.Item.{Item};
+ghost use Rattle.dt_glob.specs.PatternItem.{PatternItem};
 ghost use Rattle.dt_glob.specs.Spells.{Spells};
 ghost use Rattle.dt_lang.specs.Description.{DescForm, form_of_description, DescribesPatterns, ReadsDescription};
 
-use dt_glob::Pattern;
+use dt_glob::{PATTERN_MAX, Pattern};
 use dt_names::ProbeDesc;
 
 /// Which probes are meant: the patterns of four fields. The pattern of an empty field asks for nothing. (illumos Dynamic
@@ -42,9 +43,9 @@ impl Description {
 
 /// The pattern of a field, where it is one.
 fn pattern_of(field: &[u8]) -> Option<Pattern>
-    requires { length field.now ≤ 63 }
+    requires { length field.now ≤ PATTERN_MAX }
     ensures found { IfSome result (Spells field.now) }
-    ensures none { IfNone result ((items : List Item) → Spells field.now items → ⊥) }
+    ensures none { IfNone result ((items : List PatternItem) → Spells field.now items → ⊥) }
 {
     dt_glob::one_answer();
     match Pattern::parse(field) {

@@ -1,4 +1,6 @@
+//! Why a text is not read as a program.
 ghost use Rattle.std.specs.Prelude.{◌≡◌};
+ghost use Rattle.dt_lang.specs.Fault.{word_of};
 ghost use Rattle.dt_lang.specs.declared.fault.LangFault.TheVariants.{Memory};
 
 use std::alloc::{AllocError, AllocFailed};
@@ -14,6 +16,18 @@ pub enum Why {
     Probe,
 }
 
+impl Why {
+    /// The word for the cause, as it is printed and as replies carry it.
+    pub fn word(self) -> &'static str
+        ensures { result.now ≡ word_of self }
+    {
+        match self {
+            Why::Syntax => "Syntax",
+            Why::Probe => "Probe",
+        }
+    }
+}
+
 impl fmt::Display for Why {
     ghost use Rattle.std.specs.Prelude.{Some};
     ghost use Rattle.dt_lang.specs.Fault.{word_of};
@@ -21,10 +35,7 @@ impl fmt::Display for Why {
     ghost output = { λ why. Some (word_of why) };
 
     fn fmt<W: fmt::Write>(&self, f: &mut fmt::Formatter<W>) -> fmt::Result {
-        f.write_str(match self {
-            Why::Syntax => "Syntax",
-            Why::Probe => "Probe",
-        })
+        f.write_str(self.word())
     }
 }
 

@@ -13,4 +13,4 @@ mod program;
 pub use description::{Description, has_description, one_description};
 pub use fault::{LangFault, Why};
 pub use parse::{has_reading, one_reading};
-pub use program::{Argument, Clause, Expr, Program, Statement};
+pub use program::{ARGUMENTS, Argument, Clause, Expr, Program, STATEMENTS_MAX, Statement};

@@ -1,3 +1,4 @@
+//! A text is read as a program, or refused at its first byte.
 ghost use Rattle.std.specs.Prelude.{◌≡◌, ℕ, List, [], ◌∷◌, Err, IfOk, IfSome, IfNone};
 ghost use Rattle.dt_lang.specs.Description.{form_of_description};
 ghost use Rattle.dt_lang.specs.Parse.{statements_of, IsSplitAtBrace, HasNoBrace};
@@ -51,6 +52,10 @@ fn parts_of(text: &[u8]) -> Option<(Description, Body)>
     ensures none { IfNone result ((clause : ClauseForm) → SpellsClause text.now clause → ⊥) }
 {
     let (head, rest) = split_at_brace(text)?;
+    // no byte in front of the braces is no description
+    if head.is_empty() {
+        return None;
+    }
     let body = body_of(rest)?;
     let description = Description::parse(head)?;
     Some((description, body))

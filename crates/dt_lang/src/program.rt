@@ -1,6 +1,14 @@
+//! What a program is: clauses with their descriptions and statements.
 ghost use Rattle.std.specs.Prelude.{◌≡◌, ◌<◌, ◌≤◌, ◌↔◌, IsSome, IfSome, vec_len};
+ghost use Rattle.dt_lang.specs.declared.program.TheConstants.{STATEMENTS_MAX};
 
 use crate::description::Description;
+
+/// The arguments that a firing has.
+pub const ARGUMENTS: usize = 10;
+
+/// The most statements of a clause.
+pub const STATEMENTS_MAX: usize = 8;
 
 /// An argument of the firing.
 #[derive(Clone, Copy, Debug, PartialEq, Eq)]
@@ -22,7 +30,7 @@ impl Argument {
 
     /// The argument of this number, or `None` past 9.
     pub fn new(number: u8) -> Option<Self>
-        ensures valid { IsSome result ↔ (number < 10) }
+        ensures valid { IsSome result ↔ (number < ARGUMENTS) }
         ensures value { IfSome result (λ argument. argument_number argument ≡ number) }
     {
         match number {
@@ -43,7 +51,7 @@ impl Argument {
     /// Its place among the arguments, from 0 to 9.
     pub fn place(self) -> usize
         ensures value { result ≡ argument_number self }
-        ensures in_range { result < 10 }
+        ensures in_range { result < ARGUMENTS }
     {
         self as usize
     }
@@ -68,9 +76,9 @@ pub enum Statement {
 #[derive(Drop)]
 pub struct Clause {
     pub descriptions: Vec<Description>,
-    /// At most 8.
+    /// At most [`STATEMENTS_MAX`].
     pub statements: Vec<Statement>,
-    pub ghost few: { vec_len statements ≤ 8 },
+    pub ghost few: { vec_len statements ≤ STATEMENTS_MAX },
 }
 
 /// A program: its clauses, in order.

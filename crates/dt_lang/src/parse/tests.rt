@@ -2,78 +2,91 @@
 use super::*;
 use std::test::Fail;
 
-/// What a text is read as: the fields of its description, and its statement.
-type Wanted = ([&'static [u8]; 4], Option<Statement>);
+/// In each line a text, and where it is a program the four fields of its description (`()` is an empty one) and the
+/// number of the argument that it traces, or `-`.
+const TABLE: &str = "
+:{} () () () () -
+syscall::read:entry{} syscall () read entry -
+read:entry{trace(arg0)} () () read entry 0
+BEGIN{trace(arg9)} () () () BEGIN 9
+sys*:::{} sys* () () () -
+\\*:[!a-c]?{} () () \\* [!a-c]? -
+{}
+{trace(arg0)}
+BEGIN
+BEGIN{
+BEGIN{}}
+BEGIN{trace(arg10)}
+BEGIN{trace(1)}
+BEGIN{trace(arga)}
+BEGIN{trace(arg0);}
+[a:::{}
+[]{}
+a\\{}
+a:b:c:d:e{}
+BEGIN,END{}
+";
 
-const fn traces(argument: Argument) -> Option<Statement> {
-    Some(Statement::Trace(Expr::Arg(argument)))
+/// Texts that are no program, with blanks or without a byte.
+const BLANKS: [&str; 3] = ["", "BEGIN{} ", "BEGIN {}"];
+
+/// Whether a program is one clause of these fields and this argument, as the table writes them.
+fn is_as_written(program: &Program, words: &[&str]) -> bool {
+    let [clause] = program.clauses.as_slice() else {
+        return false;
+    };
+    let [description] = clause.descriptions.as_slice() else {
+        return false;
+    };
+    let [provider, module, function, name, traced] = words else {
+        return false;
+    };
+    let argument = match clause.statements.as_slice() {
+        [] => b'-',
+        [Statement::Trace(Expr::Arg(argument))] => b"0123456789"[argument.place()],
+        _ => return false,
+    };
+    description.provider.as_bytes() == text_of(provider)
+        && description.module.as_bytes() == text_of(module)
+        && description.function.as_bytes() == text_of(function)
+        && description.name.as_bytes() == text_of(name)
+        && traced.as_bytes() == [argument].as_slice()
+}
+
+/// The text that a word of the table stands for.
+fn text_of(word: &str) -> &[u8] {
+    if word == "()" { b"" } else { word.as_bytes() }
+}
+
+/// Whether a text is refused at its first byte for its syntax.
+fn is_refused(alloc: Global, text: &str) -> bool {
+    matches!(
+        Program::parse(alloc, text.as_bytes()),
+        Err(LangFault::Program {
+            at: 0,
+            why: Why::Syntax
+        })
+    )
 }
 
 #[test]
 fn reads_one_clause_and_nothing_else(rt: HostRuntime) -> Result<(), Fail> {
-    let rows: [(&[u8], Option<Wanted>); 21] = [
-        (b"{}", Some(([b"", b"", b"", b""], None))),
-        (
-            b"syscall::read:entry{}",
-            Some(([b"syscall", b"", b"read", b"entry"], None)),
-        ),
-        (
-            b"read:entry{trace(arg0)}",
-            Some(([b"", b"", b"read", b"entry"], traces(Argument::Arg0))),
-        ),
-        (
-            b"BEGIN{trace(arg9)}",
-            Some(([b"", b"", b"", b"BEGIN"], traces(Argument::Arg9))),
-        ),
-        (b"", None),
-        (b"BEGIN", None),
-        (b"BEGIN{", None),
-        (b"BEGIN{}}", None),
-        (b"BEGIN{} ", None),
-        (b"BEGIN {}", None),
-        (b"BEGIN{trace(arg10)}", None),
-        (b"BEGIN{trace(1)}", None),
-        (b"BEGIN{trace(arga)}", None),
-        (b"BEGIN{trace(arg0);}", None),
-        (b"sys*:::{}", Some(([b"sys*", b"", b"", b""], None))),
-        (
-            b"\\*:[!a-c]?{}",
-            Some(([b"", b"", b"\\*", b"[!a-c]?"], None)),
-        ),
-        (b"[a:::{}", None),
-        (b"[]{}", None),
-        (b"a\\{}", None),
-        (b"a:b:c:d:e{}", None),
-        (b"BEGIN,END{}", None),
-    ];
-    for (text, want) in rows {
-        match Program::parse(rt.alloc(), text) {
-            Err(fault) => {
-                assert!(rt; want.is_none(), "{text:?} is refused: {fault}");
-                let syntax = LangFault::Program {
-                    at: 0,
-                    why: Why::Syntax,
-                };
-                assert_eq!(rt; fault, syntax, "at {text:?}");
-            }
-            Ok(program) => {
-                let (fields, statement) = want.ok_or("a text that is no program is read")?;
-                assert_eq!(rt; program.clauses.len(), 1, "in {text:?}");
-                let clause = &program.clauses[0];
-                assert_eq!(rt; clause.descriptions.len(), 1, "in {text:?}");
-                let description = &clause.descriptions[0];
-                assert_eq!(rt; description.provider.as_bytes(), fields[0], "in {text:?}");
-                assert_eq!(rt; description.module.as_bytes(), fields[1], "in {text:?}");
-                assert_eq!(rt; description.function.as_bytes(), fields[2], "in {text:?}");
-                assert_eq!(rt; description.name.as_bytes(), fields[3], "in {text:?}");
-                assert_eq!(rt;
-                    clause.statements.first().copied(),
-                    statement,
-                    "in {text:?}"
-                );
-                assert!(rt; clause.statements.len() <= 1, "in {text:?}");
+    for line in TABLE.lines() {
+        let mut words = Vec::new(rt.alloc());
+        for word in line.split_whitespace() {
+            words.push(word)?;
+        }
+        match words.as_slice() {
+            [] => {}
+            [text] => assert!(rt; is_refused(rt.alloc(), text), "{text} is read"),
+            [text, wanted @ ..] => {
+                let program = Program::parse(rt.alloc(), text.as_bytes())?;
+                assert!(rt; is_as_written(&program, wanted), "{line}");
             }
         }
+    }
+    for text in BLANKS {
+        assert!(rt; is_refused(rt.alloc(), text), "{text} is read");
     }
     Ok(())
 }

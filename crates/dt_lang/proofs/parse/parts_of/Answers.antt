@@ -11,4 +11,5 @@ returns-in_err-body-clause-none c =
 
 pub returns-in_err-description-clause-none : goal.returns-in_err-description-clause-none
 returns-in_err-description-clause-none c =
-    rw c.from_residual-in_err-description.ensures (no_clause-description _ _ _ c.in_ok-head.ensures.found c.in_err-description.ensures.none)
+    rw c.from_residual-in_err-description.ensures
+    (no_clause-description _ _ _ c.in_ok-head.ensures.found c.in_err-description.ensures.none)

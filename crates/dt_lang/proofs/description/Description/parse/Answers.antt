@@ -4,19 +4,27 @@ use Rattle.dt_lang.proofs.description.Description.parse.Goals as goal
 
 pub returns-in_err-provider-clause-none : goal.returns-in_err-provider-clause-none
 returns-in_err-provider-clause-none c =
-    rw c.from_residual.ensures (λ form p. c.in_err-provider.ensures.none form.provider (provider_of c.args.text.now (desc_of c.in-Ok.fields) c.in-Ok.ensures.found form p))
+    rw c.from_residual.ensures
+    (λ form p. c.in_err-provider.ensures.none form.provider
+    (provider_of c.args.text.now (desc_of c.in-Ok.fields) c.in-Ok.ensures.found form p))
 
 pub returns-in_err-module-clause-none : goal.returns-in_err-module-clause-none
 returns-in_err-module-clause-none c =
-    rw c.from_residual-in_err-module.ensures (λ form p. c.in_err-module.ensures.none form.module (module_of c.args.text.now (desc_of c.in-Ok.fields) c.in-Ok.ensures.found form p))
+    rw c.from_residual-in_err-module.ensures
+    (λ form p. c.in_err-module.ensures.none form.module
+    (module_of c.args.text.now (desc_of c.in-Ok.fields) c.in-Ok.ensures.found form p))
 
 pub returns-in_err-function-clause-none : goal.returns-in_err-function-clause-none
 returns-in_err-function-clause-none c =
-    rw c.from_residual-in_err-function.ensures (λ form p. c.in_err-function.ensures.none form.function (function_of c.args.text.now (desc_of c.in-Ok.fields) c.in-Ok.ensures.found form p))
+    rw c.from_residual-in_err-function.ensures
+    (λ form p. c.in_err-function.ensures.none form.function
+    (function_of c.args.text.now (desc_of c.in-Ok.fields) c.in-Ok.ensures.found form p))
 
 pub returns-in_err-name-clause-none : goal.returns-in_err-name-clause-none
 returns-in_err-name-clause-none c =
-    rw c.from_residual-in_err-name.ensures (λ form p. c.in_err-name.ensures.none form.name (name_of c.args.text.now (desc_of c.in-Ok.fields) c.in-Ok.ensures.found form p))
+    rw c.from_residual-in_err-name.ensures
+    (λ form p. c.in_err-name.ensures.none form.name
+    (name_of c.args.text.now (desc_of c.in-Ok.fields) c.in-Ok.ensures.found form p))
 
 pub pattern_of-requires-2 : goal.pattern_of-requires-2
 pattern_of-requires-2 c = (short_description c.args.text.now (desc_of c.in-Ok.fields) c.in-Ok.ensures.found).1.0
