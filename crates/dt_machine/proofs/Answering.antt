@@ -12,7 +12,7 @@ use Rattle.dt_cred.specs.declared.probe.Probe.{Probe as ProbeType}
 use Rattle.dt_machine.specs.declared.fault.FaultNumber.{FaultNumber}
 use Rattle.dt_machine.specs.declared.fault.FaultNumber.TheVariants.{Json, Shape, Cpus, Account, Process, Probe, Script, Firing, Foreign, Memory}
 use Rattle.dt_machine.specs.declared.fault.MachineFault.{MachineFault}
-use Rattle.dt_machine.specs.Reading.{AllRight, AllRightIn, IsFirstWrong, IsFirstWrongIn, Passes, Finds, Registers, IsJson, IsFirstFault, IsFaultOf, IsDescribed, IsScriptFault, number_of, scripts_in, probes_in}
+use Rattle.dt_machine.specs.Reading.{AllRight, AllRightIn, IsFirstWrong, IsFirstWrongIn, Passes, Finds, Registers, IsJson, IsFirstFinding, IsFaultOf, IsDescribed, IsScriptFault, rank_of, scripts_in, probes_in}
 use Rattle.dt_machine.specs.Registry.{Registry, Contents, Belongs}
 use Rattle.dt_machine.specs.Rows.{FiringRow, AreProbes, HasRoom, IsRightFiring, scripts}
 use Rattle.dt_machine.proofs.Faults.{one_number}
@@ -67,9 +67,16 @@ class_one provider Other Other p q = refl
 
 -- a probe is its number, its names and its class
 probe_path : (p q : ProbeType) → p.id ≡ q.id → p.tuple ≡ q.tuple → p.class ≡ q.class → p ≡ q
-probe_path p q e f g = λ i. record { id = e i; tuple = f i; class = g i; classed = is_prop→PathP (λ j. ∥ IsClassOf (f j).provider (g j) ∥₁) (λ j. ∥∥₁_prop) p.classed q.classed i }
+probe_path p q e f g = λ i. record {
+  id = e i;
+  tuple = f i;
+  class = g i;
+  classed =
+      is_prop→PathP (λ j. ∥ IsClassOf (f j).provider (g j) ∥₁) (λ j. ∥∥₁_prop) p.classed q.classed i;
+}
 
-probes_one : (id : ℕ) (texts : List (List ℕ)) (ps qs : List ProbeType) → AreProbes id texts ps → AreProbes id texts qs → ps ≡ qs
+probes_one : (id : ℕ) (texts : List (List ℕ)) (ps qs : List ProbeType) → AreProbes id texts ps
+    → AreProbes id texts qs → ps ≡ qs
 probes_one id [] [] [] a b = refl
 probes_one id [] [] (q ∷ qs) a b = absurd b
 probes_one id [] (p ∷ ps) qs a b = absurd a
@@ -88,29 +95,36 @@ registry_one d r s a b =
     let cpus = same_some r.cpus s.cpus (sym a.cpus ∙ b.cpus) in
     let accounts = a.accounts ∙ sym b.accounts in
     let processes = a.processes ∙ sym b.processes in
-    let probes = probes_one 1 (codes "dtrace:::BEGIN" ∷ codes "dtrace:::END" ∷ probes_in d) r.probes s.probes a.probes b.probes in
+    let probes = probes_one 1 (codes "dtrace:::BEGIN" ∷ codes "dtrace:::END" ∷ probes_in d) r.probes s.probes
+    a.probes b.probes in
     λ i. record { cpus = cpus i; accounts = accounts i; processes = processes i; probes = probes i }
 
 -- the first wrong row is one
-clash_rows : {A : Type 0} (R : List A → A → Type 0) (rows : List A) (i j : ℕ) → i < j → IsFirstWrong R rows i → IsFirstWrong R rows j → ⊥
+clash_rows : {A : Type 0} (R : List A → A → Type 0) (rows : List A) (i j : ℕ) → i < j → IsFirstWrong R rows i
+    → IsFirstWrong R rows j → ⊥
 clash_rows R rows i j less a b = a.wrong (b.right_before i a.row less a.there)
 
-first_one : {A : Type 0} (R : List A → A → Type 0) (rows : List A) (i j : ℕ) → IsFirstWrong R rows i → IsFirstWrong R rows j → i ≡ j
+first_one : {A : Type 0} (R : List A → A → Type 0) (rows : List A) (i j : ℕ) → IsFirstWrong R rows i
+    → IsFirstWrong R rows j → i ≡ j
 first_one R rows i j a b = elim (order i j) [
   | inl less ↦ absurd (clash_rows R rows i j less a b)
   | inr rest ↦ elim rest [ inl same ↦ same | inr more ↦ absurd (clash_rows R rows j i more b a) ]
 ]
 
-none_wrong : {A : Type 0} (R : List A → A → Type 0) (rows : List A) (i : ℕ) → AllRight R rows → IsFirstWrong R rows i → ⊥
+none_wrong : {A : Type 0} (R : List A → A → Type 0) (rows : List A) (i : ℕ) → AllRight R rows
+    → IsFirstWrong R rows i → ⊥
 none_wrong R rows i right a = a.wrong (right i a.row a.there)
 
-none_wrong_in : {A : Type 0} (R : List A → A → Type 0) (all : List (List A)) (cpu i : ℕ) → AllRightIn R all → IsFirstWrongIn R all cpu i → ⊥
+none_wrong_in : {A : Type 0} (R : List A → A → Type 0) (all : List (List A)) (cpu i : ℕ) → AllRightIn R all
+    → IsFirstWrongIn R all cpu i → ⊥
 none_wrong_in R all cpu i right a = none_wrong R a.script i (right cpu a.script a.there) a.first
 
-clash_scripts : {A : Type 0} (R : List A → A → Type 0) (all : List (List A)) (c k i j : ℕ) → c < k → IsFirstWrongIn R all c i → IsFirstWrongIn R all k j → ⊥
+clash_scripts : {A : Type 0} (R : List A → A → Type 0) (all : List (List A)) (c k i j : ℕ) → c < k
+    → IsFirstWrongIn R all c i → IsFirstWrongIn R all k j → ⊥
 clash_scripts R all c k i j less a b = none_wrong R a.script i (b.right_before c a.script less a.there) a.first
 
-first_one_in : {A : Type 0} (R : List A → A → Type 0) (all : List (List A)) (c k i j : ℕ) → IsFirstWrongIn R all c i → IsFirstWrongIn R all k j → (c ≡ k) × (i ≡ j)
+first_one_in : {A : Type 0} (R : List A → A → Type 0) (all : List (List A)) (c k i j : ℕ)
+    → IsFirstWrongIn R all c i → IsFirstWrongIn R all k j → (c ≡ k) × (i ≡ j)
 first_one_in {A} R all c k i j a b = elim (order c k) [
   | inl less ↦ absurd (clash_scripts R all c k i j less a b)
   | inr rest ↦ elim rest [
@@ -126,18 +140,21 @@ first_one_in {A} R all c k i j a b = elim (order c k) [
 both_places : (c k i j : ℕ) → (c ≡ 0) × (i ≡ 0) → (k ≡ 0) × (j ≡ 0) → (c ≡ k) × (i ≡ j)
 both_places c k i j a b = (a.0 ∙ sym b.0, a.1 ∙ sym b.1)
 
-script_one : (cpus : ℕ) (all : List (List FiringRow)) (c k i j : ℕ) → IsScriptFault cpus all c i → IsScriptFault cpus all k j → (c ≡ k) × (i ≡ j)
+script_one : (cpus : ℕ) (all : List (List FiringRow)) (c k i j : ℕ) → IsScriptFault cpus all c i
+    → IsScriptFault cpus all k j → (c ≡ k) × (i ≡ j)
 script_one cpus all c k i j (inl a) (inl b) = both_places c k i j a.1 b.1
 script_one cpus all c k i j (inl a) (inr b) = absurd (a.0 b.0)
 script_one cpus all c k i j (inr a) (inl b) = absurd (b.0 a.0)
 script_one cpus all c k i j (inr a) (inr b) = first_one_in HasRoom all c k i j a.1 b.1
 
-script_clear : (cpus : ℕ) (all : List (List FiringRow)) (c i : ℕ) → cpus ≡ length all → AllRightIn HasRoom all → IsScriptFault cpus all c i → ⊥
+script_clear : (cpus : ℕ) (all : List (List FiringRow)) (c i : ℕ) → cpus ≡ length all → AllRightIn HasRoom all
+    → IsScriptFault cpus all c i → ⊥
 script_clear cpus all c i same right (inl a) = a.0 same
 script_clear cpus all c i same right (inr a) = none_wrong_in HasRoom all c i right a.1
 
 -- what the tests of a number find, they find at one place
-place_one : (number : FaultNumber) (d : Data) (c k i j : ℕ) → Finds number d c i → Finds number d k j → (c ≡ k) × (i ≡ j)
+place_one : (number : FaultNumber) (d : Data) (c k i j : ℕ) → Finds number d c i → Finds number d k j
+    → (c ≡ k) × (i ≡ j)
 place_one Json d c k i j a b = absurd a
 place_one Shape d c k i j a b = both_places c k i j a.1 b.1
 place_one Cpus d c k i j a b = both_places c k i j a.1 b.1
@@ -180,8 +197,8 @@ passes_finds Memory d c i p f = f
 same_fault : (a b : MachineFault) → a.number ≡ b.number → a.cpu ≡ b.cpu → a.row ≡ b.row → a ≡ b
 same_fault a b p q r = λ i. record { number = p i; cpu = q i; row = r i }
 
-fault_one : (d : Data) (a b : MachineFault) → IsFirstFault d a → IsFirstFault d b → a ≡ b
-fault_one d a b f g = elim (order (number_of a.number) (number_of b.number)) [
+fault_one : (d : Data) (a b : MachineFault) → IsFirstFinding d a → IsFirstFinding d b → a ≡ b
+fault_one d a b f g = elim (order (rank_of a.number) (rank_of b.number)) [
   | inl less ↦ absurd (passes_finds a.number d a.cpu a.row (g.none_before a.number less) f.found)
   | inr rest ↦ elim rest [
     | inl same ↦
@@ -202,14 +219,14 @@ one_fault text a b (inl f) (inr g) = absurd (f.0 g.0 g.1)
 one_fault text a b (inr f) (inl g) = absurd (g.0 f.0 f.1)
 one_fault text a b (inr f) (inr g) =
     let same = data_one text f.0 g.0 f.1 g.1 in
-    let F : Data → Type 0 = λ d. IsFirstFault d a in
+    let F : Data → Type 0 = λ d. IsFirstFinding d a in
     fault_one g.0 a b (subst F same f.2) g.2
 
 pub never_both : (text : List ℕ) (a : Contents) (b : MachineFault) → IsDescribed text a → IsFaultOf text b → ⊥
 never_both text a b f (inl g) = g.0 f.data_of f.json
 never_both text a b f (inr g) =
     let same = data_one text g.0 f.data_of g.1 f.json in
-    let F : Data → Type 0 = λ d. IsFirstFault d b in
+    let F : Data → Type 0 = λ d. IsFirstFinding d b in
     passes_finds b.number f.data_of b.cpu b.row (f.right b.number) (subst F same g.2).found
 
 pub one_machine : (text : List ℕ) (a b : Contents) → IsDescribed text a → IsDescribed text b → a ≡ b

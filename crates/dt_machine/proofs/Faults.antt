@@ -4,7 +4,7 @@ use Rattle.serde_json.specs.Data.{Data}
 use Rattle.dt_machine.specs.declared.fault.FaultNumber.{FaultNumber}
 use Rattle.dt_machine.specs.declared.fault.FaultNumber.TheVariants.{Json, Shape, Cpus, Account, Process, Probe, Script, Firing, Foreign, Memory}
 use Rattle.dt_machine.specs.declared.fault.MachineFault.{MachineFault}
-use Rattle.dt_machine.specs.Reading.{Passes, Finds, number_of, IsFirstFault}
+use Rattle.dt_machine.specs.Reading.{Passes, Finds, rank_of, IsFirstFinding}
 use Rattle.dt_machine.specs.Sections.{PassesBefore}
 
 abbrev number_at : ℕ → FaultNumber
@@ -20,7 +20,7 @@ number_at (suc (suc (suc (suc (suc (suc (suc (suc zero)))))))) = Firing
 number_at (suc (suc (suc (suc (suc (suc (suc (suc (suc zero))))))))) = Foreign
 number_at (suc (suc (suc (suc (suc (suc (suc (suc (suc (suc n)))))))))) = Memory
 
-at_number : (number : FaultNumber) → number_at (number_of number) ≡ number
+at_number : (number : FaultNumber) → number_at (rank_of number) ≡ number
 at_number Json = refl
 at_number Shape = refl
 at_number Cpus = refl
@@ -32,7 +32,7 @@ at_number Firing = refl
 at_number Foreign = refl
 at_number Memory = refl
 
-pub one_number : (a b : FaultNumber) → number_of a ≡ number_of b → a ≡ b
+pub one_number : (a b : FaultNumber) → rank_of a ≡ rank_of b → a ≡ b
 one_number a b e = sym (at_number a) ∙ ap number_at e ∙ at_number b
 
 at_or_below : (k n : ℕ) → k < n + 1 → (k < n) ⊎ (k ≡ n)
@@ -51,19 +51,21 @@ json_passes d Firing h = absurd (omega arith)
 json_passes d Foreign h = absurd (omega arith)
 json_passes d Memory h = absurd (omega arith)
 
-pub one_more : (d : Data) (number : FaultNumber) → PassesBefore (number_of number) d → Passes number d → PassesBefore (number_of number + 1) d
-one_more d number before passes earlier below = elim (at_or_below (number_of earlier) (number_of number) below) [
+pub one_more : (d : Data) (number : FaultNumber) → PassesBefore (rank_of number) d → Passes number d
+    → PassesBefore (rank_of number + 1) d
+one_more d number before passes earlier below = elim (at_or_below (rank_of earlier) (rank_of number) below) [
   | inl less ↦ before earlier less
   | inr same ↦ let P : FaultNumber → Type 0 = λ n. Passes n d in subst P (sym (one_number earlier number same)) passes
 ]
 
-pub first_fault : (d : Data) (fault : MachineFault) (number : FaultNumber) → fault.number ≡ number → Finds number d fault.cpu fault.row → PassesBefore (number_of number) d → IsFirstFault d fault
+pub first_fault : (d : Data) (fault : MachineFault) (number : FaultNumber) → fault.number ≡ number
+    → Finds number d fault.cpu fault.row → PassesBefore (rank_of number) d → IsFirstFinding d fault
 first_fault d fault number is found before =
     let F : FaultNumber → Type 0 = λ n. Finds n d fault.cpu fault.row in
-    let B : FaultNumber → Type 0 = λ n. PassesBefore (number_of n) d in
+    let B : FaultNumber → Type 0 = λ n. PassesBefore (rank_of n) d in
     record { found = subst F (sym is) found; none_before = subst B (sym is) before }
 
-number_below : (number : FaultNumber) → number_of number < 11
+number_below : (number : FaultNumber) → rank_of number < 11
 number_below Json = lit< tt
 number_below Shape = lit< tt
 number_below Cpus = lit< tt

@@ -1,3 +1,4 @@
+-- The lemmas of this crate.
 pub mod Answering
 pub mod ByPid
 pub mod Exits

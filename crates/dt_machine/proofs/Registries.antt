@@ -1,23 +1,21 @@
 -- What the words of a registry say.
-use Rattle.std.proofs.Common.{◌≡◌, ℕ, IfSome, zero, suc, ◌-◌, Bor, List, length, Option, Some, None, IsSome, [], ◌∷◌, ◌<◌, ◌≤◌, slice_get, refl, sym, ap, subst, arith}
+use Rattle.std.proofs.Common.{◌≡◌, ℕ, zero, suc, ◌-◌, Bor, List, length, Option, Some, None, IsSome, [], ◌∷◌, ◌<◌, ◌≤◌, slice_get, refl, sym, ap, subst, arith}
 use Rattle.dt_cred.specs.declared.probe.Probe.{Probe}
 use Rattle.std.proofs.lemmas.Option.{slice_get_past, slice_get_read}
 use Rattle.std.specs.Option.{option_copied}
 use Rattle.std.specs.Slice.{IsItemAt}
-use Rattle.dt_cred.specs.declared.class.Class.{Class}
-use Rattle.dt_cred.specs.declared.class.Class.TheVariants.{Pid}
-use Rattle.dt_machine.specs.declared.firing.Firing.{Firing}
-use Rattle.dt_machine.specs.Registry.{Registry, probe_of, Belongs}
-use Rattle.dt_machine.specs.Sections.{IsKnown}
+use Rattle.dt_machine.specs.Registry.{Registry, probe_of}
 
-pub probe_of-before : (registry : Registry) (id : ℕ) → (id ≡ 0 → ⊥) → probe_of registry id ≡ slice_get registry.probes (id - 1)
+pub probe_of-before : (registry : Registry) (id : ℕ) → (id ≡ 0 → ⊥)
+    → probe_of registry id ≡ slice_get registry.probes (id - 1)
 probe_of-before registry zero h = absurd (h refl)
 probe_of-before registry (suc before) h =
     let e : before ≡ suc before - 1 = omega arith in
     ap (slice_get registry.probes) e
 
 -- what `get` at an index answers
-pub option_copied-from_get : {X : Type 0} (xs : List X) (i : ℕ) (r : Option (Bor X)) → IsItemAt xs i r → option_copied r ≡ slice_get xs i
+pub option_copied-from_get : {X : Type 0} (xs : List X) (i : ℕ) (r : Option (Bor X)) → IsItemAt xs i r
+    → option_copied r ≡ slice_get xs i
 option_copied-from_get xs i None h = sym (slice_get_past xs i h.3)
 option_copied-from_get xs i (Some x) h = sym (slice_get_read xs (length xs) i x.now refl h.3.0 h.1)
 
@@ -26,7 +24,7 @@ some_there [] k h = cc
 some_there (x ∷ xs) zero h = omega arith
 some_there (x ∷ xs) (suc k) h = let more = some_there xs k h in omega arith
 
-there_some : {X : Type 0} (xs : List X) (k : ℕ) → k < length xs → IsSome (slice_get xs k)
+pub there_some : {X : Type 0} (xs : List X) (k : ℕ) → k < length xs → IsSome (slice_get xs k)
 there_some [] k h = absurd (omega arith)
 there_some (x ∷ xs) zero h = refl
 there_some (x ∷ xs) (suc k) h = there_some xs k (omega arith)
@@ -38,33 +36,9 @@ probe_there registry id low high =
     let P : Option Probe → Type 0 = IsSome in
     subst P (sym (probe_of-before registry id (λ e. omega arith))) there
 
-pub probe_within : (registry : Registry) (id : ℕ) → 3 ≤ id → IsSome (probe_of registry id) → id ≤ length registry.probes
+pub probe_within : (registry : Registry) (id : ℕ) → 3 ≤ id → IsSome (probe_of registry id)
+    → id ≤ length registry.probes
 probe_within registry id low some =
     let P : Option Probe → Type 0 = IsSome in
     let inside = some_there registry.probes (id - 1) (subst P (probe_of-before registry id (λ e. omega arith)) some) in
     omega arith
-
-if_some : {X : Type 0} (o : Option X) (x : X) (P : X → Type 0) → o ≡ Some x → P x → IfSome o P
-if_some None x P e h = absurd (cc)
-if_some (Some y) x P e h = let same : y ≡ x = cc in subst P (sym same) h
-
-from_some : {X : Type 0} (o : Option X) (x : X) (P : X → Type 0) → o ≡ Some x → IfSome o P → P x
-from_some None x P e h = absurd (cc)
-from_some (Some y) x P e h = let same : y ≡ x = cc in subst P same h
-
--- a firing that has all else belongs to the machine if its process is the one that its probe names
-pub belongs : (registry : Registry) (firing : Firing) (probe : Probe) → IsKnown registry firing → probe_of registry firing.probe ≡ Some probe → ((pid : ℕ) → probe.class ≡ Pid pid → firing.pid ≡ pid) → Belongs registry firing
-belongs registry firing probe known there traced = record {
-  cpu = known.cpu;
-  of_file = known.of_file;
-  probe = known.probe;
-  process = known.process;
-  traced = if_some (probe_of registry firing.probe) probe (λ p. (pid : ℕ) → p.class ≡ Pid pid → firing.pid ≡ pid) there traced;
-}
-
-pub named_process : (registry : Registry) (firing : Firing) (probe : Probe) → probe_of registry firing.probe ≡ Some probe → Belongs registry firing → (pid : ℕ) → probe.class ≡ Pid pid → firing.pid ≡ pid
-named_process registry firing probe there b =
-    from_some (probe_of registry firing.probe) probe (λ p. (pid : ℕ) → p.class ≡ Pid pid → firing.pid ≡ pid) there b.traced
-
-pub same_pid : (a b : ℕ) → ◌≡◌ {A = Class} (Pid a) (Pid b) → a ≡ b
-same_pid a b e = cc

@@ -20,7 +20,9 @@ use Rattle.dt_machine.specs.Rows.{AreProbes}
 use Rattle.dt_machine.specs.Sections.{IsTraced, eq_tuples}
 
 -- a text spells one tuple
-same_parts : (a b c d a' b' c' d' : List ℕ) → a ∷ b ∷ c ∷ d ∷ [] ≡ a' ∷ b' ∷ c' ∷ d' ∷ [] → ◌≡◌ {A = ProbeTuple} (record { provider = a; «module» = b; function = c; name = d }) (record { provider = a'; «module» = b'; function = c'; name = d' })
+same_parts : (a b c d a' b' c' d' : List ℕ) → a ∷ b ∷ c ∷ d ∷ [] ≡ a' ∷ b' ∷ c' ∷ d' ∷ []
+    → ◌≡◌ {A = ProbeTuple} (record { provider = a; «module» = b; function = c; name = d })
+    (record { provider = a'; «module» = b'; function = c'; name = d' })
 same_parts a b c d a' b' c' d' e =
     let p : a ≡ a' = cc in
     let q : b ≡ b' = cc in
@@ -31,19 +33,24 @@ same_parts a b c d a' b' c' d' e =
 pub spells_one : (text : List ℕ) (a b : ProbeTuple) → SpellsTuple text a → SpellsTuple text b → a ≡ b
 spells_one text a b s t = same_parts _ _ _ _ _ _ _ _ (sym s.spelled ∙ t.spelled)
 
-pub length-probes : (id : ℕ) (texts : List (List ℕ)) (probes : List Probe) → AreProbes id texts probes → length texts ≡ length probes
+pub length-probes : (id : ℕ) (texts : List (List ℕ)) (probes : List Probe) → AreProbes id texts probes
+    → length texts ≡ length probes
 length-probes id [] [] are = refl
 length-probes id [] (p ∷ ps) are = absurd are
 length-probes id (t ∷ ts) [] are = absurd are
 length-probes id (t ∷ ts) (p ∷ ps) are = ap suc (length-probes (id + 1) ts ps are.3)
 
-pub probes_push : (id : ℕ) (texts : List (List ℕ)) (probes : List Probe) (text : List ℕ) (probe : Probe) → AreProbes id texts probes → probe.id ≡ id + length probes → SpellsTuple text probe.tuple → IsClassOf probe.tuple.provider probe.class → AreProbes id (texts ++ text ∷ []) (probes ++ probe ∷ [])
+pub probes_push : (id : ℕ) (texts : List (List ℕ)) (probes : List Probe) (text : List ℕ) (probe : Probe)
+    → AreProbes id texts probes → probe.id ≡ id + length probes → SpellsTuple text probe.tuple
+    → IsClassOf probe.tuple.provider probe.class → AreProbes id (texts ++ text ∷ []) (probes ++ probe ∷ [])
 probes_push id [] [] text probe are number spelled class = (number ∙ add-zero id, spelled, class, tt)
 probes_push id [] (p ∷ ps) text probe are number spelled class = absurd are
 probes_push id (t ∷ ts) [] text probe are number spelled class = absurd are
-probes_push id (t ∷ ts) (p ∷ ps) text probe are number spelled class = (are.0, are.1, are.2, probes_push (id + 1) ts ps text probe are.3 (number ∙ omega arith) spelled class)
+probes_push id (t ∷ ts) (p ∷ ps) text probe are number spelled class =
+    (are.0, are.1, are.2, probes_push (id + 1) ts ps text probe are.3 (number ∙ omega arith) spelled class)
 
-pub own_dropped : (begin end : List ℕ) (texts : List (List ℕ)) (probes : List Probe) → AreProbes 1 (begin ∷ end ∷ texts) probes → AreProbes 3 texts (drop 2 probes)
+pub own_dropped : (begin end : List ℕ) (texts : List (List ℕ)) (probes : List Probe)
+    → AreProbes 1 (begin ∷ end ∷ texts) probes → AreProbes 3 texts (drop 2 probes)
 own_dropped begin end texts [] are = absurd are
 own_dropped begin end texts (p ∷ []) are = absurd are.3
 own_dropped begin end texts (p ∷ q ∷ ps) are = are.3.3
@@ -59,7 +66,8 @@ pub record SpelledAt (id : ℕ) (texts : List (List ℕ)) (k : ℕ) (probe : Pro
 same_some : {A : Type 0} (x y : A) → Some x ≡ Some y → x ≡ y
 same_some x y e = cc
 
-pub spelled_at : (id : ℕ) (texts : List (List ℕ)) (probes : List Probe) (k : ℕ) (probe : Probe) → AreProbes id texts probes → slice_get probes k ≡ Some probe → SpelledAt id texts k probe
+pub spelled_at : (id : ℕ) (texts : List (List ℕ)) (probes : List Probe) (k : ℕ) (probe : Probe)
+    → AreProbes id texts probes → slice_get probes k ≡ Some probe → SpelledAt id texts k probe
 spelled_at id [] [] k probe are there = absurd (cc)
 spelled_at id [] (p ∷ ps) k probe are there = absurd are
 spelled_at id (t ∷ ts) [] k probe are there = absurd are
@@ -67,13 +75,29 @@ spelled_at id (t ∷ ts) (p ∷ ps) zero probe are there =
     let e = same_some p probe there in
     let S : Probe → Type 0 = λ q. SpellsTuple t q.tuple in
     let C : Probe → Type 0 = λ q. IsClassOf q.tuple.provider q.class in
-    record { text = t; there = refl; spelled = subst S e are.1; class = subst C e are.2; number = sym (ap (λ (q : Probe). q.id) e) ∙ are.0 ∙ sym (add-zero id) }
+    record {
+      text = t;
+      there = refl;
+      spelled = subst S e are.1;
+      class = subst C e are.2;
+      number =
+          sym (ap (λ (q : Probe). q.id) e) ∙ are.0 ∙ sym (add-zero id);
+    }
 spelled_at id (t ∷ ts) (p ∷ ps) (suc k) probe are there =
     let more = spelled_at (id + 1) ts ps k probe are.3 there in
-    record { text = more.text; there = more.there; spelled = more.spelled; class = more.class; number = more.number ∙ omega arith }
+    record {
+      text = more.text;
+      there = more.there;
+      spelled = more.spelled;
+      class = more.class;
+      number = more.number
+          ∙ omega arith;
+    }
 
 -- a tuple that no probe has is spelled by no text
-pub new_spelling : (id : ℕ) (texts : List (List ℕ)) (probes : List Probe) (tuple : ProbeTuple) → AreProbes id texts probes → All (λ (p : Probe). p.tuple ≢ tuple) probes → All (λ text. SpellsTuple text tuple → ⊥) texts
+pub new_spelling : (id : ℕ) (texts : List (List ℕ)) (probes : List Probe) (tuple : ProbeTuple)
+    → AreProbes id texts probes → All (λ (p : Probe). p.tuple ≢ tuple) probes
+    → All (λ text. SpellsTuple text tuple → ⊥) texts
 new_spelling id [] probes tuple are new = λ k d inside. absurd (omega arith)
 new_spelling id (t ∷ ts) [] tuple are new = absurd are
 new_spelling id (t ∷ ts) (p ∷ ps) tuple are new =
@@ -86,7 +110,8 @@ named_number : (d e : List ℕ) → codes "pid" ++ d ≡ codes "pid" ++ e → nu
 named_number d e h = let same : d ≡ e = cc in ap number_of same
 
 pub names_one : (provider : List ℕ) (a b : ℕ) → NamesProcess provider a → NamesProcess provider b → a ≡ b
-names_one provider a b n m = sym n.stands_for ∙ named_number n.digits m.digits (sym n.spelled ∙ m.spelled) ∙ m.stands_for
+names_one provider a b n m = sym n.stands_for ∙ named_number n.digits m.digits (sym n.spelled ∙ m.spelled)
+    ∙ m.stands_for
 
 pub apart : (a b : ℕ) → a ≡ b → b < a → ⊥
 apart a b e h = omega arith
@@ -101,17 +126,24 @@ pub no_pid_dtrace : (d : List ℕ) → codes "pid" ++ d ≡ codes "dtrace" → �
 no_pid_dtrace d e = apart 112 100 (ap (λ (bytes : List ℕ). get_or bytes 0 0) e) (lit< tt)
 
 -- what the class of a provider tells of the process that it names
-pub traced_by_class : (processes : List Process) (provider : List ℕ) (class : Class) → IsClassOf provider class → IsTraced processes class → (provider ≢ codes "dtrace") × ((pid : ℕ) → NamesProcess provider pid → IsSome (find (λ process. process.pid == pid) processes))
+pub traced_by_class : (processes : List Process) (provider : List ℕ) (class : Class) → IsClassOf provider class
+    → IsTraced processes class → (provider ≢ codes "dtrace")
+    × ((pid : ℕ) → NamesProcess provider pid → IsSome (find (λ process. process.pid == pid) processes))
 traced_by_class processes provider Dtrace is traced = absurd traced
-traced_by_class processes provider Syscall is traced = (λ e. let h = sym is ∙ e in cc, λ pid n. absurd (no_pid_syscall n.digits (sym is ∙ n.spelled)))
-traced_by_class processes provider Profile is traced = (λ e. let h = sym is ∙ e in cc, λ pid n. absurd (no_pid_profile n.digits (sym is ∙ n.spelled)))
+traced_by_class processes provider Syscall is traced =
+    (λ e. let h = sym is ∙ e in cc, λ pid n. absurd (no_pid_syscall n.digits (sym is ∙ n.spelled)))
+traced_by_class processes provider Profile is traced =
+    (λ e. let h = sym is ∙ e in cc, λ pid n. absurd (no_pid_profile n.digits (sym is ∙ n.spelled)))
 traced_by_class processes provider (Pid pid) is traced = (
   λ e. no_pid_dtrace is.digits (sym is.spelled ∙ e),
-  λ other n. let P : ℕ → Type 0 = λ q. IsSome (find (λ process. process.pid == q) processes) in subst P (names_one provider pid other is n) traced,
+  λ other n. let P : ℕ → Type 0 = λ q. IsSome (find (λ process. process.pid == q) processes) in subst P
+      (names_one provider pid other is n) traced,
 )
 traced_by_class processes provider Other is traced = (is.0, λ pid n. absurd (is.3 pid n))
 
-pub class_traced : (processes : List Process) (provider : List ℕ) (class : Class) → IsClassOf provider class → provider ≢ codes "dtrace" → ((pid : ℕ) → NamesProcess provider pid → IsSome (find (λ process. process.pid == pid) processes)) → IsTraced processes class
+pub class_traced : (processes : List Process) (provider : List ℕ) (class : Class) → IsClassOf provider class
+    → provider ≢ codes "dtrace" → ((pid : ℕ) → NamesProcess provider pid
+    → IsSome (find (λ process. process.pid == pid) processes)) → IsTraced processes class
 class_traced processes provider Dtrace is given traced = given is
 class_traced processes provider Syscall is given traced = tt
 class_traced processes provider Profile is given traced = tt
@@ -135,42 +167,55 @@ letter_in_name byte h = record {
 }
 
 name_of_letters : (bytes : List ℕ) → length bytes ≤ 31 → AllByRecursion IsLetter bytes → IsName bytes
-name_of_letters bytes short letters = record { short = short; plain = λ k d inside. letter_in_name _ (All-from_recursion IsLetter bytes letters k d inside) }
+name_of_letters bytes short letters = record
+    { short = short; plain = λ k d inside. letter_in_name _ (All-from_recursion IsLetter bytes letters k d inside) }
 
 no_name : IsName []
 no_name = record { short = omega arith; plain = λ k d inside. absurd (omega arith) }
 
 dtrace_named : IsName (codes "dtrace")
-dtrace_named = name_of_letters (codes "dtrace") (lit≤ tt) ((lit≤ tt, lit≤ tt), ((lit≤ tt, lit≤ tt), ((lit≤ tt, lit≤ tt), ((lit≤ tt, lit≤ tt), ((lit≤ tt, lit≤ tt), ((lit≤ tt, lit≤ tt), tt))))))
+dtrace_named = name_of_letters (codes "dtrace") (lit≤ tt) (
+  (lit≤ tt, lit≤ tt),
+  (
+    (lit≤ tt, lit≤ tt),
+    ((lit≤ tt, lit≤ tt), ((lit≤ tt, lit≤ tt), ((lit≤ tt, lit≤ tt), ((lit≤ tt, lit≤ tt), tt)))),
+  ),
+)
 
-pub begin_spelled : SpellsTuple (codes "dtrace:::BEGIN") (record { provider = codes "dtrace"; «module» = []; function = []; name = codes "BEGIN" })
+pub begin_spelled : SpellsTuple (codes "dtrace:::BEGIN")
+    (record { provider = codes "dtrace"; «module» = []; function = []; name = codes "BEGIN" })
 begin_spelled = record {
   spelled = refl;
   provider_named = dtrace_named;
   module_named = no_name;
   function_named = no_name;
-  name_named = name_of_letters (codes "BEGIN") (lit≤ tt) ((lit≤ tt, lit≤ tt), ((lit≤ tt, lit≤ tt), ((lit≤ tt, lit≤ tt), ((lit≤ tt, lit≤ tt), ((lit≤ tt, lit≤ tt), tt)))));
+  name_named = name_of_letters (codes "BEGIN") (lit≤ tt)
+      ((lit≤ tt, lit≤ tt), ((lit≤ tt, lit≤ tt), ((lit≤ tt, lit≤ tt), ((lit≤ tt, lit≤ tt), ((lit≤ tt, lit≤ tt), tt)))));
   some_provider = λ e. cc;
   some_name = λ e. cc;
 }
 
-pub end_spelled : SpellsTuple (codes "dtrace:::END") (record { provider = codes "dtrace"; «module» = []; function = []; name = codes "END" })
+pub end_spelled : SpellsTuple (codes "dtrace:::END")
+    (record { provider = codes "dtrace"; «module» = []; function = []; name = codes "END" })
 end_spelled = record {
   spelled = refl;
   provider_named = dtrace_named;
   module_named = no_name;
   function_named = no_name;
-  name_named = name_of_letters (codes "END") (lit≤ tt) ((lit≤ tt, lit≤ tt), ((lit≤ tt, lit≤ tt), ((lit≤ tt, lit≤ tt), tt)));
+  name_named = name_of_letters (codes "END") (lit≤ tt)
+      ((lit≤ tt, lit≤ tt), ((lit≤ tt, lit≤ tt), ((lit≤ tt, lit≤ tt), tt)));
   some_provider = λ e. cc;
   some_name = λ e. cc;
 }
 
-pub parsed : (text : List ℕ) (o : Option ProbeTuple) (tuple : ProbeTuple) → IfNone o ((t : ProbeTuple) → SpellsTuple text t → ⊥) → SpellsTuple text tuple → IsSome o
+pub parsed : (text : List ℕ) (o : Option ProbeTuple) (tuple : ProbeTuple)
+    → IfNone o ((t : ProbeTuple) → SpellsTuple text t → ⊥) → SpellsTuple text tuple → IsSome o
 parsed text None tuple none spelled = absurd (none tuple spelled)
 parsed text (Some t) tuple none spelled = refl
 
 -- what `==` of two tuples tells
-all_four : (p q r s : Bool) {C : Type 0} → true ≡ (p && q && r && s) → (true ≡ p → true ≡ q → true ≡ r → true ≡ s → C) → C
+all_four : (p q r s : Bool) {C : Type 0} → true ≡ (p && q && r && s)
+    → (true ≡ p → true ≡ q → true ≡ r → true ≡ s → C) → C
 all_four true true true true e f = f refl refl refl refl
 all_four true true true false e f = absurd (cc)
 all_four true true false s e f = absurd (cc)
@@ -179,8 +224,15 @@ all_four false q r s e f = absurd (cc)
 
 pub same_tuple : (a b : ProbeTuple) → true ≡ eq_tuples a b → a ≡ b
 same_tuple a b e =
-    all_four (bytes_eq a.provider b.provider) (bytes_eq a.module b.module) (bytes_eq a.function b.function) (bytes_eq a.name b.name) e
-    (λ p q r s. λ i. record { provider = same_text a.provider b.provider p i; «module» = same_text a.module b.module q i; function = same_text a.function b.function r i; name = same_text a.name b.name s i })
+    all_four (bytes_eq a.provider b.provider) (bytes_eq a.module b.module) (bytes_eq a.function b.function)
+    (bytes_eq a.name b.name) e
+    (λ p q r s. λ i. record {
+      provider = same_text a.provider b.provider p i;
+      «module» =
+          same_text a.module b.module q i;
+      function = same_text a.function b.function r i;
+      name = same_text a.name b.name s i;
+    })
 
 and_true : (p q r s : Bool) → p ≡ true → q ≡ true → r ≡ true → s ≡ true → (p && q && r && s) ≡ true
 and_true true true true true p q r s = refl
@@ -190,20 +242,25 @@ and_true true false c d p q r s = absurd (cc)
 and_true false b c d p q r s = absurd (cc)
 
 equal_to_itself : (a : ProbeTuple) → eq_tuples a a ≡ true
-equal_to_itself a = and_true _ _ _ _ ((bytes_eq-Decides a.provider a.provider).1 refl) ((bytes_eq-Decides a.module a.module).1 refl) ((bytes_eq-Decides a.function a.function).1 refl) ((bytes_eq-Decides a.name a.name).1 refl)
+equal_to_itself a = and_true _ _ _ _ ((bytes_eq-Decides a.provider a.provider).1 refl)
+    ((bytes_eq-Decides a.module a.module).1 refl) ((bytes_eq-Decides a.function a.function).1 refl)
+    ((bytes_eq-Decides a.name a.name).1 refl)
 
 pub other_tuple : (a b : ProbeTuple) → false ≡ eq_tuples a b → a ≢ b
 other_tuple a b e same = false≢true (e ∙ ap (λ (t : ProbeTuple). eq_tuples a t) (sym same) ∙ equal_to_itself a)
 
-pub all_at : {A : Type 0} (rows : List A) (k : ℕ) (row : A) (P : A → Type 0) → slice_get rows k ≡ Some row → All P rows → P row
+pub all_at : {A : Type 0} (rows : List A) (k : ℕ) (row : A) (P : A → Type 0) → slice_get rows k ≡ Some row
+    → All P rows → P row
 all_at rows k row P there each =
     subst P (get_or_from_slice_get rows k row row there) (each k row (slice_get_within rows k row there))
 
-pub first_probe : (begin end : List ℕ) (texts : List (List ℕ)) (probes : List Probe) → AreProbes 1 (begin ∷ end ∷ texts) probes → IsSomeAnd (slice_get probes 0) (λ p. SpellsTuple begin p.tuple)
+pub first_probe : (begin end : List ℕ) (texts : List (List ℕ)) (probes : List Probe)
+    → AreProbes 1 (begin ∷ end ∷ texts) probes → IsSomeAnd (slice_get probes 0) (λ p. SpellsTuple begin p.tuple)
 first_probe begin end texts [] are = absurd are
 first_probe begin end texts (p ∷ ps) are = are.1
 
-pub second_probe : (begin end : List ℕ) (texts : List (List ℕ)) (probes : List Probe) → AreProbes 1 (begin ∷ end ∷ texts) probes → IsSomeAnd (slice_get probes 1) (λ p. SpellsTuple end p.tuple)
+pub second_probe : (begin end : List ℕ) (texts : List (List ℕ)) (probes : List Probe)
+    → AreProbes 1 (begin ∷ end ∷ texts) probes → IsSomeAnd (slice_get probes 1) (λ p. SpellsTuple end p.tuple)
 second_probe begin end texts [] are = absurd are
 second_probe begin end texts (p ∷ []) are = absurd are.3
 second_probe begin end texts (p ∷ q ∷ ps) are = are.3.1

@@ -1,3 +1,4 @@
+-- What the contracts of this crate cite.
 pub mod Interest
 pub mod Registry
 pub mod Inside

@@ -9,6 +9,7 @@ use Rattle.dt_machine.specs.Given.{unsigned_at, text_of, list_at}
 use Rattle.dt_machine.specs.Shape.{is_machine}
 use Rattle.dt_machine.specs.Rows.{AccountRow, ProcessRow, FiringRow, account_row, process_row, script_rows, account, process, scripts, AreProbes, IsRightAccount, IsRightProcess, IsRightProbe, IsRightFiring, HasRoom}
 use Rattle.dt_machine.specs.Registry.{Registry, Contents, Belongs}
+use Rattle.dt_machine.specs.declared.limits.TheConstants.{CPUS_MAX}
 
 -- each row is right, given those before it
 abbrev pub AllRight : {A : Type 0} → (List A → A → Type 0) → List A → Type 0
@@ -25,11 +26,13 @@ pub record IsFirstWrong {A : Type 0} (IsRight : List A → A → Type 0) (rows :
 abbrev pub AllRightIn : {A : Type 0} → (List A → A → Type 0) → List (List A) → Type 0
 AllRightIn {A} IsRight scripts = AllRight (λ _ script. AllRight IsRight script) scripts
 
-pub record IsFirstWrongIn {A : Type 0} (IsRight : List A → A → Type 0) (scripts : List (List A)) (cpu at : ℕ) : Type 0 where
+pub record IsFirstWrongIn {A : Type 0} (IsRight : List A → A → Type 0) (scripts : List (List A))
+    (cpu at : ℕ) : Type 0 where
   pub script : List A
   pub there : slice_get scripts cpu ≡ Some script
   pub first : IsFirstWrong IsRight script at
-  pub right_before : (k : ℕ) (earlier : List A) → k < cpu → slice_get scripts k ≡ Some earlier → AllRight IsRight earlier
+  pub right_before : (k : ℕ) (earlier : List A) → k < cpu → slice_get scripts k ≡ Some earlier
+      → AllRight IsRight earlier
 
 -- The sections of a file.
 abbrev pub cpus_in : Data → Option ℕ
@@ -58,13 +61,14 @@ pub record Registers (d : Data) (registry : Registry) : Type 0 where
 abbrev pub Passes : FaultNumber → Data → Type 0
 Passes Json d = Unit {0}
 Passes Shape d = is_machine d ≡ true
-Passes Cpus d = IsSomeAnd (cpus_in d) (λ cpus. (1 ≤ cpus) × (cpus ≤ 64))
+Passes Cpus d = IsSomeAnd (cpus_in d) (λ cpus. (1 ≤ cpus) × (cpus ≤ CPUS_MAX))
 Passes Account d = AllRight IsRightAccount (accounts_in d)
 Passes Process d = AllRight IsRightProcess (processes_in d)
 Passes Probe d = AllRight (IsRightProbe (map process (processes_in d))) (probes_in d)
 Passes Script d = (cpus_in d ≡ Some (length (scripts_in d))) × AllRightIn HasRoom (scripts_in d)
 Passes Firing d = (registry : Registry) × Registers d registry × AllRightIn (IsRightFiring registry) (scripts_in d)
-Passes Foreign d = (registry : Registry) × Registers d registry × AllRightIn (λ _ firing. Belongs registry firing) (scripts 0 (scripts_in d))
+Passes Foreign d = (registry : Registry) × Registers d registry × AllRightIn (λ _ firing. Belongs registry firing)
+    (scripts 0 (scripts_in d))
 Passes Memory d = Unit {0}
 
 -- no processor and no row is meant
@@ -73,7 +77,8 @@ Nowhere cpu row = (cpu ≡ 0) × (row ≡ 0)
 
 -- The scripts are not one for each processor, which goes first, or one is too long, at the first row too many.
 abbrev pub IsScriptFault : ℕ → List (List FiringRow) → ℕ → ℕ → Type 0
-IsScriptFault cpus scripts cpu row = ((cpus ≡ length scripts → ⊥) × Nowhere cpu row) ⊎ ((cpus ≡ length scripts) × IsFirstWrongIn HasRoom scripts cpu row)
+IsScriptFault cpus scripts cpu row = ((cpus ≡ length scripts → ⊥) × Nowhere cpu row)
+    ⊎ ((cpus ≡ length scripts) × IsFirstWrongIn HasRoom scripts cpu row)
 
 -- What the tests of a number find first, and where.
 abbrev pub Finds : FaultNumber → Data → ℕ → ℕ → Type 0
@@ -84,21 +89,23 @@ Finds Account d cpu row = (cpu ≡ 0) × IsFirstWrong IsRightAccount (accounts_i
 Finds Process d cpu row = (cpu ≡ 0) × IsFirstWrong IsRightProcess (processes_in d) row
 Finds Probe d cpu row = (cpu ≡ 0) × IsFirstWrong (IsRightProbe (map process (processes_in d))) (probes_in d) row
 Finds Script d cpu row = (cpus : ℕ) × (cpus_in d ≡ Some cpus) × IsScriptFault cpus (scripts_in d) cpu row
-Finds Firing d cpu row = (registry : Registry) × Registers d registry × IsFirstWrongIn (IsRightFiring registry) (scripts_in d) cpu row
-Finds Foreign d cpu row = (registry : Registry) × Registers d registry × IsFirstWrongIn (λ _ firing. Belongs registry firing) (scripts 0 (scripts_in d)) cpu row
+Finds Firing d cpu row = (registry : Registry) × Registers d registry × IsFirstWrongIn (IsRightFiring registry)
+    (scripts_in d) cpu row
+Finds Foreign d cpu row = (registry : Registry) × Registers d registry
+    × IsFirstWrongIn (λ _ firing. Belongs registry firing) (scripts 0 (scripts_in d)) cpu row
 Finds Memory d cpu row = ⊥
 
-abbrev pub number_of : FaultNumber → ℕ
-number_of Json = 1
-number_of Shape = 2
-number_of Cpus = 3
-number_of Account = 4
-number_of Process = 5
-number_of Probe = 6
-number_of Script = 7
-number_of Firing = 8
-number_of Foreign = 9
-number_of Memory = 10
+abbrev pub rank_of : FaultNumber → ℕ
+rank_of Json = 1
+rank_of Shape = 2
+rank_of Cpus = 3
+rank_of Account = 4
+rank_of Process = 5
+rank_of Probe = 6
+rank_of Script = 7
+rank_of Firing = 8
+rank_of Foreign = 9
+rank_of Memory = 10
 
 -- the text is JSON, and its value is this one
 pub record IsJson (text : List ℕ) (d : Data) : Type 0 where
@@ -107,12 +114,13 @@ pub record IsJson (text : List ℕ) (d : Data) : Type 0 where
 
 -- The first fault of a text: that it is no JSON, or the least number whose tests find something, where they find it
 -- first.
-pub record IsFirstFault (d : Data) (fault : MachineFault) : Type 0 where
+pub record IsFirstFinding (d : Data) (fault : MachineFault) : Type 0 where
   pub found : Finds fault.number d fault.cpu fault.row
-  pub none_before : (earlier : FaultNumber) → number_of earlier < number_of fault.number → Passes earlier d
+  pub none_before : (earlier : FaultNumber) → rank_of earlier < rank_of fault.number → Passes earlier d
 
 abbrev pub IsFaultOf : List ℕ → MachineFault → Type 0
-IsFaultOf text fault = (((d : Data) → IsJson text d → ⊥) × (fault ≡ record { number = Json; cpu = 0; row = 0 })) ⊎ ((d : Data) × IsJson text d × IsFirstFault d fault)
+IsFaultOf text fault = (((d : Data) → IsJson text d → ⊥) × (fault ≡ record { number = Json; cpu = 0; row = 0 }))
+    ⊎ ((d : Data) × IsJson text d × IsFirstFinding d fault)
 
 -- The machine that a text describes: the tests of no number find anything, and this is its registry and its scripts.
 pub record IsDescribed (text : List ℕ) (contents : Contents) : Type 0 where

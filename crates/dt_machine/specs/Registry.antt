@@ -9,6 +9,7 @@ use Rattle.dt_cred.specs.declared.account.Process.{Process}
 use Rattle.dt_cred.specs.declared.class.Class.TheVariants.{Pid}
 use Rattle.dt_cred.specs.declared.probe.Probe.{Probe}
 use Rattle.dt_machine.specs.declared.firing.Firing.{Firing}
+use Rattle.dt_machine.specs.declared.limits.TheConstants.{CPUS_MAX, ACCOUNTS_MAX, PROCESSES_MAX, PID_MAX, PROBE_ID_MAX, SCRIPT_MAX}
 
 -- what every run on a machine has in common: all of its file but the scripts
 pub record Registry : Type 0 where
@@ -65,16 +66,16 @@ pub record IsPlaced (registry : Registry) (cpu place : ℕ) (firing : Firing) : 
 -- What holds of every machine.
 pub record IsSound (contents : Contents) : Type 0 where
   pub some_cpu : 1 ≤ contents.registry.cpus
-  pub few_cpus : contents.registry.cpus ≤ 64
-  pub few_accounts : length contents.registry.accounts ≤ 16
+  pub few_cpus : contents.registry.cpus ≤ CPUS_MAX
+  pub few_accounts : length contents.registry.accounts ≤ ACCOUNTS_MAX
   pub names : AllPairs (λ a b. a.name ≢ b.name) contents.registry.accounts
-  pub few_processes : length contents.registry.processes ≤ 1024
+  pub few_processes : length contents.registry.processes ≤ PROCESSES_MAX
   pub pids : AllPairs (λ a b. a.pid ≢ b.pid) contents.registry.processes
-  pub small_pids : (pid : ℕ) → IfSome (process_of contents.registry pid) (λ process. process.pid ≤ 999999)
-  pub few_probes : length contents.registry.probes ≤ 4098
+  pub small_pids : (pid : ℕ) → IfSome (process_of contents.registry pid) (λ process. process.pid ≤ PID_MAX)
+  pub few_probes : length contents.registry.probes ≤ PROBE_ID_MAX
   pub first : IsSomeAnd (probe_of contents.registry 1) (λ probe. SpellsTuple (codes "dtrace:::BEGIN") probe.tuple)
   pub second : IsSomeAnd (probe_of contents.registry 2) (λ probe. SpellsTuple (codes "dtrace:::END") probe.tuple)
   pub numbered : (id : ℕ) → IfSome (probe_of contents.registry id) (IsNumbered id)
   pub scripts : length contents.scripts ≡ contents.registry.cpus
-  pub short : (cpu : ℕ) → IfSome (slice_get contents.scripts cpu) (λ script. length script ≤ 65536)
+  pub short : (cpu : ℕ) → IfSome (slice_get contents.scripts cpu) (λ script. length script ≤ SCRIPT_MAX)
   pub placed : (cpu place : ℕ) → IfSome (firing_at contents.scripts cpu place) (IsPlaced contents.registry cpu place)

@@ -4,6 +4,8 @@ use Rattle.std.specs.List.{list_any}
 use Rattle.std.specs.Str.{bytes_eq}
 use Rattle.serde_json.specs.Data.{Data}
 use Rattle.dt_names.specs.Tuple.{SpellsTuple}
+use Rattle.dt_names.specs.declared.name.TheConstants.{NAME_MAX}
+use Rattle.dt_names.specs.declared.short_text.TheConstants.{SHORT_TEXT_MAX}
 use Rattle.dt_names.specs.declared.tuple.ProbeTuple.{ProbeTuple}
 use Rattle.dt_cred.specs.Class.{NamesProcess, IsClassOf}
 use Rattle.dt_cred.specs.declared.account.Account.{Account}
@@ -15,6 +17,7 @@ use Rattle.dt_cred.specs.declared.rights.Mode.TheVariants.{User, Kernel}
 use Rattle.dt_machine.specs.declared.firing.Firing.{Firing}
 use Rattle.dt_machine.specs.Given.{unsigned, signed, unsigned_at, text_of, text_at, items_of, list_at}
 use Rattle.dt_machine.specs.Registry.{Registry, probe_of, process_of}
+use Rattle.dt_machine.specs.declared.limits.TheConstants.{ACCOUNTS_MAX, ARGS, SCRIPT_MAX, FRAMES, PID_MAX, PROBES_MAX, PROCESSES_MAX}
 
 -- The rows. A number that is None is one that no such number can be: negative, or past 64 bits.
 pub record AccountRow : Type 0 where
@@ -91,13 +94,13 @@ process row = record { pid = value row.pid; uid = value row.uid; execname = row.
 abbrev pub mode : List ℕ → Mode
 mode text = if bytes_eq text (codes "kernel") then Kernel else User
 
--- the arguments that are given, and zeros up to ten
+-- the arguments that are given, and zeros up to as many as a firing has
 abbrev pub arguments : List (Option ℤ) → List ℤ
-arguments given = map (λ number. unwrap_or number (pos 0)) given ++ replicate (10 - length given) (pos 0)
+arguments given = map (λ number. unwrap_or number (pos 0)) given ++ replicate (ARGS - length given) (pos 0)
 
--- the frames that are given, and zeros up to eight
+-- the frames that are given, and zeros up to as many as a stack has
 abbrev pub frames : List (Option ℕ) → List ℕ
-frames given = map value given ++ replicate (8 - length given) 0
+frames given = map value given ++ replicate (FRAMES - length given) 0
 
 abbrev pub firing : ℕ → ℕ → FiringRow → Firing
 firing cpu place row = record {
@@ -128,7 +131,8 @@ abbrev pub AreProbes : ℕ → List (List ℕ) → List Probe → Type 0
 AreProbes id [] [] = Unit {0}
 AreProbes id [] (probe ∷ probes) = ⊥
 AreProbes id (text ∷ texts) [] = ⊥
-AreProbes id (text ∷ texts) (probe ∷ probes) = (probe.id ≡ id) × SpellsTuple text probe.tuple × IsClassOf probe.tuple.provider probe.class × AreProbes (id + 1) texts probes
+AreProbes id (text ∷ texts) (probe ∷ probes) = (probe.id ≡ id) × SpellsTuple text probe.tuple
+    × IsClassOf probe.tuple.provider probe.class × AreProbes (id + 1) texts probes
 
 -- Where a row is right, given the rows before it.
 abbrev pub IsBelow : ℕ → Option ℕ → Type 0
@@ -139,35 +143,36 @@ abbrev pub IsAccountByte : ℕ → Type 0
 IsAccountByte byte = ((97 ≤ byte) × (byte ≤ 122)) ⊎ (((48 ≤ byte) × (byte ≤ 57)) ⊎ ((byte ≡ 95) ⊎ (byte ≡ 45)))
 
 abbrev pub IsPriv : List ℕ → Type 0
-IsPriv text = (text ≡ codes "dtrace_user") ⊎ ((text ≡ codes "dtrace_proc") ⊎ ((text ≡ codes "dtrace_kernel") ⊎ (text ≡ codes "proc_owner")))
+IsPriv text = (text ≡ codes "dtrace_user")
+    ⊎ ((text ≡ codes "dtrace_proc") ⊎ ((text ≡ codes "dtrace_kernel") ⊎ (text ≡ codes "proc_owner")))
 
 pub record IsAccountName (text : List ℕ) : Type 0 where
   pub some : text ≢ []
-  pub short : length text ≤ 31
+  pub short : length text ≤ NAME_MAX
   pub plain : All IsAccountByte text
 
 pub record IsRightAccount (before : List AccountRow) (row : AccountRow) : Type 0 where
-  pub few : length before < 16
+  pub few : length before < ACCOUNTS_MAX
   pub named : IsAccountName row.name
   pub new : All (λ earlier. earlier.name ≢ row.name) before
   pub uid : IsBelow (2 ^ 32) row.uid
   pub privs : All IsPriv row.privs
 
--- at most 31 visible ASCII characters and spaces
+-- visible ASCII characters and spaces
 pub record IsExecname (text : List ℕ) : Type 0 where
-  pub short : length text ≤ 31
+  pub short : length text ≤ SHORT_TEXT_MAX
   pub plain : All (λ byte. (32 ≤ byte) × (byte ≤ 126)) text
 
 pub record IsRightProcess (before : List ProcessRow) (row : ProcessRow) : Type 0 where
-  pub few : length before < 1024
-  pub pid : IsBelow 1000000 row.pid
+  pub few : length before < PROCESSES_MAX
+  pub pid : IsBelow (PID_MAX + 1) row.pid
   pub new : All (λ earlier. earlier.pid ≢ row.pid) before
   pub uid : IsBelow (2 ^ 32) row.uid
   pub named : IsExecname row.execname
 
 -- A probe is not of the provider `dtrace`, and its `pid` provider names one of the processes, if it has one.
 pub record IsRightProbe (processes : List Process) (before : List (List ℕ)) (text : List ℕ) : Type 0 where
-  pub few : length before < 4096
+  pub few : length before < PROBES_MAX
   pub tuple : ProbeTuple
   pub spelled : SpellsTuple text tuple
   pub given : tuple.provider ≢ codes "dtrace"
@@ -178,15 +183,15 @@ abbrev pub IsMode : List ℕ → Type 0
 IsMode text = (text ≡ codes "user") ⊎ (text ≡ codes "kernel")
 
 pub record AreArguments (given : List (Option ℤ)) : Type 0 where
-  pub few : length given ≤ 10
+  pub few : length given ≤ ARGS
   pub each : All IsSome given
 
 pub record AreFrames (given : List (Option ℕ)) : Type 0 where
-  pub few : length given ≤ 8
+  pub few : length given ≤ FRAMES
   pub each : All IsSome given
 
 abbrev pub HasRoom : List FiringRow → FiringRow → Type 0
-HasRoom before row = length before < 65536
+HasRoom before row = length before < SCRIPT_MAX
 
 -- the identifier of one of the file's probes
 abbrev pub IsGivenProbe : Registry → ℕ → Type 0

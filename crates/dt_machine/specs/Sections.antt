@@ -1,5 +1,5 @@
 -- What the reading of one section of the file answers.
-use Rattle.std.specs.Prelude.{◌≡◌, ◌&&◌, Bool, ◌≢◌, ◌^◌, All, length, ◌<◌, ◌≤◌, ℕ, List, map, find, Vec, IsSome, ◌==◌, nat_eq}
+use Rattle.std.specs.Prelude.{◌≡◌, ◌&&◌, Bool, ◌≢◌, ◌^◌, All, length, ◌<◌, ◌≤◌, ℕ, List, map, find, Vec, IsSome, ◌==◌, nat_eq, IfSome, slice_get, option_and_then}
 use Rattle.std.specs.declared.alloc.Global.{Global}
 use Rattle.std.specs.HashMap.{HashMap, get}
 use Rattle.std.specs.declared.hash.FoldHasher.{FoldHasher}
@@ -15,23 +15,25 @@ use Rattle.std.specs.Str.{bytes_eq}
 use Rattle.dt_names.specs.declared.tuple.ProbeTuple.{ProbeTuple}
 use Rattle.dt_machine.specs.Given.{text_of}
 use Rattle.serde_json.specs.Data.{Data}
-use Rattle.dt_machine.specs.Reading.{IsFirstWrong, Nowhere, Passes, number_of, Registers}
-use Rattle.dt_machine.specs.Registry.{Registry, Contents, probe_of, process_of}
+use Rattle.dt_machine.specs.Reading.{IsFirstWrong, Nowhere, Passes, rank_of, Registers}
+use Rattle.dt_machine.specs.Registry.{Registry, Contents}
 use Rattle.dt_machine.specs.declared.firing.Firing.{Firing}
 use Rattle.dt_cred.specs.declared.class.Class.{Class}
 use Rattle.dt_cred.specs.declared.class.Class.TheVariants.{Dtrace, Syscall, Profile, Pid, Other}
 use Rattle.dt_machine.specs.declared.sections.Sections.{Sections}
+use Rattle.dt_machine.specs.declared.limits.TheConstants.{PROBE_ID_MAX}
 
--- the fault is want of memory, or it is as said
+-- the fault is that memory ran out, or it is as said
 abbrev pub UnlessMemory : MachineFault → Type 0 → Type 0
 UnlessMemory fault P = fault.number ≢ Memory → P
 
--- want of memory names no processor and no row
+-- a fault for memory names no processor and no row
 abbrev pub NowhereIfMemory : MachineFault → Type 0
 NowhereIfMemory fault = fault.number ≡ Memory → Nowhere fault.cpu fault.row
 
 -- the fault of a number at the first row that is not right
-pub record IsMiss {A : Type 0} (wanted : FaultNumber) (IsRight : List A → A → Type 0) (rows : List A) (fault : MachineFault) : Type 0 where
+pub record IsMiss {A : Type 0} (wanted : FaultNumber) (IsRight : List A → A → Type 0) (rows : List A)
+    (fault : MachineFault) : Type 0 where
   pub number : fault.number ≡ wanted
   pub nowhere : fault.cpu ≡ 0
   pub first : IsFirstWrong IsRight rows fault.row
@@ -51,13 +53,16 @@ scripts_rows values = map script_rows (map view values)
 abbrev pub texts : List Value → List (List ℕ)
 texts values = map text_of (map view values)
 
--- the map finds the process of each number
-abbrev pub Indexes : HashMap ℕ Process (BuildHasherDefault FoldHasher) → List Process → Type 0
-Indexes by_pid processes = (pid : ℕ) → get nat_eq by_pid pid ≡ find (λ process. process.pid == pid) processes
+-- The map gives the place of the process of each number, and no place where there is no such process.
+pub record Indexes (by_pid : HashMap ℕ ℕ (BuildHasherDefault FoldHasher)) (processes : List Process) : Type 0 where
+  pub finds : (pid : ℕ) → option_and_then (slice_get processes) (get nat_eq by_pid pid)
+      ≡ find (λ process. process.pid == pid) processes
+  pub within : (pid : ℕ) → IfSome (get nat_eq by_pid pid) (λ place. place < length processes)
 
 -- whether two tuples are equal, name by name
 abbrev pub eq_tuples : ProbeTuple → ProbeTuple → Bool
-eq_tuples a b = bytes_eq a.provider b.provider && bytes_eq a.module b.module && bytes_eq a.function b.function && bytes_eq a.name b.name
+eq_tuples a b = bytes_eq a.provider b.provider && bytes_eq a.module b.module && bytes_eq a.function b.function
+    && bytes_eq a.name b.name
 
 -- what the class of a file's probe has to be
 abbrev pub IsTraced : List Process → Class → Type 0
@@ -68,30 +73,28 @@ IsTraced processes (Pid pid) = IsSome (find (λ process. process.pid == pid) pro
 IsTraced processes Other = Unit {0}
 
 abbrev pub registry_of : Sections → Registry
-registry_of s = record { cpus = s.cpus; accounts = s.accounts.items; processes = s.processes.items; probes = s.probes.items }
+registry_of s = record {
+  cpus = s.cpus;
+  accounts = s.accounts.items;
+  processes = s.processes.items;
+  probes = s.probes.items;
+}
 
 -- the processes are found by their numbers, and there are no more probes than may be
 pub record IsReady (s : Sections) : Type 0 where
   pub finds : Indexes s.by_pid s.processes.items
   pub small : All (λ process. process.pid < 2 ^ 32) s.processes.items
-  pub few : length s.probes.items ≤ 4098
+  pub few : length s.probes.items ≤ PROBE_ID_MAX
 
 -- the tests of the numbers before this one find nothing
 abbrev pub PassesBefore : ℕ → Data → Type 0
-PassesBefore number d = (earlier : FaultNumber) → number_of earlier < number → Passes earlier d
+PassesBefore number d = (earlier : FaultNumber) → rank_of earlier < number → Passes earlier d
 
 -- the sections are those of the file, which is right as far as they go
 pub record AreSections (d : Data) (s : Sections) : Type 0 where
   pub passed : PassesBefore 8 d
   pub registers : Registers d (registry_of s)
   pub ready : IsReady s
-
--- the firing is one of a right row
-pub record IsKnown (registry : Registry) (firing : Firing) : Type 0 where
-  pub cpu : firing.cpu < registry.cpus
-  pub of_file : 3 ≤ firing.probe
-  pub probe : IsSome (probe_of registry firing.probe)
-  pub process : IsSome (process_of registry firing.pid)
 
 abbrev pub contents_with : Registry → List (Vec Firing Global) → Contents
 contents_with registry scripts = record { registry = registry; scripts = map (λ script. script.items) scripts }

@@ -1,3 +1,4 @@
+//! The accounts of the file.
 ghost use Rattle.std.specs.Prelude.{◌≡◌, ◌≢◌, ◌↔◌, ◌≤◌, ◌<◌, All, List, Some, IsTrue, IsSome, IfOk, IfErr, MatchOption, codes, map, length};
 ghost use Rattle.std.specs.List.{list_any};
 ghost use Rattle.std.specs.Str.{bytes_eq};
@@ -8,13 +9,12 @@ ghost use Rattle.dt_machine.specs.Reading.{AllRight};
 ghost use Rattle.dt_machine.specs.Sections.{NowhereIfMemory, UnlessMemory, IsMiss, account_rows, texts};
 
 use crate::fault::{FaultNumber, MachineFault};
-use crate::given::{list_at, text_at, text_of, u32_of, unsigned_at};
+use crate::keys::{list_at, text_at, text_of, u32_of, unsigned_at};
+use crate::limits::ACCOUNTS_MAX;
 use dt_cred::{Account, Privs};
 use dt_names::Name;
 use serde_json::Value;
 use std::alloc::Global;
-
-const ACCOUNTS_MAX: usize = 16;
 
 /// The accounts, or the first that is not right.
 pub(crate) fn read_accounts(alloc: Global, rows: &[Value]) -> Result<Vec<Account>, MachineFault>
@@ -40,7 +40,7 @@ pub(crate) fn read_accounts(alloc: Global, rows: &[Value]) -> Result<Vec<Account
     Ok(accounts)
 }
 
-/// The account of a row, if it is right behind these accounts.
+/// The account of a row, if it is right after these accounts.
 fn account_of(before: &[Account], row: &Value) -> Option<Account>
     ensures { (rows : List AccountRow) → before.now ≡ map account rows
         → MatchOption result (IsRightAccount rows (account_row (view row.now)) → ⊥)

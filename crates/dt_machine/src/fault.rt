@@ -1,3 +1,4 @@
+//! Why a machine file is refused.
 ghost use Rattle.std.specs.Prelude.{◌≡◌};
 
 use std::alloc::{AllocError, AllocFailed};
@@ -11,15 +12,15 @@ pub enum FaultNumber {
     Json = 1,
     /// It is no object, a key is missing, or a value is of the wrong kind.
     Shape = 2,
-    /// There are not 1 to 64 processors.
+    /// There is no processor, or there are more than [`CPUS_MAX`](crate::CPUS_MAX).
     Cpus = 3,
-    /// An account that is not right, or the seventeenth.
+    /// An account that is not right, or one more than [`ACCOUNTS_MAX`](crate::ACCOUNTS_MAX).
     Account = 4,
-    /// A process that is not right, or the 1,025th.
+    /// A process that is not right, or one more than [`PROCESSES_MAX`](crate::PROCESSES_MAX).
     Process = 5,
-    /// A probe that is not right, or the 4,097th.
+    /// A probe that is not right, or one more than [`PROBES_MAX`](crate::PROBES_MAX).
     Probe = 6,
-    /// There is not one script for each processor, or one has more than 65,536 firings.
+    /// There is not one script for each processor, or one has more firings than [`SCRIPT_MAX`](crate::SCRIPT_MAX).
     Script = 7,
     /// A firing that is not right by itself.
     Firing = 8,
@@ -32,9 +33,9 @@ pub enum FaultNumber {
 impl fmt::Display for FaultNumber {
     ghost use Rattle.std.specs.Prelude.{Some};
     ghost use Rattle.std.specs.Fmt.{decimal};
-    ghost use Rattle.dt_machine.specs.Reading.{number_of};
+    ghost use Rattle.dt_machine.specs.Reading.{rank_of};
 
-    ghost output = { λ number. Some (decimal (number_of number)) };
+    ghost output = { λ number. Some (decimal (rank_of number)) };
 
     fn fmt<W: fmt::Write>(&self, f: &mut fmt::Formatter<W>) -> fmt::Result {
         let number = *self as u8;
@@ -42,12 +43,15 @@ impl fmt::Display for FaultNumber {
     }
 }
 
-/// Why a machine file was refused, and where: `cpu` and `row` count from 0, and are 0 where none is meant.
+/// Why a machine file was refused, and where.
 #[derive(Clone, Copy, Debug, PartialEq, Eq, Error)]
 #[error("machine refused {number} at {cpu} {row}")]
 pub struct MachineFault {
+    /// What it is refused for.
     pub number: FaultNumber,
+    /// The processor of the script, from 0 on, and 0 where none is meant.
     pub cpu: u32,
+    /// The row of the section or the script, from 0 on, and 0 where none is meant.
     pub row: u32,
 }
 

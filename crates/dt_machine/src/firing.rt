@@ -1,3 +1,5 @@
+//! One firing.
+use crate::limits::{ARGS, FRAMES};
 use dt_cred::Mode;
 use std::mem::size_of;
 
@@ -12,16 +14,18 @@ pub struct Firing {
     pub probe: u32,
     /// The process in which the probe fired.
     pub pid: u32,
+    /// The thread of that process.
     pub tid: u32,
+    /// Whether it fired in the process itself, or in the kernel.
     pub mode: Mode,
     /// From 0 to 9,223,372,036,854,775,807.
     pub timestamp: i64,
     /// The probe's arguments, and zeros.
-    pub args: [i64; 10],
+    pub args: [i64; ARGS],
     /// The frames in the kernel, and zeros.
-    pub kstack: [u64; 8],
+    pub kstack: [u64; FRAMES],
     /// The frames in the process, and zeros.
-    pub ustack: [u64; 8],
+    pub ustack: [u64; FRAMES],
 }
 
 /// A firing is plain data without a gap but for the mode's, and a script is an array of them.

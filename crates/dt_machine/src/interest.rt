@@ -1,27 +1,32 @@
+//! Sets of probes.
 ghost use Rattle.std.specs.Prelude.{◌≡◌, ◌≢◌, ℕ, ◌≤◌, ◌↔◌, IsTrue};
 ghost use Rattle.dt_machine.specs.Interest.{Names};
 
+use crate::limits::PROBE_ID_MAX;
 use std::marker::Model;
 
-/// The greatest identifier of a probe: 4,096 of the file behind `BEGIN` and `END`.
-pub const PROBE_ID_MAX: u32 = 4098;
+/// A flag for each identifier from 0 on.
+const FLAGS: usize = 4099;
+
+const _: () = prove!(FLAGS == PROBE_ID_MAX as usize + 1);
 
 /// A set of probes, by their identifiers. It lies in the value itself.
 ///
 /// Contracts see it as a list of flags, and ask it by `Names interest id`.
 #[derive(Clone, Copy, PartialEq, Eq)]
 pub struct Interest {
-    flags: [bool; 4099],
+    flags: [bool; FLAGS],
 }
 
 impl Model for Interest {
     ghost use Rattle.std.specs.Prelude.{◌≡◌, Bool, List, length};
+    ghost use Rattle.dt_machine.specs.declared.interest.TheConstants.{FLAGS};
 
     ghost Value = { List Bool };
 
     ghost view = { λ interest. interest.flags };
 
-    ghost invariant = { λ interest. length interest.flags ≡ 4099 };
+    ghost invariant = { λ interest. length interest.flags ≡ FLAGS };
 
     ghost inverse = { λ flags. record { flags = flags } };
 }
@@ -32,7 +37,7 @@ impl Interest {
         ensures { (id : ℕ) → Names result id → ⊥ }
     {
         Interest {
-            flags: [false; 4099],
+            flags: [false; FLAGS],
         }
     }
 

@@ -1,3 +1,4 @@
+//! The law of the reading: a text has one answer.
 ghost use Rattle.std.specs.Prelude.{◌≡◌, ℕ, List};
 ghost use Rattle.dt_machine.specs.Registry.{Contents};
 ghost use Rattle.dt_machine.specs.Reading.{IsDescribed, IsFaultOf};

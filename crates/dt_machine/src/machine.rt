@@ -1,20 +1,20 @@
-ghost use Rattle.std.specs.Prelude.{◌≡◌, ◌≢◌, IfOk, IfErr, option_and_then, slice_get};
+//! The machine, and the reading of its file.
+ghost use Rattle.std.specs.Prelude.{◌≡◌, ◌≢◌, ◌↔◌, IsTrue, IfOk, IfErr};
 ghost use Rattle.std.specs.Option.{option_copied};
 ghost use Rattle.serde_json.specs.Data.{Data};
 ghost use Rattle.serde_json.specs.View.{view};
 ghost use Rattle.dt_machine.specs.Reading.{IsJson};
 ghost use Rattle.dt_machine.specs.Sections.{NowhereIfMemory};
 
+use crate::belonging::first_foreign;
 use crate::fault::{FaultNumber, MachineFault};
 use crate::firing::Firing;
-use crate::foreign::first_foreign;
-use crate::given::list_at;
+use crate::keys::list_at;
 use crate::scripts::read_scripts;
 use crate::sections::Sections;
 use dt_cred::{Account, Probe, Process};
 use serde_json::Value;
 use std::alloc::Global;
-use std::collections::HashMap;
 use std::marker::Model;
 
 /// A machine as its file describes it: its processors, accounts, processes and probes, and for each processor the
@@ -23,11 +23,7 @@ use std::marker::Model;
 /// Contracts see a machine as its `Contents`: the registry, and the scripts. No reader takes memory.
 #[derive(Drop)]
 pub struct Machine {
-    cpus: u32,
-    accounts: Vec<Account>,
-    processes: Vec<Process>,
-    by_pid: HashMap<u32, Process>,
-    probes: Vec<Probe>,
+    sections: Sections,
     scripts: Vec<Vec<Firing>>,
 }
 
@@ -44,14 +40,16 @@ impl Model for Machine {
 }
 
 impl Machine {
-    ghost use Rattle.dt_machine.specs.Registry.{IsSound, account_of, process_of, probe_of, firing_at};
-    ghost use Rattle.dt_machine.specs.Reading.{IsDescribed, IsFaultOf, IsFirstFault};
+    ghost use Rattle.dt_machine.specs.Registry.{IsSound, Belongs, account_of, process_of, probe_of, firing_at};
+    ghost use Rattle.dt_machine.specs.Reading.{IsDescribed, IsFaultOf, IsFirstFinding};
     ghost use Rattle.dt_machine.specs.Sections.{UnlessMemory, IsReady, registry_of, contents_with};
 
     /// Reads a machine file: a JSON object with the keys `cpus`, `accounts`, `processes`, `probes` and `scripts`.
     ///
-    /// The machine is the one that the text describes, and a fault other than [`FaultNumber::Memory`] is the first
-    /// that the text shows. Memory is wanted for the JSON value, and for the machine, which has each firing once.
+    /// The machine is the one that the text describes, and a fault is the first that the text shows: the least
+    /// [`FaultNumber`], at the least processor and there the first row. [`FaultNumber::Memory`] alone may come in
+    /// place of either, where memory is refused. Memory is taken for the JSON value, which is let go before the last
+    /// test, and for the machine, which has each firing once, in 240 bytes.
     pub fn read(alloc: Global, text: &[u8]) -> Result<Machine, MachineFault>
         ensures ok { IfOk result (λ machine. IsDescribed text.now machine) }
         ensures sound { IfOk result (λ machine. IsSound machine) }
@@ -77,41 +75,24 @@ impl Machine {
         requires ready { IsReady sections }
         ensures { result ≡ contents_with (registry_of sections) scripts.items }
     {
-        let Sections {
-            cpus,
-            accounts,
-            processes,
-            by_pid,
-            probes,
-        } = sections;
-        Machine {
-            cpus,
-            accounts,
-            processes,
-            by_pid,
-            probes,
-            scripts,
-        }
+        Machine { sections, scripts }
     }
 
-    /// How many processors there are, from 1 to 64. They are numbered from 0 on.
+    /// How many processors there are, from 1 to [`CPUS_MAX`](crate::CPUS_MAX). They are numbered from 0 on.
     pub fn cpus(&self) -> u32
         ensures value { result ≡ self.now.registry.cpus }
         ensures sound { IsSound self.now }
     {
-        self.cpus
+        self.sections.cpus
     }
 
-    /// The probe of an identifier: 1 is `BEGIN`, 2 is `END`, and those of the file follow in its order.
+    /// The probe of an identifier, if there is one: 1 is `BEGIN`, 2 is `END`, and those of the file follow in its
+    /// order.
     pub fn probe(&self, id: u32) -> Option<&Probe>
         ensures value { option_copied result ≡ probe_of self.now.registry id }
         ensures sound { IsSound self.now }
     {
-        let probes = self.probes.as_slice();
-        if id == 0 {
-            return None;
-        }
-        probes.get(id as usize - 1)
+        self.sections.probe(id)
     }
 
     /// The probes, in the order of their identifiers.
@@ -119,33 +100,43 @@ impl Machine {
         ensures value { result.now ≡ self.now.registry.probes }
         ensures sound { IsSound self.now }
     {
-        self.probes.as_slice()
+        self.sections.probes.as_slice()
     }
 
-    /// The process of a number.
+    /// The process of a number, if there is one. It is looked up by a hash.
     pub fn process(&self, pid: u32) -> Option<&Process>
         ensures value { option_copied result ≡ process_of self.now.registry pid }
         ensures sound { IsSound self.now }
     {
-        self.by_pid.get(&pid)
+        self.sections.process(pid)
     }
 
-    /// The account of a name.
+    /// The account of a name, if there is one.
     pub fn account(&self, name: &[u8]) -> Option<&Account>
         ensures value { option_copied result ≡ account_of self.now.registry name.now }
         ensures sound { IsSound self.now }
     {
-        self.accounts
+        self.sections
+            .accounts
             .iter()
             .find(|account| account.name.as_bytes() == name)
     }
 
-    /// The firing at a place of a processor's script.
+    /// The firing at a place of a processor's script, both from 0 on, if there is one.
     pub fn firing(&self, cpu: u32, place: u32) -> Option<&Firing>
         ensures value { option_copied result ≡ firing_at self.now.scripts cpu place }
         ensures sound { IsSound self.now }
     {
         self.scripts.get(cpu as usize)?.get(place as usize)
+    }
+
+    /// Whether a firing belongs to the machine: its processor is there, its probe is one of the file's, its process is
+    /// there, and it is the process that the probe's `pid` provider names, where the probe has such a provider.
+    pub fn belongs(&self, firing: &Firing) -> bool
+        ensures value { IsTrue result ↔ Belongs self.now.registry firing.now }
+        ensures sound { IsSound self.now }
+    {
+        self.sections.belongs(firing)
     }
 }
 

@@ -1,3 +1,4 @@
+//! The probes of a machine: `BEGIN`, `END` and those of the file.
 ghost use Rattle.std.specs.Prelude.{◌≡◌, ◌≢◌, ◌↔◌, ◌≤◌, ◌<◌, ◌+◌, [], ◌∷◌, All, List, ℕ, Some, None, IsTrue, IsSome, IfOk, IfErr, MatchOption, MatchBool, codes, map, length, find, slice_get, ◌==◌};
 ghost use Rattle.std.specs.List.{list_any};
 ghost use Rattle.dt_names.specs.Tuple.{SpellsTuple};
@@ -8,13 +9,12 @@ ghost use Rattle.dt_machine.specs.Reading.{AllRight};
 ghost use Rattle.dt_machine.specs.Sections.{NowhereIfMemory, UnlessMemory, IsMiss, IsTraced, eq_tuples, texts};
 
 use crate::fault::{FaultNumber, MachineFault};
-use crate::given::text_of;
+use crate::keys::text_of;
+use crate::limits::PROBES_MAX;
 use dt_cred::{Class, Probe, Process};
 use dt_names::ProbeTuple;
 use serde_json::Value;
 use std::alloc::{AllocError, Global};
-
-const PROBES_MAX: usize = 4096;
 
 /// `BEGIN`, `END` and the file's probes, or the first of these that is not right.
 pub(crate) fn read_probes(
@@ -59,7 +59,7 @@ fn own_probes(alloc: Global) -> Result<Vec<Probe>, AllocError>
     Ok(probes)
 }
 
-/// The probe of a row, if it is right behind these of the file.
+/// The probe of a row, if it is right after these of the file.
 fn probe_of(before: &[Probe], processes: &[Process], text: &[u8]) -> Option<Probe>
     ensures { (rows : List (List ℕ)) → AreProbes 3 rows before.now
         → MatchOption result (IsRightProbe processes.now rows text.now → ⊥)

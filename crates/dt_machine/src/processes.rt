@@ -1,24 +1,24 @@
-ghost use Rattle.std.specs.Prelude.{◌≡◌, ◌≢◌, ◌^◌, ◌↔◌, ◌≤◌, ◌<◌, All, List, Some, None, IsTrue, IsSome, IfOk, IfErr, MatchOption, map, length, find, ◌==◌};
+//! The processes of the file.
+ghost use Rattle.std.specs.Prelude.{◌≡◌, ◌≢◌, ◌^◌, ◌+◌, ◌↔◌, ◌≤◌, ◌<◌, All, List, Some, None, IsTrue, IsSome, IfOk, IfErr, MatchOption, map, length, find, ◌==◌};
 ghost use Rattle.serde_json.specs.View.{view};
 ghost use Rattle.dt_machine.specs.Rows.{ProcessRow, process_row, process, value as number_in, IsBelow, IsExecname, IsRightProcess};
 ghost use Rattle.dt_machine.specs.Reading.{AllRight};
 ghost use Rattle.dt_machine.specs.Sections.{NowhereIfMemory, UnlessMemory, IsMiss, Indexes, process_rows};
 
 use crate::fault::{FaultNumber, MachineFault};
-use crate::given::{text_at, u32_of, unsigned_at};
+use crate::keys::{text_at, u32_of, unsigned_at};
+use crate::limits::{PID_MAX, PROCESSES_MAX};
 use dt_cred::Process;
 use dt_names::ShortText;
 use serde_json::Value;
 use std::alloc::Global;
 use std::collections::HashMap;
 
-const PROCESSES_MAX: usize = 1024;
-
-/// The processes, in the file's order and by their numbers, or the first that is not right.
+/// The processes in the file's order, and the place of each by its number, or the first that is not right.
 pub(crate) fn read_processes(
     alloc: Global,
     rows: &[Value],
-) -> Result<(Vec<Process>, HashMap<u32, Process>), MachineFault>
+) -> Result<(Vec<Process>, HashMap<u32, usize>), MachineFault>
     ensures right { IfOk result (λ _. AllRight IsRightProcess (process_rows rows.now)) }
     ensures processes { IfOk result (λ found. found.0.items ≡ map process (process_rows rows.now)) }
     ensures small { IfOk result (λ found. All (λ process. process.pid < 2 ^ 32) found.0.items) }
@@ -32,7 +32,7 @@ pub(crate) fn read_processes(
     for value in rows {
         match process_of(processes.len(), &by_pid, value) {
             Some(process) => {
-                drop(by_pid.insert(process.pid, process)?);
+                drop(by_pid.insert(process.pid, processes.len())?);
                 processes.push(process)?;
             }
             None => {
@@ -47,8 +47,8 @@ pub(crate) fn read_processes(
     Ok((processes, by_pid))
 }
 
-/// The process of a row, if it is right behind these many processes, which are found by their numbers.
-fn process_of(before: usize, by_pid: &HashMap<u32, Process>, row: &Value) -> Option<Process>
+/// The process of a row, if it is right after this many processes, of which the map gives the places.
+fn process_of(before: usize, by_pid: &HashMap<u32, usize>, row: &Value) -> Option<Process>
     ensures { (rows : List ProcessRow) → before ≡ length rows → All (λ r. IsSome r.pid) rows
         → Indexes by_pid.now (map process rows)
         → MatchOption result (IsRightProcess rows (process_row (view row.now)) → ⊥)
@@ -69,11 +69,11 @@ fn process_of(before: usize, by_pid: &HashMap<u32, Process>, row: &Value) -> Opt
 }
 
 fn pid_of(number: Option<u64>) -> Option<u32>
-    ensures { MatchOption result (IsBelow 1000000 number → ⊥)
-        (λ found. IsBelow 1000000 number × (found ≡ number_in number)) }
+    ensures { MatchOption result (IsBelow (PID_MAX + 1) number → ⊥)
+        (λ found. IsBelow (PID_MAX + 1) number × (found ≡ number_in number)) }
 {
     match number {
-        Some(number) if number <= 999_999 => Some(number as u32),
+        Some(number) if number <= u64::from(PID_MAX) => Some(number as u32),
         _ => None,
     }
 }

@@ -1,3 +1,4 @@
+//! The scripts of the file, each a list of firings.
 ghost use Rattle.std.specs.Prelude.{◌≡◌, ◌≢◌, ◌^◌, ◌↔◌, ◌≤◌, ◌<◌, ℕ, All, List, Some, None, IsTrue, IsSome, IsSomeAnd, IfOk, IfErr, IfSome, MatchOption, map, length, slice_get, pos};
 ghost use Rattle.serde_json.specs.View.{view};
 ghost use Rattle.dt_machine.specs.Given.{items_of};
@@ -8,23 +9,22 @@ ghost use Rattle.dt_machine.specs.Sections.{NowhereIfMemory, UnlessMemory, IsRea
 
 use crate::fault::{FaultNumber, MachineFault};
 use crate::firing::Firing;
-use crate::given::{items_of, list_at, text_at, u32_of, unsigned_at};
+use crate::keys::{items_of, list_at, text_at, u32_of, unsigned_at};
+use crate::limits::{CPUS_MAX, SCRIPT_MAX};
 use crate::numbers::{arguments_of, frames_of};
 use crate::sections::Sections;
 use dt_cred::Mode;
 use serde_json::Value;
 use std::alloc::Global;
 
-const FIRINGS_MAX: usize = 65_536;
-
 /// The first processor whose script has too many firings.
 pub(crate) fn first_long(scripts: &[Value]) -> Option<u32>
-    requires { length scripts.now ≤ 64 }
+    requires { length scripts.now ≤ CPUS_MAX }
     ensures { MatchOption result (AllRightIn HasRoom (scripts_rows scripts.now))
-        (λ cpu. IsFirstWrongIn HasRoom (scripts_rows scripts.now) cpu 65536) }
+        (λ cpu. IsFirstWrongIn HasRoom (scripts_rows scripts.now) cpu SCRIPT_MAX) }
 {
     for (cpu, script) in scripts.iter().enumerate() {
-        if items_of(script).len() > FIRINGS_MAX {
+        if items_of(script).len() > SCRIPT_MAX {
             return Some(cpu as u32);
         }
     }
@@ -37,7 +37,7 @@ pub(crate) fn read_scripts(
     sections: &Sections,
     scripts: &[Value],
 ) -> Result<Vec<Vec<Firing>>, MachineFault>
-    requires few { length scripts.now ≤ 64 }
+    requires few { length scripts.now ≤ CPUS_MAX }
     requires short { AllRightIn HasRoom (scripts_rows scripts.now) }
     requires ready { IsReady sections.now }
     ensures right { IfOk result (λ _.
@@ -62,7 +62,7 @@ fn read_script(
     cpu: u32,
     rows: &[Value],
 ) -> Result<Vec<Firing>, MachineFault>
-    requires short { length rows.now ≤ 65536 }
+    requires short { length rows.now ≤ SCRIPT_MAX }
     requires ready { IsReady sections.now }
     ensures right { IfOk result (λ _. AllRight (IsRightFiring (registry_of sections.now)) (firing_rows rows.now)) }
     ensures script { IfOk result (λ found. found.items ≡ script cpu 0 (firing_rows rows.now)) }
@@ -136,7 +136,7 @@ fn pid_of(sections: &Sections, number: Option<u64>) -> Option<u32>
         × (pid ≡ number_in number)) }
 {
     let pid = u32_of(number)?;
-    match sections.by_pid.get(&pid) {
+    match sections.process(pid) {
         Some(_) => Some(pid),
         None => None,
     }

@@ -1,16 +1,21 @@
-ghost use Rattle.std.specs.Prelude.{◌≡◌, ◌≤◌, Some, IfOk, IfErr, MatchOption, map, length, codes};
+//! What the file says but for its scripts: the registry of a machine, and what is found in it.
+ghost use Rattle.std.specs.Prelude.{◌≡◌, ◌↔◌, ◌≤◌, ℕ, Some, IsTrue, IfOk, IfErr, MatchOption, map, length, codes};
+ghost use Rattle.std.specs.Option.{option_copied};
 ghost use Rattle.serde_json.specs.View.{view};
-ghost use Rattle.dt_machine.specs.Reading.{cpus_in, Passes, IsFirstFault, IsScriptFault, AllRightIn};
+ghost use Rattle.dt_machine.specs.Reading.{cpus_in, Passes, IsFirstFinding, IsScriptFault, AllRightIn};
 ghost use Rattle.dt_machine.specs.Rows.{HasRoom, script_rows};
+ghost use Rattle.dt_cred.specs.declared.class.Class.TheVariants.{Pid};
 
 use crate::accounts::read_accounts;
 use crate::fault::{FaultNumber, MachineFault};
-use crate::given::{list_at, unsigned_at};
+use crate::firing::Firing;
+use crate::keys::{list_at, unsigned_at};
+use crate::limits::{CPUS_MAX, SCRIPT_MAX};
 use crate::probes::read_probes;
 use crate::processes::read_processes;
 use crate::scripts::first_long;
 use crate::shape::is_machine;
-use dt_cred::{Account, Probe, Process};
+use dt_cred::{Account, Class, Probe, Process};
 use serde_json::Value;
 use std::alloc::Global;
 use std::collections::HashMap;
@@ -21,18 +26,20 @@ pub(crate) struct Sections {
     pub(crate) cpus: u32,
     pub(crate) accounts: Vec<Account>,
     pub(crate) processes: Vec<Process>,
-    pub(crate) by_pid: HashMap<u32, Process>,
+    /// The place of each process in the list, by its number.
+    pub(crate) by_pid: HashMap<u32, usize>,
     pub(crate) probes: Vec<Probe>,
 }
 
 impl Sections {
-    ghost use Rattle.dt_machine.specs.Sections.{NowhereIfMemory, UnlessMemory, AreSections};
+    ghost use Rattle.dt_machine.specs.Registry.{Belongs, probe_of, process_of};
+    ghost use Rattle.dt_machine.specs.Sections.{NowhereIfMemory, UnlessMemory, AreSections, IsReady, registry_of};
 
     /// The sections of a file, or the first fault of those that go before the firings.
     pub(crate) fn read(alloc: Global, file: &Value) -> Result<Sections, MachineFault>
         ensures ok { IfOk result (λ sections. AreSections (view file.now) sections) }
         ensures memory { IfErr result NowhereIfMemory }
-        ensures fault { IfErr result (λ fault. UnlessMemory fault (IsFirstFault (view file.now) fault)) }
+        ensures fault { IfErr result (λ fault. UnlessMemory fault (IsFirstFinding (view file.now) fault)) }
     {
         if !is_machine(file) {
             return Err(FaultNumber::Shape.nowhere());
@@ -54,23 +61,69 @@ impl Sections {
             }),
         }
     }
+
+    /// The probe of an identifier: 1 is `BEGIN`, 2 is `END`, and those of the file follow in its order.
+    pub(crate) fn probe(&self, id: u32) -> Option<&Probe>
+        ensures { option_copied result ≡ probe_of (registry_of self.now) id }
+    {
+        let probes = self.probes.as_slice();
+        if id == 0 {
+            return None;
+        }
+        probes.get(id as usize - 1)
+    }
+
+    /// The process of a number.
+    pub(crate) fn process(&self, pid: u32) -> Option<&Process>
+        requires { IsReady self.now }
+        ensures { option_copied result ≡ process_of (registry_of self.now) pid }
+    {
+        let place = *self.by_pid.get(&pid)?;
+        self.processes.as_slice().get(place)
+    }
+
+    /// Whether a firing names a processor, a probe of the file and a process that are here, and at a `pid` provider's
+    /// probe the process that this names.
+    pub(crate) fn belongs(&self, firing: &Firing) -> bool
+        requires { IsReady self.now }
+        ensures { IsTrue result ↔ Belongs (registry_of self.now) firing.now }
+    {
+        if firing.cpu >= self.cpus || firing.probe < 3 {
+            return false;
+        }
+        let Some(probe) = self.probe(firing.probe) else {
+            return false;
+        };
+        self.process(firing.pid).is_some() && may_fire_in(probe.class, firing.pid)
+    }
 }
 
-/// The number of processors, if it is from 1 to 64.
+/// Whether a probe of this class can fire in a process: at a `pid` provider only in the one that it names.
+fn may_fire_in(class: Class, pid: u32) -> bool
+    ensures { IsTrue result ↔ ((traced : ℕ) → class ≡ Pid traced → pid ≡ traced) }
+{
+    match class {
+        Class::Pid(traced) => traced == u128::from(pid),
+        Class::Dtrace | Class::Syscall | Class::Profile | Class::Other => true,
+    }
+}
+
+/// The number of processors, if there is one at least and not too many.
 fn cpus_of(file: &Value) -> Option<u32>
     ensures { MatchOption result (Passes FaultNumber.Cpus (view file.now) → ⊥)
         (λ cpus. Passes FaultNumber.Cpus (view file.now) × (cpus_in (view file.now) ≡ Some cpus)) }
 {
     match unsigned_at(file, "cpus", None) {
-        Some(cpus) if cpus >= 1 && cpus <= 64 => Some(cpus as u32),
+        Some(cpus) if cpus >= 1 && cpus <= u64::from(CPUS_MAX) => Some(cpus as u32),
         _ => None,
     }
 }
 
 /// The fault of scripts that are not one for each processor, or of the first that is too long.
 fn script_fault(cpus: u32, scripts: &[Value]) -> Option<MachineFault>
-    requires { cpus ≤ 64 }
-    ensures { MatchOption result ((cpus ≡ length scripts.now) × AllRightIn HasRoom (map script_rows (map view scripts.now)))
+    requires { cpus ≤ CPUS_MAX }
+    ensures { MatchOption result
+        ((cpus ≡ length scripts.now) × AllRightIn HasRoom (map script_rows (map view scripts.now)))
         (λ fault. (fault.number ≡ FaultNumber.Script)
         × IsScriptFault cpus (map script_rows (map view scripts.now)) fault.cpu fault.row) }
 {
@@ -81,7 +134,7 @@ fn script_fault(cpus: u32, scripts: &[Value]) -> Option<MachineFault>
         Some(cpu) => Some(MachineFault {
             number: FaultNumber::Script,
             cpu,
-            row: 65_536,
+            row: SCRIPT_MAX as u32,
         }),
         None => None,
     }

@@ -1,10 +1,11 @@
+//! Whether each value of the file is of its kind.
 ghost use Rattle.std.specs.Prelude.{◌≡◌};
 ghost use Rattle.std.specs.List.{list_all};
 ghost use Rattle.serde_json.specs.View.{view};
 ghost use Rattle.dt_machine.specs.Given.{is_integer, is_text, is_list_of, has, may_have};
 ghost use Rattle.dt_machine.specs.Shape.{is_account, is_process, is_numbers, has_details, has_numbers, is_firing, is_machine};
 
-use crate::given::items;
+use crate::keys::items;
 use serde_json::Value;
 
 /// Whether the five keys are there, and every value is of its kind.

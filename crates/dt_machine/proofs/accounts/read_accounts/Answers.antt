@@ -13,11 +13,18 @@ returns-in-None-clause-fault c other =
     let i = c.loop-value.value-index in
     let there = row_at account_row c.args.rows.now i c.value-item.result c.loop-value-test.true c.value-item.is in
     let few = length-front rows i (account_row (view c.value-item.result)) there in
-    let at : i ≡ c.len.result = omega (arith, few, ap length c.loop-value.invariant.read, length-map (take i rows) account) in
+    let at : i ≡ c.len.result = omega (
+      arith,
+      few,
+      ap length c.loop-value.invariant.read,
+      length-map (take i rows) account,
+    ) in
     record {
       number = refl;
       nowhere = refl;
-      first = subst (IsFirstWrong IsRightAccount rows) at (first_wrong IsRightAccount rows i (account_row (view c.value-item.result)) c.loop-value.invariant.right there (c.in-None.ensures (take i rows) (c.as_slice.ensures.value ∙ c.loop-value.invariant.read)));
+      first = subst (IsFirstWrong IsRightAccount rows) at
+          (first_wrong IsRightAccount rows i (account_row (view c.value-item.result)) c.loop-value.invariant.right
+          there (c.in-None.ensures (take i rows) (c.as_slice.ensures.value ∙ c.loop-value.invariant.read)));
     }
 
 pub loop-value-preserved : goal.loop-value-preserved
@@ -30,9 +37,11 @@ loop-value-preserved c =
     record {
       few = omega (arith, right.0.few, length-front rows i row there);
       right = right_more IsRightAccount rows i row c.loop-value.invariant.right there right.0;
-      read = c.in_ok-push-in-Some.ensures.items ∙ ap (λ found. c.loop-value.accounts.items ++ found ∷ []) right.1 ∙ map_next account rows i row c.loop-value.accounts.items there c.loop-value.invariant.read;
+      read = c.in_ok-push-in-Some.ensures.items ∙ ap (λ found. c.loop-value.accounts.items ++ found ∷ []) right.1
+          ∙ map_next account rows i row c.loop-value.accounts.items there c.loop-value.invariant.read;
     }
 
 pub returns-clause-right : goal.returns-clause-right
 returns-clause-right c =
-    right_all IsRightAccount (account_rows c.args.rows.now) c.loop-value.value-index (omega (arith, length-rows account_row c.args.rows.now, c.loop-value-test.false)) c.loop-value.invariant.right
+    right_all IsRightAccount (account_rows c.args.rows.now) c.loop-value.value-index
+    (omega (arith, length-rows account_row c.args.rows.now, c.loop-value-test.false)) c.loop-value.invariant.right

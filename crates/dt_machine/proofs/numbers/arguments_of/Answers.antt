@@ -10,7 +10,8 @@ use Rattle.dt_machine.proofs.numbers.arguments_of.Goals as goal
 pub returns-in_err-found : goal.returns-in_err-found
 returns-in_err-found c =
     let rows = map signed (map view c.args.list.now) in
-    let there = row_at signed c.args.list.now c.loop-i.i c.index-list-i.result c.loop-i-test.true c.index-list-i.is ∙ ap Some (sym c.as_i64.ensures ∙ c.in_err-found.was) in
+    let there = row_at signed c.args.list.now c.loop-i.i c.index-list-i.result c.loop-i-test.true c.index-list-i.is
+    ∙ ap Some (sym c.as_i64.ensures ∙ c.in_err-found.was) in
     rw c.from_residual.ensures (λ right. none_there rows c.loop-i.i there right.each)
 
 pub loop-i-preserved : goal.loop-i-preserved
@@ -20,8 +21,10 @@ loop-i-preserved c =
     let x = c.in_ok-found.field-0 in
     let f : Option ℤ → ℤ = λ number. unwrap_or number (pos 0) in
     let fits : FitsSigned w64 x = search rules in
-    let there = row_at signed c.args.list.now i c.index-list-i.result c.loop-i-test.true c.index-list-i.is ∙ ap Some (sym c.as_i64.ensures ∙ c.in_ok-found.was) in
+    let there = row_at signed c.args.list.now i c.index-list-i.result c.loop-i-test.true c.index-list-i.is
+    ∙ ap Some (sym c.as_i64.ensures ∙ c.in_ok-found.was) in
     record {
       each = some_step rows i x there c.loop-i.invariant.each;
-      found = ap (set c.loop-i.found i) (to_z-of_z w64 x fits) ∙ pad_step f rows i 10 (Some x) (pos 0) c.loop-i.found there (omega arith) c.loop-i.invariant.found;
+      found = ap (set c.loop-i.found i) (to_z-of_z w64 x fits)
+          ∙ pad_step f rows i 10 (Some x) (pos 0) c.loop-i.found there (omega arith) c.loop-i.invariant.found;
     }

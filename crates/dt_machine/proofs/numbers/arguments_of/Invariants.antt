@@ -6,5 +6,6 @@ use Rattle.dt_machine.proofs.numbers.arguments_of.Given as goal
 abbrev pub invariant-loop-i : goal.invariant-loop-i
 invariant-loop-i l = record {
   each : All IsSome (take l.i (map signed (map view l.list)));
-  found : l.found ≡ map (λ (number : Option ℤ). unwrap_or number (pos 0)) (take l.i (map signed (map view l.list))) ++ replicate (10 - l.i) (pos 0);
+  found : l.found ≡ map (λ (number : Option ℤ). unwrap_or number (pos 0)) (take l.i (map signed (map view l.list)))
+      ++ replicate (10 - l.i) (pos 0);
 }

@@ -9,7 +9,8 @@ use Rattle.dt_machine.proofs.numbers.frames_of.Goals as goal
 pub returns-in_err-found : goal.returns-in_err-found
 returns-in_err-found c =
     let rows = map unsigned (map view c.args.list.now) in
-    let there = row_at unsigned c.args.list.now c.loop-i.i c.index-list-i.result c.loop-i-test.true c.index-list-i.is ∙ ap Some (sym c.as_u64.ensures ∙ c.in_err-found.was) in
+    let there = row_at unsigned c.args.list.now c.loop-i.i c.index-list-i.result c.loop-i-test.true
+    c.index-list-i.is ∙ ap Some (sym c.as_u64.ensures ∙ c.in_err-found.was) in
     rw c.from_residual.ensures (λ right. none_there rows c.loop-i.i there right.each)
 
 pub loop-i-preserved : goal.loop-i-preserved
@@ -17,7 +18,8 @@ loop-i-preserved c =
     let rows = map unsigned (map view c.args.list.now) in
     let i = c.loop-i.i in
     let x = c.in_ok-found.field-0 in
-    let there = row_at unsigned c.args.list.now i c.index-list-i.result c.loop-i-test.true c.index-list-i.is ∙ ap Some (sym c.as_u64.ensures ∙ c.in_ok-found.was) in
+    let there = row_at unsigned c.args.list.now i c.index-list-i.result c.loop-i-test.true c.index-list-i.is
+    ∙ ap Some (sym c.as_u64.ensures ∙ c.in_ok-found.was) in
     record {
       each = some_step rows i x there c.loop-i.invariant.each;
       found = pad_step value rows i 8 (Some x) 0 c.loop-i.found there (omega arith) c.loop-i.invariant.found;

@@ -11,9 +11,10 @@ use Rattle.dt_machine.proofs.Spelling.{length-probes, own_dropped, probes_push}
 use Rattle.dt_machine.proofs.Searching.{row_at, first_wrong, right_more, right_all, take_next, length-front, length-rows}
 use Rattle.dt_machine.proofs.probes.read_probes.Goals as goal
 
--- the slice behind the two own probes
-behind : (probes : List Probe) (shown : List Probe) → shown ≡ probes → 2 ≤ length shown → take (length shown - 2) (drop 2 shown) ≡ drop 2 probes
-behind probes shown e h =
+-- the slice after the two own probes
+after_own : (probes : List Probe) (shown : List Probe) → shown ≡ probes → 2 ≤ length shown
+    → take (length shown - 2) (drop 2 shown) ≡ drop 2 probes
+after_own probes shown e h =
     take_all (length shown - 2) (drop 2 shown) (omega (arith, length-drop 2 shown)) ∙ ap (drop 2) e
 
 pub overflow_cast-result : goal.overflow_cast-result
@@ -22,7 +23,8 @@ overflow_cast-result c =
     let i = c.loop-value.value-index in
     let there = row_at text_of c.args.rows.now i c.value-item.result c.loop-value-test.true c.value-item.is in
     let few = length-front rows i (text_of (view c.value-item.result)) there in
-    let counted = length-probes 1 (codes "dtrace:::BEGIN" ∷ codes "dtrace:::END" ∷ take i rows) c.loop-value.probes.items c.loop-value.invariant.are in
+    let counted = length-probes 1 (codes "dtrace:::BEGIN" ∷ codes "dtrace:::END" ∷ take i rows)
+    c.loop-value.probes.items c.loop-value.invariant.are in
     omega arith
 
 pub returns-in-None-clause-fault : goal.returns-in-None-clause-fault
@@ -32,10 +34,12 @@ returns-in-None-clause-fault c other =
     let text = text_of (view c.value-item.result) in
     let there = row_at text_of c.args.rows.now i c.value-item.result c.loop-value-test.true c.value-item.is in
     let few = length-front rows i text there in
-    let counted = length-probes 1 (codes "dtrace:::BEGIN" ∷ codes "dtrace:::END" ∷ take i rows) c.loop-value.probes.items c.loop-value.invariant.are in
-    let dropped = own_dropped (codes "dtrace:::BEGIN") (codes "dtrace:::END") (take i rows) c.loop-value.probes.items c.loop-value.invariant.are in
+    let counted = length-probes 1 (codes "dtrace:::BEGIN" ∷ codes "dtrace:::END" ∷ take i rows)
+    c.loop-value.probes.items c.loop-value.invariant.are in
+    let dropped = own_dropped (codes "dtrace:::BEGIN") (codes "dtrace:::END")
+    (take i rows) c.loop-value.probes.items c.loop-value.invariant.are in
     let spelled : c.as_bytes.result.now ≡ text = c.as_bytes.ensures.value ∙ c.text_of.ensures in
-    let shown = behind c.loop-value.probes.items c.as_slice.result.now c.as_slice.ensures.value (omega arith) in
+    let shown = after_own c.loop-value.probes.items c.as_slice.result.now c.as_slice.ensures.value (omega arith) in
     let A : List Probe → Type 0 = AreProbes 3 (take i rows) in
     let W : List ℕ → Type 0 = λ t. IsRightProbe c.args.processes.now (take i rows) t → ⊥ in
     let wrong = subst W spelled (c.in-None.ensures (take i rows) (subst A (sym shown) dropped)) in
@@ -43,7 +47,8 @@ returns-in-None-clause-fault c other =
     record {
       number = refl;
       nowhere = refl;
-      first = subst (IsFirstWrong (IsRightProbe c.args.processes.now) rows) at (first_wrong (IsRightProbe c.args.processes.now) rows i text c.loop-value.invariant.right there wrong);
+      first = subst (IsFirstWrong (IsRightProbe c.args.processes.now) rows) at
+          (first_wrong (IsRightProbe c.args.processes.now) rows i text c.loop-value.invariant.right there wrong);
     }
 
 pub loop-value-preserved : goal.loop-value-preserved
@@ -58,15 +63,18 @@ loop-value-preserved c =
     let counted = length-probes 1 (begin ∷ end ∷ take i rows) c.loop-value.probes.items c.loop-value.invariant.are in
     let dropped = own_dropped begin end (take i rows) c.loop-value.probes.items c.loop-value.invariant.are in
     let spelled : c.as_bytes.result.now ≡ text = c.as_bytes.ensures.value ∙ c.text_of.ensures in
-    let shown = behind c.loop-value.probes.items c.as_slice.result.now c.as_slice.ensures.value (omega arith) in
+    let shown = after_own c.loop-value.probes.items c.as_slice.result.now c.as_slice.ensures.value (omega arith) in
     let A : List Probe → Type 0 = AreProbes 3 (take i rows) in
     let found = c.in-Some.ensures (take i rows) (subst A (sym shown) dropped) in
     let W : List ℕ → Type 0 = IsRightProbe c.args.processes.now (take i rows) in
     let S : List ℕ → Type 0 = λ t. SpellsTuple t c.in-Some.probe.tuple in
     let right = subst W spelled found.0 in
-    let number : c.in-Some.probe.id ≡ 1 + length c.loop-value.probes.items = omega (arith, found.1, ap length shown, length-drop 2 c.loop-value.probes.items) in
-    let pushed = probes_push 1 (begin ∷ end ∷ take i rows) c.loop-value.probes.items text c.in-Some.probe c.loop-value.invariant.are number (subst S spelled found.2) found.3 in
-    let T : List (List ℕ) → Type 0 = λ ts. AreProbes 1 (begin ∷ end ∷ ts) (c.loop-value.probes.items ++ c.in-Some.probe ∷ []) in
+    let number : c.in-Some.probe.id ≡ 1 + length c.loop-value.probes.items =
+    omega (arith, found.1, ap length shown, length-drop 2 c.loop-value.probes.items) in
+    let pushed = probes_push 1 (begin ∷ end ∷ take i rows) c.loop-value.probes.items text c.in-Some.probe
+    c.loop-value.invariant.are number (subst S spelled found.2) found.3 in
+    let T : List (List ℕ) → Type 0 = λ ts. AreProbes 1 (begin ∷ end ∷ ts)
+    (c.loop-value.probes.items ++ c.in-Some.probe ∷ []) in
     let N : List Probe → Type 0 = AreProbes 1 (begin ∷ end ∷ take (i + 1) rows) in
     record {
       few = omega (arith, right.few);
@@ -76,4 +84,5 @@ loop-value-preserved c =
 
 pub returns-clause-right : goal.returns-clause-right
 returns-clause-right c =
-    right_all (IsRightProbe c.args.processes.now) (texts c.args.rows.now) c.loop-value.value-index (omega (arith, length-rows text_of c.args.rows.now, c.loop-value-test.false)) c.loop-value.invariant.right
+    right_all (IsRightProbe c.args.processes.now) (texts c.args.rows.now) c.loop-value.value-index
+    (omega (arith, length-rows text_of c.args.rows.now, c.loop-value-test.false)) c.loop-value.invariant.right

@@ -1,5 +1,4 @@
-use Rattle.std.proofs.Common.{◌≡◌, ◌∙◌, ◌<◌, ◌^◌, ℕ, ap, sym, take, find, length, All, IsSome, List, Option, Some, None, arith, refl, subst, [], ◌∷◌, ◌++◌, nat_eq}
-use Rattle.std.specs.HashMap.{get}
+use Rattle.std.proofs.Common.{◌≡◌, ◌∙◌, ◌<◌, ◌^◌, ℕ, ap, sym, take, find, length, All, IsSome, List, Option, Some, None, arith, refl, subst, [], ◌∷◌, ◌++◌}
 use Rattle.std.proofs.lemmas.List.{length-map}
 use Rattle.std.proofs.lemmas.List.Elements.{All-push}
 use Rattle.serde_json.specs.View.{view}
@@ -28,21 +27,31 @@ loop-value-preserved c =
     let few = length-front rows i row there in
     let read = c.loop-value.invariant.read in
     let found : List Process → Type 0 = Indexes c.loop-value.by_pid in
-    let counted : c.len.result ≡ length (take i rows) = omega (arith, ap length read, length-map (take i rows) process) in
-    let right = c.in-Some.ensures (take i rows) counted c.loop-value.invariant.known (subst found read c.loop-value.invariant.indexes) in
+    let counted : c.len.result ≡ length (take i rows) =
+    omega (arith, ap length read, length-map (take i rows) process) in
+    let right = c.in-Some.ensures (take i rows) counted c.loop-value.invariant.known
+    (subst found read c.loop-value.invariant.indexes) in
     let p = c.in-Some.process in
     let fresh : find (at_pid p.pid) c.loop-value.processes.items ≡ None = ap (find (at_pid p.pid)) read ∙ right.2 in
     let pushed : c.push.new.self.items ≡ c.loop-value.processes.items ++ p ∷ [] = c.in_ok-push-in-Some.ensures.items in
+    let placed : c.len-in-Some.result ≡ length c.loop-value.processes.items = omega arith in
     let K : List ProcessRow → Type 0 = All (λ (r : ProcessRow). IsSome r.pid) in
     let S : List Process → Type 0 = All (λ (found : Process). found.pid < 2 ^ 32) in
     let I : List Process → Type 0 = Indexes c.insert.new.self in
     record {
       few = omega (arith, right.0.few);
       right = right_more IsRightProcess rows i row c.loop-value.invariant.right there right.0;
-      known = subst K (sym (take_next rows i row there)) (All-push (λ (r : ProcessRow). IsSome r.pid) (take i rows) row c.loop-value.invariant.known (some_below 1000000 row.pid right.0.pid));
-      read = pushed ∙ ap (λ found. c.loop-value.processes.items ++ found ∷ []) right.1 ∙ map_next process rows i row c.loop-value.processes.items there read;
-      small = subst S (sym pushed) (All-push (λ (found : Process). found.pid < 2 ^ 32) c.loop-value.processes.items p c.loop-value.invariant.small (small_pid p row.pid (ap (λ (found : Process). found.pid) right.1) right.0.pid));
-      indexes = subst I (sym pushed) (indexes_more (get nat_eq c.insert.new.self) (get nat_eq c.loop-value.by_pid) c.loop-value.processes.items p c.loop-value.invariant.indexes c.in_ok-insert-in-Some.ensures.updates.0 fresh);
+      known = subst K (sym (take_next rows i row there))
+          (All-push (λ (r : ProcessRow). IsSome r.pid) (take i rows) row c.loop-value.invariant.known
+          (some_below 1000000 row.pid right.0.pid));
+      read = pushed ∙ ap (λ found. c.loop-value.processes.items ++ found ∷ []) right.1
+          ∙ map_next process rows i row c.loop-value.processes.items there read;
+      small = subst S (sym pushed) (All-push (λ (found : Process). found.pid < 2 ^ 32) c.loop-value.processes.items
+          p c.loop-value.invariant.small (small_pid p row.pid (ap (λ (found : Process). found.pid) right.1)
+          right.0.pid));
+      indexes = subst I (sym pushed) (indexes_more c.insert.new.self c.loop-value.by_pid
+          c.loop-value.processes.items p c.len-in-Some.result placed c.loop-value.invariant.indexes
+          c.in_ok-insert-in-Some.ensures.updates.0 fresh);
     }
 
 pub returns-in-None-clause-fault : goal.returns-in-None-clause-fault
@@ -54,15 +63,19 @@ returns-in-None-clause-fault c other =
     let few = length-front rows i row there in
     let read = c.loop-value.invariant.read in
     let found : List Process → Type 0 = Indexes c.loop-value.by_pid in
-    let counted : c.len.result ≡ length (take i rows) = omega (arith, ap length read, length-map (take i rows) process) in
-    let wrong = c.in-None.ensures (take i rows) counted c.loop-value.invariant.known (subst found read c.loop-value.invariant.indexes) in
+    let counted : c.len.result ≡ length (take i rows) =
+    omega (arith, ap length read, length-map (take i rows) process) in
+    let wrong = c.in-None.ensures (take i rows) counted c.loop-value.invariant.known
+    (subst found read c.loop-value.invariant.indexes) in
     let at : i ≡ c.len-in-None.result = omega (arith, few, ap length read, length-map (take i rows) process) in
     record {
       number = refl;
       nowhere = refl;
-      first = subst (IsFirstWrong IsRightProcess rows) at (first_wrong IsRightProcess rows i row c.loop-value.invariant.right there wrong);
+      first = subst (IsFirstWrong IsRightProcess rows) at
+          (first_wrong IsRightProcess rows i row c.loop-value.invariant.right there wrong);
     }
 
 pub returns-clause-right : goal.returns-clause-right
 returns-clause-right c =
-    right_all IsRightProcess (process_rows c.args.rows.now) c.loop-value.value-index (omega (arith, length-rows process_row c.args.rows.now, c.loop-value-test.false)) c.loop-value.invariant.right
+    right_all IsRightProcess (process_rows c.args.rows.now) c.loop-value.value-index
+    (omega (arith, length-rows process_row c.args.rows.now, c.loop-value-test.false)) c.loop-value.invariant.right

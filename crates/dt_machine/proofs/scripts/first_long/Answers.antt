@@ -7,22 +7,38 @@ use Rattle.dt_machine.proofs.Firings.{too_long, short_enough}
 use Rattle.dt_machine.proofs.Searching.{row_at, right_more, right_all, length-rows}
 use Rattle.dt_machine.proofs.scripts.first_long.Goals as goal
 
-pub returns-then-items_of-gt-FIRINGS_MAX : goal.returns-then-items_of-gt-FIRINGS_MAX
-returns-then-items_of-gt-FIRINGS_MAX c =
+pub returns-then-items_of-gt-SCRIPT_MAX : goal.returns-then-items_of-gt-SCRIPT_MAX
+returns-then-items_of-gt-SCRIPT_MAX c =
     let script = script_rows (view c.index-scripts-cpu.result) in
-    let there = row_at script_rows c.args.scripts.now c.loop-cpu.cpu c.index-scripts-cpu.result c.loop-cpu-test.true c.index-scripts-cpu.is in
-    let counted : length (firing_rows c.items_of.result.now) ≡ length script = ap (λ ds. length (map firing_row ds)) c.items_of.ensures in
-    let long : 65536 < length script = omega (arith, counted, length-rows firing_row c.items_of.result.now, c.if-items_of-gt-FIRINGS_MAX.true) in
+    let there = row_at script_rows c.args.scripts.now c.loop-cpu.cpu c.index-scripts-cpu.result
+    c.loop-cpu-test.true c.index-scripts-cpu.is in
+    let counted : length (firing_rows c.items_of.result.now) ≡ length script =
+    ap (λ ds. length (map firing_row ds)) c.items_of.ensures in
+    let long : 65536 < length script = omega (
+      arith,
+      counted,
+      length-rows firing_row c.items_of.result.now,
+      c.if-items_of-gt-SCRIPT_MAX.true,
+    ) in
     record { script = script; there = there; first = too_long script 65536 long; right_before = c.loop-cpu.invariant }
 
 pub loop-cpu-preserved : goal.loop-cpu-preserved
 loop-cpu-preserved c =
     let script = script_rows (view c.index-scripts-cpu.result) in
-    let there = row_at script_rows c.args.scripts.now c.loop-cpu.cpu c.index-scripts-cpu.result c.loop-cpu-test.true c.index-scripts-cpu.is in
-    let counted : length (firing_rows c.items_of.result.now) ≡ length script = ap (λ ds. length (map firing_row ds)) c.items_of.ensures in
-    let short : length script ≤ 65536 = omega (arith, counted, length-rows firing_row c.items_of.result.now, c.if-items_of-gt-FIRINGS_MAX.false) in
-    right_more (λ _ rows. AllRight HasRoom rows) (scripts_rows c.args.scripts.now) c.loop-cpu.cpu script c.loop-cpu.invariant there (short_enough script 65536 short)
+    let there = row_at script_rows c.args.scripts.now c.loop-cpu.cpu c.index-scripts-cpu.result
+    c.loop-cpu-test.true c.index-scripts-cpu.is in
+    let counted : length (firing_rows c.items_of.result.now) ≡ length script =
+    ap (λ ds. length (map firing_row ds)) c.items_of.ensures in
+    let short : length script ≤ 65536 = omega (
+      arith,
+      counted,
+      length-rows firing_row c.items_of.result.now,
+      c.if-items_of-gt-SCRIPT_MAX.false,
+    ) in
+    right_more (λ _ rows. AllRight HasRoom rows) (scripts_rows c.args.scripts.now) c.loop-cpu.cpu script
+    c.loop-cpu.invariant there (short_enough script 65536 short)
 
 pub returns : goal.returns
 returns c =
-    right_all (λ _ rows. AllRight HasRoom rows) (scripts_rows c.args.scripts.now) c.loop-cpu.cpu (omega (arith, length-rows script_rows c.args.scripts.now, c.loop-cpu-test.false)) c.loop-cpu.invariant
+    right_all (λ _ rows. AllRight HasRoom rows) (scripts_rows c.args.scripts.now) c.loop-cpu.cpu
+    (omega (arith, length-rows script_rows c.args.scripts.now, c.loop-cpu-test.false)) c.loop-cpu.invariant

@@ -10,21 +10,31 @@ pub returns-in-None-clause-fault : goal.returns-in-None-clause-fault
 returns-in-None-clause-fault c other =
     let rows = firing_rows c.args.rows.now in
     let i = c.loop-place.place in
-    let there = row_at firing_row c.args.rows.now i c.index-rows-place.result c.loop-place-test.true c.index-rows-place.is in
-    (refl, refl, first_wrong (IsRightFiring (registry_of c.args.sections.now)) rows i (firing_row (view c.index-rows-place.result)) c.loop-place.invariant.right there (c.in-None.ensures (take i rows)))
+    let there = row_at firing_row c.args.rows.now i c.index-rows-place.result c.loop-place-test.true
+    c.index-rows-place.is in (
+      refl,
+      refl,
+      first_wrong (IsRightFiring (registry_of c.args.sections.now)) rows i
+          (firing_row (view c.index-rows-place.result)) c.loop-place.invariant.right there
+          (c.in-None.ensures (take i rows)),
+    )
 
 pub loop-place-preserved : goal.loop-place-preserved
 loop-place-preserved c =
     let rows = firing_rows c.args.rows.now in
     let i = c.loop-place.place in
     let row = firing_row (view c.index-rows-place.result) in
-    let there = row_at firing_row c.args.rows.now i c.index-rows-place.result c.loop-place-test.true c.index-rows-place.is in
+    let there = row_at firing_row c.args.rows.now i c.index-rows-place.result c.loop-place-test.true
+    c.index-rows-place.is in
     let right = c.in-Some.ensures (take i rows) in
     record {
-      right = right_more (IsRightFiring (registry_of c.args.sections.now)) rows i row c.loop-place.invariant.right there right.0;
-      read = c.in_ok-push-in-Some.ensures.items ∙ ap (λ found. c.loop-place.found.items ++ found ∷ []) right.1 ∙ script_next c.args.cpu rows i row c.loop-place.found.items there c.loop-place.invariant.read;
+      right = right_more (IsRightFiring (registry_of c.args.sections.now)) rows i row c.loop-place.invariant.right
+          there right.0;
+      read = c.in_ok-push-in-Some.ensures.items ∙ ap (λ found. c.loop-place.found.items ++ found ∷ []) right.1
+          ∙ script_next c.args.cpu rows i row c.loop-place.found.items there c.loop-place.invariant.read;
     }
 
 pub returns-clause-right : goal.returns-clause-right
 returns-clause-right c =
-    right_all (IsRightFiring (registry_of c.args.sections.now)) (firing_rows c.args.rows.now) c.loop-place.place (omega (arith, length-rows firing_row c.args.rows.now, c.loop-place-test.false)) c.loop-place.invariant.right
+    right_all (IsRightFiring (registry_of c.args.sections.now)) (firing_rows c.args.rows.now) c.loop-place.place
+    (omega (arith, length-rows firing_row c.args.rows.now, c.loop-place-test.false)) c.loop-place.invariant.right

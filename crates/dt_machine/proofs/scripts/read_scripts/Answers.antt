@@ -14,40 +14,63 @@ use Rattle.dt_machine.proofs.scripts.read_scripts.Goals as goal
 pub read_script-requires-clause-short : goal.read_script-requires-clause-short
 read_script-requires-clause-short c =
     let rows = script_rows (view c.index-scripts-cpu.result) in
-    let there = row_at script_rows c.args.scripts.now c.loop-cpu.cpu c.index-scripts-cpu.result c.loop-cpu-test.true c.index-scripts-cpu.is in
-    let counted : length (firing_rows c.items_of.result.now) ≡ length rows = ap (λ ds. length (map firing_row ds)) c.items_of.ensures in
-    omega (arith, few_rows rows 65536 (c.requires.short c.loop-cpu.cpu rows there), counted, length-rows firing_row c.items_of.result.now)
+    let there = row_at script_rows c.args.scripts.now c.loop-cpu.cpu c.index-scripts-cpu.result
+    c.loop-cpu-test.true c.index-scripts-cpu.is in
+    let counted : length (firing_rows c.items_of.result.now) ≡ length rows =
+    ap (λ ds. length (map firing_row ds)) c.items_of.ensures in
+    omega (
+      arith,
+      few_rows rows 65536 (c.requires.short c.loop-cpu.cpu rows there),
+      counted,
+      length-rows firing_row c.items_of.result.now,
+    )
 
 pub returns-in_err-firings-clause-fault : goal.returns-in_err-firings-clause-fault
 returns-in_err-firings-clause-fault c =
     let all = scripts_rows c.args.scripts.now in
     let e = c.in_err-firings.field-0.0 in
     let rows = script_rows (view c.index-scripts-cpu.result) in
-    let there = row_at script_rows c.args.scripts.now c.loop-cpu.cpu c.index-scripts-cpu.result c.loop-cpu-test.true c.index-scripts-cpu.is in
+    let there = row_at script_rows c.args.scripts.now c.loop-cpu.cpu c.index-scripts-cpu.result
+    c.loop-cpu-test.true c.index-scripts-cpu.is in
     let same : firing_rows c.items_of.result.now ≡ rows = ap (map firing_row) c.items_of.ensures in
     let F : List FiringRow → Type 0 = λ rs. IsFirstWrong (IsRightFiring (registry_of c.args.sections.now)) rs e.row in
     let I : ℕ → Type 0 = λ k. IsFirstWrongIn (IsRightFiring (registry_of c.args.sections.now)) all k e.row in
-    passed_on (λ fault. UnlessMemory fault ((fault.number ≡ FiringNumber) × IsFirstWrongIn (IsRightFiring (registry_of c.args.sections.now)) all fault.cpu fault.row)) c.from_residual.result e c.from_residual.ensures.1
+    passed_on (λ fault. UnlessMemory fault ((fault.number ≡ FiringNumber)
+    × IsFirstWrongIn (IsRightFiring (registry_of c.args.sections.now)) all fault.cpu fault.row))
+    c.from_residual.result e c.from_residual.ensures.1
     (λ other.
-    let f = c.in_err-firings.ensures.fault other in
-    (f.0, subst I (sym f.1) (record { script = rows; there = there; first = subst F same f.2; right_before = c.loop-cpu.invariant.right })))
+    let f = c.in_err-firings.ensures.fault other in (
+      f.0,
+      subst I (sym f.1) (record {
+        script = rows;
+        there = there;
+        first = subst F same f.2;
+        right_before =
+            c.loop-cpu.invariant.right;
+      }),
+    ))
 
 pub loop-cpu-preserved : goal.loop-cpu-preserved
 loop-cpu-preserved c =
     let all = scripts_rows c.args.scripts.now in
     let i = c.loop-cpu.cpu in
     let rows = script_rows (view c.index-scripts-cpu.result) in
-    let there = row_at script_rows c.args.scripts.now i c.index-scripts-cpu.result c.loop-cpu-test.true c.index-scripts-cpu.is in
+    let there = row_at script_rows c.args.scripts.now i c.index-scripts-cpu.result c.loop-cpu-test.true
+    c.index-scripts-cpu.is in
     let same : firing_rows c.items_of.result.now ≡ rows = ap (map firing_row) c.items_of.ensures in
     let A : List FiringRow → Type 0 = AllRight (IsRightFiring (registry_of c.args.sections.now)) in
     let shown : Vec Firing Global → List Firing = λ s. s.items in
     record {
-      right = right_more (λ _ rs. AllRight (IsRightFiring (registry_of c.args.sections.now)) rs) all i rows c.loop-cpu.invariant.right there (subst A same c.in_ok-firings.ensures.right);
+      right = right_more (λ _ rs. AllRight (IsRightFiring (registry_of c.args.sections.now)) rs) all i rows
+          c.loop-cpu.invariant.right there (subst A same c.in_ok-firings.ensures.right);
       read = ap (map shown) c.in_ok-push.ensures.items ∙ map_push shown c.loop-cpu.found.items c.in_ok-firings.firings
-          ∙ ap (λ s. map shown c.loop-cpu.found.items ++ s ∷ []) (c.in_ok-firings.ensures.script ∙ ap (script i 0) same)
+          ∙ ap (λ s. map shown c.loop-cpu.found.items ++ s ∷ [])
+          (c.in_ok-firings.ensures.script ∙ ap (script i 0) same)
           ∙ scripts_next all i rows (map shown c.loop-cpu.found.items) there c.loop-cpu.invariant.read;
     }
 
 pub returns-clause-right : goal.returns-clause-right
 returns-clause-right c =
-    right_all (λ _ rows. AllRight (IsRightFiring (registry_of c.args.sections.now)) rows) (scripts_rows c.args.scripts.now) c.loop-cpu.cpu (omega (arith, length-rows script_rows c.args.scripts.now, c.loop-cpu-test.false)) c.loop-cpu.invariant.right
+    right_all (λ _ rows. AllRight (IsRightFiring (registry_of c.args.sections.now)) rows)
+    (scripts_rows c.args.scripts.now) c.loop-cpu.cpu
+    (omega (arith, length-rows script_rows c.args.scripts.now, c.loop-cpu-test.false)) c.loop-cpu.invariant.right

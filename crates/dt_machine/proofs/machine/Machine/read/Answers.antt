@@ -6,12 +6,15 @@ use Rattle.dt_machine.specs.declared.firing.Firing.{Firing as FiringType}
 use Rattle.dt_machine.specs.Reading.{AllRightIn, IsFaultOf, IsFirstWrongIn, IsDescribed, scripts_in}
 use Rattle.dt_machine.specs.Registry.{Belongs, Contents, IsSound}
 use Rattle.dt_machine.specs.Rows.{FiringRow, HasRoom, IsRightFiring, script_rows, scripts}
-use Rattle.dt_machine.specs.Sections.{UnlessMemory, IsKnown, registry_of, scripts_rows}
+use Rattle.dt_machine.specs.Sections.{UnlessMemory, registry_of, scripts_rows}
 use Rattle.dt_machine.proofs.Exits.{passed_on}
 use Rattle.dt_machine.proofs.Faults.{one_more, first_fault, all_pass}
 use Rattle.dt_machine.proofs.Searching.{length-rows}
-use Rattle.dt_machine.proofs.Soundness.{has_passed, cpus_within, one_script_each, short_scripts, known_scripts, length-scripts, sound}
+use Rattle.dt_machine.proofs.Soundness.{has_passed, cpus_within, one_script_each, short_scripts, length-scripts, sound}
 use Rattle.dt_machine.proofs.machine.Machine.read.Goals as goal
+
+abbrev shown : Vec FiringType Global → List FiringType
+shown script = script.items
 
 pub read_scripts-requires-clause-few : goal.read_scripts-requires-clause-few
 read_scripts-requires-clause-few c =
@@ -20,7 +23,13 @@ read_scripts-requires-clause-few c =
     let h = has_passed d s c.in_ok-sections.ensures.ok in
     let cpus = cpus_within d (registry_of s) h in
     let same : scripts_rows c.list_at.result.now ≡ scripts_in d = ap (map script_rows) c.list_at.ensures in
-    omega (arith, cpus.1, one_script_each d (registry_of s) h, ap length same, length-rows script_rows c.list_at.result.now)
+    omega (
+      arith,
+      cpus.1,
+      one_script_each d (registry_of s) h,
+      ap length same,
+      length-rows script_rows c.list_at.result.now,
+    )
 
 pub read_scripts-requires-clause-short : goal.read_scripts-requires-clause-short
 read_scripts-requires-clause-short c =
@@ -37,11 +46,18 @@ returns-in_err-scripts-clause-fault c =
     let a = c.in_ok-sections.ensures.ok in
     let e = c.in_err-scripts.field-0.0 in
     let same : scripts_rows c.list_at.result.now ≡ scripts_in d = ap (map script_rows) c.list_at.ensures in
-    let W : List (List FiringRow) → Type 0 = λ rows. IsFirstWrongIn (IsRightFiring (registry_of c.in_ok-sections.sections)) rows e.cpu e.row in
-    passed_on (λ fault. UnlessMemory fault (IsFaultOf c.args.text.now fault)) c.from_residual-in_err-scripts.result e c.from_residual-in_err-scripts.ensures.1
+    let W : List (List FiringRow) → Type 0 = λ rows. IsFirstWrongIn
+    (IsRightFiring (registry_of c.in_ok-sections.sections)) rows e.cpu e.row in
+    passed_on (λ fault. UnlessMemory fault (IsFaultOf c.args.text.now fault)) c.from_residual-in_err-scripts.result
+    e c.from_residual-in_err-scripts.ensures.1
     (λ other.
     let f = c.in_err-scripts.ensures.fault other in
-    inr (d, c.in_ok-file.ensures.ok, first_fault d e Firing f.0 (registry_of s, a.registers, subst W same f.1) a.passed))
+    inr (
+      d,
+      c.in_ok-file.ensures.ok,
+      first_fault d e Firing f.0 (registry_of s, a.registers, subst W same f.1)
+          a.passed,
+    ))
 
 pub first_foreign-requires-clause-few : goal.first_foreign-requires-clause-few
 first_foreign-requires-clause-few c =
@@ -50,28 +66,27 @@ first_foreign-requires-clause-few c =
     let h = has_passed d s c.in_ok-sections.ensures.ok in
     let cpus = cpus_within d (registry_of s) h in
     let same : scripts_rows c.list_at.result.now ≡ scripts_in d = ap (map script_rows) c.list_at.ensures in
-    let all : map (λ (script : Vec FiringType Global). script.items) c.in_ok-scripts.scripts.items ≡ scripts 0 (scripts_in d) = c.in_ok-scripts.ensures.scripts ∙ ap (scripts 0) same in
-    omega (arith, cpus.1, one_script_each d (registry_of s) h, ap length all, length-scripts 0 (scripts_in d), length-map c.in_ok-scripts.scripts.items (λ (script : Vec FiringType Global). script.items), ap length c.as_slice.ensures.value)
+    let all : map shown c.in_ok-scripts.scripts.items ≡ scripts 0 (scripts_in d) = c.in_ok-scripts.ensures.scripts
+    ∙ ap (scripts 0) same in
+    omega (
+      arith,
+      cpus.1,
+      one_script_each d (registry_of s) h,
+      ap length all,
+      length-scripts 0 (scripts_in d),
+      length-map c.in_ok-scripts.scripts.items shown,
+      ap length c.as_slice.ensures.value,
+    )
 
 pub first_foreign-requires-clause-short : goal.first_foreign-requires-clause-short
 first_foreign-requires-clause-short c =
     let d = view c.in_ok-file.file in
     let h = has_passed d c.in_ok-sections.sections c.in_ok-sections.ensures.ok in
     let same : scripts_rows c.list_at.result.now ≡ scripts_in d = ap (map script_rows) c.list_at.ensures in
-    let all : map (λ (script : Vec FiringType Global). script.items) c.as_slice.result.now ≡ scripts 0 (scripts_in d) = ap (map (λ (script : Vec FiringType Global). script.items)) c.as_slice.ensures.value ∙ c.in_ok-scripts.ensures.scripts ∙ ap (scripts 0) same in
+    let all : map shown c.as_slice.result.now ≡ scripts 0 (scripts_in d) = ap (map shown) c.as_slice.ensures.value
+    ∙ c.in_ok-scripts.ensures.scripts ∙ ap (scripts 0) same in
     let S : List (List FiringType) → Type 0 = AllRightIn (λ before _. length before < 65536) in
     subst S (sym all) (short_scripts (scripts_in d) h.scripts.1)
-
-pub first_foreign-requires-clause-known : goal.first_foreign-requires-clause-known
-first_foreign-requires-clause-known c =
-    let d = view c.in_ok-file.file in
-    let s = c.in_ok-sections.sections in
-    let h = has_passed d s c.in_ok-sections.ensures.ok in
-    let same : scripts_rows c.list_at.result.now ≡ scripts_in d = ap (map script_rows) c.list_at.ensures in
-    let all : map (λ (script : Vec FiringType Global). script.items) c.as_slice.result.now ≡ scripts 0 (scripts_in d) = ap (map (λ (script : Vec FiringType Global). script.items)) c.as_slice.ensures.value ∙ c.in_ok-scripts.ensures.scripts ∙ ap (scripts 0) same in
-    let R : List (List FiringRow) → Type 0 = AllRightIn (IsRightFiring (registry_of c.in_ok-sections.sections)) in
-    let K : List (List FiringType) → Type 0 = AllRightIn (λ _ found. IsKnown (registry_of c.in_ok-sections.sections) found) in
-    subst K (sym all) (known_scripts (registry_of s) (scripts_in d) (one_script_each d (registry_of s) h) (subst R same c.in_ok-scripts.ensures.right))
 
 pub returns-in-Some-clause-fault : goal.returns-in-Some-clause-fault
 returns-in-Some-clause-fault c other =
@@ -79,11 +94,18 @@ returns-in-Some-clause-fault c other =
     let s = c.in_ok-sections.sections in
     let a = c.in_ok-sections.ensures.ok in
     let same : scripts_rows c.list_at.result.now ≡ scripts_in d = ap (map script_rows) c.list_at.ensures in
-    let all : map (λ (script : Vec FiringType Global). script.items) c.as_slice.result.now ≡ scripts 0 (scripts_in d) = ap (map (λ (script : Vec FiringType Global). script.items)) c.as_slice.ensures.value ∙ c.in_ok-scripts.ensures.scripts ∙ ap (scripts 0) same in
+    let all : map shown c.as_slice.result.now ≡ scripts 0 (scripts_in d) = ap (map shown) c.as_slice.ensures.value
+    ∙ c.in_ok-scripts.ensures.scripts ∙ ap (scripts 0) same in
     let R : List (List FiringRow) → Type 0 = AllRightIn (IsRightFiring (registry_of c.in_ok-sections.sections)) in
-    let W : List (List FiringType) → Type 0 = λ found. IsFirstWrongIn (λ _ firing. Belongs (registry_of c.in_ok-sections.sections) firing) found c.in-Some.cpu c.in-Some.row in
+    let W : List (List FiringType) → Type 0 = λ found. IsFirstWrongIn
+    (λ _ firing. Belongs (registry_of c.in_ok-sections.sections) firing) found c.in-Some.cpu c.in-Some.row in
     let before = one_more d Firing a.passed (registry_of s, a.registers, subst R same c.in_ok-scripts.ensures.right) in
-    inr (d, c.in_ok-file.ensures.ok, first_fault d _ Foreign refl (registry_of s, a.registers, subst W all c.in-Some.ensures) before)
+    inr (
+      d,
+      c.in_ok-file.ensures.ok,
+      first_fault d _ Foreign refl
+          (registry_of s, a.registers, subst W all c.in-Some.ensures) before,
+    )
 
 pub new-requires-clause-sound : goal.new-requires-clause-sound
 new-requires-clause-sound c =
@@ -91,10 +113,14 @@ new-requires-clause-sound c =
     let s = c.in_ok-sections.sections in
     let h = has_passed d s c.in_ok-sections.ensures.ok in
     let same : scripts_rows c.list_at.result.now ≡ scripts_in d = ap (map script_rows) c.list_at.ensures in
-    let found : map (λ (script : Vec FiringType Global). script.items) c.in_ok-scripts.scripts.items ≡ scripts 0 (scripts_in d) = c.in_ok-scripts.ensures.scripts ∙ ap (scripts 0) same in
-    let all : map (λ (script : Vec FiringType Global). script.items) c.as_slice.result.now ≡ scripts 0 (scripts_in d) = ap (map (λ (script : Vec FiringType Global). script.items)) c.as_slice.ensures.value ∙ found in
-    let B : List (List FiringType) → Type 0 = AllRightIn (λ _ firing. Belongs (registry_of c.in_ok-sections.sections) firing) in
-    let S : List (List FiringType) → Type 0 = λ firings. IsSound (record { registry = registry_of c.in_ok-sections.sections; scripts = firings }) in
+    let found : map shown c.in_ok-scripts.scripts.items ≡ scripts 0 (scripts_in d) =
+    c.in_ok-scripts.ensures.scripts ∙ ap (scripts 0) same in
+    let all : map shown c.as_slice.result.now ≡ scripts 0 (scripts_in d) = ap (map shown) c.as_slice.ensures.value
+    ∙ found in
+    let B : List (List FiringType) → Type 0 =
+    AllRightIn (λ _ firing. Belongs (registry_of c.in_ok-sections.sections) firing) in
+    let S : List (List FiringType) → Type 0 = λ firings. IsSound
+    (record { registry = registry_of c.in_ok-sections.sections; scripts = firings }) in
     subst S (sym found) (sound d (registry_of s) h (subst B all c.in-None.ensures))
 
 pub returns-in-None-clause-ok : goal.returns-in-None-clause-ok
@@ -103,11 +129,16 @@ returns-in-None-clause-ok c =
     let s = c.in_ok-sections.sections in
     let a = c.in_ok-sections.ensures.ok in
     let same : scripts_rows c.list_at.result.now ≡ scripts_in d = ap (map script_rows) c.list_at.ensures in
-    let found : map (λ (script : Vec FiringType Global). script.items) c.in_ok-scripts.scripts.items ≡ scripts 0 (scripts_in d) = c.in_ok-scripts.ensures.scripts ∙ ap (scripts 0) same in
-    let all : map (λ (script : Vec FiringType Global). script.items) c.as_slice.result.now ≡ scripts 0 (scripts_in d) = ap (map (λ (script : Vec FiringType Global). script.items)) c.as_slice.ensures.value ∙ found in
+    let found : map shown c.in_ok-scripts.scripts.items ≡ scripts 0 (scripts_in d) =
+    c.in_ok-scripts.ensures.scripts ∙ ap (scripts 0) same in
+    let all : map shown c.as_slice.result.now ≡ scripts 0 (scripts_in d) = ap (map shown) c.as_slice.ensures.value
+    ∙ found in
     let R : List (List FiringRow) → Type 0 = AllRightIn (IsRightFiring (registry_of c.in_ok-sections.sections)) in
-    let B : List (List FiringType) → Type 0 = AllRightIn (λ _ firing. Belongs (registry_of c.in_ok-sections.sections) firing) in
-    let before = one_more d Foreign (one_more d Firing a.passed (registry_of s, a.registers, subst R same c.in_ok-scripts.ensures.right)) (registry_of s, a.registers, subst B all c.in-None.ensures) in
+    let B : List (List FiringType) → Type 0 =
+    AllRightIn (λ _ firing. Belongs (registry_of c.in_ok-sections.sections) firing) in
+    let before = one_more d Foreign (one_more d Firing a.passed
+    (registry_of s, a.registers, subst R same c.in_ok-scripts.ensures.right))
+    (registry_of s, a.registers, subst B all c.in-None.ensures) in
     let I : Contents → Type 0 = IsDescribed c.args.text.now in
     subst I (sym c.new.ensures) (record {
       data_of = d;

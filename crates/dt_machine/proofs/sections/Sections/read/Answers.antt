@@ -3,7 +3,7 @@ use Rattle.serde_json.specs.View.{view}
 use Rattle.dt_cred.specs.declared.account.Process.{Process as ProcessType}
 use Rattle.dt_machine.specs.declared.fault.FaultNumber.TheVariants.{Shape, Cpus, Account, Process, Probe, Script}
 use Rattle.dt_machine.specs.Given.{text_of}
-use Rattle.dt_machine.specs.Reading.{AllRight, AllRightIn, IsFirstFault, IsFirstWrong, IsScriptFault, Passes, accounts_in, processes_in, probes_in, scripts_in}
+use Rattle.dt_machine.specs.Reading.{AllRight, AllRightIn, IsFirstFinding, IsFirstWrong, IsScriptFault, Passes, accounts_in, processes_in, probes_in, scripts_in}
 use Rattle.dt_machine.specs.Rows.{AccountRow, ProcessRow, FiringRow, account_row, process_row, script_rows, account, process, AreProbes, IsRightAccount, IsRightProcess, IsRightProbe, HasRoom}
 use Rattle.dt_machine.specs.Sections.{UnlessMemory, account_rows, process_rows, texts}
 use Rattle.dt_machine.proofs.Exits.{passed_on}
@@ -22,8 +22,10 @@ returns-in_err-processes-clause-fault c =
     let A : List AccountRow → Type 0 = AllRight IsRightAccount in
     let W : List ProcessRow → Type 0 = λ rows. IsFirstWrong IsRightProcess rows e.row in
     let shape : Passes Shape d = sym c.is_machine.ensures ∙ c.if-not-is_machine.false in
-    let before = one_more d Account (one_more d Cpus (one_more d Shape (json_passes d) shape) c.in-Some.ensures.0) (subst A accounts c.in_ok-accounts.ensures.right) in
-    passed_on (λ fault. UnlessMemory fault (IsFirstFault d fault)) c.from_residual-in_err-processes.result e c.from_residual-in_err-processes.ensures.1
+    let before = one_more d Account (one_more d Cpus (one_more d Shape (json_passes d) shape) c.in-Some.ensures.0)
+    (subst A accounts c.in_ok-accounts.ensures.right) in
+    passed_on (λ fault. UnlessMemory fault (IsFirstFinding d fault)) c.from_residual-in_err-processes.result e
+    c.from_residual-in_err-processes.ensures.1
     (λ other.
     let m = c.in_err-processes.ensures.fault other in
     first_fault d e Process m.number (m.nowhere, subst W processes m.first) before)
@@ -35,14 +37,18 @@ returns-in_err-probes-clause-fault c =
     let accounts : account_rows c.list_at.result.now ≡ accounts_in d = ap (map account_row) c.list_at.ensures in
     let processes : process_rows c.list_at-2.result.now ≡ processes_in d = ap (map process_row) c.list_at-2.ensures in
     let probes : texts c.list_at-3.result.now ≡ probes_in d = ap (map text_of) c.list_at-3.ensures in
-    let shown : c.as_slice.result.now ≡ map process (processes_in d) = c.as_slice.ensures.value ∙ c.in_ok-processes.ensures.processes ∙ ap (map process) processes in
+    let shown : c.as_slice.result.now ≡ map process (processes_in d) = c.as_slice.ensures.value
+    ∙ c.in_ok-processes.ensures.processes ∙ ap (map process) processes in
     let A : List AccountRow → Type 0 = AllRight IsRightAccount in
     let P : List ProcessRow → Type 0 = AllRight IsRightProcess in
     let W : List (List ℕ) → Type 0 = λ rows. IsFirstWrong (IsRightProbe c.as_slice.result.now) rows e.row in
     let V : List ProcessType → Type 0 = λ ps. IsFirstWrong (IsRightProbe ps) (probes_in d) e.row in
     let shape : Passes Shape d = sym c.is_machine.ensures ∙ c.if-not-is_machine.false in
-    let before = one_more d Process (one_more d Account (one_more d Cpus (one_more d Shape (json_passes d) shape) c.in-Some.ensures.0) (subst A accounts c.in_ok-accounts.ensures.right)) (subst P processes c.in_ok-processes.ensures.right) in
-    passed_on (λ fault. UnlessMemory fault (IsFirstFault d fault)) c.from_residual-in_err-probes.result e c.from_residual-in_err-probes.ensures.1
+    let before = one_more d Process (one_more d Account
+    (one_more d Cpus (one_more d Shape (json_passes d) shape) c.in-Some.ensures.0)
+    (subst A accounts c.in_ok-accounts.ensures.right)) (subst P processes c.in_ok-processes.ensures.right) in
+    passed_on (λ fault. UnlessMemory fault (IsFirstFinding d fault)) c.from_residual-in_err-probes.result e
+    c.from_residual-in_err-probes.ensures.1
     (λ other.
     let m = c.in_err-probes.ensures.fault other in
     first_fault d e Probe m.number (m.nowhere, subst V shown (subst W probes m.first)) before)
@@ -54,16 +60,22 @@ returns-in-Some-script_fault-clause-fault c other =
     let accounts : account_rows c.list_at.result.now ≡ accounts_in d = ap (map account_row) c.list_at.ensures in
     let processes : process_rows c.list_at-2.result.now ≡ processes_in d = ap (map process_row) c.list_at-2.ensures in
     let probes : texts c.list_at-3.result.now ≡ probes_in d = ap (map text_of) c.list_at-3.ensures in
-    let scripts : map script_rows (map view c.list_at-4.result.now) ≡ scripts_in d = ap (map script_rows) c.list_at-4.ensures in
-    let shown : c.as_slice.result.now ≡ map process (processes_in d) = c.as_slice.ensures.value ∙ c.in_ok-processes.ensures.processes ∙ ap (map process) processes in
+    let scripts : map script_rows (map view c.list_at-4.result.now) ≡ scripts_in d =
+    ap (map script_rows) c.list_at-4.ensures in
+    let shown : c.as_slice.result.now ≡ map process (processes_in d) = c.as_slice.ensures.value
+    ∙ c.in_ok-processes.ensures.processes ∙ ap (map process) processes in
     let A : List AccountRow → Type 0 = AllRight IsRightAccount in
     let P : List ProcessRow → Type 0 = AllRight IsRightProcess in
     let W : List (List ℕ) → Type 0 = AllRight (IsRightProbe c.as_slice.result.now) in
     let V : List ProcessType → Type 0 = λ ps. AllRight (IsRightProbe ps) (probes_in d) in
     let S : List (List FiringRow) → Type 0 = λ rows. IsScriptFault c.in-Some.cpus rows e.cpu e.row in
     let shape : Passes Shape d = sym c.is_machine.ensures ∙ c.if-not-is_machine.false in
-    let before = one_more d Probe (one_more d Process (one_more d Account (one_more d Cpus (one_more d Shape (json_passes d) shape) c.in-Some.ensures.0) (subst A accounts c.in_ok-accounts.ensures.right)) (subst P processes c.in_ok-processes.ensures.right)) (subst V shown (subst W probes c.in_ok-probes.ensures.right)) in
-    first_fault d e Script c.in-Some-script_fault.ensures.0 (c.in-Some.cpus, c.in-Some.ensures.1, subst S scripts c.in-Some-script_fault.ensures.1) before
+    let before = one_more d Probe (one_more d Process
+    (one_more d Account (one_more d Cpus (one_more d Shape (json_passes d) shape) c.in-Some.ensures.0)
+    (subst A accounts c.in_ok-accounts.ensures.right)) (subst P processes c.in_ok-processes.ensures.right))
+    (subst V shown (subst W probes c.in_ok-probes.ensures.right)) in
+    first_fault d e Script c.in-Some-script_fault.ensures.0
+    (c.in-Some.cpus, c.in-Some.ensures.1, subst S scripts c.in-Some-script_fault.ensures.1) before
 
 pub returns-in-None-clause-ok : goal.returns-in-None-clause-ok
 returns-in-None-clause-ok c =
@@ -71,22 +83,30 @@ returns-in-None-clause-ok c =
     let accounts : account_rows c.list_at.result.now ≡ accounts_in d = ap (map account_row) c.list_at.ensures in
     let processes : process_rows c.list_at-2.result.now ≡ processes_in d = ap (map process_row) c.list_at-2.ensures in
     let probes : texts c.list_at-3.result.now ≡ probes_in d = ap (map text_of) c.list_at-3.ensures in
-    let scripts : map script_rows (map view c.list_at-4.result.now) ≡ scripts_in d = ap (map script_rows) c.list_at-4.ensures in
-    let listed : c.in_ok-processes.processes.items ≡ map process (processes_in d) = c.in_ok-processes.ensures.processes ∙ ap (map process) processes in
+    let scripts : map script_rows (map view c.list_at-4.result.now) ≡ scripts_in d =
+    ap (map script_rows) c.list_at-4.ensures in
+    let listed : c.in_ok-processes.processes.items ≡ map process (processes_in d) =
+    c.in_ok-processes.ensures.processes ∙ ap (map process) processes in
     let shown : c.as_slice.result.now ≡ map process (processes_in d) = c.as_slice.ensures.value ∙ listed in
     let A : List AccountRow → Type 0 = AllRight IsRightAccount in
     let P : List ProcessRow → Type 0 = AllRight IsRightProcess in
     let W : List (List ℕ) → Type 0 = AllRight (IsRightProbe c.as_slice.result.now) in
     let V : List ProcessType → Type 0 = λ ps. AllRight (IsRightProbe ps) (probes_in d) in
     let S : List (List FiringRow) → Type 0 = AllRightIn HasRoom in
-    let R : List (List ℕ) → Type 0 = λ rows. AreProbes 1 (codes "dtrace:::BEGIN" ∷ codes "dtrace:::END" ∷ rows) c.in_ok-probes.probes.items in
+    let R : List (List ℕ) → Type 0 = λ rows. AreProbes 1 (codes "dtrace:::BEGIN" ∷ codes "dtrace:::END" ∷ rows)
+    c.in_ok-probes.probes.items in
     let shape : Passes Shape d = sym c.is_machine.ensures ∙ c.if-not-is_machine.false in
     let right = subst V shown (subst W probes c.in_ok-probes.ensures.right) in
     let are = subst R probes c.in_ok-probes.ensures.probes in
-    let before = one_more d Probe (one_more d Process (one_more d Account (one_more d Cpus (one_more d Shape (json_passes d) shape) c.in-Some.ensures.0) (subst A accounts c.in_ok-accounts.ensures.right)) (subst P processes c.in_ok-processes.ensures.right)) right in
-    let counted = c.in-Some.ensures.1 ∙ ap Some (c.in-None.ensures.0 ∙ sym (length-rows script_rows c.list_at-4.result.now) ∙ ap length scripts) in
+    let before = one_more d Probe (one_more d Process
+    (one_more d Account (one_more d Cpus (one_more d Shape (json_passes d) shape) c.in-Some.ensures.0)
+    (subst A accounts c.in_ok-accounts.ensures.right)) (subst P processes c.in_ok-processes.ensures.right))
+    right in
+    let counted = c.in-Some.ensures.1 ∙ ap Some
+    (c.in-None.ensures.0 ∙ sym (length-rows script_rows c.list_at-4.result.now) ∙ ap length scripts) in
     let few = few_rows (probes_in d) 4096 (λ k row there. (right k row there).few) in
-    let all = length-probes 1 (codes "dtrace:::BEGIN" ∷ codes "dtrace:::END" ∷ probes_in d) c.in_ok-probes.probes.items are in
+    let all = length-probes 1 (codes "dtrace:::BEGIN" ∷ codes "dtrace:::END" ∷ probes_in d)
+    c.in_ok-probes.probes.items are in
     record {
       passed = one_more d Script before (counted, subst S scripts c.in-None.ensures.1);
       registers = record {
@@ -95,5 +115,9 @@ returns-in-None-clause-ok c =
         processes = listed;
         probes = are;
       };
-      ready = record { finds = c.in_ok-processes.ensures.by_pid; small = c.in_ok-processes.ensures.small; few = omega arith };
+      ready = record {
+        finds = c.in_ok-processes.ensures.by_pid;
+        small = c.in_ok-processes.ensures.small;
+        few = omega arith;
+      };
     }
