@@ -1,7 +1,10 @@
+-- The lemmas of the crate, lowest first.
 pub mod Keeping
 pub mod ProbeLemmas
 pub mod PlaceLemmas
 pub mod RowLemmas
+pub mod RowRecords
+pub mod VerdictLemmas
 pub mod AttemptLemmas
 pub mod KeyLemmas
 pub mod OfferLemmas

@@ -8,12 +8,15 @@ use Rattle.dt_cred.specs.declared.class.Class.{Class}
 use Rattle.dt_cred.specs.declared.class.Class.TheVariants.{Pid}
 use Rattle.dt_consumer.specs.Ecbs.{traced_process}
 use Rattle.dt_machine.specs.Registry.{Registry, process_of}
+use Rattle.dt_machine.specs.declared.limits.TheConstants.{PID_MAX}
 
-pub list_any-map : {X Y : Type 0} (f : X → Y) (p : Y → Bool) (xs : List X) → list_any p (map f xs) ≡ list_any (λ x. p (f x)) xs
+pub list_any-map : {X Y : Type 0} (f : X → Y) (p : Y → Bool) (xs : List X)
+    → list_any p (map f xs) ≡ list_any (λ x. p (f x)) xs
 list_any-map f p [] = refl
 list_any-map f p (x ∷ xs) = ap (λ b. p (f x) || b) (list_any-map f p xs)
 
-found_here : {X : Type 0} (test : X → Bool) (x : X) (later : Option X) (b : Bool) → test x ≡ b → ((y : X) → later ≡ Some y → test y ≡ true) → (y : X) → cond b (Some x) later ≡ Some y → test y ≡ true
+found_here : {X : Type 0} (test : X → Bool) (x : X) (later : Option X) (b : Bool) → test x ≡ b
+    → ((y : X) → later ≡ Some y → test y ≡ true) → (y : X) → cond b (Some x) later ≡ Some y → test y ≡ true
 found_here test x later true e rest y h = let same : x ≡ y = cc in subst (λ z. test z ≡ true) same e
 found_here test x later false e rest y h = rest y h
 
@@ -21,21 +24,31 @@ find_passes : {X : Type 0} (test : X → Bool) (xs : List X) (y : X) → find te
 find_passes test [] y h = cc
 find_passes test (x ∷ xs) y h = found_here test x (find test xs) (test x) refl (find_passes test xs) y h
 
-nobody : (registry : Registry) (n : ℕ) (o : Option Process) → process_of registry n ≡ o → IfSome o (λ process. process.pid ≤ 999999) → 999999 < n → o ≡ None
-nobody registry n None e small far = refl
-nobody registry n (Some process) e small far =
-    absurd (omega (arith, small, far, eqb-true process.pid n (find_passes (λ p. eqb p.pid n) registry.processes process e)))
-
-pub no_process : (registry : Registry) → ((pid : ℕ) → IfSome (process_of registry pid) (λ process. process.pid ≤ 999999)) → (n : ℕ) → 999999 < n → process_of registry n ≡ None
-no_process registry small n far = nobody registry n (process_of registry n) refl (small n) far
-
 pub both : (may described r : Bool) → may ≡ true → r ≡ described → r ≡ (may && described)
 both may described r holds e = e ∙ sym (ap (λ b. b && described) holds)
 
+-- The numbers of a registry's processes have a limit.
+abbrev SmallPids : Registry → Type 0
+SmallPids registry = (pid : ℕ) → IfSome (process_of registry pid) (λ process. process.pid ≤ PID_MAX)
+
+nobody : (registry : Registry) (n : ℕ) (o : Option Process) → process_of registry n ≡ o
+    → IfSome o (λ process. process.pid ≤ PID_MAX) → PID_MAX < n → o ≡ None
+nobody registry n None e small far = refl
+nobody registry n (Some process) e small far =
+    let is = eqb-true process.pid n (find_passes (λ p. eqb p.pid n) registry.processes process e) in
+    absurd (omega (arith, small, far, is))
+
+no_process : (registry : Registry) → SmallPids registry → (n : ℕ) → PID_MAX < n → process_of registry n ≡ None
+no_process registry small n far = nobody registry n (process_of registry n) refl (small n) far
+
 -- a number past all process numbers finds none, and neither does the stand-in for it
-pub process_found : (registry : Registry) → ((pid : ℕ) → IfSome (process_of registry pid) (λ process. process.pid ≤ 999999))
-    → (class : Class) (pid n : ℕ) (o : Option Process) → class ≡ Pid pid → ((n ≡ pid) × (pid ≤ 999999)) ⊎ ((n ≡ 4294967295) × (999999 < pid))
+pub process_found : (registry : Registry) → SmallPids registry → (class : Class) (pid n : ℕ) (o : Option Process)
+    → class ≡ Pid pid → ((n ≡ pid) × (pid ≤ PID_MAX)) ⊎ ((PID_MAX < n) × (PID_MAX < pid))
     → o ≡ process_of registry n → o ≡ traced_process registry class
-process_found registry small class pid n o is (inl near) e = e ∙ ap (process_of registry) near.0 ∙ sym (ap (traced_process registry) is)
+process_found registry small class pid n o is (inl near) e =
+    e ∙ ap (process_of registry) near.0 ∙ sym (ap (traced_process registry) is)
 process_found registry small class pid n o is (inr far) e =
-    e ∙ no_process registry small n (omega arith) ∙ sym (no_process registry small pid far.1) ∙ sym (ap (traced_process registry) is)
+    e
+    ∙ no_process registry small n far.0
+    ∙ sym (no_process registry small pid far.1)
+    ∙ sym (ap (traced_process registry) is)

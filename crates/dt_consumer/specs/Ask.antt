@@ -14,8 +14,9 @@ pub data Ask : Type 0 where
   list : Option DescForm → Ask
 
 -- A command asks for this: the program or the description is the one that its text is read as.
-abbrev pub Asks : Command → Ask → Type 0
-Asks (Enable text) ask = (reading : Reading) × Reads (string_bytes text) reading × (ask ≡ enable reading)
-Asks Go ask = ask ≡ go
-Asks (Snap cpu) ask = ask ≡ snap cpu
-Asks (ListOf probe) ask = (reading : Option DescForm) × ReadsDescription (string_bytes probe) reading × (ask ≡ list reading)
+abbrev pub CommandAsks : Command → Ask → Type 0
+CommandAsks (Enable text) ask = (reading : Reading) × Reads (string_bytes text) reading × (ask ≡ enable reading)
+CommandAsks Go ask = ask ≡ go
+CommandAsks (Snap cpu) ask = ask ≡ snap cpu
+CommandAsks (ListOf probe) ask =
+    (reading : Option DescForm) × ReadsDescription (string_bytes probe) reading × (ask ≡ list reading)

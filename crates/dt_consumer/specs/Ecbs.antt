@@ -9,7 +9,7 @@ use Rattle.dt_cred.specs.declared.class.Class.{Class}
 use Rattle.dt_cred.specs.declared.class.Class.TheVariants.{Dtrace, Syscall, Profile, Pid, Other}
 use Rattle.dt_cred.specs.declared.probe.Probe.{Probe}
 use Rattle.dt_machine.specs.Registry.{Registry, process_of}
-use Rattle.dt_glob.specs.Item.{Item}
+use Rattle.dt_glob.specs.PatternItem.{PatternItem}
 use Rattle.dt_glob.specs.Test.{is_match}
 use Rattle.dt_lang.specs.Description.{DescForm}
 use Rattle.dt_lang.specs.Program.{ClauseForm}
@@ -24,7 +24,7 @@ abbrev pub numbered : ℕ × (ℕ × ClauseForm) → Ecb
 numbered pair = record { epid = pair.0; probe = pair.1.0; clause = pair.1.1 }
 
 -- an empty field asks for nothing, any other for the names that its pattern matches
-abbrev pub field_asks_for : List Item → List ℕ → Bool
+abbrev pub field_asks_for : List PatternItem → List ℕ → Bool
 field_asks_for [] name = true
 field_asks_for (item ∷ items) name = is_match (item ∷ items) name
 

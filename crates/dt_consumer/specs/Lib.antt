@@ -1,4 +1,6 @@
+-- The definitions of the crate, lowest first.
 pub mod Ask
+pub mod Refusal
 pub mod Answer
 pub mod Ecbs
 pub mod Life

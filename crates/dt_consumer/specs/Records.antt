@@ -1,15 +1,17 @@
 -- Which records a consumer attempted to put into its buffers.
-use Rattle.std.specs.Prelude.{ℕ, ℤ, pos, ◌==◌, Bool, false, List, [], ◌∷◌, ◌++◌, Ok, Err, map, reverse, replicate, if◌then◌else◌, slice_index_or}
+use Rattle.std.specs.Prelude.{ℕ, ℤ, pos, ◌==◌, Bool, false, List, [], ◌∷◌, ◌++◌, Ok, map, reverse, replicate, if◌then◌else◌, slice_index_or}
 use Rattle.std.specs.Int.{w64, cast_unsigned}
 use Rattle.byteorder.specs.Endian.{big_bytes}
 use Rattle.std.specs.List.{flat_map, list_any}
 use Rattle.dt_lang.specs.Argument.{argument_number}
+use Rattle.dt_lang.specs.declared.program.TheConstants.{ARGUMENTS}
 use Rattle.dt_lang.specs.declared.program.Expr.TheVariants.{Arg}
 use Rattle.dt_lang.specs.declared.program.Statement.{Statement}
 use Rattle.dt_lang.specs.declared.program.Statement.TheVariants.{Trace}
-use Rattle.dt_consumer.specs.Ask.{enable, go, snap, list}
+use Rattle.dt_consumer.specs.Ask.{snap}
 use Rattle.dt_consumer.specs.Ecbs.{Ecb, of_probe}
 use Rattle.dt_consumer.specs.Life.{Item, asked, fired, since_go}
+use Rattle.dt_consumer.specs.declared.record.TheConstants.{BEGIN}
 
 -- a number in a record: eight bytes, two's complement, the highest first
 abbrev pub number_bytes : ℤ → List ℕ
@@ -31,12 +33,9 @@ record_of args ecb = epid_bytes ecb.epid ++ flat_map (traced args) ecb.clause.st
 abbrev pub records_at : List Ecb → ℕ → List ℤ → List (List ℕ)
 records_at ecbs probe args = map (record_of args) (of_probe probe ecbs)
 
-abbrev pub BEGIN : ℕ
-BEGIN = 1
-
 -- BEGIN fires on processor 0, with arguments that are all 0
 abbrev pub records_of_begin : List Ecb → ℕ → List (List ℕ)
-records_of_begin ecbs cpu = if cpu == 0 then records_at ecbs BEGIN (replicate 10 (pos 0)) else []
+records_of_begin ecbs cpu = if cpu == 0 then records_at ecbs BEGIN (replicate ARGUMENTS (pos 0)) else []
 
 -- an item's records on a processor
 abbrev pub records_in : List Ecb → ℕ → Item → List (List ℕ)
@@ -45,11 +44,7 @@ records_in ecbs cpu (asked line) = []
 
 abbrev pub is_snap_of : ℕ → Item → Bool
 is_snap_of cpu (asked (Ok (snap n))) = n == cpu
-is_snap_of cpu (asked (Ok (enable reading))) = false
-is_snap_of cpu (asked (Ok go)) = false
-is_snap_of cpu (asked (Ok (list reading))) = false
-is_snap_of cpu (asked (Err refusal)) = false
-is_snap_of cpu (fired firing) = false
+is_snap_of cpu _ = false
 
 -- what came since a processor's buffer was last read, the newest first
 abbrev pub since_snap : ℕ → List Item → List Item

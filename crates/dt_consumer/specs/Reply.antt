@@ -9,26 +9,27 @@ use Rattle.dt_consumer.specs.Ask.{Ask, enable, go, snap, list}
 use Rattle.dt_consumer.specs.Ecbs as enabling
 use Rattle.dt_consumer.specs.Ecbs.{ecbs_of}
 use Rattle.dt_consumer.specs.Kept.{Shows}
-use Rattle.dt_consumer.specs.Life.{Item, lines, phase, is_inactive, clauses_of, ecbs, refusal_of_program, LINES_MAX}
+use Rattle.dt_consumer.specs.Life.{Item, is_over, phase, is_inactive, clauses_of, ecbs, IsVerdictOnProgram}
 use Rattle.dt_consumer.specs.Records.{attempts}
+use Rattle.dt_consumer.specs.declared.limits.TheConstants.{BUFFER_SIZE}
 use Rattle.dt_consumer.specs.declared.refusal.Refusal.{Refusal}
 use Rattle.dt_consumer.specs.declared.refusal.Refusal.TheVariants.{Program, Busy, NoCpu, Quota}
 
--- the size of each processor's buffer
-abbrev pub BUFFER_SIZE : ℕ
-BUFFER_SIZE = 65536
-
 module _ (account : Account) (registry : Registry) (life : List Item) where
-  -- why a command is refused, tested in this order
-  abbrev pub refusal_of : Ask → Option Refusal
-  refusal_of (enable (program clauses)) =
-      if is_inactive (phase life) then refusal_of_program account registry (clauses_of account registry life) clauses else Some Busy
-  refusal_of (enable (fault at why)) = if is_inactive (phase life) then Some (Program at why) else Some Busy
-  refusal_of go = if is_inactive (phase life) then None else Some Busy
-  refusal_of (snap cpu) =
-      if nat_le registry.cpus cpu then Some NoCpu else (if is_inactive (phase life) then Some Busy else None)
-  refusal_of (list None) = Some (Program 0 Probe)
-  refusal_of (list (Some desc)) = None
+  -- What becomes of a command: it is accepted (None), or refused, for the first cause in this order.
+  abbrev pub IsVerdictOnCommand : Ask → Option Refusal → Type 0
+  IsVerdictOnCommand (enable (program clauses)) verdict =
+      MatchBool (is_inactive (phase life))
+      (IsVerdictOnProgram account registry (clauses_of account registry life) clauses verdict)
+      (verdict ≡ Some Busy)
+  IsVerdictOnCommand (enable (fault at why)) verdict =
+      verdict ≡ (if is_inactive (phase life) then Some (Program at why) else Some Busy)
+  IsVerdictOnCommand go verdict = verdict ≡ (if is_inactive (phase life) then None else Some Busy)
+  IsVerdictOnCommand (snap cpu) verdict =
+      verdict ≡ (if nat_le registry.cpus cpu then Some NoCpu
+      else (if is_inactive (phase life) then Some Busy else None))
+  IsVerdictOnCommand (list None) verdict = verdict ≡ Some (Program 0 Probe)
+  IsVerdictOnCommand (list (Some desc)) verdict = verdict ≡ None
 
   -- the answer to an accepted command
   abbrev pub Accepted : Ask → Answer → Type 0
@@ -47,9 +48,11 @@ module _ (account : Account) (registry : Registry) (life : List Item) where
 
   abbrev pub RepliesInQuota : Result Ask Refusal → Answer → Type 0
   RepliesInQuota (Err refusal) answer = answer ≡ refused refusal
-  RepliesInQuota (Ok ask) answer = MatchOption (refusal_of ask) (Accepted ask answer) (λ refusal. answer ≡ refused refusal)
+  RepliesInQuota (Ok ask) answer =
+      (verdict : Option Refusal) × IsVerdictOnCommand ask verdict
+      × MatchOption verdict (Accepted ask answer) (λ refusal. answer ≡ refused refusal)
 
   -- The reply: over the quota its refusal, whatever was asked; else the line's own refusal, or the command's, or the
   -- answer to an accepted command.
   abbrev pub Replies : Result Ask Refusal → Answer → Type 0
-  Replies line answer = MatchBool (nat_le LINES_MAX (lines life)) (answer ≡ refused Quota) (RepliesInQuota line answer)
+  Replies line answer = MatchBool (is_over life) (answer ≡ refused Quota) (RepliesInQuota line answer)

@@ -13,7 +13,8 @@ use Rattle.dt_consumer.specs.declared.phase.Phase.TheVariants.{Active}
 -- The account is shown the firing: its class of probe in that mode and that process.
 abbrev pub IsShown : Account → Registry → Firing → Type 0
 IsShown account registry firing =
-    (probe : Probe) → (process : Process) → probe_of registry firing.probe ≡ Some probe → process_of registry firing.pid ≡ Some process
+    (probe : Probe) (process : Process)
+    → probe_of registry firing.probe ≡ Some probe → process_of registry firing.pid ≡ Some process
     → IsTrue (rights.admits account probe.class firing.mode process)
 
 -- A consumer sees a firing where it is active, the firing belongs to the machine, one of its ECBs names the probe, and

@@ -1,25 +1,26 @@
+//! The principal buffer of one processor.
 ghost use Rattle.std.specs.Prelude.{◌≡◌, ◌≤◌, ℕ, List, [], ◌∷◌, ◌++◌, length, All, IfOk, vec_len, vec_capacity};
-ghost use Rattle.dt_consumer.specs.Kept.{Shows};
+ghost use Rattle.dt_consumer.specs.declared.limits.TheConstants.{BUFFER_SIZE};
 
+use crate::limits::BUFFER_SIZE;
 use std::alloc::{AllocError, Global};
 
-/// How many bytes each processor's principal buffer has.
-pub(crate) const BUFFER_SIZE: usize = 65_536;
-
-/// The principal buffer of one processor under the switch policy: a record that fits behind those kept since the buffer
+/// The principal buffer of one processor under the switch policy: a record that fits after those kept since the buffer
 /// was last read is kept, any other is dropped and counted. (illumos Dynamic Tracing Guide, "Buffers and Buffering".)
 #[derive(Drop)]
 pub(crate) struct Switch {
     pub(crate) kept: Vec<u8>,
     pub(crate) drops: u64,
-    ghost room: { 65536 ≤ vec_capacity kept },
-    ghost within: { vec_len kept ≤ 65536 },
+    ghost room: { BUFFER_SIZE ≤ vec_capacity kept },
+    ghost within: { vec_len kept ≤ BUFFER_SIZE },
 }
 
 impl Switch {
+    ghost use Rattle.dt_consumer.specs.Buffers.{ShowsIn};
+
     /// An empty buffer, with all its room.
     pub(crate) fn new(alloc: Global) -> Result<Self, AllocError>
-        ensures { IfOk result (λ buffer. (buffer.kept.items ≡ []) × (buffer.drops ≡ 0)) }
+        ensures { IfOk result (ShowsIn []) }
     {
         Ok(Switch {
             kept: Vec::with_capacity(alloc, BUFFER_SIZE)?,
@@ -30,7 +31,7 @@ impl Switch {
     /// An empty buffer for each processor.
     pub(crate) fn for_each(alloc: Global, cpus: u32) -> Result<Vec<Self>, AllocError>
         ensures len { IfOk result (λ buffers. vec_len buffers ≡ cpus) }
-        ensures empty { IfOk result (λ buffers. All (λ buffer. (buffer.kept.items ≡ []) × (buffer.drops ≡ 0)) buffers.items) }
+        ensures empty { IfOk result (λ buffers. All (ShowsIn []) buffers.items) }
     {
         let mut buffers = Vec::with_capacity(alloc, cpus as usize)?;
         for _cpu in 0..cpus {
@@ -46,7 +47,7 @@ impl Switch {
         &self.kept
     }
 
-    /// How many records were dropped.
+    /// How many records were dropped, as far as 64 bits count.
     pub(crate) fn drops(&self) -> u64
         ensures { result ≡ self.now.drops }
     {
@@ -54,20 +55,20 @@ impl Switch {
     }
 
     /// Takes a record, or counts a drop.
-    pub(crate) fn put(&mut self, record: &[u8])
-        ensures { (attempts : List (List ℕ)) → Shows 65536 attempts self.old.kept.items self.old.drops
-            → Shows 65536 (attempts ++ record.now ∷ []) self.new.kept.items self.new.drops }
+    pub(crate) fn put(&mut self, attempt: &[u8])
+        ensures { (attempts : List (List ℕ)) → ShowsIn attempts self.old
+            → ShowsIn (attempts ++ attempt.now ∷ []) self.new }
     {
-        if record.len() <= BUFFER_SIZE - self.kept.len() {
-            self.kept.extend_from_slice(record).unwrap();
+        if attempt.len() <= BUFFER_SIZE - self.kept.len() {
+            self.kept.extend_from_slice(attempt).unwrap();
         } else {
             self.drops = self.drops.saturating_add(1);
         }
     }
 
-    /// Begins anew, behind a reading.
+    /// Begins anew, after a reading.
     pub(crate) fn clear(&mut self)
-        ensures { Shows 65536 [] self.new.kept.items self.new.drops }
+        ensures { ShowsIn [] self.new }
     {
         self.kept.clear();
         self.drops = 0;

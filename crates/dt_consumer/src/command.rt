@@ -1,3 +1,4 @@
+//! What one line asks for.
 /// What a consumer asks for by one line.
 #[derive(Debug, Drop)]
 pub enum Command {

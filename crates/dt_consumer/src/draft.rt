@@ -1,3 +1,4 @@
+//! The draft of a line: its reply, and what it will change.
 ghost use Rattle.std.specs.Prelude.{◌≡◌, ◌↔◌, List, Result, IsTrue};
 
 use crate::buffer::Switch;
@@ -29,7 +30,8 @@ pub(crate) enum Change {
     Refuse,
 }
 
-/// What a line will be answered, and all that it will change: the memory for it is taken already.
+/// What a line will be answered, and all that it will change: the memory for it is taken already. It is made by
+/// `Consumer::draft`, and `Consumer::apply` makes its change.
 #[derive(Drop)]
 pub struct Draft {
     pub(crate) reply: Reply,
@@ -41,7 +43,9 @@ impl Draft {
     ghost use Rattle.dt_machine.specs.Registry.{Registry};
     ghost use Rattle.dt_consumer.specs.Ask.{Ask};
     ghost use Rattle.dt_consumer.specs.Draft.{IsAcceptedGo, IsDraftOf};
+    ghost use Rattle.dt_consumer.specs.Answer.{answer_of};
     ghost use Rattle.dt_consumer.specs.Life.{Item};
+    ghost use Rattle.dt_consumer.specs.Reply.{Replies};
     ghost use Rattle.dt_consumer.specs.declared.refusal.Refusal.{Refusal};
 
     /// A line that is refused, counted, and changes nothing else.
@@ -68,15 +72,18 @@ impl Draft {
 
     /// The reply to the line.
     pub fn reply(&self) -> &Reply
-        ensures { result.now ≡ self.now.reply }
+        ensures { (account : Account) (registry : Registry) (life : List Item) (line : Result Ask Refusal)
+            → IsDraftOf account registry life line self.now
+            → Replies account registry life line (answer_of result.now) }
     {
         &self.reply
     }
 
-    /// Whether the line is a `go` that is accepted, so that tracing begins as it is applied.
+    /// Whether the line is a `go` that is accepted, so that tracing begins as it is applied. A line over the quota, or
+    /// in another phase, is none.
     pub fn publishes(&self) -> bool
-        ensures { (account : Account) (registry : Registry) (life : List Item) (line : Result Ask Refusal) → IsDraftOf account registry life line self.now
-            → (IsTrue result ↔ IsAcceptedGo life line) }
+        ensures { (account : Account) (registry : Registry) (life : List Item) (line : Result Ask Refusal)
+            → IsDraftOf account registry life line self.now → (IsTrue result ↔ IsAcceptedGo life line) }
     {
         matches!(&self.change, Change::Go { .. })
     }

@@ -1,3 +1,4 @@
+//! How far a consumer has come.
 /// How far a consumer has come.
 #[derive(Clone, Copy, Debug, PartialEq, Eq)]
 pub enum Phase {

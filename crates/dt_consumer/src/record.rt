@@ -1,18 +1,24 @@
+//! The record that a clause makes of a firing.
 ghost use Rattle.std.specs.Prelude.{◌≡◌, ◌≤◌, ◌++◌, length};
 ghost use Rattle.std.specs.List.{flat_map};
 ghost use Rattle.dt_consumer.specs.Records as spec;
 ghost use Rattle.dt_consumer.specs.Records.{epid_bytes};
 
+use crate::limits::RECORD_MAX;
 use arrayvec::ArrayVec;
 use byteorder::{BigEndian, ByteOrder};
-use dt_lang::{Expr, Statement};
+use dt_lang::{ARGUMENTS, Expr, STATEMENTS_MAX, Statement};
 
-/// The most bytes of a record: the EPID, and eight statements that put 64 bytes each.
-pub(crate) const RECORD_MAX: usize = 516;
+/// The identifier of the probe that fires as tracing begins.
+pub(crate) const BEGIN: usize = 1;
 
 /// The record that a clause makes: the EPID in four bytes, and then what its statements trace of these arguments.
-pub(crate) fn record(epid: u32, statements: &[Statement], args: &[i64; 10]) -> ArrayVec<u8, 516>
-    requires { length statements.now ≤ 8 }
+pub(crate) fn record(
+    epid: u32,
+    statements: &[Statement],
+    args: &[i64; ARGUMENTS],
+) -> ArrayVec<u8, RECORD_MAX>
+    requires { length statements.now ≤ STATEMENTS_MAX }
     ensures { result.items ≡ epid_bytes epid ++ flat_map (spec.traced args.now) statements.now }
 {
     let mut record = ArrayVec::new();
@@ -28,7 +34,7 @@ pub(crate) fn record(epid: u32, statements: &[Statement], args: &[i64; 10]) -> A
 }
 
 /// What a statement puts into the record, by the arguments of the firing.
-fn traced(statement: &Statement, args: &[i64; 10]) -> [u8; 8]
+fn traced(statement: &Statement, args: &[i64; ARGUMENTS]) -> [u8; 8]
     ensures value { result ≡ spec.traced args.now statement.now }
     ensures len { length result ≡ 8 }
 {

@@ -1,3 +1,4 @@
+//! What a line is answered.
 use crate::refusal::Refusal;
 use dt_cred::Probe;
 

@@ -1,3 +1,4 @@
+-- A line has one reply at most.
 use Rattle.dt_consumer.proofs.ReplyLaws.{same_reply}
 use Rattle.dt_consumer.proofs.laws.one_reply.Goals as goal
 

@@ -1,3 +1,4 @@
+-- A line has a reply.
 use Rattle.dt_consumer.proofs.ReplyLaws.{some_answer}
 use Rattle.dt_consumer.proofs.laws.some_reply.Goals as goal
 

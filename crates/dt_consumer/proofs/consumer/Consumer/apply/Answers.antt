@@ -1,15 +1,22 @@
+-- Each change is the one that the draft says.
 use Rattle.std.proofs.Common.{sym, ◌∙◌, subst}
 use Rattle.dt_consumer.specs.Draft.{Drafted}
 use Rattle.dt_consumer.proofs.consumer.Consumer.apply.Goals as goal
 
 pub returns-in-Enable : goal.returns-in-Enable
 returns-in-Enable c = λ account life line s drafted.
-    c.enable.ensures account c.args._machine.now.registry life line s (subst (Drafted account c.args._machine.now.registry life line) (sym c.into_change.ensures ∙ c.in-Enable.is) drafted)
+    let registry = c.args._machine.now.registry in
+    c.enable.ensures account registry life line s
+    (subst (Drafted account registry life line) (sym c.into_change.ensures ∙ c.in-Enable.is) drafted.makes)
 
 pub returns-in-Go : goal.returns-in-Go
 returns-in-Go c = λ account life line s drafted.
-    c.begin.ensures account c.args._machine.now.registry life line s (subst (Drafted account c.args._machine.now.registry life line) (sym c.into_change.ensures ∙ c.in-Go.is) drafted)
+    let registry = c.args._machine.now.registry in
+    c.begin.ensures account registry life line s
+    (subst (Drafted account registry life line) (sym c.into_change.ensures ∙ c.in-Go.is) drafted.makes)
 
 pub returns-in-Snap : goal.returns-in-Snap
 returns-in-Snap c = λ account life line s drafted.
-    c.empty.ensures account c.args._machine.now.registry life line s (subst (Drafted account c.args._machine.now.registry life line) (sym c.into_change.ensures ∙ c.in-Snap.is) drafted)
+    let registry = c.args._machine.now.registry in
+    c.empty.ensures account registry life line s
+    (subst (Drafted account registry life line) (sym c.into_change.ensures ∙ c.in-Snap.is) drafted.makes)

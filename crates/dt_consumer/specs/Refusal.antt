@@ -1,0 +1,36 @@
+-- The numbers and the names of refusals on the wire, and which refusal a line that is no command has.
+use Rattle.std.specs.Prelude.{ℕ, List, codes}
+use Rattle.dt_consumer.specs.declared.refusal.Refusal.{Refusal}
+use Rattle.dt_consumer.specs.declared.refusal.Refusal.TheVariants.{Json, Request, LineLong, Program, NoMatch, Limit, Busy, NoCpu, Quota, Memory}
+
+-- What a line is refused for that is no command: it is no JSON, no request, or too long. Every other refusal is one of
+-- a command.
+abbrev pub IsNoCommand : Refusal → Type 0
+IsNoCommand Json = Unit {0}
+IsNoCommand Request = Unit {0}
+IsNoCommand LineLong = Unit {0}
+IsNoCommand _ = ⊥
+
+abbrev pub refusal_number : Refusal → ℕ
+refusal_number Json = 1
+refusal_number Request = 2
+refusal_number LineLong = 3
+refusal_number (Program at why) = 4
+refusal_number (NoMatch clause) = 5
+refusal_number Limit = 9
+refusal_number Busy = 10
+refusal_number NoCpu = 12
+refusal_number Quota = 15
+refusal_number Memory = 16
+
+abbrev pub refusal_name : Refusal → List ℕ
+refusal_name Json = codes "Json"
+refusal_name Request = codes "Request"
+refusal_name LineLong = codes "LineLong"
+refusal_name (Program at why) = codes "Program"
+refusal_name (NoMatch clause) = codes "NoMatch"
+refusal_name Limit = codes "Limit"
+refusal_name Busy = codes "Busy"
+refusal_name NoCpu = codes "NoCpu"
+refusal_name Quota = codes "Quota"
+refusal_name Memory = codes "Memory"
