@@ -14,11 +14,11 @@ probes_plain [] = refl
 probes_plain (probe ∷ probes) = probes_plain probes
 
 refusal_plain : (refusal : Refusal) → has_float (object (refusal_members refusal)) ≡ false
+refusal_plain (Program at why) = refl
+refusal_plain (NoMatch clause) = refl
 refusal_plain Json = refl
 refusal_plain Request = refl
 refusal_plain LineLong = refl
-refusal_plain (Program at why) = refl
-refusal_plain (NoMatch clause) = refl
 refusal_plain Limit = refl
 refusal_plain Busy = refl
 refusal_plain NoCpu = refl

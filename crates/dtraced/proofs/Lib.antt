@@ -1,3 +1,4 @@
+-- What the prover was told of a replay.
 pub mod Lines
 pub mod Decimals
 pub mod Steps
@@ -11,3 +12,4 @@ pub mod Streams
 pub mod OneOutput
 pub mod Floats
 pub mod ListedTexts
+pub mod Firings

@@ -10,7 +10,8 @@ use Rattle.dtraced.specs.Line.{requested, requested_by, requested_or_no_json}
 pub requested-read : (line : List ℕ) (d : Data) → IsUtf8 line → read line ≡ Some d → requested line ≡ requested_by d
 requested-read line d utf8 is = rw (is_utf8-from_IsUtf8 line utf8, is) refl
 
-refused_at : (line : List ℕ) (utf8 : Bool) → is_utf8 line ≡ utf8 → (IsUtf8 line → read line ≡ None) → requested_or_no_json (if utf8 then read line else None) ≡ Err Json
+refused_at : (line : List ℕ) (utf8 : Bool) → is_utf8 line ≡ utf8 → (IsUtf8 line → read line ≡ None)
+    → requested_or_no_json (if utf8 then read line else None) ≡ Err Json
 refused_at line true is none = rw (none (IsUtf8-from_is_utf8 line is)) refl
 refused_at line false is none = refl
 

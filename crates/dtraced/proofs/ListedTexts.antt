@@ -9,7 +9,8 @@ use Rattle.dt_cred.specs.declared.probe.Probe.{Probe}
 use Rattle.dt_consumer.specs.Answer.{listed}
 use Rattle.dtraced.specs.Reply.{probe_data, probe_text, tuple_text, reply_text}
 
-one_text : (a b : List ℕ) → codes "{\"id\":" ++ a ++ codes ",\"name\":" ++ b ++ codes "}" ≡ codes "{\"id\":" ++ (a ++ (codes ",\"name\":" ++ (b ++ codes "}")))
+one_text : (a b : List ℕ) → codes "{\"id\":" ++ a ++ codes ",\"name\":" ++ b ++ codes "}"
+    ≡ codes "{\"id\":" ++ (a ++ (codes ",\"name\":" ++ (b ++ codes "}")))
 one_text a b = simp append_assoc
 
 probe_written : (probe : Probe) → compact_text (probe_data probe) ≡ probe_text probe
@@ -25,31 +26,38 @@ more_written : (probes : List Probe) → items_text true (items_of (map probe_da
 unfolding more_text
 more_written [] = refl
 more_written (probe ∷ probes) =
-    ap (λ first. 44 ∷ (first ++ items_text true (items_of (map probe_data probes)))) (probe_written probe) ∙ ap (λ more. 44 ∷ (probe_text probe ++ more)) (more_written probes)
+    ap (λ first. 44 ∷ (first ++ items_text true (items_of (map probe_data probes)))) (probe_written probe)
+    ∙ ap (λ more. 44 ∷ (probe_text probe ++ more)) (more_written probes)
 
-joined : (probe : Probe) (probes : List Probe) → probe_text probe ++ more_text probes ≡ join_with_byte 44 (map probe_text (probe ∷ probes)) ++ 93 ∷ []
+joined : (probe : Probe) (probes : List Probe) → probe_text probe ++ more_text probes
+    ≡ join_with_byte 44 (map probe_text (probe ∷ probes)) ++ 93 ∷ []
 unfolding more_text
 joined probe [] = refl
 joined probe (next ∷ probes) =
     ap (λ more. probe_text probe ++ 44 ∷ more) (joined next probes)
     ∙ sym (append_assoc (probe_text probe) (44 ∷ join_with_byte 44 (map probe_text (next ∷ probes))) (93 ∷ []))
 
-probes_written : (probes : List Probe) → items_text false (items_of (map probe_data probes)) ≡ join_with_byte 44 (map probe_text probes) ++ 93 ∷ []
+probes_written : (probes : List Probe) → items_text false (items_of (map probe_data probes))
+    ≡ join_with_byte 44 (map probe_text probes) ++ 93 ∷ []
 probes_written [] = refl
 probes_written (probe ∷ probes) =
-    ap (λ first. first ++ items_text true (items_of (map probe_data probes))) (probe_written probe) ∙ ap (λ more. probe_text probe ++ more) (more_written probes) ∙ joined probe probes
+    ap (λ first. first ++ items_text true (items_of (map probe_data probes))) (probe_written probe)
+    ∙ ap (λ more. probe_text probe ++ more) (more_written probes) ∙ joined probe probes
 
 -- a list's text, round that of its probes
 round : List ℕ → List ℕ
 round probes = codes "{\"ok\":true,\"probes\":[" ++ (probes ++ codes "}\n")
 
-parts : (probes : List Probe) → reply_text (listed probes) ≡ round (items_text false (items_of (map probe_data probes)))
+parts : (probes : List Probe) → reply_text (listed probes)
+    ≡ round (items_text false (items_of (map probe_data probes)))
 unfolding serde_json_on_literals round
 parts probes = simp append_assoc
 
 closed : (a b : List ℕ) → a ++ ((b ++ 93 ∷ []) ++ codes "}\n") ≡ a ++ b ++ codes "]}\n"
 closed a b = simp append_assoc
 
-pub text-listed : (probes : List Probe) → reply_text (listed probes) ≡ codes "{\"ok\":true,\"probes\":[" ++ join_with_byte 44 (map probe_text probes) ++ codes "]}\n"
+pub text-listed : (probes : List Probe) → reply_text (listed probes)
+    ≡ codes "{\"ok\":true,\"probes\":[" ++ join_with_byte 44 (map probe_text probes) ++ codes "]}\n"
 unfolding round
-text-listed probes = parts probes ∙ ap round (probes_written probes) ∙ closed (codes "{\"ok\":true,\"probes\":[") (join_with_byte 44 (map probe_text probes))
+text-listed probes = parts probes ∙ ap round (probes_written probes)
+    ∙ closed (codes "{\"ok\":true,\"probes\":[") (join_with_byte 44 (map probe_text probes))

@@ -1,66 +1,68 @@
 -- The steps of lines, and of the lines with one more.
 use Rattle.std.proofs.Common.{◌≡◌, ℕ, ◌+◌, ◌-◌, ◌≤◌, ◌==◌, Bool, true, false, List, [], ◌∷◌, ◌++◌, length, get_or, take, map, filter, reverse, append_assoc, refl, sym, ap, ◌∙◌, subst, arith}
-use Rattle.std.specs.List.{AllByRecursion}
+use Rattle.std.specs.List.{AllByRecursion, list_any}
+use Rattle.std.proofs.lemmas.Bool.{true≢false}
 use Rattle.std.proofs.lemmas.List.{append-nil, length-append, map-append, reverse-append}
 use Rattle.std.proofs.Math.Seq.{take-append_seam}
 use Rattle.std.proofs.lemmas.List.Elements.{filter-append}
 use Rattle.std.proofs.lemmas.List.Sorted.{list_any-IsPermutation, IsPermutation-reverse}
 use Rattle.dt_machine.specs.Registry.{Registry}
-use Rattle.dtraced.specs.Input.{AreSteps, IsKnown, IsRefused, is_written}
+use Rattle.dtraced.specs.Input.{AreSteps, IsStepOn, IsRefused, is_written}
 use Rattle.dtraced.specs.Run.{IsAllowed}
-use Rattle.dtraced.specs.Step.{Act, opens, calls, fires, spelling, is_open, is_opened, Spells, IsWritable}
-use Rattle.dtraced.proofs.Steps.{one_step}
+use Rattle.dtraced.specs.Step.{Act, spelling, opens_session, SpellsStep, IsWritable}
+use Rattle.dtraced.proofs.Steps.{one_step, same_acts}
 
--- a session is opened by a line that begins with an o
-abbrev begins_with_o : List ℕ → Bool
-begins_with_o line = get_or line 0 0 == 111
+-- of steps that a test holds for: none is found where none is counted
+module _ (P : Act → Bool) where
+  abbrev counted : List Act → ℕ
+  counted acts = length (filter P acts)
 
-is_open-spelling : (act : Act) → is_open act ≡ begins_with_o (spelling act)
-is_open-spelling (opens name) = refl
-is_open-spelling (calls line) = refl
-is_open-spelling (fires cpu) = refl
+  any_none_at : (act : Act) (acts : List Act) (b : Bool) → P act ≡ b → (counted acts ≡ 0 → list_any P acts ≡ false)
+      → counted (act ∷ acts) ≡ 0 → list_any P (act ∷ acts) ≡ false
+  any_none_at act acts true is more h = let one = rw is at h in absurd (omega arith)
+  any_none_at act acts false is more h = let rest = rw is at h in rw is (more rest)
 
--- how many sessions steps open
-abbrev openings : List Act → ℕ
-openings acts = length (filter is_open acts)
+  any_none : (acts : List Act) → counted acts ≡ 0 → list_any P acts ≡ false
+  any_none [] h = refl
+  any_none (act ∷ acts) h = any_none_at act acts (P act) refl (any_none acts) h
 
-one_of : Bool → ℕ
-one_of true = 1
-one_of false = 0
+  none_any_at : (act : Act) (acts : List Act) (b : Bool) → P act ≡ b → (list_any P acts ≡ false → counted acts ≡ 0)
+      → list_any P (act ∷ acts) ≡ false → counted (act ∷ acts) ≡ 0
+  none_any_at act acts true is more h = let found = rw is at h in absurd (true≢false found)
+  none_any_at act acts false is more h = let rest = rw is at h in rw is (more rest)
 
-openings-cons : (act : Act) (acts : List Act) → openings (act ∷ acts) ≡ one_of (is_open act) + openings acts
-unfolding one_of
-openings-cons (opens name) acts = omega arith
-openings-cons (calls line) acts = omega arith
-openings-cons (fires cpu) acts = omega arith
+  none_any : (acts : List Act) → list_any P acts ≡ false → counted acts ≡ 0
+  none_any [] h = refl
+  none_any (act ∷ acts) h = none_any_at act acts (P act) refl (none_any acts) h
 
-openings-append : (a b : List Act) → openings (a ++ b) ≡ openings a + openings b
-openings-append [] b = omega arith
-openings-append (act ∷ a) b = openings-cons act (a ++ b) ∙ ap (λ n. one_of (is_open act) + n) (openings-append a b) ∙ sym (omega (arith, openings-cons act a))
+  counted-append : (a b : List Act) → counted (a ++ b) ≡ counted a + counted b
+  counted-append a b = ap length (filter-append P a b) ∙ length-append (filter P a) (filter P b)
 
-lines_opening : List (List ℕ) → ℕ
-lines_opening [] = 0
-lines_opening (line ∷ lines) = one_of (begins_with_o line) + lines_opening lines
+  counted-one : (act : Act) → P act ≡ true → counted (act ∷ []) ≡ 1
+  counted-one act is = rw is refl
 
-openings-spelled : (acts : List Act) → openings acts ≡ lines_opening (map spelling acts)
-unfolding lines_opening
-openings-spelled [] = refl
-openings-spelled (act ∷ acts) = openings-cons act acts ∙ ap (λ n. one_of (is_open act) + n) (openings-spelled acts) ∙ ap (λ b. one_of b + lines_opening (map spelling acts)) (is_open-spelling act)
+  counted-no_one : (act : Act) → P act ≡ false → counted (act ∷ []) ≡ 0
+  counted-no_one act is = rw is refl
 
-none_opened : (acts : List Act) → openings acts ≡ 0 → is_opened acts ≡ false
-none_opened [] h = refl
-none_opened (opens name ∷ acts) h = absurd (omega arith)
-none_opened (calls line ∷ acts) h = none_opened acts h
-none_opened (fires cpu ∷ acts) h = none_opened acts h
+  any-reverse : (acts : List Act) → list_any P acts ≡ list_any P (reverse acts)
+  any-reverse acts = list_any-IsPermutation P acts (reverse acts) (IsPermutation-reverse acts)
 
-openings-unopened : (acts : List Act) → is_opened acts ≡ false → openings acts ≡ 0
-openings-unopened [] h = refl
-openings-unopened (opens name ∷ acts) h = cc
-openings-unopened (calls line ∷ acts) h = openings-unopened acts h
-openings-unopened (fires cpu ∷ acts) h = openings-unopened acts h
+  once_more_at : (acts : List Act) (act : Act) (b : Bool) → P act ≡ b → counted acts ≤ 1
+      → (P act ≡ true → list_any P (reverse acts) ≡ false) → counted (acts ++ act ∷ []) ≤ 1
+  once_more_at acts act true is once first =
+      let none : counted acts ≡ 0 = none_any acts (any-reverse acts ∙ first is) in
+      omega (arith, none, counted-append acts (act ∷ []), counted-one act is)
+  once_more_at acts act false is once first = omega
+      (arith, once, counted-append acts (act ∷ []), counted-no_one act is)
 
-opened-reverse : (acts : List Act) → is_opened acts ≡ is_opened (reverse acts)
-opened-reverse acts = list_any-IsPermutation is_open acts (reverse acts) (IsPermutation-reverse acts)
+  pub once_more : (acts : List Act) (act : Act) → counted acts ≤ 1
+      → (P act ≡ true → list_any P (reverse acts) ≡ false) → counted (acts ++ act ∷ []) ≤ 1
+  once_more acts act once first = once_more_at acts act (P act) refl once first
+
+  pub first_of : (acts : List Act) (act : Act) → counted (acts ++ act ∷ []) ≤ 1 → P act ≡ true
+      → list_any P (reverse acts) ≡ false
+  first_of acts act once is =
+      sym (any-reverse acts) ∙ any_none acts (omega (arith, once, counted-append acts (act ∷ []), counted-one act is))
 
 pub reverse-one_more : (acts : List Act) (act : Act) → reverse (acts ++ act ∷ []) ≡ act ∷ reverse acts
 reverse-one_more acts act = reverse-append acts (act ∷ [])
@@ -74,13 +76,20 @@ module _ (P : Act → Type 0) where
   of_last [] act all = all.0
   of_last (a ∷ acts) act all = of_last acts act all.1
 
-written-one_more : (lines : List (List ℕ)) (line : List ℕ) → is_written line ≡ true → filter is_written (lines ++ line ∷ []) ≡ filter is_written lines ++ line ∷ []
-written-one_more lines line h = filter-append is_written lines (line ∷ []) ∙ ap (λ more. filter is_written lines ++ more) (rw h refl)
+  of_front : (acts : List Act) (act : Act) → AllByRecursion P (acts ++ act ∷ []) → AllByRecursion P acts
+  of_front [] act all = tt
+  of_front (a ∷ acts) act all = (all.0, of_front acts act all.1)
+
+written-one_more : (lines : List (List ℕ)) (line : List ℕ) → is_written line ≡ true
+    → filter is_written (lines ++ line ∷ []) ≡ filter is_written lines ++ line ∷ []
+written-one_more lines line h = filter-append is_written lines (line ∷ [])
+    ∙ ap (λ more. filter is_written lines ++ more) (rw h refl)
 
 pub no_steps : (registry : Registry) → AreSteps registry [] []
 no_steps registry = record { spelled = refl; writable = tt; known = tt; once = omega arith }
 
-pub steps-empty_line : (registry : Registry) (lines : List (List ℕ)) (acts : List Act) → AreSteps registry lines acts → AreSteps registry (lines ++ [] ∷ []) acts
+pub steps-empty_line : (registry : Registry) (lines : List (List ℕ)) (acts : List Act) → AreSteps registry lines acts
+    → AreSteps registry (lines ++ [] ∷ []) acts
 steps-empty_line registry lines acts h = record {
   spelled = filter-append is_written lines ([] ∷ []) ∙ append-nil (filter is_written lines) ∙ h.spelled;
   writable = h.writable;
@@ -88,25 +97,16 @@ steps-empty_line registry lines acts h = record {
   once = h.once;
 }
 
-once_more : (acts : List Act) (act : Act) → openings acts ≤ 1 → (is_open act ≡ true → is_opened (reverse acts) ≡ false) → openings (acts ++ act ∷ []) ≤ 1
-once_more acts (opens name) once first =
-    let none : openings acts ≡ 0 = openings-unopened acts (opened-reverse acts ∙ first refl) in
-    let sum : openings (acts ++ opens name ∷ []) ≡ openings acts + 1 = openings-append acts (opens name ∷ []) in
-    omega (arith, none, sum)
-once_more acts (calls line) once first =
-    let sum : openings (acts ++ calls line ∷ []) ≡ openings acts + 0 = openings-append acts (calls line ∷ []) in
-    omega (arith, once, sum)
-once_more acts (fires cpu) once first =
-    let sum : openings (acts ++ fires cpu ∷ []) ≡ openings acts + 0 = openings-append acts (fires cpu ∷ []) in
-    omega (arith, once, sum)
-
-pub steps-one_more : (registry : Registry) (lines : List (List ℕ)) (acts : List Act) (line : List ℕ) (act : Act) → AreSteps registry lines acts → is_written line ≡ true → Spells line act → IsAllowed registry (reverse acts) act
+pub steps-one_more : (registry : Registry) (lines : List (List ℕ)) (acts : List Act) (line : List ℕ) (act : Act)
+    → AreSteps registry lines acts → is_written line ≡ true → SpellsStep line act
+    → IsAllowed registry (reverse acts) act
     → AreSteps registry (lines ++ line ∷ []) (acts ++ act ∷ [])
 steps-one_more registry lines acts line act h written spells allowed = record {
-  spelled = written-one_more lines line written ∙ ap (λ before. before ++ line ∷ []) h.spelled ∙ ap (λ last. map spelling acts ++ last ∷ []) spells.spelled ∙ sym (map-append spelling acts (act ∷ []));
+  spelled = written-one_more lines line written ∙ ap (λ before. before ++ line ∷ []) h.spelled
+      ∙ ap (λ last. map spelling acts ++ last ∷ []) spells.spelled ∙ sym (map-append spelling acts (act ∷ []));
   writable = all-one_more IsWritable acts act h.writable spells.writable;
-  known = all-one_more (IsKnown registry) acts act h.known allowed.known;
-  once = once_more acts act h.once allowed.first;
+  known = all-one_more (IsStepOn registry) acts act h.known allowed.known;
+  once = once_more (opens_session registry) acts act h.once allowed.first;
 }
 
 -- a list of steps that spells one line more, cut before its last step
@@ -117,70 +117,83 @@ record IsCutAtLast (acts : List Act) (lines : List (List ℕ)) (line : List ℕ)
   spelled : map spelling before ≡ lines
   is : spelling last ≡ line
 
-cut_at_last : (acts : List Act) (lines : List (List ℕ)) (line : List ℕ) → map spelling acts ≡ lines ++ line ∷ [] → IsCutAtLast acts lines line
+cut_at_last : (acts : List Act) (lines : List (List ℕ)) (line : List ℕ) → map spelling acts ≡ lines ++ line ∷ []
+    → IsCutAtLast acts lines line
 cut_at_last [] [] line e = cc
 cut_at_last [] (x ∷ lines) line e = cc
 cut_at_last (a ∷ []) [] line e = record { before = []; last = a; whole = refl; spelled = refl; is = cc }
 cut_at_last (a ∷ b ∷ acts) [] line e = cc
 cut_at_last (a ∷ acts) (x ∷ lines) line e =
     let more = cut_at_last acts lines line (cc) in
-    record { before = a ∷ more.before; last = more.last; whole = ap (λ more_acts. a ∷ more_acts) more.whole; spelled = let first : spelling a ≡ x = cc in rw (first, more.spelled) refl; is = more.is }
+    record {
+      before = a ∷ more.before;
+      last = more.last;
+      whole = ap (λ more_acts. a ∷ more_acts) more.whole;
+      spelled = let first : spelling a ≡ x = cc in rw (first, more.spelled) refl;
+      is = more.is;
+    }
+
+abbrev AtMostOneOpens : Registry → List Act → Type 0
+AtMostOneOpens registry acts = length (filter (opens_session registry) acts) ≤ 1
 
 -- the last of the steps with one line more
 pub record IsLast (registry : Registry) (acts : List Act) (line : List ℕ) : Type 0 where
   pub act : Act
-  pub spells : Spells line act
+  pub spells : SpellsStep line act
   pub allowed : IsAllowed registry (reverse acts) act
 
-one_is : one_of true + 0 ≡ 1
-unfolding one_of
-one_is = refl
-
-openings-one : (act : Act) → is_open act ≡ true → openings (act ∷ []) ≡ 1
-openings-one act opened = openings-cons act [] ∙ ap (λ b. one_of b + 0) opened ∙ one_is
-
-first_of : (before acts all : List Act) (last : Act) → all ≡ before ++ last ∷ [] → openings before ≡ openings acts → openings all ≤ 1 → is_open last ≡ true → is_opened (reverse acts) ≡ false
-first_of before acts all last whole as_many once opened =
-    let one = openings-one last opened in
-    let sum : openings all ≡ openings before + openings (last ∷ []) = ap openings whole ∙ openings-append before (last ∷ []) in
-    sym (opened-reverse acts) ∙ none_opened acts (omega (arith, one, sum, as_many, once))
-
-module _ (registry : Registry) (lines : List (List ℕ)) (acts all : List Act) (line : List ℕ) (h : AreSteps registry lines acts) (written : is_written line ≡ true) (more : AreSteps registry (lines ++ line ∷ []) all) where
+module _ (registry : Registry) (lines : List (List ℕ)) (acts all : List Act) (line : List ℕ)
+    (h : AreSteps registry lines acts) (written : is_written line ≡ true)
+    (more : AreSteps registry (lines ++ line ∷ []) all) where
   cut : IsCutAtLast all (filter is_written lines) line
   cut = cut_at_last all (filter is_written lines) line (sym more.spelled ∙ written-one_more lines line written)
 
-  as_many : openings cut.before ≡ openings acts
-  as_many = openings-spelled cut.before ∙ ap lines_opening (cut.spelled ∙ h.spelled) ∙ sym (openings-spelled acts)
+  -- the steps of the lines before are the ones that are known
+  same_before : cut.before ≡ acts
+  same_before =
+      same_acts cut.before acts (of_front IsWritable cut.before cut.last (subst (AllByRecursion IsWritable) cut.whole
+      more.writable))
+      h.writable (cut.spelled ∙ h.spelled)
+
+  whole : all ≡ acts ++ cut.last ∷ []
+  whole = cut.whole ∙ ap (λ before. before ++ cut.last ∷ []) same_before
 
   pub last_step : IsLast registry acts line
   last_step = record {
     act = cut.last;
     spells = record {
-      writable = of_last IsWritable cut.before cut.last (subst (AllByRecursion IsWritable) cut.whole more.writable);
+      writable = of_last IsWritable acts cut.last (subst (AllByRecursion IsWritable) whole more.writable);
       spelled = sym cut.is;
     };
     allowed = record {
-      known = of_last (IsKnown registry) cut.before cut.last (subst (AllByRecursion (IsKnown registry)) cut.whole more.known);
-      first = first_of cut.before acts all cut.last cut.whole as_many more.once;
+      known = of_last (IsStepOn registry) acts cut.last (subst (AllByRecursion (IsStepOn registry)) whole more.known);
+      first = first_of (opens_session registry) acts cut.last (subst (AtMostOneOpens registry) whole more.once);
     };
   }
 
-pub same_step : (registry : Registry) (acts : List Act) (line : List ℕ) (act : Act) → Spells line act → (last : IsLast registry acts line) → IsAllowed registry (reverse acts) act
-same_step registry acts line act spells last = subst (IsAllowed registry (reverse acts)) (one_step line last.act act last.spells spells) last.allowed
+pub same_step : (registry : Registry) (acts : List Act) (line : List ℕ) (act : Act) → SpellsStep line act
+    → (last : IsLast registry acts line) → IsAllowed registry (reverse acts) act
+same_step registry acts line act spells last =
+    subst (IsAllowed registry (reverse acts)) (one_step line last.act act last.spells spells) last.allowed
 
 pub written : (line : List ℕ) → false ≡ (length line == 0) → is_written line ≡ true
 written [] h = cc
 written (byte ∷ line) h = refl
 
-pub refused_here : (registry : Registry) (all lines others : List (List ℕ)) (line : List ℕ) (number : ℕ) (acts : List Act) → all ≡ (lines ++ line ∷ []) ++ others → number ≡ length lines → AreSteps registry lines acts
+pub refused_here : (registry : Registry) (all lines others : List (List ℕ)) (line : List ℕ) (number : ℕ)
+    (acts : List Act)
+    → all ≡ (lines ++ line ∷ []) ++ others → number ≡ length lines → AreSteps registry lines acts
     → ((more : List Act) → AreSteps registry (lines ++ line ∷ []) more → ⊥) → IsRefused registry all (number + 1)
 refused_here registry all lines others line number acts whole is steps none =
     let one_more : length (lines ++ line ∷ []) ≡ length lines + 1 = length-append lines (line ∷ []) in
     let with_line : take (number + 1) all ≡ lines ++ line ∷ [] =
-    rw whole (ap (λ n. take n ((lines ++ line ∷ []) ++ others)) (omega (arith, is, one_more)) ∙ take-append_seam (lines ++ line ∷ []) others) in
+    rw whole (ap (λ n. take n ((lines ++ line ∷ []) ++ others)) (omega (arith, is, one_more))
+    ∙ take-append_seam (lines ++ line ∷ []) others) in
     let without : take ((number + 1) - 1) all ≡ lines =
-    rw whole (ap (λ n. take n ((lines ++ line ∷ []) ++ others)) (omega (arith, is)) ∙ ap (take (length lines)) (append_assoc lines (line ∷ []) others) ∙ take-append_seam lines (line ∷ others)) in
-    let as_long : length all ≡ length (lines ++ line ∷ []) + length others = ap length whole ∙ length-append (lines ++ line ∷ []) others in
+    rw whole (ap (λ n. take n ((lines ++ line ∷ []) ++ others)) (omega (arith, is))
+    ∙ ap (take (length lines)) (append_assoc lines (line ∷ []) others) ∙ take-append_seam lines (line ∷ others)) in
+    let as_long : length all ≡ length (lines ++ line ∷ []) + length others = ap length whole
+    ∙ length-append (lines ++ line ∷ []) others in
     record {
       some = omega arith;
       within = omega (arith, is, one_more, as_long);

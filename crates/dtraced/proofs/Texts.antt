@@ -31,7 +31,31 @@ digits_plain = (
               λ r. refl,
               (
                 λ r. refl,
-                (λ r. refl, (λ r. refl, (λ r. refl, (λ r. refl, (λ r. refl, (λ r. refl, (λ r. refl, (λ r. refl, tt)))))))),
+                (
+                  λ r. refl,
+                  (
+                    λ r. refl,
+                    (
+                      λ r. refl,
+                      (
+                        λ r. refl,
+                        (
+                          λ r. refl,
+                          (
+                            λ r. refl,
+                            (
+                              λ r. refl,
+                              (
+                                λ r. refl,
+                                tt,
+                              ),
+                            ),
+                          ),
+                        ),
+                      ),
+                    ),
+                  ),
+                ),
               ),
             ),
           ),
@@ -44,13 +68,16 @@ digits_plain = (
 digit_plain : (k : ℕ) → k < 16 → IsPlain (get_or lower_digits k 0)
 digit_plain k h = All-from_recursion IsPlain lower_digits digits_plain k 0 h
 
-text-encode_lower : (bytes : List ℕ) → AllByRecursion (λ byte. byte < 256) bytes → compact_text (string (encode_lower bytes)) ≡ 34 ∷ (encode_lower bytes ++ 34 ∷ [])
+text-encode_lower : (bytes : List ℕ) → AllByRecursion (λ byte. byte < 256) bytes
+    → compact_text (string (encode_lower bytes)) ≡ 34 ∷ (encode_lower bytes ++ 34 ∷ [])
 unfolding encode_with
 text-encode_lower [] h = refl
 text-encode_lower (b ∷ rest) h =
     let low = get_or lower_digits (b % 16) 0 in
     digit_plain (b / 16) (omega arith) (low ∷ encode_lower rest)
-    ∙ ap (λ text. 34 ∷ get_or lower_digits (b / 16) 0 ∷ drop 1 text) (digit_plain (b % 16) (omega arith) (encode_lower rest) ∙ ap (λ text. 34 ∷ low ∷ drop 1 text) (text-encode_lower rest h.1))
+    ∙ ap (λ text. 34 ∷ get_or lower_digits (b / 16) 0 ∷ drop 1 text)
+    (digit_plain (b % 16) (omega arith) (encode_lower rest)
+    ∙ ap (λ text. 34 ∷ low ∷ drop 1 text) (text-encode_lower rest h.1))
 
 text-boolean : (b : Bool) → compact_text (boolean b) ≡ (if b then codes "true" else codes "false")
 text-boolean true = refl
@@ -59,25 +86,34 @@ text-boolean false = refl
 -- a snapshot's text, round those of its data and of its flag
 snapped_round : (cpu drops : ℕ) → List ℕ → List ℕ → List ℕ
 snapped_round cpu drops «data» flag =
-    codes "{\"cpu\":" ++ decimal cpu ++ codes ",\"data\":" ++ «data» ++ codes ",\"drops\":" ++ decimal drops ++ codes ",\"filled\":" ++ flag ++ codes ",\"ok\":true}\n"
+    codes "{\"cpu\":" ++ decimal cpu ++ codes ",\"data\":" ++ «data» ++ codes ",\"drops\":" ++ decimal drops ++ codes
+    ",\"filled\":" ++ flag ++ codes ",\"ok\":true}\n"
 
-closed : (a b c d e f g h i n : List ℕ) → (a ++ (b ++ (c ++ (d ++ (e ++ (f ++ (g ++ (h ++ i)))))))) ++ n ≡ a ++ b ++ c ++ d ++ e ++ f ++ g ++ h ++ (i ++ n)
+closed : (a b c d e f g h i n : List ℕ) → (a ++ (b ++ (c ++ (d ++ (e ++ (f ++ (g ++ (h ++ i)))))))) ++ n
+    ≡ a ++ b ++ c ++ d ++ e ++ f ++ g ++ h ++ (i ++ n)
 closed a b c d e f g h i n = simp append_assoc
 
-snapped_parts : (cpu drops : ℕ) (bytes : List ℕ) (filled : Bool) → reply_text (snapped cpu bytes drops filled) ≡ snapped_round cpu drops (compact_text (string (encode_lower bytes))) (compact_text (boolean filled))
+snapped_parts : (cpu drops : ℕ) (bytes : List ℕ) (filled : Bool) → reply_text (snapped cpu bytes drops filled)
+    ≡ snapped_round cpu drops (compact_text (string (encode_lower bytes))) (compact_text (boolean filled))
 unfolding serde_json_on_literals snapped_round
 snapped_parts cpu drops bytes filled =
-    closed (codes "{\"cpu\":") (decimal cpu) (codes ",\"data\":") (compact_text (string (encode_lower bytes))) (codes ",\"drops\":") (decimal drops) (codes ",\"filled\":") (compact_text (boolean filled)) (codes ",\"ok\":true}") (10 ∷ [])
+    closed (codes "{\"cpu\":") (decimal cpu) (codes ",\"data\":") (compact_text (string (encode_lower bytes)))
+    (codes ",\"drops\":") (decimal drops) (codes ",\"filled\":") (compact_text (boolean filled))
+    (codes ",\"ok\":true}") (10 ∷ [])
 
 quotes_apart : (a b h c : List ℕ) → a ++ b ++ (34 ∷ (h ++ 34 ∷ [])) ++ c ≡ a ++ (b ++ 34 ∷ []) ++ h ++ (34 ∷ c)
 quotes_apart a b h c = simp append_assoc
 
 pub text-snapped : (cpu drops : ℕ) (bytes : List ℕ) (filled : Bool) → AllByRecursion (λ byte. byte < 256) bytes
     → reply_text (snapped cpu bytes drops filled)
-    ≡ codes "{\"cpu\":" ++ decimal cpu ++ codes ",\"data\":\"" ++ encode_lower bytes ++ codes "\",\"drops\":" ++ decimal drops ++ codes ",\"filled\":" ++ (if filled then codes "true" else codes "false") ++ codes ",\"ok\":true}\n"
+    ≡ codes "{\"cpu\":" ++ decimal cpu ++ codes ",\"data\":\"" ++ encode_lower bytes ++ codes "\",\"drops\":" ++
+    decimal drops ++ codes ",\"filled\":" ++ (if filled then codes "true" else codes "false") ++ codes
+    ",\"ok\":true}\n"
 unfolding snapped_round
 text-snapped cpu drops bytes filled small =
     snapped_parts cpu drops bytes filled
     ∙ ap (λ text. snapped_round cpu drops text (compact_text (boolean filled))) (text-encode_lower bytes small)
     ∙ ap (snapped_round cpu drops (34 ∷ (encode_lower bytes ++ 34 ∷ []))) (text-boolean filled)
-    ∙ ap (λ front. front ++ decimal drops ++ codes ",\"filled\":" ++ (if filled then codes "true" else codes "false") ++ codes ",\"ok\":true}\n") (quotes_apart (codes "{\"cpu\":" ++ decimal cpu) (codes ",\"data\":") (encode_lower bytes) (codes ",\"drops\":"))
+    ∙ ap (λ front. front ++ decimal drops ++ codes ",\"filled\":" ++ (if filled then codes "true" else codes "false")
+    ++ codes ",\"ok\":true}\n") (quotes_apart (codes "{\"cpu\":" ++ decimal cpu) (codes ",\"data\":") (encode_lower
+    bytes) (codes ",\"drops\":"))

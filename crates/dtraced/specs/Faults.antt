@@ -5,18 +5,19 @@ use Rattle.dtraced.specs.Input.{lines_of, IsRefused}
 use Rattle.dtraced.specs.declared.replay.ReplayFault.{ReplayFault}
 use Rattle.dtraced.specs.declared.replay.ReplayFault.TheVariants.{Machine, Read, Line, Write, Memory}
 
--- an input is not read where the reader fails, or for want of memory
+-- the machine file is refused, the first thing that is tested
+abbrev pub IsOfMachine : ReplayFault → Type 0
+IsOfMachine (Machine refused) = Unit {0}
+IsOfMachine _ = ⊥
+
+-- an input is not read where the reader fails, or where memory runs out
 abbrev pub IsFaultOfReading : ReplayFault → Type 0
 IsFaultOfReading Read = Unit {0}
 IsFaultOfReading Memory = Unit {0}
-IsFaultOfReading (Machine fault) = ⊥
-IsFaultOfReading (Line n) = ⊥
-IsFaultOfReading Write = ⊥
+IsFaultOfReading _ = ⊥
 
--- its steps are not all taken where a line is refused, or for want of memory
+-- its steps are not all taken where a line is refused, or where memory runs out
 abbrev pub IsFaultOfSteps : Contents → List ℕ → ReplayFault → Type 0
 IsFaultOfSteps contents text Memory = Unit {0}
 IsFaultOfSteps contents text (Line n) = IsRefused contents.registry (lines_of text) n
-IsFaultOfSteps contents text (Machine fault) = ⊥
-IsFaultOfSteps contents text Read = ⊥
-IsFaultOfSteps contents text Write = ⊥
+IsFaultOfSteps contents text _ = ⊥

@@ -1,9 +1,8 @@
 -- Which steps an input is, or at which line it is refused.
-use Rattle.std.specs.Prelude.{◌≡◌, ◌≢◌, ℕ, ◌-◌, ◌<◌, ◌≤◌, ◌==◌, ◌⊎◌, Bool, true, false, List, [], ◌∷◌, ◌++◌, All, length, take, map, filter, IsTrue, IsSomeAnd}
+use Rattle.std.specs.Prelude.{◌≡◌, ◌≢◌, ℕ, ◌-◌, ◌<◌, ◌≤◌, ◌==◌, Bool, true, false, List, [], ◌∷◌, ◌++◌, All, length, take, map, filter, IsSome}
 use Rattle.std.specs.List.{slice_split, AllByRecursion}
-use Rattle.dt_cred.specs.declared.account.Privs.{Privs}
 use Rattle.dt_machine.specs.Registry.{Registry, account_of}
-use Rattle.dtraced.specs.Step.{Act, opens, calls, fires, spelling, is_open, IsWritable}
+use Rattle.dtraced.specs.Step.{Act, opens, calls, fires, spelling, opens_session, IsWritable}
 
 abbrev pub is_newline : ℕ → Bool
 is_newline byte = byte == 10
@@ -29,23 +28,19 @@ abbrev pub is_written : List ℕ → Bool
 is_written [] = false
 is_written (byte ∷ line) = true
 
--- one of the three privileges without which an account can open no session
-abbrev pub HasDtrace : Privs → Type 0
-HasDtrace privs = IsTrue privs.dtrace_user ⊎ (IsTrue privs.dtrace_proc ⊎ IsTrue privs.dtrace_kernel)
+-- The step is one on this machine: its account is one of the machine's, or its processor is.
+abbrev pub IsStepOn : Registry → Act → Type 0
+IsStepOn registry (opens name) = IsSome (account_of registry name)
+IsStepOn registry (calls line) = Unit {0}
+IsStepOn registry (fires cpu) = cpu < registry.cpus
 
--- The step is one on this machine: it opens a session of an account with a dtrace privilege, it calls, or it
--- fires on one of the processors.
-abbrev pub IsKnown : Registry → Act → Type 0
-IsKnown registry (opens name) = IsSomeAnd (account_of registry name) (λ account. HasDtrace account.privs)
-IsKnown registry (calls line) = Unit {0}
-IsKnown registry (fires cpu) = cpu < registry.cpus
-
--- The lines that aren't empty are these steps, in order, and at most one of them opens a session.
+-- The lines that aren't empty are these steps, in order, and at most one of them opens a session. An account without
+-- a dtrace privilege opens none: its step does nothing.
 pub record AreSteps (registry : Registry) (lines : List (List ℕ)) (acts : List Act) : Type 0 where
   pub spelled : filter is_written lines ≡ map spelling acts
   pub writable : AllByRecursion IsWritable acts
-  pub known : AllByRecursion (IsKnown registry) acts
-  pub once : length (filter is_open acts) ≤ 1
+  pub known : AllByRecursion (IsStepOn registry) acts
+  pub once : length (filter (opens_session registry) acts) ≤ 1
 
 -- The n-th line is the first that is refused: the lines before it are steps, and with it they are none.
 pub record IsRefused (registry : Registry) (lines : List (List ℕ)) (n : ℕ) : Type 0 where

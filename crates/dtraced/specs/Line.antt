@@ -8,6 +8,7 @@ use Rattle.serde_json.specs.Find.{get, as_str, as_number, as_u64}
 use Rattle.dt_lang.specs.Description.{DescForm, ReadsDescription}
 use Rattle.dt_lang.specs.Program.{Reading, Reads}
 use Rattle.dt_consumer.specs.Ask.{Ask, enable, go, snap, list}
+use Rattle.dtraced.specs.declared.line.TheConstants.{LINE_MAX}
 use Rattle.dt_consumer.specs.declared.command.Command.{Command}
 use Rattle.dt_consumer.specs.declared.command.Command.TheVariants.{Enable, Go, Snap, List as ListOf}
 use Rattle.dt_consumer.specs.declared.refusal.Refusal.{Refusal}
@@ -28,26 +29,26 @@ request_of (Snap cpu) = to_snap cpu
 request_of (ListOf probe) = to_list (string_bytes probe)
 
 -- the text of an object's field, where it is one
-abbrev pub text_at : List ℕ → Data → Option (List ℕ)
-text_at key d = option_and_then as_str (get key d)
+abbrev pub field_text : List ℕ → Data → Option (List ℕ)
+field_text key d = option_and_then as_str (get key d)
 
 -- the number of an object's field, where it is one of 64 bits without a sign
-abbrev pub number_at : List ℕ → Data → Option ℕ
-number_at key d = option_and_then as_u64 (option_and_then as_number (get key d))
+abbrev pub field_number : List ℕ → Data → Option ℕ
+field_number key d = option_and_then as_u64 (option_and_then as_number (get key d))
 
 -- what the command of this name asks for; None where there is no such command, or a field of it is missing or of
 -- another kind
 abbrev pub named_request : List ℕ → Data → Option Request
 named_request name d =
-    if bytes_eq name (codes "enable") then option_map to_enable (text_at (codes "text") d)
+    if bytes_eq name (codes "enable") then option_map to_enable (field_text (codes "text") d)
     else if bytes_eq name (codes "go") then Some to_go
-    else if bytes_eq name (codes "snap") then option_map to_snap (number_at (codes "cpu") d)
-    else if bytes_eq name (codes "list") then option_map to_list (text_at (codes "probe") d)
+    else if bytes_eq name (codes "snap") then option_map to_snap (field_number (codes "cpu") d)
+    else if bytes_eq name (codes "list") then option_map to_list (field_text (codes "probe") d)
     else None
 
 -- what a JSON value asks for: its field `cmd` names the command
 abbrev pub requested_by : Data → Result Request Refusal
-requested_by d = ok_or (option_and_then (λ name. named_request name d) (text_at (codes "cmd") d)) NoRequest
+requested_by d = ok_or (option_and_then (λ name. named_request name d) (field_text (codes "cmd") d)) NoRequest
 
 abbrev pub requested_or_no_json : Option Data → Result Request Refusal
 requested_or_no_json None = Err Json
@@ -56,10 +57,6 @@ requested_or_no_json (Some d) = requested_by d
 -- what the bytes of a line say, or why they are refused
 abbrev pub requested : List ℕ → Result Request Refusal
 requested line = requested_or_no_json (if is_utf8 line then read line else None)
-
--- the most bytes of a line
-abbrev pub LINE_MAX : ℕ
-LINE_MAX = 65536
 
 -- the same of a line of any length
 abbrev pub requested_by_line : List ℕ → Result Request Refusal
@@ -70,9 +67,10 @@ abbrev pub Means : Result Request Refusal → Result Ask Refusal → Type 0
 Means (Ok (to_enable text)) ask = (reading : Reading) × Reads text reading × (ask ≡ Ok (enable reading))
 Means (Ok to_go) ask = ask ≡ Ok go
 Means (Ok (to_snap cpu)) ask = ask ≡ Ok (snap cpu)
-Means (Ok (to_list probe)) ask = (reading : Option DescForm) × ReadsDescription probe reading × (ask ≡ Ok (list reading))
+Means (Ok (to_list probe)) ask = (reading : Option DescForm) × ReadsDescription probe reading
+    × (ask ≡ Ok (list reading))
 Means (Err refusal) ask = ask ≡ Err refusal
 
 -- A line asks this of a consumer.
-abbrev pub Asks : List ℕ → Result Ask Refusal → Type 0
-Asks line ask = Means (requested_by_line line) ask
+abbrev pub BytesAsk : List ℕ → Result Ask Refusal → Type 0
+BytesAsk line ask = Means (requested_by_line line) ask

@@ -8,7 +8,7 @@ use Rattle.dt_consumer.specs.Answer.{Answer}
 use Rattle.dtraced.specs.Alone.{Reached, own_line, firing_made, Alone}
 use Rattle.dtraced.specs.Input.{AreSteps, lines_of}
 use Rattle.dtraced.specs.Reply.{reply_text}
-use Rattle.dtraced.specs.Step.{Act, opens, calls, fires, is_fire_of, is_opened}
+use Rattle.dtraced.specs.Step.{Act, opens, calls, fires, is_fire_of, may_open, is_opened}
 
 -- The steps so far are called the past; the newest goes first.
 
@@ -27,14 +27,16 @@ brings contents past (calls line) = own_line line ∷ []
 brings contents past (fires cpu) = reached_by (firing_at contents.scripts cpu (taken cpu past))
 
 -- what reached the consumer since its session was opened, the newest first
-abbrev pub view : Contents → List Act → List Reached
-view contents [] = []
-view contents (act ∷ past) = if is_opened past then brings contents past act ++ view contents past else []
+abbrev pub session_view : Contents → List Act → List Reached
+session_view contents [] = []
+session_view contents (act ∷ past) =
+    if is_opened contents.registry past then brings contents past act ++ session_view contents past else []
 
 -- the account of the session
 abbrev pub account_opened : Registry → List Act → Option Account
 account_opened registry [] = None
-account_opened registry (opens name ∷ past) = account_of registry name
+account_opened registry (opens name ∷ past) =
+    if may_open registry name then account_of registry name else account_opened registry past
 account_opened registry (calls line ∷ past) = account_opened registry past
 account_opened registry (fires cpu ∷ past) = account_opened registry past
 
@@ -42,7 +44,7 @@ account_opened registry (fires cpu ∷ past) = account_opened registry past
 abbrev pub AreAnswers : Contents → List Act → List Answer → Type 0
 AreAnswers contents past answers =
     MatchOption (account_opened contents.registry past) (answers ≡ [])
-    (λ account. Alone account contents.registry (view contents past) answers)
+    (λ account. Alone account contents.registry (session_view contents past) answers)
 
 -- the line that is written for an answer: the seat, a blank, the reply
 abbrev pub output_line : Answer → List ℕ

@@ -7,50 +7,45 @@ use Rattle.serde_json.specs.View.{items_of}
 use Rattle.serde_json.specs.Written.{compact_text}
 use Rattle.dt_cred.specs.declared.probe.Probe.{Probe}
 use Rattle.dt_names.specs.declared.tuple.ProbeTuple.{ProbeTuple}
-use Rattle.dt_lang.specs.declared.fault.Why.{Why}
-use Rattle.dt_lang.specs.declared.fault.Why.TheVariants.{Syntax, Probe as NoProbe}
+use Rattle.dt_lang.specs.Fault.{word_of}
+use Rattle.dt_consumer.specs.Refusal.{refusal_number, refusal_name}
 use Rattle.dt_consumer.specs.Answer.{Answer, done, enabled, snapped, listed, refused}
 use Rattle.dt_consumer.specs.declared.refusal.Refusal.{Refusal}
-use Rattle.dt_consumer.specs.declared.refusal.Refusal.TheVariants.{Json, Request, LineLong, Program, NoMatch, Limit, Busy, NoCpu, Quota, Memory}
-
--- the name of a cause for which a text is no program
-abbrev pub why_name : Why → List ℕ
-why_name Syntax = codes "Syntax"
-why_name NoProbe = codes "Probe"
+use Rattle.dt_consumer.specs.declared.refusal.Refusal.TheVariants.{Program, NoMatch}
 
 abbrev pub of_number : ℕ → Data
 of_number n = number (unsigned n)
 
--- a refusal's number and name, and the keys behind them
-abbrev pub coded : ℕ → List ℕ → Members → Members
-coded n name behind = member (codes "error") (of_number n) (member (codes "name") (string name) behind)
+-- a refusal's number and name, and the keys after them
+abbrev pub coded : Refusal → Members → Members
+coded refusal more =
+    member (codes "error") (of_number (refusal_number refusal))
+    (member (codes "name") (string (refusal_name refusal)) more)
 
+-- A refusal of a text says where and why, and one of a clause says which; any other has its number and name alone.
 abbrev pub refusal_members : Refusal → Members
-refusal_members Json = coded 1 (codes "Json") no_members
-refusal_members Request = coded 2 (codes "Request") no_members
-refusal_members LineLong = coded 3 (codes "LineLong") no_members
-refusal_members (Program at why) = member (codes "at") (of_number at) (coded 4 (codes "Program") (member (codes "why") (string (why_name why)) no_members))
-refusal_members (NoMatch clause) = member (codes "clause") (of_number clause) (coded 5 (codes "NoMatch") no_members)
-refusal_members Limit = coded 9 (codes "Limit") no_members
-refusal_members Busy = coded 10 (codes "Busy") no_members
-refusal_members NoCpu = coded 12 (codes "NoCpu") no_members
-refusal_members Quota = coded 15 (codes "Quota") no_members
-refusal_members Memory = coded 16 (codes "Memory") no_members
+refusal_members (Program at why) =
+    member (codes "at") (of_number at) (coded (Program at why) (member (codes "why") (string (word_of why))
+    no_members))
+refusal_members (NoMatch clause) = member (codes "clause") (of_number clause) (coded (NoMatch clause) no_members)
+refusal_members refusal = coded refusal no_members
 
--- the last key of what is no refusal, and the keys behind it
+-- the last key of what is no refusal, and the keys after it
 abbrev pub ok_and : Members → Members
-ok_and behind = member (codes "ok") (boolean true) behind
+ok_and more = member (codes "ok") (boolean true) more
 
 -- a probe's four names with colons between them
 abbrev pub tuple_text : ProbeTuple → List ℕ
 tuple_text tuple = join_with_byte 58 (tuple.provider ∷ tuple.module ∷ tuple.function ∷ tuple.name ∷ [])
 
 abbrev pub probe_data : Probe → Data
-probe_data probe = object (member (codes "id") (of_number probe.id) (member (codes "name") (string (tuple_text probe.tuple)) no_members))
+probe_data probe = object (member (codes "id") (of_number probe.id) (member (codes "name") (string (tuple_text
+    probe.tuple)) no_members))
 
 abbrev pub reply_members : Answer → Members
 reply_members done = ok_and no_members
-reply_members (enabled count first) = member (codes "count") (of_number count) (member (codes "first") (of_number first) (ok_and no_members))
+reply_members (enabled count first) = member (codes "count") (of_number count)
+    (member (codes "first") (of_number first) (ok_and no_members))
 reply_members (snapped cpu bytes drops filled) =
     member (codes "cpu") (of_number cpu) (member (codes "data") (string (encode_lower bytes))
     (member (codes "drops") (of_number drops) (member (codes "filled") (boolean filled) (ok_and no_members))))
@@ -59,7 +54,8 @@ reply_members (refused refusal) = refusal_members refusal
 
 -- a listed probe's text; its name is quoted as JSON quotes it
 abbrev pub probe_text : Probe → List ℕ
-probe_text probe = codes "{\"id\":" ++ decimal probe.id ++ codes ",\"name\":" ++ compact_text (string (tuple_text probe.tuple)) ++ codes "}"
+probe_text probe = codes "{\"id\":" ++ decimal probe.id ++ codes ",\"name\":" ++ compact_text
+    (string (tuple_text probe.tuple)) ++ codes "}"
 
 -- the line with its newline
 abbrev pub reply_text : Answer → List ℕ

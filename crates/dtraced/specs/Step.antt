@@ -1,6 +1,9 @@
 -- How the steps of a replay are written.
 use Rattle.std.specs.Prelude.{◌≡◌, ℕ, ◌==◌, ◌^◌, ◌<◌, Bool, true, false, List, ◌++◌, codes, decimal}
 use Rattle.std.specs.List.{list_any}
+use Rattle.std.specs.Option.{option_map_or}
+use Rattle.dt_cred.specs.Rights.{has_dtrace}
+use Rattle.dt_machine.specs.Registry.{Registry, account_of}
 use Rattle.dtraced.specs.declared.step.Step.{Step}
 use Rattle.dtraced.specs.declared.step.Step.TheVariants.{Open, Call, Fire}
 
@@ -29,20 +32,24 @@ IsWritable (calls line) = Unit {0}
 IsWritable (fires cpu) = cpu < 2 ^ 32
 
 -- the text is the line of the step
-pub record Spells (text : List ℕ) (act : Act) : Type 0 where
+pub record SpellsStep (text : List ℕ) (act : Act) : Type 0 where
   pub writable : IsWritable act
   pub spelled : text ≡ spelling act
 
-abbrev pub is_open : Act → Bool
-is_open (opens account) = true
-is_open (calls line) = false
-is_open (fires cpu) = false
-
 abbrev pub is_fire_of : ℕ → Act → Bool
-is_fire_of cpu (opens account) = false
-is_fire_of cpu (calls line) = false
 is_fire_of cpu (fires n) = n == cpu
+is_fire_of cpu _ = false
 
--- a session was opened by one of these steps
-abbrev pub is_opened : List Act → Bool
-is_opened acts = list_any is_open acts
+module _ (registry : Registry) where
+  -- the account of this name is the machine's, and has a dtrace privilege
+  abbrev pub may_open : List ℕ → Bool
+  may_open name = option_map_or (λ account. has_dtrace account.privs) (account_of registry name) false
+
+  -- the step opens a session
+  abbrev pub opens_session : Act → Bool
+  opens_session (opens name) = may_open name
+  opens_session _ = false
+
+  -- a session was opened by one of these steps
+  abbrev pub is_opened : List Act → Bool
+  is_opened acts = list_any opens_session acts

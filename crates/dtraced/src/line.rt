@@ -1,8 +1,10 @@
+//! What a consumer asks for by the bytes of a line.
 ghost use Rattle.std.specs.Prelude.{◌≡◌, ◌≢◌, Result, Ok, Err, IfOk, IfErr, option_map};
 ghost use Rattle.serde_json.specs.View.{view};
-ghost use Rattle.dt_consumer.specs.Ask.{Ask, Asks as CommandAsks};
+ghost use Rattle.dt_consumer.specs.Ask.{Ask, CommandAsks};
 ghost use Rattle.dt_consumer.specs.Draft.{LineAsks};
-ghost use Rattle.dtraced.specs.Line.{text_at, number_at, request_of, requested_by, requested, requested_by_line, Asks};
+ghost use Rattle.dt_consumer.specs.Refusal.{IsNoCommand};
+ghost use Rattle.dtraced.specs.Line.{field_text, field_number, request_of, requested_by, requested, requested_by_line, BytesAsk};
 ghost use Rattle.dt_consumer.specs.declared.refusal.Refusal.{Refusal};
 
 use dt_consumer::{Command, Refusal};
@@ -11,11 +13,12 @@ use serde_json::Value;
 use std::alloc::{AllocError, Global};
 
 /// The most bytes of a line, its newline apart.
-const LINE_MAX: usize = 65_536;
+pub(crate) const LINE_MAX: usize = 65_536;
 
 /// What a consumer asks for by a line, or why the line is refused, given without its newline.
 pub(crate) fn read_line(alloc: Global, line: &[u8]) -> Result<Result<Command, Refusal>, AllocError>
-    ensures { IfOk result (λ asked. (ask : Result Ask Refusal) × Asks line.now ask × LineAsks asked ask) }
+    ensures asks { IfOk result (λ asked. (ask : Result Ask Refusal) × BytesAsk line.now ask × LineAsks asked ask) }
+    ensures no_command { IfOk result (λ asked. IfErr asked IsNoCommand) }
 {
     match ask_line(alloc, line) {
         Ok(command) => Ok(Ok(command)),
@@ -35,6 +38,7 @@ fn ask_line(alloc: Global, line: &[u8]) -> Result<Command, Refusal>
     ensures ok { IfOk result (λ command. requested_by_line line.now ≡ Ok (request_of command)) }
     ensures asks { IfOk result (λ command. (ask : Ask) × CommandAsks command ask) }
     ensures err { IfErr result (λ refusal. refusal ≢ Refusal.Memory → requested_by_line line.now ≡ Err refusal) }
+    ensures no_command { IfErr result (λ refusal. refusal ≢ Refusal.Memory → IsNoCommand refusal) }
 {
     if line.len() > LINE_MAX {
         return Err(Refusal::LineLong);
@@ -51,6 +55,7 @@ fn command_of(alloc: Global, line: &[u8]) -> Result<Command, Refusal>
     ensures ok { IfOk result (λ command. requested line.now ≡ Ok (request_of command)) }
     ensures asks { IfOk result (λ command. (ask : Ask) × CommandAsks command ask) }
     ensures err { IfErr result (λ refusal. refusal ≢ Refusal.Memory → requested line.now ≡ Err refusal) }
+    ensures no_command { IfErr result (λ refusal. refusal ≢ Refusal.Memory → IsNoCommand refusal) }
 {
     match Value::from_slice(alloc, line) {
         Ok(request) => requested_command(alloc, &request),
@@ -64,6 +69,7 @@ fn requested_command(alloc: Global, request: &Value) -> Result<Command, Refusal>
     ensures ok { IfOk result (λ command. requested_by (view request.now) ≡ Ok (request_of command)) }
     ensures asks { IfOk result (λ command. (ask : Ask) × CommandAsks command ask) }
     ensures err { IfErr result (λ refusal. refusal ≢ Refusal.Memory → requested_by (view request.now) ≡ Err refusal) }
+    ensures no_command { IfErr result (λ refusal. refusal ≢ Refusal.Memory → IsNoCommand refusal) }
 {
     match text_field(request, "cmd").ok_or(Refusal::Request)? {
         "enable" => {
@@ -89,14 +95,14 @@ fn requested_command(alloc: Global, request: &Value) -> Result<Command, Refusal>
 
 /// The text of a field, where it is one.
 fn text_field<'v>(request: &'v Value, key: &str) -> Option<&'v str>
-    ensures { option_map (λ text. text.now) result ≡ text_at key.now (view request.now) }
+    ensures { option_map (λ text. text.now) result ≡ field_text key.now (view request.now) }
 {
     request.get(key).and_then(Value::as_str)
 }
 
 /// The number of a field, where it is one that fits 64 bits and has no sign.
 fn number_field(request: &Value, key: &str) -> Option<u64>
-    ensures { result ≡ number_at key.now (view request.now) }
+    ensures { result ≡ field_number key.now (view request.now) }
 {
     request.get(key).and_then(Value::as_u64)
 }

@@ -4,7 +4,8 @@
 //! What is written is defined in `specs/Replay.antt`, and [`replay::replay`] is proved to write it.
 #![tactic(auto)]
 
-mod laws;
+mod fault;
+pub mod laws;
 mod line;
 pub mod replay;
 mod reply;
@@ -12,44 +13,26 @@ mod run;
 mod step;
 mod words;
 
-use replay::{ReplayFault, replay};
+use fault::Fault;
+use replay::replay;
 use std::process::ExitCode;
 use std::{env, fs, io};
 use words::{WordsFault, machine_path};
-
-/// Why the program ends with another status than 0. Its text is the line on standard error.
-#[derive(Debug, Drop, thiserror::Error)]
-enum Fault {
-    /// The words are none of the program's forms: status 2.
-    #[error("usage")]
-    Usage,
-    /// A file or a stream failed, or memory ran out: status 1.
-    #[error("fault")]
-    Device,
-    /// The machine file or the input is refused, or a stream failed: status 1.
-    #[error("{0}")]
-    Replay(ReplayFault),
-}
 
 fn main(rt: HostRuntime) -> ExitCode {
     match replay_files(&rt) {
         Ok(()) => ExitCode::SUCCESS,
         Err(fault) => {
-            let status = match fault {
-                Fault::Usage => 2,
-                Fault::Device | Fault::Replay(_) => 1,
-            };
+            // Where standard error fails too, the status is all that tells.
             let _told = eprintln!(rt; "{fault}");
-            ExitCode::from(status)
+            ExitCode::from(fault.status())
         }
     }
 }
 
 /// Replays the machine file that the words name on the real streams.
 fn replay_files(rt: &HostRuntime) -> Result<(), Fault> {
-    let Ok(args) = env::args(rt) else {
-        return Err(Fault::Device);
-    };
+    let args = env::args(rt).map_err(|error| Fault::of_words(&error))?;
     let Ok(args) = args.collect::<Vec<String>>(rt.alloc()) else {
         return Err(Fault::Device);
     };
@@ -70,8 +53,5 @@ fn replay_files(rt: &HostRuntime) -> Result<(), Fault> {
     };
     let mut reader = rt.reader();
     let mut writer = io::writer(rt);
-    match replay(rt.alloc(), &machine, &mut reader, &mut writer) {
-        Ok(()) => Ok(()),
-        Err(fault) => Err(Fault::Replay(fault)),
-    }
+    replay(rt.alloc(), &machine, &mut reader, &mut writer).map_err(Fault::Replay)
 }

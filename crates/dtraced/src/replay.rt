@@ -2,10 +2,10 @@
 ghost use Rattle.std.specs.Prelude.{◌≡◌, ◌≢◌, ◌<◌, ℕ, List, [], ◌∷◌, IfOk, IfErr, IfSome, IfNone, OnOk, length, take};
 ghost use Rattle.std.specs.Io.KnownBytes.{Appends, Keeps};
 ghost use Rattle.dt_machine.specs.Reading.{IsDescribed, IsFaultOf};
-ghost use Rattle.dt_machine.specs.Registry.{Contents};
-ghost use Rattle.dt_machine.specs.Sections.{UnlessMemory};
+ghost use Rattle.dt_machine.specs.Registry.{Contents, IsSound};
+ghost use Rattle.dt_machine.specs.Sections.{NowhereIfMemory, UnlessMemory};
 ghost use Rattle.dt_machine.specs.declared.fault.MachineFault.{MachineFault};
-ghost use Rattle.dtraced.specs.Faults.{IsFaultOfReading, IsFaultOfSteps};
+ghost use Rattle.dtraced.specs.Faults.{IsFaultOfReading, IsFaultOfSteps, IsOfMachine};
 ghost use Rattle.dtraced.specs.Input.{lines_of, IsCut, HasNoNewline, IsRefused};
 ghost use Rattle.dtraced.specs.Replay.{IsReplay};
 
@@ -21,7 +21,7 @@ const READS_MAX: u64 = 1 << 28;
 /// How many bytes are asked of an input at once.
 const CHUNK: usize = 8192;
 
-/// Why a replay wrote nothing, or not all. They are tested in this order; want of memory can come at any point behind
+/// Why a replay wrote nothing, or not all. They are tested in this order; memory can run out at any point after
 /// the first and before the last.
 #[derive(Clone, Copy, Debug, PartialEq, Eq, Error)]
 pub enum ReplayFault {
@@ -49,16 +49,31 @@ pub fn replay<R: Read, W: Write>(
     reader: &mut R,
     writer: &mut W,
 ) -> Result<(), ReplayFault>
-    ensures ok { OnOk result (IfSome (R.remaining reader.old) (λ input. (contents : Contents) × (output : List ℕ)
-        × IsDescribed machine.now contents × IsReplay contents input output × Appends (W.contents writer.old) (W.contents writer.new) output)) }
+    // What is written are the replies that the definition gives to what was read.
+    ensures ok { OnOk result (IfSome (R.remaining reader.old) (λ input.
+        (contents : Contents) × (output : List ℕ) × IsDescribed machine.now contents × IsReplay contents input output
+        × Appends (W.contents writer.old) (W.contents writer.new) output)) }
+
+    // The machine file is tested first: it is named where it is refused, and then nothing was read. Every other fault
+    // comes after it was read as a machine.
     ensures machine { IfErr result (λ fault. (refused : MachineFault) → fault ≡ ReplayFault.Machine refused
-        → UnlessMemory refused (IsFaultOf machine.now refused)) }
-    ensures line { IfErr result (λ fault. (n : ℕ) → fault ≡ ReplayFault.Line n → IfSome (R.remaining reader.old) (λ input.
+        → NowhereIfMemory refused × UnlessMemory refused (IsFaultOf machine.now refused)) }
+    ensures unread { IfErr result (λ fault. IsOfMachine fault → reader.new ≡ reader.old) }
+    ensures described { IfErr result (λ fault. (IsOfMachine fault → ⊥)
+        → (contents : Contents) × IsDescribed machine.now contents) }
+
+    // A line is named where it is the first that is refused.
+    ensures line { IfErr result (λ fault. (n : ℕ) → fault ≡ ReplayFault.Line n
+        → IfSome (R.remaining reader.old) (λ input.
         (contents : Contents) × IsDescribed machine.now contents × IsRefused contents.registry (lines_of input) n)) }
-    ensures nothing_written { IfErr result (λ fault. fault ≢ ReplayFault.Write → Keeps (W.contents writer.old) (W.contents writer.new)) }
-    ensures beginning_written { IfErr result (λ fault. fault ≡ ReplayFault.Write → IfSome (R.remaining reader.old) (λ input.
-        (contents : Contents) × (output : List ℕ) × (count : ℕ) × IsDescribed machine.now contents × IsReplay contents input output
-        × Appends (W.contents writer.old) (W.contents writer.new) (take count output))) }
+
+    // Only a write that fails leaves anything written: a beginning of what would have been.
+    ensures nothing_written { IfErr result (λ fault. fault ≢ ReplayFault.Write
+        → Keeps (W.contents writer.old) (W.contents writer.new)) }
+    ensures beginning_written { IfErr result (λ fault. fault ≡ ReplayFault.Write
+        → IfSome (R.remaining reader.old) (λ input.
+        (contents : Contents) × (output : List ℕ) × (count : ℕ) × IsDescribed machine.now contents
+        × IsReplay contents input output × Appends (W.contents writer.old) (W.contents writer.new) (take count output))) }
 {
     let machine = match Machine::read(alloc, machine) {
         Ok(machine) => machine,
@@ -92,6 +107,7 @@ fn read_input<R: Read>(alloc: Global, reader: &mut R) -> Result<Vec<u8>, ReplayF
 
 /// What is written for an input.
 fn output_of(alloc: Global, machine: &Machine, input: &[u8]) -> Result<Vec<u8>, ReplayFault>
+    requires { IsSound machine.now }
     ensures ok { IfOk result (λ output. IsReplay machine.now input.now output.items) }
     ensures err { IfErr result (IsFaultOfSteps machine.now input.now) }
 {
@@ -110,7 +126,7 @@ fn output_of(alloc: Global, machine: &Machine, input: &[u8]) -> Result<Vec<u8>, 
     Ok(run.output)
 }
 
-/// The text in front of the first newline, and what stands behind it.
+/// The text in front of the first newline, and what stands after it.
 fn next_line(text: &[u8]) -> Option<(&[u8], &[u8])>
     ensures found { IfSome result (λ parts. IsCut text.now parts.0.now parts.1.now) }
     ensures none { IfNone result (HasNoNewline text.now) }

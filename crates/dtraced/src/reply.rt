@@ -1,15 +1,16 @@
+//! The line that a consumer is answered.
 ghost use Rattle.std.specs.Prelude.{◌≡◌, ℕ, ◌<◌, List, ◌++◌, Bool, if◌then◌else◌, IfOk, codes, decimal, map};
 ghost use Rattle.std.specs.List.{AllByRecursion, join_with_byte};
 ghost use Rattle.dt_cred.specs.declared.probe.Probe.{Probe};
-ghost use Rattle.serde_json.specs.Data.{object, no_members};
+ghost use Rattle.serde_json.specs.Data.{object};
 ghost use Rattle.serde_json.specs.View.{view};
 ghost use Rattle.hex.specs.Hex.{encode_lower};
 ghost use Rattle.dt_consumer.specs.Answer.{done, enabled, snapped, listed, refused, answer_of};
-ghost use Rattle.dtraced.specs.Reply.{why_name, coded, refusal_members, probe_data, probe_text, reply_members, reply_text};
+ghost use Rattle.dt_lang.specs.declared.fault.Why.TheVariants.{Syntax, Probe as NoProbe};
+ghost use Rattle.dtraced.specs.Reply.{refusal_members, probe_data, probe_text, reply_members, reply_text};
 
 use dt_consumer::{Refusal, Reply};
 use dt_cred::Probe;
-use dt_lang::Why;
 use serde_json::{Value, json};
 use std::alloc::{AllocError, Global};
 
@@ -74,42 +75,22 @@ fn probe_value(alloc: Global, probe: &Probe) -> Result<Value, AllocError>
 fn refusal_value(alloc: Global, refusal: Refusal) -> Result<Value, AllocError>
     ensures { IfOk result (λ value. view value ≡ object (refusal_members refusal)) }
 {
+    let number = refusal.number();
+    let name = refusal.name();
     match refusal {
-        Refusal::Json => coded_value(alloc, 1, "Json"),
-        Refusal::Request => coded_value(alloc, 2, "Request"),
-        Refusal::LineLong => coded_value(alloc, 3, "LineLong"),
         Refusal::Program { at, why } => {
-            json!(in alloc; {"at": at, "error": 4u32, "name": "Program", "why": name_of(why)})
+            json!(in alloc; {"at": at, "error": number, "name": name, "why": why.word()})
         }
         Refusal::NoMatch { clause } => {
-            json!(in alloc; {"clause": clause, "error": 5u32, "name": "NoMatch"})
+            json!(in alloc; {"clause": clause, "error": number, "name": name})
         }
-        Refusal::Limit => coded_value(alloc, 9, "Limit"),
-        Refusal::Busy => coded_value(alloc, 10, "Busy"),
-        Refusal::NoCpu => coded_value(alloc, 12, "NoCpu"),
-        Refusal::Quota => coded_value(alloc, 15, "Quota"),
-        Refusal::Memory => coded_value(alloc, 16, "Memory"),
-    }
-}
-
-/// A refusal of which there is no more to tell than its number and its name.
-fn coded_value(alloc: Global, number: u32, name: &str) -> Result<Value, AllocError>
-    ensures { IfOk result (λ value. view value ≡ object (coded number name.now no_members)) }
-{
-    json!(in alloc; {"error": number, "name": name})
-}
-
-fn name_of(why: Why) -> &'static str
-    ensures { result.now ≡ why_name why }
-{
-    match why {
-        Why::Syntax => "Syntax",
-        Why::Probe => "Probe",
+        // of any other there is no more to tell
+        _ => json!(in alloc; {"error": number, "name": name}),
     }
 }
 
 /// Law: the texts of the replies, letter by letter. The data is that of bytes, each below 256.
-pub(crate) fn reply_texts()
+pub fn reply_texts()
     ensures done { reply_text done ≡ codes "{\"ok\":true}\n" }
     ensures enabled { (count first : ℕ) → reply_text (enabled count first)
         ≡ codes "{\"count\":" ++ decimal count ++ codes ",\"first\":" ++ decimal first ++ codes ",\"ok\":true}\n" }
@@ -124,9 +105,9 @@ pub(crate) fn reply_texts()
     ensures json { reply_text (refused Refusal.Json) ≡ codes "{\"error\":1,\"name\":\"Json\"}\n" }
     ensures request { reply_text (refused Refusal.Request) ≡ codes "{\"error\":2,\"name\":\"Request\"}\n" }
     ensures line_long { reply_text (refused Refusal.LineLong) ≡ codes "{\"error\":3,\"name\":\"LineLong\"}\n" }
-    ensures program { (at : ℕ) → reply_text (refused (Refusal.Program at Why.Syntax))
+    ensures program { (at : ℕ) → reply_text (refused (Refusal.Program at Syntax))
         ≡ codes "{\"at\":" ++ decimal at ++ codes ",\"error\":4,\"name\":\"Program\",\"why\":\"Syntax\"}\n" }
-    ensures description { (at : ℕ) → reply_text (refused (Refusal.Program at Why.Probe))
+    ensures description { (at : ℕ) → reply_text (refused (Refusal.Program at NoProbe))
         ≡ codes "{\"at\":" ++ decimal at ++ codes ",\"error\":4,\"name\":\"Program\",\"why\":\"Probe\"}\n" }
     ensures no_match { (clause : ℕ) → reply_text (refused (Refusal.NoMatch clause))
         ≡ codes "{\"clause\":" ++ decimal clause ++ codes ",\"error\":5,\"name\":\"NoMatch\"}\n" }
@@ -136,6 +117,3 @@ pub(crate) fn reply_texts()
     ensures quota { reply_text (refused Refusal.Quota) ≡ codes "{\"error\":15,\"name\":\"Quota\"}\n" }
     ensures memory { reply_text (refused Refusal.Memory) ≡ codes "{\"error\":16,\"name\":\"Memory\"}\n" }
 {}
-
-#[cfg(test)]
-mod tests;

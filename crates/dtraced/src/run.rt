@@ -1,28 +1,25 @@
 //! The steps of a replay, taken one by one.
-ghost use Rattle.std.specs.Prelude.{◌≡◌, ◌<◌, ◌↔◌, ◌++◌, ℕ, List, [], ◌∷◌, Ok, true, false, IsTrue, IfOk, OnOk};
-ghost use Rattle.dt_consumer.specs.Life.{Item};
+ghost use Rattle.std.specs.Prelude.{◌≡◌, ◌<◌, ◌≤◌, ◌↔◌, ◌++◌, ℕ, List, [], ◌∷◌, Ok, true, false, IsTrue, IfOk, OnOk};
+ghost use Rattle.dt_consumer.specs.Life.{Item, firings};
 ghost use Rattle.dt_consumer.specs.StandsFor.{StandsFor};
 ghost use Rattle.dt_cred.specs.declared.account.Account.{Account};
-ghost use Rattle.dt_machine.specs.Registry.{Contents};
+ghost use Rattle.dt_machine.specs.Registry.{Contents, IsSound};
 ghost use Rattle.dtraced.specs.Input.{AreSteps};
-ghost use Rattle.dtraced.specs.Run.{IsAllowed, IsAnswer, IsBehind, HasTaken};
+ghost use Rattle.dtraced.specs.Run.{IsAllowed, IsAnswer, IsAfter, HasTaken};
 ghost use Rattle.dtraced.specs.Step.{Act, opens, calls, fires, act_of};
 
 use crate::line::read_line;
 use crate::reply::reply_bytes;
 use crate::step::Step;
-use dt_consumer::Consumer;
-use dt_machine::Machine;
+use dt_consumer::{Consumer, FIRINGS_MAX};
+use dt_machine::{CPUS_MAX, Machine};
 use std::alloc::{AllocError, Global};
-
-/// The most processors of a machine.
-const CPUS_MAX: usize = 64;
 
 /// The one session of a replay, how far each processor's script has come, and what is to be written.
 #[derive(Drop)]
 pub(crate) struct Run {
     pub(crate) consumer: Option<Consumer>,
-    pub(crate) counts: [u32; CPUS_MAX],
+    pub(crate) counts: [u32; CPUS_MAX as usize],
     pub(crate) output: Vec<u8>,
 }
 
@@ -34,7 +31,7 @@ impl Run {
         let output = Vec::new(alloc);
         Run {
             consumer: None,
-            counts: [0; CPUS_MAX],
+            counts: [0; CPUS_MAX as usize],
             output,
         }
     }
@@ -47,6 +44,7 @@ impl Run {
         machine: &Machine,
         line: &[u8],
     ) -> Result<bool, AllocError>
+        requires { IsSound machine.now }
         ensures taken { result ≡ Ok true → (lines : List (List ℕ)) → HasTaken machine.now lines self.old
             → HasTaken machine.now (lines ++ line.now ∷ []) self.new }
         ensures refused { result ≡ Ok false → (lines : List (List ℕ)) → HasTaken machine.now lines self.old
@@ -63,9 +61,11 @@ impl Run {
 
     /// Takes a step, and answers whether it may stand here.
     fn take(&mut self, alloc: Global, machine: &Machine, step: Step<'_>) -> Result<bool, AllocError>
-        ensures taken { result ≡ Ok true → (past : List Act) → IsBehind machine.now past self.old
-            → IsAllowed machine.now.registry past (act_of step.entry) × IsBehind machine.now (act_of step.entry ∷ past) self.new }
-        ensures refused { result ≡ Ok false → (past : List Act) → IsBehind machine.now past self.old
+        requires { IsSound machine.now }
+        ensures taken { result ≡ Ok true → (past : List Act) → IsAfter machine.now past self.old
+            → IsAllowed machine.now.registry past (act_of step.entry)
+            × IsAfter machine.now (act_of step.entry ∷ past) self.new }
+        ensures refused { result ≡ Ok false → (past : List Act) → IsAfter machine.now past self.old
             → IsAllowed machine.now.registry past (act_of step.entry) → ⊥ }
     {
         match step {
@@ -78,20 +78,22 @@ impl Run {
         }
     }
 
-    /// Opens the session of an account. None may be open, and the account must have a dtrace privilege.
+    /// Opens the session of an account, which the machine must have, and none may be open. An account without a dtrace
+    /// privilege opens nothing: its step may stand anywhere, and does nothing.
     fn open(&mut self, alloc: Global, machine: &Machine, name: &[u8]) -> Result<bool, AllocError>
-        ensures taken { result ≡ Ok true → (past : List Act) → IsBehind machine.now past self.old
-            → IsAllowed machine.now.registry past (opens name.now) × IsBehind machine.now (opens name.now ∷ past) self.new }
-        ensures refused { result ≡ Ok false → (past : List Act) → IsBehind machine.now past self.old
+        ensures taken { result ≡ Ok true → (past : List Act) → IsAfter machine.now past self.old
+            → IsAllowed machine.now.registry past (opens name.now)
+            × IsAfter machine.now (opens name.now ∷ past) self.new }
+        ensures refused { result ≡ Ok false → (past : List Act) → IsAfter machine.now past self.old
             → IsAllowed machine.now.registry past (opens name.now) → ⊥ }
     {
-        if self.consumer.is_some() {
-            return Ok(false);
-        }
         let Some(account) = machine.account(name) else {
             return Ok(false);
         };
         if !account.privs.has_dtrace() {
+            return Ok(true);
+        }
+        if self.consumer.is_some() {
             return Ok(false);
         }
         self.consumer = Some(Consumer::new(alloc, *account, machine)?);
@@ -100,7 +102,9 @@ impl Run {
 
     /// Asks a line of the session, if one is open, and keeps the reply.
     fn call(&mut self, alloc: Global, machine: &Machine, line: &[u8]) -> Result<(), AllocError>
-        ensures { OnOk result ((past : List Act) → IsBehind machine.now past self.old → IsBehind machine.now (calls line.now ∷ past) self.new) }
+        requires { IsSound machine.now }
+        ensures { OnOk result ((past : List Act) → IsAfter machine.now past self.old
+            → IsAfter machine.now (calls line.now ∷ past) self.new) }
     {
         let Some(consumer) = &mut self.consumer else {
             return Ok(());
@@ -114,7 +118,8 @@ impl Run {
     /// Offers the next firing of a processor's script to the session. The machine must have the processor.
     fn fire(&mut self, machine: &Machine, cpu: u32) -> bool
         ensures known { IsTrue result ↔ (cpu < machine.now.registry.cpus) }
-        ensures taken { IsTrue result → (past : List Act) → IsBehind machine.now past self.old → IsBehind machine.now (fires cpu ∷ past) self.new }
+        ensures taken { IsTrue result → (past : List Act) → IsAfter machine.now past self.old
+            → IsAfter machine.now (fires cpu ∷ past) self.new }
     {
         if cpu >= machine.cpus() {
             return false;
@@ -139,8 +144,9 @@ fn answer(
     consumer: &mut Consumer,
     line: &[u8],
 ) -> Result<Vec<u8>, AllocError>
-    ensures { IfOk result (λ bytes. (account : Account) (life : List Item) → StandsFor account machine.now.registry consumer.old life
-        → IsAnswer account machine.now.registry life line.now consumer.new bytes.items) }
+    ensures { IfOk result (λ bytes. (account : Account) (life : List Item)
+        → StandsFor account machine.now.registry consumer.old life
+        → firings life ≤ FIRINGS_MAX → IsAnswer account machine.now.registry life line.now consumer.new bytes.items) }
 {
     let asked = read_line(alloc, line)?;
     let draft = consumer.draft(alloc, machine, &asked)?;

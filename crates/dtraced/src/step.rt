@@ -1,5 +1,6 @@
+//! The step lines of a replay.
 ghost use Rattle.std.specs.Prelude.{◌≡◌, ◌≢◌, ℕ, List, ◌^◌, ◌<◌, ◌⊎◌, ◌↔◌, length, slice_index, IsTrue, IfSome, IfNone, decimal};
-ghost use Rattle.dtraced.specs.Step.{Act, Spells, act_of};
+ghost use Rattle.dtraced.specs.Step.{Act, SpellsStep, act_of};
 
 /// A line of a replay, whose one consumer sits in seat 0.
 #[derive(Clone, Copy, Debug, PartialEq, Eq)]
@@ -16,8 +17,8 @@ impl<'a> Step<'a> {
     /// Reads a line, given without its newline, and takes no memory. The words stand one blank apart; a number is
     /// decimal, without a sign or a leading zero. Any other line gives `None`.
     pub(crate) fn parse(line: &'a [u8]) -> Option<Self>
-        ensures found { IfSome result (λ step. Spells line.now (act_of step)) }
-        ensures none { IfNone result ((act : Act) → Spells line.now act → ⊥) }
+        ensures found { IfSome result (λ step. SpellsStep line.now (act_of step)) }
+        ensures none { IfNone result ((act : Act) → SpellsStep line.now act → ⊥) }
     {
         if let Some(account) = line.strip_prefix(b"open 0 ") {
             Some(Step::Open { account })
@@ -43,14 +44,15 @@ fn number_of(digits: &[u8]) -> Option<u32>
 
 /// Whether a plus or a leading zero stands first, which `parse` would pass over.
 fn has_sign_or_zero(digits: &[u8]) -> bool
-    ensures { IsTrue result ↔ ((slice_index digits.now 0 ≡ 43) ⊎ ((slice_index digits.now 0 ≡ 48) × (1 < length digits.now))) }
+    ensures { IsTrue result ↔ ((slice_index digits.now 0 ≡ 43)
+        ⊎ ((slice_index digits.now 0 ≡ 48) × (1 < length digits.now))) }
 {
     matches!(digits, [b'+', ..] | [b'0', _, ..])
 }
 
 /// Law: a line spells one step at most.
-pub(crate) fn one_step()
-    ensures { (text : List ℕ) (a b : Act) → Spells text a → Spells text b → a ≡ b }
+pub fn one_step()
+    ensures { (text : List ℕ) (a b : Act) → SpellsStep text a → SpellsStep text b → a ≡ b }
 {}
 
 #[cfg(test)]

@@ -1,3 +1,4 @@
+//! Lines of bytes, and what they ask.
 use super::*;
 use std::test::Fail;
 

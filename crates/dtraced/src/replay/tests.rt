@@ -1,171 +1,277 @@
+//! Replays from bytes to bytes: worked rows, refused inputs, and streams that are slow or fail.
 use super::*;
 use std::io;
-use std::io::Cursor;
 use std::test::Fail;
 
-/// A machine of two processors, whose first one has one firing.
-const MACHINE: &str = "{\"cpus\":2,
-\"accounts\":[{\"name\":\"root\",\"uid\":0,\"privs\":[\"dtrace_kernel\"]},
-{\"name\":\"ann\",\"uid\":501,\"privs\":[\"dtrace_user\"]}],
-\"processes\":[{\"pid\":100,\"uid\":501,\"execname\":\"sh\"},{\"pid\":200,\"uid\":0,\"execname\":\"cron\"}],
-\"probes\":[\"syscall::read:entry\",\"profile:::tick-1sec\",\"fbt:genunix:kmem_alloc:entry\"],
-\"scripts\":[[{\"probe\":3,\"pid\":100,\"args\":[7]}],[]]}";
+/// Two processors, four accounts, two processes; the first processor fires a system call, and then the clock twice.
+const MACHINE: &str = r#"{"cpus":2,
+"accounts":[{"name":"root","uid":0,"privs":["dtrace_kernel"]},{"name":"ann","uid":501,"privs":["dtrace_user"]},
+{"name":"bob","uid":501,"privs":["dtrace_proc"]},{"name":"joe","uid":501,"privs":["proc_owner"]}],
+"processes":[{"pid":100,"uid":501,"execname":"sh"},{"pid":200,"uid":0,"execname":"cron"}],
+"probes":["syscall::read:entry","profile:::tick-1sec","fbt:genunix:kmem_alloc:entry","pid100:a:f:entry"],
+"scripts":[[{"probe":3,"pid":100,"args":[7]},{"probe":4,"pid":100,"mode":"kernel"},{"probe":4,"pid":100}],[]]}"#;
 
-/// Whether this is written for an input on the machine.
-fn writes(alloc: Global, input: &str, wanted: &str) -> Result<bool, Fail> {
-    writes_on(alloc, MACHINE, input, wanted)
+/// A machine with probes for patterns.
+const PROBES: &str =
+    r#"{"cpus":1,"accounts":[{"name":"root","uid":0,"privs":["dtrace_kernel"]}],"processes":[],
+"probes":["syscall::read:entry","profile:::tick-1sec","fbt:genunix:kmem_alloc:entry","syscall::close:entry",
+"syscall:::entry","syscall::*:entry"],"scripts":[[]]}"#;
+
+/// An input: how many bytes it gives at once, whether each read is interrupted first, and whether it fails at its end.
+#[derive(Drop)]
+struct Input<'a> {
+    bytes: &'a [u8],
+    at_once: usize,
+    interrupts: bool,
+    is_interrupted: bool,
+    breaks: bool,
 }
 
-fn writes_on(alloc: Global, machine: &str, input: &str, wanted: &str) -> Result<bool, Fail> {
-    let mut output = Vec::new(alloc);
-    let mut reader = Cursor::new(input.as_bytes());
-    replay(alloc, machine.as_bytes(), &mut reader, &mut output)?;
-    Ok(output.as_slice() == wanted.as_bytes())
-}
-
-/// A machine with a further account, these probes and this script of its first processor.
-fn machine_of(alloc: Global, probes: &str, script: &str) -> Result<String, Fail> {
-    Ok(format!(in alloc;
-        r#"{{"cpus":2,
-"accounts":[{{"name":"root","uid":0,"privs":["dtrace_kernel"]}},{{"name":"ann","uid":501,"privs":["dtrace_user"]}},
-{{"name":"bob","uid":501,"privs":["dtrace_proc"]}},{{"name":"joe","uid":501,"privs":["proc_owner"]}}],
-"processes":[{{"pid":100,"uid":501,"execname":"sh"}},{{"pid":200,"uid":0,"execname":"cron"}}],
-"probes":["syscall::read:entry","profile:::tick-1sec","fbt:genunix:kmem_alloc:entry"{probes}],
-"scripts":[[{script}],[]]}}"#
-    )?)
-}
-
-#[test]
-fn profile_firings_of_the_kernel(rt: HostRuntime) -> Result<(), Fail> {
-    let alloc = rt.alloc();
-    for (name, mode, hex) in [
-        ("ann", "kernel", ""),
-        ("root", "kernel", "00000001"),
-        ("ann", "user", "00000001"),
-    ] {
-        let script = format!(in alloc; "{{\"probe\":4,\"pid\":100,\"mode\":\"{mode}\"}}")?;
-        let machine = machine_of(alloc, "", script.as_str())?;
-        let input = format!(in alloc;
-            "open 0 {name}\ncall 0 {{\"cmd\":\"enable\",\"text\":\"profile:::{{}}\"}}\ncall 0 {{\"cmd\":\"go\"}}\nfire 0\ncall 0 {{\"cmd\":\"snap\",\"cpu\":0}}\n"
-        )?;
-        let wanted = format!(in alloc;
-            "0 {{\"count\":1,\"first\":1,\"ok\":true}}\n0 {{\"ok\":true}}\n0 {{\"cpu\":0,\"data\":\"{hex}\",\"drops\":0,\"filled\":false,\"ok\":true}}\n"
-        )?;
-        assert!(rt;
-            writes_on(alloc, machine.as_str(), input.as_str(), wanted.as_str())?,
-            "{name} {mode}"
-        );
+impl<'a> Input<'a> {
+    fn new(text: &'a str) -> Self {
+        Input {
+            bytes: text.as_bytes(),
+            at_once: usize::MAX,
+            interrupts: false,
+            is_interrupted: false,
+            breaks: false,
+        }
     }
-    Ok(())
 }
 
-#[test]
-fn probes_are_listed(rt: HostRuntime) -> Result<(), Fail> {
-    let alloc = rt.alloc();
-    let machine = machine_of(
-        alloc,
-        ",\"syscall::close:entry\",\"syscall:::entry\",\"syscall::*:entry\"",
-        "",
-    )?;
-    let rows = [
-        (
-            r"syscall::[!a-c]*:entry",
-            r#"{"ok":true,"probes":[{"id":3,"name":"syscall::read:entry"},{"id":8,"name":"syscall::*:entry"}]}"#,
-        ),
-        (
-            r"\\*:entry",
-            r#"{"ok":true,"probes":[{"id":8,"name":"syscall::*:entry"}]}"#,
-        ),
-        (
-            "fbt::kmem_alloc:entry",
-            r#"{"ok":true,"probes":[{"id":5,"name":"fbt:genunix:kmem_alloc:entry"}]}"#,
-        ),
-        (
-            "read:entry",
-            r#"{"ok":true,"probes":[{"id":3,"name":"syscall::read:entry"}]}"#,
-        ),
-        ("nothing", r#"{"ok":true,"probes":[]}"#),
-        (
-            "[a:entry",
-            r#"{"at":0,"error":4,"name":"Program","why":"Probe"}"#,
-        ),
-    ];
-    for (text, wanted) in rows {
-        let input = format!(in alloc;
-            "open 0 root\ncall 0 {{\"cmd\":\"list\",\"probe\":\"{text}\"}}\n"
-        )?;
-        let wanted = format!(in alloc; "0 {wanted}\n")?;
-        assert!(rt;
-            writes_on(alloc, machine.as_str(), input.as_str(), wanted.as_str())?,
-            "{text}"
-        );
+impl Read for Input<'_> {
+    fn read(&mut self, buf: &mut [u8]) -> io::Result<usize> {
+        self.is_interrupted = self.interrupts && !self.is_interrupted;
+        if self.is_interrupted {
+            return Err(io::Error::from(ErrorKind::Interrupted));
+        }
+        if self.bytes.is_empty() && self.breaks {
+            return Err(io::Error::from(ErrorKind::BrokenPipe));
+        }
+        let count = self.bytes.len().min(buf.len()).min(self.at_once);
+        buf[..count].copy_from_slice(&self.bytes[..count]);
+        self.bytes = &self.bytes[count..];
+        Ok(count)
     }
-    Ok(())
 }
 
-#[test]
-fn what_an_account_may_enable(rt: HostRuntime) -> Result<(), Fail> {
-    let alloc = rt.alloc();
-    let machine = machine_of(alloc, ",\"pid100:a:f:entry\"", "")?;
-    let rows = [
-        (
-            r#"ann call 0 {"cmd":"list","probe":""}"#,
-            r#"{"ok":true,"probes":[{"id":1,"name":"dtrace:::BEGIN"},{"id":2,"name":"dtrace:::END"},{"id":3,"name":"syscall::read:entry"},{"id":4,"name":"profile:::tick-1sec"}]}"#,
-        ),
-        (
-            r#"ann call 0 {"cmd":"enable","text":"fbt:::entry{}"}"#,
-            r#"{"clause":1,"error":5,"name":"NoMatch"}"#,
-        ),
-        (
-            r#"bob call 0 {"cmd":"list","probe":""}"#,
-            r#"{"ok":true,"probes":[{"id":1,"name":"dtrace:::BEGIN"},{"id":2,"name":"dtrace:::END"},{"id":6,"name":"pid100:a:f:entry"}]}"#,
-        ),
-        (
-            r#"root call 0 {"cmd":"enable","text":"pid100:::{}"}"#,
-            r#"{"clause":1,"error":5,"name":"NoMatch"}"#,
-        ),
-    ];
-    for (line, wanted) in rows {
-        let (name, call) = line.split_once(' ').ok_or("two parts")?;
-        let input = format!(in alloc; "open 0 {name}\n{call}\n")?;
-        let wanted = format!(in alloc; "0 {wanted}\n")?;
-        assert!(rt;
-            writes_on(alloc, machine.as_str(), input.as_str(), wanted.as_str())?,
-            "{line}"
-        );
+/// An output: how many bytes it takes at once and in all, whether each write is interrupted first, and whether it can be
+/// flushed.
+#[derive(Drop)]
+struct Output {
+    bytes: Vec<u8>,
+    at_once: usize,
+    room: usize,
+    interrupts: bool,
+    is_interrupted: bool,
+    flushes: bool,
+}
+
+impl Output {
+    fn new(alloc: Global) -> Self {
+        Output {
+            bytes: Vec::new(alloc),
+            at_once: usize::MAX,
+            room: usize::MAX,
+            interrupts: false,
+            is_interrupted: false,
+            flushes: true,
+        }
     }
-    let fault = fault_of(alloc, machine.as_str(), "open 0 joe\n")?;
-    assert_eq!(rt; fault.as_str(), "line 1: refused");
-    Ok(())
+}
+
+impl Write for Output {
+    fn write(&mut self, buf: &[u8]) -> io::Result<usize> {
+        self.is_interrupted = self.interrupts && !self.is_interrupted;
+        if self.is_interrupted {
+            return Err(io::Error::from(ErrorKind::Interrupted));
+        }
+        let left = self.room.saturating_sub(self.bytes.len());
+        let count = buf.len().min(self.at_once).min(left);
+        if count == 0 || self.bytes.extend_from_slice(&buf[..count]).is_err() {
+            return Err(io::Error::from(ErrorKind::StorageFull));
+        }
+        Ok(count)
+    }
+
+    fn flush(&mut self) -> io::Result<()> {
+        if self.flushes {
+            Ok(())
+        } else {
+            Err(io::Error::from(ErrorKind::StorageFull))
+        }
+    }
+}
+
+/// What is written for an input, and then the line of the fault, if there is one.
+fn told(
+    alloc: Global,
+    machine: &str,
+    mut input: Input<'_>,
+    mut output: Output,
+) -> Result<Vec<u8>, Fail> {
+    let answer = replay(alloc, machine.as_bytes(), &mut input, &mut output);
+    let Output { mut bytes, .. } = output;
+    if let Err(fault) = answer {
+        bytes.extend_from_slice(format!(in alloc; "{fault}")?.as_bytes())?;
+    }
+    Ok(bytes)
+}
+
+/// Whether this is told of an input that comes at once and is answered at once.
+fn tells(alloc: Global, machine: &str, input: &str, wanted: &str) -> Result<bool, Fail> {
+    let bytes = told(alloc, machine, Input::new(input), Output::new(alloc))?;
+    Ok(bytes.as_slice() == wanted.as_bytes())
 }
 
 #[test]
 fn worked_rows(rt: HostRuntime) -> Result<(), Fail> {
     let rows = [
+        // tracing from its beginning to a snap
         (
-            "open 0 root\ncall 0 {\"cmd\":\"enable\",\"text\":\"syscall::read:entry{}\"}\ncall 0 {\"cmd\":\"go\"}\nfire 0\ncall 0 {\"cmd\":\"snap\",\"cpu\":0}\n",
-            "0 {\"count\":1,\"first\":1,\"ok\":true}\n0 {\"ok\":true}\n0 {\"cpu\":0,\"data\":\"00000001\",\"drops\":0,\"filled\":false,\"ok\":true}\n",
+            r#"open 0 root
+call 0 {"cmd":"enable","text":"syscall::read:entry{}"}
+call 0 {"cmd":"go"}
+fire 0
+call 0 {"cmd":"snap","cpu":0}
+"#,
+            r#"0 {"count":1,"first":1,"ok":true}
+0 {"ok":true}
+0 {"cpu":0,"data":"00000001","drops":0,"filled":false,"ok":true}
+"#,
         ),
+        // a processor that is there, and one that isn't
         (
-            "open 0 root\ncall 0 {\"cmd\":\"go\"}\ncall 0 {\"cmd\":\"snap\",\"cpu\":1}\ncall 0 {\"cmd\":\"snap\",\"cpu\":2}\n",
-            "0 {\"ok\":true}\n0 {\"cpu\":1,\"data\":\"\",\"drops\":0,\"filled\":false,\"ok\":true}\n0 {\"error\":12,\"name\":\"NoCpu\"}\n",
+            r#"open 0 root
+call 0 {"cmd":"go"}
+call 0 {"cmd":"snap","cpu":1}
+call 0 {"cmd":"snap","cpu":2}
+"#,
+            r#"0 {"ok":true}
+0 {"cpu":1,"data":"","drops":0,"filled":false,"ok":true}
+0 {"error":12,"name":"NoCpu"}
+"#,
         ),
+        // a snap before `go`, and a second `go`
         (
-            "open 0 root\ncall 0 {\"cmd\":\"snap\",\"cpu\":0}\ncall 0 {\"cmd\":\"go\"}\ncall 0 {\"cmd\":\"go\"}\n",
-            "0 {\"error\":10,\"name\":\"Busy\"}\n0 {\"ok\":true}\n0 {\"error\":10,\"name\":\"Busy\"}\n",
+            r#"open 0 root
+call 0 {"cmd":"snap","cpu":0}
+call 0 {"cmd":"go"}
+call 0 {"cmd":"go"}
+"#,
+            r#"0 {"error":10,"name":"Busy"}
+0 {"ok":true}
+0 {"error":10,"name":"Busy"}
+"#,
         ),
+        // an argument that the firing was not given
         (
-            "open 0 root\ncall 0 {\"cmd\":\"enable\",\"text\":\"read:entry{trace(arg9)}\"}\ncall 0 {\"cmd\":\"go\"}\nfire 0\ncall 0 {\"cmd\":\"snap\",\"cpu\":0}\n",
-            "0 {\"count\":1,\"first\":1,\"ok\":true}\n0 {\"ok\":true}\n0 {\"cpu\":0,\"data\":\"000000010000000000000000\",\"drops\":0,\"filled\":false,\"ok\":true}\n",
+            r#"open 0 root
+call 0 {"cmd":"enable","text":"read:entry{trace(arg9)}"}
+call 0 {"cmd":"go"}
+fire 0
+call 0 {"cmd":"snap","cpu":0}
+"#,
+            r#"0 {"count":1,"first":1,"ok":true}
+0 {"ok":true}
+0 {"cpu":0,"data":"000000010000000000000000","drops":0,"filled":false,"ok":true}
+"#,
         ),
+        // BEGIN
         (
-            "open 0 root\ncall 0 {\"cmd\":\"enable\",\"text\":\"BEGIN{}\"}\ncall 0 {\"cmd\":\"go\"}\ncall 0 {\"cmd\":\"snap\",\"cpu\":0}\n",
-            "0 {\"count\":1,\"first\":1,\"ok\":true}\n0 {\"ok\":true}\n0 {\"cpu\":0,\"data\":\"00000001\",\"drops\":0,\"filled\":false,\"ok\":true}\n",
+            r#"open 0 root
+call 0 {"cmd":"enable","text":"BEGIN{}"}
+call 0 {"cmd":"go"}
+call 0 {"cmd":"snap","cpu":0}
+"#,
+            r#"0 {"count":1,"first":1,"ok":true}
+0 {"ok":true}
+0 {"cpu":0,"data":"00000001","drops":0,"filled":false,"ok":true}
+"#,
+        ),
+        // the clock in kernel mode and then in user mode, for an ordinary user
+        (
+            r#"open 0 ann
+call 0 {"cmd":"enable","text":"profile:::{}"}
+call 0 {"cmd":"go"}
+fire 0
+fire 0
+call 0 {"cmd":"snap","cpu":0}
+fire 0
+call 0 {"cmd":"snap","cpu":0}
+"#,
+            r#"0 {"count":1,"first":1,"ok":true}
+0 {"ok":true}
+0 {"cpu":0,"data":"","drops":0,"filled":false,"ok":true}
+0 {"cpu":0,"data":"00000001","drops":0,"filled":false,"ok":true}
+"#,
+        ),
+        // the clock in kernel mode, for one who may see the kernel
+        (
+            r#"open 0 root
+call 0 {"cmd":"enable","text":"profile:::{}"}
+call 0 {"cmd":"go"}
+fire 0
+fire 0
+call 0 {"cmd":"snap","cpu":0}
+"#,
+            r#"0 {"count":1,"first":1,"ok":true}
+0 {"ok":true}
+0 {"cpu":0,"data":"00000001","drops":0,"filled":false,"ok":true}
+"#,
+        ),
+        // what an ordinary user is shown, and may enable
+        (
+            r#"open 0 ann
+call 0 {"cmd":"list","probe":""}
+call 0 {"cmd":"enable","text":"fbt:::entry{}"}
+"#,
+            r#"0 {"ok":true,"probes":[{"id":1,"name":"dtrace:::BEGIN"},{"id":2,"name":"dtrace:::END"},{"id":3,"name":"syscall::read:entry"},{"id":4,"name":"profile:::tick-1sec"}]}
+0 {"clause":1,"error":5,"name":"NoMatch"}
+"#,
+        ),
+        // the `pid` probes of an own process
+        (
+            r#"open 0 bob
+call 0 {"cmd":"list","probe":""}
+"#,
+            r#"0 {"ok":true,"probes":[{"id":1,"name":"dtrace:::BEGIN"},{"id":2,"name":"dtrace:::END"},{"id":6,"name":"pid100:a:f:entry"}]}
+"#,
+        ),
+        // and of another user's
+        (
+            r#"open 0 root
+call 0 {"cmd":"enable","text":"pid100:::{}"}
+"#,
+            r#"0 {"clause":1,"error":5,"name":"NoMatch"}
+"#,
         ),
     ];
     for (input, wanted) in rows {
-        assert!(rt; writes(rt.alloc(), input, wanted)?, "{input}");
+        assert!(rt; tells(rt.alloc(), MACHINE, input, wanted)?, "{input}");
     }
+    Ok(())
+}
+
+#[test]
+fn probes_by_patterns(rt: HostRuntime) -> Result<(), Fail> {
+    let input = r#"open 0 root
+call 0 {"cmd":"list","probe":"syscall::[!a-c]*:entry"}
+call 0 {"cmd":"list","probe":"\\*:entry"}
+call 0 {"cmd":"list","probe":"fbt::kmem_alloc:entry"}
+call 0 {"cmd":"list","probe":"read:entry"}
+call 0 {"cmd":"list","probe":"nothing"}
+call 0 {"cmd":"list","probe":"[a:entry"}
+"#;
+    let wanted =
+        r#"0 {"ok":true,"probes":[{"id":3,"name":"syscall::read:entry"},{"id":8,"name":"syscall::*:entry"}]}
+0 {"ok":true,"probes":[{"id":8,"name":"syscall::*:entry"}]}
+0 {"ok":true,"probes":[{"id":5,"name":"fbt:genunix:kmem_alloc:entry"}]}
+0 {"ok":true,"probes":[{"id":3,"name":"syscall::read:entry"}]}
+0 {"ok":true,"probes":[]}
+0 {"at":0,"error":4,"name":"Program","why":"Probe"}
+"#;
+    assert!(rt; tells(rt.alloc(), PROBES, input, wanted)?);
     Ok(())
 }
 
@@ -175,42 +281,26 @@ fn what_stands_around_the_session(rt: HostRuntime) -> Result<(), Fail> {
         ("", ""),
         ("\n\n", ""),
         ("fire 0\nfire 1\ncall 0 x\n", ""),
+        // an account without a dtrace privilege opens nothing, before and after the session is opened
+        ("open 0 joe\ncall 0 \nopen 0 joe\n", ""),
         (
-            "\nopen 0 root\n\ncall 0 \n",
+            "open 0 joe\ncall 0 x\nopen 0 root\nopen 0 joe\ncall 0 \n",
             "0 {\"error\":1,\"name\":\"Json\"}\n",
         ),
+        // a rest without a newline is no line
         (
-            "open 0 root\ncall 0 []\ncall 0 []",
+            "\nopen 0 root\n\ncall 0 []\ncall 0 []",
             "0 {\"error\":2,\"name\":\"Request\"}\n",
         ),
+        // a firing before the session takes its place in the script
         (
-            "fire 0\nopen 0 root\ncall 0 {\"cmd\":\"enable\",\"text\":\"read{trace(arg0)}\"}\ncall 0 {\"cmd\":\"enable\",\"text\":\"::read:entry{trace(arg0)}\"}\ncall 0 {\"cmd\":\"go\"}\nfire 0\ncall 0 {\"cmd\":\"snap\",\"cpu\":0}\n",
-            "0 {\"clause\":1,\"error\":5,\"name\":\"NoMatch\"}\n0 {\"count\":1,\"first\":1,\"ok\":true}\n0 {\"ok\":true}\n0 {\"cpu\":0,\"data\":\"\",\"drops\":0,\"filled\":false,\"ok\":true}\n",
+            "fire 0\nopen 0 root\ncall 0 {\"cmd\":\"enable\",\"text\":\"::read:entry{trace(arg0)}\"}\ncall 0 {\"cmd\":\"go\"}\nfire 0\ncall 0 {\"cmd\":\"snap\",\"cpu\":0}\n",
+            "0 {\"count\":1,\"first\":1,\"ok\":true}\n0 {\"ok\":true}\n0 {\"cpu\":0,\"data\":\"\",\"drops\":0,\"filled\":false,\"ok\":true}\n",
         ),
-    ];
-    for (input, wanted) in rows {
-        assert!(rt; writes(rt.alloc(), input, wanted)?, "{input}");
-    }
-    Ok(())
-}
-
-/// Why an input is refused, where nothing is written for it.
-fn fault_of(alloc: Global, machine: &str, input: &str) -> Result<String, Fail> {
-    let mut output = Vec::new(alloc);
-    let mut reader = Cursor::new(input.as_bytes());
-    match replay(alloc, machine.as_bytes(), &mut reader, &mut output) {
-        Err(fault) if output.is_empty() => Ok(format!(in alloc; "{fault}")?),
-        Err(_) => Ok(format!(in alloc; "written")?),
-        Ok(()) => Ok(format!(in alloc; "taken")?),
-    }
-}
-
-#[test]
-fn refused_inputs(rt: HostRuntime) -> Result<(), Fail> {
-    let rows = [
+        // refused inputs: nothing is written
         ("open 0 root\ncall 0 []\nopen 0 root\n", "line 3: refused"),
         ("open 0 \n", "line 1: refused"),
-        ("\nopen 0 bob\nfire 9\n", "line 2: refused"),
+        ("\nopen 0 eve\nfire 9\n", "line 2: refused"),
         ("open 1 root\n", "line 1: refused"),
         ("fire 2\n", "line 1: refused"),
         ("fire 0 \n", "line 1: refused"),
@@ -220,68 +310,73 @@ fn refused_inputs(rt: HostRuntime) -> Result<(), Fail> {
         ("call 0 []\r\nfire 00\n", "line 2: refused"),
     ];
     for (input, wanted) in rows {
-        let fault = fault_of(rt.alloc(), MACHINE, input)?;
-        assert_eq!(rt; fault.as_str(), wanted, "{input}");
+        assert!(rt; tells(rt.alloc(), MACHINE, input, wanted)?, "{input}");
     }
-    let fault = fault_of(rt.alloc(), "{", "what")?;
-    assert_eq!(rt; fault.as_str(), "machine refused 1 at 0 0");
+    assert!(rt; tells(rt.alloc(), "{", "what\n", "machine refused 1 at 0 0")?);
     Ok(())
 }
 
-/// A reader that fails behind some bytes.
-#[derive(Drop)]
-struct Broken<'a> {
-    bytes: &'a [u8],
+/// So many lines that are no JSON, asked by one session, and what is answered.
+fn long_session(alloc: Global, lines: usize) -> Result<(String, String), Fail> {
+    let mut asked = String::from_str(alloc, "open 0 root\n")?;
+    let mut answered = String::new(alloc);
+    for line in 0..lines {
+        asked.push_str("call 0 \n")?;
+        answered.push_str(if line < 1024 {
+            "0 {\"error\":1,\"name\":\"Json\"}\n"
+        } else {
+            "0 {\"error\":15,\"name\":\"Quota\"}\n"
+        })?;
+    }
+    Ok((asked, answered))
 }
 
-impl Read for Broken<'_> {
-    fn read(&mut self, buf: &mut [u8]) -> io::Result<usize> {
-        if self.bytes.is_empty() {
-            return Err(io::Error::from(ErrorKind::BrokenPipe));
-        }
-        let count = self.bytes.len().min(buf.len());
-        buf[..count].copy_from_slice(&self.bytes[..count]);
-        self.bytes = &self.bytes[count..];
-        Ok(count)
+/// An input of a megabyte, which comes at once or by one byte, interrupted or not; an output that takes all, or one byte.
+#[test]
+fn slow_streams_are_read_and_written_to_their_end(rt: HostRuntime) -> Result<(), Fail> {
+    let alloc = rt.alloc();
+    let (asked, answered) = long_session(alloc, 131_072)?;
+    for (at_once, interrupts) in [(usize::MAX, false), (1, false), (1000, true)] {
+        let mut input = Input::new(asked.as_str());
+        input.at_once = at_once;
+        input.interrupts = interrupts;
+        let mut output = Output::new(alloc);
+        output.at_once = at_once;
+        output.interrupts = interrupts;
+        let bytes = told(alloc, MACHINE, input, output)?;
+        assert!(rt;
+            bytes.as_slice() == answered.as_bytes(),
+            "{at_once} {interrupts}"
+        );
     }
-}
-
-/// A writer that takes some bytes, three at once, and then fails.
-#[derive(Drop)]
-struct Full {
-    taken: usize,
-    room: usize,
-}
-
-impl Write for Full {
-    fn write(&mut self, buf: &[u8]) -> io::Result<usize> {
-        let count = buf.len().min(3).min(self.room.saturating_sub(self.taken));
-        self.taken = self.taken.saturating_add(count);
-        if count == 0 {
-            return Err(io::Error::from(ErrorKind::StorageFull));
-        }
-        Ok(count)
-    }
-
-    fn flush(&mut self) -> io::Result<()> {
-        Ok(())
-    }
+    Ok(())
 }
 
 #[test]
-fn devices_that_fail(rt: HostRuntime) {
+fn streams_that_fail(rt: HostRuntime) -> Result<(), Fail> {
     let alloc = rt.alloc();
-    let mut output = Vec::new(alloc);
-    let mut reader = Broken {
-        bytes: b"open 0 root\ncall 0 []\n",
-    };
-    let answer = replay(alloc, MACHINE.as_bytes(), &mut reader, &mut output);
-    assert!(rt; answer == Err(ReplayFault::Read) && output.is_empty());
-    for (room, wanted) in [(30, Err(ReplayFault::Write)), (31, Ok(()))] {
-        let mut reader = Cursor::new(b"open 0 root\ncall 0 []\n".as_slice());
-        let mut writer = Full { taken: 0, room };
-        let answer = replay(alloc, MACHINE.as_bytes(), &mut reader, &mut writer);
-        assert!(rt; answer == wanted, "{room}");
-        assert!(rt; writer.taken == room, "{room}");
+    let text = "open 0 root\ncall 0 []\n";
+    let written = "0 {\"error\":2,\"name\":\"Request\"}\n";
+    let mut input = Input::new(text);
+    input.breaks = true;
+    let bytes = told(alloc, MACHINE, input, Output::new(alloc))?;
+    assert_eq!(rt; bytes.as_slice(), b"fault".as_slice());
+    // the input is read whole before its first line is looked at
+    let mut input = Input::new("no step\n");
+    input.breaks = true;
+    let bytes = told(alloc, MACHINE, input, Output::new(alloc))?;
+    assert_eq!(rt; bytes.as_slice(), b"fault".as_slice());
+    for room in 0..written.len() {
+        let mut output = Output::new(alloc);
+        output.room = room;
+        let bytes = told(alloc, MACHINE, Input::new(text), output)?;
+        let mut wanted = Vec::from_slice(alloc, &written.as_bytes()[..room])?;
+        wanted.extend_from_slice(b"fault")?;
+        assert!(rt; bytes == wanted, "{room}");
     }
+    let mut output = Output::new(alloc);
+    output.flushes = false;
+    let bytes = told(alloc, MACHINE, Input::new(text), output)?;
+    assert!(rt; bytes.strip_suffix(b"fault") == Some(written.as_bytes()));
+    Ok(())
 }

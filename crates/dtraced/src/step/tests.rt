@@ -1,3 +1,4 @@
+//! Lines that are steps, and lines that are none.
 use super::*;
 
 #[test]

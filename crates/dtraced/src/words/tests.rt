@@ -1,3 +1,4 @@
+//! Words that name a machine file, and words of no form.
 use super::*;
 
 #[test]

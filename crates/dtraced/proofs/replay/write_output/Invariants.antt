@@ -4,4 +4,5 @@ use Rattle.dtraced.proofs.replay.write_output.Given as goal
 
 -- a beginning was written, and what is left is the rest
 abbrev pub invariant-loop-write : goal.invariant-loop-write
-invariant-loop-write g l = (count : ℕ) × (count ≤ length l.output) × (l.rest ≡ drop count l.output) × Appends (g.W.Write.contents l.fn.writer) (g.W.Write.contents l.writer) (take count l.output)
+invariant-loop-write g l = (count : ℕ) × (count ≤ length l.output) × (l.rest ≡ drop count l.output)
+    × Appends (g.W.Write.contents l.fn.writer) (g.W.Write.contents l.writer) (take count l.output)

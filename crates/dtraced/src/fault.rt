@@ -1,0 +1,47 @@
+//! How the program ends where not all is in good order: its line on standard error, and its status.
+ghost use Rattle.std.specs.Prelude.{◌≡◌};
+
+use crate::replay::ReplayFault;
+use std::io;
+use thiserror::Error;
+
+/// Why the program ends with another status than 0. Its text is the line on standard error.
+#[derive(Clone, Copy, Debug, PartialEq, Eq, Error)]
+pub enum Fault {
+    /// The words are none of the program's forms: status 2.
+    #[error("usage")]
+    Usage,
+    /// A file or a stream failed, or memory ran out: status 1.
+    #[error("fault")]
+    Device,
+    /// The machine file or the input is refused, a stream failed, or memory ran out: status 1.
+    #[error("{0}")]
+    Replay(ReplayFault),
+}
+
+impl Fault {
+    ghost use Rattle.dtraced.specs.Status.{status_of};
+
+    /// The status that the program ends with.
+    pub fn status(self) -> u8
+        ensures { result ≡ status_of self }
+    {
+        match self {
+            Fault::Usage => 2,
+            Fault::Device | Fault::Replay(_) => 1,
+        }
+    }
+
+    /// The fault where the words can't be had: words that aren't UTF-8 are words of no form, any other fault is that of a
+    /// device.
+    pub fn of_words(error: &io::Error) -> Self {
+        if error.kind() == io::ErrorKind::InvalidData {
+            Fault::Usage
+        } else {
+            Fault::Device
+        }
+    }
+}
+
+#[cfg(test)]
+mod tests;
