@@ -1,0 +1,4 @@
+-- Lemmas on the operators.
+pub mod Wrapping
+pub mod Facts
+pub mod LeftSide

@@ -1,0 +1,5 @@
+-- Expressions, scenes, operators and values.
+pub mod Form
+pub mod Scene
+pub mod Operators
+pub mod Value
