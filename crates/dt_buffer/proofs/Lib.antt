@@ -1,0 +1,10 @@
+-- The lemmas of the crate, lowest first.
+pub mod Histories
+pub mod Keeping
+pub mod Choices
+pub mod Beginnings
+pub mod Endings
+pub mod Rings
+pub mod Filling
+pub mod Showing
+pub mod Pasts

@@ -1,0 +1,132 @@
+//! The principal buffer of one processor.
+ghost use Rattle.std.specs.Prelude.{◌≡◌, ◌+◌, ◌<◌, ◌≤◌, ◌↔◌, ℕ, [], IfOk, if◌then◌else◌};
+ghost use Rattle.dt_buffer.specs.History.{Past, attempt, swap, new_past, after};
+ghost use Rattle.dt_buffer.specs.Shows.{HasContent, HasDrops, IsFilled, EndLast, Answers, drops_after};
+ghost use Rattle.dt_buffer.specs.IsAt.{IsAt, drops_of};
+ghost use Rattle.dt_buffer.specs.declared.limits.TheConstants.{DROPS_LIMIT, SIZE_MAX};
+
+use crate::fill::FillStore;
+use crate::limits::{DROPS_LIMIT, SIZE_MAX};
+use crate::policy::{Policy, Put};
+use crate::ring::RingStore;
+use crate::switch::SwitchStore;
+use std::alloc::{AllocError, Global};
+
+/// The principal buffer of one processor: it keeps records by a policy. All its room is made by `new`.
+#[derive(Drop)]
+pub struct Principal {
+    pub(crate) store: Store,
+}
+
+/// A store for each policy.
+#[derive(Drop)]
+pub(crate) enum Store {
+    Switch(SwitchStore),
+    Fill(FillStore),
+    Ring(RingStore),
+}
+
+impl Principal {
+    /// An empty buffer of `size` bytes, at most `SIZE_MAX`. Under fill the last `reserve` bytes are for END's records;
+    /// the other policies keep no reserve, and look not at it. `Err`: there was no memory for its room.
+    pub fn new(
+        alloc: Global,
+        policy: Policy,
+        size: usize,
+        reserve: usize,
+    ) -> Result<Principal, AllocError>
+        requires size_max { size ≤ SIZE_MAX }
+        requires reserved { reserve ≤ size }
+        ensures { IfOk result (IsAt (new_past policy size reserve)) }
+    {
+        let store = match policy {
+            Policy::Switch => Store::Switch(SwitchStore::new(alloc, size)?),
+            Policy::Fill => Store::Fill(FillStore::new(alloc, size, reserve)?),
+            Policy::Ring => Store::Ring(RingStore::new(alloc, size)?),
+        };
+        Ok(Principal { store })
+    }
+
+    /// Keeps a record, or doesn't; `in_end` says that the probe END made it. It takes no memory, and costs the copy of
+    /// the record: under ring, what it pushes out costs no more than it cost to put.
+    ///
+    /// Under fill, END's records come last.
+    pub fn put(&mut self, bytes: &[u8], in_end: bool) -> Put
+        requires { drops_of self.old < DROPS_LIMIT }
+        ensures stands { (past : Past) → IsAt past self.old → EndLast past in_end
+            → IsAt (after past (attempt bytes.now in_end)) self.new }
+        ensures answers { (past : Past) → IsAt past self.old → EndLast past in_end
+            → Answers past bytes.now in_end result }
+        ensures drops { drops_of self.new ≡ drops_after result (drops_of self.old) }
+    {
+        match &mut self.store {
+            Store::Switch(store) => put_or_dropped(store.put(bytes)),
+            Store::Fill(store) => {
+                if in_end {
+                    put_or_filled(store.put_of_end(bytes))
+                } else {
+                    put_or_filled(store.put_ordinary(bytes))
+                }
+            }
+            Store::Ring(store) => put_or_dropped(store.put(bytes)),
+        }
+    }
+
+    /// What a snap does when it has read the buffer: under switch the buffer is empty again and forgets its drops, under
+    /// fill and ring nothing changes. It takes no memory.
+    pub fn swap(&mut self)
+        ensures { (past : Past) → IsAt past self.old → IsAt (after past swap) self.new }
+    {
+        if let Store::Switch(store) = &mut self.store {
+            store.clear();
+        }
+    }
+
+    /// A copy of the bytes of the records kept, oldest first. `Err`: there was no memory for it.
+    pub fn content(&self, alloc: Global) -> Result<Vec<u8>, AllocError>
+        ensures { (past : Past) → IsAt past self.now → IfOk result (λ bytes. HasContent past bytes.items) }
+    {
+        match &self.store {
+            Store::Switch(store) => Vec::from_slice(alloc, &store.kept),
+            Store::Fill(store) => Vec::from_slice(alloc, &store.kept),
+            Store::Ring(store) => store.bytes.to_vec(alloc),
+        }
+    }
+
+    /// How many records were dropped: under switch since the last swap, under ring those longer than the buffer, under
+    /// fill none. Records that a ring overwrote are no drops.
+    pub fn drops(&self) -> u64
+        ensures counted { result ≡ drops_of self.now }
+        ensures shows { (past : Past) → IsAt past self.now → HasDrops past result }
+    {
+        match &self.store {
+            Store::Switch(store) => store.drops,
+            Store::Fill(_store) => 0,
+            Store::Ring(store) => store.drops,
+        }
+    }
+
+    /// Whether the policy is fill and some record wasn't kept.
+    pub fn filled(&self) -> bool
+        ensures { (past : Past) → IsAt past self.now → IsFilled past result }
+    {
+        let Store::Fill(store) = &self.store else {
+            return false;
+        };
+        store.ordinary_filled || store.end_filled
+    }
+}
+
+/// What is said of a record where one that isn't kept is a drop.
+fn put_or_dropped(kept: bool) -> Put
+    ensures { result ≡ (if kept then Put.Kept else Put.Dropped) }
+{
+    if kept { Put::Kept } else { Put::Dropped }
+}
+
+/// What is said of a record under fill.
+fn put_or_filled(kept: bool) -> Put
+    ensures { result ≡ (if kept then Put.Kept else Put.Filled) }
+{
+    if kept { Put::Kept } else { Put::Filled }
+}
