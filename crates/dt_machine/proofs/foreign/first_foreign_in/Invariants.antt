@@ -1,7 +1,0 @@
-use Rattle.dt_machine.specs.Registry.{Belongs}
-use Rattle.dt_machine.specs.Sections.{registry_of}
-use Rattle.dt_machine.proofs.Searching.{RightUpTo}
-use Rattle.dt_machine.proofs.foreign.first_foreign_in.Given as goal
-
-abbrev pub invariant-loop-place : goal.invariant-loop-place
-invariant-loop-place l = RightUpTo (λ _ firing. Belongs (registry_of l.sections) firing) l.script l.place
