@@ -13,7 +13,7 @@ use Rattle.std.proofs.lemmas.List.Folds.{find-append}
 use Rattle.std.specs.List.{list_any}
 use Rattle.std.specs.Option.{option_or, option_copied}
 use Rattle.dt_cred.specs.declared.account.Process.{Process}
-use Rattle.dt_machine.specs.Rows.{ProcessRow, process, value, IsBelow}
+use Rattle.dt_machine.specs.Rows.{ProcessRow, process, number_in, IsBelow}
 use Rattle.dt_machine.proofs.Lists.{any_false, any_true, list_any-map}
 
 some_step : {A : Type 0} (b : Bool) (y : A) (o : Option A) (any : Bool) → is_some o ≡ any
@@ -31,7 +31,7 @@ pub looked_up : {A : Type 0} (r : Option (Bor A)) (o : Option A) (b : Bool) → 
 looked_up None o b e h = ap is_some (sym e) ∙ h
 looked_up (Some x) o b e h = ap is_some (sym e) ∙ h
 
-pub below_some : (limit : ℕ) (number : Option ℕ) → IsBelow limit number → number ≡ Some (value number)
+pub below_some : (limit : ℕ) (number : Option ℕ) → IsBelow limit number → number ≡ Some (number_in number)
 below_some limit None h = absurd h
 below_some limit (Some n) h = refl
 
@@ -43,7 +43,7 @@ abbrev pub at_pid : ℕ → Process → Bool
 at_pid pid p = p.pid == pid
 
 abbrev row_at_pid : ℕ → ProcessRow → Bool
-row_at_pid pid row = value row.pid == pid
+row_at_pid pid row = number_in row.pid == pid
 
 found_in_rows : (rows : List ProcessRow) (pid : ℕ)
     → is_some (find (at_pid pid) (map process rows)) ≡ list_any (row_at_pid pid) rows
@@ -51,7 +51,7 @@ found_in_rows rows pid = is_some-find (at_pid pid) (map process rows) ∙ list_a
 
 other : (pid : ℕ) (row : ProcessRow) → row_at_pid pid row ≡ false → row.pid ≢ Some pid
 other pid row differs e =
-    false≢true (sym differs ∙ (Decides-eqb (value row.pid) pid).1 (ap value e))
+    false≢true (sym differs ∙ (Decides-eqb (number_in row.pid) pid).1 (ap number_in e))
 
 -- where no process is found, no row has the number
 pub unseen : (rows : List ProcessRow) (pid : ℕ) → is_some (find (at_pid pid) (map process rows)) ≡ false
@@ -59,7 +59,7 @@ pub unseen : (rows : List ProcessRow) (pid : ℕ) → is_some (find (at_pid pid)
 unseen rows pid h = any_false (row_at_pid pid) (λ row. row.pid ≢ Some pid) (other pid) rows
     (sym (found_in_rows rows pid) ∙ h)
 
-clash : (pid : ℕ) (number : Option ℕ) → (value number == pid) ≡ true → IsSome number → number ≢ Some pid → ⊥
+clash : (pid : ℕ) (number : Option ℕ) → (number_in number == pid) ≡ true → IsSome number → number ≢ Some pid → ⊥
 clash pid None same known differs = cc
 clash pid (Some n) same known differs = differs (ap Some ((Decides-eqb n pid).0 same))
 

@@ -12,7 +12,7 @@ use Rattle.dt_machine.specs.declared.firing.Firing.{Firing as FiringType}
 use Rattle.dt_machine.specs.declared.fault.FaultNumber.TheVariants.{Cpus, Account, Process, Probe, Script}
 use Rattle.dt_machine.specs.Reading.{AllRight, AllRightIn, Passes, Registers, accounts_in, processes_in, probes_in, scripts_in}
 use Rattle.dt_machine.specs.Registry.{Registry, Belongs, IsSound, IsNumbered, IsPlaced, probe_of, firing_at}
-use Rattle.dt_machine.specs.Rows.{AccountRow, ProcessRow, FiringRow, account, process, firing, script, scripts, value, AreProbes, IsBelow, IsRightAccount, IsRightProcess, HasRoom}
+use Rattle.dt_machine.specs.Rows.{AccountRow, ProcessRow, FiringRow, account, process, firing, script, scripts, number_in, AreProbes, IsBelow, IsRightAccount, IsRightProcess, HasRoom}
 use Rattle.dt_machine.specs.Sections.{AreSections, registry_of}
 use Rattle.dt_machine.specs.declared.sections.Sections.{Sections}
 use Rattle.dt_machine.proofs.ByPid.{at_pid, below_some}
@@ -53,7 +53,7 @@ names_apart rows right =
     (omega arith) right_y.new)
 
 pids_differ : (x y : ProcessRow) (before earlier : List ProcessRow) → IsRightProcess earlier x
-    → IsRightProcess before y → x.pid ≢ y.pid → value x.pid ≢ value y.pid
+    → IsRightProcess before y → x.pid ≢ y.pid → number_in x.pid ≢ number_in y.pid
 pids_differ x y before earlier right_x right_y differ same =
     differ (below_some 1000000 x.pid right_x.pid ∙ ap Some same ∙ sym (below_some 1000000 y.pid right_y.pid))
 
@@ -65,29 +65,29 @@ pids_apart rows right =
     (before_at rows i j x (λ (e : ProcessRow). e.pid ≢ y.pid) less there (omega arith) right_y.new))
 
 -- the number of every process is of six digits at most
-below_value : (number : Option ℕ) → IsBelow 1000000 number → value number ≤ 999999
+below_value : (number : Option ℕ) → IsBelow 1000000 number → number_in number ≤ 999999
 below_value None h = absurd h
 below_value (Some n) h = omega arith
 
-small_rows : (rows : List ProcessRow) → AllRight IsRightProcess rows → All (λ row. value row.pid ≤ 999999) rows
+small_rows : (rows : List ProcessRow) → AllRight IsRightProcess rows → All (λ row. number_in row.pid ≤ 999999) rows
 small_rows rows right k d inside =
     let at = within rows k inside in
     let is : get_or rows k d ≡ at.0 = get_or_from_slice_get rows k at.0 d at.1 in
-    subst (λ (row : ProcessRow). value row.pid ≤ 999999) (sym is) (below_value at.0.pid (right k at.0 at.1).pid)
+    subst (λ (row : ProcessRow). number_in row.pid ≤ 999999) (sym is) (below_value at.0.pid (right k at.0 at.1).pid)
 
 one_or_other : {A : Type 0} (b : Bool) (x : A) (o : Option A) (P : A → Type 0) → P x → IfSome o P
     → IfSome (cond b (Some x) o) P
 one_or_other true x o P here there = here
 one_or_other false x o P here there = there
 
-small_pid : (rows : List ProcessRow) (pid : ℕ) → All (λ row. value row.pid ≤ 999999) rows
+small_pid : (rows : List ProcessRow) (pid : ℕ) → All (λ row. number_in row.pid ≤ 999999) rows
     → IfSome (find (at_pid pid) (map process rows)) (λ p. p.pid ≤ 999999)
 small_pid [] pid each = tt
 small_pid (row ∷ rows) pid each =
-    one_or_other (value row.pid == pid) (process row) (find (at_pid pid) (map process rows))
+    one_or_other (number_in row.pid == pid) (process row) (find (at_pid pid) (map process rows))
     (λ (p : ProcessType). p.pid ≤ 999999)
-    (All-head (λ r. value r.pid ≤ 999999) row rows each)
-    (small_pid rows pid (All-tail (λ r. value r.pid ≤ 999999) row rows each))
+    (All-head (λ r. number_in r.pid ≤ 999999) row rows each)
+    (small_pid rows pid (All-tail (λ r. number_in r.pid ≤ 999999) row rows each))
 
 -- the firings of a script, and the scripts
 same_some : {A : Type 0} (x y : A) → Some x ≡ Some y → x ≡ y

@@ -71,8 +71,8 @@ abbrev pub script_rows : Data → List FiringRow
 script_rows d = map firing_row (items_of d)
 
 -- What a right row stands for.
-abbrev pub value : Option ℕ → ℕ
-value number = unwrap_or number 0
+abbrev pub number_in : Option ℕ → ℕ
+number_in number = unwrap_or number 0
 
 abbrev pub lists : List (List ℕ) → List ℕ → Bool
 lists given priv = list_any (λ text. bytes_eq text priv) given
@@ -86,10 +86,10 @@ privs given = record {
 }
 
 abbrev pub account : AccountRow → Account
-account row = record { name = row.name; uid = value row.uid; privs = privs row.privs }
+account row = record { name = row.name; uid = number_in row.uid; privs = privs row.privs }
 
 abbrev pub process : ProcessRow → Process
-process row = record { pid = value row.pid; uid = value row.uid; execname = row.execname }
+process row = record { pid = number_in row.pid; uid = number_in row.uid; execname = row.execname }
 
 abbrev pub mode : List ℕ → Mode
 mode text = if bytes_eq text (codes "kernel") then Kernel else User
@@ -100,17 +100,17 @@ arguments given = map (λ number. unwrap_or number (pos 0)) given ++ replicate (
 
 -- the frames that are given, and zeros up to as many as a stack has
 abbrev pub frames : List (Option ℕ) → List ℕ
-frames given = map value given ++ replicate (FRAMES - length given) 0
+frames given = map number_in given ++ replicate (FRAMES - length given) 0
 
 abbrev pub firing : ℕ → ℕ → FiringRow → Firing
 firing cpu place row = record {
   cpu = cpu;
   place = place;
-  probe = value row.probe;
-  pid = value row.pid;
-  tid = value row.tid;
+  probe = number_in row.probe;
+  pid = number_in row.pid;
+  tid = number_in row.tid;
   mode = mode row.mode;
-  timestamp = pos (value row.timestamp);
+  timestamp = pos (number_in row.timestamp);
   args = arguments row.args;
   kstack = frames row.kstack;
   ustack = frames row.ustack;

@@ -2,7 +2,7 @@
 ghost use Rattle.std.specs.Prelude.{◌≡◌, ◌^◌, ℕ, List, Some, map, option_map, is_some, codes, MatchOption};
 ghost use Rattle.serde_json.specs.View.{view};
 ghost use Rattle.dt_machine.specs.Given.{items, is_integer, is_text, unsigned, signed, unsigned_at, text_of, text_at, items_of, list_at};
-ghost use Rattle.dt_machine.specs.Rows.{IsBelow, value as number_in};
+ghost use Rattle.dt_machine.specs.Rows.{IsBelow, number_in};
 
 use serde_json::Value;
 

@@ -1,7 +1,7 @@
 //! The processes of the file.
 ghost use Rattle.std.specs.Prelude.{◌≡◌, ◌≢◌, ◌^◌, ◌+◌, ◌↔◌, ◌≤◌, ◌<◌, All, List, Some, None, IsTrue, IsSome, IfOk, IfErr, MatchOption, map, length, find, ◌==◌};
 ghost use Rattle.serde_json.specs.View.{view};
-ghost use Rattle.dt_machine.specs.Rows.{ProcessRow, process_row, process, value as number_in, IsBelow, IsExecname, IsRightProcess};
+ghost use Rattle.dt_machine.specs.Rows.{ProcessRow, process_row, process, number_in, IsBelow, IsExecname, IsRightProcess};
 ghost use Rattle.dt_machine.specs.Reading.{AllRight};
 ghost use Rattle.dt_machine.specs.Sections.{NowhereIfMemory, UnlessMemory, IsMiss, Indexes, process_rows};
 

@@ -3,7 +3,7 @@ ghost use Rattle.std.specs.Prelude.{◌≡◌, ◌≢◌, ◌^◌, ◌↔◌, �
 ghost use Rattle.serde_json.specs.View.{view};
 ghost use Rattle.dt_machine.specs.Given.{items_of};
 ghost use Rattle.dt_machine.specs.Registry.{process_of};
-ghost use Rattle.dt_machine.specs.Rows.{FiringRow, firing_row, firing, script, scripts as scripts_of, mode, value as number_in, IsBelow, IsMode, HasRoom, IsGivenProbe, IsRightFiring};
+ghost use Rattle.dt_machine.specs.Rows.{FiringRow, firing_row, firing, script, scripts as scripts_of, mode, number_in, IsBelow, IsMode, HasRoom, IsGivenProbe, IsRightFiring};
 ghost use Rattle.dt_machine.specs.Reading.{AllRight, AllRightIn, IsFirstWrong, IsFirstWrongIn};
 ghost use Rattle.dt_machine.specs.Sections.{NowhereIfMemory, UnlessMemory, IsReady, firing_rows, scripts_rows, registry_of};
 

@@ -1,3 +1,4 @@
+-- What the proof of `decimal` is told at its goals.
 use Rattle.std.proofs.Common.{arith}
 use Rattle.dt_cred.proofs.Decimals.{below_28_digits, fits_wide, scanned_more}
 use Rattle.dt_cred.proofs.class.decimal.Goals as goal

@@ -1,3 +1,4 @@
+-- What the proof of `quotient` is told at its goals.
 use Rattle.std.proofs.Common.{rules, ◌≡◌, arith}
 use Rattle.std.proofs.lemmas.Int.{wraps}
 use Rattle.dt_expr.proofs.Wrapping.{quotient_wraps}

@@ -1,3 +1,4 @@
+-- What the proof of `some_element_holds` is told at its goals.
 use Rattle.std.proofs.Common.{refl, sym, ◌∙◌}
 use Rattle.std.proofs.lemmas.Bool.{false≢true}
 use Rattle.dt_glob.proofs.TokenLemmas.{left_more, left_holds, left_none}

@@ -1,3 +1,4 @@
+-- What holds at each turn of the loops of `some_element_holds`.
 use Rattle.std.proofs.Common.{List, length}
 use Rattle.dt_glob.specs.declared.element.Element.{Element}
 use Rattle.dt_glob.specs.Token.{ShowsElements}

@@ -1,3 +1,4 @@
+-- What the proof of `check` is told at its goals.
 use Rattle.std.proofs.Common.{◌∙◌, ℕ, sym, ap, List, ◌++◌, ◌∷◌, [], Ok, Err}
 use Rattle.std.proofs.lemmas.Result.{err_from_is_err_and}
 use Rattle.dt_glob.specs.Place.{step_of}

@@ -1,3 +1,4 @@
+-- What holds at each turn of the loops of `check`.
 use Rattle.std.proofs.Common.{◌≡◌, ◌++◌, List, length}
 use Rattle.dt_glob.specs.declared.sign.Sign.{Sign}
 use Rattle.dt_glob.specs.Sign.{text_of_signs, AreSigns}

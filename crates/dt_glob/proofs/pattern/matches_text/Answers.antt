@@ -1,3 +1,4 @@
+-- What the proof of `matches_text` is told at its goals.
 use Rattle.std.proofs.Common.{true, false, refl, ap, ◌∙◌, length, length-append, arith}
 use Rattle.std.proofs.lemmas.Bool.{false≢true}
 use Rattle.dt_glob.proofs.MatchLemmas.{LeftToMatch, left_matched, left_star, left_failed, left_ended, left_skips}

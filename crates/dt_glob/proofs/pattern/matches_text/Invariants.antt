@@ -1,3 +1,4 @@
+-- What holds at each turn of the loops of `matches_text`.
 use Rattle.std.proofs.Common.{◌+◌, List, length}
 use Rattle.dt_glob.specs.PatternItem.{PatternItem}
 use Rattle.dt_glob.specs.Spells.{Spells}

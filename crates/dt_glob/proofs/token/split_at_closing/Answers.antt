@@ -1,3 +1,4 @@
+-- What the proof of `split_at_closing` is told at its goals.
 use Rattle.std.proofs.Common.{sym, ◌∙◌}
 use Rattle.std.proofs.lemmas.Bool.{false≢true}
 use Rattle.dt_glob.proofs.TokenLemmas.{seeks_first, seeks_more}

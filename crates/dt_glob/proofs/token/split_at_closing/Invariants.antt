@@ -1,3 +1,4 @@
+-- What holds at each turn of the loops of `split_at_closing`.
 use Rattle.std.proofs.Common.{length}
 use Rattle.dt_glob.proofs.TokenLemmas.{Seeks}
 use Rattle.dt_glob.proofs.token.split_at_closing.Given as goal

@@ -1,3 +1,4 @@
+-- What the proof of `account_of` is told at its goals.
 use Rattle.std.proofs.Common.{◌≡◌, ◌≢◌, ◌∙◌, ℕ, ◌^◌, ap, subst, sym, map, true, false, List, Option, All, length, arith}
 use Rattle.std.proofs.lemmas.List.{length-map}
 use Rattle.std.specs.List.{list_any}
@@ -7,7 +8,7 @@ use Rattle.serde_json.specs.View.{view}
 use Rattle.dt_cred.specs.declared.account.Account.{Account}
 use Rattle.dt_cred.specs.declared.account.Privs.{Privs}
 use Rattle.dt_machine.specs.Given.{text_of}
-use Rattle.dt_machine.specs.Rows.{AccountRow, account_row, account, privs, value, IsPriv, IsAccountName, IsBelow}
+use Rattle.dt_machine.specs.Rows.{AccountRow, account_row, account, privs, number_in, IsPriv, IsAccountName, IsBelow}
 use Rattle.dt_machine.proofs.Lists.{any_true, any_false, list_any-map}
 use Rattle.dt_machine.proofs.accounts.account_of.Goals as goal
 
@@ -55,6 +56,6 @@ returns c rows e =
         uid = (let U : Option ℕ → Type 0 = IsBelow (2 ^ 32) in subst U c.unsigned_at.ensures c.in_ok-uid.ensures.0);
         privs = subst P held c.in_ok-privs.ensures.0;
       },
-      same (c.in_ok-name.ensures.1 ∙ given) (c.in_ok-uid.ensures.1 ∙ ap value c.unsigned_at.ensures)
+      same (c.in_ok-name.ensures.1 ∙ given) (c.in_ok-uid.ensures.1 ∙ ap number_in c.unsigned_at.ensures)
           (c.in_ok-privs.ensures.1 ∙ ap privs held),
     )

@@ -1,3 +1,4 @@
+-- What the proof of `privs_of` is told at its goals.
 use Rattle.std.proofs.Common.{map, ◌≡◌, sym, ◌∙◌, List, Bool, true, ℕ, codes}
 use Rattle.dt_cred.specs.declared.account.Privs.{Privs}
 use Rattle.std.proofs.lemmas.List.Elements.{All-map}

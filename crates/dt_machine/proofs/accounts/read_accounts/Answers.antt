@@ -1,3 +1,4 @@
+-- What the proof of `read_accounts` is told at its goals.
 use Rattle.std.proofs.Common.{◌≡◌, ◌∙◌, ap, take, length, arith, refl, subst, [], ◌∷◌, ◌++◌}
 use Rattle.std.proofs.lemmas.List.{length-map}
 use Rattle.serde_json.specs.View.{view}

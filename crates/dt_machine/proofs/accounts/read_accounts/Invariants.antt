@@ -1,3 +1,4 @@
+-- What holds at each turn of the loops of `read_accounts`.
 use Rattle.std.proofs.Common.{◌≡◌, ◌≤◌, map, take}
 use Rattle.dt_machine.specs.Rows.{IsRightAccount, account}
 use Rattle.dt_machine.specs.Sections.{account_rows}

@@ -1,3 +1,4 @@
+-- What holds at each turn of the loops of `first_foreign`.
 use Rattle.std.proofs.Common.{map}
 use Rattle.dt_machine.specs.Registry.{Belongs}
 use Rattle.dt_machine.specs.Reading.{AllRight}

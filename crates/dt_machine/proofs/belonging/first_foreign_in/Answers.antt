@@ -1,3 +1,4 @@
+-- What the proof of `first_foreign_in` is told at its goals.
 use Rattle.std.proofs.Common.{◌∙◌, arith, sym, pos, []}
 use Rattle.dt_cred.specs.declared.rights.Mode.TheVariants.{User}
 use Rattle.std.proofs.lemmas.Bool.{false≢true}

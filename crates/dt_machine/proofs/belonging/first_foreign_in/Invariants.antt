@@ -1,3 +1,4 @@
+-- What holds at each turn of the loops of `first_foreign_in`.
 use Rattle.dt_machine.specs.Registry.{Belongs}
 use Rattle.dt_machine.specs.Sections.{registry_of}
 use Rattle.dt_machine.proofs.Searching.{RightUpTo}

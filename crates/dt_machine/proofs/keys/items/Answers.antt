@@ -1,3 +1,4 @@
+-- What the proof of `items` is told at its goals.
 use Rattle.std.proofs.Common.{ap, sym, ◌∙◌, map, Some, option_map}
 use Rattle.serde_json.specs.View.{view}
 use Rattle.dt_machine.specs.Given.{list_of}

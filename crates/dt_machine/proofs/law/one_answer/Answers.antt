@@ -1,3 +1,4 @@
+-- What the proof of `one_answer` is told at its goals.
 use Rattle.dt_machine.proofs.Answering as law
 use Rattle.dt_machine.proofs.law.one_answer.Goals as goal
 

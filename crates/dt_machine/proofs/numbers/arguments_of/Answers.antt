@@ -1,3 +1,4 @@
+-- What the proof of `arguments_of` is told at its goals.
 use Rattle.std.proofs.Common.{◌∙◌, ℤ, pos, Option, Some, map, set, unwrap_or, ap, sym, arith, rules, w64}
 use Rattle.std.specs.Prelude.{FitsSigned}
 use Rattle.std.proofs.lemmas.Int.{to_z-of_z}

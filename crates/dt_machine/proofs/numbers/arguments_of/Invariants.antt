@@ -1,3 +1,4 @@
+-- What holds at each turn of the loops of `arguments_of`.
 use Rattle.std.proofs.Common.{◌≡◌, ◌-◌, ◌++◌, map, take, replicate, pos, All, IsSome, unwrap_or, ℤ, Option}
 use Rattle.serde_json.specs.View.{view}
 use Rattle.dt_machine.specs.Given.{signed}

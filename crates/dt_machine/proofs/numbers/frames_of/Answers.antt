@@ -1,7 +1,8 @@
+-- What the proof of `frames_of` is told at its goals.
 use Rattle.std.proofs.Common.{◌∙◌, Some, map, ap, sym, arith}
 use Rattle.serde_json.specs.View.{view}
 use Rattle.dt_machine.specs.Given.{unsigned}
-use Rattle.dt_machine.specs.Rows.{value}
+use Rattle.dt_machine.specs.Rows.{number_in}
 use Rattle.dt_machine.proofs.Padding.{pad_step, some_step, none_there}
 use Rattle.dt_machine.proofs.Searching.{row_at}
 use Rattle.dt_machine.proofs.numbers.frames_of.Goals as goal
@@ -22,5 +23,5 @@ loop-i-preserved c =
     ∙ ap Some (sym c.as_u64.ensures ∙ c.in_ok-found.was) in
     record {
       each = some_step rows i x there c.loop-i.invariant.each;
-      found = pad_step value rows i 8 (Some x) 0 c.loop-i.found there (omega arith) c.loop-i.invariant.found;
+      found = pad_step number_in rows i 8 (Some x) 0 c.loop-i.found there (omega arith) c.loop-i.invariant.found;
     }

@@ -1,3 +1,4 @@
+-- What the proof of `is_taken` is told at its goals.
 use Rattle.std.proofs.Common.{◌≢◌, List, All, length, subst, refl}
 use Rattle.std.proofs.lemmas.List.{take_all}
 use Rattle.std.proofs.lemmas.List.Elements.{All-more}

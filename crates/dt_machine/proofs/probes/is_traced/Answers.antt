@@ -1,3 +1,4 @@
+-- What the proof of `is_traced` is told at its goals.
 use Rattle.std.proofs.Common.{◌∙◌, sym}
 use Rattle.dt_machine.proofs.ByPid.{is_some-find, at_pid}
 use Rattle.dt_machine.proofs.probes.is_traced.Goals as goal

@@ -1,3 +1,4 @@
+-- What the proof of `own_probes` is told at its goals.
 use Rattle.dt_machine.proofs.Spelling.{parsed, begin_spelled, end_spelled}
 use Rattle.dt_machine.proofs.probes.own_probes.Goals as goal
 

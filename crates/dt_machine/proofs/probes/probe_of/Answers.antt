@@ -1,3 +1,4 @@
+-- What the proof of `probe_of` is told at its goals.
 use Rattle.std.proofs.Common.{◌≡◌, ◌≢◌, ◌∙◌, ◌==◌, ℕ, true, IsSome, subst, sym, codes, arith}
 use Rattle.std.specs.Prelude.{find}
 use Rattle.dt_names.specs.Tuple.{SpellsTuple}

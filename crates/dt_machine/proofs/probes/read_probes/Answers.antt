@@ -1,3 +1,4 @@
+-- What the proof of `read_probes` is told at its goals.
 use Rattle.std.proofs.Common.{◌≡◌, ◌∙◌, ◌+◌, ◌-◌, ◌≤◌, ℕ, ap, sym, take, drop, length, refl, subst, codes, arith, [], ◌∷◌, ◌++◌, List}
 use Rattle.std.proofs.lemmas.List.{take_all, length-drop}
 use Rattle.serde_json.specs.View.{view}

@@ -1,3 +1,4 @@
+-- What holds at each turn of the loops of `read_probes`.
 use Rattle.std.proofs.Common.{◌≤◌, ◌∷◌, take, codes}
 use Rattle.dt_machine.specs.Rows.{AreProbes, IsRightProbe}
 use Rattle.dt_machine.specs.Sections.{texts}

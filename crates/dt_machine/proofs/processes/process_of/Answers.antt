@@ -1,7 +1,8 @@
+-- What the proof of `process_of` is told at its goals.
 use Rattle.std.proofs.Common.{◌≡◌, ◌≢◌, ◌∙◌, ◌^◌, ℕ, true, false, List, Option, Some, All, ap, sym, subst, map, arith}
 use Rattle.serde_json.specs.View.{view}
 use Rattle.dt_cred.specs.declared.account.Process.{Process}
-use Rattle.dt_machine.specs.Rows.{ProcessRow, process_row, process, value, IsBelow, IsExecname}
+use Rattle.dt_machine.specs.Rows.{ProcessRow, process_row, process, number_in, IsBelow, IsExecname}
 use Rattle.dt_machine.proofs.ByPid.{indexed, seen, unseen, looked_up, below_some, none_of}
 use Rattle.dt_machine.proofs.processes.process_of.Goals as goal
 
@@ -41,7 +42,7 @@ returns c rows e known indexes =
         uid = subst U c.unsigned_at-2.ensures c.in_ok-uid.ensures.0;
         named = subst N name c.in_ok-execname.ensures.0;
       },
-      same (ap value (sym given)) (c.in_ok-uid.ensures.1 ∙ ap value c.unsigned_at-2.ensures)
+      same (ap number_in (sym given)) (c.in_ok-uid.ensures.1 ∙ ap number_in c.unsigned_at-2.ensures)
           (c.in_ok-execname.ensures.1 ∙ name),
       none_of _ missing,
     )

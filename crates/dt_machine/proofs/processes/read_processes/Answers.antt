@@ -1,10 +1,11 @@
+-- What the proof of `read_processes` is told at its goals.
 use Rattle.std.proofs.Common.{◌≡◌, ◌∙◌, ◌<◌, ◌^◌, ℕ, ap, sym, take, find, length, All, IsSome, List, Option, Some, None, arith, refl, subst, [], ◌∷◌, ◌++◌}
 use Rattle.std.proofs.lemmas.List.{length-map}
 use Rattle.std.proofs.lemmas.List.Elements.{All-push}
 use Rattle.serde_json.specs.View.{view}
 use Rattle.dt_cred.specs.declared.account.Process.{Process}
 use Rattle.dt_machine.specs.Reading.{IsFirstWrong}
-use Rattle.dt_machine.specs.Rows.{ProcessRow, process_row, process, value, IsBelow, IsRightProcess}
+use Rattle.dt_machine.specs.Rows.{ProcessRow, process_row, process, number_in, IsBelow, IsRightProcess}
 use Rattle.dt_machine.specs.Sections.{process_rows, Indexes}
 use Rattle.dt_machine.proofs.ByPid.{at_pid, indexes_more}
 use Rattle.dt_machine.proofs.Searching.{row_at, first_wrong, right_more, right_all, map_next, take_next, length-front, length-rows}
@@ -14,7 +15,7 @@ some_below : (limit : ℕ) (number : Option ℕ) → IsBelow limit number → Is
 some_below limit None h = absurd h
 some_below limit (Some n) h = refl
 
-small_pid : (p : Process) (number : Option ℕ) → p.pid ≡ value number → IsBelow 1000000 number → p.pid < 2 ^ 32
+small_pid : (p : Process) (number : Option ℕ) → p.pid ≡ number_in number → IsBelow 1000000 number → p.pid < 2 ^ 32
 small_pid p None e h = absurd h
 small_pid p (Some n) e h = omega arith
 

@@ -1,3 +1,4 @@
+-- What holds at each turn of the loops of `read_processes`.
 use Rattle.std.proofs.Common.{◌≡◌, ◌≤◌, ◌<◌, ◌^◌, map, take, All, IsSome}
 use Rattle.dt_cred.specs.declared.account.Process.{Process}
 use Rattle.dt_machine.specs.Rows.{ProcessRow, IsRightProcess, process}

@@ -1,3 +1,4 @@
+-- What the proof of `first_long` is told at its goals.
 use Rattle.std.proofs.Common.{◌≡◌, ◌<◌, ◌≤◌, ap, map, length, arith}
 use Rattle.serde_json.specs.View.{view}
 use Rattle.dt_machine.specs.Reading.{AllRight}

@@ -1,3 +1,4 @@
+-- What holds at each turn of the loops of `first_long`.
 use Rattle.dt_machine.specs.Reading.{AllRight}
 use Rattle.dt_machine.specs.Rows.{HasRoom}
 use Rattle.dt_machine.specs.Sections.{scripts_rows}

@@ -1,3 +1,4 @@
+-- What the proof of `pid_of` is told at its goals.
 use Rattle.dt_machine.proofs.ByPid.{unknown}
 use Rattle.dt_machine.proofs.scripts.pid_of.Goals as goal
 

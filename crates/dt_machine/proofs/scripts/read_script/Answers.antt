@@ -1,3 +1,4 @@
+-- What the proof of `read_script` is told at its goals.
 use Rattle.std.proofs.Common.{◌∙◌, ap, take, refl, arith, [], ◌∷◌, ◌++◌}
 use Rattle.serde_json.specs.View.{view}
 use Rattle.dt_machine.specs.Rows.{firing_row, IsRightFiring}

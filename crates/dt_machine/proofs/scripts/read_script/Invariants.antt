@@ -1,3 +1,4 @@
+-- What holds at each turn of the loops of `read_script`.
 use Rattle.std.proofs.Common.{◌≡◌, take}
 use Rattle.dt_machine.specs.Rows.{IsRightFiring, script}
 use Rattle.dt_machine.specs.Sections.{firing_rows, registry_of}

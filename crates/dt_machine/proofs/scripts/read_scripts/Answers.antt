@@ -1,3 +1,4 @@
+-- What the proof of `read_scripts` is told at its goals.
 use Rattle.std.proofs.Common.{◌≡◌, ◌∙◌, ap, sym, map, length, subst, List, ℕ, Vec, Global, arith, [], ◌∷◌, ◌++◌}
 use Rattle.std.proofs.lemmas.List.{map_push}
 use Rattle.serde_json.specs.View.{view}

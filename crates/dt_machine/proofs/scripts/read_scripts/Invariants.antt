@@ -1,3 +1,4 @@
+-- What holds at each turn of the loops of `read_scripts`.
 use Rattle.std.proofs.Common.{◌≡◌, map, take}
 use Rattle.dt_machine.specs.Reading.{AllRight}
 use Rattle.dt_machine.specs.Rows.{IsRightFiring, scripts}

@@ -1,3 +1,4 @@
+-- What the proof of `are_accounts` is told at its goals.
 use Rattle.dt_machine.specs.Shape.{is_account}
 use Rattle.dt_machine.proofs.Lists.{all_items}
 use Rattle.dt_machine.proofs.shape.are_accounts.Goals as goal

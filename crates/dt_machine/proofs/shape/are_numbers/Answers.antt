@@ -1,3 +1,4 @@
+-- What the proof of `are_numbers` is told at its goals.
 use Rattle.dt_machine.specs.Given.{is_integer}
 use Rattle.dt_machine.proofs.Lists.{all_items}
 use Rattle.dt_machine.proofs.shape.are_numbers.Goals as goal

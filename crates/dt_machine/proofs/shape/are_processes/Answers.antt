@@ -1,3 +1,4 @@
+-- What the proof of `are_processes` is told at its goals.
 use Rattle.dt_machine.specs.Shape.{is_process}
 use Rattle.dt_machine.proofs.Lists.{all_items}
 use Rattle.dt_machine.proofs.shape.are_processes.Goals as goal

@@ -1,3 +1,4 @@
+-- What the proof of `are_scripts` is told at its goals.
 use Rattle.dt_machine.specs.Given.{is_list_of}
 use Rattle.dt_machine.specs.Shape.{is_firing}
 use Rattle.dt_machine.proofs.Lists.{all_items}

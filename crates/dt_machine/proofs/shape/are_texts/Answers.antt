@@ -1,3 +1,4 @@
+-- What the proof of `are_texts` is told at its goals.
 use Rattle.dt_machine.specs.Given.{is_text}
 use Rattle.dt_machine.proofs.Lists.{all_items}
 use Rattle.dt_machine.proofs.shape.are_texts.Goals as goal

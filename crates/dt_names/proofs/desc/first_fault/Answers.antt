@@ -1,3 +1,4 @@
+-- What the proof of `first_fault` is told at its goals.
 use Rattle.std.proofs.Common.{arith}
 use Rattle.dt_names.proofs.Clean.{scanned_colon, scanned_byte, few_fields, clean_fields}
 use Rattle.dt_names.proofs.desc.first_fault.Goals as goal

@@ -1,3 +1,4 @@
+-- What holds at each turn of the loops of `first_fault`.
 use Rattle.dt_names.proofs.Clean.{Scanned}
 use Rattle.dt_names.proofs.desc.first_fault.Given as goal
 

@@ -1,3 +1,4 @@
+-- What the proof of `one_output` is told at its goals.
 use Rattle.dtraced.proofs.OneOutput.{same_output}
 use Rattle.dtraced.proofs.laws.one_output.Goals as goal
 

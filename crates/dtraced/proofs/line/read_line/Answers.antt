@@ -1,3 +1,4 @@
+-- What the proof of `read_line` is told at its goals.
 use Rattle.std.proofs.Common.{rules}
 use Rattle.dtraced.proofs.Asks.{asks-command, asks-refusal}
 use Rattle.dtraced.proofs.line.read_line.Goals as goal

@@ -1,3 +1,4 @@
+-- What the proof of `requested_command` is told at its goals.
 use Rattle.std.proofs.Common.{refl}
 use Rattle.dt_consumer.specs.Ask.{enable, snap, list}
 use Rattle.dtraced.proofs.line.requested_command.Goals as goal

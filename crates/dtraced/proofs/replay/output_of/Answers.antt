@@ -1,3 +1,4 @@
+-- What the proof of `output_of` is told at its goals.
 use Rattle.std.proofs.Common.{◌≡◌, ◌∷◌, ◌++◌, [], length, refl, arith, rules, ◌+◌}
 use Rattle.std.proofs.lemmas.List.{length-append}
 use Rattle.dtraced.specs.Input.{lines_of}

@@ -1,3 +1,4 @@
+-- What holds at each turn of the loops of `output_of`.
 use Rattle.std.proofs.Common.{◌≡◌, ◌≤◌, ◌+◌, ◌++◌, ℕ, List, length}
 use Rattle.dtraced.specs.Input.{lines_of}
 use Rattle.dtraced.specs.Run.{HasTaken}

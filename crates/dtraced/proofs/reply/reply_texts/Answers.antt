@@ -1,3 +1,4 @@
+-- What the proof of `reply_texts` is told at its goals.
 use Rattle.std.proofs.Common.{◌≡◌, codes, decimal, append_assoc, refl}
 use Rattle.std.specs.Fmt.{digits}
 use Rattle.serde_json.proofs.OnLiterals.{serde_json_on_literals}

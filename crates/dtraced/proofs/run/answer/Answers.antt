@@ -1,3 +1,4 @@
+-- What the proof of `answer` is told at its goals.
 use Rattle.std.proofs.Common.{rules}
 use Rattle.dt_consumer.specs.Answer.{answer_of}
 use Rattle.dtraced.proofs.run.answer.Goals as goal

@@ -1,3 +1,4 @@
+-- What the proof of `BinaryOp::apply` is told at its goals.
 use Rattle.std.proofs.Common.{rules}
 use Rattle.std.proofs.lemmas.Int.{wraps}
 use Rattle.dt_expr.proofs.operators.BinaryOp.apply.Goals as goal

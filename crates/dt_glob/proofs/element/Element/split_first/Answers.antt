@@ -1,3 +1,4 @@
+-- What the proof of `Element::split_first` is told at its goals.
 use Rattle.std.proofs.Common.{sym, ◌∙◌}
 use Rattle.std.proofs.lemmas.Bool.{false≢true}
 use Rattle.dt_glob.proofs.TokenLemmas.{no_signs, single_dash, single_alone, single_last, range_read}

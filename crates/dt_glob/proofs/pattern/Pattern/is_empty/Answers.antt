@@ -1,3 +1,4 @@
+-- What the proof of `Pattern::is_empty` is told at its goals.
 use Rattle.std.proofs.Common.{ℕ, sym, ◌∙◌, ap, subst, List, length, eqb}
 use Rattle.dt_glob.specs.Spells.{Spells}
 use Rattle.dt_glob.specs.Reading.{items_of_text}

@@ -1,3 +1,4 @@
+-- What the proof of `Pattern::matches` is told at its goals.
 use Rattle.std.proofs.Common.{◌↔◌, IsTrue, rules}
 use Rattle.std.proofs.lemmas.Bool.Decides.{same_from_decides}
 use Rattle.dt_glob.specs.Matches.{Matches}

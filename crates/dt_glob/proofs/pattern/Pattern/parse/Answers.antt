@@ -1,3 +1,4 @@
+-- What the proof of `Pattern::parse` is told at its goals.
 use Rattle.dt_glob.specs.Spells.{Spells}
 use Rattle.dt_glob.specs.Reading.{items_of_text}
 use Rattle.dt_glob.proofs.ReadingLemmas.{items_of_text-spelled}

@@ -1,3 +1,4 @@
+-- What the proof of `Run::of` is told at its goals.
 use Rattle.std.proofs.Common.{◌≡◌, ◌∷◌, ℕ, List, ◌∙◌, ap, sym, subst, eqb, length, arith}
 use Rattle.std.proofs.lemmas.Bool.{false≢true}
 use Rattle.dt_glob.specs.PatternItem.{PatternItem, Star}

@@ -1,3 +1,4 @@
+-- What the proof of `Token::split_first` is told at its goals.
 use Rattle.std.proofs.Common.{◌≡◌, ◌≢◌, ℕ, ◌∙◌, ap, sym, ◌++◌}
 use Rattle.dt_glob.specs.declared.sign.Sign.{Sign}
 use Rattle.dt_glob.specs.declared.sign.Sign.TheVariants.{Plain}

@@ -1,3 +1,4 @@
+-- What the proof of `Token::split_set` is told at its goals.
 use Rattle.std.proofs.Common.{ap}
 use Rattle.dt_glob.specs.PatternItem.{OneOf}
 use Rattle.dt_glob.specs.Sign.{text_of_signs}

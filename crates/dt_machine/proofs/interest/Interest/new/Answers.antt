@@ -1,3 +1,4 @@
+-- What the proof of `Interest::new` is told at its goals.
 use Rattle.std.proofs.Common.{◌≡◌, ℕ, true, false, replicate, slice_get, Some, zero, suc}
 use Rattle.dt_machine.proofs.interest.Interest.new.Goals as goal
 

@@ -1,3 +1,4 @@
+-- What the proof of `Machine::new` is told at its goals.
 use Rattle.dt_machine.proofs.machine.Machine.new.Goals as goal
 
 pub invariant_of-result : goal.invariant_of-result

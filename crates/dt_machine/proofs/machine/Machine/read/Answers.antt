@@ -1,3 +1,4 @@
+-- What the proof of `Machine::read` is told at its goals.
 use Rattle.std.proofs.Common.{◌≡◌, ◌∙◌, ◌<◌, List, Vec, Global, map, length, ap, sym, refl, subst, inr, arith}
 use Rattle.std.proofs.lemmas.List.{length-map}
 use Rattle.serde_json.specs.View.{view}

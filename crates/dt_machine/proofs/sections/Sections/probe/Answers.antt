@@ -1,3 +1,4 @@
+-- What the proof of `Sections::probe` is told at its goals.
 use Rattle.std.proofs.Common.{◌-◌, slice_get, ◌∙◌, sym, ap}
 use Rattle.dt_machine.specs.Sections.{registry_of}
 use Rattle.dt_machine.proofs.Registries.{probe_of-before, option_copied-from_get}

@@ -1,3 +1,4 @@
+-- What the proof of `Sections::read` is told at its goals.
 use Rattle.std.proofs.Common.{◌≡◌, ◌∙◌, ℕ, List, Some, map, length, ap, sym, subst, codes, arith, ◌∷◌}
 use Rattle.serde_json.specs.View.{view}
 use Rattle.dt_cred.specs.declared.account.Process.{Process as ProcessType}

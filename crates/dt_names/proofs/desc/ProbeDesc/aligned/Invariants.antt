@@ -1,3 +1,4 @@
+-- What holds at each turn of the loops of `ProbeDesc::aligned`.
 use Rattle.std.proofs.Common.{◌≡◌, [], ◌∷◌, ◌++◌, length, drop, replicate, map}
 use Rattle.dt_names.proofs.desc.ProbeDesc.aligned.Given as goal
 

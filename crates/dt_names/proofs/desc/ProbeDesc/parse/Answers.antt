@@ -1,3 +1,4 @@
+-- What the proof of `ProbeDesc::parse` is told at its goals.
 use Rattle.std.proofs.Common.{sym, ◌∙◌}
 use Rattle.dt_names.proofs.Aligning.{aligned_few}
 use Rattle.dt_names.proofs.desc.ProbeDesc.parse.Goals as goal

@@ -1,3 +1,4 @@
+-- What the proof of `Name::as_str` is told at its goals.
 use Rattle.dt_names.proofs.Names.{name_text}
 use Rattle.dt_names.proofs.name.Name.as_str.Goals as goal
 

@@ -1,3 +1,4 @@
+-- What the proof of `ShortText::new` is told at its goals.
 use Rattle.std.proofs.Common.{length, ap, arith}
 use Rattle.dt_names.proofs.Padding.{padded_by}
 use Rattle.dt_names.proofs.short_text.ShortText.new.Goals as goal

@@ -1,3 +1,4 @@
+-- What the proof of `ProbeTuple::parse` is told at its goals.
 use Rattle.std.proofs.Common.{refl, sym, ◌∙◌}
 use Rattle.dt_names.proofs.Aligning.{four_fields, colons_of}
 use Rattle.dt_names.proofs.Tuples.{empty-from_test, some-from_test, tuple_fields, spells}
