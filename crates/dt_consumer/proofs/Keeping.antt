@@ -6,7 +6,7 @@ use Rattle.std.proofs.lemmas.List.{append_assoc, append-nil, take-append-le, tak
 use Rattle.dt_consumer.specs.Buffers.{ShowsIn}
 use Rattle.dt_consumer.specs.Kept.{IsChoice, Shows, chosen_of, bytes_of}
 use Rattle.dt_consumer.specs.declared.buffer.Switch.{Switch}
-use Rattle.dt_consumer.specs.declared.limits.TheConstants.{BUFFER_SIZE, DROPS_MAX}
+use Rattle.dt_consumer.specs.declared.limits.TheConstants.{BUFFER_SIZE, COUNT_MAX}
 
 -- the attempt, if it is chosen
 abbrev one_of : List ℕ → Bool → List (List ℕ)
@@ -160,7 +160,7 @@ module _ (attempts : List (List ℕ)) (attempt : List ℕ) (old new : Switch) (s
         counted = same ∙ s.counted;
       }
 
-  pub put_dropped : new.kept.items ≡ old.kept.items → new.drops ≡ min (old.drops + 1) DROPS_MAX
+  pub put_dropped : new.kept.items ≡ old.kept.items → new.drops ≡ min (old.drops + 1) COUNT_MAX
       → BUFFER_SIZE < length old.kept.items + length attempt → ShowsIn (attempts ++ attempt ∷ []) new
   put_dropped same counted over =
       let P : List ℕ → Type 0 = λ bytes. Shows BUFFER_SIZE (attempts ++ attempt ∷ []) bytes (s.drops + 1) in

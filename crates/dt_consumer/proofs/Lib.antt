@@ -1,18 +1,12 @@
 -- The lemmas of the crate, lowest first.
+pub mod Lists
 pub mod Keeping
-pub mod ProbeLemmas
-pub mod PlaceLemmas
-pub mod RowLemmas
-pub mod RowRecords
-pub mod VerdictLemmas
-pub mod AttemptLemmas
-pub mod KeyLemmas
-pub mod OfferLemmas
-pub mod LineLemmas
-pub mod EnableLemmas
-pub mod DraftLemmas
-pub mod GoLemmas
-pub mod ProgramLemmas
-pub mod AskLemmas
 pub mod Choices
+pub mod Takings
+pub mod Counts
+pub mod Tracings
+pub mod DraftLemmas
+pub mod Stands
+pub mod Telling
+pub mod Drafting
 pub mod ReplyLaws

@@ -1,20 +1,27 @@
 -- What is answered to a line, without where it lies in memory.
-use Rattle.std.specs.Prelude.{ℕ, List, Bool}
+use Rattle.std.specs.Prelude.{ℕ, List, Bool, Option}
 use Rattle.dt_cred.specs.declared.probe.Probe.{Probe}
+use Rattle.dt_record.specs.Layout.{FieldForm}
+use Rattle.dt_record.specs.Fields.{form_of_layout}
+use Rattle.dt_consumer.specs.declared.phase.Phase.{Phase}
 use Rattle.dt_consumer.specs.declared.refusal.Refusal.{Refusal}
 use Rattle.dt_consumer.specs.declared.reply.Reply.{Reply}
-use Rattle.dt_consumer.specs.declared.reply.Reply.TheVariants.{Done, Enabled, Snapped, Listed, Refused}
+use Rattle.dt_consumer.specs.declared.reply.Reply.TheVariants.{Done, Enabled, Snapped, Status, Listed, Described, Refused}
 
 pub data Answer : Type 0 where
   done : Answer
   enabled : (count first : ℕ) → Answer
   snapped : (cpu : ℕ) (bytes : List ℕ) (drops : ℕ) (filled : Bool) → Answer
+  status : Phase → (seen : ℕ) (errors : List ℕ) → Answer
   listed : List Probe → Answer
+  described : (epid : ℕ) → Probe → Option (List FieldForm) → Answer
   refused : Refusal → Answer
 
 abbrev pub answer_of : Reply → Answer
 answer_of Done = done
 answer_of (Enabled count first) = enabled count first
 answer_of (Snapped cpu bytes drops filled) = snapped cpu bytes.items drops filled
+answer_of (Status phase seen errors) = status phase seen errors.items
 answer_of (Listed probes) = listed probes.items
+answer_of (Described epid probe layout) = described epid probe (form_of_layout layout)
 answer_of (Refused refusal) = refused refusal

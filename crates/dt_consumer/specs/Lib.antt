@@ -2,13 +2,13 @@
 pub mod Ask
 pub mod Refusal
 pub mod Answer
-pub mod Ecbs
 pub mod Life
-pub mod Records
-pub mod Places
+pub mod Takings
 pub mod Kept
 pub mod Buffers
 pub mod Reply
+pub mod Keeps
+pub mod StandsFor
 pub mod Draft
 pub mod Sees
-pub mod StandsFor
+pub mod Phase

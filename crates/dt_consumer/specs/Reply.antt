@@ -1,50 +1,88 @@
 -- What a consumer answers to a line, given its life before it.
-use Rattle.std.specs.Prelude.{◌≡◌, ℕ, ◌+◌, ◌-◌, false, List, ◌++◌, Option, Some, None, Result, Ok, Err, length, nat_le, MatchOption, MatchBool, if◌then◌else◌}
+use Rattle.std.specs.Prelude.{◌≡◌, ℕ, ◌==◌, Bool, false, not, List, Option, Some, None, Result, Ok, Err, length, map, find, nat_le, option_and_then, MatchOption, MatchBool, if◌then◌else◌}
+use Rattle.std.specs.List.{range_with_len}
+use Rattle.std.specs.Option.{option_map, option_map_or}
 use Rattle.dt_cred.specs.declared.account.Account.{Account}
-use Rattle.dt_machine.specs.Registry.{Registry}
-use Rattle.dt_lang.specs.Program.{program, fault}
+use Rattle.dt_cred.specs.declared.probe.Probe.{Probe as AProbe}
+use Rattle.dt_machine.specs.Registry.{Registry, probe_of}
+use Rattle.dt_lang.specs.Reads.{program, fault, destructive}
 use Rattle.dt_lang.specs.declared.fault.Why.TheVariants.{Probe}
-use Rattle.dt_consumer.specs.Answer.{Answer, done, enabled, snapped, listed, refused}
-use Rattle.dt_consumer.specs.Ask.{Ask, enable, go, snap, list}
-use Rattle.dt_consumer.specs.Ecbs as enabling
-use Rattle.dt_consumer.specs.Ecbs.{ecbs_of}
+use Rattle.dt_record.specs.Layout.{layout_of}
+use Rattle.dt_ecb.specs.Ecbs.{EcbForm, added}
+use Rattle.dt_ecb.specs.Enable.{Verdict, privilege, clash, unmatched, limit, IsVerdict}
+use Rattle.dt_ecb.specs.Enable as enabling
+use Rattle.dt_ecb.specs.Matching as matching
+use Rattle.dt_ecb.specs.declared.fault.RestrictedAction.TheVariants.{Stack}
+use Rattle.dt_consumer.specs.Answer as answers
+use Rattle.dt_consumer.specs.Answer.{Answer, done, enabled, snapped, listed, described, refused}
+use Rattle.dt_consumer.specs.Ask.{Ask, enable, go, snap, status, list, describe}
 use Rattle.dt_consumer.specs.Kept.{Shows}
-use Rattle.dt_consumer.specs.Life.{Item, is_over, phase, is_inactive, clauses_of, ecbs, IsVerdictOnProgram}
-use Rattle.dt_consumer.specs.Records.{attempts}
+use Rattle.dt_consumer.specs.Life.{Item, SetUp, firings, is_over, set_up, next_epid, phase, is_inactive, ecbs}
+use Rattle.dt_consumer.specs.Takings.{attempts, errors}
 use Rattle.dt_consumer.specs.declared.limits.TheConstants.{BUFFER_SIZE}
 use Rattle.dt_consumer.specs.declared.refusal.Refusal.{Refusal}
-use Rattle.dt_consumer.specs.declared.refusal.Refusal.TheVariants.{Program, Busy, NoCpu, Quota}
+use Rattle.dt_consumer.specs.declared.refusal.Refusal.TheVariants.{Program, NoMatch, Privilege, Destructive, AggClash, Limit, Busy, NoCpu, NoEpid, Quota}
+
+-- for what a program is refused, if it is
+abbrev pub refusal_of : Verdict → Option Refusal
+refusal_of enabling.enabled = None
+refusal_of (privilege clause) = Some (Privilege clause Stack)
+refusal_of (clash name) = Some (AggClash name)
+refusal_of (unmatched clause) = Some (NoMatch clause)
+refusal_of limit = Some Limit
 
 module _ (account : Account) (registry : Registry) (life : List Item) where
+  abbrev now : SetUp
+  now = set_up account registry life
+
+  -- after tracing began
+  abbrev pub is_asked_late : Bool
+  is_asked_late = not (is_inactive (phase account registry life))
+
+  -- a processor's errors, one number for each
+  abbrev pub all_errors : List ℕ
+  all_errors = map (errors account registry life) (range_with_len 0 registry.cpus)
+
+  -- the ECB of a number, with its probe
+  abbrev pub ecb_of : ℕ → Option (AProbe × EcbForm)
+  ecb_of epid = option_and_then
+      (λ (ecb : EcbForm). option_map (λ probe. (probe, ecb)) (probe_of registry ecb.probe))
+      (find (λ (ecb : EcbForm). ecb.epid == epid) (ecbs account registry life))
+
   -- What becomes of a command: it is accepted (None), or refused, for the first cause in this order.
   abbrev pub IsVerdictOnCommand : Ask → Option Refusal → Type 0
   IsVerdictOnCommand (enable (program clauses)) verdict =
-      MatchBool (is_inactive (phase life))
-      (IsVerdictOnProgram account registry (clauses_of account registry life) clauses verdict)
-      (verdict ≡ Some Busy)
+      MatchBool is_asked_late (verdict ≡ Some Busy)
+      ((v : Verdict) × IsVerdict account registry now.shapes (next_epid account registry now) clauses v
+      × (verdict ≡ refusal_of v))
   IsVerdictOnCommand (enable (fault at why)) verdict =
-      verdict ≡ (if is_inactive (phase life) then Some (Program at why) else Some Busy)
-  IsVerdictOnCommand go verdict = verdict ≡ (if is_inactive (phase life) then None else Some Busy)
+      verdict ≡ (if is_asked_late then Some Busy else Some (Program at why))
+  IsVerdictOnCommand (enable (destructive at what)) verdict =
+      verdict ≡ (if is_asked_late then Some Busy else Some (Destructive at what))
+  IsVerdictOnCommand go verdict = verdict ≡ (if is_asked_late then Some Busy else None)
   IsVerdictOnCommand (snap cpu) verdict =
-      verdict ≡ (if nat_le registry.cpus cpu then Some NoCpu
-      else (if is_inactive (phase life) then Some Busy else None))
+      verdict ≡ (if nat_le registry.cpus cpu then Some NoCpu else (if is_asked_late then None else Some Busy))
+  IsVerdictOnCommand status verdict = verdict ≡ None
   IsVerdictOnCommand (list None) verdict = verdict ≡ Some (Program 0 Probe)
   IsVerdictOnCommand (list (Some desc)) verdict = verdict ≡ None
+  IsVerdictOnCommand (describe epid) verdict = verdict ≡ option_map_or (λ _. None) (ecb_of epid) (Some NoEpid)
 
   -- the answer to an accepted command
   abbrev pub Accepted : Ask → Answer → Type 0
   Accepted (enable (program clauses)) answer =
-      let before = clauses_of account registry life in
-      answer ≡ enabled
-      (length (ecbs_of account registry (before ++ clauses)) - length (ecbs_of account registry before))
-      (length (ecbs_of account registry before) + 1)
+      answer ≡ enabled (length (added account registry (next_epid account registry now) clauses))
+      (next_epid account registry now)
   Accepted (enable (fault at why)) answer = ⊥
+  Accepted (enable (destructive at what)) answer = ⊥
   Accepted go answer = answer ≡ done
   Accepted (snap cpu) answer =
-      (bytes : List ℕ) × (drops : ℕ) × Shows BUFFER_SIZE (attempts (ecbs account registry life) life cpu) bytes drops
+      (bytes : List ℕ) × (drops : ℕ) × Shows BUFFER_SIZE (attempts account registry life cpu) bytes drops
       × (answer ≡ snapped cpu bytes drops false)
+  Accepted status answer = answer ≡ answers.status (phase account registry life) (firings life) all_errors
   Accepted (list None) answer = ⊥
-  Accepted (list (Some desc)) answer = answer ≡ listed (enabling.listed account registry desc)
+  Accepted (list (Some desc)) answer = answer ≡ listed (matching.listed account registry desc)
+  Accepted (describe epid) answer = MatchOption (ecb_of epid) ⊥
+      (λ found. answer ≡ described epid found.0 (layout_of found.1.clause))
 
   abbrev pub RepliesInQuota : Result Ask Refusal → Answer → Type 0
   RepliesInQuota (Err refusal) answer = answer ≡ refused refusal

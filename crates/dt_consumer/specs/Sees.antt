@@ -6,7 +6,7 @@ use Rattle.dt_cred.specs.declared.account.Process.{Process}
 use Rattle.dt_cred.specs.declared.probe.Probe.{Probe}
 use Rattle.dt_machine.specs.Registry.{Registry, Belongs, probe_of, process_of}
 use Rattle.dt_machine.specs.declared.firing.Firing.{Firing}
-use Rattle.dt_consumer.specs.Ecbs.{of_probe}
+use Rattle.dt_ecb.specs.Ecbs.{of_probe}
 use Rattle.dt_consumer.specs.Life.{Item, phase, ecbs}
 use Rattle.dt_consumer.specs.declared.phase.Phase.TheVariants.{Active}
 
@@ -20,7 +20,7 @@ IsShown account registry firing =
 -- A consumer sees a firing where it is active, the firing belongs to the machine, one of its ECBs names the probe, and
 -- its account is shown it.
 pub record Sees (account : Account) (registry : Registry) (life : List Item) (firing : Firing) : Type 0 where
-  pub active : phase life ≡ Active
+  pub active : phase account registry life ≡ Active
   pub belongs : Belongs registry firing
   pub named : of_probe firing.probe (ecbs account registry life) ≢ []
   pub admitted : IsShown account registry firing

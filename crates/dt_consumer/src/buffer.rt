@@ -1,5 +1,5 @@
 //! The principal buffer of one processor.
-ghost use Rattle.std.specs.Prelude.{◌≡◌, ◌≤◌, ℕ, List, [], ◌∷◌, ◌++◌, length, All, IfOk, vec_len, vec_capacity};
+ghost use Rattle.std.specs.Prelude.{◌≡◌, ◌≤◌, ℕ, List, [], ◌∷◌, ◌++◌, IfOk, vec_len, vec_capacity};
 ghost use Rattle.dt_consumer.specs.declared.limits.TheConstants.{BUFFER_SIZE};
 
 use crate::limits::BUFFER_SIZE;
@@ -26,18 +26,6 @@ impl Switch {
             kept: Vec::with_capacity(alloc, BUFFER_SIZE)?,
             drops: 0,
         })
-    }
-
-    /// An empty buffer for each processor.
-    pub(crate) fn for_each(alloc: Global, cpus: u32) -> Result<Vec<Self>, AllocError>
-        ensures len { IfOk result (λ buffers. vec_len buffers ≡ cpus) }
-        ensures empty { IfOk result (λ buffers. All (ShowsIn []) buffers.items) }
-    {
-        let mut buffers = Vec::with_capacity(alloc, cpus as usize)?;
-        for _cpu in 0..cpus {
-            buffers.push(Switch::new(alloc)?)?;
-        }
-        Ok(buffers)
     }
 
     /// The bytes of the kept records.

@@ -8,6 +8,10 @@ pub enum Command {
     Go,
     /// Read the principal buffer of a processor.
     Snap { cpu: u64 },
+    /// Tell the phase and the counts.
+    Status,
     /// List the probes that a description asks for.
     List { probe: String },
+    /// Tell of what the records of an ECB are made.
+    Describe { epid: u64 },
 }

@@ -1,30 +1,27 @@
 //! One consumer, from its first line to its last.
-ghost use Rattle.std.specs.Prelude.{◌≡◌, ◌+◌, ◌++◌, ◌≤◌, ◌↔◌, ℕ, List, [], ◌∷◌, Result, true, false, IsTrue, IfOk, vec_len, vec_capacity};
-
-use crate::attempts::{clear_at, take_at};
-use crate::buffer::Switch;
 use crate::draft::{Change, Draft};
-use crate::ecb::{Ecb, Enabled};
 use crate::phase::Phase;
 use crate::programs::Programs;
-use crate::visibility::is_shown;
+use crate::tracing::Tracing;
+use crate::visibility::shown;
 use dt_cred::Account;
+use dt_ecb::{Ecb, Shapes, ecbs_go_on};
 use dt_lang::Clause;
 use dt_machine::{Firing, Machine};
 use std::alloc::{AllocError, Global};
 
-/// One consumer: what it has enabled, and what its buffers hold.
+/// One consumer: what it has enabled, and, from its `go` on, what it has of each processor.
 #[derive(Drop)]
 pub struct Consumer {
     pub(crate) account: Account,
     pub(crate) programs: Programs,
-    pub(crate) rows: Vec<Vec<Enabled>>,
-    pub(crate) buffers: Vec<Switch>,
-    pub(crate) phase: Phase,
+    pub(crate) tracing: Option<Tracing>,
     pub(crate) lines: u32,
+    pub(crate) seen: u64,
 }
 
 impl Consumer {
+    ghost use Rattle.std.specs.Prelude.{◌≡◌, ◌↔◌, List, [], ◌∷◌, Result, false, IsTrue, IfOk};
     ghost use Rattle.dt_cred.specs.declared.account.Account.{Account};
     ghost use Rattle.dt_consumer.specs.Life.{Item, fired, phase};
     ghost use Rattle.dt_machine.specs.Registry.{Registry};
@@ -42,19 +39,21 @@ impl Consumer {
         Ok(Consumer {
             account,
             programs: Programs::new(alloc)?,
-            rows: Vec::new(alloc),
-            buffers: Vec::new(alloc),
-            phase: Phase::Inactive,
+            tracing: None,
             lines: 0,
+            seen: 0,
         })
     }
 
-    /// How far the consumer has come: active from its first accepted `go` on.
+    /// How far the consumer has come: active from its accepted `go` on.
     pub fn phase(&self) -> Phase
         ensures { (account : Account) (registry : Registry) (life : List Item)
-            → StandsFor account registry self.now life → result ≡ phase life }
+            → StandsFor account registry self.now life → result ≡ phase account registry life }
     {
-        self.phase
+        match self.tracing {
+            Some(_) => Phase::Active,
+            None => Phase::Inactive,
+        }
     }
 
     /// Takes a firing, and answers whether the consumer saw it: it is active, the firing belongs to the machine, one of
@@ -70,32 +69,18 @@ impl Consumer {
         ensures unseen { result ≡ false → self.new ≡ self.old }
     {
         // before tracing begins nothing is seen
-        let Phase::Active = self.phase else {
-            return false;
-        };
-        // there is a row for each probe of the machine: without one the firing is foreign to it
-        let Some(row) = self.rows.get(firing.probe as usize) else {
+        let Some(tracing) = &mut self.tracing else {
             return false;
         };
         // most firings are of probes that this consumer never enabled: they leave here, before anything is looked up
-        if row.is_empty() {
+        if !tracing.names(firing.probe) {
             return false;
         }
-        if !is_shown(&self.account, machine, firing) {
+        let Some(moment) = shown(&self.account, machine, firing) else {
             return false;
-        }
-        // a firing that belongs to the machine names one of its processors, each of which has a buffer
-        let cpu = firing.cpu as usize;
-        if cpu >= self.buffers.len() {
-            return false;
-        }
-        take_at(
-            &mut self.buffers,
-            cpu,
-            self.programs.clauses(),
-            row,
-            &firing.args,
-        );
+        };
+        tracing.take(self.programs.clauses(), &moment);
+        self.seen = self.seen.saturating_add(1);
         true
     }
 
@@ -111,8 +96,12 @@ impl Consumer {
         match draft.into_change() {
             Change::Refuse => {}
             Change::Nothing => self.count(),
-            Change::Enable { clauses, ecbs } => self.enable(clauses, ecbs),
-            Change::Go { rows, buffers } => self.begin(rows, buffers),
+            Change::Enable {
+                clauses,
+                ecbs,
+                shapes,
+            } => self.enable(clauses, ecbs, shapes),
+            Change::Go { tracing } => self.begin(tracing),
             Change::Snap { cpu } => self.empty(cpu),
         }
     }
@@ -127,24 +116,24 @@ impl Consumer {
     }
 
     /// Enables further clauses.
-    fn enable(&mut self, clauses: Vec<Clause>, ecbs: Vec<Ecb>)
+    fn enable(&mut self, clauses: Vec<Clause>, ecbs: Vec<Ecb>, shapes: Shapes)
         ensures { (account : Account) (registry : Registry) (life : List Item) (line : Result Ask Refusal)
-            → StandsFor account registry self.old life → Drafted account registry life line (Change.Enable clauses ecbs)
+            → StandsFor account registry self.old life
+            → Drafted account registry life line (Change.Enable clauses ecbs shapes)
             → StandsFor account registry self.new (after_line life line) }
     {
-        self.programs.extend(clauses, ecbs);
+        ecbs_go_on();
+        self.programs.extend(clauses, ecbs, shapes);
         self.lines = self.lines.saturating_add(1);
     }
 
     /// Begins to trace.
-    fn begin(&mut self, rows: Vec<Vec<Enabled>>, buffers: Vec<Switch>)
+    fn begin(&mut self, tracing: Tracing)
         ensures { (account : Account) (registry : Registry) (life : List Item) (line : Result Ask Refusal)
-            → StandsFor account registry self.old life → Drafted account registry life line (Change.Go rows buffers)
+            → StandsFor account registry self.old life → Drafted account registry life line (Change.Go tracing)
             → StandsFor account registry self.new (after_line life line) }
     {
-        self.rows = rows;
-        self.buffers = buffers;
-        self.phase = Phase::Active;
+        self.tracing = Some(tracing);
         self.lines = self.lines.saturating_add(1);
     }
 
@@ -154,7 +143,9 @@ impl Consumer {
             → StandsFor account registry self.old life → Drafted account registry life line (Change.Snap cpu)
             → StandsFor account registry self.new (after_line life line) }
     {
-        clear_at(&mut self.buffers, cpu);
+        if let Some(tracing) = &mut self.tracing {
+            tracing.clear(cpu);
+        }
         self.lines = self.lines.saturating_add(1);
     }
 }

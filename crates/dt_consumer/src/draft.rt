@@ -1,10 +1,10 @@
 //! The draft of a line: its reply, and what it will change.
 ghost use Rattle.std.specs.Prelude.{◌≡◌, ◌↔◌, List, Result, IsTrue};
 
-use crate::buffer::Switch;
-use crate::ecb::{Ecb, Enabled};
 use crate::refusal::Refusal;
 use crate::reply::Reply;
+use crate::tracing::Tracing;
+use dt_ecb::{Ecb, Shapes};
 use dt_lang::Clause;
 
 /// What a line changes.
@@ -12,15 +12,15 @@ use dt_lang::Clause;
 pub(crate) enum Change {
     /// The line is counted, and that is all.
     Nothing,
-    /// These clauses and their ECBs are enabled too.
+    /// These clauses and their ECBs are enabled too, and these are all aggregations.
     Enable {
         clauses: Vec<Clause>,
         ecbs: Vec<Ecb>,
+        shapes: Shapes,
     },
     /// Tracing begins.
     Go {
-        rows: Vec<Vec<Enabled>>,
-        buffers: Vec<Switch>,
+        tracing: Tracing,
     },
     /// The buffer of a processor was read.
     Snap {
@@ -83,7 +83,7 @@ impl Draft {
     /// in another phase, is none.
     pub fn publishes(&self) -> bool
         ensures { (account : Account) (registry : Registry) (life : List Item) (line : Result Ask Refusal)
-            → IsDraftOf account registry life line self.now → (IsTrue result ↔ IsAcceptedGo life line) }
+            → IsDraftOf account registry life line self.now → (IsTrue result ↔ IsAcceptedGo account registry life line) }
     {
         matches!(&self.change, Change::Go { .. })
     }

@@ -8,14 +8,20 @@ ghost use Rattle.dt_consumer.specs.Life.{Item};
 ghost use Rattle.dt_consumer.specs.Reply.{Replies};
 ghost use Rattle.dt_consumer.specs.declared.refusal.Refusal.{Refusal};
 
-/// A line has at most one reply.
+use dt_ecb::{one_verdict, some_verdict};
+
+/// Law: a line has at most one reply.
 pub fn one_reply()
     ensures { (account : Account) (registry : Registry) (life : List Item) (line : Result Ask Refusal) (a b : Answer)
         → Replies account registry life line a → Replies account registry life line b → a ≡ b }
-{}
+{
+    one_verdict();
+}
 
-/// Each line has a reply.
+/// Law: each line has a reply.
 pub fn some_reply()
     ensures { (account : Account) (registry : Registry) (life : List Item) (line : Result Ask Refusal)
         → (answer : Answer) × Replies account registry life line answer }
-{}
+{
+    some_verdict();
+}

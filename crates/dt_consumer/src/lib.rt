@@ -6,31 +6,30 @@
 //! has one (`one_reply`, `some_reply`). `Draft::publishes` says whether tracing begins by the line.
 #![tactic(auto)]
 
-mod attempts;
+mod begin;
 mod buffer;
 mod command;
 mod consumer;
 mod draft;
 mod drafts;
-mod ecb;
 mod laws;
 mod limits;
-mod matches;
+mod moment;
 mod phase;
+mod placing;
+mod processor;
 mod programs;
-mod record;
 mod refusal;
 mod reply;
 mod rows;
-#[cfg(test)]
-mod tests;
+mod tracing;
 mod visibility;
 
 pub use command::Command;
 pub use consumer::Consumer;
 pub use draft::Draft;
 pub use laws::{one_reply, some_reply};
-pub use limits::{BUFFER_SIZE, ECBS_MAX, FIRINGS_MAX, LINES_MAX};
+pub use limits::{BUFFER_SIZE, FIRINGS_MAX, LINES_MAX};
 pub use phase::Phase;
 pub use refusal::Refusal;
 pub use reply::Reply;

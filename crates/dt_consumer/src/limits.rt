@@ -3,9 +3,6 @@
 /// The most lines of one session.
 pub const LINES_MAX: u32 = 1024;
 
-/// The most ECBs of one consumer.
-pub const ECBS_MAX: usize = 1024;
-
 /// How many bytes each processor's principal buffer has.
 pub const BUFFER_SIZE: usize = 65_536;
 
@@ -13,13 +10,10 @@ pub const BUFFER_SIZE: usize = 65_536;
 /// processors.
 pub const FIRINGS_MAX: u32 = 4_194_304;
 
-/// The end of a buffer's count of dropped records, of which only definitions speak: a life of at most [`FIRINGS_MAX`]
-/// firings doesn't come near it.
+/// The end of a count of dropped records, of errors or of seen firings, of which only definitions speak: a life of at most
+/// [`FIRINGS_MAX`] firings doesn't come near it.
 #[expect(dead_code)]
-pub(crate) const DROPS_MAX: u64 = u64::MAX;
+pub(crate) const COUNT_MAX: u64 = u64::MAX;
 
-/// The most clauses of one program.
-pub(crate) const CLAUSES_MAX: usize = 64;
-
-/// The most bytes of a record: the EPID in four, and eight statements of at most 64 each.
-pub(crate) const RECORD_MAX: usize = 516;
+/// The identifier of the probe that fires as tracing begins.
+pub(crate) const BEGIN: u32 = 1;

@@ -1,31 +1,37 @@
 //! What a consumer's accepted programs come to.
-ghost use Rattle.std.specs.Prelude.{◌≡◌, ◌+◌, ◌≤◌, ◌++◌, [], length, IfOk, vec_len, vec_capacity};
-ghost use Rattle.dt_consumer.specs.declared.limits.TheConstants.{ECBS_MAX};
+ghost use Rattle.std.specs.Prelude.{◌≡◌, ◌+◌, ◌≤◌, ◌++◌, [], length, ◌==◌, find, IfOk, vec_len, vec_capacity};
+ghost use Rattle.std.specs.Option.{option_copied};
+ghost use Rattle.dt_ecb.specs.Forms.{shapes_of};
+ghost use Rattle.dt_ecb.specs.declared.limits.TheConstants.{ECBS_MAX};
 
-use crate::ecb::Ecb;
-use crate::limits::ECBS_MAX;
+use dt_ecb::{ECBS_MAX, Ecb, Shapes};
 use dt_lang::Clause;
 use std::alloc::{AllocError, Global};
 
-/// The clauses of the accepted programs, and their ECBs, with the room for as many as one consumer may have.
+/// The clauses of the accepted programs, their ECBs, with the room for as many as one consumer may have, and the
+/// aggregations that they use. An ECB has the place of its clause among all of them.
 #[derive(Drop)]
 pub(crate) struct Programs {
     pub(crate) clauses: Vec<Clause>,
     pub(crate) ecbs: Vec<Ecb>,
+    pub(crate) shapes: Shapes,
     ghost room_for_clauses: { ECBS_MAX ≤ vec_capacity clauses },
     ghost room_for_ecbs: { ECBS_MAX ≤ vec_capacity ecbs },
-    ghost few_clauses: { vec_len clauses ≤ ECBS_MAX },
+    ghost few_clauses: { vec_len clauses ≤ vec_len ecbs },
     ghost few_ecbs: { vec_len ecbs ≤ ECBS_MAX },
 }
 
 impl Programs {
     /// None yet, and all the room.
     pub(crate) fn new(alloc: Global) -> Result<Self, AllocError>
-        ensures { IfOk result (λ programs. (programs.clauses.items ≡ []) × (programs.ecbs.items ≡ [])) }
+        ensures clauses { IfOk result (λ programs. programs.clauses.items ≡ []) }
+        ensures ecbs { IfOk result (λ programs. programs.ecbs.items ≡ []) }
+        ensures shapes { IfOk result (λ programs. shapes_of programs.shapes ≡ []) }
     {
         Ok(Programs {
             clauses: Vec::with_capacity(alloc, ECBS_MAX)?,
             ecbs: Vec::with_capacity(alloc, ECBS_MAX)?,
+            shapes: Shapes::new(alloc),
         })
     }
 
@@ -45,20 +51,28 @@ impl Programs {
         &self.ecbs
     }
 
-    /// Adds clauses and their ECBs, if there is room for both. It takes no memory.
-    pub(crate) fn extend(&mut self, mut clauses: Vec<Clause>, mut ecbs: Vec<Ecb>)
-        ensures clauses { vec_len self.old.clauses + vec_len clauses ≤ ECBS_MAX
-            → vec_len self.old.ecbs + vec_len ecbs ≤ ECBS_MAX
-            → self.new.clauses.items ≡ self.old.clauses.items ++ clauses.items }
-        ensures ecbs { vec_len self.old.clauses + vec_len clauses ≤ ECBS_MAX
-            → vec_len self.old.ecbs + vec_len ecbs ≤ ECBS_MAX
-            → self.new.ecbs.items ≡ self.old.ecbs.items ++ ecbs.items }
+    /// The ECB of a number, if there is one.
+    pub(crate) fn ecb(&self, epid: u64) -> Option<&Ecb>
+        ensures { option_copied result ≡ find (λ ecb. ecb.epid == epid) self.now.ecbs.items }
     {
-        let fits = clauses.len() <= ECBS_MAX - self.clauses.len()
-            && ecbs.len() <= ECBS_MAX - self.ecbs.len();
+        self.ecbs.iter().find(|ecb| u64::from(ecb.epid) == epid)
+    }
+
+    /// Adds clauses, of which each has an ECB at least, and their ECBs, if there is room, and replaces the aggregations. It
+    /// takes no memory.
+    pub(crate) fn extend(&mut self, mut clauses: Vec<Clause>, mut ecbs: Vec<Ecb>, shapes: Shapes)
+        ensures clauses { vec_len clauses ≤ vec_len ecbs → vec_len self.old.ecbs + vec_len ecbs ≤ ECBS_MAX
+            → self.new.clauses.items ≡ self.old.clauses.items ++ clauses.items }
+        ensures ecbs { vec_len clauses ≤ vec_len ecbs → vec_len self.old.ecbs + vec_len ecbs ≤ ECBS_MAX
+            → self.new.ecbs.items ≡ self.old.ecbs.items ++ ecbs.items }
+        ensures shapes { vec_len clauses ≤ vec_len ecbs → vec_len self.old.ecbs + vec_len ecbs ≤ ECBS_MAX
+            → self.new.shapes ≡ shapes }
+    {
+        let fits = clauses.len() <= ecbs.len() && ecbs.len() <= ECBS_MAX - self.ecbs.len();
         if fits {
             self.clauses.append(&mut clauses).unwrap();
             self.ecbs.append(&mut ecbs).unwrap();
+            self.shapes = shapes;
         }
     }
 }

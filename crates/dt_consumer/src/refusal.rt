@@ -2,10 +2,13 @@
 ghost use Rattle.std.specs.Prelude.{◌≡◌};
 ghost use Rattle.dt_consumer.specs.Refusal.{refusal_number, refusal_name};
 
-use dt_lang::Why;
+use dt_ecb::RestrictedAction;
+use dt_lang::{Destructive, Why};
+use dt_names::ShortText;
+use std::fmt;
 
 /// Why a line was refused, each with its number on the wire.
-#[derive(Clone, Copy, Debug, PartialEq, Eq)]
+#[derive(Clone, Copy, PartialEq, Eq)]
 pub enum Refusal {
     /// 1: the line is no JSON.
     Json,
@@ -17,16 +20,30 @@ pub enum Refusal {
     Program { at: usize, why: Why },
     /// 5: a clause matches no probe that the account may enable; clauses count from 1.
     NoMatch { clause: u32 },
+    /// 6: a clause wants a right that the account lacks; clauses count from 1.
+    Privilege { clause: u32, what: RestrictedAction },
+    /// 7: a statement is a destructive action.
+    Destructive { at: usize, what: Destructive },
+    /// 8: an aggregation is used in two ways.
+    AggClash { what: ShortText },
     /// 9: a limit would be passed.
     Limit,
     /// 10: not in this phase.
     Busy,
     /// 12: the machine has no such processor.
     NoCpu,
+    /// 14: there is no ECB of this number.
+    NoEpid,
     /// 15: the session has asked its 1,024 lines.
     Quota,
     /// 16: memory ran out; the line may be asked again.
     Memory,
+}
+
+impl fmt::Debug for Refusal {
+    fn fmt<W: fmt::Write>(&self, f: &mut fmt::Formatter<W>) -> fmt::Result {
+        f.write_str(self.name())
+    }
 }
 
 impl Refusal {
@@ -40,9 +57,13 @@ impl Refusal {
             Refusal::LineLong => 3,
             Refusal::Program { .. } => 4,
             Refusal::NoMatch { .. } => 5,
+            Refusal::Privilege { .. } => 6,
+            Refusal::Destructive { .. } => 7,
+            Refusal::AggClash { .. } => 8,
             Refusal::Limit => 9,
             Refusal::Busy => 10,
             Refusal::NoCpu => 12,
+            Refusal::NoEpid => 14,
             Refusal::Quota => 15,
             Refusal::Memory => 16,
         }
@@ -58,9 +79,13 @@ impl Refusal {
             Refusal::LineLong => "LineLong",
             Refusal::Program { .. } => "Program",
             Refusal::NoMatch { .. } => "NoMatch",
+            Refusal::Privilege { .. } => "Privilege",
+            Refusal::Destructive { .. } => "Destructive",
+            Refusal::AggClash { .. } => "AggClash",
             Refusal::Limit => "Limit",
             Refusal::Busy => "Busy",
             Refusal::NoCpu => "NoCpu",
+            Refusal::NoEpid => "NoEpid",
             Refusal::Quota => "Quota",
             Refusal::Memory => "Memory",
         }

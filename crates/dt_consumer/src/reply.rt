@@ -1,9 +1,11 @@
 //! What a line is answered.
+use crate::phase::Phase;
 use crate::refusal::Refusal;
 use dt_cred::Probe;
+use dt_record::Layout;
 
 /// What a consumer is answered to one line.
-#[derive(Debug, Drop)]
+#[derive(Drop)]
 pub enum Reply {
     /// It is done, and there is nothing to tell.
     Done,
@@ -19,9 +21,22 @@ pub enum Reply {
         drops: u64,
         filled: bool,
     },
+    /// How far the consumer has come, how many firings it saw, and for each processor how many clauses a division by zero
+    /// ended there.
+    Status {
+        phase: Phase,
+        seen: u64,
+        errors: Vec<u64>,
+    },
     /// The probes that a description asks for and the account may enable, by rising identifier.
     Listed {
         probes: Vec<Probe>,
+    },
+    /// An ECB's probe, and of what its records are made.
+    Described {
+        epid: u32,
+        probe: Probe,
+        layout: Layout,
     },
     /// The line was refused.
     Refused(Refusal),

@@ -23,6 +23,13 @@ pub enum Value {
     Text([u8; PADDED_SIZE]),
 }
 
+impl Default for Value {
+    /// The number 0.
+    fn default() -> Self {
+        Value::Number(0)
+    }
+}
+
 impl Text {
     ghost use Rattle.dt_expr.specs.declared.text.Value.TheVariants.{Text as TextValue};
     ghost use Rattle.dt_expr.specs.Scene.{text_bytes};

@@ -1,42 +1,13 @@
 -- The bytes and the fields of a description.
-use Rattle.std.proofs.Common.{◌≡◌, ◌≢◌, ℕ, zero, suc, ◌-◌, ◌≤◌, List, [], ◌∷◌, ◌++◌, length, get_or, replicate, Option, Some, None, IfSome, IfNone, refl, sym, ap, ◌∙◌, subst, ⊎_elim, arith}
-use Rattle.std.specs.List.{AllByRecursion, onto_first}
-use Rattle.std.proofs.lemmas.Bool.{eq-eqb, ne_eqb, cases_eq}
-use Rattle.std.proofs.lemmas.List.Elements.{All-from_recursion}
-use Rattle.std.proofs.lemmas.List.Splits.{slice_split-cons_no, slice_split-cons_yes}
-use Rattle.dt_names.specs.Name.{IsNameByte}
-use Rattle.dt_names.specs.Desc.{Desc, Describes, IsField, fields, is_colon}
+use Rattle.std.proofs.Common.{◌≡◌, ℕ, ◌⊎◌, inl, inr, zero, suc, ◌-◌, ◌≤◌, List, [], ◌∷◌, ◌++◌, length, get_or, replicate, Option, Some, None, refl, sym, ap, ◌∙◌, subst, ⊎_elim, arith}
+use Rattle.std.specs.List.{AllByRecursion}
+use Rattle.dt_names.specs.Desc.{Desc, Describes, IsField, fields}
 use Rattle.dt_glob.specs.declared.pattern.TheConstants.{PATTERN_MAX}
+use Rattle.dt_glob.specs.Fault.{FaultOf}
+use Rattle.dt_glob.specs.declared.fault.GlobFault.{GlobFault}
 use Rattle.dt_glob.specs.PatternItem.{PatternItem}
 use Rattle.dt_glob.specs.Spells.{Spells}
 use Rattle.dt_lang.specs.Description.{DescForm, DescribesPatterns, ReadsDescription}
-use Rattle.dt_lang.specs.Parse.{HasNoBrace}
-
--- each part has name bytes only
-abbrev AllPlain : List (List ℕ) → Type 0
-AllPlain parts = AllByRecursion (λ part. AllByRecursion IsNameByte part) parts
-
-plain_fields : (parts : List (List ℕ)) → AllByRecursion IsField parts → AllPlain parts
-plain_fields [] h = tt
-plain_fields (part ∷ parts) h = (h.0.plain, plain_fields parts h.1)
-
-onto_back : (x : ℕ) (parts : List (List ℕ)) → AllPlain (onto_first x parts) → IsNameByte x × AllPlain parts
-onto_back x [] h = (h.0.0, tt)
-onto_back x (part ∷ parts) h = (h.0.0, (h.0.1, h.1))
-
-bytes_of_plain : (text : List ℕ) → AllPlain (fields text) → AllByRecursion (λ byte. byte ≢ 123) text
-bytes_of_plain [] h = tt
-bytes_of_plain (x ∷ xs) h =
-    ⊎_elim
-    (λ e. let at = subst AllPlain (slice_split-cons_yes is_colon x xs (eq-eqb x 58 e)) h in
-    (λ brace. omega arith, bytes_of_plain xs at.1))
-    (λ ne. let at = onto_back x (fields xs) (subst AllPlain (slice_split-cons_no is_colon x xs (ne_eqb x 58 ne)) h) in
-    (at.0.no_open_brace, bytes_of_plain xs at.1))
-    (cases_eq x 58)
-
-pub no_brace-description : (text : List ℕ) (desc : Desc) → Describes text desc → HasNoBrace text
-no_brace-description text desc d =
-    All-from_recursion (λ byte. byte ≢ 123) text (bytes_of_plain text (plain_fields (fields text) d.each))
 
 -- each part is short enough for a pattern
 abbrev pub AllShort : List (List ℕ) → Type 0
@@ -105,9 +76,34 @@ module _ (one_pattern : (text : List ℕ) (a b : List PatternItem) → Spells te
   same_reading_of_description text (Some a) None h k = absurd (k a h)
   same_reading_of_description text (Some a) (Some b) h k = ap Some (same_form text a b h k)
 
-pub some_reading_of_description : {A : Type 0} (text : List ℕ) (form : A → DescForm) (found : Option A)
-    → IfSome found (λ d. DescribesPatterns text (form d))
-    → IfNone found ((d : DescForm) → DescribesPatterns text d → ⊥)
-    → (reading : Option DescForm) × ReadsDescription text reading
-some_reading_of_description text form (Some d) h none = (Some (form d), h)
-some_reading_of_description text form None h none = (None, none)
+-- the items of a field, or that it has none
+abbrev Items : List ℕ → Type 0
+Items field = ((items : List PatternItem) × Spells field items) ⊎ ((items : List PatternItem) → Spells field items → ⊥)
+
+some_form : (text : List ℕ) (desc : Desc) → Describes text desc → Items desc.provider → Items desc.module
+    → Items desc.function → Items desc.name → (reading : Option DescForm) × ReadsDescription text reading
+some_form text desc d (inl p) (inl m) (inl f) (inl n) = (
+  Some (record { provider = p.0; «module» = m.0; function = f.0; name = n.0 }),
+  record { desc = desc; described = d; provider = p.1; «module» = m.1; function = f.1; name = n.1 },
+)
+some_form text desc d (inl p) (inl m) (inl f) (inr none) =
+    (None, λ form k. none form.name (name_of text desc d form k))
+some_form text desc d (inl p) (inl m) (inr none) n =
+    (None, λ form k. none form.function (function_of text desc d form k))
+some_form text desc d (inl p) (inr none) f n =
+    (None, λ form k. none form.module (module_of text desc d form k))
+some_form text desc d (inr none) m f n = (None, λ form k. none form.provider (provider_of text desc d form k))
+
+module _ (some : (text : List ℕ) → ((items : List PatternItem) × Spells text items)
+    ⊎ ((fault : GlobFault) × FaultOf text fault))
+    (never_both : (text : List ℕ) (items : List PatternItem) (fault : GlobFault) → Spells text items
+    → FaultOf text fault → ⊥) where
+  some_items : (field : List ℕ) → Items field
+  some_items field =
+      ⊎_elim (λ p. inl p) (λ f. inr (λ items h. never_both field items f.0 h f.1)) (some field)
+
+  pub some_described : (text : List ℕ) (desc : Desc) → Describes text desc
+      → (reading : Option DescForm) × ReadsDescription text reading
+  some_described text desc d =
+      some_form text desc d (some_items desc.provider) (some_items desc.module) (some_items desc.function)
+      (some_items desc.name)

@@ -1,9 +1,22 @@
--- How a fault is written.
+-- How a cause is written, and a refusal as a fault.
 use Rattle.std.specs.Prelude.{ℕ, List, codes}
+use Rattle.dt_lang.specs.declared.fault.LangFault.{LangFault}
+use Rattle.dt_lang.specs.declared.fault.LangFault.TheVariants as fault
+use Rattle.dt_lang.specs.declared.fault.Refusal.{Refusal}
+use Rattle.dt_lang.specs.declared.fault.Refusal.TheVariants as refusal
 use Rattle.dt_lang.specs.declared.fault.Why.{Why}
-use Rattle.dt_lang.specs.declared.fault.Why.TheVariants.{Syntax, Probe}
+use Rattle.dt_lang.specs.declared.fault.Why.TheVariants.{Syntax, Probe, Action, Variable, TooLong, Range}
 
 -- the word for a cause
 abbrev pub word_of : Why → List ℕ
 word_of Syntax = codes "Syntax"
 word_of Probe = codes "Probe"
+word_of Action = codes "Action"
+word_of Variable = codes "Variable"
+word_of TooLong = codes "TooLong"
+word_of Range = codes "Range"
+
+-- the fault of a token at this offset that is refused so
+abbrev pub fault_at : ℕ → Refusal → LangFault
+fault_at at (refusal.Why why) = fault.Program at why
+fault_at at (refusal.Destructive what) = fault.Destructive at what

@@ -1,6 +1,26 @@
--- Programs and descriptions of patterns: what texts are read as.
-pub mod Argument
-pub mod Description
+-- Tokens, programs, the grammar between them, and for what tokens are refused.
+pub mod Blanks
+pub mod Bounds
+pub mod Class
+pub mod Expression
+pub mod ExpressionState
+pub mod Grammar
+pub mod Stand
 pub mod Fault
+pub mod Refused
+pub mod Reads
+pub mod ClauseState
+pub mod Cause
+pub mod Fits
+pub mod Early
+pub mod ExpressionView
+pub mod Lexeme
+pub mod Mode
+pub mod Number
+pub mod Piece
+pub mod ReaderView
+pub mod PlaceView
 pub mod Program
-pub mod Parse
+pub mod Spelling
+pub mod Word
+pub mod Description

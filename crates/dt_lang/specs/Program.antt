@@ -1,59 +1,64 @@
--- What a program is, without where it lies in memory, and which texts are programs.
-use Rattle.std.specs.Prelude.{◌≡◌, ◌≢◌, ◌⊎◌, ℕ, ◌+◌, ◌<◌, List, [], ◌∷◌, ◌++◌, map, codes}
-use Rattle.dt_lang.specs.Description.{DescForm, DescribesPatterns, form_of_description}
-use Rattle.dt_lang.specs.Argument.{argument_number}
-use Rattle.dt_lang.specs.declared.fault.Why.{Why}
-use Rattle.dt_lang.specs.declared.fault.Why.TheVariants.{Syntax}
-use Rattle.dt_lang.specs.declared.program.TheConstants.{ARGUMENTS}
+-- What a program is, without where it lies in memory.
+use Rattle.std.specs.Prelude.{ℕ, List, map, Option, ℤ}
+use Rattle.std.specs.Option.{option_map}
+use Rattle.dt_expr.specs.Form.{Form, form_of}
+use Rattle.dt_expr.specs.declared.text.Text.{Text}
+use Rattle.dt_lang.specs.Description.{DescForm, form_of_description}
+use Rattle.dt_lang.specs.declared.program.Argument.{Argument}
+use Rattle.dt_lang.specs.declared.program.Argument.TheVariants as argument
+use Rattle.dt_lang.specs.declared.program.Call.{Call}
+use Rattle.dt_lang.specs.declared.program.Call.TheVariants as call
 use Rattle.dt_lang.specs.declared.program.Clause.{Clause}
-use Rattle.dt_lang.specs.declared.program.Expr.TheVariants.{Arg}
 use Rattle.dt_lang.specs.declared.program.Program.{Program}
 use Rattle.dt_lang.specs.declared.program.Statement.{Statement}
-use Rattle.dt_lang.specs.declared.program.Statement.TheVariants.{Trace}
+use Rattle.dt_lang.specs.declared.program.Statement.TheVariants as statement
 
--- a clause: what its descriptions ask for, and its statements
+pub data ArgForm : Type 0 where
+  number : Form → ArgForm
+  text : Text → ArgForm
+
+pub data CallForm : Type 0 where
+  count : CallForm
+  sum avg min max quantize : Form → CallForm
+  lquantize : Form → (lower upper step : ℤ) → CallForm
+
+pub data StatementForm : Type 0 where
+  trace : ArgForm → StatementForm
+  stack ustack : (frames : ℕ) → StatementForm
+  exit : Form → StatementForm
+  aggregate : (name : List ℕ) (keys : List ArgForm) → CallForm → StatementForm
+
 pub record ClauseForm : Type 0 where
   pub descriptions : List DescForm
-  pub statements : List Statement
+  pub predicate : Option Form
+  pub statements : List StatementForm
+
+abbrev pub form_of_argument : Argument → ArgForm
+form_of_argument (argument.Number e) = number (form_of e)
+form_of_argument (argument.Text t) = text t
+
+abbrev pub form_of_call : Call → CallForm
+form_of_call call.Count = count
+form_of_call (call.Sum e) = sum (form_of e)
+form_of_call (call.Avg e) = avg (form_of e)
+form_of_call (call.Min e) = min (form_of e)
+form_of_call (call.Max e) = max (form_of e)
+form_of_call (call.Quantize e) = quantize (form_of e)
+form_of_call (call.Lquantize e b) = lquantize (form_of e) b.lower b.upper b.step
+
+abbrev pub form_of_statement : Statement → StatementForm
+form_of_statement (statement.Trace a) = trace (form_of_argument a)
+form_of_statement (statement.Stack f) = stack f.count
+form_of_statement (statement.Ustack f) = ustack f.count
+form_of_statement (statement.Exit e) = exit (form_of e)
+form_of_statement (statement.Aggregate a) = aggregate a.name (map form_of_argument a.keys.items) (form_of_call a.call)
 
 abbrev pub form_of_clause : Clause → ClauseForm
-form_of_clause c =
-    record { descriptions = map form_of_description c.descriptions.items; statements = c.statements.items }
+form_of_clause c = record {
+  descriptions = map form_of_description c.descriptions.items;
+  predicate = option_map form_of c.predicate;
+  statements = map form_of_statement c.statements.items;
+}
 
-abbrev pub form_of : Program → List ClauseForm
-form_of p = map form_of_clause p.clauses.items
-
--- how a text is read: as a program's clauses, or as none, with the place at which that shows and the cause
-pub data Reading : Type 0 where
-  program : List ClauseForm → Reading
-  fault : (at : ℕ) → Why → Reading
-
--- the one statement that traces an argument
-abbrev pub IsTraceOf : ℕ → List Statement → Type 0
-IsTraceOf n [] = ⊥
-IsTraceOf n (Trace (Arg argument) ∷ []) = argument_number argument ≡ n
-IsTraceOf n (statement ∷ other ∷ statements) = ⊥
-
--- the text of a clause's braces, and the statements in them
-abbrev pub SpellsBody : List ℕ → List Statement → Type 0
-SpellsBody text statements =
-    ((text ≡ codes "{}") × (statements ≡ []))
-    ⊎ ((n : ℕ) × (n < ARGUMENTS) × (text ≡ codes "{trace(arg" ++ ((48 + n) ∷ codes ")}")) × IsTraceOf n statements)
-
--- The text is one clause: a description, which has a byte at least, and its braces.
-pub record SpellsClause (text : List ℕ) (clause : ClauseForm) : Type 0 where
-  pub head : List ℕ
-  pub body : List ℕ
-  pub form : DescForm
-  pub spelled : text ≡ head ++ body
-  pub some : head ≢ []
-  pub described : DescribesPatterns head form
-  pub descriptions : clause.descriptions ≡ form ∷ []
-  pub statements : SpellsBody body clause.statements
-
--- A text is read as the one clause that it spells; any other is refused at its first byte.
-abbrev pub Reads : List ℕ → Reading → Type 0
-Reads text (program []) = ⊥
-Reads text (program (clause ∷ [])) = SpellsClause text clause
-Reads text (program (clause ∷ other ∷ clauses)) = ⊥
-Reads text (fault at why) = (at ≡ 0) × (why ≡ Syntax) × ((clause : ClauseForm) → SpellsClause text clause → ⊥)
+abbrev pub form_of_program : Program → List ClauseForm
+form_of_program p = map form_of_clause p.clauses.items

@@ -62,9 +62,7 @@ pub fn one_description()
     dt_glob::one_answer();
 }
 
-/// Law, for a text at hand: it is read as a description or as none. It takes no memory.
-pub fn has_description(text: &[u8])
-    ensures { (reading : Option DescForm) × ReadsDescription text.now reading }
-{
-    let _description = Description::parse(text);
-}
+/// Law: each text is read as a description or as none.
+pub fn some_description()
+    ensures { (text : List ℕ) → (reading : Option DescForm) × ReadsDescription text reading }
+{}

@@ -1,8 +1,9 @@
 //! Why a text is not read as a program.
 ghost use Rattle.std.specs.Prelude.{◌≡◌};
-ghost use Rattle.dt_lang.specs.Fault.{word_of};
+ghost use Rattle.dt_lang.specs.Fault.{fault_at, word_of};
 ghost use Rattle.dt_lang.specs.declared.fault.LangFault.TheVariants.{Memory};
 
+use crate::word::Destructive;
 use std::alloc::{AllocError, AllocFailed};
 use std::fmt;
 use thiserror::Error;
@@ -14,6 +15,14 @@ pub enum Why {
     Syntax,
     /// The text is no description of probes.
     Probe,
+    /// The word is no action, or no aggregating function.
+    Action,
+    /// The word is no variable.
+    Variable,
+    /// There is one more of a thing than there may be, or a text or a name has too many bytes.
+    TooLong,
+    /// The bounds make no levels, or too many.
+    Range,
 }
 
 impl Why {
@@ -24,6 +33,10 @@ impl Why {
         match self {
             Why::Syntax => "Syntax",
             Why::Probe => "Probe",
+            Why::Action => "Action",
+            Why::Variable => "Variable",
+            Why::TooLong => "TooLong",
+            Why::Range => "Range",
         }
     }
 }
@@ -45,9 +58,33 @@ pub enum LangFault {
     /// The text is no program: the offset of the byte at which that shows, and the cause.
     #[error("{why} at {at}")]
     Program { at: usize, why: Why },
+    /// A statement is a destructive action: the offset of its name, and which.
+    #[error("destructive action {what} at {at}")]
+    Destructive { at: usize, what: Destructive },
     /// Memory ran out.
     #[error("out of memory")]
     Memory,
+}
+
+/// Why a token is refused.
+#[derive(Clone, Copy)]
+pub(crate) enum Refusal {
+    /// For this cause.
+    Why(Why),
+    /// It is this destructive action's name.
+    Destructive(Destructive),
+}
+
+impl Refusal {
+    /// The fault of a token at this offset.
+    pub(crate) fn fault(self, at: usize) -> LangFault
+        ensures { result ≡ fault_at at self }
+    {
+        match self {
+            Refusal::Why(why) => LangFault::Program { at, why },
+            Refusal::Destructive(what) => LangFault::Destructive { at, what },
+        }
+    }
 }
 
 impl From<AllocError> for LangFault {

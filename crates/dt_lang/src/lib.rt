@@ -1,16 +1,37 @@
-//! The clause language: a text is read as a program, or refused with the place and the cause.
+//! The clause language: a text is read as a program, or refused at the first token for which a cause holds.
 //!
-//! Of the language stands today: one clause, without blanks and comments, of one description, whose fields are patterns,
-//! and `{}` or `{trace(argN)}`. The definition stands in `specs/Program.antt`: how a text is read (`Reads`). A text
-//! has one reading (`one_reading`, `has_reading`), and `Program::parse` gives it.
+//! The definition stands in `specs/Reads.antt`: how a text is read (`Reads`), by its tokens (`specs/Lexeme.antt`), the
+//! grammar (`specs/Grammar.antt`, `specs/Expression.antt`) and the causes (`specs/Refused.antt`). Each text has one reading
+//! (`some_reading`, `one_reading`), and `Program::parse` gives it.
 #![tactic(auto)]
 
+mod blanks;
+mod class;
 mod description;
+mod early;
+mod expression;
+mod expression_laws;
 mod fault;
+mod frames;
+mod lexer;
+mod mode;
+mod number;
 mod parse;
+mod piece;
+mod place;
 mod program;
+mod reader;
+mod sign;
+mod token;
+mod word;
 
-pub use description::{Description, has_description, one_description};
+pub use description::{Description, one_description, some_description};
+pub use expression_laws::{one_argument, one_expression};
 pub use fault::{LangFault, Why};
-pub use parse::{has_reading, one_reading};
-pub use program::{ARGUMENTS, Argument, Clause, Expr, Program, STATEMENTS_MAX, Statement};
+pub use parse::{one_reading, some_reading};
+pub use program::{
+    Aggregation, Argument, Bounds, CLAUSES_MAX, Call, Clause, DESCRIPTIONS_MAX, FRAMES_MAX, Frames,
+    KEYS_MAX, LEVELS_MAX, Program, STATEMENTS_MAX, Statement, TOKENS_MAX,
+};
+pub use token::{Sign, Token};
+pub use word::{Action, Destructive, Function, Word, one_word};

@@ -1,88 +1,150 @@
-//! What a program is: clauses with their descriptions and statements.
-ghost use Rattle.std.specs.Prelude.{◌≡◌, ◌<◌, ◌≤◌, ◌↔◌, IsSome, IfSome, vec_len};
-ghost use Rattle.dt_lang.specs.declared.program.TheConstants.{STATEMENTS_MAX};
+//! What a program is: clauses with their descriptions, predicate and statements.
+ghost use Rattle.std.specs.Prelude.{◌≡◌, ◌≤◌, ℕ, IfNone, IfSome, pos, vec_len};
+ghost use Rattle.dt_lang.specs.Bounds.{AreBounds};
+ghost use Rattle.dt_lang.specs.declared.program.TheConstants.{CLAUSES_MAX, DESCRIPTIONS_MAX, STATEMENTS_MAX, KEYS_MAX, FRAMES_MAX};
 
 use crate::description::Description;
+use dt_expr::{Expr, Text};
+use dt_names::ShortText;
 
-/// The arguments that a firing has.
-pub const ARGUMENTS: usize = 10;
+/// The most clauses of a program.
+pub const CLAUSES_MAX: usize = 64;
+
+/// The most descriptions of a clause.
+pub const DESCRIPTIONS_MAX: usize = 16;
 
 /// The most statements of a clause.
 pub const STATEMENTS_MAX: usize = 8;
 
-/// An argument of the firing.
-#[derive(Clone, Copy, Debug, PartialEq, Eq)]
+/// The most keys of an aggregation.
+pub const KEYS_MAX: usize = 4;
+
+/// The most tokens of a predicate, an argument, a key or a value.
+pub const TOKENS_MAX: usize = 64;
+
+/// The most frames of a stack.
+pub const FRAMES_MAX: u8 = 8;
+
+/// The most levels of an `lquantize`.
+pub const LEVELS_MAX: u64 = 512;
+
+/// What a record or a key is given: a number or a text.
+#[derive(Drop)]
 pub enum Argument {
-    Arg0,
-    Arg1,
-    Arg2,
-    Arg3,
-    Arg4,
-    Arg5,
-    Arg6,
-    Arg7,
-    Arg8,
-    Arg9,
+    Number(Expr),
+    Text(Text),
 }
 
-impl Argument {
-    ghost use Rattle.dt_lang.specs.Argument.{argument_number};
-
-    /// The argument of this number, or `None` past 9.
-    pub fn new(number: u8) -> Option<Self>
-        ensures valid { IsSome result ↔ (number < ARGUMENTS) }
-        ensures value { IfSome result (λ argument. argument_number argument ≡ number) }
-    {
-        match number {
-            0 => Some(Argument::Arg0),
-            1 => Some(Argument::Arg1),
-            2 => Some(Argument::Arg2),
-            3 => Some(Argument::Arg3),
-            4 => Some(Argument::Arg4),
-            5 => Some(Argument::Arg5),
-            6 => Some(Argument::Arg6),
-            7 => Some(Argument::Arg7),
-            8 => Some(Argument::Arg8),
-            9 => Some(Argument::Arg9),
-            _ => None,
-        }
-    }
-
-    /// Its place among the arguments, from 0 to 9.
-    pub fn place(self) -> usize
-        ensures value { result ≡ argument_number self }
-        ensures in_range { result < ARGUMENTS }
-    {
-        self as usize
-    }
-}
-
-/// An expression.
+/// How many frames of a stack are recorded: 1 to [`FRAMES_MAX`].
 #[derive(Clone, Copy, Debug, PartialEq, Eq)]
-pub enum Expr {
-    /// `arg0` to `arg9`
-    Arg(Argument),
+pub struct Frames {
+    pub count: u8,
+    pub ghost some: { 1 ≤ count },
+    pub ghost few: { count ≤ FRAMES_MAX },
+}
+
+/// The levels of an `lquantize`: from `lower` to below `upper`, each `step` wide. There is one at least, and at most
+/// [`LEVELS_MAX`], and the last one ends at `upper`. (illumos Dynamic Tracing Guide, "Aggregations".)
+#[derive(Clone, Copy, Debug, PartialEq, Eq)]
+pub struct Bounds {
+    pub lower: i64,
+    pub upper: i64,
+    pub step: i64,
+    pub ghost right: { AreBounds lower upper step },
+}
+
+impl Bounds {
+    /// The levels with these bounds, where there are some and not too many.
+    pub fn new(lower: i64, upper: i64, step: i64) -> Option<Self>
+        ensures found { IfSome result (λ bounds. (bounds.lower ≡ lower) × (bounds.upper ≡ upper)
+            × (bounds.step ≡ step)) }
+        ensures none { IfNone result (AreBounds lower upper step → ⊥) }
+    {
+        if lower >= upper || step <= 0 {
+            return None;
+        }
+        let width = i128::from(upper) - i128::from(lower);
+        let each = i128::from(step);
+        if width % each != 0 {
+            return None;
+        }
+        if width / each > i128::from(LEVELS_MAX) {
+            return None;
+        }
+        Some(Bounds { lower, upper, step })
+    }
+}
+
+impl Frames {
+    /// So many frames, where a stack may have so many.
+    pub fn new(count: i64) -> Option<Self>
+        ensures found { IfSome result (λ frames. count ≡ pos frames.count) }
+        ensures none { IfNone result ((n : ℕ) → count ≡ pos n → 1 ≤ n → n ≤ FRAMES_MAX → ⊥) }
+    {
+        let count = u8::try_from(count).ok()?;
+        if count == 0 || count > FRAMES_MAX {
+            return None;
+        }
+        Some(Frames { count })
+    }
+}
+
+/// What an aggregation is given, and by which function it is kept.
+#[derive(Drop)]
+pub enum Call {
+    Count,
+    Sum(Expr),
+    Avg(Expr),
+    Min(Expr),
+    Max(Expr),
+    Quantize(Expr),
+    Lquantize(Expr, Bounds),
+}
+
+/// `@name[keys] = function(value)`. (illumos Dynamic Tracing Guide, "Aggregations".)
+#[derive(Drop)]
+pub struct Aggregation {
+    pub name: ShortText,
+    /// At most [`KEYS_MAX`].
+    pub keys: Vec<Argument>,
+    pub call: Call,
+    pub ghost few: { vec_len keys ≤ KEYS_MAX },
 }
 
 /// What a clause does when it is taken.
-#[derive(Clone, Copy, Debug, PartialEq, Eq)]
+#[derive(Drop)]
 pub enum Statement {
-    /// `trace(e)`: the record gets the value of the expression.
-    Trace(Expr),
+    /// `trace(e)`: the record gets the value.
+    Trace(Argument),
+    /// `stack(n)`: the record gets the first frames of the kernel's stack.
+    Stack(Frames),
+    /// `ustack(n)`: the record gets the first frames of the process's stack.
+    Ustack(Frames),
+    /// `exit(e)`: tracing stops with this status.
+    Exit(Expr),
+    /// The value is given to an aggregation.
+    Aggregate(Aggregation),
 }
 
-/// What is to be done at the probes that some descriptions ask for. (illumos Dynamic Tracing Guide, "Program
-/// Structure".)
+/// What is to be done at the probes that some descriptions ask for, where the predicate, if there is one, isn't 0.
+/// (illumos Dynamic Tracing Guide, "Program Structure".)
 #[derive(Drop)]
 pub struct Clause {
+    /// One at least, and at most [`DESCRIPTIONS_MAX`].
     pub descriptions: Vec<Description>,
+    pub predicate: Option<Expr>,
     /// At most [`STATEMENTS_MAX`].
     pub statements: Vec<Statement>,
+    pub ghost described: { 1 ≤ vec_len descriptions },
+    pub ghost few_descriptions: { vec_len descriptions ≤ DESCRIPTIONS_MAX },
     pub ghost few: { vec_len statements ≤ STATEMENTS_MAX },
 }
 
 /// A program: its clauses, in order.
 #[derive(Drop)]
 pub struct Program {
+    /// One at least, and at most [`CLAUSES_MAX`].
     pub clauses: Vec<Clause>,
+    pub ghost some: { 1 ≤ vec_len clauses },
+    pub ghost few: { vec_len clauses ≤ CLAUSES_MAX },
 }

@@ -1,40 +1,24 @@
 -- A replay has one output.
-use Rattle.std.proofs.Common.{◌≡◌, ℕ, ◌++◌, List, [], ◌∷◌, Result, Ok, Err, Option, Some, None, map, reverse, refl, sym, ap, ◌∙◌, subst, ⊎_elim}
-use Rattle.std.specs.List.{AllByRecursion}
+use Rattle.std.proofs.Common.{◌≡◌, ℕ, ◌++◌, List, [], ◌∷◌, Result, Option, Some, None, reverse, refl, sym, ap, ◌∙◌, subst, ⊎_elim}
 use Rattle.dt_cred.specs.declared.account.Account.{Account}
 use Rattle.dt_machine.specs.Registry.{Registry, Contents}
 use Rattle.dt_machine.specs.declared.firing.Firing.{Firing}
-use Rattle.dt_lang.specs.Description.{DescForm, ReadsDescription}
-use Rattle.dt_lang.specs.Program.{Reading, Reads}
 use Rattle.dt_consumer.specs.Answer.{Answer}
-use Rattle.dt_consumer.specs.Ask.{Ask, enable, list}
+use Rattle.dt_consumer.specs.Ask.{Ask}
 use Rattle.dt_consumer.specs.Draft.{after_line}
 use Rattle.dt_consumer.specs.Life.{Item}
 use Rattle.dt_consumer.specs.Reply.{Replies}
 use Rattle.dt_consumer.specs.declared.refusal.Refusal.{Refusal}
 use Rattle.dtraced.specs.Alone.{Reached, own_line, firing_made, IsAfterFiring, IsLifeOf, IsReplyTo, Alone}
-use Rattle.dtraced.specs.Line.{BytesAsk, Means, Request, to_enable, to_go, to_snap, to_list, requested_by_line}
+use Rattle.dtraced.specs.Line.{BytesAsk}
 use Rattle.dtraced.specs.Replay.{session_view, account_opened, AreAnswers, IsReplay, output_of}
 use Rattle.dtraced.specs.Step.{Act}
 use Rattle.dtraced.proofs.Steps.{same_acts}
 
-module _ (one_reading : (text : List ℕ) (a b : Reading) → Reads text a → Reads text b → a ≡ b)
-    (one_description : (text : List ℕ) (a b : Option DescForm) → ReadsDescription text a → ReadsDescription text b
-    → a ≡ b)
-    (one_reply : (account : Account) (registry : Registry) (life : List Item) (line : Result Ask Refusal)
+module _ (one_reply : (account : Account) (registry : Registry) (life : List Item) (line : Result Ask Refusal)
     (a b : Answer) → Replies account registry life line a → Replies account registry life line b → a ≡ b) where
-  same_meaning : (request : Result Request Refusal) (a b : Result Ask Refusal) → Means request a → Means request b
-      → a ≡ b
-  same_meaning (Ok (to_enable text)) a b h k = h.2
-      ∙ ap (λ reading. Ok (enable reading)) (one_reading text h.0 k.0 h.1 k.1) ∙ sym k.2
-  same_meaning (Ok to_go) a b h k = h ∙ sym k
-  same_meaning (Ok (to_snap cpu)) a b h k = h ∙ sym k
-  same_meaning (Ok (to_list probe)) a b h k = h.2
-      ∙ ap (λ reading. Ok (list reading)) (one_description probe h.0 k.0 h.1 k.1) ∙ sym k.2
-  same_meaning (Err refusal) a b h k = h ∙ sym k
-
   same_ask : (line : List ℕ) (a b : Result Ask Refusal) → BytesAsk line a → BytesAsk line b → a ≡ b
-  same_ask line a b h k = same_meaning (requested_by_line line) a b h k
+  same_ask line a b h k = h ∙ sym k
 
   module _ (account : Account) (registry : Registry) where
     after_same : (before : List Item) (firing : Firing) (a b : List Item)

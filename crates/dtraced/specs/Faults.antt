@@ -3,7 +3,7 @@ use Rattle.std.specs.Prelude.{ℕ, List}
 use Rattle.dt_machine.specs.Registry.{Contents}
 use Rattle.dtraced.specs.Input.{lines_of, IsRefused}
 use Rattle.dtraced.specs.declared.replay.ReplayFault.{ReplayFault}
-use Rattle.dtraced.specs.declared.replay.ReplayFault.TheVariants.{Machine, Read, Line, Write, Memory}
+use Rattle.dtraced.specs.declared.replay.ReplayFault.TheVariants.{Machine, Read, Line, Memory}
 
 -- the machine file is refused, the first thing that is tested
 abbrev pub IsOfMachine : ReplayFault → Type 0

@@ -5,12 +5,10 @@ use Rattle.std.specs.String.{string_bytes}
 use Rattle.serde_json.specs.Data.{Data}
 use Rattle.serde_json.specs.Read.{read}
 use Rattle.serde_json.specs.Find.{get, as_str, as_number, as_u64}
-use Rattle.dt_lang.specs.Description.{DescForm, ReadsDescription}
-use Rattle.dt_lang.specs.Program.{Reading, Reads}
-use Rattle.dt_consumer.specs.Ask.{Ask, enable, go, snap, list}
+use Rattle.dt_consumer.specs.Ask.{Ask, enable, go, snap, status, list, describe, reading_of, description_of}
 use Rattle.dtraced.specs.declared.line.TheConstants.{LINE_MAX}
 use Rattle.dt_consumer.specs.declared.command.Command.{Command}
-use Rattle.dt_consumer.specs.declared.command.Command.TheVariants.{Enable, Go, Snap, List as ListOf}
+use Rattle.dt_consumer.specs.declared.command.Command.TheVariants.{Enable, Go, Snap, Status, List as ListOf, Describe}
 use Rattle.dt_consumer.specs.declared.refusal.Refusal.{Refusal}
 use Rattle.dt_consumer.specs.declared.refusal.Refusal.TheVariants.{Json, Request as NoRequest, LineLong}
 
@@ -19,14 +17,18 @@ pub data Request : Type 0 where
   to_enable : (text : List ℕ) → Request
   to_go : Request
   to_snap : (cpu : ℕ) → Request
+  to_status : Request
   to_list : (probe : List ℕ) → Request
+  to_describe : (epid : ℕ) → Request
 
 -- a command without where its text lies in memory
 abbrev pub request_of : Command → Request
 request_of (Enable text) = to_enable (string_bytes text)
 request_of Go = to_go
 request_of (Snap cpu) = to_snap cpu
+request_of Status = to_status
 request_of (ListOf probe) = to_list (string_bytes probe)
+request_of (Describe epid) = to_describe epid
 
 -- the text of an object's field, where it is one
 abbrev pub field_text : List ℕ → Data → Option (List ℕ)
@@ -43,7 +45,9 @@ named_request name d =
     if bytes_eq name (codes "enable") then option_map to_enable (field_text (codes "text") d)
     else if bytes_eq name (codes "go") then Some to_go
     else if bytes_eq name (codes "snap") then option_map to_snap (field_number (codes "cpu") d)
+    else if bytes_eq name (codes "status") then Some to_status
     else if bytes_eq name (codes "list") then option_map to_list (field_text (codes "probe") d)
+    else if bytes_eq name (codes "describe") then option_map to_describe (field_number (codes "epid") d)
     else None
 
 -- what a JSON value asks for: its field `cmd` names the command
@@ -62,15 +66,20 @@ requested line = requested_or_no_json (if is_utf8 line then read line else None)
 abbrev pub requested_by_line : List ℕ → Result Request Refusal
 requested_by_line line = if nat_lt LINE_MAX (length line) then Err LineLong else requested line
 
--- A request asks this of a consumer: its program or its description is the one that its text is read as.
-abbrev pub Means : Result Request Refusal → Result Ask Refusal → Type 0
-Means (Ok (to_enable text)) ask = (reading : Reading) × Reads text reading × (ask ≡ Ok (enable reading))
-Means (Ok to_go) ask = ask ≡ Ok go
-Means (Ok (to_snap cpu)) ask = ask ≡ Ok (snap cpu)
-Means (Ok (to_list probe)) ask = (reading : Option DescForm) × ReadsDescription probe reading
-    × (ask ≡ Ok (list reading))
-Means (Err refusal) ask = ask ≡ Err refusal
+-- what a request asks of a consumer: its program or its description is the one that its text is read as
+abbrev pub asked_by : Request → Ask
+asked_by (to_enable text) = enable (reading_of text)
+asked_by to_go = go
+asked_by (to_snap cpu) = snap cpu
+asked_by to_status = status
+asked_by (to_list probe) = list (description_of probe)
+asked_by (to_describe epid) = describe epid
+
+-- the same of what a line says, or why it is refused
+abbrev pub asked_or_refused : Result Request Refusal → Result Ask Refusal
+asked_or_refused (Ok request) = Ok (asked_by request)
+asked_or_refused (Err refusal) = Err refusal
 
 -- A line asks this of a consumer.
 abbrev pub BytesAsk : List ℕ → Result Ask Refusal → Type 0
-BytesAsk line ask = Means (requested_by_line line) ask
+BytesAsk line ask = ask ≡ asked_or_refused (requested_by_line line)

@@ -1,20 +1,24 @@
 -- The line that a consumer is answered: JSON with the keys in the order of their bytes and no blanks.
-use Rattle.std.specs.Prelude.{ℕ, List, [], ◌∷◌, ◌++◌, true, codes, decimal, map}
-use Rattle.std.specs.List.{join_with_byte}
+use Rattle.std.specs.Prelude.{ℕ, List, [], ◌∷◌, ◌++◌, Option, unwrap_or, true, codes, decimal, length, map, replicate, encode_utf8}
+use Rattle.std.specs.List.{flat_map, join_with_byte}
 use Rattle.hex.specs.Hex.{encode_lower}
-use Rattle.serde_json.specs.Data.{Data, boolean, number, unsigned, string, array, object, Members, no_members, member}
+use Rattle.serde_json.specs.Data.{Data, null, boolean, number as json_number, unsigned, string, array, object, Members, no_members, member}
 use Rattle.serde_json.specs.View.{items_of}
 use Rattle.serde_json.specs.Written.{compact_text}
 use Rattle.dt_cred.specs.declared.probe.Probe.{Probe}
 use Rattle.dt_names.specs.declared.tuple.ProbeTuple.{ProbeTuple}
 use Rattle.dt_lang.specs.Fault.{word_of}
+use Rattle.dt_lang.specs.Word.{name_of_destructive}
+use Rattle.dt_ecb.specs.Fault.{word_of as word_of_action}
+use Rattle.dt_record.specs.Layout.{FieldForm, number, text, stack, ustack, size_of}
+use Rattle.dt_consumer.specs.Phase.{phase_word}
 use Rattle.dt_consumer.specs.Refusal.{refusal_number, refusal_name}
-use Rattle.dt_consumer.specs.Answer.{Answer, done, enabled, snapped, listed, refused}
+use Rattle.dt_consumer.specs.Answer.{Answer, done, enabled, snapped, status, listed, described, refused}
 use Rattle.dt_consumer.specs.declared.refusal.Refusal.{Refusal}
-use Rattle.dt_consumer.specs.declared.refusal.Refusal.TheVariants.{Program, NoMatch}
+use Rattle.dt_consumer.specs.declared.refusal.Refusal.TheVariants.{Program, Privilege, Destructive, AggClash, NoMatch}
 
 abbrev pub of_number : ℕ → Data
-of_number n = number (unsigned n)
+of_number n = json_number (unsigned n)
 
 -- a refusal's number and name, and the keys after them
 abbrev pub coded : Refusal → Members → Members
@@ -22,11 +26,21 @@ coded refusal more =
     member (codes "error") (of_number (refusal_number refusal))
     (member (codes "name") (string (refusal_name refusal)) more)
 
--- A refusal of a text says where and why, and one of a clause says which; any other has its number and name alone.
+-- the text whose characters have these numbers: an ASCII text itself
+abbrev pub characters : List ℕ → List ℕ
+characters bytes = flat_map encode_utf8 bytes
+
+-- A refusal of a text says where and why, one of a clause says which, and one of an action or an aggregation names it; any
+-- other has its number and name alone.
 abbrev pub refusal_members : Refusal → Members
 refusal_members (Program at why) =
     member (codes "at") (of_number at) (coded (Program at why) (member (codes "why") (string (word_of why))
     no_members))
+refusal_members (Privilege clause what) = member (codes "clause") (of_number clause)
+    (coded (Privilege clause what) (member (codes "what") (string (word_of_action what)) no_members))
+refusal_members (Destructive at what) = member (codes "at") (of_number at)
+    (coded (Destructive at what) (member (codes "what") (string (name_of_destructive what)) no_members))
+refusal_members (AggClash what) = coded (AggClash what) (member (codes "what") (string (characters what)) no_members)
 refusal_members (NoMatch clause) = member (codes "clause") (of_number clause) (coded (NoMatch clause) no_members)
 refusal_members refusal = coded refusal no_members
 
@@ -42,6 +56,21 @@ abbrev pub probe_data : Probe → Data
 probe_data probe = object (member (codes "id") (of_number probe.id) (member (codes "name") (string (tuple_text
     probe.tuple)) no_members))
 
+-- the word for a value of a record, with the number of frames of a stack
+abbrev pub field_word : FieldForm → List ℕ
+field_word number = codes "number"
+field_word text = codes "string"
+field_word (stack frames) = codes "stack" ++ decimal frames
+field_word (ustack frames) = codes "ustack" ++ decimal frames
+
+abbrev pub field_data : FieldForm → Data
+field_data field = string (field_word field)
+
+-- the values of a record, none where there is no record
+abbrev pub fields_in : Option (List FieldForm) → List FieldForm
+fields_in layout = unwrap_or layout []
+
+-- Nothing drops what is aggregated yet, and nothing ends tracing: the drops are 0, and cause and exit null.
 abbrev pub reply_members : Answer → Members
 reply_members done = ok_and no_members
 reply_members (enabled count first) = member (codes "count") (of_number count)
@@ -49,6 +78,16 @@ reply_members (enabled count first) = member (codes "count") (of_number count)
 reply_members (snapped cpu bytes drops filled) =
     member (codes "cpu") (of_number cpu) (member (codes "data") (string (encode_lower bytes))
     (member (codes "drops") (of_number drops) (member (codes "filled") (boolean filled) (ok_and no_members))))
+reply_members (status phase seen errors) =
+    member (codes "aggdrops") (array (items_of (replicate (length errors) (of_number 0))))
+    (member (codes "cause") null (member (codes "errors") (array (items_of (map of_number errors)))
+    (member (codes "exit") null (ok_and (member (codes "phase") (string (phase_word phase))
+    (member (codes "seen") (of_number seen) no_members))))))
+reply_members (described epid probe layout) =
+    member (codes "epid") (of_number epid) (member (codes "id") (of_number probe.id)
+    (member (codes "layout") (array (items_of (map field_data (fields_in layout))))
+    (ok_and (member (codes "probe") (string (tuple_text probe.tuple))
+    (member (codes "size") (of_number (size_of layout)) no_members)))))
 reply_members (listed probes) = ok_and (member (codes "probes") (array (items_of (map probe_data probes))) no_members)
 reply_members (refused refusal) = refusal_members refusal
 

@@ -6,13 +6,10 @@ ghost use Rattle.dtraced.specs.Replay.{IsReplay};
 pub use crate::reply::reply_texts;
 pub use crate::step::one_step;
 use dt_consumer::one_reply;
-use dt_lang::{one_description, one_reading};
 
 /// Law: for an input on a machine one output is written at most.
 pub fn one_output()
     ensures { (contents : Contents) (text a b : List ℕ) → IsReplay contents text a → IsReplay contents text b → a ≡ b }
 {
-    one_reading();
-    one_description();
     one_reply();
 }

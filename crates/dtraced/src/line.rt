@@ -1,14 +1,11 @@
 //! What a consumer asks for by the bytes of a line.
-ghost use Rattle.std.specs.Prelude.{◌≡◌, ◌≢◌, Result, Ok, Err, IfOk, IfErr, option_map};
+ghost use Rattle.std.specs.Prelude.{◌≡◌, ◌≢◌, Ok, Err, IfOk, IfErr, option_map};
 ghost use Rattle.serde_json.specs.View.{view};
-ghost use Rattle.dt_consumer.specs.Ask.{Ask, CommandAsks};
-ghost use Rattle.dt_consumer.specs.Draft.{LineAsks};
+ghost use Rattle.dt_consumer.specs.Ask.{line_asks};
 ghost use Rattle.dt_consumer.specs.Refusal.{IsNoCommand};
 ghost use Rattle.dtraced.specs.Line.{field_text, field_number, request_of, requested_by, requested, requested_by_line, BytesAsk};
-ghost use Rattle.dt_consumer.specs.declared.refusal.Refusal.{Refusal};
 
 use dt_consumer::{Command, Refusal};
-use dt_lang::{has_description, has_reading};
 use serde_json::Value;
 use std::alloc::{AllocError, Global};
 
@@ -17,7 +14,7 @@ pub(crate) const LINE_MAX: usize = 65_536;
 
 /// What a consumer asks for by a line, or why the line is refused, given without its newline.
 pub(crate) fn read_line(alloc: Global, line: &[u8]) -> Result<Result<Command, Refusal>, AllocError>
-    ensures asks { IfOk result (λ asked. (ask : Result Ask Refusal) × BytesAsk line.now ask × LineAsks asked ask) }
+    ensures asks { IfOk result (λ asked. BytesAsk line.now (line_asks asked)) }
     ensures no_command { IfOk result (λ asked. IfErr asked IsNoCommand) }
 {
     match ask_line(alloc, line) {
@@ -36,7 +33,6 @@ pub(crate) fn read_line(alloc: Global, line: &[u8]) -> Result<Result<Command, Re
 /// A line of more than 65,536 bytes is refused as such, whatever stands in it; any other is read by [`command_of`].
 fn ask_line(alloc: Global, line: &[u8]) -> Result<Command, Refusal>
     ensures ok { IfOk result (λ command. requested_by_line line.now ≡ Ok (request_of command)) }
-    ensures asks { IfOk result (λ command. (ask : Ask) × CommandAsks command ask) }
     ensures err { IfErr result (λ refusal. refusal ≢ Refusal.Memory → requested_by_line line.now ≡ Err refusal) }
     ensures no_command { IfErr result (λ refusal. refusal ≢ Refusal.Memory → IsNoCommand refusal) }
 {
@@ -53,7 +49,6 @@ fn ask_line(alloc: Global, line: &[u8]) -> Result<Command, Refusal>
 /// kind is refused `Request`. Any line may be refused `Memory`, and may then be asked again.
 fn command_of(alloc: Global, line: &[u8]) -> Result<Command, Refusal>
     ensures ok { IfOk result (λ command. requested line.now ≡ Ok (request_of command)) }
-    ensures asks { IfOk result (λ command. (ask : Ask) × CommandAsks command ask) }
     ensures err { IfErr result (λ refusal. refusal ≢ Refusal.Memory → requested line.now ≡ Err refusal) }
     ensures no_command { IfErr result (λ refusal. refusal ≢ Refusal.Memory → IsNoCommand refusal) }
 {
@@ -67,7 +62,6 @@ fn command_of(alloc: Global, line: &[u8]) -> Result<Command, Refusal>
 /// What a JSON value asks for.
 fn requested_command(alloc: Global, request: &Value) -> Result<Command, Refusal>
     ensures ok { IfOk result (λ command. requested_by (view request.now) ≡ Ok (request_of command)) }
-    ensures asks { IfOk result (λ command. (ask : Ask) × CommandAsks command ask) }
     ensures err { IfErr result (λ refusal. refusal ≢ Refusal.Memory → requested_by (view request.now) ≡ Err refusal) }
     ensures no_command { IfErr result (λ refusal. refusal ≢ Refusal.Memory → IsNoCommand refusal) }
 {
@@ -75,7 +69,6 @@ fn requested_command(alloc: Global, request: &Value) -> Result<Command, Refusal>
         "enable" => {
             let text = text_field(request, "text").ok_or(Refusal::Request)?;
             let text = String::from_str(alloc, text).map_err(|_| Refusal::Memory)?;
-            has_reading(text.as_bytes());
             Ok(Command::Enable { text })
         }
         "go" => Ok(Command::Go),
@@ -83,11 +76,15 @@ fn requested_command(alloc: Global, request: &Value) -> Result<Command, Refusal>
             let cpu = number_field(request, "cpu").ok_or(Refusal::Request)?;
             Ok(Command::Snap { cpu })
         }
+        "status" => Ok(Command::Status),
         "list" => {
             let probe = text_field(request, "probe").ok_or(Refusal::Request)?;
             let probe = String::from_str(alloc, probe).map_err(|_| Refusal::Memory)?;
-            has_description(probe.as_bytes());
             Ok(Command::List { probe })
+        }
+        "describe" => {
+            let epid = number_field(request, "epid").ok_or(Refusal::Request)?;
+            Ok(Command::Describe { epid })
         }
         _ => Err(Refusal::Request),
     }

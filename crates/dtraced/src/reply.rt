@@ -1,16 +1,24 @@
 //! The line that a consumer is answered.
-ghost use Rattle.std.specs.Prelude.{◌≡◌, ℕ, ◌<◌, List, ◌++◌, Bool, if◌then◌else◌, IfOk, codes, decimal, map};
+ghost use Rattle.std.specs.Prelude.{◌≡◌, ℕ, ◌<◌, List, ◌++◌, Bool, if◌then◌else◌, IfOk, codes, decimal, map, replicate};
 ghost use Rattle.std.specs.List.{AllByRecursion, join_with_byte};
 ghost use Rattle.dt_cred.specs.declared.probe.Probe.{Probe};
-ghost use Rattle.serde_json.specs.Data.{object};
+ghost use Rattle.serde_json.specs.Data.{object, string};
 ghost use Rattle.serde_json.specs.View.{view};
 ghost use Rattle.hex.specs.Hex.{encode_lower};
-ghost use Rattle.dt_consumer.specs.Answer.{done, enabled, snapped, listed, refused, answer_of};
-ghost use Rattle.dt_lang.specs.declared.fault.Why.TheVariants.{Syntax, Probe as NoProbe};
-ghost use Rattle.dtraced.specs.Reply.{refusal_members, probe_data, probe_text, reply_members, reply_text};
+ghost use Rattle.dt_consumer.specs.Answer.{done, enabled, snapped, status, listed, described, refused, answer_of};
+ghost use Rattle.dt_lang.specs.Fault.{word_of};
+ghost use Rattle.dt_lang.specs.Word.{name_of_destructive};
+ghost use Rattle.dt_lang.specs.declared.fault.Why.{Why};
+ghost use Rattle.dt_lang.specs.declared.word.Destructive.{Destructive};
+ghost use Rattle.dt_ecb.specs.declared.fault.RestrictedAction.TheVariants.{Stack};
+ghost use Rattle.serde_json.specs.Written.{compact_text};
+ghost use Rattle.dt_record.specs.Fields.{form_of_field, form_of_layout};
+ghost use Rattle.std.specs.String.{string_bytes};
+ghost use Rattle.dtraced.specs.Reply.{characters, field_data, fields_in, of_number, refusal_members, probe_data, probe_text, reply_members, reply_text};
 
-use dt_consumer::{Refusal, Reply};
+use dt_consumer::{Phase, Refusal, Reply};
 use dt_cred::Probe;
+use dt_record::{Field, Layout};
 use serde_json::{Value, json};
 use std::alloc::{AllocError, Global};
 
@@ -37,7 +45,17 @@ fn reply_value(alloc: Global, reply: &Reply) -> Result<Value, AllocError>
             drops,
             filled,
         } => snapped_value(alloc, *cpu, data, *drops, *filled),
+        Reply::Status {
+            phase,
+            seen,
+            errors,
+        } => status_value(alloc, *phase, *seen, errors),
         Reply::Listed { probes } => listed_value(alloc, probes),
+        Reply::Described {
+            epid,
+            probe,
+            layout,
+        } => described_value(alloc, *epid, probe, layout),
         Reply::Refused(refusal) => refusal_value(alloc, *refusal),
     }
 }
@@ -65,6 +83,75 @@ fn listed_value(alloc: Global, probes: &[Probe]) -> Result<Value, AllocError>
     json!(in alloc; {"ok": true, "probes": values})
 }
 
+/// Nothing drops what is aggregated, and nothing ends tracing yet: the drops are 0, cause and exit null.
+fn status_value(alloc: Global, phase: Phase, seen: u64, errors: &[u64]) -> Result<Value, AllocError>
+    ensures { IfOk result (λ value. view value ≡ object (reply_members (status phase seen errors.now))) }
+{
+    let drops = zeros(alloc, errors.len())?;
+    let errors = numbers(alloc, errors)?;
+    json!(in alloc; {"aggdrops": drops, "cause": null, "errors": errors, "exit": null, "ok": true,
+        "phase": phase.word(), "seen": seen})
+}
+
+/// As many zeros.
+fn zeros(alloc: Global, count: usize) -> Result<Vec<Value>, AllocError>
+    ensures { IfOk result (λ values. map view values.items ≡ replicate count (of_number 0)) }
+{
+    let mut values = Vec::new(alloc);
+    for _ in 0..count {
+        values.push(Value::from(0u64))?;
+    }
+    Ok(values)
+}
+
+fn numbers(alloc: Global, list: &[u64]) -> Result<Vec<Value>, AllocError>
+    ensures { IfOk result (λ values. map view values.items ≡ map of_number list.now) }
+{
+    let mut values = Vec::new(alloc);
+    for number in list {
+        values.push(Value::from(*number))?;
+    }
+    Ok(values)
+}
+
+fn described_value(
+    alloc: Global,
+    epid: u32,
+    probe: &Probe,
+    layout: &Layout,
+) -> Result<Value, AllocError>
+    ensures { IfOk result (λ value. view value ≡ object (reply_members (described epid probe.now (form_of_layout layout.now)))) }
+{
+    let words = field_words(alloc, layout)?;
+    let name = probe.tuple.to_string(alloc)?;
+    json!(in alloc; {"epid": epid, "id": probe.id, "layout": words, "ok": true, "probe": name, "size": layout.size()})
+}
+
+/// The word for each value of a record; none where there is no record.
+fn field_words(alloc: Global, layout: &Layout) -> Result<Vec<Value>, AllocError>
+    ensures { IfOk result (λ values. map view values.items ≡ map field_data (fields_in (form_of_layout layout.now))) }
+{
+    let mut values = Vec::new(alloc);
+    if let Some(fields) = &layout.fields {
+        for field in fields.as_slice() {
+            values.push(field_value(alloc, *field)?)?;
+        }
+    }
+    Ok(values)
+}
+
+fn field_value(alloc: Global, field: Field) -> Result<Value, AllocError>
+    ensures { IfOk result (λ value. view value ≡ field_data (form_of_field field)) }
+{
+    let word = match field {
+        Field::Number => String::from_str(alloc, "number")?,
+        Field::Text => String::from_str(alloc, "string")?,
+        Field::Stack(frames) => format!(in alloc; "stack{}", frames.count)?,
+        Field::Ustack(frames) => format!(in alloc; "ustack{}", frames.count)?,
+    };
+    Ok(Value::String(word))
+}
+
 fn probe_value(alloc: Global, probe: &Probe) -> Result<Value, AllocError>
     ensures { IfOk result (λ value. view value ≡ probe_data probe.now) }
 {
@@ -81,12 +168,33 @@ fn refusal_value(alloc: Global, refusal: Refusal) -> Result<Value, AllocError>
         Refusal::Program { at, why } => {
             json!(in alloc; {"at": at, "error": number, "name": name, "why": why.word()})
         }
+        Refusal::Privilege { clause, what } => {
+            json!(in alloc; {"clause": clause, "error": number, "name": name, "what": what.word()})
+        }
+        Refusal::Destructive { at, what } => {
+            json!(in alloc; {"at": at, "error": number, "name": name, "what": what.name()})
+        }
+        Refusal::AggClash { what } => {
+            let what = text_of(alloc, what.as_bytes())?;
+            json!(in alloc; {"error": number, "name": name, "what": what})
+        }
         Refusal::NoMatch { clause } => {
             json!(in alloc; {"clause": clause, "error": number, "name": name})
         }
         // of any other there is no more to tell
         _ => json!(in alloc; {"error": number, "name": name}),
     }
+}
+
+/// The text whose characters are these bytes.
+fn text_of(alloc: Global, bytes: &[u8]) -> Result<String, AllocError>
+    ensures { IfOk result (λ text. string_bytes text ≡ characters bytes.now) }
+{
+    let mut text = String::new(alloc);
+    for byte in bytes {
+        text.push(char::from(*byte))?;
+    }
+    Ok(text)
 }
 
 /// Law: the texts of the replies, letter by letter. The data is that of bytes, each below 256.
@@ -105,15 +213,20 @@ pub fn reply_texts()
     ensures json { reply_text (refused Refusal.Json) ≡ codes "{\"error\":1,\"name\":\"Json\"}\n" }
     ensures request { reply_text (refused Refusal.Request) ≡ codes "{\"error\":2,\"name\":\"Request\"}\n" }
     ensures line_long { reply_text (refused Refusal.LineLong) ≡ codes "{\"error\":3,\"name\":\"LineLong\"}\n" }
-    ensures program { (at : ℕ) → reply_text (refused (Refusal.Program at Syntax))
-        ≡ codes "{\"at\":" ++ decimal at ++ codes ",\"error\":4,\"name\":\"Program\",\"why\":\"Syntax\"}\n" }
-    ensures description { (at : ℕ) → reply_text (refused (Refusal.Program at NoProbe))
-        ≡ codes "{\"at\":" ++ decimal at ++ codes ",\"error\":4,\"name\":\"Program\",\"why\":\"Probe\"}\n" }
+    ensures program { (at : ℕ) (why : Why) → reply_text (refused (Refusal.Program at why))
+        ≡ codes "{\"at\":" ++ decimal at ++ codes ",\"error\":4,\"name\":\"Program\",\"why\":\"" ++ word_of why ++ codes "\"}\n" }
     ensures no_match { (clause : ℕ) → reply_text (refused (Refusal.NoMatch clause))
         ≡ codes "{\"clause\":" ++ decimal clause ++ codes ",\"error\":5,\"name\":\"NoMatch\"}\n" }
+    ensures privilege { (clause : ℕ) → reply_text (refused (Refusal.Privilege clause Stack))
+        ≡ codes "{\"clause\":" ++ decimal clause ++ codes ",\"error\":6,\"name\":\"Privilege\",\"what\":\"stack\"}\n" }
+    ensures destructive { (at : ℕ) (what : Destructive) → reply_text (refused (Refusal.Destructive at what))
+        ≡ codes "{\"at\":" ++ decimal at ++ codes ",\"error\":7,\"name\":\"Destructive\",\"what\":\"" ++ name_of_destructive what ++ codes "\"}\n" }
+    ensures clash { (what : List ℕ) → reply_text (refused (Refusal.AggClash what))
+        ≡ codes "{\"error\":8,\"name\":\"AggClash\",\"what\":" ++ compact_text (string (characters what)) ++ codes "}\n" }
     ensures limit { reply_text (refused Refusal.Limit) ≡ codes "{\"error\":9,\"name\":\"Limit\"}\n" }
     ensures busy { reply_text (refused Refusal.Busy) ≡ codes "{\"error\":10,\"name\":\"Busy\"}\n" }
     ensures no_cpu { reply_text (refused Refusal.NoCpu) ≡ codes "{\"error\":12,\"name\":\"NoCpu\"}\n" }
+    ensures no_epid { reply_text (refused Refusal.NoEpid) ≡ codes "{\"error\":14,\"name\":\"NoEpid\"}\n" }
     ensures quota { reply_text (refused Refusal.Quota) ≡ codes "{\"error\":15,\"name\":\"Quota\"}\n" }
     ensures memory { reply_text (refused Refusal.Memory) ≡ codes "{\"error\":16,\"name\":\"Memory\"}\n" }
 {}

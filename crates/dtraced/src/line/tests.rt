@@ -13,7 +13,7 @@ fn told(alloc: Global, line: &[u8]) -> Result<String, Fail> {
 
 #[test]
 fn answers_each_line(rt: HostRuntime) -> Result<(), Fail> {
-    let rows: [(&[u8], &str); 19] = [
+    let rows: [(&[u8], &str); 22] = [
         (b"{\"cmd\":\"go\"}", "Go"),
         (
             b"{\"cmd\": \"enable\", \"text\": \"x{}\"}",
@@ -25,6 +25,9 @@ fn answers_each_line(rt: HostRuntime) -> Result<(), Fail> {
             "List { probe: \"a\" }",
         ),
         (b"{\"cmd\":\"list\"}", "Request"),
+        (b"{\"cmd\":\"status\",\"epid\":1}", "Status"),
+        (b"{\"cmd\":\"describe\",\"epid\":3}", "Describe { epid: 3 }"),
+        (b"{\"cmd\":\"describe\"}", "Request"),
         (
             b" {\"cpu\":7,\"cmd\":\"go\",\"cmd\":\"snap\",\"cpu\":18446744073709551615,\"x\":null}\r",
             "Snap { cpu: 18446744073709551615 }",

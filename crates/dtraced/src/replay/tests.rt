@@ -225,9 +225,11 @@ call 0 {"cmd":"snap","cpu":0}
             r#"open 0 ann
 call 0 {"cmd":"list","probe":""}
 call 0 {"cmd":"enable","text":"fbt:::entry{}"}
+call 0 {"cmd":"enable","text":"syscall:::entry{stack(2)}"}
 "#,
             r#"0 {"ok":true,"probes":[{"id":1,"name":"dtrace:::BEGIN"},{"id":2,"name":"dtrace:::END"},{"id":3,"name":"syscall::read:entry"},{"id":4,"name":"profile:::tick-1sec"}]}
 0 {"clause":1,"error":5,"name":"NoMatch"}
+0 {"clause":1,"error":6,"name":"Privilege","what":"stack"}
 "#,
         ),
         // the `pid` probes of an own process
@@ -246,10 +248,94 @@ call 0 {"cmd":"enable","text":"pid100:::{}"}
             r#"0 {"clause":1,"error":5,"name":"NoMatch"}
 "#,
         ),
+        // texts that are no programs, each with its place and its cause; the session goes on
+        (
+            r#"open 0 root
+call 0 {"cmd":"enable","text":""}
+call 0 {"cmd":"enable","text":"BEGIN{trace(1)"}
+call 0 {"cmd":"enable","text":"BEGIN/1/2/{}"}
+call 0 {"cmd":"enable","text":"BEGIN{ustack(9)}"}
+call 0 {"cmd":"enable","text":"BEGIN{print(1)}"}
+call 0 {"cmd":"enable","text":"BEGIN{trace(foo)}"}
+call 0 {"cmd":"enable","text":"BEGIN{} syscall::[a:entry{}"}
+call 0 {"cmd":"enable","text":"BEGIN{} END{panic();}"}
+call 0 {"cmd":"enable","text":"BEGIN{@a=count()} END{@a=sum(1)}"}
+call 0 {"cmd":"enable","text":"BEGIN{}"}
+"#,
+            r#"0 {"at":0,"error":4,"name":"Program","why":"Syntax"}
+0 {"at":14,"error":4,"name":"Program","why":"Syntax"}
+0 {"at":8,"error":4,"name":"Program","why":"Syntax"}
+0 {"at":13,"error":4,"name":"Program","why":"Syntax"}
+0 {"at":6,"error":4,"name":"Program","why":"Action"}
+0 {"at":12,"error":4,"name":"Program","why":"Variable"}
+0 {"at":8,"error":4,"name":"Program","why":"Probe"}
+0 {"at":12,"error":7,"name":"Destructive","what":"panic"}
+0 {"error":8,"name":"AggClash","what":"a"}
+0 {"count":1,"first":1,"ok":true}
+"#,
+        ),
+        // values of expressions, at BEGIN; a clause that divides by zero leaves no record, and is counted
+        (
+            r#"open 0 root
+call 0 {"cmd":"enable","text":"BEGIN{trace(-7/2);trace(-7%2);trace(1<<65);trace(-1>>63);trace(1^^1);trace(1|2^3&4);trace(1<2<1);trace(010)}"}
+call 0 {"cmd":"enable","text":"BEGIN{trace(18446744073709551615);trace(0&&(1/0))} BEGIN{trace(0^^(1/0))}"}
+call 0 {"cmd":"go"}
+call 0 {"cmd":"snap","cpu":0}
+call 0 {"cmd":"status"}
+"#,
+            r#"0 {"count":1,"first":1,"ok":true}
+0 {"count":2,"first":2,"ok":true}
+0 {"ok":true}
+0 {"cpu":0,"data":"00000001fffffffffffffffdffffffffffffffff0000000000000002ffffffffffffffff000000000000000000000000000000030000000000000000000000000000000800000002ffffffffffffffff0000000000000000","drops":0,"filled":false,"ok":true}
+0 {"aggdrops":[0,0],"cause":null,"errors":[1,0],"exit":null,"ok":true,"phase":"active","seen":0}
+"#,
+        ),
+        // of what records are made, and which EPIDs there are
+        (
+            r#"open 0 root
+call 0 {"cmd":"enable","text":"read:entry{trace(execname)}"}
+call 0 {"cmd":"describe","epid":1}
+call 0 {"cmd":"describe","epid":2}
+call 0 {"cmd":"status"}
+"#,
+            r#"0 {"count":1,"first":1,"ok":true}
+0 {"epid":1,"id":3,"layout":["string"],"ok":true,"probe":"syscall::read:entry","size":36}
+0 {"error":14,"name":"NoEpid"}
+0 {"aggdrops":[0,0],"cause":null,"errors":[0,0],"exit":null,"ok":true,"phase":"inactive","seen":0}
+"#,
+        ),
     ];
     for (input, wanted) in rows {
         assert!(rt; tells(rt.alloc(), MACHINE, input, wanted)?, "{input}");
     }
+    Ok(())
+}
+
+/// A machine on which two firings have other arguments.
+const QUOTIENTS: &str = r#"{"cpus":2,"accounts":[{"name":"root","uid":0,"privs":["dtrace_kernel"]}],
+"processes":[{"pid":100,"uid":501,"execname":"sh"}],"probes":["syscall::read:entry"],
+"scripts":[[{"probe":3,"pid":100,"args":[4,0]},{"probe":3,"pid":100,"args":[4,2]},
+{"probe":3,"pid":100,"args":[-9223372036854775808,-1]}],[]]}"#;
+
+#[test]
+fn quotients_of_the_arguments(rt: HostRuntime) -> Result<(), Fail> {
+    let input = r#"open 0 root
+call 0 {"cmd":"enable","text":"read:entry/(arg0 / arg1) == 2/{trace(arg0)}"}
+call 0 {"cmd":"enable","text":"read:entry{trace(arg0);trace(arg0 / arg1)}"}
+call 0 {"cmd":"go"}
+fire 0
+fire 0
+fire 0
+call 0 {"cmd":"snap","cpu":0}
+call 0 {"cmd":"status"}
+"#;
+    let wanted = r#"0 {"count":1,"first":1,"ok":true}
+0 {"count":1,"first":2,"ok":true}
+0 {"ok":true}
+0 {"cpu":0,"data":"00000001000000000000000400000002000000000000000400000000000000020000000280000000000000008000000000000000","drops":0,"filled":false,"ok":true}
+0 {"aggdrops":[0,0],"cause":null,"errors":[2,0],"exit":null,"ok":true,"phase":"active","seen":3}
+"#;
+    assert!(rt; tells(rt.alloc(), QUOTIENTS, input, wanted)?);
     Ok(())
 }
 

@@ -3,4 +3,4 @@ use Rattle.dt_consumer.proofs.ReplyLaws.{some_answer}
 use Rattle.dt_consumer.proofs.laws.some_reply.Goals as goal
 
 pub returns : goal.returns
-returns c = some_answer
+returns c = some_answer c.some_verdict.ensures

@@ -1,10 +1,12 @@
 -- The rows so far.
-use Rattle.std.proofs.Common.{◌≡◌, length, map}
-use Rattle.dt_consumer.specs.Places.{key_of, AreRows}
+use Rattle.std.proofs.Common.{◌≡◌, ◌==◌, ℕ, length, filter}
+use Rattle.std.specs.List.{slice_get}
+use Rattle.std.specs.Option.{IfSome}
 use Rattle.dt_consumer.proofs.rows.rows_of.Given as goal
 
 abbrev pub invariant-loop-probe : goal.invariant-loop-probe
 invariant-loop-probe l = record {
-  rows : AreRows (map key_of l.ecbs) 0 l.rows.items;
+  rows : (probe : ℕ) → IfSome (slice_get l.rows.items probe)
+      (λ row. row.items ≡ filter (λ ecb. ecb.probe == probe) l.ecbs);
   counted : length l.rows.items ≡ l.probe;
 }

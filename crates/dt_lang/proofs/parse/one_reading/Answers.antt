@@ -1,5 +1,10 @@
-use Rattle.dt_lang.proofs.Clauses.{same_reading}
+-- By the laws of lexemes.
+use Rattle.dt_lang.proofs.TextLaws.{one_reading}
 use Rattle.dt_lang.proofs.parse.one_reading.Goals as goal
 
 pub returns : goal.returns
-returns c = same_reading c.one_description.ensures
+returns c = λ text a b h k. one_reading text (record {
+  one = c.one_lexeme.ensures.one text;
+  some = c.some_lexeme.ensures text;
+  within = c.one_lexeme.ensures.within text;
+}) a b h k

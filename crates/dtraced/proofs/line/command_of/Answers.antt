@@ -1,4 +1,3 @@
--- What the proof of `command_of` is told at its goals.
 use Rattle.std.proofs.Common.{◌∙◌, rules}
 use Rattle.std.proofs.lemmas.Result.{IfOk-weaker, IfErr-weaker}
 use Rattle.dtraced.proofs.Lines.{requested-read, requested-unread}

@@ -1,4 +1,3 @@
--- What the proof of `output_of` is told at its goals.
 use Rattle.std.proofs.Common.{◌≡◌, ◌∷◌, ◌++◌, [], length, refl, arith, rules, ◌+◌}
 use Rattle.std.proofs.lemmas.List.{length-append}
 use Rattle.dtraced.specs.Input.{lines_of}

@@ -1,4 +1,3 @@
--- What holds at each turn of the loops of `output_of`.
 use Rattle.std.proofs.Common.{◌≡◌, ◌≤◌, ◌+◌, ◌++◌, ℕ, List, length}
 use Rattle.dtraced.specs.Input.{lines_of}
 use Rattle.dtraced.specs.Run.{HasTaken}

@@ -1,4 +1,3 @@
--- What holds at each turn of the loops of `read_input`.
 use Rattle.std.specs.Io.KnownBytes.{Consumes}
 use Rattle.dtraced.proofs.replay.read_input.Given as goal
 

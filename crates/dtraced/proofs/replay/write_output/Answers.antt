@@ -1,4 +1,3 @@
--- What the proof of `write_output` is told at its goals.
 use Rattle.std.proofs.Common.{◌≡◌, ◌+◌, ◌-◌, ℕ, List, Bor, length, drop, arith, ap, ◌∙◌}
 use Rattle.std.proofs.lemmas.List.{drop-drop, length-drop}
 use Rattle.dtraced.proofs.Streams.{more_written, still_written, whole_rest}

@@ -1,4 +1,3 @@
--- What holds at each turn of the loops of `write_output`.
 use Rattle.std.proofs.Common.{◌≡◌, ◌≤◌, ℕ, length, take, drop}
 use Rattle.std.specs.Io.KnownBytes.{Appends}
 use Rattle.dtraced.proofs.replay.write_output.Given as goal

@@ -1,4 +1,3 @@
--- What holds at each turn of the loops of `listed_value`.
 use Rattle.std.proofs.Common.{◌≡◌, map, take}
 use Rattle.serde_json.specs.View.{view}
 use Rattle.dtraced.specs.Reply.{probe_data}

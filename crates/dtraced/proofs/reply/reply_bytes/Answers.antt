@@ -1,4 +1,3 @@
--- What the proof of `reply_bytes` is told at its goals.
 use Rattle.std.proofs.Common.{◌≡◌, ◌∷◌, ◌++◌, [], ap, ◌∙◌, rules}
 use Rattle.serde_json.specs.Written.{has_float, compact_text}
 use Rattle.dt_consumer.specs.Answer.{answer_of}

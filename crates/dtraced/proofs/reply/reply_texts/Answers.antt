@@ -1,6 +1,14 @@
--- What the proof of `reply_texts` is told at its goals.
-use Rattle.std.proofs.Common.{◌≡◌, codes, decimal, append_assoc, refl}
+use Rattle.std.proofs.Common.{◌≡◌, ℕ, ◌++◌, codes, decimal, append_assoc, refl}
 use Rattle.std.specs.Fmt.{digits}
+use Rattle.dt_lang.specs.Fault.{word_of}
+use Rattle.dt_lang.specs.Word.{name_of_destructive}
+use Rattle.dt_lang.specs.declared.fault.Why.{Why}
+use Rattle.dt_lang.specs.declared.fault.Why.TheVariants.{Syntax, Probe, Action, Variable, TooLong, Range}
+use Rattle.dt_lang.specs.declared.word.Destructive.{Destructive}
+use Rattle.dt_lang.specs.declared.word.Destructive.TheVariants.{Stop, Raise, Copyout, Copyoutstr, System, Breakpoint, Panic, Chill}
+use Rattle.dt_consumer.specs.Answer.{refused}
+use Rattle.dt_consumer.specs.declared.refusal.Refusal.TheVariants as Refusal
+use Rattle.dtraced.specs.Reply.{reply_text}
 use Rattle.serde_json.proofs.OnLiterals.{serde_json_on_literals}
 use Rattle.dtraced.proofs.ListedTexts.{text-listed}
 use Rattle.dtraced.proofs.Texts.{text-snapped}
@@ -14,6 +22,18 @@ five : decimal 5 ≡ codes "5"
 unfolding digits
 five = refl
 
+six : decimal 6 ≡ codes "6"
+unfolding digits
+six = refl
+
+seven : decimal 7 ≡ codes "7"
+unfolding digits
+seven = refl
+
+eight : decimal 8 ≡ codes "8"
+unfolding digits
+eight = refl
+
 pub returns-clause-done : goal.returns-clause-done
 unfolding serde_json_on_literals
 returns-clause-done c = refl
@@ -25,9 +45,46 @@ returns-clause-enabled c = λ count first. simp append_assoc
 pub returns-clause-snapped : goal.returns-clause-snapped
 returns-clause-snapped c = text-snapped
 
-pub returns-clause-program : goal.returns-clause-program
+by_why : (at : ℕ) (why : Why) → reply_text (refused (Refusal.Program at why))
+    ≡ codes "{\"at\":" ++ decimal at ++ codes ",\"error\":4,\"name\":\"Program\",\"why\":\"" ++ word_of why ++ codes "\"}\n"
 unfolding serde_json_on_literals
-returns-clause-program c = λ at. simp (four, append_assoc)
+by_why at Syntax = simp (four, append_assoc)
+by_why at Probe = simp (four, append_assoc)
+by_why at Action = simp (four, append_assoc)
+by_why at Variable = simp (four, append_assoc)
+by_why at TooLong = simp (four, append_assoc)
+by_why at Range = simp (four, append_assoc)
+
+by_name : (at : ℕ) (what : Destructive) → reply_text (refused (Refusal.Destructive at what))
+    ≡ codes "{\"at\":" ++ decimal at ++ codes ",\"error\":7,\"name\":\"Destructive\",\"what\":\"" ++ name_of_destructive what
+    ++ codes "\"}\n"
+unfolding serde_json_on_literals
+by_name at Stop = simp (seven, append_assoc)
+by_name at Raise = simp (seven, append_assoc)
+by_name at Copyout = simp (seven, append_assoc)
+by_name at Copyoutstr = simp (seven, append_assoc)
+by_name at System = simp (seven, append_assoc)
+by_name at Breakpoint = simp (seven, append_assoc)
+by_name at Panic = simp (seven, append_assoc)
+by_name at Chill = simp (seven, append_assoc)
+
+pub returns-clause-program : goal.returns-clause-program
+returns-clause-program c = by_why
+
+pub returns-clause-destructive : goal.returns-clause-destructive
+returns-clause-destructive c = by_name
+
+pub returns-clause-privilege : goal.returns-clause-privilege
+unfolding serde_json_on_literals
+returns-clause-privilege c = λ clause. simp (six, append_assoc)
+
+pub returns-clause-clash : goal.returns-clause-clash
+unfolding serde_json_on_literals
+returns-clause-clash c = λ what. simp (eight, append_assoc)
+
+pub returns-clause-no_epid : goal.returns-clause-no_epid
+unfolding serde_json_on_literals digits
+returns-clause-no_epid c = refl
 
 pub returns-clause-no_match : goal.returns-clause-no_match
 unfolding serde_json_on_literals
@@ -64,10 +121,6 @@ returns-clause-quota c = refl
 pub returns-clause-memory : goal.returns-clause-memory
 unfolding serde_json_on_literals digits
 returns-clause-memory c = refl
-
-pub returns-clause-description : goal.returns-clause-description
-unfolding serde_json_on_literals
-returns-clause-description c = λ at. simp (four, append_assoc)
 
 pub returns-clause-listed : goal.returns-clause-listed
 returns-clause-listed c = text-listed

@@ -1,17 +1,18 @@
 -- What the proof of `answer` is told at its goals.
 use Rattle.std.proofs.Common.{rules}
 use Rattle.dt_consumer.specs.Answer.{answer_of}
+use Rattle.dt_consumer.specs.Ask.{line_asks}
 use Rattle.dtraced.proofs.run.answer.Goals as goal
 
 pub returns : goal.returns
 returns c = λ account life stands few.
-    let asked = c.in_ok-asked.ensures.asks in
-    let drafted = c.in_ok-draft.ensures account life asked.0 stands few asked.2 in
+    let ask = line_asks c.in_ok-asked.asked in
+    let drafted = c.in_ok-draft.ensures account life stands few in
     record {
-      ask = asked.0;
-      asks = asked.1;
+      ask = ask;
+      asks = c.in_ok-asked.ensures.asks;
       answer = answer_of c.reply.result.now;
-      replies = c.reply.ensures account c.args.machine.now.registry life asked.0 drafted;
+      replies = c.reply.ensures account c.args.machine.now.registry life ask drafted;
       text = search rules;
-      stands = c.apply.ensures account life asked.0 stands drafted;
+      stands = c.apply.ensures account life ask stands drafted;
     }

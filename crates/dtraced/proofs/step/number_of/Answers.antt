@@ -1,4 +1,3 @@
--- What the proof of `number_of` is told at its goals.
 use Rattle.std.proofs.Common.{sym, ◌∙◌}
 use Rattle.std.proofs.lemmas.Bool.{true≢false}
 use Rattle.dtraced.proofs.Decimals.{decimal_bare, decimal_utf8, parsed, unparsed, ok_some, ok_none}

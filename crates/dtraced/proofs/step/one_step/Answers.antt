@@ -1,4 +1,3 @@
--- What the proof of `one_step` is told at its goals.
 use Rattle.dtraced.proofs.Steps.{one_step}
 use Rattle.dtraced.proofs.step.one_step.Goals as goal
 

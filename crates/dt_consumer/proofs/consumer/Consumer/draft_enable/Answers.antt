@@ -1,39 +1,45 @@
 -- A text is drafted as the one reading that it has.
 use Rattle.std.proofs.Common.{Ok, Err, sym, ap, ◌∙◌, subst}
-use Rattle.std.proofs.lemmas.Bool.{false≢true}
-use Rattle.dt_lang.specs.Program.{program, fault, form_of}
-use Rattle.dt_consumer.specs.Ask.{enable}
+use Rattle.dt_lang.specs.Program.{form_of_program}
+use Rattle.dt_lang.specs.Reads.{program}
+use Rattle.dt_consumer.specs.Ask.{enable, reading_of, is_read}
 use Rattle.dt_consumer.specs.Draft.{IsDraftOf}
-use Rattle.dt_consumer.proofs.AskLemmas.{if_ok_map}
-use Rattle.dt_consumer.proofs.DraftLemmas.{active, refused_by, enable_busy, idle_late}
-use Rattle.dt_consumer.proofs.ProgramLemmas.{fault_refused}
+use Rattle.dt_consumer.specs.Life.{set_up}
+use Rattle.dt_consumer.proofs.DraftLemmas.{refused_by, enable_busy, idle_late}
+use Rattle.dt_consumer.proofs.Drafting.{text_refused}
+use Rattle.dt_consumer.proofs.Stands.{traces}
+use Rattle.dt_consumer.proofs.Telling.{if_ok_map}
 use Rattle.dt_consumer.proofs.consumer.Consumer.draft_enable.Goals as goal
 
-pub returns-then-not-is_inactive : goal.returns-then-not-is_inactive
-returns-then-not-is_inactive c = λ account life reading m reads.
+pub returns-then-has_begun : goal.returns-then-has_begun
+returns-then-has_begun c = λ account life m.
     let registry = c.args.machine.now.registry in
-    let on = active life c.args.self.now.phase m.stands.same_phase
-    (λ e. absurd (false≢true (sym c.if-not-is_inactive.true ∙ c.is_inactive.ensures.1 e))) in
-    refused_by account registry life (enable reading) _ _ c.refused.ensures.reply c.refused.ensures.change m.in_quota
-    (enable_busy account registry life reading on) (idle_late account registry life reading on)
+    let on = sym (traces account registry (set_up account registry life) c.args.self.now m.stands.keeps)
+    ∙ sym c.has_begun.ensures ∙ c.if-has_begun.true in
+    refused_by account registry life (enable (reading_of c.args.text.now)) _ _
+    c.refused.ensures.reply c.refused.ensures.change m.in_quota
+    (enable_busy account registry life (reading_of c.args.text.now) on)
+    (idle_late account registry life (reading_of c.args.text.now) on)
 
 pub returns-in-Ok : goal.returns-in-Ok
 returns-in-Ok c =
     if_ok_map _ _ c.draft_program.result
-    (λ draft h. λ account life reading m reads.
-    let off = sym m.stands.same_phase ∙ c.is_inactive.ensures.0 c.if-not-is_inactive.false in
+    (λ draft h. λ account life m.
+    let registry = c.args.machine.now.registry in
+    let off = sym (traces account registry (set_up account registry life) c.args.self.now m.stands.keeps)
+    ∙ sym c.has_begun.ensures ∙ c.if-has_begun.false in
     subst (λ r. IsDraftOf account c.args.machine.now.registry life (Ok (enable r)) draft)
-    (c.one_reading.ensures c.args.text.now (program (form_of c.in-Ok.program)) reading c.in-Ok.ensures.read reads)
+    (c.one_reading.ensures c.args.text.now (program (form_of_program c.in-Ok.program)) (reading_of c.args.text.now)
+    c.in-Ok.ensures.read (is_read c.args.text.now))
     (h account life m off))
     c.draft_program.ensures
 
-pub returns-in-Err : goal.returns-in-Err
-returns-in-Err c =
-    if_ok_map _ _ c.draft_of_fault.result
-    (λ draft h. λ account life reading m reads.
+pub returns-in-Some : goal.returns-in-Some
+returns-in-Some c = λ account life m.
     let registry = c.args.machine.now.registry in
-    let off = sym m.stands.same_phase ∙ c.is_inactive.ensures.0 c.if-not-is_inactive.false in
-    subst (λ r. IsDraftOf account c.args.machine.now.registry life (Ok (enable r)) draft)
-    (c.one_reading.ensures c.args.text.now (fault h.0 h.1) reading (c.in-Err.ensures.fault h.0 h.1 (ap Err h.2)) reads)
-    (fault_refused account registry life m.in_quota off h.0 h.1 draft h.3 h.4))
-    c.draft_of_fault.ensures
+    let off = sym (traces account registry (set_up account registry life) c.args.self.now m.stands.keeps)
+    ∙ sym c.has_begun.ensures ∙ c.if-has_begun.false in
+    text_refused account registry life c.args.text.now c.in-Err.fault c.in-Some.refusal _ c.one_reading.ensures
+    (λ at why e. c.in-Err.ensures.fault at why (ap Err e))
+    (λ at what e. c.in-Err.ensures.destructive at what (ap Err e))
+    c.in-Some.ensures c.refused-in-Some.ensures.reply c.refused-in-Some.ensures.change m.in_quota off

@@ -1,18 +1,27 @@
 -- A description is listed as the one reading that it has.
-use Rattle.std.proofs.Common.{Some, None, sym}
+use Rattle.std.proofs.Common.{Some, None, refl, ap, ◌∙◌}
 use Rattle.dt_lang.specs.Description.{form_of_description}
-use Rattle.dt_consumer.proofs.DraftLemmas.{list_refused, list_draft}
+use Rattle.dt_lang.specs.declared.fault.Why.TheVariants.{Probe}
+use Rattle.dt_ecb.specs.Matching as matching
+use Rattle.dt_consumer.specs.Answer.{listed}
+use Rattle.dt_consumer.specs.Ask.{list, description_of, is_described}
+use Rattle.dt_consumer.specs.declared.refusal.Refusal.TheVariants.{Program}
+use Rattle.dt_consumer.proofs.DraftLemmas.{refused_by, told_draft}
 use Rattle.dt_consumer.proofs.consumer.Consumer.draft_list.Goals as goal
 
 pub returns-in_default : goal.returns-in_default
-returns-in_default c = λ account life reading m read.
-    rw (c.one_description.ensures c.args.text.now reading None read c.in_default.ensures.none)
-    (list_refused account c.args.machine.now.registry life _
-    c.refused.ensures.reply c.refused.ensures.change m.in_quota)
+returns-in_default c = λ account life m.
+    let text = c.args.text.now in
+    rw (c.one_description.ensures text (description_of text) None (is_described text) c.in_default.ensures.none)
+    (refused_by account c.args.machine.now.registry life (list None) (Program 0 Probe) _
+    c.refused.ensures.reply c.refused.ensures.change m.in_quota refl refl)
 
 pub returns : goal.returns
-returns c = λ account life reading m read.
+returns c = λ account life m.
+    let text = c.args.text.now in
     let form = form_of_description c.in-Some.description in
-    rw (c.one_description.ensures c.args.text.now reading (Some form) read c.in-Some.ensures.found)
-    (list_draft account c.args.machine.now.registry life form c.in_ok-probes.probes m.in_quota
-    (rw (sym m.stands.same_account) c.in_ok-probes.ensures))
+    rw (c.one_description.ensures text (description_of text) (Some form) (is_described text) c.in-Some.ensures.found)
+    (told_draft account c.args.machine.now.registry life (list (Some form)) _ m.in_quota refl
+    (ap listed (c.in_ok-probes.ensures
+    ∙ ap (λ a. matching.listed a c.args.machine.now.registry (form_of_description c.in-Some.description))
+    m.stands.keeps.same_account)) refl)

@@ -1,61 +1,32 @@
--- A program is refused for a clause or for its ECBs, or drafted.
-use Rattle.std.proofs.Common.{ℕ, Result, length, map, ap, subst, arith}
-use Rattle.std.specs.Global.{Vec}
-use Rattle.std.proofs.lemmas.List.{length-map}
-use Rattle.dt_lang.specs.Program.{form_of_clause}
-use Rattle.dt_consumer.specs.Life.{clauses_of}
-use Rattle.dt_consumer.specs.Places.{key_of, AreMade}
-use Rattle.dt_consumer.specs.declared.ecb.Ecb.{Ecb}
-use Rattle.dt_consumer.proofs.ProgramLemmas.{unmatched, over_limit, program_draft, ecbs_before, made_by}
+-- A program is enabled, or refused for its first fault.
+use Rattle.std.proofs.Common.{length, ap, arith}
+use Rattle.dt_lang.specs.Program.{form_of_program}
+use Rattle.dt_ecb.specs.Forms.{verdict_of}
+use Rattle.dt_consumer.specs.Life.{set_up}
+use Rattle.dt_consumer.proofs.Drafting.{program_refused, program_asked, next_is, enabled_asked}
+use Rattle.dt_consumer.proofs.Telling.{if_ok_map}
 use Rattle.dt_consumer.proofs.consumer.Consumer.draft_program.Goals as goal
 
-pub returns-in-Err : goal.returns-in-Err
-returns-in-Err c = λ account life m off.
+pub returns-in-Ok : goal.returns-in-Ok
+returns-in-Ok c =
+    if_ok_map _ _ c.draft_enabled.result
+    (λ draft h. λ account life m off.
     let registry = c.args.machine.now.registry in
-    let forms = map form_of_clause c.args.program.clauses.items in
-    let made = made_by account registry c.args.self.now life m.stands _ c.args.program.clauses.items _ _
-    c.deref.ensures.value c.clauses-place.ensures.value c.in_ok-ecbs.ensures in
-    let P : Result (Vec Ecb) ℕ → Type 0 = λ r.
-    AreMade account c.args.machine.now.registry
-    (length (clauses_of account c.args.machine.now.registry life))
-    (map form_of_clause c.args.program.clauses.items) r in
-    unmatched account registry life m.in_quota off forms c.in-Err.clause _
-    c.refused.ensures.reply c.refused.ensures.change (subst P c.in-Err.is made)
+    let s = set_up account registry life in
+    let both = enabled_asked account registry s c.args.self.now m.stands.keeps _ _ _ c.in-Ok.ensures.enabled in
+    h account life m off
+    (next_is account registry s c.args.self.now m.stands.keeps _ (omega (arith, ap length c.ecbs.ensures.value)))
+    both.0 both.1)
+    c.draft_enabled.ensures
 
-pub returns-then-len-before : goal.returns-then-len-before
-returns-then-len-before c = λ account life m off.
+pub returns-in-Some : goal.returns-in-Some
+returns-in-Some c = λ account life m off.
     let registry = c.args.machine.now.registry in
-    let forms = map form_of_clause c.args.program.clauses.items in
-    let made = made_by account registry c.args.self.now life m.stands _ c.args.program.clauses.items _ _
-    c.deref.ensures.value c.clauses-place.ensures.value c.in_ok-ecbs.ensures in
-    let P : Result (Vec Ecb) ℕ → Type 0 = λ r.
-    AreMade account c.args.machine.now.registry
-    (length (clauses_of account c.args.machine.now.registry life))
-    (map form_of_clause c.args.program.clauses.items) r in
-    let both = subst P c.in-Ok.is made in
-    over_limit account registry life m.in_quota off forms _
-    (assumption c) (assumption c) both.0
-    (omega (
-      arith,
-      ecbs_before account registry c.args.self.now life m.stands,
-      ap length both.1,
-      length-map c.in-Ok.ecbs.items key_of,
-      ap length c.ecbs-before.ensures.value,
-      c.len.ensures,
-    ))
-
-pub returns : goal.returns
-returns c = λ account life m off.
-    let registry = c.args.machine.now.registry in
-    let made = made_by account registry c.args.self.now life m.stands _ c.args.program.clauses.items _ _
-    c.deref.ensures.value c.clauses-place.ensures.value c.in_ok-ecbs.ensures in
-    let P : Result (Vec Ecb) ℕ → Type 0 = λ r.
-    AreMade account c.args.machine.now.registry
-    (length (clauses_of account c.args.machine.now.registry life))
-    (map form_of_clause c.args.program.clauses.items) r in
-    let both = subst P c.in-Ok.is made in
-    let before = ecbs_before account registry c.args.self.now life m.stands in
-    program_draft account registry life m.in_quota off _ _ c.args.program.clauses c.in-Ok.ecbs both.0 both.1
-    (omega (arith, c.len-2.ensures))
-    (omega (arith, before, ap length c.ecbs-before.ensures.value))
-    (omega (arith, before, ap length c.ecbs-before.ensures.value, c.len.ensures))
+    let s = set_up account registry life in
+    program_refused account registry life c.one_verdict.ensures (form_of_program c.args.program)
+    (verdict_of c.in-Err.fault) c.in-Some.refusal _ c.refused.ensures.reply c.refused.ensures.change m.in_quota off
+    (program_asked account registry s c.args.self.now m.stands.keeps (form_of_program c.args.program) _
+    (verdict_of c.in-Err.fault)
+    (next_is account registry s c.args.self.now m.stands.keeps _ (omega (arith, ap length c.ecbs.ensures.value)))
+    c.in-Err.ensures.refused)
+    c.in-Some.ensures

@@ -1,4 +1,3 @@
--- What the proof of `Run::call` is told at its goals.
 use Rattle.std.proofs.Common.{◌≡◌, ◌∷◌, ◌++◌, codes, Some, sym, subst, rules}
 use Rattle.dtraced.specs.Run.{IsServed}
 use Rattle.dtraced.specs.Step.{calls}

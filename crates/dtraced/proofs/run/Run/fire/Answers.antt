@@ -1,4 +1,3 @@
--- What the proof of `Run::fire` is told at its goals.
 use Rattle.std.proofs.Common.{◌≡◌, ◌<◌, Some, None, sym, ◌∙◌, arith, rules}
 use Rattle.dt_machine.specs.Registry.{firing_at}
 use Rattle.dtraced.specs.Replay.{taken}

@@ -1,4 +1,3 @@
--- What the proof of `Run::new` is told at its goals.
 use Rattle.std.proofs.Common.{refl, []}
 use Rattle.dtraced.proofs.Counts.{zeros}
 use Rattle.dtraced.proofs.StepLists.{no_steps}

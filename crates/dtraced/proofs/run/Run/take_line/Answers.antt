@@ -1,4 +1,3 @@
--- What the proof of `Run::take_line` is told at its goals.
 use Rattle.std.proofs.Common.{◌∷◌, ◌++◌, [], reverse, sym, subst}
 use Rattle.dtraced.specs.Run.{IsAfter}
 use Rattle.dtraced.specs.Step.{act_of}

@@ -1,0 +1,339 @@
+-- A consumer after a line of its own, and after a firing.
+use Rattle.std.proofs.Common.{◌≡◌, ℕ, zero, suc, ◌+◌, ◌-◌, ◌<◌, ◌≤◌, ◌&&◌, ◌||◌, not, Bool, true, false, cond, List, [], ◌∷◌, ◌++◌, Option, Some, None, Result, length, get_or, map, refl, sym, ap, ◌∙◌, subst, arith}
+use Rattle.std.specs.List.{All, AllByRecursion, list_any, enumerate_from}
+use Rattle.std.specs.Option.{MatchOption, is_some}
+use Rattle.std.proofs.lemmas.List.{length-append, length-map, map-append}
+use Rattle.std.proofs.lemmas.List.Elements.{All-from_recursion, recursion_from_All}
+use Rattle.std.proofs.lemmas.List.FromFn.{length-enumerate_from}
+use Rattle.std.proofs.lemmas.Bool.{eqb-false, ltb-false, leb-false}
+use Rattle.dt_cred.specs.declared.account.Account.{Account}
+use Rattle.dt_cred.specs.declared.probe.Probe.{Probe}
+use Rattle.dt_machine.specs.Registry.{Registry}
+use Rattle.dt_lang.specs.Program.{ClauseForm, form_of_clause}
+use Rattle.dt_lang.specs.declared.program.Clause.{Clause}
+use Rattle.dt_ecb.specs.Ecbs.{EcbForm, numbered, pairs_of, pairs_of_clause, added, ecbs_of}
+use Rattle.dt_ecb.specs.Enable.{is_allowed, is_too_much, is_unmatched, is_enabled}
+use Rattle.dt_ecb.specs.Forms.{form_of_ecb, no_clause, shapes_of}
+use Rattle.dt_ecb.specs.Matching.{matched}
+use Rattle.dt_ecb.specs.Shapes.{ShapeForm, uses_of, any_clash}
+use Rattle.dt_ecb.specs.declared.limits.TheConstants.{ECBS_MAX}
+use Rattle.dt_ecb.specs.declared.parts.Ecb.{Ecb}
+use Rattle.dt_consumer.specs.Ask.{Ask}
+use Rattle.dt_consumer.specs.Draft.{after_line}
+use Rattle.dt_consumer.specs.Keeps.{AreEcbs, IsTracing, Keeps, placed_after}
+use Rattle.dt_consumer.specs.Life.{Item, asked, SetUp, lines, is_over, set_up, ecbs_in, next_epid, with_program, with_go}
+use Rattle.dt_consumer.specs.StandsFor.{StandsFor}
+use Rattle.dt_consumer.specs.declared.consumer.Consumer.{Consumer}
+use Rattle.dt_consumer.specs.declared.limits.TheConstants.{LINES_MAX}
+use Rattle.dt_consumer.specs.declared.programs.Programs.{Programs}
+use Rattle.dt_consumer.specs.declared.refusal.Refusal.{Refusal}
+use Rattle.dt_consumer.specs.declared.tracing.Tracing.{Tracing}
+
+-- a life after a line within the quota
+pub after_counted : (life : List Item) (line : Result Ask Refusal) → is_over life ≡ false
+    → after_line life line ≡ asked line ∷ life
+after_counted life line e = ap (λ b. cond b life (asked line ∷ life)) e
+
+pub quota_left : (life : List Item) → is_over life ≡ false → lines life < LINES_MAX
+quota_left life e = leb-false LINES_MAX (lines life) e
+
+-- an ECB keeps its clause where others stand behind or before it
+back_added : {X : Type 0} (xs ys : List X) (i : ℕ) (d : X) → i < length xs → get_or (xs ++ ys) i d ≡ get_or xs i d
+back_added [] ys i d h = absurd (omega arith)
+back_added (x ∷ xs) ys zero d h = refl
+back_added (x ∷ xs) ys (suc i) d h = back_added xs ys i d (omega arith)
+
+front_added : {X : Type 0} (xs ys : List X) (n i : ℕ) (d : X) → n ≡ length xs → get_or (xs ++ ys) (n + i) d ≡ get_or ys i d
+front_added [] ys n i d e = ap (λ k. get_or ys k d) (omega arith)
+front_added (x ∷ xs) ys zero i d e = absurd (omega arith)
+front_added (x ∷ xs) ys (suc n) i d e =
+    ap (λ k. get_or (x ∷ (xs ++ ys)) k d) (shift n i) ∙ front_added xs ys n i d (omega arith)
+  where
+    shift : (n i : ℕ) → suc n + i ≡ suc (n + i)
+    shift n i = omega arith
+
+abbrev AllBelow : ℕ → List Ecb → Type 0
+AllBelow n ecbs = AllByRecursion (λ (ecb : Ecb). ecb.clause < n) ecbs
+
+old_forms : (own more : List ClauseForm) (ecbs : List Ecb) → AllBelow (length own) ecbs
+    → map (form_of_ecb (own ++ more)) ecbs ≡ map (form_of_ecb own) ecbs
+old_forms own more [] h = refl
+old_forms own more (ecb ∷ ecbs) h =
+    ap
+    (λ c. record { epid = ecb.epid; probe = ecb.probe; clause = c } ∷ map (form_of_ecb (own ++ more)) ecbs)
+    (back_added own more ecb.clause no_clause h.0)
+    ∙ ap (λ es. form_of_ecb own ecb ∷ es) (old_forms own more ecbs h.1)
+
+new_forms : (own more : List ClauseForm) (n : ℕ) (ecbs : List Ecb) → n ≡ length own
+    → map (form_of_ecb (own ++ more)) (map (placed_after n) ecbs) ≡ map (form_of_ecb more) ecbs
+new_forms own more n [] e = refl
+new_forms own more n (ecb ∷ ecbs) e =
+    ap
+    (λ c. record { epid = ecb.epid; probe = ecb.probe; clause = c }
+    ∷ map (form_of_ecb (own ++ more)) (map (placed_after n) ecbs))
+    (front_added own more n ecb.clause no_clause e)
+    ∙ ap (λ es. form_of_ecb more ecb ∷ es) (new_forms own more n ecbs e)
+
+old_placed : (n m : ℕ) (ecbs : List Ecb) → n ≤ m → AllBelow n ecbs → AllBelow m ecbs
+old_placed n m [] h all = tt
+old_placed n m (ecb ∷ ecbs) h all = (omega (arith, all.0), old_placed n m ecbs h all.1)
+
+new_placed : (n k m : ℕ) (ecbs : List Ecb) → n + k ≤ m → AllBelow k ecbs → AllBelow m (map (placed_after n) ecbs)
+new_placed n k m [] h all = tt
+new_placed n k m (ecb ∷ ecbs) h all = (omega (arith, all.0), new_placed n k m ecbs h all.1)
+
+both_placed : (n : ℕ) (xs ys : List Ecb) → AllBelow n xs → AllBelow n ys → AllBelow n (xs ++ ys)
+both_placed n [] ys h k = k
+both_placed n (x ∷ xs) ys h k = (h.0, both_placed n xs ys h.1 k)
+
+-- the ECBs of a program, placed behind a consumer's own
+pub are_placed : (own more : List ClauseForm) (wanted : List EcbForm) (n : ℕ) (ecbs placed : List Ecb) → n ≡ length own
+    → AreEcbs more wanted ecbs → placed ≡ map (placed_after n) ecbs → AreEcbs (own ++ more) wanted placed
+are_placed own more wanted n ecbs placed e h is = record {
+  forms = ap (map (form_of_ecb (own ++ more))) is ∙ new_forms own more n ecbs e ∙ h.forms;
+  placed =
+      let P : List Ecb → Type 0 = λ xs. All (λ (ecb : Ecb). ecb.clause < length (own ++ more)) xs in
+      subst P (sym is)
+      (All-from_recursion _ (map (placed_after n) ecbs)
+      (new_placed n (length more) (length (own ++ more)) ecbs (omega (arith, e, length-append own more))
+      (recursion_from_All _ ecbs h.placed)));
+}
+
+are_both : (own more : List ClauseForm) (wanted new : List EcbForm) (xs ys : List Ecb) → AreEcbs own wanted xs
+    → AreEcbs (own ++ more) new ys → AreEcbs (own ++ more) (wanted ++ new) (xs ++ ys)
+are_both own more wanted new xs ys h k =
+    let old = recursion_from_All (λ (ecb : Ecb). ecb.clause < length own) xs h.placed in
+    record {
+      forms =
+          map-append (form_of_ecb (own ++ more)) xs ys
+          ∙ ap (λ es. es ++ map (form_of_ecb (own ++ more)) ys) (old_forms own more xs old ∙ h.forms)
+          ∙ ap (λ es. wanted ++ es) k.forms;
+      placed =
+          All-from_recursion _ (xs ++ ys)
+          (both_placed (length (own ++ more)) xs ys
+          (old_placed (length own) (length (own ++ more)) xs (omega (arith, length-append own more)) old)
+          (recursion_from_All _ ys k.placed));
+    }
+
+-- what is enabled
+both : (a b : Bool) → (a && b) ≡ true → (a ≡ true) × (b ≡ true)
+both true b e = (refl, e)
+both false b e = cc
+
+none : (b : Bool) → not b ≡ true → b ≡ false
+none true e = cc
+none false e = refl
+
+neither : (a b : Bool) → (a || b) ≡ false → (a ≡ false) × (b ≡ false)
+neither true b e = cc
+neither false b e = (refl, e)
+
+module _ (account : Account) (registry : Registry) where
+  abbrev at_clause : ClauseForm → Probe → ℕ × ClauseForm
+  at_clause clause probe = (probe.id, clause)
+
+  -- clauses that all match make at least as many ECBs
+  matched_many : (clauses : List ClauseForm) → list_any (is_unmatched account registry) clauses ≡ false
+      → length clauses ≤ length (pairs_of account registry clauses)
+  matched_many [] e = omega arith
+  matched_many (clause ∷ clauses) e =
+      let two = neither (is_unmatched account registry clause) (list_any (is_unmatched account registry) clauses) e in
+      let some = eqb-false (length (matched account registry clause)) 0 two.0 in
+      omega (
+        arith,
+        matched_many clauses two.1,
+        length-append (pairs_of_clause account registry clause) (pairs_of account registry clauses),
+        length-map (matched account registry clause) (at_clause clause),
+        some,
+      )
+
+  length-added : (epid : ℕ) (clauses : List ClauseForm)
+      → length (added account registry epid clauses) ≡ length (pairs_of account registry clauses)
+  length-added epid clauses =
+      length-map (enumerate_from epid (pairs_of account registry clauses)) numbered
+      ∙ length-enumerate_from epid (pairs_of account registry clauses)
+
+  module _ (shapes : List ShapeForm) (epid : ℕ) (clauses : List ClauseForm)
+      (holds : is_enabled account registry shapes epid clauses ≡ true) where
+    after_rights : (not (any_clash shapes (uses_of clauses))
+        && (not (list_any (is_unmatched account registry) clauses)
+        && not (is_too_much account registry shapes epid clauses))) ≡ true
+    after_rights = (both (is_allowed account registry shapes epid clauses) _ holds).1
+
+    after_clash : (not (list_any (is_unmatched account registry) clauses)
+        && not (is_too_much account registry shapes epid clauses)) ≡ true
+    after_clash = (both (not (any_clash shapes (uses_of clauses))) _ after_rights).1
+
+    pub many_ecbs : length clauses ≤ length (added account registry epid clauses)
+    many_ecbs =
+        omega (
+          arith,
+          length-added epid clauses,
+          matched_many clauses
+              (none (list_any (is_unmatched account registry) clauses)
+              (both (not (list_any (is_unmatched account registry) clauses)) _ after_clash).0),
+        )
+
+    pub few_ecbs : epid - 1 + length (added account registry epid clauses) ≤ ECBS_MAX
+    few_ecbs =
+        ltb-false ECBS_MAX (epid - 1 + length (added account registry epid clauses))
+        (neither _ _
+        (none (is_too_much account registry shapes epid clauses)
+        (both (not (list_any (is_unmatched account registry) clauses)) _ after_clash).1)).0
+
+-- a consumer that was not tracing keeps so
+still_none : (o : Option Tracing) (b : Bool) (P Q : Tracing → Type 0) → b ≡ false
+    → MatchOption o (b ≡ false) (λ t. (b ≡ true) × P t) → MatchOption o (b ≡ false) (λ t. (b ≡ true) × Q t)
+still_none None b P Q off h = h
+still_none (Some t) b P Q off h = absurd (clashing b off h.0)
+  where
+    clashing : (b : Bool) → b ≡ false → b ≡ true → ⊥
+    clashing true e f = cc
+    clashing false e f = cc
+
+module _ (account : Account) (registry : Registry) (consumer : Consumer) where
+  -- a count more changes nothing that is kept
+  pub keeps_counted : (s : SetUp) (n : ℕ) → Keeps account registry s consumer
+      → Keeps account registry s (record consumer { lines = n })
+  keeps_counted s n k = record {
+    same_account = k.same_account;
+    clauses = k.clauses;
+    ecbs = k.ecbs;
+    shapes = k.shapes;
+    tracing = k.tracing;
+  }
+
+  module _ (life : List Item) (s : StandsFor account registry consumer life) where
+    -- a line that leaves the set-up
+    pub stands_same : (line : Result Ask Refusal) (n : ℕ) → n ≡ suc (lines life)
+        → set_up account registry (asked line ∷ life) ≡ set_up account registry life
+        → StandsFor account registry (record consumer { lines = n }) (asked line ∷ life)
+    stands_same line n counts same = record {
+      keeps =
+          let P : SetUp → Type 0 = λ x. Keeps account registry x (record consumer { lines = n }) in
+          subst P (sym same) (keeps_counted (set_up account registry life) n s.keeps);
+      counted = counts;
+      seen = s.seen;
+    }
+
+    -- a line that changes it
+    pub stands_changed : (line : Result Ask Refusal) (next : Consumer) (t : SetUp)
+        → set_up account registry (asked line ∷ life) ≡ t
+        → next.lines ≡ suc (lines life) → next.seen ≡ consumer.seen → Keeps account registry t next
+        → StandsFor account registry next (asked line ∷ life)
+    stands_changed line next t is counts same k = record {
+      keeps = let P : SetUp → Type 0 = λ x. Keeps account registry x next in subst P (sym is) k;
+      counted = counts;
+      seen = same ∙ s.seen;
+    }
+
+  -- an accepted program
+  module _ (s : SetUp) (k : Keeps account registry s consumer) (clauses : List Clause) (ecbs : List Ecb)
+      (off : s.begun ≡ false)
+      (holds : is_enabled account registry s.shapes (next_epid account registry s) (map form_of_clause clauses) ≡ true)
+      (are : AreEcbs (s.clauses ++ map form_of_clause clauses)
+      (added account registry (next_epid account registry s) (map form_of_clause clauses)) ecbs) where
+    abbrev forms : List ClauseForm
+    forms = map form_of_clause clauses
+
+    new_count : length ecbs ≡ length (added account registry (next_epid account registry s) forms)
+    new_count = sym (length-map ecbs (form_of_ecb (s.clauses ++ forms))) ∙ ap length are.forms
+
+    old_count : length consumer.programs.ecbs.items ≡ length (ecbs_in account registry s)
+    old_count =
+        sym (length-map consumer.programs.ecbs.items (form_of_ecb s.clauses)) ∙ ap length k.ecbs.forms
+
+    -- there is room
+    pub each_effective : length clauses ≤ length ecbs
+    each_effective =
+        omega (
+          arith,
+          new_count,
+          many_ecbs account registry s.shapes (next_epid account registry s) forms holds,
+          length-map clauses form_of_clause,
+        )
+
+    pub ecbs_fit : length consumer.programs.ecbs.items + length ecbs ≤ ECBS_MAX
+    ecbs_fit =
+        omega (
+          arith,
+          new_count,
+          old_count,
+          few_ecbs account registry s.shapes (next_epid account registry s) forms holds,
+        )
+
+    pub keeps_program : ((before more : List ClauseForm) → ecbs_of account registry (before ++ more)
+        ≡ ecbs_of account registry before
+        ++ added account registry (length (ecbs_of account registry before) + 1) more)
+        → (n : ℕ) (programs : Programs)
+        → programs.clauses.items ≡ consumer.programs.clauses.items ++ clauses
+        → programs.ecbs.items ≡ consumer.programs.ecbs.items ++ ecbs
+        → shapes_of programs.shapes ≡ s.shapes ++ uses_of forms
+        → Keeps account registry (with_program s forms) (record consumer { programs = programs; lines = n })
+    keeps_program go_on n programs grown grown_ecbs shaped = record {
+      same_account = k.same_account;
+      clauses =
+          ap (map form_of_clause) grown
+          ∙ map-append form_of_clause consumer.programs.clauses.items clauses
+          ∙ ap (λ cs. cs ++ forms) k.clauses;
+      ecbs =
+          let both = are_both s.clauses forms _ _ consumer.programs.ecbs.items ecbs k.ecbs are in
+          let P : List EcbForm → Type 0 = λ es. AreEcbs (s.clauses ++ forms) es programs.ecbs.items in
+          let Q : List Ecb → Type 0 = λ xs. AreEcbs (s.clauses ++ forms)
+          (ecbs_of account registry s.clauses
+          ++ added account registry (length (ecbs_of account registry s.clauses) + 1) forms) xs in
+          subst P (sym (go_on s.clauses forms)) (subst Q (sym grown_ecbs) both);
+      shapes = shaped;
+      tracing = still_none consumer.tracing s.begun _ _ off k.tracing;
+    }
+
+  -- an accepted `go`
+  pub keeps_begun : (s : SetUp) (n : ℕ) (tracing : Tracing) → Keeps account registry s consumer
+      → IsTracing account registry (with_go s) tracing
+      → Keeps account registry (with_go s) (record consumer { tracing = Some tracing; lines = n })
+  keeps_begun s n tracing k t = record {
+    same_account = k.same_account;
+    clauses = k.clauses;
+    ecbs = k.ecbs;
+    shapes = k.shapes;
+    tracing = (refl, t);
+  }
+
+  -- what there is while it traces changed, and with it the set-up by an event
+  pub keeps_traced : (s next : SetUp) (n m : ℕ) (tracing : Tracing) → Keeps account registry s consumer
+      → next.clauses ≡ s.clauses → next.shapes ≡ s.shapes → next.begun ≡ true
+      → IsTracing account registry next tracing
+      → Keeps account registry next (record consumer { tracing = Some tracing; lines = n; seen = m })
+  keeps_traced s next n m tracing k clauses shapes on t = record {
+    same_account = k.same_account;
+    clauses = k.clauses ∙ sym clauses;
+    ecbs =
+        let P : List ClauseForm → Type 0 = λ cs.
+        AreEcbs cs (ecbs_of account registry cs) consumer.programs.ecbs.items in
+        subst P (sym clauses) k.ecbs;
+    shapes = k.shapes ∙ sym shapes;
+    tracing = (on, t);
+  }
+
+-- whether a consumer traces
+module _ (account : Account) (registry : Registry) (s : SetUp) (consumer : Consumer) (k : Keeps account registry s consumer)
+  where
+    pub traced : (t : Tracing) → consumer.tracing ≡ Some t → (s.begun ≡ true) × IsTracing account registry s t
+    traced t e =
+        let P : Option Tracing → Type 0 = λ o.
+        MatchOption o (s.begun ≡ false) (λ x. (s.begun ≡ true) × IsTracing account registry s x) in
+        subst P e k.tracing
+
+    pub untraced : consumer.tracing ≡ None → s.begun ≡ false
+    untraced e =
+        let P : Option Tracing → Type 0 = λ o.
+        MatchOption o (s.begun ≡ false) (λ x. (s.begun ≡ true) × IsTracing account registry s x) in
+        subst P e k.tracing
+
+    is_begun : (o : Option Tracing)
+        → MatchOption o (s.begun ≡ false) (λ x. (s.begun ≡ true) × IsTracing account registry s x) → is_some o ≡ s.begun
+    is_begun None h = sym h
+    is_begun (Some t) h = sym h.0
+
+    pub traces : is_some consumer.tracing ≡ s.begun
+    traces = is_begun consumer.tracing k.tracing

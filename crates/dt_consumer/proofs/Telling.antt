@@ -1,0 +1,171 @@
+-- What `status` and `describe` tell.
+use Rattle.std.proofs.Common.{◌≡◌, ℕ, zero, suc, ◌+◌, ◌<◌, ◌≤◌, ◌^◌, ◌==◌, Bool, true, false, List, [], ◌∷◌, Option, Some, None, Result, Ok, Err, length, map, min, replicate, refl, sym, ap, ◌∙◌, subst, if◌then◌else◌, arith}
+use Rattle.std.specs.List.{slice_get, find, range_with_len, AllByRecursion}
+use Rattle.std.specs.Option.{IfSome, MatchOption, option_map, option_and_then}
+use Rattle.std.specs.Result.{IfOk}
+use Rattle.std.proofs.lemmas.Bool.{eqb-true}
+use Rattle.std.proofs.lemmas.List.{length-map}
+use Rattle.std.proofs.lemmas.List.Elements.{recursion_from_All}
+use Rattle.dt_cred.specs.declared.account.Account.{Account}
+use Rattle.dt_cred.specs.declared.probe.Probe.{Probe}
+use Rattle.dt_machine.specs.Registry.{Registry, probe_of}
+use Rattle.dt_lang.specs.Program.{form_of_clause}
+use Rattle.dt_ecb.specs.Ecbs.{EcbForm}
+use Rattle.dt_ecb.specs.Forms.{form_of_ecb}
+use Rattle.dt_ecb.specs.declared.limits.TheConstants.{ECBS_MAX}
+use Rattle.dt_ecb.specs.declared.parts.Ecb.{Ecb}
+use Rattle.dt_consumer.specs.Keeps.{HasTaken, IsTracing, Keeps}
+use Rattle.dt_consumer.specs.Life.{Item, SetUp, firings, set_up, ecbs_in}
+use Rattle.dt_consumer.specs.Reply.{all_errors, ecb_of}
+use Rattle.dt_consumer.specs.Takings.{takings, takings_since_snap, errors, faults}
+use Rattle.dt_consumer.specs.declared.consumer.Consumer.{Consumer}
+use Rattle.dt_consumer.specs.declared.limits.TheConstants.{FIRINGS_MAX, COUNT_MAX}
+use Rattle.dt_consumer.specs.declared.processor.Processor.{Processor}
+use Rattle.dt_consumer.specs.declared.tracing.Tracing.{Tracing}
+use Rattle.dt_consumer.proofs.Counts.{few_taken}
+use Rattle.dt_consumer.proofs.Lists.{find-map}
+use Rattle.dt_consumer.proofs.Takings.{faults_few}
+use Rattle.dt_consumer.proofs.Tracings.{taken-none}
+
+pub if_ok_map : {T E : Type 0} (P Q : T → Type 0) (r : Result T E) → ((x : T) → P x → Q x) → IfOk r P → IfOk r Q
+if_ok_map P Q (Ok x) f h = f x h
+if_ok_map P Q (Err e) f h = h
+
+each_error : (f : ℕ → ℕ) (base : ℕ) (xs : List Processor)
+    → ((i : ℕ) → IfSome (slice_get xs i) (λ p. p.errors ≡ f (base + i)))
+    → map (λ (p : Processor). p.errors) xs ≡ map f (range_with_len base (length xs))
+each_error f base [] each = refl
+each_error f base (p ∷ xs) each =
+    ap (λ n. n ∷ map (λ (p : Processor). p.errors) xs) (each 0 ∙ ap f (omega arith))
+    ∙ ap (λ ns. f base ∷ ns)
+    (each_error f (base + 1) xs
+    (λ i. subst (λ k. IfSome (slice_get xs i) (λ (p : Processor). p.errors ≡ f k)) (shift base i) (each (suc i))))
+  where
+    shift : (base i : ℕ) → base + suc i ≡ base + 1 + i
+    shift base i = omega arith
+
+all_zero : (f : ℕ → ℕ) (n base : ℕ) → ((k : ℕ) → f k ≡ 0) → map f (range_with_len base n) ≡ replicate n 0
+all_zero f zero base none = refl
+all_zero f (suc n) base none =
+    ap (λ k. k ∷ map f (range_with_len (base + 1) n)) (none base) ∙ ap (λ ns. 0 ∷ ns) (all_zero f n (base + 1) none)
+
+-- the ECBs of a consumer are few
+pub ecbs_few : (account : Account) (registry : Registry) (consumer : Consumer) (s : SetUp)
+    → Keeps account registry s consumer → length consumer.programs.ecbs.items ≤ ECBS_MAX
+    → length (ecbs_in account registry s) ≤ ECBS_MAX
+ecbs_few account registry consumer s k few = omega (
+  arith,
+  few,
+  length-map consumer.programs.ecbs.items (form_of_ecb s.clauses),
+  ap length k.ecbs.forms,
+)
+
+module _ (account : Account) (registry : Registry) (life : List Item) where
+  counted_all : (n : ℕ) (cpu : ℕ) → length (takings account registry life cpu) < 2 ^ 40
+      → n ≡ min (faults (takings account registry life cpu)) COUNT_MAX → n ≡ errors account registry life cpu
+  counted_all n cpu few e = omega (arith, e, few, faults_few (takings account registry life cpu))
+
+  if_counted : (o : Option Processor) (cpu : ℕ) → length (takings account registry life cpu) < 2 ^ 40
+      → IfSome o (λ p. p.errors ≡ min (faults (takings account registry life cpu)) COUNT_MAX)
+      → IfSome o (λ p. p.errors ≡ errors account registry life cpu)
+  if_counted None cpu few h = tt
+  if_counted (Some p) cpu few h = counted_all p.errors cpu few h
+
+  has_counted : (o : Option Processor) (cpu : ℕ)
+      → IfSome o (HasTaken (takings_since_snap account registry life cpu) (takings account registry life cpu))
+      → IfSome o (λ p. p.errors ≡ min (faults (takings account registry life cpu)) COUNT_MAX)
+  has_counted None cpu h = tt
+  has_counted (Some p) cpu h = h.counted
+
+  -- the errors of the processors, while it traces
+  pub errors_told : (t : Tracing) → IsTracing account registry (set_up account registry life) t
+      → length (ecbs_in account registry (set_up account registry life)) ≤ ECBS_MAX → firings life ≤ FIRINGS_MAX
+      → map (λ (p : Processor). p.errors) t.processors.items ≡ all_errors account registry life
+  errors_told t is few small =
+      each_error (errors account registry life) 0 t.processors.items
+      (λ i.
+      subst (λ k. IfSome (slice_get t.processors.items i) (λ (p : Processor). p.errors ≡ errors account registry life k))
+      (omega arith)
+      (if_counted (slice_get t.processors.items i) i (few_taken account registry life i few small)
+      (has_counted (slice_get t.processors.items i) i (is.processors i))))
+      ∙ ap (λ n. map (errors account registry life) (range_with_len 0 n)) is.all_processors
+
+  -- and before
+  pub no_errors : (set_up account registry life).begun ≡ false
+      → replicate registry.cpus 0 ≡ all_errors account registry life
+  no_errors off =
+      sym (all_zero (errors account registry life) registry.cpus 0
+      (λ cpu. ap faults (taken-none account registry (set_up account registry life) off cpu)))
+
+-- the test that a search found holds of what it found, and so does what holds of each
+found_here : {X : Type 0} (P : X → Type 0) (b : Bool) (x : X) (later : Option X) (y : X)
+    → (b ≡ true → P x) → (later ≡ Some y → P y) → (if b then Some x else later) ≡ Some y → P y
+found_here P true x later y here rest e = let same : x ≡ y = cc in subst P same (here refl)
+found_here P false x later y here rest e = rest e
+
+pub find_passes : {X : Type 0} (test : X → Bool) (xs : List X) (y : X) → find test xs ≡ Some y → test y ≡ true
+find_passes test [] y e = cc
+find_passes test (x ∷ xs) y e =
+    found_here (λ z. test z ≡ true) (test x) x (find test xs) y (λ t. t) (find_passes test xs y) e
+
+pub find_all : {X : Type 0} (P : X → Type 0) (test : X → Bool) (xs : List X) (y : X) → AllByRecursion P xs
+    → find test xs ≡ Some y → P y
+find_all P test [] y all e = cc
+find_all P test (x ∷ xs) y all e =
+    found_here P (test x) x (find test xs) y (λ t. all.0) (find_all P test xs y all.1) e
+
+module _ (account : Account) (registry : Registry) (consumer : Consumer) (life : List Item)
+    (k : Keeps account registry (set_up account registry life) consumer) (epid : ℕ) where
+  abbrev own : SetUp
+  own = set_up account registry life
+
+  abbrev with_probe : EcbForm → Option (Probe × EcbForm)
+  with_probe ecb = option_map (λ probe. (probe, ecb)) (probe_of registry ecb.probe)
+
+  ecb_found : (o : Option Ecb) → o ≡ find (λ (ecb : Ecb). ecb.epid == epid) consumer.programs.ecbs.items
+      → ecb_of account registry life epid ≡ option_and_then with_probe (option_map (form_of_ecb own.clauses) o)
+  ecb_found o e =
+      ap (λ es. option_and_then with_probe (find (λ (ecb : EcbForm). ecb.epid == epid) es)) (sym k.ecbs.forms)
+      ∙ ap
+      (option_and_then with_probe)
+      (find-map (form_of_ecb own.clauses) (λ (ecb : EcbForm). ecb.epid == epid) consumer.programs.ecbs.items
+      ∙ ap (option_map (form_of_ecb own.clauses)) (sym e))
+
+  pub ecb_none : None ≡ find (λ (ecb : Ecb). ecb.epid == epid) consumer.programs.ecbs.items
+      → ecb_of account registry life epid ≡ None
+  ecb_none e = ecb_found None e
+
+  module _ (ecb : Ecb) (is : Some ecb ≡ find (λ (ecb : Ecb). ecb.epid == epid) consumer.programs.ecbs.items) where
+    pub probe_none : None ≡ probe_of registry ecb.probe → ecb_of account registry life epid ≡ None
+    probe_none e =
+        ecb_found (Some ecb) is
+        ∙ ap (λ o. option_map (λ (probe : Probe). (probe, form_of_ecb own.clauses ecb)) o) (sym e)
+
+    pub ecb_some : (probe : Probe) → Some probe ≡ probe_of registry ecb.probe
+        → ecb_of account registry life epid ≡ Some (probe, form_of_ecb own.clauses ecb)
+    ecb_some probe e =
+        ecb_found (Some ecb) is
+        ∙ ap (λ o. option_map (λ (probe : Probe). (probe, form_of_ecb own.clauses ecb)) o) (sym e)
+
+-- the clause of an ECB that is found is there
+pub clause_known : (account : Account) (registry : Registry) (consumer : Consumer) (life : List Item)
+    → Keeps account registry (set_up account registry life) consumer → (epid : ℕ) (ecb : Ecb)
+    → Some ecb ≡ find (λ (ecb : Ecb). ecb.epid == epid) consumer.programs.ecbs.items
+    → ecb.clause < length consumer.programs.clauses.items
+clause_known account registry consumer life k epid ecb is =
+    let there : ecb.clause < length (set_up account registry life).clauses =
+    find_all (λ (e : Ecb). e.clause < length (set_up account registry life).clauses) _ consumer.programs.ecbs.items ecb
+    (recursion_from_All _ consumer.programs.ecbs.items k.ecbs.placed) (sym is) in
+    omega (arith, there, ap length k.clauses, length-map consumer.programs.clauses.items form_of_clause)
+
+pub number_found : (epid : ℕ) (ecbs : List Ecb) (ecb : Ecb) → Some ecb ≡ find (λ (e : Ecb). e.epid == epid) ecbs
+    → ecb.epid ≡ epid
+number_found epid ecbs ecb is =
+    eqb-true ecb.epid epid (find_passes (λ (e : Ecb). e.epid == epid) ecbs ecb (sym is))
+
+-- what a relation says of an option that is known
+pub match_none : {X : Type 0} (o : Option X) (A : Type 0) (B : X → Type 0) → o ≡ None → A → MatchOption o A B
+match_none o A B e a = subst (λ x. MatchOption x A B) (sym e) a
+
+pub match_some : {X : Type 0} (o : Option X) (A : Type 0) (B : X → Type 0) (x : X) → o ≡ Some x → B x → MatchOption o A B
+match_some o A B x e b = subst (λ y. MatchOption y A B) (sym e) b

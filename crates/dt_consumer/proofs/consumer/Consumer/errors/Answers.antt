@@ -1,0 +1,24 @@
+-- The errors of each processor, while it traces; and zeros before.
+use Rattle.std.proofs.Common.{replicate, ap, ◌∙◌, arith}
+use Rattle.dt_consumer.specs.Life.{set_up}
+use Rattle.dt_consumer.proofs.Stands.{traced, untraced}
+use Rattle.dt_consumer.proofs.Telling.{if_ok_map, errors_told, no_errors, ecbs_few}
+use Rattle.dt_consumer.proofs.consumer.Consumer.errors.Goals as goal
+
+pub returns-in-Some : goal.returns-in-Some
+returns-in-Some c =
+    if_ok_map _ _ c.errors.result
+    (λ errors h. λ account life m.
+    let registry = c.args.machine.now.registry in
+    let s = set_up account registry life in
+    let t = traced account registry s c.args.self.now m.stands.keeps c.in-Some.tracing c.in-Some.is in
+    h ∙ errors_told account registry life c.in-Some.tracing t.1
+    (ecbs_few account registry c.args.self.now s m.stands.keeps (omega arith)) m.few_firings)
+    c.errors.ensures
+
+pub returns-in_ok-vec-in-None : goal.returns-in_ok-vec-in-None
+returns-in_ok-vec-in-None c = λ account life m.
+    let registry = c.args.machine.now.registry in
+    let off = untraced account registry (set_up account registry life) c.args.self.now m.stands.keeps c.in-None.is in
+    c.in_ok-vec-in-None.ensures.items_if_clones_equal (λ y h. h) ∙ ap (λ n. replicate n 0) c.cpus.ensures.value
+    ∙ no_errors account registry life off

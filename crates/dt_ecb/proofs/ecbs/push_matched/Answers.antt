@@ -1,0 +1,57 @@
+-- A probe makes an ECB, or it doesn't.
+use Rattle.std.proofs.Common.{◌≡◌, ◌+◌, ◌++◌, ◌∷◌, [], List, ◌∙◌, sym, ap, length, arith}
+use Rattle.std.proofs.lemmas.List.{length-append}
+use Rattle.std.specs.Global.{Vec}
+use Rattle.dt_lang.specs.Program.{form_of_clause}
+use Rattle.dt_ecb.specs.Matching.{is_matched}
+use Rattle.dt_ecb.specs.declared.parts.Ecb.{Ecb}
+use Rattle.dt_ecb.proofs.PlaceLemmas.{pushed, not_pushed}
+use Rattle.dt_ecb.proofs.ecbs.push_matched.Goals as goal
+use Rattle.dt_ecb.proofs.ecbs.push_matched.Goals.{then-is_matched+in_ok-push, else-is_matched}
+
+pub loop-probe-preserved : goal.loop-probe-preserved
+loop-probe-preserved c =
+    let test = is_matched c.args.account.now c.args.machine.now.registry (form_of_clause c.args.clause.now) in
+    let probes = c.probes-probe-items.result.now in
+    let items : Vec Ecb → List Ecb = λ ecbs. ecbs.items in
+    elim c.if-is_matched.branch [
+      | then-is_matched+in_ok-push w ↦
+          let grown : c.if-is_matched.ecbs.items ≡ c.loop-probe.ecbs.items ++ ((record {
+            epid = c.args.first_epid + length c.loop-probe.ecbs.items;
+            probe = c.probe-item.result.id;
+            clause = c.args.place;
+          }) ∷ []) =
+          ap items w.ecbs-is ∙ w.in_ok-push.ensures.items
+          ∙ ap (λ n. c.loop-probe.ecbs.items ++ (record {
+            epid = n;
+            probe = c.probe-item.result.id;
+            clause = c.args.place;
+          } ∷ [])) (omega (arith, w.len.ensures)) in
+          record {
+            value =
+                pushed c.args.first_epid c.args.place test probes c.loop-probe.probe-index c.probe-item.result
+                c.loop-probe-test.true c.probe-item.is c.args.ecbs.now.items c.loop-probe.ecbs.items
+                c.if-is_matched.ecbs.items c.loop-probe.invariant.value
+                (sym c.is_matched.ensures ∙ w.if-is_matched.true) grown;
+            few = omega (
+              arith,
+              ap length grown,
+              c.loop-probe.invariant.few,
+              length-append c.loop-probe.ecbs.items ((record {
+                epid = c.args.first_epid + length c.loop-probe.ecbs.items;
+                probe = c.probe-item.result.id;
+                clause = c.args.place;
+              }) ∷ []),
+            );
+          }
+      | else-is_matched w ↦
+          let same = ap items w.ecbs-is in
+          record {
+            value =
+                not_pushed c.args.first_epid c.args.place test probes c.loop-probe.probe-index c.probe-item.result
+                c.loop-probe-test.true c.probe-item.is c.args.ecbs.now.items c.loop-probe.ecbs.items
+                c.if-is_matched.ecbs.items c.loop-probe.invariant.value
+                (sym c.is_matched.ensures ∙ w.if-is_matched.false) same;
+            few = omega (arith, ap length same, c.loop-probe.invariant.few);
+          }
+    ]

@@ -1,0 +1,46 @@
+-- What becomes of the program.
+use Rattle.std.proofs.Common.{◌∙◌, sym, length, arith}
+use Rattle.std.proofs.lemmas.List.{length-map}
+use Rattle.dt_lang.specs.Program.{form_of_program, form_of_clause}
+use Rattle.dt_ecb.specs.Forms.{shapes_of}
+use Rattle.dt_ecb.specs.Shapes.{uses_of}
+use Rattle.dt_ecb.proofs.EnableLemmas.{no_answer, much_is, forms_are, placed}
+use Rattle.dt_ecb.proofs.VerdictLaws.{all_pass}
+use Rattle.dt_ecb.proofs.enabling.enable.Goals as goal
+
+pub returns-then-is_too_much-clause-refused : goal.returns-then-is_too_much-clause-refused
+returns-then-is_too_much-clause-refused c =
+    let clauses = form_of_program c.args.program.now in (
+      no_answer _ _ _ c.in_default.not-Some c.first_unallowed.ensures,
+      no_answer _ _ _ c.in_default-first_clash.not-Some (c.first_clash.ensures (uses_of clauses) c.in_ok-all.ensures),
+      no_answer _ _ _ c.in_default-first_unmatched.not-Some c.first_unmatched.ensures,
+      sym (much_is c.args.account.now c.args.machine.now.registry (shapes_of c.args.shapes.now) c.args.next_epid
+          clauses c.in_ok-ecbs.ecbs.items c.in_ok-ecbs.ensures.value c.len.result (shapes_of c.in_ok-all.all)
+          (omega (arith, c.len.ensures)) c.in_ok-all.ensures)
+          ∙ sym c.is_too_much.ensures ∙ c.if-is_too_much.true,
+    )
+
+pub returns-clause-enabled : goal.returns-clause-enabled
+returns-clause-enabled c =
+    let clauses = form_of_program c.args.program.now in
+    let account = c.args.account.now in
+    let registry = c.args.machine.now.registry in
+    let accepted = shapes_of c.args.shapes.now in
+    let made = c.in_ok-ecbs.ensures.value in (
+      all_pass _ _ _ _
+          (no_answer _ _ _ c.in_default.not-Some c.first_unallowed.ensures)
+          (no_answer _ _ _ c.in_default-first_clash.not-Some
+          (c.first_clash.ensures (uses_of clauses) c.in_ok-all.ensures))
+          (no_answer _ _ _ c.in_default-first_unmatched.not-Some c.first_unmatched.ensures)
+          (sym (much_is account registry accepted c.args.next_epid clauses c.in_ok-ecbs.ecbs.items made c.len.result
+          (shapes_of c.in_ok-all.all) (omega (arith, c.len.ensures)) c.in_ok-all.ensures)
+          ∙ sym c.is_too_much.ensures ∙ c.if-is_too_much.false),
+      forms_are account registry accepted c.args.next_epid clauses c.in_ok-ecbs.ecbs.items made,
+    )
+
+pub returns-clause-placed : goal.returns-clause-placed
+returns-clause-placed c =
+    placed c.args.account.now c.args.machine.now.registry (shapes_of c.args.shapes.now) c.args.next_epid
+    (form_of_program c.args.program.now) c.in_ok-ecbs.ecbs.items c.in_ok-ecbs.ensures.value
+    (length c.args.program.now.clauses.items)
+    (omega (arith, length-map c.args.program.now.clauses.items form_of_clause))

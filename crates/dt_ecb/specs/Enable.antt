@@ -1,0 +1,76 @@
+-- Whether a program is enabled, or for what it is refused first.
+use Rattle.std.specs.Prelude.{◌≡◌, ℕ, ◌+◌, ◌-◌, ◌<◌, ◌==◌, ◌&&◌, ◌||◌, Bool, true, false, not, List, ◌++◌, length, IsSomeAnd, IfSome, slice_get, nat_lt}
+use Rattle.std.specs.List.{list_any}
+use Rattle.dt_cred.specs.declared.account.Account.{Account}
+use Rattle.dt_machine.specs.Registry.{Registry}
+use Rattle.dt_lang.specs.Program.{ClauseForm, StatementForm}
+use Rattle.dt_lang.specs.Program as program
+use Rattle.dt_ecb.specs.Ecbs.{added}
+use Rattle.dt_ecb.specs.Matching.{matched}
+use Rattle.dt_ecb.specs.Shapes.{ShapeForm, uses_of, IsFirstClash, any_clash, names_count}
+use Rattle.dt_ecb.specs.declared.limits.TheConstants.{ECBS_MAX, AGGREGATIONS_MAX}
+
+-- the first clause for which a test holds has this number, counted from 1
+pub record IsFirstSuch (holds : ClauseForm → Bool) (clauses : List ClauseForm) (number : ℕ) : Type 0 where
+  pub place : ℕ
+  pub counted : number ≡ place + 1
+  pub here : IsSomeAnd (slice_get clauses place) (λ clause. holds clause ≡ true)
+  pub before : (i : ℕ) → i < place → IfSome (slice_get clauses i) (λ clause. holds clause ≡ false)
+
+-- the statement records the kernel's stack
+abbrev pub is_stack : StatementForm → Bool
+is_stack (program.stack frames) = true
+is_stack _ = false
+
+-- a clause with such a statement
+abbrev pub has_stack : ClauseForm → Bool
+has_stack clause = list_any is_stack clause.statements
+
+-- an action that is read and not served yet: `exit`, and what aggregates
+abbrev pub is_yet_unserved : StatementForm → Bool
+is_yet_unserved (program.exit f) = true
+is_yet_unserved (program.aggregate name keys call) = true
+is_yet_unserved _ = false
+
+abbrev pub has_unserved : ClauseForm → Bool
+has_unserved clause = list_any is_yet_unserved clause.statements
+
+-- what becomes of a program: it is enabled, or refused for its first fault
+pub data Verdict : Type 0 where
+  enabled : Verdict
+  privilege : (clause : ℕ) → Verdict
+  clash : (name : List ℕ) → Verdict
+  unmatched : (clause : ℕ) → Verdict
+  limit : Verdict
+
+module _ (account : Account) (registry : Registry) where
+  -- the clause takes effect on no probe
+  abbrev pub is_unmatched : ClauseForm → Bool
+  is_unmatched clause = length (matched account registry clause) == 0
+
+  module _ (accepted : List ShapeForm) (epid : ℕ) (clauses : List ClauseForm) where
+    -- the account may do all that the clauses do
+    abbrev pub is_allowed : Bool
+    is_allowed = account.privs.dtrace_kernel || not (list_any has_stack clauses)
+
+    -- more than one consumer may have, or what is not served yet
+    abbrev pub is_too_much : Bool
+    is_too_much =
+        nat_lt ECBS_MAX (epid - 1 + length (added account registry epid clauses))
+        || (nat_lt AGGREGATIONS_MAX (names_count (accepted ++ uses_of clauses)) || list_any has_unserved clauses)
+
+    -- A program is enabled after these accepted aggregations and with this next EPID.
+    abbrev pub is_enabled : Bool
+    is_enabled = is_allowed && (not (any_clash accepted (uses_of clauses))
+        && (not (list_any is_unmatched clauses) && not is_too_much))
+
+    -- It is refused for the first of these that holds, in this order.
+    abbrev pub IsVerdict : Verdict → Type 0
+    IsVerdict (privilege number) = (account.privs.dtrace_kernel ≡ false) × IsFirstSuch has_stack clauses number
+    IsVerdict (clash name) = (is_allowed ≡ true) × IsFirstClash accepted (uses_of clauses) name
+    IsVerdict (unmatched number) =
+        (is_allowed ≡ true) × (any_clash accepted (uses_of clauses) ≡ false) × IsFirstSuch is_unmatched clauses number
+    IsVerdict limit =
+        (is_allowed ≡ true) × (any_clash accepted (uses_of clauses) ≡ false)
+        × (list_any is_unmatched clauses ≡ false) × (is_too_much ≡ true)
+    IsVerdict enabled = is_enabled ≡ true

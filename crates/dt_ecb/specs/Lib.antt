@@ -1,0 +1,8 @@
+-- Matching, ECBs, shapes of aggregations, and whether a program is enabled.
+pub mod Matching
+pub mod Ecbs
+pub mod Shapes
+pub mod Enable
+pub mod Fault
+pub mod Forms
+pub mod Places

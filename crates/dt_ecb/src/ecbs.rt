@@ -1,0 +1,60 @@
+//! The ECBs that a program's clauses make.
+ghost use Rattle.std.specs.Prelude.{◌≡◌, ◌+◌, ◌<◌, ◌≤◌, ◌^◌, ◌++◌, length, map, All, OnOk, IfOk, vec_len};
+ghost use Rattle.dt_machine.specs.declared.limits.TheConstants.{PROBE_ID_MAX};
+ghost use Rattle.dt_lang.specs.Program.{form_of_clause, form_of_program};
+ghost use Rattle.dt_ecb.specs.Places.{keys_at, keys_from, kept_from};
+
+use crate::limits::ECBS_MAX;
+use crate::matches::is_matched;
+use crate::parts::Ecb;
+use dt_cred::Account;
+use dt_lang::{Clause, Program};
+use dt_machine::Machine;
+use std::alloc::{AllocError, Global};
+
+/// The ECBs of a program, numbered from an EPID on: of its clauses in order, each matched with each probe once.
+pub(crate) fn ecbs_of(
+    alloc: Global,
+    account: &Account,
+    machine: &Machine,
+    program: &Program,
+    next_epid: u32,
+) -> Result<Vec<Ecb>, AllocError>
+    requires { next_epid ≤ ECBS_MAX + 1 }
+    ensures value { IfOk result (λ ecbs. ecbs.items
+        ≡ kept_from next_epid (keys_from account.now machine.now.registry 0 (form_of_program program.now))) }
+    ensures few { IfOk result (λ ecbs. vec_len ecbs < 2 ^ 31) }
+{
+    let mut ecbs = Vec::new(alloc);
+    for (place, clause) in program.clauses.iter().enumerate() {
+        push_matched(&mut ecbs, account, machine, clause, place, next_epid)?;
+    }
+    Ok(ecbs)
+}
+
+/// Adds an ECB for each probe that a clause at this place takes effect on, by rising identifier.
+fn push_matched(
+    ecbs: &mut Vec<Ecb>,
+    account: &Account,
+    machine: &Machine,
+    clause: &Clause,
+    place: usize,
+    first_epid: u32,
+) -> Result<(), AllocError>
+    requires { first_epid + vec_len ecbs.old + PROBE_ID_MAX < 2 ^ 32 }
+    ensures value { OnOk result (ecbs.new.items ≡ ecbs.old.items ++ kept_from (first_epid + length ecbs.old.items)
+        (keys_at account.now machine.now.registry place (form_of_clause clause.now))) }
+    ensures few { OnOk result (vec_len ecbs.new ≤ vec_len ecbs.old + PROBE_ID_MAX) }
+{
+    for probe in machine.probes() {
+        if is_matched(account, machine, clause, probe) {
+            let epid = first_epid + ecbs.len() as u32;
+            ecbs.push(Ecb {
+                epid,
+                probe: probe.id,
+                clause: place,
+            })?;
+        }
+    }
+    Ok(())
+}

@@ -1,0 +1,78 @@
+//! Whether a program is enabled, and the ECBs that it adds.
+ghost use Rattle.std.specs.Prelude.{◌≡◌, ◌+◌, ◌-◌, ◌<◌, ◌≤◌, ◌^◌, ◌||◌, length, map, nat_lt, All, IfOk, IfErr, IfSome};
+ghost use Rattle.std.specs.List.{list_any};
+ghost use Rattle.dt_lang.specs.Program.{form_of_program};
+ghost use Rattle.dt_ecb.specs.Ecbs.{added};
+ghost use Rattle.dt_ecb.specs.Enable.{IsVerdict, enabled, has_unserved};
+ghost use Rattle.dt_ecb.specs.Forms.{form_of_ecb, shapes_of, verdict_of};
+ghost use Rattle.dt_ecb.specs.Shapes as spec;
+
+use crate::clashes::{first_clash, names_count};
+use crate::ecbs::ecbs_of;
+use crate::fault::{EnableFault, RestrictedAction};
+use crate::faults::{first_unallowed, first_unmatched, is_unserved};
+use crate::limits::{AGGREGATIONS_MAX, ECBS_MAX};
+use crate::parts::Ecb;
+use crate::shapes::Shapes;
+use dt_cred::Account;
+use dt_lang::Program;
+use dt_machine::Machine;
+use std::alloc::Global;
+
+/// The ECBs that a program adds to a consumer whose accepted programs use these aggregations and whose next EPID is
+/// this, or the first fault of the program.
+pub fn enable(
+    alloc: Global,
+    account: &Account,
+    machine: &Machine,
+    program: &Program,
+    shapes: &Shapes,
+    next_epid: u32,
+) -> Result<Vec<Ecb>, EnableFault>
+    requires from_one { 1 ≤ next_epid }
+    requires within { next_epid ≤ ECBS_MAX + 1 }
+    // of an accepted program: its ECBs, each with the clause of the program that it names
+    ensures enabled { IfOk result (λ ecbs.
+        IsVerdict account.now machine.now.registry (shapes_of shapes.now) next_epid (form_of_program program.now)
+        enabled
+        × (map (form_of_ecb (form_of_program program.now)) ecbs.items
+        ≡ added account.now machine.now.registry next_epid (form_of_program program.now))) }
+    ensures placed { IfOk result (λ ecbs. All (λ ecb. ecb.clause < length program.now.clauses.items) ecbs.items) }
+    // of a refused one: its first fault
+    ensures refused { IfErr result (λ fault. IfSome (verdict_of fault)
+        (IsVerdict account.now machine.now.registry (shapes_of shapes.now) next_epid (form_of_program program.now))) }
+{
+    if let Some(clause) = first_unallowed(account, program) {
+        let what = RestrictedAction::Stack;
+        return Err(EnableFault::Privilege { clause, what });
+    }
+    let all = shapes.after(alloc, program)?;
+    if let Some(what) = first_clash(shapes, &all) {
+        return Err(EnableFault::AggClash { what });
+    }
+    if let Some(clause) = first_unmatched(account, machine, program) {
+        return Err(EnableFault::NoMatch { clause });
+    }
+    let ecbs = ecbs_of(alloc, account, machine, program, next_epid)?;
+    if is_too_much(program, &all, next_epid, ecbs.len()) {
+        return Err(EnableFault::Limit);
+    }
+    Ok(ecbs)
+}
+
+/// Whether a program with so many ECBs comes to more than one consumer may have, or has what is not served yet.
+fn is_too_much(program: &Program, all: &Shapes, next_epid: u32, ecbs: usize) -> bool
+    requires from_one { 1 ≤ next_epid }
+    requires few { ecbs < 2 ^ 31 }
+    ensures { result ≡ (nat_lt ECBS_MAX (next_epid - 1 + ecbs)
+        || (nat_lt AGGREGATIONS_MAX (spec.names_count (shapes_of all.now))
+        || list_any has_unserved (form_of_program program.now))) }
+{
+    if next_epid as usize - 1 + ecbs > ECBS_MAX {
+        return true;
+    }
+    if names_count(&all.uses) > AGGREGATIONS_MAX {
+        return true;
+    }
+    is_unserved(program)
+}

@@ -1,0 +1,29 @@
+//! Enabling: the ECBs that a program adds to a consumer, or its first refusal.
+//!
+//! `enable` answers what the definition `IsVerdict` in `specs/Enable.antt` says of a program: its ECBs, which are `added`
+//! of `specs/Ecbs.antt`, or the first fault in the order privilege, clash, no match, limit. A program has one verdict
+//! (`one_verdict`, `some_verdict`). `listed` gives the probes that a description asks for.
+#![tactic(auto)]
+
+mod clashes;
+mod ecbs;
+mod enabling;
+mod fault;
+mod faults;
+mod laws;
+mod limits;
+mod matches;
+mod parts;
+mod shape;
+mod shapes;
+
+pub use enabling::enable;
+pub use fault::{EnableFault, RestrictedAction};
+pub use laws::{ecbs_go_on, one_verdict, some_verdict};
+pub use limits::{AGGREGATIONS_MAX, ECBS_MAX};
+pub use matches::listed;
+pub use parts::Ecb;
+pub use shapes::Shapes;
+
+#[cfg(test)]
+mod tests;

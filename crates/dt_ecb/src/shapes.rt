@@ -1,0 +1,69 @@
+//! The aggregations of a consumer's accepted programs.
+ghost use Rattle.std.specs.Prelude.{◌≡◌, ◌++◌, [], map, OnOk, IfOk};
+ghost use Rattle.std.specs.List.{flat_map};
+ghost use Rattle.dt_lang.specs.Program.{form_of_program, form_of_statement};
+ghost use Rattle.dt_ecb.specs.Forms.{form_of_shape, shapes_of};
+ghost use Rattle.dt_ecb.specs.Shapes.{used_by, uses_of};
+
+use crate::shape::Shape;
+use dt_lang::{Program, Statement};
+use std::alloc::{AllocError, Global};
+
+/// The aggregations that accepted programs use, each use with its name, function, bounds and kinds of keys. (illumos
+/// Dynamic Tracing Guide, "Aggregations".)
+#[derive(Drop)]
+pub struct Shapes {
+    pub(crate) uses: Vec<Shape>,
+}
+
+impl Shapes {
+    /// None yet. It takes no memory.
+    pub fn new(alloc: Global) -> Self
+        ensures { shapes_of result ≡ [] }
+    {
+        Shapes {
+            uses: Vec::new(alloc),
+        }
+    }
+
+    /// These, and behind them those of a further program.
+    pub fn after(&self, alloc: Global, program: &Program) -> Result<Self, AllocError>
+        ensures { IfOk result (λ shapes.
+            shapes_of shapes ≡ shapes_of self.now ++ uses_of (form_of_program program.now)) }
+    {
+        let mut uses = copied(alloc, &self.uses)?;
+        for clause in &program.clauses {
+            push_uses(alloc, &mut uses, &clause.statements)?;
+        }
+        Ok(Shapes { uses })
+    }
+}
+
+/// The same uses once more.
+fn copied(alloc: Global, uses: &[Shape]) -> Result<Vec<Shape>, AllocError>
+    ensures { IfOk result (λ copies. map form_of_shape copies.items ≡ map form_of_shape uses.now) }
+{
+    let mut copies = Vec::new(alloc);
+    for one in uses {
+        copies.push(one.copied(alloc)?)?;
+    }
+    Ok(copies)
+}
+
+/// Adds the uses of a clause's statements.
+fn push_uses(
+    alloc: Global,
+    uses: &mut Vec<Shape>,
+    statements: &[Statement],
+) -> Result<(), AllocError>
+    ensures { OnOk result (map form_of_shape uses.new.items
+        ≡ map form_of_shape uses.old.items ++ flat_map used_by (map form_of_statement statements.now)) }
+{
+    for statement in statements {
+        match statement {
+            Statement::Aggregate(aggregation) => uses.push(Shape::of(alloc, aggregation)?)?,
+            _ => {}
+        }
+    }
+    Ok(())
+}

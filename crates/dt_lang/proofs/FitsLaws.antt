@@ -1,0 +1,303 @@
+-- What isn't refused leaves the lists of a state within the limits.
+use Rattle.std.proofs.Common.{◌≡◌, ◌⊎◌, inl, inr, ℕ, ℤ, ◌+◌, ◌<◌, ◌≤◌, leb, Bool, true, false, ◌&&◌, ◌||◌, List, [], ◌∷◌, ◌++◌, length, Option, Some, None, is_some, refl, sym, ap, ◌∙◌, subst, length-append, arith, leb-false, if◌then◌else◌, pos}
+use Rattle.std.specs.Prelude.{option_and_then}
+use Rattle.dt_expr.specs.Form.{Form}
+use Rattle.dt_lang.specs.declared.program.TheConstants.{CLAUSES_MAX, DESCRIPTIONS_MAX, STATEMENTS_MAX, KEYS_MAX, TOKENS_MAX, FRAMES_MAX}
+use Rattle.dt_lang.specs.declared.token.Sign.TheVariants as sign
+use Rattle.dt_lang.specs.declared.token.Token.{Token}
+use Rattle.dt_lang.specs.declared.token.Token.TheVariants as token
+use Rattle.dt_lang.specs.declared.word.Action.{Action}
+use Rattle.dt_lang.specs.declared.word.Action.TheVariants as action
+use Rattle.dt_lang.specs.declared.word.Function.{Function}
+use Rattle.dt_lang.specs.declared.word.Function.TheVariants as function
+use Rattle.dt_lang.specs.declared.word.Word.TheVariants as word
+use Rattle.dt_lang.specs.ExpressionState as expression
+use Rattle.dt_lang.specs.Grammar.{call_of, begins, ends}
+use Rattle.dt_lang.specs.Program.{ArgForm, number, CallForm, StatementForm, aggregate, ClauseForm}
+use Rattle.dt_lang.specs.Stand.{Slot, predicate, traced, exited, key, value}
+use Rattle.dt_lang.specs.ClauseState.{BoundForm, at_lower, at_upper, at_step, Place, outside, described, listed, guarded, body, called, framed, closing, named, keyed, assigned, applied, within, bounding, negating, bounded, ProgramState, state, ended, entered, from_outside, from_described, from_listed, from_guarded, from_begins, from_ends, opened, from_called, stack_of, from_framed, from_closing, from_named, from_keyed, from_assigned, given, from_applied, shut_predicate, shut_traced, shut_exited, shut_key, shut_levels, shut_value, shut, go_on, from_within, from_bounding, from_negating, from_bounded, step_from, step}
+use Rattle.dt_lang.specs.Cause.{takes, full, too_long_at}
+use Rattle.dt_lang.specs.Fits.{FitsClause, FitsStatement, FitsTarget, FitsKey, FitsSlot, FitsWithin, FitsAt, Fits}
+use Rattle.dt_lang.proofs.ClauseSound.{none_some, same_some}
+use Rattle.dt_lang.proofs.TakesLaws.{or_left}
+
+landed : (s next : ProgramState) → Some s ≡ Some next → Fits s → Fits next
+landed s next e h = subst (λ (x : ProgramState). Fits x) (same_some e) h
+
+longer : {A : Type 0} (xs : List A) (x : A) (n : ℕ) → length xs < n → length (xs ++ (x ∷ [])) ≤ n
+longer xs x n h = omega (arith, length-append xs (x ∷ []))
+
+some_more : {A : Type 0} (xs : List A) (x : A) → 1 ≤ length (xs ++ (x ∷ []))
+some_more xs x = omega (arith, length-append xs (x ∷ []))
+
+left_false : (a : Bool) → a && true ≡ false → a ≡ false
+left_false true e = e
+left_false false e = refl
+
+module _ (cs : List ClauseForm) where
+  fits_outside : (t : Token) (next : ProgramState) (c : ClauseForm) → too_long_at cs c outside t ≡ false
+      → from_outside cs t ≡ Some next → Fits next
+  fits_outside (token.Description (Some d)) next c l e = landed _ _ e (record {
+    room = leb-false CLAUSES_MAX (length cs) l;
+    described = omega arith;
+    few_descriptions = omega arith;
+    few = omega arith;
+  })
+  fits_outside _ next c l e = absurd (none_some e)
+
+module _ (cs : List ClauseForm) (c : ClauseForm) where
+  fits_described : (t : Token) (next : ProgramState) → FitsClause cs c → from_described cs c t ≡ Some next → Fits next
+  fits_described (token.Sign sign.Comma) next h e = landed _ _ e h
+  fits_described (token.Sign sign.Slash) next h e = landed _ _ e (record { fits = h; few = omega arith })
+  fits_described (token.Sign sign.OpenBrace) next h e = landed _ _ e h
+  fits_described _ next h e = absurd (none_some e)
+
+  fits_listed : (t : Token) (next : ProgramState) → FitsClause cs c → too_long_at cs c listed t ≡ false
+      → from_listed cs c t ≡ Some next → Fits next
+  fits_listed (token.Description (Some d)) next h l e = landed _ _ e (record {
+    room = h.room;
+    described = some_more c.descriptions _;
+    few_descriptions = longer c.descriptions _ DESCRIPTIONS_MAX (leb-false DESCRIPTIONS_MAX (length c.descriptions) l);
+    few = h.few;
+  })
+  fits_listed _ next h l e = absurd (none_some e)
+
+  fits_guarded : (t : Token) (next : ProgramState) → FitsClause cs c → from_guarded cs c t ≡ Some next → Fits next
+  fits_guarded (token.Sign sign.OpenBrace) next h e = landed _ _ e h
+  fits_guarded _ next h e = absurd (none_some e)
+
+  fits_begins : (t : Token) (next : ProgramState) → FitsClause cs c → too_long_at cs c (body begins) t ≡ false
+      → from_begins cs c t ≡ Some next → Fits next
+  fits_begins (token.Sign sign.Semicolon) next h l e = landed _ _ e h
+  fits_begins (token.Sign sign.CloseBrace) next h l e = landed _ _ e (longer cs c CLAUSES_MAX h.room)
+  fits_begins (token.Word (word.Action a)) next h l e =
+      landed _ _ e (record { clause = h; room = leb-false STATEMENTS_MAX (length c.statements) (left_false _ l) })
+  fits_begins (token.Aggregation name) next h l e =
+      landed _ _ e (record { clause = h; room = leb-false STATEMENTS_MAX (length c.statements) (left_false _ l) })
+  fits_begins _ next h l e = absurd (none_some e)
+
+  fits_ends : (t : Token) (next : ProgramState) → FitsClause cs c → from_ends cs c t ≡ Some next → Fits next
+  fits_ends (token.Sign sign.Semicolon) next h e = landed _ _ e h
+  fits_ends (token.Sign sign.CloseBrace) next h e = landed _ _ e (longer cs c CLAUSES_MAX h.room)
+  fits_ends _ next h e = absurd (none_some e)
+
+  fits_ended : (s : StatementForm) → FitsStatement cs c → Fits (ended cs c s)
+  fits_ended s h = record {
+    room = h.clause.room;
+    described = h.clause.described;
+    few_descriptions = h.clause.few_descriptions;
+    few = longer c.statements s STATEMENTS_MAX h.room;
+  }
+
+  fits_opened : (a : Action) → FitsStatement cs c → Fits (opened a cs c)
+  fits_opened action.Trace h = record { fits = h; few = omega arith }
+  fits_opened action.Exit h = record { fits = h; few = omega arith }
+  fits_opened action.Stack h = h
+  fits_opened action.Ustack h = h
+
+  fits_called : (a : Action) (t : Token) (next : ProgramState) → FitsStatement cs c → from_called cs c a t ≡ Some next
+      → Fits next
+  fits_called a (token.Sign sign.OpenParen) next h e = landed _ _ e (fits_opened a h)
+  fits_called a _ next h e = absurd (none_some e)
+
+  fits_frames : (process : Bool) (n : ℕ) (few : Bool) (next : ProgramState) → FitsStatement cs c
+      → (if few then Some (state cs c (closing (stack_of process n))) else None) ≡ Some next → Fits next
+  fits_frames process n true next h e = landed _ _ e h
+  fits_frames process n false next h e = absurd (none_some e)
+
+  fits_framed : (process : Bool) (t : Token) (next : ProgramState) → FitsStatement cs c
+      → from_framed cs c process t ≡ Some next → Fits next
+  fits_framed process (token.Number (pos n)) next h e = fits_frames process n (leb 1 n && leb n FRAMES_MAX) next h e
+  fits_framed process _ next h e = absurd (none_some e)
+
+  fits_closing : (s : StatementForm) (t : Token) (next : ProgramState) → FitsStatement cs c
+      → from_closing cs c s t ≡ Some next → Fits next
+  fits_closing s (token.Sign sign.CloseParen) next h e = landed _ _ e (fits_ended s h)
+  fits_closing s _ next h e = absurd (none_some e)
+
+  -- a key may begin: nothing was read for it
+  fits_key_begins : (name : List ℕ) (keys : List ArgForm) → FitsTarget cs c keys → Fits (entered cs c (key name keys))
+  unfolding expression.done
+  fits_key_begins name keys h = record { fits = record { target = h; room = inr (refl, refl) }; few = omega arith }
+
+  fits_named : (name : List ℕ) (t : Token) (next : ProgramState) → FitsStatement cs c
+      → from_named cs c name t ≡ Some next → Fits next
+  fits_named name (token.Sign sign.OpenBracket) next h e =
+      landed _ _ e (fits_key_begins name [] (record { statement = h; few = omega arith }))
+  fits_named name (token.Sign sign.Equal) next h e = landed _ _ e (record { statement = h; few = omega arith })
+  fits_named name _ next h e = absurd (none_some e)
+
+  fits_keyed : (name : List ℕ) (keys : List ArgForm) (t : Token) (next : ProgramState) → FitsTarget cs c keys
+      → from_keyed cs c name keys t ≡ Some next → Fits next
+  fits_keyed name keys (token.Sign sign.Equal) next h e = landed _ _ e h
+  fits_keyed name keys _ next h e = absurd (none_some e)
+
+  fits_assigned : (name : List ℕ) (keys : List ArgForm) (t : Token) (next : ProgramState) → FitsTarget cs c keys
+      → from_assigned cs c name keys t ≡ Some next → Fits next
+  fits_assigned name keys (token.Word (word.Function fn)) next h e = landed _ _ e h
+  fits_assigned name keys _ next h e = absurd (none_some e)
+
+  fits_given : (name : List ℕ) (keys : List ArgForm) (fn : Function) → FitsTarget cs c keys
+      → Fits (given cs c name keys fn)
+  fits_given name keys function.Count h = h.statement
+  fits_given name keys function.Sum h = record { fits = h; few = omega arith }
+  fits_given name keys function.Avg h = record { fits = h; few = omega arith }
+  fits_given name keys function.Min h = record { fits = h; few = omega arith }
+  fits_given name keys function.Max h = record { fits = h; few = omega arith }
+  fits_given name keys function.Quantize h = record { fits = h; few = omega arith }
+  fits_given name keys function.Lquantize h = record { fits = h; few = omega arith }
+
+  fits_applied : (name : List ℕ) (keys : List ArgForm) (fn : Function) (t : Token) (next : ProgramState)
+      → FitsTarget cs c keys → from_applied cs c name keys fn t ≡ Some next → Fits next
+  fits_applied name keys fn (token.Sign sign.OpenParen) next h e = landed _ _ e (fits_given name keys fn h)
+  fits_applied name keys fn _ next h e = absurd (none_some e)
+
+  fits_predicate : (a : ArgForm) (t : Token) (next : ProgramState) → FitsClause cs c
+      → shut_predicate cs c a t ≡ Some next → Fits next
+  fits_predicate (number f) (token.Sign sign.Slash) next h e = landed _ _ e (record {
+    room = h.room;
+    described = h.described;
+    few_descriptions = h.few_descriptions;
+    few = h.few;
+  })
+  fits_predicate _ _ next h e = absurd (none_some e)
+
+  fits_traced : (a : ArgForm) (t : Token) (next : ProgramState) → FitsStatement cs c
+      → shut_traced cs c a t ≡ Some next → Fits next
+  fits_traced a (token.Sign sign.CloseParen) next h e = landed _ _ e (fits_ended _ h)
+  fits_traced a _ next h e = absurd (none_some e)
+
+  fits_exited : (a : ArgForm) (t : Token) (next : ProgramState) → FitsStatement cs c
+      → shut_exited cs c a t ≡ Some next → Fits next
+  fits_exited (number f) (token.Sign sign.CloseParen) next h e = landed _ _ e (fits_ended _ h)
+  fits_exited _ _ next h e = absurd (none_some e)
+
+  -- one key more
+  fits_more : (keys : List ArgForm) (a : ArgForm) (n : ℕ) (x : expression.State) → FitsKey cs c keys n x
+      → expression.done x ≡ Some a → FitsTarget cs c (keys ++ (a ∷ []))
+  fits_more keys a n x h d = record { statement = h.target.statement; few = longer keys a KEYS_MAX (room h.room) }
+    where
+      room : (length keys < KEYS_MAX) ⊎ ((n ≡ 0) × (expression.done x ≡ None)) → length keys < KEYS_MAX
+      room (inl r) = r
+      room (inr r) = absurd (none_some (sym r.1 ∙ d))
+
+  fits_key : (name : List ℕ) (keys : List ArgForm) (a : ArgForm) (n : ℕ) (x : expression.State) (t : Token)
+      (next : ProgramState) → FitsKey cs c keys n x → expression.done x ≡ Some a
+      → shut_key cs c name keys a t ≡ Some next → Fits next
+  fits_key name keys a n x (token.Sign sign.Comma) next h d e =
+      landed _ _ e (fits_key_begins name (keys ++ (a ∷ [])) (fits_more keys a n x h d))
+  fits_key name keys a n x (token.Sign sign.CloseBracket) next h d e = landed _ _ e (fits_more keys a n x h d)
+  fits_key name keys a n x _ next h d e = absurd (none_some e)
+
+  fits_call : (name : List ℕ) (keys : List ArgForm) (call : Option CallForm) (next : ProgramState)
+      → FitsTarget cs c keys
+      → option_and_then (λ call. Some (ended cs c (aggregate name keys call))) call ≡ Some next → Fits next
+  fits_call name keys (Some call) next h e = landed _ _ e (fits_ended _ h.statement)
+  fits_call name keys None next h e = absurd (none_some e)
+
+  fits_levels : (name : List ℕ) (keys : List ArgForm) (fn : Function) (f : Form) (next : ProgramState)
+      → FitsTarget cs c keys → shut_levels cs c name keys fn f ≡ Some next → Fits next
+  fits_levels name keys function.Lquantize f next h e = landed _ _ e h
+  fits_levels name keys _ f next h e = absurd (none_some e)
+
+  fits_value : (name : List ℕ) (keys : List ArgForm) (fn : Function) (a : ArgForm) (t : Token) (next : ProgramState)
+      → FitsTarget cs c keys → shut_value cs c name keys fn a t ≡ Some next → Fits next
+  fits_value name keys fn (number f) (token.Sign sign.CloseParen) next h e = fits_call name keys (call_of fn f) next h e
+  fits_value name keys fn (number f) (token.Sign sign.Comma) next h e = fits_levels name keys fn f next h e
+  fits_value name keys fn _ _ next h e = absurd (none_some e)
+
+  fits_shut : (slot : Slot) (a : ArgForm) (n : ℕ) (x : expression.State) (t : Token) (next : ProgramState)
+      → FitsSlot cs c slot n x → expression.done x ≡ Some a → shut cs c slot t a ≡ Some next → Fits next
+  fits_shut predicate a n x t next h d e = fits_predicate a t next h e
+  fits_shut traced a n x t next h d e = fits_traced a t next h e
+  fits_shut exited a n x t next h d e = fits_exited a t next h e
+  fits_shut (key name keys) a n x t next h d e = fits_key name keys a n x t next h d e
+  fits_shut (value name keys fn) a n x t next h d e = fits_value name keys fn a t next h e
+
+  fits_done : (slot : Slot) (n : ℕ) (x : expression.State) (t : Token) (next : ProgramState) (d : Option ArgForm)
+      → expression.done x ≡ d → FitsSlot cs c slot n x → option_and_then (shut cs c slot t) d ≡ Some next → Fits next
+  fits_done slot n x t next (Some a) d h e = fits_shut slot a n x t next h d e
+  fits_done slot n x t next None d h e = absurd (none_some e)
+
+  key_room : (name : List ℕ) (keys : List ArgForm) (n : ℕ) (x : expression.State) → FitsKey cs c keys n x
+      → full (key name keys) n ≡ false → length keys < KEYS_MAX
+  key_room name keys n x h l = go h.room
+    where
+      go : (length keys < KEYS_MAX) ⊎ ((n ≡ 0) × (expression.done x ≡ None)) → length keys < KEYS_MAX
+      go (inl r) = r
+      go (inr r) =
+          let i : full (key name keys) 0 ≡ false = rw r.0 at l in leb-false KEYS_MAX (length keys) i
+
+  fits_more_of : (slot : Slot) (n : ℕ) (x next : expression.State) → FitsSlot cs c slot n x → full slot n ≡ false
+      → FitsSlot cs c slot (n + 1) next
+  fits_more_of predicate n x next h l = h
+  fits_more_of traced n x next h l = h
+  fits_more_of exited n x next h l = h
+  fits_more_of (key name keys) n x next h l = record { target = h.target; room = inl (key_room name keys n x h l) }
+  fits_more_of (value name keys fn) n x next h l = h
+
+  few_more : (slot : Slot) (n : ℕ) → full slot n ≡ false → n + 1 ≤ TOKENS_MAX
+  few_more slot n l = let i = leb-false TOKENS_MAX n (or_false (leb TOKENS_MAX n) _ l) in omega arith
+    where
+      or_false : (a b : Bool) → a || b ≡ false → a ≡ false
+      or_false true b e = e
+      or_false false b e = refl
+
+  fits_go_on : (slot : Slot) (n : ℕ) (x : expression.State) (t : Token) (next : ProgramState)
+      (o : Option expression.State) → expression.step x t ≡ o → FitsWithin cs c slot n x
+      → full slot n && takes x t ≡ false → go_on cs c slot n x t o ≡ Some next → Fits next
+  fits_go_on slot n x t next (Some m) k h l e =
+      let i : takes x t ≡ true = or_left (is_some (expression.step x t)) _ (ap is_some k) in
+      let j : full slot n ≡ false = left_false (full slot n) (rw i at l) in
+      landed _ _ e (record { fits = fits_more_of slot n x m h.fits j; few = few_more slot n j })
+  fits_go_on slot n x t next None k h l e = fits_done slot n x t next (expression.done x) refl h.fits e
+
+  fits_within : (slot : Slot) (n : ℕ) (x : expression.State) (t : Token) (next : ProgramState)
+      → FitsWithin cs c slot n x → full slot n && takes x t ≡ false → from_within cs c slot n x t ≡ Some next → Fits next
+  fits_within slot n x t next h l e = fits_go_on slot n x t next (expression.step x t) refl h l e
+
+  module _ (name : List ℕ) (keys : List ArgForm) (f : Form) (h : FitsTarget cs c keys) where
+    fits_bounding : (b : BoundForm) (t : Token) (next : ProgramState) → from_bounding cs c name keys f b t ≡ Some next
+        → Fits next
+    fits_bounding b (token.Number (pos n)) next e = landed _ _ e h
+    fits_bounding b (token.Sign sign.Minus) next e = landed _ _ e h
+    fits_bounding b _ next e = absurd (none_some e)
+
+    fits_negating : (b : BoundForm) (t : Token) (next : ProgramState) → from_negating cs c name keys f b t ≡ Some next
+        → Fits next
+    fits_negating b (token.Number (pos n)) next e = landed _ _ e h
+    fits_negating b _ next e = absurd (none_some e)
+
+    fits_bounded : (b : BoundForm) (z : ℤ) (t : Token) (next : ProgramState)
+        → from_bounded cs c name keys f b z t ≡ Some next → Fits next
+    fits_bounded at_lower z (token.Sign sign.Comma) next e = landed _ _ e h
+    fits_bounded (at_upper lower) z (token.Sign sign.Comma) next e = landed _ _ e h
+    fits_bounded (at_upper lower) z (token.Sign sign.CloseParen) next e = landed _ _ e (fits_ended _ h.statement)
+    fits_bounded (at_step lower upper) z (token.Sign sign.CloseParen) next e = landed _ _ e (fits_ended _ h.statement)
+    fits_bounded _ z _ next e = absurd (none_some e)
+
+  fits_from : (p : Place) (t : Token) (next : ProgramState) → FitsAt cs c p → too_long_at cs c p t ≡ false
+      → step_from cs c p t ≡ Some next → Fits next
+  fits_from outside t next h l e = fits_outside cs t next c l e
+  fits_from described t next h l e = fits_described t next h e
+  fits_from listed t next h l e = fits_listed t next h l e
+  fits_from guarded t next h l e = fits_guarded t next h e
+  fits_from (body begins) t next h l e = fits_begins t next h l e
+  fits_from (body ends) t next h l e = fits_ends t next h e
+  fits_from (called a) t next h l e = fits_called a t next h e
+  fits_from (framed process) t next h l e = fits_framed process t next h e
+  fits_from (closing s) t next h l e = fits_closing s t next h e
+  fits_from (named name) t next h l e = fits_named name t next h e
+  fits_from (keyed name keys) t next h l e = fits_keyed name keys t next h e
+  fits_from (assigned name keys) t next h l e = fits_assigned name keys t next h e
+  fits_from (applied name keys fn) t next h l e = fits_applied name keys fn t next h e
+  fits_from (within slot n x) t next h l e = fits_within slot n x t next h l e
+  fits_from (bounding name keys f b) t next h l e = fits_bounding name keys f h b t next e
+  fits_from (negating name keys f b) t next h l e = fits_negating name keys f h b t next e
+  fits_from (bounded name keys f b z) t next h l e = fits_bounded name keys f h b z t next e
+
+-- What isn't one too many leaves the lists of the state within the limits.
+pub fits_step : (s next : ProgramState) (t : Token) → Fits s → too_long_at s.clauses s.clause s.place t ≡ false
+    → step s t ≡ Some next → Fits next
+unfolding step
+fits_step s next t h l e = fits_from s.clauses s.clause s.place t next h l e

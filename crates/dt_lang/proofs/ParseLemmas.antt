@@ -1,0 +1,73 @@
+-- How far a text was read, and what is answered where the reading stops.
+use Rattle.std.proofs.Common.{◌≡◌, ℕ, ◌≤◌, List, ◌∷◌, [], ◌++◌, length, Option, Some, None, Ok, Err, sym, subst, arith}
+use Rattle.std.specs.Prelude.{ok_or}
+use Rattle.std.specs.Option.{option_map}
+use Rattle.dt_lang.specs.declared.fault.LangFault.TheVariants as lang
+use Rattle.dt_lang.specs.declared.fault.Refusal.{Refusal}
+use Rattle.dt_lang.specs.declared.fault.Refusal.TheVariants as refusal
+use Rattle.dt_lang.specs.declared.fault.Why.TheVariants.{Syntax, TooLong}
+use Rattle.dt_lang.specs.declared.lexer.Lexeme.TheVariants as lexeme
+use Rattle.dt_lang.specs.declared.mode.Mode.{Mode}
+use Rattle.dt_lang.specs.declared.program.Program.{Program}
+use Rattle.dt_lang.specs.declared.token.Token.{Token}
+use Rattle.dt_lang.specs.ClauseState.{ProgramState, start, finished}
+use Rattle.dt_lang.specs.Early.{Answers}
+use Rattle.dt_lang.specs.Fault.{fault_at}
+use Rattle.dt_lang.specs.Fits.{Fits}
+use Rattle.dt_lang.specs.Lexeme.{Lexes, LiesWithin}
+use Rattle.dt_lang.specs.Mode.{mode_after}
+use Rattle.dt_lang.specs.Program.{form_of_program}
+use Rattle.dt_lang.specs.Reads.{Answered}
+use Rattle.dt_lang.proofs.TextLaws.{Going, going_on, going_first, refused_at, overlong_at, stray_at, ended_whole, ended_early}
+use Rattle.dt_lang.specs.declared.mode.Mode.TheVariants.{Head}
+
+-- What was read up to this byte.
+pub record SoFar (text : List ℕ) (mode : Mode) (from : ℕ) (s : ProgramState) : Type 0 where
+  pub tokens : List Token
+  pub going : Going text mode tokens from s
+  pub fits : Fits s
+  pub within : from ≤ length text
+
+pub so_far_first : (text : List ℕ) → SoFar text Head 0 start
+so_far_first text = record { tokens = []; going = going_first text; fits = omega arith; within = omega arith }
+
+module _ (text : List ℕ) (mode : Mode) (from : ℕ) (s : ProgramState) (h : SoFar text mode from s) where
+  pub so_far_on : (t : Token) (at to : ℕ) (new : ProgramState) → Lexes text mode from (lexeme.Token at t to)
+      → LiesWithin from (lexeme.Token at t to) (length text) → Answers s t None new
+      → SoFar text (mode_after mode t) to new
+  so_far_on t at to new l w a = record {
+    tokens = h.tokens ++ (t ∷ []);
+    going = going_on text mode h.tokens from s h.going t at to new l a.0 a.1;
+    fits = a.2;
+    within = w.2;
+  }
+
+  pub so_far_refused : (t : Token) (at to : ℕ) (r : Refusal) (new : ProgramState)
+      → Lexes text mode from (lexeme.Token at t to) → Answers s t (Some r) new → Answered text (Err (fault_at at r))
+  so_far_refused t at to (refusal.Why why) new l a = refused_at text mode h.tokens from s h.going t at to _ l a
+  so_far_refused t at to (refusal.Destructive what) new l a = refused_at text mode h.tokens from s h.going t at to _ l a
+
+  pub so_far_overlong : (at : ℕ) → Lexes text mode from (lexeme.Overlong at)
+      → Answered text (Err (lang.Program at TooLong))
+  so_far_overlong at l = overlong_at text mode h.tokens from s h.going at l
+
+  pub so_far_stray : (at : ℕ) → Lexes text mode from (lexeme.Stray at) → Answered text (Err (lang.Program at Syntax))
+  so_far_stray at l = stray_at text mode h.tokens from s h.going at l
+
+  pub so_far_whole : (at : ℕ) (p : Program) → Lexes text mode from (lexeme.End at)
+      → Some (form_of_program p) ≡ finished s → Answered text (Ok p)
+  so_far_whole at p l e = ended_whole text mode h.tokens from s h.going at (form_of_program p) l (sym e)
+
+  pub so_far_early : (at : ℕ) → Lexes text mode from (lexeme.End at) → None ≡ finished s
+      → Answered text (Err (lang.Program at Syntax))
+  so_far_early at l e = ended_early text mode h.tokens from s h.going at l (sym e)
+
+  pub so_far_end : (at : ℕ) (r : Option Program) → Lexes text mode from (lexeme.End at)
+      → option_map form_of_program r ≡ finished s → Answered text (ok_or r (lang.Program at Syntax))
+  so_far_end at (Some p) l e = so_far_whole at p l e
+  so_far_end at None l e = so_far_early at l e
+
+-- what was answered of a token
+pub answers_is : (s new : ProgramState) (t : Token) (v w : Option Refusal) → v ≡ w → Answers s t v new
+    → Answers s t w new
+answers_is s new t v w e a = subst (λ (x : Option Refusal). Answers s t x new) e a

@@ -1,0 +1,58 @@
+-- What stands at the front of a text.
+use Rattle.std.proofs.Common.{◌≡◌, ◌≢◌, ℕ, ◌⊎◌, inl, inr, List, [], ◌∷◌, Option, Some, None, IfSome, IfNone, length, eqb, true, false, refl, subst, sym}
+use Rattle.std.proofs.lemmas.Bool.{false≢true}
+use Rattle.std.specs.List.{take_while}
+use Rattle.std.specs.Option.{option_map}
+use Rattle.dt_lang.specs.Description.{DescForm, form_of_description, DescribesPatterns, ReadsDescription}
+use Rattle.dt_lang.specs.declared.description.Description.{Description}
+use Rattle.dt_lang.specs.Class.{is_description_byte}
+use Rattle.dt_lang.specs.Piece.{FindsRun, FindsInHead, FindsInBody, FindsInMode, FindsUncommented, opens_comment, Finds}
+use Rattle.dt_lang.specs.declared.mode.Mode.{Mode}
+use Rattle.dt_lang.specs.declared.mode.Mode.TheVariants as mode
+use Rattle.dt_lang.specs.declared.piece.Piece.{Piece}
+use Rattle.dt_lang.specs.declared.piece.Piece.TheVariants as piece
+use Rattle.dt_lang.specs.declared.token.Token.TheVariants as token
+
+reads : (run : List ℕ) (d : Option Description)
+    → IfSome d (λ x. DescribesPatterns run (form_of_description x))
+    → IfNone d ((form : DescForm) → DescribesPatterns run form → ⊥)
+    → ReadsDescription run (option_map form_of_description d)
+reads run (Some x) found none = found
+reads run None found none = none
+
+stands_run : (run text : List ℕ) (d : Option Description) → run ≢ []
+    → ReadsDescription run (option_map form_of_description d)
+    → FindsRun run text (piece.Token (token.Description d) (length run))
+stands_run [] text d some r = absurd (some refl)
+stands_run (byte ∷ run) text d some r = (d, r, refl)
+
+pub described : (text run : List ℕ) (d : Option Description) → run ≡ take_while is_description_byte text → run ≢ []
+    → IfSome d (λ x. DescribesPatterns run (form_of_description x))
+    → IfNone d ((form : DescForm) → DescribesPatterns run form → ⊥)
+    → FindsInHead text (piece.Token (token.Description d) (length run))
+described text run d is some found none =
+    subst (λ (r : List ℕ). FindsRun r text (piece.Token (token.Description d) (length run))) is
+    (stands_run run text d some (reads run d found none))
+
+-- what stands where there is more, and no comment begins
+pub finds : (m : Mode) (text : List ℕ) (found : Piece) → eqb (length text) 0 ≡ false → opens_comment text ≡ false
+    → FindsInMode m text found → Finds m text found
+finds m [] found some shut h = absurd (false≢true (sym some))
+finds m (byte ∷ rest) found some shut h = subst (λ o. FindsUncommented o m (byte ∷ rest) found) (sym shut) h
+
+pub commented : (m : Mode) (text : List ℕ) → eqb (length text) 0 ≡ false → opens_comment text ≡ true
+    → Finds m text piece.Stray
+commented m [] some begun = absurd (false≢true (sym some))
+commented m (byte ∷ rest) some begun =
+    subst (λ o. FindsUncommented o m (byte ∷ rest) piece.Stray) (sym begun) refl
+
+pub head_mode : (m : Mode) (text : List ℕ) (found : Piece) → (m ≡ mode.Head) ⊎ (m ≡ mode.Tail)
+    → FindsInHead text found → FindsInMode m text found
+head_mode m text found (inl e) h = subst (λ m. FindsInMode m text found) (sym e) h
+head_mode m text found (inr e) h = subst (λ m. FindsInMode m text found) (sym e) h
+
+pub body_mode : (m : Mode) (text : List ℕ) (found : Piece)
+    → ((depth : ℕ) × (m ≡ mode.Predicate depth)) ⊎ (m ≡ mode.Body)
+    → FindsInBody text found → FindsInMode m text found
+body_mode m text found (inl (depth, e)) h = subst (λ m. FindsInMode m text found) (sym e) h
+body_mode m text found (inr e) h = subst (λ m. FindsInMode m text found) (sym e) h

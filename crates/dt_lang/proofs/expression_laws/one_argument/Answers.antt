@@ -1,0 +1,5 @@
+use Rattle.dt_lang.proofs.ExpressionLaws.{one_argument}
+use Rattle.dt_lang.proofs.expression_laws.one_argument.Goals as goal
+
+pub returns : goal.returns
+returns c = one_argument

@@ -1,0 +1,5 @@
+use Rattle.dt_lang.proofs.ExpressionLaws.{one_form}
+use Rattle.dt_lang.proofs.expression_laws.one_expression.Goals as goal
+
+pub returns : goal.returns
+returns c = one_form

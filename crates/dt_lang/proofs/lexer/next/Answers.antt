@@ -1,0 +1,19 @@
+use Rattle.std.proofs.Common.{arith}
+use Rattle.dt_lang.proofs.Progress.{token_within}
+use Rattle.dt_lang.proofs.lexer.next.Goals as goal
+
+pub overflow_add-result : goal.overflow_add-result
+overflow_add-result c =
+    let within = token_within c.args.mode c.skip_blanks-rest.result.now c.in-Token.token c.in-Token.size
+    c.in-Token.ensures in
+    let fits = within.fits in
+    omega (arith, c.skip_blanks-rest.ensures.shorter)
+
+pub returns-in-Token-clause-within : goal.returns-in-Token-clause-within
+returns-in-Token-clause-within c =
+    let within = token_within c.args.mode c.skip_blanks-rest.result.now c.in-Token.token c.in-Token.size
+    c.in-Token.ensures in
+    let some = within.some in
+    let fits = within.fits in
+    let less = c.skip_blanks-rest.ensures.shorter in
+    (omega arith, omega arith, omega arith)

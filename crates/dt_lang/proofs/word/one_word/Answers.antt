@@ -1,0 +1,9 @@
+use Rattle.dt_lang.proofs.Existence.{some_word}
+use Rattle.dt_lang.proofs.Names.{one_word}
+use Rattle.dt_lang.proofs.word.one_word.Goals as goal
+
+pub returns-clause-some : goal.returns-clause-some
+returns-clause-some c = some_word
+
+pub returns-clause-one : goal.returns-clause-one
+returns-clause-one c = one_word

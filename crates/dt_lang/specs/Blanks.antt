@@ -1,0 +1,37 @@
+-- What stands between tokens. Guide, Program Structure.
+use Rattle.std.specs.Prelude.{◌≡◌, ◌≢◌, ℕ, ◌⊎◌, Bool, ◌==◌, ◌||◌, IsTrue, List, ◌∷◌, ◌++◌}
+
+-- space, tab, newline, carriage return
+abbrev pub is_blank : ℕ → Bool
+is_blank byte = byte == 32 || byte == 9 || byte == 10 || byte == 13
+
+-- a comment ends at the first `*` `/`
+abbrev pub HasNoEnd : List ℕ → Type 0
+HasNoEnd inside = (front back : List ℕ) → inside ≢ front ++ (42 ∷ 47 ∷ back)
+
+-- the text is a blank byte, and then the rest
+pub record BeginsWithBlank (text rest : List ℕ) : Type 0 where
+  pub byte : ℕ
+  pub blank : IsTrue (is_blank byte)
+  pub cut : text ≡ byte ∷ rest
+
+-- the text, behind a comment's beginning, is the rest of the comment, up to its first end, and then the rest
+pub record EndsComment (text rest : List ℕ) : Type 0 where
+  pub inside : List ℕ
+  pub cut : text ≡ inside ++ (42 ∷ 47 ∷ rest)
+  pub first : HasNoEnd inside
+
+-- The text is a comment, and then the rest. Comments don't nest.
+pub record BeginsWithComment (text rest : List ℕ) : Type 0 where
+  pub behind : List ℕ
+  pub cut : text ≡ 47 ∷ 42 ∷ behind
+  pub ends : EndsComment behind rest
+
+-- one blank stands at the front of the text, and then the rest
+abbrev pub StripsBlank : List ℕ → List ℕ → Type 0
+StripsBlank text rest = BeginsWithBlank text rest ⊎ BeginsWithComment text rest
+
+-- blanks stand at the front of the text, and then the rest, at whose front there is none
+pub data SkipsBlanks : List ℕ → List ℕ → Type 0 where
+  none_left : (text : List ℕ) → ((rest : List ℕ) → StripsBlank text rest → ⊥) → SkipsBlanks text text
+  one_more : (text next rest : List ℕ) → StripsBlank text next → SkipsBlanks next rest → SkipsBlanks text rest

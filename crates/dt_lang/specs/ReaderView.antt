@@ -1,0 +1,31 @@
+-- What contracts see of a reader of programs.
+use Rattle.std.specs.Prelude.{◌≡◌, Bool, true, false, List, map, Option, Some, None}
+use Rattle.std.specs.Option.{option_map}
+use Rattle.dt_expr.specs.Form.{form_of}
+use Rattle.dt_lang.specs.Description.{form_of_description}
+use Rattle.dt_lang.specs.declared.reader.ProgramReader.{ProgramReader}
+use Rattle.dt_lang.specs.ClauseState.{ProgramState, state}
+use Rattle.dt_lang.specs.ExpressionView.{state_of}
+use Rattle.dt_lang.specs.PlaceView.{place_of}
+use Rattle.dt_lang.specs.Program.{ClauseForm, form_of_clause, form_of_statement}
+
+-- the whole clauses
+abbrev pub clauses_of : ProgramReader → List ClauseForm
+clauses_of r = map form_of_clause r.clauses.items
+
+-- what was read of the next clause
+abbrev pub clause_of : ProgramReader → ClauseForm
+clause_of r = record {
+  descriptions = map form_of_description r.descriptions.items;
+  predicate = option_map form_of r.predicate;
+  statements = map form_of_statement r.statements.items;
+}
+
+-- the state of a reader
+abbrev pub program_state_of : ProgramReader → ProgramState
+program_state_of r = state (clauses_of r) (clause_of r) (place_of (state_of r.expression) r.place)
+
+-- The token leads to this state, or says that it leads nowhere.
+abbrev pub Leads : Option ProgramState → Bool → ProgramState → Type 0
+Leads next true new = next ≡ Some new
+Leads next false new = next ≡ None

@@ -1,0 +1,155 @@
+-- For what cause a token is refused after the tokens before it.
+use Rattle.std.specs.Prelude.{◌≡◌, ℕ, ◌<◌, ◌≤◌, Bool, true, List, [], ◌∷◌, ◌++◌, length, Option, None, ℤ}
+use Rattle.dt_expr.specs.Form.{Form}
+use Rattle.dt_expr.specs.declared.scene.NumberVariable.TheVariants as variable
+use Rattle.dt_expr.specs.declared.scene.TextVariable.TheVariants as text_variable
+use Rattle.dt_lang.specs.Description.{DescForm}
+use Rattle.dt_lang.specs.declared.description.Description.{Description}
+use Rattle.dt_lang.specs.Bounds.{AreBounds}
+use Rattle.dt_lang.specs.declared.fault.Why.{Why}
+use Rattle.dt_lang.specs.declared.fault.Why.TheVariants.{Syntax, Probe, Action, Variable, TooLong, Range}
+use Rattle.dt_lang.specs.declared.program.TheConstants.{CLAUSES_MAX, DESCRIPTIONS_MAX, STATEMENTS_MAX, KEYS_MAX, TOKENS_MAX}
+use Rattle.dt_lang.specs.declared.token.Sign.TheVariants as sign
+use Rattle.dt_lang.specs.declared.token.Token.{Token}
+use Rattle.dt_lang.specs.declared.token.Token.TheVariants as token
+use Rattle.dt_lang.specs.declared.word.Action.TheVariants as action
+use Rattle.dt_lang.specs.declared.word.Destructive.{Destructive}
+use Rattle.dt_lang.specs.declared.word.Function.TheVariants as function
+use Rattle.dt_lang.specs.declared.word.Word.{Word}
+use Rattle.dt_lang.specs.declared.word.Word.TheVariants as word
+use Rattle.dt_lang.specs.Expression.{ReadsExpr, BeginsExpr}
+use Rattle.dt_lang.specs.Grammar.{ReadsBounds, begins, ReadsClauses, Begins}
+use Rattle.dt_lang.specs.Program.{ArgForm, ClauseForm}
+use Rattle.dt_lang.specs.Stand.{HeadStands, BodyStands, KeysStand, Slot, value, divides_in, SlotOpens}
+
+-- why a token is refused: for a cause, or as the name of a destructive action
+pub data Cause : Type 0 where
+  because : Why → Cause
+  destroys : Destructive → Cause
+
+-- the order in which causes go, where several hold of one token
+abbrev pub rank : Cause → ℕ
+rank (because TooLong) = 0
+rank (destroys what) = 1
+rank (because Probe) = 2
+rank (because Action) = 3
+rank (because Variable) = 4
+rank (because Range) = 5
+rank (because Syntax) = 6
+
+-- A number or a text stands next in the expression that these tokens begin.
+pub data OperandStands (divides : Bool) (ts : List Token) : Type 0 where
+  a_number : BeginsExpr divides (ts ++ (token.Word (word.Number variable.Pid) ∷ [])) → OperandStands divides ts
+  a_text : BeginsExpr divides (ts ++ (token.Word (word.Text text_variable.Execname) ∷ [])) → OperandStands divides ts
+
+-- an identifier, a number or a text
+abbrev pub IsOperand : Token → Type 0
+IsOperand (token.Word w) = Unit {0}
+IsOperand (token.Number z) = Unit {0}
+IsOperand (token.Text bytes) = Unit {0}
+IsOperand _ = ⊥
+
+-- The token is one more of the expression that these tokens begin: it goes on with it, or is taken for its operand.
+pub data GoesOn (divides : Bool) (ts : List Token) (t : Token) : Type 0 where
+  fits : BeginsExpr divides (ts ++ (t ∷ [])) → GoesOn divides ts t
+  taken : IsOperand t → OperandStands divides ts → GoesOn divides ts t
+
+-- an identifier, or an aggregation's name
+abbrev pub IsForStatement : Token → Type 0
+IsForStatement (token.Word w) = Unit {0}
+IsForStatement (token.Aggregation name) = Unit {0}
+IsForStatement _ = ⊥
+
+-- The token is the first of one thing more than there may be: of a clause, a description, a statement or a key, or it is
+-- one more of the tokens of a predicate, an argument, a key or a value.
+pub data IsTooLong : List Token → Token → Type 0 where
+  a_clause : (ts : List Token) (cs : List ClauseForm) (d : Option Description) → ReadsClauses ts cs
+      → CLAUSES_MAX ≤ length cs → IsTooLong ts (token.Description d)
+  a_description : (ts : List Token) (cs : List ClauseForm) (ds : List DescForm) (d : Option Description)
+      → HeadStands ts cs ds → DESCRIPTIONS_MAX ≤ length ds
+      → IsTooLong (ts ++ (token.Sign sign.Comma ∷ [])) (token.Description d)
+  a_statement : (ts : List Token) (cs : List ClauseForm) (c : ClauseForm) (t : Token) → BodyStands begins ts cs c
+      → STATEMENTS_MAX ≤ length c.statements → IsForStatement t → IsTooLong ts t
+  a_key : (ts : List Token) (cs : List ClauseForm) (c : ClauseForm) (name : List ℕ) (keys : List ArgForm) (t : Token)
+      → KeysStand ts cs c name keys → KEYS_MAX ≤ length keys → GoesOn true [] t
+      → IsTooLong (ts ++ (token.Sign sign.Comma ∷ [])) t
+  a_token : (slot : Slot) (ts us : List Token) (cs : List ClauseForm) (c : ClauseForm) (t : Token)
+      → SlotOpens slot ts cs c → TOKENS_MAX ≤ length us → GoesOn (divides_in slot) us t → IsTooLong (ts ++ us) t
+
+-- A statement may begin behind these tokens.
+abbrev pub StatementBegins : List Token → Type 0
+StatementBegins ts = Begins (ts ++ (token.Word (word.Action action.Trace) ∷ []))
+
+-- The token is this destructive action's name where a statement begins.
+pub record IsDestructive (ts : List Token) (t : Token) (what : Destructive) : Type 0 where
+  pub names : t ≡ token.Word (word.Destructive what)
+  pub stands : StatementBegins ts
+
+-- An action's name or an aggregating function's stands behind these tokens.
+pub data NameStands (ts : List Token) : Type 0 where
+  a_statement : StatementBegins ts → NameStands ts
+  a_function : Begins (ts ++ (token.Word (word.Function function.Count) ∷ [])) → NameStands ts
+
+-- The token is an identifier where an action's name or an aggregating function's stands, and is none that may stand there.
+pub record IsNoAction (ts : List Token) (t : Token) : Type 0 where
+  pub word : Word
+  pub is_word : t ≡ token.Word word
+  pub stands : NameStands ts
+  pub unfit : Begins (ts ++ (t ∷ [])) → ⊥
+
+-- A variable or another operand stands behind these tokens.
+pub data VariableStands (ts : List Token) : Type 0 where
+  a_number : Begins (ts ++ (token.Word (word.Number variable.Pid) ∷ [])) → VariableStands ts
+  a_text : Begins (ts ++ (token.Word (word.Text text_variable.Execname) ∷ [])) → VariableStands ts
+
+-- an identifier that names no variable
+abbrev pub NamesNoVariable : Token → Type 0
+NamesNoVariable (token.Word (word.Number v)) = ⊥
+NamesNoVariable (token.Word (word.Text v)) = ⊥
+NamesNoVariable (token.Word w) = Unit {0}
+NamesNoVariable _ = ⊥
+
+-- The token is an identifier that names no variable, where an operand stands.
+pub record IsNoVariable (ts : List Token) (t : Token) : Type 0 where
+  pub unknown : NamesNoVariable t
+  pub stands : VariableStands ts
+
+-- The token is the `)` that ends an `lquantize` whose bounds make no levels, or too many.
+pub record IsOutOfRange (ts : List Token) (t : Token) : Type 0 where
+  pub front : List Token
+  pub expression : List Token
+  pub bounds : List Token
+  pub split : ts ≡ front ++ (expression ++ bounds)
+  pub ends : t ≡ token.Sign sign.CloseParen
+  pub clauses : List ClauseForm
+  pub clause : ClauseForm
+  pub name : List ℕ
+  pub keys : List ArgForm
+  pub opens : SlotOpens (value name keys function.Lquantize) front clauses clause
+  pub form : Form
+  pub reads : ReadsExpr true 0 expression form
+  pub lower : ℤ
+  pub upper : ℤ
+  pub step : ℤ
+  pub reads_bounds : ReadsBounds bounds lower upper step
+  pub wrong : AreBounds lower upper step → ⊥
+
+-- This cause holds of the token after those before it.
+abbrev pub Holds : List Token → Token → Cause → Type 0
+Holds ts t (because TooLong) = IsTooLong ts t
+Holds ts t (destroys what) = IsDestructive ts t what
+Holds ts t (because Probe) = t ≡ token.Description None
+Holds ts t (because Action) = IsNoAction ts t
+Holds ts t (because Variable) = IsNoVariable ts t
+Holds ts t (because Range) = IsOutOfRange ts t
+Holds ts t (because Syntax) = Begins (ts ++ (t ∷ [])) → ⊥
+
+-- The token is refused for this cause: it is the first that holds.
+pub record Refused (ts : List Token) (t : Token) (cause : Cause) : Type 0 where
+  pub holds : Holds ts t cause
+  pub first : (other : Cause) → rank other < rank cause → Holds ts t other → ⊥
+
+-- None of the tokens is refused after those before it.
+abbrev pub NoneRefused : List Token → Type 0
+NoneRefused ts = (before after : List Token) (t : Token) (cause : Cause) → ts ≡ before ++ (t ∷ after)
+    → Holds before t cause → ⊥

@@ -1,0 +1,36 @@
+-- How signs are written. Guide, Types, Operators and Expressions.
+use Rattle.std.specs.Prelude.{ℕ, List, codes}
+use Rattle.dt_lang.specs.declared.token.Sign.{Sign}
+use Rattle.dt_lang.specs.declared.token.Sign.TheVariants as sign
+
+abbrev pub spelling : Sign → List ℕ
+spelling sign.OrOr = codes "||"
+spelling sign.CaretCaret = codes "^^"
+spelling sign.AndAnd = codes "&&"
+spelling sign.LessLess = codes "<<"
+spelling sign.GreaterGreater = codes ">>"
+spelling sign.LessEqual = codes "<="
+spelling sign.GreaterEqual = codes ">="
+spelling sign.EqualEqual = codes "=="
+spelling sign.BangEqual = codes "!="
+spelling sign.Or = codes "|"
+spelling sign.Caret = codes "^"
+spelling sign.And = codes "&"
+spelling sign.Less = codes "<"
+spelling sign.Greater = codes ">"
+spelling sign.Plus = codes "+"
+spelling sign.Minus = codes "-"
+spelling sign.Star = codes "*"
+spelling sign.Slash = codes "/"
+spelling sign.Percent = codes "%"
+spelling sign.Bang = codes "!"
+spelling sign.Tilde = codes "~"
+spelling sign.OpenParen = codes "("
+spelling sign.CloseParen = codes ")"
+spelling sign.OpenBracket = codes "["
+spelling sign.CloseBracket = codes "]"
+spelling sign.OpenBrace = codes "{"
+spelling sign.CloseBrace = codes "}"
+spelling sign.Comma = codes ","
+spelling sign.Semicolon = codes ";"
+spelling sign.Equal = codes "="

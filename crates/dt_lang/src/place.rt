@@ -1,0 +1,144 @@
+//! Where in a program the last token that was read stands, and what of a statement was read up to there.
+ghost use Rattle.std.specs.Prelude.{◌≡◌, ◌≤◌, option_map, vec_len};
+ghost use Rattle.dt_expr.specs.Form.{form_of};
+ghost use Rattle.dt_lang.specs.Cause.{full, keys_full};
+ghost use Rattle.dt_lang.specs.Grammar.{call_of};
+ghost use Rattle.dt_lang.specs.PlaceView.{keys_of, slot_of};
+ghost use Rattle.dt_lang.specs.Program.{aggregate, form_of_call, form_of_statement};
+ghost use Rattle.dt_lang.specs.Stand.{divides_in};
+
+use crate::program::{Aggregation, Argument, Call, KEYS_MAX, Statement, TOKENS_MAX};
+use crate::word::{Action, Function};
+use dt_expr::Expr;
+use dt_names::ShortText;
+
+/// An aggregation's name and keys.
+#[derive(Drop)]
+pub(crate) struct Target {
+    pub(crate) name: ShortText,
+    pub(crate) keys: Vec<Argument>,
+}
+
+impl Target {
+    /// The statement that gives a value to this aggregation.
+    pub(crate) fn aggregate(self, call: Call) -> Statement
+        requires { vec_len self.keys ≤ KEYS_MAX }
+        ensures { form_of_statement result ≡ aggregate self.name (keys_of self) (form_of_call call) }
+    {
+        Statement::Aggregate(Aggregation {
+            name: self.name,
+            keys: self.keys,
+            call,
+        })
+    }
+}
+
+/// What an expression or a text is read for.
+#[derive(Drop)]
+pub(crate) enum Slot {
+    /// A predicate.
+    Predicate,
+    /// What `trace` is given.
+    Traced,
+    /// What `exit` is given.
+    Exited,
+    /// A key, behind those before it.
+    Key(Target),
+    /// What an aggregating function is given.
+    Value(Target, Function),
+}
+
+impl Slot {
+    /// Whether `/` is an operator there, outside parentheses.
+    pub(crate) fn divides(&self) -> bool
+        ensures { result ≡ divides_in (slot_of self.now) }
+    {
+        !matches!(self, Slot::Predicate)
+    }
+
+    /// Whether a further token would be one too many, or the first of one key too many.
+    pub(crate) fn is_full(&self, count: usize) -> bool
+        ensures { result ≡ full (slot_of self.now) count }
+    {
+        count >= TOKENS_MAX || (count == 0 && self.keys_are_full())
+    }
+
+    /// Whether a further key would be one too many.
+    fn keys_are_full(&self) -> bool
+        ensures { result ≡ keys_full (slot_of self.now) }
+    {
+        match self {
+            Slot::Key(target) => target.keys.len() >= KEYS_MAX,
+            _ => false,
+        }
+    }
+}
+
+/// A bound of an `lquantize`, with those before it.
+#[derive(Clone, Copy)]
+pub(crate) enum Bound {
+    Lower,
+    Upper { lower: i64 },
+    Step { lower: i64, upper: i64 },
+}
+
+/// An `lquantize` up to a bound.
+#[derive(Drop)]
+pub(crate) struct Levels {
+    pub(crate) target: Target,
+    pub(crate) value: Expr,
+    pub(crate) bound: Bound,
+}
+
+/// What the last token was, and so what stands next.
+#[derive(Drop)]
+pub(crate) enum Place {
+    /// Nothing, or the end of a clause: a clause may begin.
+    Outside,
+    /// A description of a head.
+    Described,
+    /// The `,` behind a description.
+    Listed,
+    /// The `/` that ends the predicate.
+    Guarded,
+    /// The `{` or a `;`: a statement may begin.
+    Begins,
+    /// The end of a statement.
+    Ends,
+    /// An action's name.
+    Called(Action),
+    /// The `(` of `stack`, or of `ustack`, which records frames of the process.
+    Framed { process: bool },
+    /// All of a statement but its `)`.
+    Closing(Statement),
+    /// An aggregation's name.
+    Named(ShortText),
+    /// The `]` behind the keys.
+    Keyed(Target),
+    /// The `=` of an aggregation.
+    Assigned(Target),
+    /// An aggregating function's name.
+    Applied(Target, Function),
+    /// So many tokens of what is read for a slot.
+    Within { slot: Slot, count: usize },
+    /// The `,` in front of a bound.
+    Bounding(Levels),
+    /// The `-` of a bound.
+    Negating(Levels),
+    /// A bound.
+    Bounded(Levels, i64),
+}
+
+/// What a function of one value is given, where it is one.
+pub(crate) fn call_of(function: Function, value: Expr) -> Option<Call>
+    ensures { option_map form_of_call result ≡ call_of function (form_of value) }
+{
+    match function {
+        Function::Sum => Some(Call::Sum(value)),
+        Function::Avg => Some(Call::Avg(value)),
+        Function::Min => Some(Call::Min(value)),
+        Function::Max => Some(Call::Max(value)),
+        Function::Quantize => Some(Call::Quantize(value)),
+        Function::Count | Function::Lquantize => None,
+    }
+}

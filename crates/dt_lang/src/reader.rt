@@ -1,0 +1,660 @@
+//! The reader of programs: a token at a time.
+ghost use Rattle.std.specs.Prelude.{◌≡◌, ◌≤◌, ◌<◌, IfOk, None, Some, false, if◌then◌else◌, not, option_map, length, List, [], ◌∷◌, ◌++◌, vec_len};
+ghost use Rattle.dt_expr.specs.Form.{form_of};
+ghost use Rattle.dt_lang.specs.ClauseState.{ProgramState, step, body, bounded, bounding, from_bounded, ended, entered, finished, from_applied, from_assigned, from_begins, from_bounding, from_called, from_closing, from_described, from_ends, from_framed, from_guarded, from_keyed, from_listed, from_named, from_negating, from_outside, given, headed, opened, outside, shut, shut_key, shut_predicate, shut_value, state, start, from_within};
+ghost use Rattle.dt_lang.specs.Cause.{are_bounds, out_of_range_at, takes, too_long_at};
+ghost use Rattle.dt_lang.specs.Early.{Answers, Outcome, cause_of_refusal, early_at};
+ghost use Rattle.dt_lang.specs.Fits.{Fits, FitsClause, FitsWithin, HasRoom};
+ghost use Rattle.dt_lang.specs.ExpressionView.{state_of};
+ghost use Rattle.dt_lang.specs.PlaceView.{bound_of, keys_of, place_of, slot_of};
+ghost use Rattle.dt_lang.specs.Program.{aggregate, form_of_argument, form_of_program, lquantize, form_of_clause, form_of_statement, number};
+ghost use Rattle.dt_lang.specs.ReaderView.{Leads, clause_of, clauses_of, program_state_of};
+ghost use Rattle.dt_lang.specs.declared.program.TheConstants.{DESCRIPTIONS_MAX, KEYS_MAX, STATEMENTS_MAX};
+
+use crate::description::Description;
+use crate::early::{early_assigned, early_begins, early_elsewhere, early_operand};
+use crate::expression::ExpressionReader;
+use crate::fault::{Refusal, Why};
+use crate::place::{Bound, Levels, Place, Slot, Target, call_of};
+use crate::program::{
+    Argument, Bounds, CLAUSES_MAX, Call, Clause, DESCRIPTIONS_MAX, Frames, Program, STATEMENTS_MAX,
+    Statement,
+};
+use crate::token::{Sign, Token};
+use crate::word::{Action, Function, Word};
+use dt_expr::Expr;
+use dt_names::ShortText;
+use std::alloc::{AllocError, Global};
+use std::mem;
+
+/// Reads a program token by token. (illumos Dynamic Tracing Guide, "Program Structure".)
+///
+/// It has no recursion, and holds no more than what it has read.
+#[derive(Drop)]
+pub(crate) struct ProgramReader {
+    clauses: Vec<Clause>,
+    descriptions: Vec<Description>,
+    predicate: Option<Expr>,
+    statements: Vec<Statement>,
+    expression: ExpressionReader,
+    place: Place,
+}
+
+impl ProgramReader {
+    /// A reader that has read nothing.
+    pub(crate) fn new(alloc: Global) -> Self
+        ensures { program_state_of result ≡ start }
+    {
+        ProgramReader {
+            clauses: Vec::new(alloc),
+            descriptions: Vec::new(alloc),
+            predicate: None,
+            statements: Vec::new(alloc),
+            expression: ExpressionReader::new(alloc),
+            place: Place::Outside,
+        }
+    }
+
+    /// Reads a token, or says why it is refused.
+    pub(crate) fn push(
+        &mut self,
+        alloc: Global,
+        token: Token,
+    ) -> Result<Option<Refusal>, AllocError>
+        requires { Fits (program_state_of self.old) }
+        ensures { IfOk result (λ refused. Answers (program_state_of self.old) token refused
+            (program_state_of self.new)) }
+    {
+        if self.exceeds(alloc, &token)? {
+            return Ok(Some(Refusal::Why(Why::TooLong)));
+        }
+        if let Some(refusal) = self.early(&token) {
+            return Ok(Some(refusal));
+        }
+        match self.step(alloc, token)? {
+            Some(why) => Ok(Some(Refusal::Why(why))),
+            None => Ok(None),
+        }
+    }
+
+    /// The program that was read, where it is whole.
+    #[tactic(auto, unfolding(crate::specs::ClauseState::finished))]
+    pub(crate) fn finish(&mut self, alloc: Global) -> Option<Program>
+        requires { Fits (program_state_of self.old) }
+        ensures { option_map form_of_program result ≡ finished (program_state_of self.old) }
+    {
+        match self.place {
+            Place::Outside if !self.clauses.is_empty() => Some(Program {
+                clauses: mem::replace(&mut self.clauses, Vec::new(alloc)),
+            }),
+            _ => None,
+        }
+    }
+
+    /// Begins what is read for a slot.
+    fn enter(&mut self, slot: Slot)
+        ensures { program_state_of self.new ≡ entered (clauses_of self.old) (clause_of self.old) (slot_of slot) }
+    {
+        self.expression.begin(slot.divides());
+        self.place = Place::Within { slot, count: 0 };
+    }
+
+    /// Ends a statement.
+    fn end_statement(&mut self, statement: Statement) -> Result<(), AllocError>
+        ensures { IfOk result (λ _. program_state_of self.new
+            ≡ ended (clauses_of self.old) (clause_of self.old) (form_of_statement statement)) }
+    {
+        self.statements.push(statement)?;
+        self.place = Place::Ends;
+        Ok(())
+    }
+
+    /// Ends a clause.
+    fn end_clause(&mut self, alloc: Global) -> Result<(), AllocError>
+        requires { FitsClause (clauses_of self.old) (clause_of self.old) }
+        ensures { IfOk result (λ _. program_state_of self.new
+            ≡ state (clauses_of self.old ++ (clause_of self.old ∷ [])) (headed []) outside) }
+    {
+        let clause = Clause {
+            descriptions: mem::replace(&mut self.descriptions, Vec::new(alloc)),
+            predicate: mem::replace(&mut self.predicate, None),
+            statements: mem::replace(&mut self.statements, Vec::new(alloc)),
+        };
+        self.clauses.push(clause)?;
+        self.place = Place::Outside;
+        Ok(())
+    }
+
+    /// Reads a token where a clause may begin.
+    fn from_outside(&mut self, alloc: Global, token: Token) -> Result<bool, AllocError>
+        ensures { IfOk result (λ on. Leads (from_outside (clauses_of self.old) token) on (program_state_of self.new)) }
+    {
+        match token {
+            Token::Description(Some(description)) => {
+                let mut descriptions = Vec::new(alloc);
+                descriptions.push(description)?;
+                self.descriptions = descriptions;
+                self.predicate = None;
+                self.statements = Vec::new(alloc);
+                self.place = Place::Described;
+                Ok(true)
+            }
+            _ => Ok(false),
+        }
+    }
+
+    /// Reads a token behind a description.
+    fn from_described(&mut self, token: &Token) -> bool
+        ensures { Leads (from_described (clauses_of self.old) (clause_of self.old) token.now) result
+            (program_state_of self.new) }
+    {
+        match token {
+            Token::Sign(Sign::Comma) => {
+                self.place = Place::Listed;
+                true
+            }
+            Token::Sign(Sign::Slash) => {
+                self.enter(Slot::Predicate);
+                true
+            }
+            Token::Sign(Sign::OpenBrace) => {
+                self.place = Place::Begins;
+                true
+            }
+            _ => false,
+        }
+    }
+
+    /// Reads a token behind the `,` of a head.
+    fn from_listed(&mut self, token: Token) -> Result<bool, AllocError>
+        ensures { IfOk result (λ on. Leads (from_listed (clauses_of self.old) (clause_of self.old) token) on
+            (program_state_of self.new)) }
+    {
+        match token {
+            Token::Description(Some(description)) => {
+                self.descriptions.push(description)?;
+                self.place = Place::Described;
+                Ok(true)
+            }
+            _ => Ok(false),
+        }
+    }
+
+    /// Reads a token behind a predicate.
+    fn from_guarded(&mut self, token: &Token) -> bool
+        ensures { Leads (from_guarded (clauses_of self.old) (clause_of self.old) token.now) result
+            (program_state_of self.new) }
+    {
+        match token {
+            Token::Sign(Sign::OpenBrace) => {
+                self.place = Place::Begins;
+                true
+            }
+            _ => false,
+        }
+    }
+
+    /// Reads a token where a statement may begin.
+    fn from_begins(&mut self, alloc: Global, token: &Token) -> Result<bool, AllocError>
+        requires { FitsClause (clauses_of self.old) (clause_of self.old) }
+        ensures { IfOk result (λ on. Leads (from_begins (clauses_of self.old) (clause_of self.old) token.now) on
+            (program_state_of self.new)) }
+    {
+        match token {
+            Token::Sign(Sign::Semicolon) => self.place = Place::Begins,
+            Token::Sign(Sign::CloseBrace) => self.end_clause(alloc)?,
+            Token::Word(Word::Action(action)) => self.place = Place::Called(*action),
+            Token::Aggregation(name) => self.place = Place::Named(*name),
+            _ => return Ok(false),
+        }
+        Ok(true)
+    }
+
+    /// Reads a token behind a statement.
+    fn from_ends(&mut self, alloc: Global, token: &Token) -> Result<bool, AllocError>
+        requires { FitsClause (clauses_of self.old) (clause_of self.old) }
+        ensures { IfOk result (λ on. Leads (from_ends (clauses_of self.old) (clause_of self.old) token.now) on
+            (program_state_of self.new)) }
+    {
+        match token {
+            Token::Sign(Sign::Semicolon) => self.place = Place::Begins,
+            Token::Sign(Sign::CloseBrace) => self.end_clause(alloc)?,
+            _ => return Ok(false),
+        }
+        Ok(true)
+    }
+
+    /// Reads a token behind an action's name.
+    fn from_called(&mut self, action: Action, token: &Token) -> bool
+        ensures { Leads (from_called (clauses_of self.old) (clause_of self.old) action token.now) result
+            (program_state_of self.new) }
+    {
+        match token {
+            Token::Sign(Sign::OpenParen) => {
+                match action {
+                    Action::Trace => self.enter(Slot::Traced),
+                    Action::Exit => self.enter(Slot::Exited),
+                    Action::Stack => self.place = Place::Framed { process: false },
+                    Action::Ustack => self.place = Place::Framed { process: true },
+                }
+                true
+            }
+            _ => false,
+        }
+    }
+
+    /// Reads a token behind the `(` of an action that records frames of a stack.
+    fn from_framed(&mut self, process: bool, token: &Token) -> bool
+        ensures { Leads (from_framed (clauses_of self.old) (clause_of self.old) process token.now) result
+            (program_state_of self.new) }
+    {
+        let Token::Number(count) = token else {
+            return false;
+        };
+        let Some(frames) = Frames::new(*count) else {
+            return false;
+        };
+        let statement = if process {
+            Statement::Ustack(frames)
+        } else {
+            Statement::Stack(frames)
+        };
+        self.place = Place::Closing(statement);
+        true
+    }
+
+    /// Reads the token that ends a statement.
+    fn from_closing(&mut self, statement: Statement, token: &Token) -> Result<bool, AllocError>
+        ensures { IfOk result (λ on. Leads
+            (from_closing (clauses_of self.old) (clause_of self.old) (form_of_statement statement) token.now) on
+            (program_state_of self.new)) }
+    {
+        match token {
+            Token::Sign(Sign::CloseParen) => {
+                self.end_statement(statement)?;
+                Ok(true)
+            }
+            _ => Ok(false),
+        }
+    }
+
+    /// Reads a token behind an aggregation's name.
+    fn from_named(&mut self, alloc: Global, name: ShortText, token: &Token) -> bool
+        ensures { Leads (from_named (clauses_of self.old) (clause_of self.old) name token.now) result
+            (program_state_of self.new) }
+    {
+        let target = Target {
+            name,
+            keys: Vec::new(alloc),
+        };
+        match token {
+            Token::Sign(Sign::OpenBracket) => {
+                self.enter(Slot::Key(target));
+                true
+            }
+            Token::Sign(Sign::Equal) => {
+                self.place = Place::Assigned(target);
+                true
+            }
+            _ => false,
+        }
+    }
+
+    /// Reads a token behind an aggregation's keys.
+    fn from_keyed(&mut self, target: Target, token: &Token) -> bool
+        ensures { Leads (from_keyed (clauses_of self.old) (clause_of self.old) target.name (keys_of target) token.now)
+            result (program_state_of self.new) }
+    {
+        match token {
+            Token::Sign(Sign::Equal) => {
+                self.place = Place::Assigned(target);
+                true
+            }
+            _ => false,
+        }
+    }
+
+    /// Reads a token behind the `=` of an aggregation.
+    fn from_assigned(&mut self, target: Target, token: &Token) -> bool
+        ensures { Leads
+            (from_assigned (clauses_of self.old) (clause_of self.old) target.name (keys_of target) token.now) result
+            (program_state_of self.new) }
+    {
+        match token {
+            Token::Word(Word::Function(function)) => {
+                self.place = Place::Applied(target, *function);
+                true
+            }
+            _ => false,
+        }
+    }
+
+    /// Reads a token behind an aggregating function's name.
+    fn from_applied(&mut self, target: Target, function: Function, token: &Token) -> bool
+        requires { vec_len target.keys ≤ KEYS_MAX }
+        ensures { Leads
+            (from_applied (clauses_of self.old) (clause_of self.old) target.name (keys_of target) function token.now)
+            result (program_state_of self.new) }
+    {
+        match token {
+            Token::Sign(Sign::OpenParen) => {
+                match function {
+                    Function::Count => self.place = Place::Closing(target.aggregate(Call::Count)),
+                    _ => self.enter(Slot::Value(target, function)),
+                }
+                true
+            }
+            _ => false,
+        }
+    }
+
+    /// Reads a token of what is read for a slot, or the token that ends it.
+    fn from_within(
+        &mut self,
+        alloc: Global,
+        slot: Slot,
+        count: usize,
+        token: &Token,
+    ) -> Result<bool, AllocError>
+        requires { FitsWithin (clauses_of self.old) (clause_of self.old) (slot_of slot) count
+            (state_of self.old.expression) }
+        ensures { IfOk result (λ on. Leads
+            (from_within (clauses_of self.old) (clause_of self.old) (slot_of slot) count
+            (state_of self.old.expression) token.now) on (program_state_of self.new)) }
+    {
+        if self.expression.push(alloc, token)? {
+            self.place = Place::Within {
+                slot,
+                count: count + 1,
+            };
+            return Ok(true);
+        }
+        match self.expression.finish(alloc)? {
+            Some(argument) => self.shut(slot, argument, token),
+            None => Ok(false),
+        }
+    }
+
+    /// Ends what was read for a slot.
+    fn shut(&mut self, slot: Slot, argument: Argument, token: &Token) -> Result<bool, AllocError>
+        requires { HasRoom (slot_of slot) }
+        ensures { IfOk result (λ on. Leads
+            (shut (clauses_of self.old) (clause_of self.old) (slot_of slot) token.now (form_of_argument argument)) on
+            (program_state_of self.new)) }
+    {
+        match (slot, argument) {
+            (Slot::Predicate, Argument::Number(value)) => Ok(self.shut_predicate(value, token)),
+            (Slot::Traced, argument) => self.from_closing(Statement::Trace(argument), token),
+            (Slot::Exited, Argument::Number(value)) => {
+                self.from_closing(Statement::Exit(value), token)
+            }
+            (Slot::Key(target), argument) => self.shut_key(target, argument, token),
+            (Slot::Value(target, function), Argument::Number(value)) => {
+                self.shut_value(target, function, value, token)
+            }
+            _ => Ok(false),
+        }
+    }
+
+    /// Ends a predicate.
+    fn shut_predicate(&mut self, value: Expr, token: &Token) -> bool
+        ensures { Leads (shut_predicate (clauses_of self.old) (clause_of self.old) (number (form_of value)) token.now)
+            result (program_state_of self.new) }
+    {
+        match token {
+            Token::Sign(Sign::Slash) => {
+                self.predicate = Some(value);
+                self.place = Place::Guarded;
+                true
+            }
+            _ => false,
+        }
+    }
+
+    /// Ends a key.
+    fn shut_key(
+        &mut self,
+        target: Target,
+        argument: Argument,
+        token: &Token,
+    ) -> Result<bool, AllocError>
+        ensures { IfOk result (λ on. Leads
+            (shut_key (clauses_of self.old) (clause_of self.old) target.name (keys_of target)
+            (form_of_argument argument) token.now) on (program_state_of self.new)) }
+    {
+        let mut target = target;
+        target.keys.push(argument)?;
+        match token {
+            Token::Sign(Sign::Comma) => self.enter(Slot::Key(target)),
+            Token::Sign(Sign::CloseBracket) => self.place = Place::Keyed(target),
+            _ => return Ok(false),
+        }
+        Ok(true)
+    }
+
+    /// Ends what an aggregating function is given.
+    fn shut_value(
+        &mut self,
+        target: Target,
+        function: Function,
+        value: Expr,
+        token: &Token,
+    ) -> Result<bool, AllocError>
+        requires { vec_len target.keys ≤ KEYS_MAX }
+        ensures { IfOk result (λ on. Leads
+            (shut_value (clauses_of self.old) (clause_of self.old) target.name (keys_of target) function
+            (number (form_of value)) token.now) on (program_state_of self.new)) }
+    {
+        match token {
+            Token::Sign(Sign::CloseParen) => match call_of(function, value) {
+                Some(call) => {
+                    self.end_statement(target.aggregate(call))?;
+                    Ok(true)
+                }
+                None => Ok(false),
+            },
+            Token::Sign(Sign::Comma) if function == Function::Lquantize => {
+                self.place = Place::Bounding(Levels {
+                    target,
+                    value,
+                    bound: Bound::Lower,
+                });
+                Ok(true)
+            }
+            _ => Ok(false),
+        }
+    }
+
+    /// Reads a token where a bound stands.
+    fn from_bounding(&mut self, levels: Levels, token: &Token) -> bool
+        ensures { Leads
+            (from_bounding (clauses_of self.old) (clause_of self.old) levels.target.name (keys_of levels.target)
+            (form_of levels.value) (bound_of levels.bound) token.now) result (program_state_of self.new) }
+    {
+        match token {
+            Token::Number(number) if *number >= 0 => {
+                self.place = Place::Bounded(levels, *number);
+                true
+            }
+            Token::Sign(Sign::Minus) => {
+                self.place = Place::Negating(levels);
+                true
+            }
+            _ => false,
+        }
+    }
+
+    /// Reads a token behind the `-` of a bound.
+    fn from_negating(&mut self, levels: Levels, token: &Token) -> bool
+        ensures { Leads
+            (from_negating (clauses_of self.old) (clause_of self.old) levels.target.name (keys_of levels.target)
+            (form_of levels.value) (bound_of levels.bound) token.now) result (program_state_of self.new) }
+    {
+        match token {
+            Token::Number(number) if *number >= 0 => {
+                self.place = Place::Bounded(levels, -*number);
+                true
+            }
+            _ => false,
+        }
+    }
+
+    /// Reads a token behind a bound.
+    fn from_bounded(
+        &mut self,
+        levels: Levels,
+        last: i64,
+        token: &Token,
+    ) -> Result<Option<Why>, AllocError>
+        requires { vec_len levels.target.keys ≤ KEYS_MAX }
+        ensures { IfOk result (λ why. Outcome
+            (from_bounded (clauses_of self.old) (clause_of self.old) levels.target.name (keys_of levels.target)
+            (form_of levels.value) (bound_of levels.bound) last token.now)
+            (out_of_range_at (bounded levels.target.name (keys_of levels.target) (form_of levels.value)
+            (bound_of levels.bound) last) token.now) why (program_state_of self.new)) }
+    {
+        let Levels {
+            target,
+            value,
+            bound,
+        } = levels;
+        match (bound, token) {
+            (Bound::Lower, Token::Sign(Sign::Comma)) => {
+                self.begin_bound(target, value, Bound::Upper { lower: last });
+                Ok(None)
+            }
+            (Bound::Upper { lower }, Token::Sign(Sign::Comma)) => {
+                self.begin_bound(target, value, Bound::Step { lower, upper: last });
+                Ok(None)
+            }
+            (Bound::Upper { lower }, Token::Sign(Sign::CloseParen)) => {
+                self.end_levels(target, value, lower, last, 1)
+            }
+            (Bound::Step { lower, upper }, Token::Sign(Sign::CloseParen)) => {
+                self.end_levels(target, value, lower, upper, last)
+            }
+            _ => Ok(Some(Why::Syntax)),
+        }
+    }
+
+    /// Begins a bound.
+    fn begin_bound(&mut self, target: Target, value: Expr, bound: Bound)
+        ensures { program_state_of self.new ≡ state (clauses_of self.old) (clause_of self.old)
+            (bounding target.name (keys_of target) (form_of value) (bound_of bound)) }
+    {
+        self.place = Place::Bounding(Levels {
+            target,
+            value,
+            bound,
+        });
+    }
+
+    /// Ends an `lquantize` with these bounds, or says that they are out of range.
+    fn end_levels(
+        &mut self,
+        target: Target,
+        value: Expr,
+        lower: i64,
+        upper: i64,
+        step: i64,
+    ) -> Result<Option<Why>, AllocError>
+        requires { vec_len target.keys ≤ KEYS_MAX }
+        ensures { IfOk result (λ why. Outcome
+            (Some (ended (clauses_of self.old) (clause_of self.old)
+            (aggregate target.name (keys_of target) (lquantize (form_of value) lower upper step))))
+            (not (are_bounds lower upper step)) why (program_state_of self.new)) }
+    {
+        match Bounds::new(lower, upper, step) {
+            Some(bounds) => {
+                self.end_statement(target.aggregate(Call::Lquantize(value, bounds)))?;
+                Ok(None)
+            }
+            None => Ok(Some(Why::Range)),
+        }
+    }
+
+    /// Whether a token is the first of one thing more than there may be, or one token too many. If it isn't, nothing is
+    /// changed.
+    fn exceeds(&mut self, alloc: Global, token: &Token) -> Result<bool, AllocError>
+        ensures told { IfOk result (λ over.
+            too_long_at (clauses_of self.old) (clause_of self.old)
+            (place_of (state_of self.old.expression) self.old.place) token.now ≡ over) }
+        ensures kept { IfOk result (λ over. over ≡ false
+            → program_state_of self.new ≡ program_state_of self.old) }
+    {
+        match &self.place {
+            Place::Outside => Ok(token.is_description() && self.clauses.len() >= CLAUSES_MAX),
+            Place::Listed => {
+                Ok(token.is_description() && self.descriptions.len() >= DESCRIPTIONS_MAX)
+            }
+            Place::Begins => {
+                Ok(self.statements.len() >= STATEMENTS_MAX && token.is_for_statement())
+            }
+            Place::Within { slot, count } if slot.is_full(*count) => self.takes(alloc, token),
+            _ => Ok(false),
+        }
+    }
+
+    /// Whether a token is one more of what is read for a slot. If it isn't, nothing is changed.
+    fn takes(&mut self, alloc: Global, token: &Token) -> Result<bool, AllocError>
+        ensures told { IfOk result (λ on. takes (state_of self.old.expression) token.now ≡ on) }
+        ensures kept { IfOk result (λ on. on ≡ false → program_state_of self.new ≡ program_state_of self.old) }
+    {
+        let wants = self.expression.wants_operand();
+        let on = self.expression.push(alloc, token)?;
+        Ok(on || (token.is_operand() && wants))
+    }
+
+    /// The cause that a token shows at its place, before it is known whether it goes on.
+    fn early(&self, token: &Token) -> Option<Refusal>
+        ensures { option_map cause_of_refusal result
+            ≡ early_at (place_of (state_of self.now.expression) self.now.place) token.now }
+    {
+        match &self.place {
+            Place::Begins => early_begins(token),
+            Place::Assigned(_) => early_assigned(token),
+            Place::Within { .. } if self.expression.wants_operand() => early_operand(token),
+            _ => early_elsewhere(token),
+        }
+    }
+
+    /// Reads a token that is not one too many and shows no cause at its place; or says why it is refused.
+    #[tactic(auto, unfolding(crate::specs::ClauseState::step))]
+    fn step(&mut self, alloc: Global, token: Token) -> Result<Option<Why>, AllocError>
+        requires { Fits (program_state_of self.old) }
+        ensures { IfOk result (λ why. Outcome (step (program_state_of self.old) token)
+            (out_of_range_at (place_of (state_of self.old.expression) self.old.place) token) why
+            (program_state_of self.new)) }
+    {
+        match mem::replace(&mut self.place, Place::Outside) {
+            Place::Outside => Ok(stuck_unless(self.from_outside(alloc, token)?)),
+            Place::Described => Ok(stuck_unless(self.from_described(&token))),
+            Place::Listed => Ok(stuck_unless(self.from_listed(token)?)),
+            Place::Guarded => Ok(stuck_unless(self.from_guarded(&token))),
+            Place::Begins => Ok(stuck_unless(self.from_begins(alloc, &token)?)),
+            Place::Ends => Ok(stuck_unless(self.from_ends(alloc, &token)?)),
+            Place::Called(action) => Ok(stuck_unless(self.from_called(action, &token))),
+            Place::Framed { process } => Ok(stuck_unless(self.from_framed(process, &token))),
+            Place::Closing(statement) => Ok(stuck_unless(self.from_closing(statement, &token)?)),
+            Place::Named(name) => Ok(stuck_unless(self.from_named(alloc, name, &token))),
+            Place::Keyed(target) => Ok(stuck_unless(self.from_keyed(target, &token))),
+            Place::Assigned(target) => Ok(stuck_unless(self.from_assigned(target, &token))),
+            Place::Applied(target, function) => {
+                Ok(stuck_unless(self.from_applied(target, function, &token)))
+            }
+            Place::Within { slot, count } => Ok(stuck_unless(self.from_within(
+                alloc, slot, count, &token,
+            )?)),
+            Place::Bounding(levels) => Ok(stuck_unless(self.from_bounding(levels, &token))),
+            Place::Negating(levels) => Ok(stuck_unless(self.from_negating(levels, &token))),
+            Place::Bounded(levels, last) => self.from_bounded(levels, last, &token),
+        }
+    }
+}
+
+/// The cause for which a token is refused that doesn't go on.
+fn stuck_unless(on: bool) -> Option<Why>
+    ensures { result ≡ (if on then None else Some Why.Syntax) }
+{
+    if on { None } else { Some(Why::Syntax) }
+}

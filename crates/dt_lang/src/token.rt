@@ -1,0 +1,113 @@
+//! The tokens of the clause language.
+ghost use Rattle.std.specs.Prelude.{◌≡◌};
+ghost use Rattle.dt_lang.specs.Cause.{is_description, is_for_statement};
+ghost use Rattle.dt_lang.specs.ExpressionState.{is_operand};
+
+use crate::description::Description;
+use crate::word::Word;
+use dt_names::ShortText;
+
+/// A sign of the language. (illumos Dynamic Tracing Guide, "Types, Operators and Expressions" and "Program Structure".)
+#[derive(Clone, Copy, Debug, PartialEq, Eq)]
+pub enum Sign {
+    /// `||`
+    OrOr,
+    /// `^^`
+    CaretCaret,
+    /// `&&`
+    AndAnd,
+    /// `<<`
+    LessLess,
+    /// `>>`
+    GreaterGreater,
+    /// `<=`
+    LessEqual,
+    /// `>=`
+    GreaterEqual,
+    /// `==`
+    EqualEqual,
+    /// `!=`
+    BangEqual,
+    /// `|`
+    Or,
+    /// `^`
+    Caret,
+    /// `&`
+    And,
+    /// `<`
+    Less,
+    /// `>`
+    Greater,
+    /// `+`
+    Plus,
+    /// `-`
+    Minus,
+    /// `*`
+    Star,
+    /// `/`
+    Slash,
+    /// `%`
+    Percent,
+    /// `!`
+    Bang,
+    /// `~`
+    Tilde,
+    /// `(`
+    OpenParen,
+    /// `)`
+    CloseParen,
+    /// `[`
+    OpenBracket,
+    /// `]`
+    CloseBracket,
+    /// `{`
+    OpenBrace,
+    /// `}`
+    CloseBrace,
+    /// `,`
+    Comma,
+    /// `;`
+    Semicolon,
+    /// `=`
+    Equal,
+}
+
+/// A token of the language.
+#[derive(Drop)]
+pub enum Token {
+    /// A run of name bytes and colons in a head: the description that it is read as, or `None` where it is none.
+    Description(Option<Description>),
+    /// An identifier.
+    Word(Word),
+    /// A number: the signed representative of 64 bits of what is written.
+    Number(i64),
+    /// A text of at most 31 bytes.
+    Text(ShortText),
+    /// `@` and an aggregation's name of at most 31 bytes, which may be empty.
+    Aggregation(ShortText),
+    /// A sign.
+    Sign(Sign),
+}
+
+impl Token {
+    /// Whether this is a run of name bytes and colons in a head.
+    pub(crate) fn is_description(&self) -> bool
+        ensures { result ≡ is_description self.now }
+    {
+        matches!(self, Token::Description(_))
+    }
+
+    /// Whether this is an identifier or an aggregation's name: what a statement begins with.
+    pub(crate) fn is_for_statement(&self) -> bool
+        ensures { result ≡ is_for_statement self.now }
+    {
+        matches!(self, Token::Word(_) | Token::Aggregation(_))
+    }
+
+    /// Whether this is an identifier, a number or a text: what is taken for an operand.
+    pub(crate) fn is_operand(&self) -> bool
+        ensures { result ≡ is_operand self.now }
+    {
+        matches!(self, Token::Word(_) | Token::Number(_) | Token::Text(_))
+    }
+}

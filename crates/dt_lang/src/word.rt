@@ -1,0 +1,268 @@
+//! What identifiers mean where they may stand.
+ghost use Rattle.std.specs.Prelude.{◌≡◌, ◌≢◌, ℕ, ◌↔◌, List, Some, IsTrue, IfSome, IfNone};
+ghost use Rattle.std.specs.List.{All};
+ghost use Rattle.dt_lang.specs.declared.word.Word.{Word};
+ghost use Rattle.dt_lang.specs.Word.{name_of_action, name_of_function, name_of_destructive, name_of_number, name_of_text, name_of_word, IsWord};
+
+use dt_expr::{NumberVariable, TextVariable};
+use std::fmt;
+
+/// A statement's name. (illumos Dynamic Tracing Guide, "Actions and Subroutines".)
+#[derive(Clone, Copy, Debug, PartialEq, Eq)]
+pub enum Action {
+    /// `trace`
+    Trace,
+    /// `stack`
+    Stack,
+    /// `ustack`
+    Ustack,
+    /// `exit`
+    Exit,
+}
+
+/// An aggregating function's name. (illumos Dynamic Tracing Guide, "Aggregations".)
+#[derive(Clone, Copy, Debug, PartialEq, Eq)]
+pub enum Function {
+    /// `count`
+    Count,
+    /// `sum`
+    Sum,
+    /// `avg`
+    Avg,
+    /// `min`
+    Min,
+    /// `max`
+    Max,
+    /// `quantize`
+    Quantize,
+    /// `lquantize`
+    Lquantize,
+}
+
+/// A destructive action's name: it is refused by this name. (illumos Dynamic Tracing Guide, "Actions and Subroutines",
+/// destructive actions.)
+#[derive(Clone, Copy, Debug, PartialEq, Eq)]
+pub enum Destructive {
+    /// `stop`
+    Stop,
+    /// `raise`
+    Raise,
+    /// `copyout`
+    Copyout,
+    /// `copyoutstr`
+    Copyoutstr,
+    /// `system`
+    System,
+    /// `breakpoint`
+    Breakpoint,
+    /// `panic`
+    Panic,
+    /// `chill`
+    Chill,
+}
+
+/// What an identifier is a name of.
+#[derive(Clone, Copy, Debug, PartialEq, Eq)]
+pub enum Word {
+    /// A statement.
+    Action(Action),
+    /// An aggregating function.
+    Function(Function),
+    /// A destructive action.
+    Destructive(Destructive),
+    /// A variable that names a number.
+    Number(NumberVariable),
+    /// A variable that names a text.
+    Text(TextVariable),
+    /// Nothing that the language knows.
+    Unknown,
+}
+
+impl Action {
+    /// The name, as programs write it.
+    pub fn name(self) -> &'static str
+        ensures { result.now ≡ name_of_action self }
+    {
+        match self {
+            Action::Trace => "trace",
+            Action::Stack => "stack",
+            Action::Ustack => "ustack",
+            Action::Exit => "exit",
+        }
+    }
+}
+
+impl Function {
+    /// The name, as programs write it.
+    pub fn name(self) -> &'static str
+        ensures { result.now ≡ name_of_function self }
+    {
+        match self {
+            Function::Count => "count",
+            Function::Sum => "sum",
+            Function::Avg => "avg",
+            Function::Min => "min",
+            Function::Max => "max",
+            Function::Quantize => "quantize",
+            Function::Lquantize => "lquantize",
+        }
+    }
+}
+
+impl Destructive {
+    /// The name, as programs write it.
+    pub fn name(self) -> &'static str
+        ensures { result.now ≡ name_of_destructive self }
+    {
+        match self {
+            Destructive::Stop => "stop",
+            Destructive::Raise => "raise",
+            Destructive::Copyout => "copyout",
+            Destructive::Copyoutstr => "copyoutstr",
+            Destructive::System => "system",
+            Destructive::Breakpoint => "breakpoint",
+            Destructive::Panic => "panic",
+            Destructive::Chill => "chill",
+        }
+    }
+}
+
+impl fmt::Display for Destructive {
+    ghost use Rattle.std.specs.Prelude.{Some};
+    ghost use Rattle.dt_lang.specs.Word.{name_of_destructive};
+
+    ghost output = { λ destructive. Some (name_of_destructive destructive) };
+
+    fn fmt<W: fmt::Write>(&self, f: &mut fmt::Formatter<W>) -> fmt::Result {
+        f.write_str(self.name())
+    }
+}
+
+/// The name of a variable that names a number.
+fn name_of_number(variable: NumberVariable) -> &'static str
+    ensures { result.now ≡ name_of_number variable }
+{
+    match variable {
+        NumberVariable::Arg0 => "arg0",
+        NumberVariable::Arg1 => "arg1",
+        NumberVariable::Arg2 => "arg2",
+        NumberVariable::Arg3 => "arg3",
+        NumberVariable::Arg4 => "arg4",
+        NumberVariable::Arg5 => "arg5",
+        NumberVariable::Arg6 => "arg6",
+        NumberVariable::Arg7 => "arg7",
+        NumberVariable::Arg8 => "arg8",
+        NumberVariable::Arg9 => "arg9",
+        NumberVariable::Cpu => "cpu",
+        NumberVariable::Pid => "pid",
+        NumberVariable::Tid => "tid",
+        NumberVariable::Uid => "uid",
+        NumberVariable::Timestamp => "timestamp",
+        NumberVariable::Id => "id",
+        NumberVariable::Epid => "epid",
+    }
+}
+
+/// The name of a variable that names a text.
+fn name_of_text(variable: TextVariable) -> &'static str
+    ensures { result.now ≡ name_of_text variable }
+{
+    match variable {
+        TextVariable::Execname => "execname",
+        TextVariable::Probeprov => "probeprov",
+        TextVariable::Probemod => "probemod",
+        TextVariable::Probefunc => "probefunc",
+        TextVariable::Probename => "probename",
+    }
+}
+
+/// All words that the language knows.
+const WORDS: [Word; 41] = [
+    Word::Action(Action::Trace),
+    Word::Action(Action::Stack),
+    Word::Action(Action::Ustack),
+    Word::Action(Action::Exit),
+    Word::Function(Function::Count),
+    Word::Function(Function::Sum),
+    Word::Function(Function::Avg),
+    Word::Function(Function::Min),
+    Word::Function(Function::Max),
+    Word::Function(Function::Quantize),
+    Word::Function(Function::Lquantize),
+    Word::Destructive(Destructive::Stop),
+    Word::Destructive(Destructive::Raise),
+    Word::Destructive(Destructive::Copyout),
+    Word::Destructive(Destructive::Copyoutstr),
+    Word::Destructive(Destructive::System),
+    Word::Destructive(Destructive::Breakpoint),
+    Word::Destructive(Destructive::Panic),
+    Word::Destructive(Destructive::Chill),
+    Word::Number(NumberVariable::Arg0),
+    Word::Number(NumberVariable::Arg1),
+    Word::Number(NumberVariable::Arg2),
+    Word::Number(NumberVariable::Arg3),
+    Word::Number(NumberVariable::Arg4),
+    Word::Number(NumberVariable::Arg5),
+    Word::Number(NumberVariable::Arg6),
+    Word::Number(NumberVariable::Arg7),
+    Word::Number(NumberVariable::Arg8),
+    Word::Number(NumberVariable::Arg9),
+    Word::Number(NumberVariable::Cpu),
+    Word::Number(NumberVariable::Pid),
+    Word::Number(NumberVariable::Tid),
+    Word::Number(NumberVariable::Uid),
+    Word::Number(NumberVariable::Timestamp),
+    Word::Number(NumberVariable::Id),
+    Word::Number(NumberVariable::Epid),
+    Word::Text(TextVariable::Execname),
+    Word::Text(TextVariable::Probeprov),
+    Word::Text(TextVariable::Probemod),
+    Word::Text(TextVariable::Probefunc),
+    Word::Text(TextVariable::Probename),
+];
+
+impl Word {
+    /// What an identifier is a name of.
+    pub fn of(name: &[u8]) -> Word
+        ensures { IsWord name.now result }
+    {
+        match Word::named_in(&WORDS, name) {
+            Some(word) => word,
+            None => Word::Unknown,
+        }
+    }
+
+    /// The first of these words with this name.
+    fn named_in(words: &[Word], name: &[u8]) -> Option<Word>
+        ensures some { IfSome result (λ word. name_of_word word ≡ Some name.now) }
+        ensures none { IfNone result (All (λ word. name_of_word word ≢ Some name.now) words.now) }
+    {
+        for word in words {
+            if word.is_named(name) {
+                return Some(*word);
+            }
+        }
+        None
+    }
+
+    /// Whether this is a word that the language knows, and this is its name.
+    fn is_named(self, name: &[u8]) -> bool
+        ensures { IsTrue result ↔ (name_of_word self ≡ Some name.now) }
+    {
+        let own = match self {
+            Word::Action(action) => action.name(),
+            Word::Function(function) => function.name(),
+            Word::Destructive(destructive) => destructive.name(),
+            Word::Number(variable) => name_of_number(variable),
+            Word::Text(variable) => name_of_text(variable),
+            Word::Unknown => return false,
+        };
+        own.as_bytes() == name
+    }
+}
+
+/// Law: each name is that of a word, and of one only.
+pub fn one_word()
+    ensures some { (name : List ℕ) → (word : Word) × IsWord name word }
+    ensures one { (name : List ℕ) (a b : Word) → IsWord name a → IsWord name b → a ≡ b }
+{}

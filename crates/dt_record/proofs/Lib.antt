@@ -1,0 +1,8 @@
+-- The lemmas of this crate.
+pub mod Bytes
+pub mod Each
+pub mod FieldLemmas
+pub mod Fitting
+pub mod LeftMore
+pub mod Loops
+pub mod Unique

@@ -1,0 +1,28 @@
+-- What the proof of `put_keys` is told at its goals.
+use Rattle.std.proofs.Common.{◌++◌, ◌∷◌, [], ap, ◌∙◌, rules}
+use Rattle.std.proofs.lemmas.List.{append_assoc}
+use Rattle.dt_expr.specs.Scene.{scene_of}
+use Rattle.dt_lang.specs.Program.{form_of_argument}
+use Rattle.dt_record.specs.Taking.{argument_value}
+use Rattle.dt_record.proofs.Loops.{on_err, each-turn, each-stop}
+use Rattle.dt_record.proofs.values.put_keys.Goals as goal
+
+pub returns-in_err-value_of-clause-fault : goal.returns-in_err-value_of-clause-fault
+returns-in_err-value_of-clause-fault c =
+    on_err c.from_residual.result
+    (each-stop form_of_argument (argument_value (scene_of c.args.scene.now)) c.args.keys.now c.loop-key.key-index
+    c.key-item.result c.loop-key-test.true c.key-item.is c.in_err-value_of.ensures)
+
+pub loop-key-preserved : goal.loop-key-preserved
+loop-key-preserved c =
+    let given = c.loop-key.invariant.given in
+    let value = c.in_ok-value_of.field-0 in
+    record {
+      given = (
+        given.0 ++ value ∷ [],
+        each-turn form_of_argument (argument_value (scene_of c.args.scene.now)) c.args.keys.now c.loop-key.key-index
+            c.key-item.result c.loop-key-test.true c.key-item.is given.0 value given.1 c.in_ok-value_of.ensures,
+        c.push.ensures.items ∙ ap (λ vs. vs ++ value ∷ []) given.2 ∙ append_assoc c.args.values.now.items given.0 (value ∷ []),
+      );
+      long = search rules;
+    }

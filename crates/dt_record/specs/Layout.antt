@@ -1,0 +1,40 @@
+-- Of what a clause's record is made, and records back from their bytes.
+use Rattle.std.specs.Prelude.{ℕ, ◌+◌, ◌*◌, List, map, sum, Option, Some, None, if◌then◌else◌}
+use Rattle.std.specs.List.{flat_map}
+use Rattle.std.specs.Option.{option_to_list}
+use Rattle.dt_lang.specs.Program.{ClauseForm, StatementForm}
+use Rattle.dt_lang.specs.Program as program
+use Rattle.dt_record.specs.Taking.{leaves_record}
+
+-- a value of a record: a number, a text, or so many frames of one of the stacks
+pub data FieldForm : Type 0 where
+  number text : FieldForm
+  stack ustack : (frames : ℕ) → FieldForm
+
+-- what a statement puts into the record
+abbrev pub field_of : StatementForm → Option FieldForm
+field_of (program.trace (program.number f)) = Some number
+field_of (program.trace (program.text t)) = Some text
+field_of (program.stack n) = Some (stack n)
+field_of (program.ustack n) = Some (ustack n)
+field_of _ = None
+
+-- the values after the EPID, in order
+abbrev pub fields_of : List StatementForm → List FieldForm
+fields_of statements = flat_map (λ statement. option_to_list (field_of statement)) statements
+
+-- those of a clause's record; none where the clause leaves no record
+abbrev pub layout_of : ClauseForm → Option (List FieldForm)
+layout_of clause = if leaves_record clause.statements then Some (fields_of clause.statements) else None
+
+-- how many bytes a value takes
+abbrev pub field_size : FieldForm → ℕ
+field_size number = 8
+field_size text = 32
+field_size (stack n) = 8 * n
+field_size (ustack n) = 8 * n
+
+-- the length of the record: the EPID's four bytes and the values; 0 where there is none
+abbrev pub size_of : Option (List FieldForm) → ℕ
+size_of None = 0
+size_of (Some fields) = 4 + sum (map field_size fields)

@@ -1,0 +1,8 @@
+-- What a clause does where it is taken, and its records.
+pub mod Taking
+pub mod Forms
+pub mod Layout
+pub mod Fields
+pub mod Split
+pub mod Records
+pub mod Left

@@ -1,0 +1,31 @@
+//! Which statements put something into the record.
+ghost use Rattle.std.specs.Prelude.{◌≡◌, map};
+ghost use Rattle.std.specs.List.{list_any};
+ghost use Rattle.dt_lang.specs.Program.{form_of_statement};
+ghost use Rattle.dt_record.specs.Taking as spec;
+
+use dt_lang::Statement;
+
+/// Whether a statement puts something into the record.
+fn is_recording(statement: &Statement) -> bool
+    ensures { result ≡ spec.is_recording (form_of_statement statement.now) }
+{
+    matches!(
+        statement,
+        Statement::Trace(_) | Statement::Stack(_) | Statement::Ustack(_)
+    )
+}
+
+/// Whether one of the statements puts something into the record.
+fn any_records(statements: &[Statement]) -> bool
+    ensures { result ≡ list_any (λ statement. spec.is_recording (form_of_statement statement)) statements.now }
+{
+    statements.iter().any(|statement| is_recording(statement))
+}
+
+/// Whether a clause of these statements leaves a record: one of them records something, or there is none.
+pub(crate) fn leaves_record(statements: &[Statement]) -> bool
+    ensures { result ≡ spec.leaves_record (map form_of_statement statements.now) }
+{
+    statements.is_empty() || any_records(statements)
+}

@@ -1,0 +1,61 @@
+//! What a clause's arguments, keys and aggregating statements are worth.
+ghost use Rattle.std.specs.Prelude.{◌≡◌, ◌+◌, ◌≤◌, ◌++◌, ℕ, List, Some, None, MatchResult, OnOk, OnErr, ◌∷◌, [], length, map};
+ghost use Rattle.arrayvec.specs.ArrayVec.{array_vec_len};
+ghost use Rattle.dt_expr.specs.Scene.{scene_of};
+ghost use Rattle.dt_expr.specs.declared.text.Value.{Value as ShownValue};
+ghost use Rattle.dt_lang.specs.Program.{form_of_argument, form_of_call};
+ghost use Rattle.dt_record.specs.Taking as spec;
+ghost use Rattle.dt_record.specs.Taking.{each};
+ghost use Rattle.dt_record.specs.declared.limits.TheConstants.{VALUES_MAX};
+
+use crate::limits::VALUES_MAX;
+use arrayvec::ArrayVec;
+use dt_expr::{EvalFault, Scene, Value, eval};
+use dt_lang::{Aggregation, Argument, Call};
+
+/// The value of an argument.
+pub(crate) fn value_of(argument: &Argument, scene: &Scene) -> Result<Value, EvalFault>
+    ensures { MatchResult result
+        (λ value. spec.argument_value (scene_of scene.now) (form_of_argument argument.now) ≡ Some value)
+        (λ _. spec.argument_value (scene_of scene.now) (form_of_argument argument.now) ≡ None) }
+{
+    match argument {
+        Argument::Number(expr) => Ok(Value::Number(eval(expr, scene)?)),
+        Argument::Text(text) => Ok(text.value(scene)),
+    }
+}
+
+/// What an aggregation is given.
+pub(crate) fn given(call: &Call, scene: &Scene) -> Result<Value, EvalFault>
+    ensures { MatchResult result
+        (λ value. spec.given (scene_of scene.now) (form_of_call call.now) ≡ Some value)
+        (λ _. spec.given (scene_of scene.now) (form_of_call call.now) ≡ None) }
+{
+    match call {
+        Call::Count => Ok(Value::Number(0)),
+        Call::Sum(expr)
+        | Call::Avg(expr)
+        | Call::Min(expr)
+        | Call::Max(expr)
+        | Call::Quantize(expr)
+        | Call::Lquantize(expr, _) => Ok(Value::Number(eval(expr, scene)?)),
+    }
+}
+
+/// Adds the values of an aggregation's keys.
+pub(crate) fn put_keys(
+    values: &mut ArrayVec<Value, VALUES_MAX>,
+    keys: &[Argument],
+    scene: &Scene,
+) -> Result<(), EvalFault>
+    requires { array_vec_len values.old + length keys.now ≤ VALUES_MAX }
+    ensures given { OnOk result ((given : List ShownValue)
+        × (each (spec.argument_value (scene_of scene.now)) (map form_of_argument keys.now) ≡ Some given)
+        × (values.new.items ≡ values.old.items ++ given)) }
+    ensures fault { OnErr result (each (spec.argument_value (scene_of scene.now)) (map form_of_argument keys.now) ≡ None) }
+{
+    for key in keys {
+        values.push(value_of(key, scene)?);
+    }
+    Ok(())
+}
