@@ -99,7 +99,8 @@ module _ (account : Account) (registry : Registry) where
   bounded : (n m k : ℕ) → n ≤ ECBS_MAX → m ≤ FIRINGS_MAX → k ≤ n + n * m → k < 2 ^ 40
   bounded n m k few small h = omega (arith, mul-le n m ECBS_MAX FIRINGS_MAX few small)
 
-  module _ (life : List Item) (cpu : ℕ) (few : length (ecbs_in account registry (set_up account registry life)) ≤ ECBS_MAX)
+  module _ (life : List Item) (cpu : ℕ)
+      (few : length (ecbs_in account registry (set_up account registry life)) ≤ ECBS_MAX)
       (small : firings life ≤ FIRINGS_MAX) where
     abbrev s : SetUp
     s = set_up account registry life

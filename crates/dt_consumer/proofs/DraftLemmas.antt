@@ -109,7 +109,8 @@ module _ (account : Account) (registry : Registry) (life : List Item) where
   fault_refused at why off = sym (ap (λ b. cond b (Some Busy) (Some (Program at why))) (early off))
 
   pub destructive_refused : (at : ℕ) (what : Destructive) → (set_up account registry life).begun ≡ false
-      → IsVerdictOnCommand account registry life (enable (destructive at what)) (Some (refusal.Destructive at what))
+      → IsVerdictOnCommand account registry life (enable (destructive at what))
+      (Some (refusal.Destructive at what))
   destructive_refused at what off =
       sym (ap (λ b. cond b (Some Busy) (Some (refusal.Destructive at what))) (early off))
 
@@ -125,7 +126,8 @@ module _ (account : Account) (registry : Registry) (life : List Item) where
 
   -- a program that is not enabled leaves the set-up
   pub idle_program : (clauses : List ClauseForm)
-      → is_enabled account registry (set_up account registry life).shapes (next_epid account registry now) clauses ≡ false
+      → is_enabled account registry (set_up account registry life).shapes (next_epid account registry now) clauses
+      ≡ false
       → set_up account registry (asked (Ok (enable (program clauses))) ∷ life) ≡ now
   idle_program clauses fails =
       ap (λ b. cond (not now.begun && b) (with_program now clauses) now) fails ∙ neither (not now.begun)
@@ -136,7 +138,8 @@ module _ (account : Account) (registry : Registry) (life : List Item) where
 
   -- an accepted one adds its clauses
   pub program_added : (clauses : List ClauseForm) → (set_up account registry life).begun ≡ false
-      → is_enabled account registry (set_up account registry life).shapes (next_epid account registry now) clauses ≡ true
+      → is_enabled account registry (set_up account registry life).shapes (next_epid account registry now) clauses
+      ≡ true
       → set_up account registry (asked (Ok (enable (program clauses))) ∷ life) ≡ with_program now clauses
   program_added clauses off holds =
       ap
@@ -165,13 +168,16 @@ module _ (account : Account) (registry : Registry) (life : List Item) where
 
   pub no_cpu : (n : ℕ) → registry.cpus ≤ n → IsVerdictOnCommand account registry life (snap n) (Some NoCpu)
   no_cpu n past =
-      sym (ap (λ b. cond b (Some NoCpu) (by_phase (is_asked_late account registry life))) (le-leb registry.cpus n past))
+      sym
+      (ap (λ b. cond b (Some NoCpu) (by_phase (is_asked_late account registry life))) (le-leb registry.cpus n past))
 
   verdict_inside : (n : ℕ) (b : Bool) → n < registry.cpus → is_asked_late account registry life ≡ b
       → IsVerdictOnCommand account registry life (snap n) (by_phase b)
   verdict_inside n b inside e =
       sym
-      (ap (λ x. cond x (Some NoCpu) (by_phase (is_asked_late account registry life))) (lt-leb registry.cpus n inside)
+      (ap
+      (λ x. cond x (Some NoCpu) (by_phase (is_asked_late account registry life)))
+      (lt-leb registry.cpus n inside)
       ∙ ap by_phase e)
 
   pub snap_early : (n : ℕ) → n < registry.cpus → (set_up account registry life).begun ≡ false
@@ -209,7 +215,8 @@ module _ (account : Account) (registry : Registry) (life : List Item) where
       → IsVerdictOnCommand account registry life (describe epid) None
   some_ecb epid found is = sym (ap (λ o. option_map_or (λ (found : AProbe × EcbForm). None) o (Some NoEpid)) is)
 
-  pub described_by : (epid : ℕ) (found : AProbe × EcbForm) (answer : Answer) → ecb_of account registry life epid ≡ Some found
+  pub described_by : (epid : ℕ) (found : AProbe × EcbForm) (answer : Answer)
+      → ecb_of account registry life epid ≡ Some found
       → answer ≡ described epid found.0 (layout_of found.1.clause)
       → Accepted account registry life (describe epid) answer
   described_by epid found answer is e =

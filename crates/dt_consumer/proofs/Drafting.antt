@@ -62,9 +62,11 @@ filtered_all : (n probe : ℕ) (ecbs : List Ecb) → AllByRecursion (λ (e : Ecb
     → AllByRecursion (λ (e : Ecb). e.clause < n) (filter (λ (e : Ecb). e.probe == probe) ecbs)
 filtered_all n probe [] h = tt
 filtered_all n probe (ecb ∷ ecbs) h =
-    picked_all (ecb.probe == probe) n ecb (filter (λ (e : Ecb). e.probe == probe) ecbs) h.0 (filtered_all n probe ecbs h.1)
+    picked_all (ecb.probe == probe) n ecb (filter (λ (e : Ecb). e.probe == probe) ecbs) h.0
+    (filtered_all n probe ecbs h.1)
 
-of_row : (clauses : List ClauseForm) (probe : ℕ) (wanted : List EcbForm) (ecbs : List Ecb) → AreEcbs clauses wanted ecbs
+of_row : (clauses : List ClauseForm) (probe : ℕ) (wanted : List EcbForm) (ecbs : List Ecb)
+    → AreEcbs clauses wanted ecbs
     → AreEcbs clauses (of_probe probe wanted) (filter (λ (e : Ecb). e.probe == probe) ecbs)
 of_row clauses probe wanted ecbs h = record {
   forms =
@@ -115,7 +117,8 @@ module _ (account : Account) (registry : Registry) (life : List Item) where
   pub program_draft : (count first : ℕ) (clauses : Vec Clause) (ecbs : Vec Ecb) (shapes : Shapes)
       → is_over life ≡ false → (set_up account registry life).begun ≡ false
       → first ≡ next_epid account registry (set_up account registry life)
-      → is_enabled account registry (set_up account registry life).shapes first (map form_of_clause clauses.items) ≡ true
+      → is_enabled account registry (set_up account registry life).shapes first (map form_of_clause clauses.items)
+      ≡ true
       → AreEcbs ((set_up account registry life).clauses ++ map form_of_clause clauses.items)
       (added account registry first (map form_of_clause clauses.items)) ecbs.items
       → count ≡ length ecbs.items
@@ -129,15 +132,20 @@ module _ (account : Account) (registry : Registry) (life : List Item) where
       (added account registry n (map form_of_clause clauses.items)) ecbs.items in
       let allowed = subst H is holds in
       let placed = subst A is are in
-      let long : length ecbs.items ≡ length (added account registry (next_epid account registry now) (map form_of_clause clauses.items)) =
-      sym (length-map ecbs.items (form_of_ecb (now.clauses ++ map form_of_clause clauses.items))) ∙ ap length placed.forms in
+      let long : length ecbs.items
+      ≡ length (added account registry (next_epid account registry now) (map form_of_clause clauses.items)) =
+      sym (length-map ecbs.items (form_of_ecb (now.clauses ++ map form_of_clause clauses.items)))
+      ∙ ap length placed.forms in
       record {
         replies =
             in_quota account registry life (Ok (enable (program forms))) (enabled count first) fresh
             (accepted_reply account registry life (enable (program forms)) (enabled count first)
             (program_verdict account registry life forms enabling.enabled off allowed)
             (ap (λ n. enabled n first) (counts ∙ long)
-            ∙ ap (enabled (length (added account registry (next_epid account registry now) (map form_of_clause clauses.items)))) is));
+            ∙ ap
+            (enabled
+            (length (added account registry (next_epid account registry now) (map form_of_clause clauses.items))))
+            is));
         makes = (fresh, off, refl, allowed, placed, shaped);
       }
 
@@ -181,8 +189,8 @@ module _ (account : Account) (registry : Registry) (life : List Item) where
       one text (reading_of text) (fault at why) (is_read text) (read at why refl) in
       let its : refusal ≡ Program at why = cc in
       subst (λ r. IsDraftOf account registry life (Ok (enable r)) draft) (sym same)
-      (refused_by account registry life (enable (fault at why)) (Program at why) draft (reply ∙ ap Refused its) change fresh
-      (fault_refused account registry life at why off) refl)
+      (refused_by account registry life (enable (fault at why)) (Program at why) draft (reply ∙ ap Refused its) change
+      fresh (fault_refused account registry life at why off) refl)
   text_refused text (faults.Destructive at what) refusal draft one read found e reply change fresh off =
       let same : reading_of text ≡ destructive at what =
       one text (reading_of text) (destructive at what) (is_read text) (found at what refl) in
@@ -202,7 +210,8 @@ module _ (account : Account) (registry : Registry) (life : List Item) where
   pub tracing_new : (consumer : Consumer) (ecbs : List Ecb) (t : Tracing)
       → Keeps account registry (set_up account registry life) consumer
       → (set_up account registry life).begun ≡ false → ecbs ≡ consumer.programs.ecbs.items
-      → ((probe : ℕ) → IfSome (slice_get t.rows.items probe) (λ row. row.items ≡ filter (λ ecb. ecb.probe == probe) ecbs))
+      → ((probe : ℕ)
+      → IfSome (slice_get t.rows.items probe) (λ row. row.items ≡ filter (λ ecb. ecb.probe == probe) ecbs))
       → length t.rows.items ≡ length registry.probes + 1 → All (HasTaken [] []) t.processors.items
       → length t.processors.items ≡ registry.cpus
       → IsTracing account registry (set_up account registry life) t
@@ -219,7 +228,8 @@ module _ (account : Account) (registry : Registry) (life : List Item) where
       kept : AreEcbs now.clauses (ecbs_in account registry now) ecbs
       kept = subst (AreEcbs now.clauses (ecbs_in account registry now)) (sym own) k.ecbs
 
-      row_of : (probe : ℕ) (o : Option (Vec Ecb)) → IfSome o (λ row. row.items ≡ filter (λ ecb. ecb.probe == probe) ecbs)
+      row_of : (probe : ℕ) (o : Option (Vec Ecb))
+          → IfSome o (λ row. row.items ≡ filter (λ ecb. ecb.probe == probe) ecbs)
           → IfSome o (λ row. AreEcbs now.clauses (of_probe probe (ecbs_in account registry now)) row.items)
       row_of probe None h = tt
       row_of probe (Some row) h =

@@ -71,7 +71,8 @@ module _ (one_verdict : (account : Account) (registry : Registry) (accepted : Li
   OfProgram clauses verdict = (v : Verdict)
       × IsVerdict account registry now.shapes (next_epid account registry now) clauses v × (verdict ≡ refusal_of v)
 
-  one_of_program : (clauses : List ClauseForm) (v w : Option Refusal) → OfProgram clauses v → OfProgram clauses w → v ≡ w
+  one_of_program : (clauses : List ClauseForm) (v w : Option Refusal) → OfProgram clauses v → OfProgram clauses w
+      → v ≡ w
   one_of_program clauses v w hv hw =
       hv.2
       ∙ ap refusal_of
@@ -80,7 +81,8 @@ module _ (one_verdict : (account : Account) (registry : Registry) (accepted : Li
 
   same_verdict : (ask : Ask) (v w : Option Refusal) → Verdict-on ask v → Verdict-on ask w → v ≡ w
   same_verdict (enable (program clauses)) v w hv hw =
-      one_by_bool (is_asked_late account registry life) (OfProgram clauses) (Some Busy) v w (one_of_program clauses) hv hw
+      one_by_bool (is_asked_late account registry life) (OfProgram clauses) (Some Busy) v w (one_of_program clauses)
+      hv hw
   same_verdict (enable (fault at why)) v w hv hw = hv ∙ sym hw
   same_verdict (enable (destructive at what)) v w hv hw = hv ∙ sym hw
   same_verdict go v w hv hw = hv ∙ sym hw

@@ -43,7 +43,8 @@ back_added [] ys i d h = absurd (omega arith)
 back_added (x ∷ xs) ys zero d h = refl
 back_added (x ∷ xs) ys (suc i) d h = back_added xs ys i d (omega arith)
 
-front_added : {X : Type 0} (xs ys : List X) (n i : ℕ) (d : X) → n ≡ length xs → get_or (xs ++ ys) (n + i) d ≡ get_or ys i d
+front_added : {X : Type 0} (xs ys : List X) (n i : ℕ) (d : X) → n ≡ length xs
+    → get_or (xs ++ ys) (n + i) d ≡ get_or ys i d
 front_added [] ys n i d e = ap (λ k. get_or ys k d) (omega arith)
 front_added (x ∷ xs) ys zero i d e = absurd (omega arith)
 front_added (x ∷ xs) ys (suc n) i d e =
@@ -87,7 +88,8 @@ both_placed n [] ys h k = k
 both_placed n (x ∷ xs) ys h k = (h.0, both_placed n xs ys h.1 k)
 
 -- the ECBs of a program, placed behind a consumer's own
-pub are_placed : (own more : List ClauseForm) (wanted : List EcbForm) (n : ℕ) (ecbs placed : List Ecb) → n ≡ length own
+pub are_placed : (own more : List ClauseForm) (wanted : List EcbForm) (n : ℕ) (ecbs placed : List Ecb)
+    → n ≡ length own
     → AreEcbs more wanted ecbs → placed ≡ map (placed_after n) ecbs → AreEcbs (own ++ more) wanted placed
 are_placed own more wanted n ecbs placed e h is = record {
   forms = ap (map (form_of_ecb (own ++ more))) is ∙ new_forms own more n ecbs e ∙ h.forms;
@@ -230,7 +232,8 @@ module _ (account : Account) (registry : Registry) (consumer : Consumer) where
   -- an accepted program
   module _ (s : SetUp) (k : Keeps account registry s consumer) (clauses : List Clause) (ecbs : List Ecb)
       (off : s.begun ≡ false)
-      (holds : is_enabled account registry s.shapes (next_epid account registry s) (map form_of_clause clauses) ≡ true)
+      (holds : is_enabled account registry s.shapes (next_epid account registry s) (map form_of_clause clauses)
+      ≡ true)
       (are : AreEcbs (s.clauses ++ map form_of_clause clauses)
       (added account registry (next_epid account registry s) (map form_of_clause clauses)) ecbs) where
     abbrev forms : List ClauseForm
@@ -316,7 +319,8 @@ module _ (account : Account) (registry : Registry) (consumer : Consumer) where
   }
 
 -- whether a consumer traces
-module _ (account : Account) (registry : Registry) (s : SetUp) (consumer : Consumer) (k : Keeps account registry s consumer)
+module _ (account : Account) (registry : Registry) (s : SetUp) (consumer : Consumer)
+    (k : Keeps account registry s consumer)
   where
     pub traced : (t : Tracing) → consumer.tracing ≡ Some t → (s.begun ≡ true) × IsTracing account registry s t
     traced t e =
@@ -331,7 +335,8 @@ module _ (account : Account) (registry : Registry) (s : SetUp) (consumer : Consu
         subst P e k.tracing
 
     is_begun : (o : Option Tracing)
-        → MatchOption o (s.begun ≡ false) (λ x. (s.begun ≡ true) × IsTracing account registry s x) → is_some o ≡ s.begun
+        → MatchOption o (s.begun ≡ false) (λ x. (s.begun ≡ true) × IsTracing account registry s x)
+        → is_some o ≡ s.begun
     is_begun None h = sym h
     is_begun (Some t) h = sym h.0
 

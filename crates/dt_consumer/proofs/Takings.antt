@@ -71,7 +71,8 @@ pub took_more : (f : Ecb → Taking) (row : List Ecb) (i : ℕ) (d : Ecb) (unrea
     ((taken ++ map f (take i row)) ++ f (get_or row i d) ∷ []) p
     → HasTaken (unread ++ map f (take (i + 1) row)) (taken ++ map f (take (i + 1) row)) p
 took_more f row i d unread taken p inside h =
-    let longer : (xs : List Taking) → (xs ++ map f (take i row)) ++ f (get_or row i d) ∷ [] ≡ xs ++ map f (take (i + 1) row) =
+    let longer : (xs : List Taking)
+    → (xs ++ map f (take i row)) ++ f (get_or row i d) ∷ [] ≡ xs ++ map f (take (i + 1) row) =
     λ xs. append_assoc xs (map f (take i row)) (f (get_or row i d) ∷ [])
     ∙ ap (λ ys. xs ++ ys) (sym (row_more f row i d inside)) in
     let P : List Taking → Type 0 = λ xs. HasTaken xs ((taken ++ map f (take i row)) ++ f (get_or row i d) ∷ []) p in

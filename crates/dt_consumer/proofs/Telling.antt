@@ -84,7 +84,8 @@ module _ (account : Account) (registry : Registry) (life : List Item) where
   errors_told t is few small =
       each_error (errors account registry life) 0 t.processors.items
       (λ i.
-      subst (λ k. IfSome (slice_get t.processors.items i) (λ (p : Processor). p.errors ≡ errors account registry life k))
+      subst
+      (λ k. IfSome (slice_get t.processors.items i) (λ (p : Processor). p.errors ≡ errors account registry life k))
       (omega arith)
       (if_counted (slice_get t.processors.items i) i (few_taken account registry life i few small)
       (has_counted (slice_get t.processors.items i) i (is.processors i))))
@@ -154,8 +155,8 @@ pub clause_known : (account : Account) (registry : Registry) (consumer : Consume
     → ecb.clause < length consumer.programs.clauses.items
 clause_known account registry consumer life k epid ecb is =
     let there : ecb.clause < length (set_up account registry life).clauses =
-    find_all (λ (e : Ecb). e.clause < length (set_up account registry life).clauses) _ consumer.programs.ecbs.items ecb
-    (recursion_from_All _ consumer.programs.ecbs.items k.ecbs.placed) (sym is) in
+    find_all (λ (e : Ecb). e.clause < length (set_up account registry life).clauses) _ consumer.programs.ecbs.items
+    ecb (recursion_from_All _ consumer.programs.ecbs.items k.ecbs.placed) (sym is) in
     omega (arith, there, ap length k.clauses, length-map consumer.programs.clauses.items form_of_clause)
 
 pub number_found : (epid : ℕ) (ecbs : List Ecb) (ecb : Ecb) → Some ecb ≡ find (λ (e : Ecb). e.epid == epid) ecbs
@@ -167,5 +168,6 @@ number_found epid ecbs ecb is =
 pub match_none : {X : Type 0} (o : Option X) (A : Type 0) (B : X → Type 0) → o ≡ None → A → MatchOption o A B
 match_none o A B e a = subst (λ x. MatchOption x A B) (sym e) a
 
-pub match_some : {X : Type 0} (o : Option X) (A : Type 0) (B : X → Type 0) (x : X) → o ≡ Some x → B x → MatchOption o A B
+pub match_some : {X : Type 0} (o : Option X) (A : Type 0) (B : X → Type 0) (x : X) → o ≡ Some x → B x
+    → MatchOption o A B
 match_some o A B x e b = subst (λ y. MatchOption y A B) (sym e) b

@@ -70,7 +70,8 @@ module _ (account : Account) (registry : Registry) (s : SetUp) where
   unread-none off cpu = ap (λ b. cond b (unread_until cpu) []) off
 
   -- a reading takes nothing, and leaves nothing unread on its processor alone
-  pub taken-read : (n cpu : ℕ) → all_taken account registry (with_event s (read n)) cpu ≡ all_taken account registry s cpu
+  pub taken-read : (n cpu : ℕ)
+      → all_taken account registry (with_event s (read n)) cpu ≡ all_taken account registry s cpu
   taken-read n cpu = ap (λ xs. cond s.begun xs []) (append-nil (taken_until cpu))
 
   pub unread-read : s.begun ≡ true → (cpu : ℕ) → unread account registry (with_event s (read cpu)) cpu ≡ []
@@ -90,7 +91,8 @@ same_taken u v a b o e f h =
     let Q : List Taking → Type 0 = λ y. IfSome o (HasTaken v y) in
     subst Q f (subst P e h)
 
-module _ (account : Account) (registry : Registry) (s : SetUp) (old : Tracing) (t : IsTracing account registry s old) where
+module _ (account : Account) (registry : Registry) (s : SetUp) (old : Tracing)
+    (t : IsTracing account registry s old) where
   abbrev processors : List Processor
   processors = old.processors.items
 
@@ -114,9 +116,12 @@ module _ (account : Account) (registry : Registry) (s : SetUp) (old : Tracing) (
       rows = t.rows;
       all_rows = t.all_rows;
       processors =
-          replaced (λ j x. HasTaken (unread account registry after_read j) (all_taken account registry after_read j) x)
+          replaced
+          (λ j x. HasTaken (unread account registry after_read j) (all_taken account registry after_read j) x)
           processors cpu q
-          (subst (λ a. HasTaken (unread account registry after_read cpu) a q) (sym (taken-read account registry s cpu cpu))
+          (subst
+          (λ a. HasTaken (unread account registry after_read cpu) a q)
+          (sym (taken-read account registry s cpu cpu))
           (subst (λ u. HasTaken u (all_taken account registry s cpu) q) (sym (unread-read account registry s on cpu))
           (cleared _ _ (found_at _ processors cpu p inside at (t.processors cpu)))))
           read_there;

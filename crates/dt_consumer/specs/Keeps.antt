@@ -47,7 +47,8 @@ pub record Grows (account : Account) (registry : Registry) (s next : SetUp) (mom
       ++ (if moment.firing.cpu == cpu then taken_at (ecbs_in account registry s) moment else [])
 
 module _ (account : Account) (registry : Registry) (s : SetUp) where
-  -- What is there while a consumer traces: a row of ECBs for each probe, and each processor with what was taken there.
+  -- What is there while a consumer traces: a row of ECBs for each probe, and each processor with what was taken
+  -- there.
   pub record IsTracing (tracing : Tracing) : Type 0 where
     pub rows : (probe : ℕ) → IfSome (slice_get tracing.rows.items probe)
         (λ row. AreEcbs s.clauses (of_probe probe (ecbs_in account registry s)) row.items)

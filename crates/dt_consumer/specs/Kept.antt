@@ -20,8 +20,8 @@ pub record IsChoice (size : ℕ) (attempts : List (List ℕ)) (chosen : List Boo
       IsTrue (slice_index_or chosen i false)
       ↔ (length (bytes_of (take i attempts) (take i chosen)) + length (slice_index_or attempts i []) ≤ size)
 
--- What a buffer holds of the records attempted since it was last read, and how many of them it dropped: as many as are
--- not chosen.
+-- What a buffer holds of the records attempted since it was last read, and how many of them it dropped: as many as
+-- are not chosen.
 pub record Shows (size : ℕ) (attempts : List (List ℕ)) (bytes : List ℕ) (drops : ℕ) : Type 0 where
   pub chosen : List Bool
   pub choice : IsChoice size attempts chosen

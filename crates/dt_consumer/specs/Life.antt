@@ -19,7 +19,8 @@ pub data Item : Type 0 where
   asked : Result Ask Refusal → Item
   fired : Firing → Item
 
--- A life is what reached a consumer, the newest first: its lines but those over its quota, and the firings that it saw.
+-- A life is what reached a consumer, the newest first: its lines but those over its quota, and the firings that it
+-- saw.
 
 abbrev pub is_line : Item → Bool
 is_line (asked line) = true
@@ -50,8 +51,9 @@ pub data Event : Type 0 where
   seen : Firing → Event
   read : (cpu : ℕ) → Event
 
--- What a consumer's own lines and the firings that it saw have made of it: the clauses of its accepted programs, in order
--- of acceptance, and the aggregations that they use; whether tracing began, and what happened since then, the newest first.
+-- What a consumer's own lines and the firings that it saw have made of it: the clauses of its accepted programs, in
+-- order of acceptance, and the aggregations that they use; whether tracing began, and what happened since then, the
+-- newest first.
 pub record SetUp : Type 0 where
   pub clauses : List ClauseForm
   pub shapes : List ShapeForm
@@ -87,8 +89,8 @@ module _ (account : Account) (registry : Registry) where
   abbrev pub accepts : SetUp → List ClauseForm → Bool
   accepts s clauses = not s.begun && is_enabled account registry s.shapes (next_epid s) clauses
 
-  -- The first `go` begins tracing. Only what has an effect stands among the events: a reading of a processor that is there,
-  -- since tracing began, and a firing.
+  -- The first `go` begins tracing. Only what has an effect stands among the events: a reading of a processor that is
+  -- there, once tracing began, and a firing.
   abbrev pub after_item : SetUp → Item → SetUp
   after_item s (asked (Ok (enable (program clauses)))) = if accepts s clauses then with_program s clauses else s
   after_item s (asked (Ok go)) = if s.begun then s else with_go s

@@ -5,8 +5,8 @@ use Rattle.dt_lang.specs.declared.fault.LangFault.TheVariants as fault
 use Rattle.dt_consumer.specs.declared.refusal.Refusal.{Refusal}
 use Rattle.dt_consumer.specs.declared.refusal.Refusal.TheVariants.{Json, Request, LineLong, Program, NoMatch, Privilege, Destructive, AggClash, Limit, Busy, NoCpu, NoEpid, Quota, Memory}
 
--- What a line is refused for that is no command: it is no JSON, no request, or too long. Every other refusal is one of
--- a command.
+-- What a line is refused for that is no command: it is no JSON, no request, or too long. Every other refusal is one
+-- of a command.
 abbrev pub IsNoCommand : Refusal → Type 0
 IsNoCommand Json = Unit {0}
 IsNoCommand Request = Unit {0}

@@ -17,8 +17,8 @@ IsShown account registry firing =
     → probe_of registry firing.probe ≡ Some probe → process_of registry firing.pid ≡ Some process
     → IsTrue (rights.admits account probe.class firing.mode process)
 
--- A consumer sees a firing where it is active, the firing belongs to the machine, one of its ECBs names the probe, and
--- its account is shown it.
+-- A consumer sees a firing where it is active, the firing belongs to the machine, one of its ECBs names the probe,
+-- and its account is shown it.
 pub record Sees (account : Account) (registry : Registry) (life : List Item) (firing : Firing) : Type 0 where
   pub active : phase account registry life ≡ Active
   pub belongs : Belongs registry firing

@@ -21,8 +21,8 @@ pub record MomentForm : Type 0 where
   pub process : Process
   pub firing : Firing
 
--- An ECB that is taken: where, and what came of it. That is none where a division by zero is evaluated, or that the clause
--- was passed over, its predicate being 0, or else what it leaves.
+-- An ECB that is taken: where, and what came of it. That is none where a division by zero is evaluated, or that the
+-- clause was passed over, its predicate being 0, or else what it leaves.
 pub record Taking : Type 0 where
   pub scene : SceneForm
   pub ecb : EcbForm

@@ -5,8 +5,9 @@ ghost use Rattle.dt_consumer.specs.declared.limits.TheConstants.{BUFFER_SIZE};
 use crate::limits::BUFFER_SIZE;
 use std::alloc::{AllocError, Global};
 
-/// The principal buffer of one processor under the switch policy: a record that fits after those kept since the buffer
-/// was last read is kept, any other is dropped and counted. (illumos Dynamic Tracing Guide, "Buffers and Buffering".)
+/// The principal buffer of one processor under the switch policy: a record that fits after those kept since the
+/// buffer was last read is kept, any other is dropped and counted. (illumos Dynamic Tracing Guide, "Buffers and
+/// Buffering".)
 #[derive(Drop)]
 pub(crate) struct Switch {
     pub(crate) kept: Vec<u8>,

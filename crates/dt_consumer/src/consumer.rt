@@ -56,9 +56,9 @@ impl Consumer {
         }
     }
 
-    /// Takes a firing, and answers whether the consumer saw it: it is active, the firing belongs to the machine, one of
-    /// its ECBs names the probe, and its account is shown the firing. An unseen firing changes nothing. It takes no
-    /// memory.
+    /// Takes a firing, and answers whether the consumer saw it: it is active, the firing belongs to the machine, one
+    /// of its ECBs names the probe, and its account is shown the firing. An unseen firing changes nothing. It takes
+    /// no memory.
     pub fn offer(&mut self, machine: &Machine, firing: &Firing) -> bool
         ensures sees { (account : Account) (life : List Item)
             → StandsFor account machine.now.registry self.old life

@@ -79,11 +79,12 @@ impl Draft {
         &self.reply
     }
 
-    /// Whether the line is a `go` that is accepted, so that tracing begins as it is applied. A line over the quota, or
-    /// in another phase, is none.
+    /// Whether the line is a `go` that is accepted, so that tracing begins as it is applied. A line over the quota,
+    /// or in another phase, is none.
     pub fn publishes(&self) -> bool
         ensures { (account : Account) (registry : Registry) (life : List Item) (line : Result Ask Refusal)
-            → IsDraftOf account registry life line self.now → (IsTrue result ↔ IsAcceptedGo account registry life line) }
+            → IsDraftOf account registry life line self.now
+            → (IsTrue result ↔ IsAcceptedGo account registry life line) }
     {
         matches!(&self.change, Change::Go { .. })
     }

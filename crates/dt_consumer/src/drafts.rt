@@ -44,12 +44,13 @@ impl Consumer {
         self.tracing.is_some()
     }
 
-    /// The reply to a line and all that the line will change. The call itself changes nothing, and takes all the memory
-    /// that the change needs: an error, which comes when memory runs out, leaves everything as it was.
+    /// The reply to a line and all that the line will change. The call itself changes nothing, and takes all the
+    /// memory that the change needs: an error, which comes when memory runs out, leaves everything as it was.
     ///
     /// The line is a command, or the refusal of a line that is none: [`Refusal::Json`], [`Refusal::Request`] or
-    /// [`Refusal::LineLong`], and no other. The machine is the one that the consumer was made for, and the consumer has
-    /// seen at most [`FIRINGS_MAX`](crate::FIRINGS_MAX) firings, which is as many as the scripts of a machine can hold.
+    /// [`Refusal::LineLong`], and no other. The machine is the one that the consumer was made for, and the consumer
+    /// has seen at most [`FIRINGS_MAX`](crate::FIRINGS_MAX) firings, which is as many as the scripts of a machine can
+    /// hold.
     pub fn draft(
         &self,
         alloc: Global,
@@ -127,7 +128,8 @@ impl Consumer {
         ensures { IfOk result (λ draft. (account : Account) (life : List Item)
             → MayAsk account machine.now.registry self.now life
             → (set_up account machine.now.registry life).begun ≡ false
-            → IsDraftOf account machine.now.registry life (Ok (enable (lang.program (form_of_program program)))) draft) }
+            → IsDraftOf account machine.now.registry life (Ok (enable (lang.program (form_of_program program))))
+            draft) }
     {
         one_verdict();
         let first = self.programs.ecbs().len() as u32 + 1;
@@ -161,7 +163,8 @@ impl Consumer {
             (form_of_program program) verdict.enabled
             → map (form_of_ecb (form_of_program program)) ecbs.items
             ≡ added account _machine.now.registry first (form_of_program program)
-            → IsDraftOf account _machine.now.registry life (Ok (enable (lang.program (form_of_program program)))) draft) }
+            → IsDraftOf account _machine.now.registry life (Ok (enable (lang.program (form_of_program program))))
+            draft) }
     {
         let shapes = self.programs.shapes.after(alloc, &program)?;
         let ecbs = placed_after(alloc, self.programs.clauses().len(), &ecbs)?;
@@ -338,3 +341,6 @@ fn refusal_in(fault: LangFault) -> Option<Refusal>
         LangFault::Memory => None,
     }
 }
+
+#[cfg(test)]
+mod tests;

@@ -1,9 +1,9 @@
 //! One consumer: its commands and replies, what it has enabled, and what its buffers hold.
 //!
 //! A consumer *stands for* its life, which is the list of its lines and of the firings that it saw
-//! (`specs/StandsFor.antt`): `draft` replies to a line as the definition says and changes nothing, `apply` and `offer`
-//! leave a consumer that stands for the life one item longer. The reply is defined in `specs/Reply.antt`, and a line
-//! has one (`one_reply`, `some_reply`). `Draft::publishes` says whether tracing begins by the line.
+//! (`specs/StandsFor.antt`): `draft` replies to a line as the definition says and changes nothing, `apply` and
+//! `offer` leave a consumer that stands for the life one item longer. The reply is defined in `specs/Reply.antt`, and
+//! a line has one (`one_reply`, `some_reply`). `Draft::publishes` says whether tracing begins by the line.
 #![tactic(auto)]
 
 mod begin;

@@ -10,8 +10,8 @@ pub const BUFFER_SIZE: usize = 65_536;
 /// processors.
 pub const FIRINGS_MAX: u32 = 4_194_304;
 
-/// The end of a count of dropped records, of errors or of seen firings, of which only definitions speak: a life of at most
-/// [`FIRINGS_MAX`] firings doesn't come near it.
+/// The end of a count of dropped records, of errors or of seen firings, of which only definitions speak: a life of at
+/// most [`FIRINGS_MAX`] firings doesn't come near it.
 #[expect(dead_code)]
 pub(crate) const COUNT_MAX: u64 = u64::MAX;
 

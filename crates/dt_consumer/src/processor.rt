@@ -7,8 +7,8 @@ use dt_lang::Clause;
 use dt_record::{Taken, taken};
 use std::alloc::{AllocError, Global};
 
-/// What a consumer has of one processor while it traces: its principal buffer, and how many clauses a division by zero
-/// ended there.
+/// What a consumer has of one processor while it traces: its principal buffer, and how many clauses a division by
+/// zero ended there.
 #[derive(Drop)]
 pub(crate) struct Processor {
     pub(crate) buffer: Switch,

@@ -58,8 +58,8 @@ impl Programs {
         self.ecbs.iter().find(|ecb| u64::from(ecb.epid) == epid)
     }
 
-    /// Adds clauses, of which each has an ECB at least, and their ECBs, if there is room, and replaces the aggregations. It
-    /// takes no memory.
+    /// Adds clauses, of which each has an ECB at least, and their ECBs, if there is room, and replaces the
+    /// aggregations. It takes no memory.
     pub(crate) fn extend(&mut self, mut clauses: Vec<Clause>, mut ecbs: Vec<Ecb>, shapes: Shapes)
         ensures clauses { vec_len clauses ≤ vec_len ecbs → vec_len self.old.ecbs + vec_len ecbs ≤ ECBS_MAX
             → self.new.clauses.items ≡ self.old.clauses.items ++ clauses.items }

@@ -21,8 +21,8 @@ pub enum Reply {
         drops: u64,
         filled: bool,
     },
-    /// How far the consumer has come, how many firings it saw, and for each processor how many clauses a division by zero
-    /// ended there.
+    /// How far the consumer has come, how many firings it saw, and for each processor how many clauses a division by
+    /// zero ended there.
     Status {
         phase: Phase,
         seen: u64,

@@ -6,8 +6,8 @@ use dt_ecb::Ecb;
 use dt_lang::Clause;
 use std::alloc::{AllocError, Global};
 
-/// What a consumer has from its `go` on: the ECBs of each probe, so that a firing finds its own without a look at others,
-/// and what it has of each processor.
+/// What a consumer has from its `go` on: the ECBs of each probe, so that a firing finds its own without a look at
+/// others, and what it has of each processor.
 #[derive(Drop)]
 pub(crate) struct Tracing {
     pub(crate) rows: Vec<Vec<Ecb>>,
@@ -23,7 +23,8 @@ impl Tracing {
     ghost use Rattle.dt_consumer.specs.Keeps.{Grows, HasTaken, IsTracing, form_of_moment};
     ghost use Rattle.dt_consumer.specs.Life.{SetUp, ecbs_in, with_event, read};
 
-    /// The rows of these ECBs for as many probes, from identifier 0 on, and as many processors on which nothing was taken.
+    /// The rows of these ECBs for as many probes, from identifier 0 on, and as many processors on which nothing was
+    /// taken.
     pub(crate) fn new(
         alloc: Global,
         ecbs: &[Ecb],
@@ -46,8 +47,8 @@ impl Tracing {
     pub(crate) fn names(&self, probe: u32) -> bool
         ensures named { (account : Account) (registry : Registry) (s : SetUp) → IsTracing account registry s self.now
             → IsTrue result → (of_probe probe (ecbs_in account registry s) ≢ []) × (probe < vec_len self.now.rows) }
-        ensures unnamed { (account : Account) (registry : Registry) (s : SetUp) → IsTracing account registry s self.now
-            → result ≡ false → probe < vec_len self.now.rows → of_probe probe (ecbs_in account registry s) ≡ [] }
+        ensures unnamed { (account : Account) (registry : Registry) (s : SetUp)
+            → IsTracing account registry s self.now → result ≡ false → probe < vec_len self.now.rows → of_probe probe (ecbs_in account registry s) ≡ [] }
     {
         match self.rows.get(probe as usize) {
             Some(row) => !row.is_empty(),
@@ -83,7 +84,8 @@ impl Tracing {
 
     /// How many clauses a division by zero ended on each processor.
     pub(crate) fn errors(&self, alloc: Global) -> Result<Vec<u64>, AllocError>
-        ensures { IfOk result (λ errors. errors.items ≡ map (λ processor. processor.errors) self.now.processors.items) }
+        ensures { IfOk result (λ errors.
+            errors.items ≡ map (λ processor. processor.errors) self.now.processors.items) }
     {
         let mut errors = Vec::new(alloc);
         for processor in &self.processors {

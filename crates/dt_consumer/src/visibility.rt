@@ -10,8 +10,8 @@ use crate::moment::Moment;
 use dt_cred::{Account, Class, admits};
 use dt_machine::{Firing, Machine};
 
-/// The firing with its probe and its process, where it belongs to the machine and the account is shown it. The process is
-/// looked up once.
+/// The firing with its probe and its process, where it belongs to the machine and the account is shown it. The
+/// process is looked up once.
 pub(crate) fn shown<'a>(
     account: &Account,
     machine: &'a Machine,

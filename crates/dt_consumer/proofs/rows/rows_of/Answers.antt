@@ -12,7 +12,7 @@ loop-probe-preserved c =
     let row = c.in_ok-row_of.field-0 in
     rw c.in_ok-push.ensures.items record {
       rows =
-          pushed (λ probe (r : Vec Ecb). r.items ≡ filter (λ (ecb : Ecb). ecb.probe == probe) c.args.ecbs.now) rows row
-          c.loop-probe.invariant.rows (rw c.loop-probe.invariant.counted c.in_ok-row_of.ensures);
+          pushed (λ probe (r : Vec Ecb). r.items ≡ filter (λ (ecb : Ecb). ecb.probe == probe) c.args.ecbs.now) rows
+          row c.loop-probe.invariant.rows (rw c.loop-probe.invariant.counted c.in_ok-row_of.ensures);
       counted = omega (arith, length_push rows row, c.loop-probe.invariant.counted);
     }

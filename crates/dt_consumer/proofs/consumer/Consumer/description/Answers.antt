@@ -33,7 +33,8 @@ returns c = λ account life s.
     let registry = c.args.machine.now.registry in
     let ecb = c.in_ok-ecb.ecb.now in
     let clause = c.in_ok-clause.clause.now in
-    let its : layout_of (get_or (set_up account c.args.machine.now.registry life).clauses c.in_ok-ecb.ecb.now.clause no_clause)
+    let its : layout_of
+    (get_or (set_up account c.args.machine.now.registry life).clauses c.in_ok-ecb.ecb.now.clause no_clause)
     ≡ layout_of (form_of_clause c.in_ok-clause.clause.now) =
     ap (λ (cs : List ClauseForm). layout_of (get_or cs c.in_ok-ecb.ecb.now.clause no_clause)) (sym s.keeps.clauses)
     ∙ ap layout_of (clause_found c.args.self.now.programs.clauses.items ecb.clause clause

@@ -17,8 +17,10 @@ returns c = λ account life m off first holds are.
     let s : SetUp = set_up account c.args._machine.now.registry life in
     let clauses = c.args.program.clauses in
     let H : List ShapeForm → Type 0 = λ shapes.
-    is_enabled account c.args._machine.now.registry shapes c.args.first (map form_of_clause c.args.program.clauses.items) ≡ true in
-    program_draft account registry life _ c.args.first clauses c.in_ok-ecbs.ecbs c.in_ok-shapes.shapes m.in_quota off first
+    is_enabled account c.args._machine.now.registry shapes c.args.first
+    (map form_of_clause c.args.program.clauses.items) ≡ true in
+    program_draft account registry life _ c.args.first clauses c.in_ok-ecbs.ecbs c.in_ok-shapes.shapes m.in_quota off
+    first
     (subst H m.stands.keeps.shapes holds)
     (are_placed s.clauses (map form_of_clause clauses.items) _ (length c.clauses.result.now) c.args.ecbs.items
     c.in_ok-ecbs.ecbs.items
@@ -35,4 +37,7 @@ returns c = λ account life m off first holds are.
     })
     (c.in_ok-ecbs.ensures ∙ ap (map (placed_after (length c.clauses.result.now))) c.deref.ensures.value))
     (omega (arith, c.len.ensures))
-    (c.in_ok-shapes.ensures ∙ ap (λ shapes. shapes ++ uses_of (map form_of_clause c.args.program.clauses.items)) m.stands.keeps.shapes)
+    (c.in_ok-shapes.ensures
+    ∙ ap
+    (λ shapes. shapes ++ uses_of (map form_of_clause c.args.program.clauses.items))
+    m.stands.keeps.shapes)

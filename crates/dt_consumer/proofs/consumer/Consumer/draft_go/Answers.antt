@@ -18,7 +18,8 @@ returns c = λ account life m.
     let consumer = c.args.self.now in
     let s = set_up account c.args.machine.now.registry life in
     let k = m.stands.keeps in
-    let off = sym (traces account registry s consumer m.stands.keeps) ∙ sym c.has_begun.ensures ∙ c.if-has_begun.false in
+    let off = sym (traces account registry s consumer m.stands.keeps) ∙ sym c.has_begun.ensures
+    ∙ c.if-has_begun.false in
     let begin : Some c.unwrap.result.now ≡ probe_of c.args.machine.now.registry BEGIN =
     sym (ap option_copied c.unwrap.ensures) ∙ c.probe.ensures.value in
     let fresh = tracing_new account registry life consumer c.ecbs-ecbs.result.now c.in_ok-tracing.tracing

@@ -1,0 +1,208 @@
+//! Worked rows: what each line is answered, and which firings are seen, with programs that are made by hand.
+use crate::command::Command;
+use crate::consumer::Consumer;
+use crate::draft::Draft;
+use crate::refusal::Refusal;
+use crate::reply::Reply;
+use dt_expr::{BinaryOp, Expr, NumberVariable};
+use dt_lang::{Argument, CLAUSES_MAX, Clause, Description, Program, Statement};
+use dt_machine::Machine;
+use std::alloc::Global;
+use std::test::Fail;
+
+/// Two processors, and probes 3 to 5.
+const MACHINE: &str = r#"{"cpus":2,
+"accounts":[{"name":"root","uid":0,"privs":["dtrace_kernel"]},{"name":"ann","uid":501,"privs":["dtrace_user"]}],
+"processes":[{"pid":100,"uid":501,"execname":"sh"},{"pid":200,"uid":0,"execname":"cron"}],
+"probes":["syscall::read:entry","profile:::tick-1sec","fbt:genunix:kmem_alloc:entry"],
+"scripts":[[{"probe":3,"pid":100,"args":[4,0]},{"probe":3,"pid":100,"args":[4,2]}],
+[{"probe":3,"pid":100,"args":[9,3]},{"probe":3,"pid":200}]]}"#;
+
+/// `account NAME` begins a consumer; in any other row a step and what it is answered. A program is clauses with ` / `
+/// between them, each a description and `quotient`, which traces arg0 / arg1, or nothing.
+const ROWS: &str = "
+account root
+status = Inactive 0 0 0
+program BEGIN / read:entry quotient / tick-1sec = 3 from 1
+program nothing = refused 5 NoMatch
+program fbt::: = 1 from 4
+describe 2 = 2: 3 syscall::read:entry 12
+describe 4 = 4: 5 fbt:genunix:kmem_alloc:entry 4
+describe 0 = refused 14 NoEpid
+describe 5 = refused 14 NoEpid
+snap 0 = refused 10 Busy
+snap 2 = refused 12 NoCpu
+go = done, publishes
+status = Active 0 0 0
+snap 0 = 0: [0, 0, 0, 1] 0
+fire 0 0 = seen
+fire 0 1 = seen
+fire 1 0 = seen
+status = Active 3 1 0
+snap 0 = 0: [0, 0, 0, 2, 0, 0, 0, 0, 0, 0, 0, 2] 0
+snap 0 = 0: [] 0
+snap 1 = 1: [0, 0, 0, 2, 0, 0, 0, 0, 0, 0, 0, 3] 0
+go = refused 10 Busy
+describe 1 = 1: 1 dtrace:::BEGIN 4
+list read:entry = 3
+list a:b:c:d:e = refused 4 Program
+account ann
+program read:entry quotient = 1 from 1
+go = done, publishes
+snap 0 = 0: [] 0
+fire 1 1 = unseen
+fire 1 0 = seen
+status = Active 1 0 0
+";
+
+/// `arg0 / arg1`
+fn quotient(alloc: Global) -> Result<Expr, Fail> {
+    let left = Box::new(alloc, Expr::Variable(NumberVariable::Arg0))
+        .ok()
+        .ok_or("no room")?;
+    let right = Box::new(alloc, Expr::Variable(NumberVariable::Arg1))
+        .ok()
+        .ok_or("no room")?;
+    Ok(Expr::Binary(BinaryOp::Divide, left, right))
+}
+
+/// A clause of a description, which traces the quotient or nothing.
+fn clause(alloc: Global, text: &str) -> Result<Clause, Fail> {
+    let (head, body) = text.split_once(' ').unwrap_or((text, ""));
+    let mut descriptions = Vec::new(alloc);
+    descriptions.push(Description::parse(head.as_bytes()).ok_or("no description")?)?;
+    let mut statements = Vec::new(alloc);
+    if body == "quotient" {
+        statements.push(Statement::Trace(Argument::Number(quotient(alloc)?)))?;
+    }
+    Ok(Clause {
+        descriptions,
+        predicate: None,
+        statements,
+    })
+}
+
+fn program(alloc: Global, text: &str) -> Result<Program, Fail> {
+    let mut clauses = Vec::new(alloc);
+    for part in text.split(" / ") {
+        clauses.push(clause(alloc, part)?)?;
+    }
+    if clauses.is_empty() || clauses.len() > CLAUSES_MAX {
+        return Err("no program".into());
+    }
+    Ok(Program { clauses })
+}
+
+/// A reply as text.
+fn spelled(alloc: Global, reply: &Reply) -> Result<String, Fail> {
+    Ok(match reply {
+        Reply::Done => String::from_str(alloc, "done")?,
+        Reply::Enabled { count, first } => format!(in alloc; "{count} from {first}")?,
+        Reply::Snapped {
+            cpu,
+            data,
+            drops,
+            ..
+        } => format!(in alloc; "{cpu}: {data:?} {drops}")?,
+        Reply::Status {
+            phase,
+            seen,
+            errors,
+        } => {
+            let mut text = format!(in alloc; "{phase:?} {seen}")?;
+            for count in errors {
+                text.push_str(format!(in alloc; " {count}")?.as_str())?;
+            }
+            text
+        }
+        Reply::Listed { probes } => {
+            let mut text = String::new(alloc);
+            for probe in probes {
+                text.push_str(format!(in alloc; "{}", probe.id)?.as_str())?;
+            }
+            text
+        }
+        Reply::Described {
+            epid,
+            probe,
+            layout,
+        } => format!(in alloc; "{epid}: {} {} {}", probe.id, probe.tuple, layout.size())?,
+        Reply::Refused(refusal) => {
+            format!(in alloc; "refused {} {}", refusal.number(), refusal.name())?
+        }
+    })
+}
+
+/// The draft of a step that is a line.
+fn drafted(
+    alloc: Global,
+    machine: &Machine,
+    consumer: &Consumer,
+    text: &str,
+) -> Result<Draft, Fail> {
+    let (word, rest) = text.split_once(' ').unwrap_or((text, ""));
+    let command = match word {
+        "program" => return Ok(consumer.draft_program(alloc, machine, program(alloc, rest)?)?),
+        "go" => Command::Go,
+        "status" => Command::Status,
+        "snap" => Command::Snap {
+            cpu: rest.parse::<u64>().ok().ok_or("no number")?,
+        },
+        "describe" => Command::Describe {
+            epid: rest.parse::<u64>().ok().ok_or("no number")?,
+        },
+        _ => Command::List {
+            probe: String::from_str(alloc, rest)?,
+        },
+    };
+    let line: Result<Command, Refusal> = Ok(command);
+    Ok(consumer.draft(alloc, machine, &line)?)
+}
+
+/// What a step is answered: `fire CPU PLACE`, or a line.
+fn answered(
+    alloc: Global,
+    machine: &Machine,
+    consumer: &mut Consumer,
+    text: &str,
+) -> Result<String, Fail> {
+    if let Some(numbers) = text.strip_prefix("fire ") {
+        let (cpu, place) = numbers.split_once(' ').ok_or("no place")?;
+        let cpu = cpu.parse::<u32>().ok().ok_or("no processor")?;
+        let place = place.parse::<u32>().ok().ok_or("no place")?;
+        let firing = *machine.firing(cpu, place).ok_or("no firing")?;
+        let seen = consumer.offer(machine, &firing);
+        return Ok(String::from_str(alloc, if seen { "seen" } else { "unseen" })?);
+    }
+    let draft = drafted(alloc, machine, consumer, text)?;
+    let mut told = spelled(alloc, draft.reply())?;
+    if draft.publishes() {
+        told.push_str(", publishes")?;
+    }
+    consumer.apply(machine, draft);
+    Ok(told)
+}
+
+/// A consumer of the account of this name.
+fn consumer(alloc: Global, machine: &Machine, name: &str) -> Result<Consumer, Fail> {
+    let account = machine.account(name.as_bytes()).ok_or("no account")?;
+    Ok(Consumer::new(alloc, *account, machine)?)
+}
+
+#[test]
+fn worked_rows(rt: HostRuntime) -> Result<(), Fail> {
+    let alloc = rt.alloc();
+    let machine = Machine::read(alloc, MACHINE.as_bytes())
+        .ok()
+        .ok_or("no machine")?;
+    let mut asking = consumer(alloc, &machine, "root")?;
+    for row in ROWS.lines() {
+        if let Some(name) = row.strip_prefix("account ") {
+            asking = consumer(alloc, &machine, name)?;
+        } else if let Some((text, want)) = row.split_once(" = ") {
+            let told = answered(alloc, &machine, &mut asking, text)?;
+            assert_eq!(rt; told.as_str(), want, "{text}");
+        }
+    }
+    Ok(())
+}
