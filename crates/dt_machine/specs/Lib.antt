@@ -1,6 +1,7 @@
 -- What the contracts of this crate cite.
 pub mod Interest
 pub mod Registry
+pub mod Shown
 pub mod Inside
 pub mod Given
 pub mod Shape

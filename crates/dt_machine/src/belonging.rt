@@ -33,7 +33,7 @@ fn first_foreign_in(sections: &Sections, script: &[Firing]) -> Option<u32>
         (λ row. IsFirstWrong (λ _ firing. Belongs (registry_of sections.now) firing) script.now row) }
 {
     for (place, firing) in script.iter().enumerate() {
-        if !sections.belongs(firing) {
+        if sections.belonging(firing).is_none() {
             return Some(place as u32);
         }
     }

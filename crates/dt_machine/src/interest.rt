@@ -52,7 +52,8 @@ impl Interest {
 
     /// Whether a probe is in the set. No probe above [`PROBE_ID_MAX`] is.
     pub fn contains(&self, id: u32) -> bool
-        ensures { IsTrue result ↔ Names self.now id }
+        ensures value { IsTrue result ↔ Names self.now id }
+        ensures bounded { (other : ℕ) → Names self.now other → other ≤ PROBE_ID_MAX }
     {
         id <= PROBE_ID_MAX && self.flags[id as usize]
     }

@@ -4,7 +4,7 @@
 //! [`FaultNumber`] that finds something in it, at the least processor and there the first row; `one_answer` says that
 //! a text has one answer. Only a refusal for memory can come in place of either.
 //!
-//! `Machine`'s readers and [`Interest`] take no memory. Whether a firing belongs to a machine is [`Machine::belongs`],
+//! `Machine`'s readers and [`Interest`] take no memory. Whether a firing belongs to a machine is [`Machine::belonging`],
 //! and the reading of the file asks the same code. The limits are the constants of this crate, and contracts and
 //! definitions cite them. `specs/Registry.antt` is how crates above see a machine, and `specs/Reading.antt` what a file
 //! describes, over the rows of `specs/Rows.antt` and the kinds of `specs/Shape.antt`.

@@ -1,5 +1,5 @@
 //! The machine, and the reading of its file.
-ghost use Rattle.std.specs.Prelude.{◌≡◌, ◌≢◌, ◌↔◌, IsTrue, IfOk, IfErr};
+ghost use Rattle.std.specs.Prelude.{◌≡◌, ◌≢◌, Some, IfOk, IfErr, MatchOption};
 ghost use Rattle.std.specs.Option.{option_copied};
 ghost use Rattle.serde_json.specs.Data.{Data};
 ghost use Rattle.serde_json.specs.View.{view};
@@ -40,7 +40,7 @@ impl Model for Machine {
 }
 
 impl Machine {
-    ghost use Rattle.dt_machine.specs.Registry.{IsSound, Belongs, account_of, process_of, probe_of, firing_at};
+    ghost use Rattle.dt_machine.specs.Registry.{IsSound, Belongs, IsForeign, account_of, process_of, probe_of, firing_at};
     ghost use Rattle.dt_machine.specs.Reading.{IsDescribed, IsFaultOf, IsFirstFinding};
     ghost use Rattle.dt_machine.specs.Sections.{UnlessMemory, IsReady, registry_of, contents_with};
 
@@ -130,13 +130,17 @@ impl Machine {
         self.scripts.get(cpu as usize)?.get(place as usize)
     }
 
-    /// Whether a firing belongs to the machine: its processor is there, its probe is one of the file's, its process is
-    /// there, and it is the process that the probe's `pid` provider names, where the probe has such a provider.
-    pub fn belongs(&self, firing: &Firing) -> bool
-        ensures value { IsTrue result ↔ Belongs self.now.registry firing.now }
+    /// The probe and the process of a firing that belongs to the machine: its processor is there, its probe is one of
+    /// the file's, its process is there, and it is the process that the probe's `pid` provider names, where the probe
+    /// has such a provider. `None` for any other firing.
+    pub fn belonging(&self, firing: &Firing) -> Option<(&Probe, &Process)>
+        ensures value { MatchOption result (IsForeign self.now.registry firing.now)
+            (λ found. Belongs self.now.registry firing.now
+            × (probe_of self.now.registry firing.now.probe ≡ Some found.0.now)
+            × (process_of self.now.registry firing.now.pid ≡ Some found.1.now)) }
         ensures sound { IsSound self.now }
     {
-        self.sections.belongs(firing)
+        self.sections.belonging(firing)
     }
 }
 

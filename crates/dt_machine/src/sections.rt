@@ -32,7 +32,7 @@ pub(crate) struct Sections {
 }
 
 impl Sections {
-    ghost use Rattle.dt_machine.specs.Registry.{Belongs, probe_of, process_of};
+    ghost use Rattle.dt_machine.specs.Registry.{Belongs, IsForeign, probe_of, process_of};
     ghost use Rattle.dt_machine.specs.Sections.{NowhereIfMemory, UnlessMemory, AreSections, IsReady, registry_of};
 
     /// The sections of a file, or the first fault of those that go before the firings.
@@ -82,19 +82,26 @@ impl Sections {
         self.processes.as_slice().get(place)
     }
 
-    /// Whether a firing names a processor, a probe of the file and a process that are here, and at a `pid` provider's
-    /// probe the process that this names.
-    pub(crate) fn belongs(&self, firing: &Firing) -> bool
+    /// The probe and the process of a firing that names a processor, a probe of the file and a process that are here,
+    /// and at a `pid` provider's probe the process that this names.
+    pub(crate) fn belonging(&self, firing: &Firing) -> Option<(&Probe, &Process)>
         requires { IsReady self.now }
-        ensures { IsTrue result ↔ Belongs (registry_of self.now) firing.now }
+        ensures { MatchOption result (IsForeign (registry_of self.now) firing.now)
+            (λ found. Belongs (registry_of self.now) firing.now
+            × (probe_of (registry_of self.now) firing.now.probe ≡ Some found.0.now)
+            × (process_of (registry_of self.now) firing.now.pid ≡ Some found.1.now)) }
     {
+        // BEGIN and END are no probes of scripts
         if firing.cpu >= self.cpus || firing.probe < 3 {
-            return false;
+            return None;
         }
-        let Some(probe) = self.probe(firing.probe) else {
-            return false;
-        };
-        self.process(firing.pid).is_some() && may_fire_in(probe.class, firing.pid)
+        let probe = self.probe(firing.probe)?;
+        let process = self.process(firing.pid)?;
+        if may_fire_in(probe.class, firing.pid) {
+            Some((probe, process))
+        } else {
+            None
+        }
     }
 }
 

@@ -272,12 +272,13 @@ fn uids(machine: &Machine, name: &[u8], pid: u32) -> (Option<u32>, Option<u32>) 
 /// Whether the firing at processor 1's place 0 would belong there with these in place of its own.
 fn would_belong(machine: &Machine, cpu: u32, probe: u32, pid: u32) -> Option<bool> {
     let firing = *machine.firing(1, 0)?;
-    Some(machine.belongs(&Firing {
+    let other = Firing {
         cpu,
         probe,
         pid,
         ..firing
-    }))
+    };
+    Some(machine.belonging(&other).is_some())
 }
 
 /// A machine with two firings.
