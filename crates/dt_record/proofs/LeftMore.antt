@@ -1,13 +1,14 @@
 -- What the statements leave, one statement more.
-use Rattle.std.proofs.Common.{◌≡◌, ℕ, List, [], ◌∷◌, ◌++◌, Option, Some, None, Result, Ok, Err, MatchResult, IsErr, refl, sym, ap, ◌∙◌}
+use Rattle.std.proofs.Common.{◌≡◌, ℕ, List, [], ◌∷◌, ◌++◌, Bool, true, false, Option, Some, None, Result, Ok, Err, MatchResult, IsErr, refl, sym, ap, ◌∙◌, if◌then◌else◌}
 use Rattle.std.proofs.Math.Bool.{false≢true}
 use Rattle.std.proofs.lemmas.List.{append-nil, append_assoc}
 use Rattle.std.proofs.lemmas.Grind.{flat_map-append}
 use Rattle.std.specs.List.{flat_map}
-use Rattle.std.specs.Option.{option_or}
-use Rattle.dt_record.specs.Left.{IsLeftBy}
-use Rattle.dt_record.specs.Taking.{Effect, recorded, contributed, exit_of, first_exit, epid_bytes}
-use Rattle.dt_record.specs.declared.effects.Effects.{Effects}
+use Rattle.std.specs.Option.{option_map, option_or}
+use Rattle.dt_lang.specs.Program.{StatementForm}
+use Rattle.dt_record.specs.Forms.{form_of_taken}
+use Rattle.dt_record.specs.Taking.{Effect, TakenForm, recorded, contributed, exit_of, first_exit, epid_bytes, leaves_record, taken_of}
+use Rattle.dt_record.specs.declared.parts.Taken.{Taken}
 use Rattle.dt_record.proofs.Each.{or_none}
 
 flat_more : {A : Type 0} (f : Effect → List A) (effects : List Effect) (effect : Effect)
@@ -26,19 +27,39 @@ exit_more (first ∷ effects) effect =
     or_or (exit_of first) (first_exit effects) (exit_of effect)
     ∙ ap (option_or (exit_of first)) (exit_more effects effect)
 
-pub left-more : (epid : ℕ) (effects : List Effect) (effect : Effect) (old new : Effects)
-    → IsLeftBy epid effects old
-    → new.record.items ≡ old.record.items ++ recorded effect
+-- the record, where there is one
+bytes_more : (leaves : Bool) (epid : ℕ) (effects : List Effect) (effect : Effect)
+    → option_map (λ bytes. bytes ++ recorded effect) (if leaves then Some (epid_bytes epid ++ flat_map recorded effects) else None)
+    ≡ (if leaves then Some (epid_bytes epid ++ flat_map recorded (effects ++ effect ∷ [])) else None)
+bytes_more false epid effects effect = refl
+bytes_more true epid effects effect =
+    ap (λ l. Some l) (append_assoc (epid_bytes epid) (flat_map recorded effects) (recorded effect)
+    ∙ ap (λ l. epid_bytes epid ++ l) (flat_more recorded effects effect))
+
+-- what is left by its parts
+pub by_parts : (a b : TakenForm) → a.record_bytes ≡ b.record_bytes → a.values ≡ b.values → a.exit ≡ b.exit → a ≡ b
+by_parts a b e f g =
+    ap (λ bytes. record { record_bytes = bytes; values = a.values; exit = a.exit }) e
+    ∙ ap (λ values. record { record_bytes = b.record_bytes; values = values; exit = a.exit }) f
+    ∙ ap (λ exit. record { record_bytes = b.record_bytes; values = b.values; exit = exit }) g
+
+pub left-more : (epid : ℕ) (statements : List StatementForm) (effects : List Effect) (effect : Effect) (old new : Taken)
+    → form_of_taken old ≡ taken_of epid statements effects
+    → (form_of_taken new).record_bytes ≡ option_map (λ bytes. bytes ++ recorded effect) (form_of_taken old).record_bytes
     → new.values.items ≡ old.values.items ++ contributed effect
     → new.exit ≡ option_or old.exit (exit_of effect)
-    → IsLeftBy epid (effects ++ effect ∷ []) new
-left-more epid effects effect old new left bytes values exit = record {
-  recorded = bytes ∙ ap (λ l. l ++ recorded effect) left.recorded
-      ∙ append_assoc (epid_bytes epid) (flat_map recorded effects) (recorded effect)
-      ∙ ap (λ l. epid_bytes epid ++ l) (flat_more recorded effects effect);
-  given = values ∙ ap (λ l. l ++ contributed effect) left.given ∙ flat_more contributed effects effect;
-  exit = exit ∙ ap (λ o. option_or o (exit_of effect)) left.exit ∙ exit_more effects effect;
-}
+    → form_of_taken new ≡ taken_of epid statements (effects ++ effect ∷ [])
+left-more epid statements effects effect old new left bytes values exit =
+    by_parts (form_of_taken new) (taken_of epid statements (effects ++ effect ∷ []))
+    (bytes ∙ ap (λ (f : TakenForm). option_map (λ bytes. bytes ++ recorded effect) f.record_bytes) left
+    ∙ bytes_more (leaves_record statements) epid effects effect)
+    (values ∙ ap (λ (f : TakenForm). f.values ++ contributed effect) left ∙ flat_more contributed effects effect)
+    (exit ∙ ap (λ (f : TakenForm). option_or f.exit (exit_of effect)) left ∙ exit_more effects effect)
+
+-- a statement that records nothing
+pub no-bytes : (o : Option (List ℕ)) → o ≡ option_map (λ bytes. bytes ++ []) o
+no-bytes None = refl
+no-bytes (Some bytes) = ap (λ l. Some l) (sym (append-nil bytes))
 
 -- an answer that is an error
 pub match_err : {T E P : Type 0} (Q : T → Type 0) (r : Result T E) → IsErr r → P → MatchResult r Q (λ _. P)

@@ -1,10 +1,12 @@
--- What the statements of a clause leave, statement by statement.
-use Rattle.std.specs.Prelude.{◌≡◌, ℕ, List, ◌++◌}
-use Rattle.std.specs.List.{flat_map}
-use Rattle.dt_record.specs.Taking.{Effect, recorded, contributed, first_exit, epid_bytes}
-use Rattle.dt_record.specs.declared.effects.Effects.{Effects}
+-- The record of a clause while it is built.
+use Rattle.std.specs.Prelude.{ℕ, List, [], length, Option, unwrap_or}
+use Rattle.std.specs.Option.{option_map}
+use Rattle.arrayvec.specs.ArrayVec.{ArrayVec}
 
-pub record IsLeftBy (epid : ℕ) (effects : List Effect) (left : Effects) : Type 0 where
-  pub recorded : left.record.items ≡ epid_bytes epid ++ flat_map recorded effects
-  pub given : left.values.items ≡ flat_map contributed effects
-  pub exit : left.exit ≡ first_exit effects
+-- its bytes so far, where there is one
+abbrev pub bytes_of : Option (ArrayVec ℕ) → Option (List ℕ)
+bytes_of record' = option_map (λ bytes. bytes.items) record'
+
+-- how many these are; 0 where there is none
+abbrev pub record_len : Option (ArrayVec ℕ) → ℕ
+record_len record' = length (unwrap_or (bytes_of record') [])

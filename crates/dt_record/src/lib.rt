@@ -1,11 +1,13 @@
 //! Records: what a clause leaves where it is taken, and records back from their bytes.
 //!
-//! `taken` gives what the definition `taking` in `specs/Taking.antt` gives a clause in a scene: its record's bytes, what its
-//! aggregating statements give, and the status of its first exit; or nothing where the predicate is 0; or the fault that
-//! abandons the clause. It takes no memory. `Layout` says of what a clause's record is made, and `split` gives the records
-//! that bytes are, one after the other (`IsSplit` in `specs/Split.antt`), of which there is one list at most (`one_split`).
+//! `Taken::take` leaves what the definition `taking` in `specs/Taking.antt` gives a clause in a scene: its record's
+//! bytes, what its aggregating statements give, and the status of its first exit; or nothing where the predicate is
+//! 0; or the fault that abandons the clause. `taken` does so for one clause alone. Neither takes memory. `Layout`
+//! says of what a clause's record is made, and `split` gives the records that bytes are, one after the other
+//! (`IsSplit` in `specs/Split.antt`), of which there is one list at most (`one_split`).
 #![tactic(auto)]
 
+mod building;
 mod effects;
 mod laws;
 mod layout;

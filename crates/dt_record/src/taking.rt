@@ -1,49 +1,93 @@
 //! What a clause leaves where it is taken.
-ghost use Rattle.std.specs.Prelude.{◌≡◌, ◌≤◌, List, Some, None, MatchResult, length, map};
+ghost use Rattle.std.specs.Prelude.{◌≡◌, ◌≤◌, List, Some, None, MatchResult, [], if◌then◌else◌, length, map};
 ghost use Rattle.std.specs.Option.{option_map};
 ghost use Rattle.dt_expr.specs.Form.{form_of};
 ghost use Rattle.dt_expr.specs.Operators.{holds};
 ghost use Rattle.dt_expr.specs.Scene.{scene_of};
 ghost use Rattle.dt_lang.specs.Program.{form_of_clause, form_of_statement};
 ghost use Rattle.dt_record.specs.Forms.{form_of_taken};
-ghost use Rattle.dt_record.specs.Left.{IsLeftBy};
-ghost use Rattle.dt_record.specs.Taking.{Effect, each, effect, predicate_value, taking};
+ghost use Rattle.dt_record.specs.Taking.{Effect, each, effect, predicate_value, taken_of, taking};
 ghost use Rattle.dt_lang.specs.declared.program.TheConstants.{STATEMENTS_MAX};
 
-use crate::effects::Effects;
 use crate::parts::Taken;
 use crate::recording::leaves_record;
+use arrayvec::ArrayVec;
 use dt_expr::{EvalFault, Expr, Scene, eval};
 use dt_lang::{Clause, Statement};
 
-/// What a clause leaves of a scene, with its enabling's number: nothing where the predicate is 0, else what its statements
-/// leave, of which all expressions are evaluated, in order.
+/// What a clause leaves of a scene, with its enabling's number: nothing where the predicate is 0, else what its
+/// statements leave, of which all expressions are evaluated, in order.
 ///
-/// [`EvalFault::DivZero`] abandons the clause whole, where a division or a remainder by zero is evaluated in the predicate or
-/// in a statement. It takes no memory. (illumos Dynamic Tracing Guide, "Program Structure".)
+/// [`EvalFault::DivZero`] abandons the clause whole, where a division or a remainder by zero is evaluated in the
+/// predicate or in a statement. It takes no memory. (illumos Dynamic Tracing Guide, "Program Structure".)
+///
+/// It fills the whole room of a [`Taken`], over two thousand bytes. Where many clauses are taken, keep a `Taken`
+/// and use [`Taken::take`].
 pub fn taken(epid: u32, clause: &Clause, scene: &Scene) -> Result<Option<Taken>, EvalFault>
     ensures { MatchResult result
         (λ left. taking epid (scene_of scene.now) (form_of_clause clause.now) ≡ Some (option_map form_of_taken left))
         (λ _. taking epid (scene_of scene.now) (form_of_clause clause.now) ≡ None) }
 {
-    if !predicate_holds(&clause.predicate, scene)? {
-        return Ok(None);
-    }
-    let Effects {
-        record,
-        values,
-        exit,
-    } = effects_of(epid, &clause.statements, scene)?;
-    let bytes = if leaves_record(&clause.statements) {
-        Some(record)
+    let mut left = Taken::new();
+    if left.take(epid, clause, scene)? {
+        Ok(Some(left))
     } else {
-        None
-    };
-    Ok(Some(Taken {
-        bytes,
-        values,
-        exit,
-    }))
+        Ok(None)
+    }
+}
+
+impl Taken {
+    /// Nothing left yet, and the room for what one clause leaves.
+    pub fn new() -> Self
+        ensures { form_of_taken result ≡ record { record_bytes = None; values = []; exit = None } }
+    {
+        Taken {
+            bytes: None,
+            values: ArrayVec::new(),
+            exit: None,
+        }
+    }
+
+    /// Takes a clause with its enabling's number, as [`taken`] does, in place of what was left before, and says
+    /// whether its predicate held. Only what the clause leaves is written: the room serves again, clause after
+    /// clause.
+    ///
+    /// `Ok(true)`: what the clause leaves is here. `Ok(false)`: the predicate is 0, and the clause leaves nothing.
+    /// After that, and after [`EvalFault::DivZero`], which abandons the clause, what is here says nothing. It takes
+    /// no memory.
+    pub fn take(&mut self, epid: u32, clause: &Clause, scene: &Scene) -> Result<bool, EvalFault>
+        ensures { MatchResult result
+            (λ held. taking epid (scene_of scene.now) (form_of_clause clause.now)
+            ≡ Some (if held then Some (form_of_taken self.new) else None))
+            (λ _. taking epid (scene_of scene.now) (form_of_clause clause.now) ≡ None) }
+    {
+        if !predicate_holds(&clause.predicate, scene)? {
+            return Ok(false);
+        }
+        self.take_statements(epid, &clause.statements, scene)?;
+        Ok(true)
+    }
+
+    /// Takes the statements of a clause, one after another.
+    fn take_statements(
+        &mut self,
+        epid: u32,
+        statements: &[Statement],
+        scene: &Scene,
+    ) -> Result<(), EvalFault>
+        requires { length statements.now ≤ STATEMENTS_MAX }
+        ensures { MatchResult result
+            (λ _. (effects : List Effect)
+            × (each (effect (scene_of scene.now)) (map form_of_statement statements.now) ≡ Some effects)
+            × (form_of_taken self.new ≡ taken_of epid (map form_of_statement statements.now) effects))
+            (λ _. each (effect (scene_of scene.now)) (map form_of_statement statements.now) ≡ None) }
+    {
+        self.begin(epid, leaves_record(statements));
+        for statement in statements {
+            self.add(statement, scene)?;
+        }
+        Ok(())
+    }
 }
 
 /// Whether a predicate isn't 0. Where there is none, it holds.
@@ -56,19 +100,4 @@ fn predicate_holds(predicate: &Option<Expr>, scene: &Scene) -> Result<bool, Eval
         Some(predicate) => Ok(eval(predicate, scene)? != 0),
         None => Ok(true),
     }
-}
-
-/// What the statements of a clause leave, one after another.
-fn effects_of(epid: u32, statements: &[Statement], scene: &Scene) -> Result<Effects, EvalFault>
-    requires { length statements.now ≤ STATEMENTS_MAX }
-    ensures { MatchResult result
-        (λ left. (effects : List Effect) × (each (effect (scene_of scene.now)) (map form_of_statement statements.now) ≡ Some effects)
-        × IsLeftBy epid effects left)
-        (λ _. each (effect (scene_of scene.now)) (map form_of_statement statements.now) ≡ None) }
-{
-    let mut effects = Effects::new(epid);
-    for statement in statements {
-        effects.take(statement, scene)?;
-    }
-    Ok(effects)
 }

@@ -27,6 +27,7 @@ a{@n[1 / arg1]=count()} => fault
 a{exit(3);exit(4)} => - exit 3
 a{trace(1);exit(2)} => 000000050000000000000001 exit 2
 a{@n[arg0,execname]=sum(5);@m=count()} => - = 7 = 5 = 0
+a{trace(arg0)} => 000000050000000000000007
 "#;
 
 /// What a clause left, in the words of the table.
@@ -64,11 +65,25 @@ fn told(alloc: Global, text: &str, scene: &Scene) -> Result<String, Fail> {
     }
 }
 
+/// What it leaves in place of what the clauses before it left.
+fn told_again(alloc: Global, text: &str, scene: &Scene, left: &mut Taken) -> Result<String, Fail> {
+    let program = Program::parse(alloc, text.as_bytes())?;
+    match left.take(5, &program.clauses[0], scene) {
+        Ok(true) => words_of(alloc, left),
+        Ok(false) => Ok(String::from_str(alloc, "passed")?),
+        Err(_) => Ok(String::from_str(alloc, "fault")?),
+    }
+}
+
 /// The first line of the table that does not hold.
 fn first_wrong(alloc: Global, scene: &Scene) -> Result<Option<&'static str>, Fail> {
+    let mut left = Taken::new();
     for line in CLAUSES.lines() {
         if let Some((text, wanted)) = line.split_once(" => ") {
             if told(alloc, text, scene)?.as_str() != wanted {
+                return Ok(Some(line));
+            }
+            if told_again(alloc, text, scene, &mut left)?.as_str() != wanted {
                 return Ok(Some(line));
             }
         }

@@ -1,7 +1,7 @@
 //! What a clause's arguments, keys and aggregating statements are worth.
 ghost use Rattle.std.specs.Prelude.{◌≡◌, ◌+◌, ◌≤◌, ◌++◌, ℕ, List, Some, None, MatchResult, OnOk, OnErr, ◌∷◌, [], length, map};
 ghost use Rattle.arrayvec.specs.ArrayVec.{array_vec_len};
-ghost use Rattle.dt_expr.specs.Scene.{scene_of};
+ghost use Rattle.dt_expr.specs.Scene.{scene_of, padded, text_bytes};
 ghost use Rattle.dt_expr.specs.declared.text.Value.{Value as ShownValue};
 ghost use Rattle.dt_lang.specs.Program.{form_of_argument, form_of_call};
 ghost use Rattle.dt_record.specs.Taking as spec;
@@ -10,11 +10,26 @@ ghost use Rattle.dt_record.specs.declared.limits.TheConstants.{VALUES_MAX};
 
 use crate::limits::VALUES_MAX;
 use arrayvec::ArrayVec;
-use dt_expr::{EvalFault, Scene, Value, eval};
+use dt_expr::{EvalFault, Scene, Text, TextVariable, Value, eval};
 use dt_lang::{Aggregation, Argument, Call};
+use dt_names::PADDED_SIZE;
+
+/// A text as a record shows it: its bytes, and zeros up to 32 bytes in all.
+pub(crate) fn shown<'a>(text: &'a Text, scene: &Scene<'a>) -> &'a [u8; PADDED_SIZE]
+    ensures { result.now ≡ padded (text_bytes (scene_of scene.now) text.now) }
+{
+    match text {
+        Text::Literal(text) => text.padded(),
+        Text::Variable(TextVariable::Execname) => scene.process.execname.padded(),
+        Text::Variable(TextVariable::Probeprov) => scene.probe.tuple.provider.padded(),
+        Text::Variable(TextVariable::Probemod) => scene.probe.tuple.module.padded(),
+        Text::Variable(TextVariable::Probefunc) => scene.probe.tuple.function.padded(),
+        Text::Variable(TextVariable::Probename) => scene.probe.tuple.name.padded(),
+    }
+}
 
 /// The value of an argument.
-pub(crate) fn value_of(argument: &Argument, scene: &Scene) -> Result<Value, EvalFault>
+fn value_of(argument: &Argument, scene: &Scene) -> Result<Value, EvalFault>
     ensures { MatchResult result
         (λ value. spec.argument_value (scene_of scene.now) (form_of_argument argument.now) ≡ Some value)
         (λ _. spec.argument_value (scene_of scene.now) (form_of_argument argument.now) ≡ None) }

@@ -1,4 +1,4 @@
--- What the proof of `Effects::take` is told at its goals.
+-- What the proof of `Taken::add` is told at its goals.
 use Rattle.std.proofs.Common.{◌≡◌, ◌++◌, List, Some, ◌∷◌, [], map, length, sym, ap, ◌∙◌, arith, rules}
 use Rattle.std.proofs.lemmas.List.{append-nil, append_assoc, length-append, length-map}
 use Rattle.std.specs.Option.{option_map, option_and_then}
@@ -7,10 +7,12 @@ use Rattle.dt_expr.specs.declared.text.Value.{Value}
 use Rattle.dt_lang.specs.Program.{form_of_argument, form_of_call, form_of_statement}
 use Rattle.dt_lang.specs.declared.program.Argument.{Argument}
 use Rattle.dt_lang.specs.declared.program.Statement.{Statement}
+use Rattle.dt_record.specs.Left.{bytes_of}
 use Rattle.dt_record.specs.Taking.{records, gives, exits, frames_bytes, value_bytes, effect, each, argument_value}
 use Rattle.dt_record.specs.Taking as spec
 use Rattle.dt_record.proofs.Each.{or_none, each-length}
-use Rattle.dt_record.proofs.effects.Effects.take.Goals as goal
+use Rattle.dt_record.proofs.LeftMore.{no-bytes}
+use Rattle.dt_record.proofs.parts.Taken.add.Goals as goal
 
 -- as many values as keys
 as_many : (scene : SceneForm) (keys : List Argument) (values : List Value)
@@ -29,21 +31,22 @@ push-requires c =
     let room = c.requires.values_room in
     omega arith
 
-pub returns-in_ok-value_of-in-Trace-clause-done : goal.returns-in_ok-value_of-in-Trace-clause-done
-returns-in_ok-value_of-in-Trace-clause-done c = (
-  records (value_bytes c.in_ok-value_of-in-Trace.field-0),
-  ap (λ (s : Statement). effect (scene_of c.args.scene.now) (form_of_statement s)) c.in-Trace.is
-      ∙ ap (option_map (λ v. records (value_bytes v))) c.in_ok-value_of-in-Trace.ensures,
-  c.put_value.ensures.written,
-  sym (append-nil c.args.self.now.values.items),
-  sym (or_none c.args.self.now.exit),
-)
+pub returns-in_ok-put_argument-in-Trace-clause-done : goal.returns-in_ok-put_argument-in-Trace-clause-done
+returns-in_ok-put_argument-in-Trace-clause-done c =
+    let written = c.in_ok-put_argument-in-Trace.ensures.written in (
+      records (value_bytes written.0),
+      ap (λ (s : Statement). effect (scene_of c.args.scene.now) (form_of_statement s)) c.in-Trace.is
+          ∙ ap (option_map (λ v. records (value_bytes v))) written.1,
+      written.2,
+      sym (append-nil c.args.self.now.values.items),
+      sym (or_none c.args.self.now.exit),
+    )
 
 pub returns-in-Stack-clause-done : goal.returns-in-Stack-clause-done
 returns-in-Stack-clause-done c = (
   records (frames_bytes c.in-Stack.frames.count c.args.scene.now.firing.now.kstack),
   ap (λ (s : Statement). effect (scene_of c.args.scene.now) (form_of_statement s)) c.in-Stack.is,
-  c.put_frames.ensures.written,
+  c.put_stack.ensures.written,
   sym (append-nil c.args.self.now.values.items),
   sym (or_none c.args.self.now.exit),
 )
@@ -52,7 +55,7 @@ pub returns-in-Ustack-clause-done : goal.returns-in-Ustack-clause-done
 returns-in-Ustack-clause-done c = (
   records (frames_bytes c.in-Ustack.frames.count c.args.scene.now.firing.now.ustack),
   ap (λ (s : Statement). effect (scene_of c.args.scene.now) (form_of_statement s)) c.in-Ustack.is,
-  c.put_frames-in-Ustack.ensures.written,
+  c.put_stack-in-Ustack.ensures.written,
   sym (append-nil c.args.self.now.values.items),
   sym (or_none c.args.self.now.exit),
 )
@@ -62,7 +65,7 @@ returns-in_ok-status-in-Exit-clause-done c = (
   exits c.in_ok-status-in-Exit.status,
   ap (λ (s : Statement). effect (scene_of c.args.scene.now) (form_of_statement s)) c.in-Exit.is
       ∙ ap (option_map exits) c.in_ok-status-in-Exit.ensures,
-  sym (append-nil c.args.self.now.record.items),
+  no-bytes (bytes_of c.args.self.now.bytes),
   sym (append-nil c.args.self.now.values.items),
   search rules,
 )
@@ -83,7 +86,7 @@ returns-in_ok-given-in-Aggregate-clause-done c =
     ∙ ap (option_map (λ v. gives (keys.0 ++ v ∷ []))) given in (
       gives (keys.0 ++ number ∷ []),
       does,
-      sym (append-nil c.args.self.now.record.items),
+      no-bytes (bytes_of c.args.self.now.bytes),
       c.push.ensures.items ∙ ap (λ vs. vs ++ number ∷ []) keys.2
           ∙ append_assoc c.args.self.now.values.items keys.0 (number ∷ []),
       sym (or_none c.args.self.now.exit),

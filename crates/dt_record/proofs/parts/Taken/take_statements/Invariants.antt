@@ -3,15 +3,16 @@ use Rattle.std.proofs.Common.{◌≡◌, ◌+◌, ◌*◌, ◌≤◌, List, Some
 use Rattle.arrayvec.specs.ArrayVec.{array_vec_len}
 use Rattle.dt_expr.specs.Scene.{scene_of}
 use Rattle.dt_lang.specs.Program.{form_of_statement}
-use Rattle.dt_record.specs.Left.{IsLeftBy}
-use Rattle.dt_record.specs.Taking.{Effect, each, effect}
-use Rattle.dt_record.proofs.taking.effects_of.Given as goal
+use Rattle.dt_record.specs.Forms.{form_of_taken}
+use Rattle.dt_record.specs.Left.{record_len}
+use Rattle.dt_record.specs.Taking.{Effect, each, effect, taken_of}
+use Rattle.dt_record.proofs.parts.Taken.take_statements.Given as goal
 
 abbrev pub invariant-loop-statement : goal.invariant-loop-statement
 invariant-loop-statement l = record {
   left : (effects : List Effect)
       × (each (effect (scene_of l.scene)) (map form_of_statement (take l.statement-index l.statements)) ≡ Some effects)
-      × IsLeftBy l.fn.epid effects l.effects;
-  record_room : array_vec_len l.effects.record ≤ 4 + 64 * l.statement-index;
-  values_room : array_vec_len l.effects.values ≤ 5 * l.statement-index;
+      × (form_of_taken l.self ≡ taken_of l.fn.epid (map form_of_statement l.statements) effects);
+  record_room : record_len l.self.bytes ≤ 4 + 64 * l.statement-index;
+  values_room : array_vec_len l.self.values ≤ 5 * l.statement-index;
 }

@@ -1,0 +1,25 @@
+-- What the proof of `put_argument` is told at its goals.
+use Rattle.std.proofs.Common.{◌++◌, ap, ◌∙◌, rules}
+use Rattle.std.specs.Option.{option_map}
+use Rattle.dt_expr.specs.Scene.{scene_of, text_value}
+use Rattle.dt_expr.specs.declared.text.Value.TheVariants as val
+use Rattle.dt_lang.specs.Program.{form_of_argument}
+use Rattle.dt_lang.specs.declared.program.Argument.{Argument}
+use Rattle.dt_record.specs.Left.{bytes_of}
+use Rattle.dt_record.specs.Taking.{argument_value}
+use Rattle.dt_record.proofs.building.put_argument.Goals as goal
+
+pub returns-in_ok-number-in-Number-clause-written : goal.returns-in_ok-number-in-Number-clause-written
+returns-in_ok-number-in-Number-clause-written c = (
+  val.Number c.in_ok-number-in-Number.number,
+  ap (λ (a : Argument). argument_value (scene_of c.args.scene.now) (form_of_argument a)) c.in-Number.is
+      ∙ ap (option_map val.Number) c.in_ok-number-in-Number.ensures,
+  search rules,
+)
+
+pub returns-in-Text-clause-written : goal.returns-in-Text-clause-written
+returns-in-Text-clause-written c = (
+  text_value (scene_of c.args.scene.now) c.in-Text.text,
+  ap (λ (a : Argument). argument_value (scene_of c.args.scene.now) (form_of_argument a)) c.in-Text.is,
+  c.put.ensures.written ∙ ap (λ shown. option_map (λ bytes. bytes ++ shown) (bytes_of c.args.record.now)) c.shown.ensures,
+)
