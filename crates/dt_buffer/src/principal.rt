@@ -37,7 +37,8 @@ impl Principal {
     ) -> Result<Principal, AllocError>
         requires size_max { size ≤ SIZE_MAX }
         requires reserved { reserve ≤ size }
-        ensures { IfOk result (IsAt (new_past policy size reserve)) }
+        ensures stands { IfOk result (IsAt (new_past policy size reserve)) }
+        ensures drops { IfOk result (λ principal. drops_of principal ≡ 0) }
     {
         let store = match policy {
             Policy::Switch => Store::Switch(SwitchStore::new(alloc, size)?),
@@ -75,7 +76,8 @@ impl Principal {
     /// What a snap does when it has read the buffer: under switch the buffer is empty again and forgets its drops, under
     /// fill and ring nothing changes. It takes no memory.
     pub fn swap(&mut self)
-        ensures { (past : Past) → IsAt past self.old → IsAt (after past swap) self.new }
+        ensures stands { (past : Past) → IsAt past self.old → IsAt (after past swap) self.new }
+        ensures drops { drops_of self.new ≤ drops_of self.old }
     {
         if let Store::Switch(store) = &mut self.store {
             store.clear();

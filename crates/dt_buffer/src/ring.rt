@@ -22,7 +22,8 @@ impl RingStore {
     /// An empty store with all its room: each record that has bytes has one at least, so there are no more lengths.
     pub(crate) fn new(alloc: Global, size: usize) -> Result<Self, AllocError>
         requires { size ≤ SIZE_MAX }
-        ensures { IfOk result (RingIsAt size []) }
+        ensures stands { IfOk result (RingIsAt size []) }
+        ensures drops { IfOk result (λ store. store.drops ≡ 0) }
     {
         Ok(RingStore {
             bytes: HeapCircularBuffer::with_capacity(alloc, size)?,

@@ -20,7 +20,8 @@ impl SwitchStore {
 
     /// An empty store with all its room.
     pub(crate) fn new(alloc: Global, size: usize) -> Result<Self, AllocError>
-        ensures { IfOk result (SwitchIsAt size []) }
+        ensures stands { IfOk result (SwitchIsAt size []) }
+        ensures drops { IfOk result (λ store. store.drops ≡ 0) }
     {
         Ok(SwitchStore {
             kept: Vec::with_capacity(alloc, size)?,
@@ -48,7 +49,8 @@ impl SwitchStore {
 
     /// Begins anew.
     pub(crate) fn clear(&mut self)
-        ensures { (size : ℕ) (attempts : List (List ℕ)) → SwitchIsAt size attempts self.old → SwitchIsAt size [] self.new }
+        ensures stands { (size : ℕ) (attempts : List (List ℕ)) → SwitchIsAt size attempts self.old → SwitchIsAt size [] self.new }
+        ensures drops { self.new.drops ≡ 0 }
     {
         self.kept.clear();
         self.drops = 0;
