@@ -26,9 +26,8 @@ is_stack _ = false
 abbrev pub has_stack : ClauseForm → Bool
 has_stack clause = list_any is_stack clause.statements
 
--- an action that is read and not served yet: `exit`, and what aggregates
+-- an action that is read and not served yet: what aggregates
 abbrev pub is_yet_unserved : StatementForm → Bool
-is_yet_unserved (program.exit f) = true
 is_yet_unserved (program.aggregate name keys call) = true
 is_yet_unserved _ = false
 

@@ -56,7 +56,7 @@ pub(crate) fn first_unmatched(
     None
 }
 
-/// Whether a clause of the program has an action that is not served yet: `exit`, or one that aggregates.
+/// Whether a clause of the program has an action that is not served yet: one that aggregates.
 pub(crate) fn is_unserved(program: &Program) -> bool
     ensures { result ≡ list_any (λ clause.
         list_any (λ statement. spec.is_yet_unserved (form_of_statement statement)) clause.statements.items)
@@ -98,7 +98,7 @@ fn has_unserved(clause: &Clause) -> bool
 fn is_yet_unserved(statement: &Statement) -> bool
     ensures { result ≡ spec.is_yet_unserved (form_of_statement statement.now) }
 {
-    matches!(statement, Statement::Exit(_) | Statement::Aggregate(_))
+    matches!(statement, Statement::Aggregate(_))
 }
 
 /// Whether a clause takes effect on a probe.
