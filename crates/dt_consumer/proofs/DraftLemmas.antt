@@ -1,5 +1,5 @@
 -- What drafts say, case by case.
-use Rattle.std.proofs.Common.{◌≡◌, ℕ, ◌<◌, ◌≤◌, ◌&&◌, not, Bool, true, false, cond, List, ◌∷◌, Option, Some, None, Result, Ok, refl, sym, ap, ◌∙◌, subst}
+use Rattle.std.proofs.Common.{◌≡◌, ℕ, ◌<◌, ◌≤◌, ◌&&◌, not, Bool, true, false, cond, List, [], ◌∷◌, Option, Some, None, Result, Ok, refl, sym, ap, ◌∙◌, subst}
 use Rattle.std.specs.Bool.{MatchBool, nat_lt}
 use Rattle.std.specs.Option.{MatchOption, option_map_or}
 use Rattle.std.proofs.lemmas.Bool.{le-leb, lt-leb, le-ltb, lt-ltb}
@@ -14,16 +14,19 @@ use Rattle.dt_record.specs.Layout.{layout_of}
 use Rattle.dt_ecb.specs.Ecbs.{EcbForm}
 use Rattle.dt_ecb.specs.Enable.{Verdict, IsVerdict, is_enabled}
 use Rattle.dt_consumer.specs.Answer.{Answer, described, refused, answer_of}
-use Rattle.dt_consumer.specs.Ask.{Ask, enable, go, snap, describe}
+use Rattle.dt_consumer.specs.Ask.{Ask, option, enable, go, stop, snap, describe}
 use Rattle.dt_consumer.specs.Draft.{Drafted, IsDraftOf}
-use Rattle.dt_consumer.specs.Life.{Item, asked, SetUp, is_over, is_inactive, set_up, next_epid, with_program, with_go, with_event, read}
+use Rattle.dt_consumer.specs.Life.{Item, asked, SetUp, is_active, is_over, is_inactive, is_readable, set_up, phase, phase_of, next_epid, since_then, happens, has_room, with_program, with_options, with_event}
+use Rattle.dt_consumer.specs.Options.{Setting, with_setting}
 use Rattle.dt_consumer.specs.Reply.{Replies, RepliesInQuota, IsVerdictOnCommand, Accepted, is_asked_late, ecb_of, refusal_of}
+use Rattle.dt_consumer.specs.Takings.{began, ended, read}
 use Rattle.dt_consumer.specs.declared.draft.Change.TheVariants.{Nothing}
 use Rattle.dt_consumer.specs.declared.draft.Draft.{Draft}
+use Rattle.dt_consumer.specs.declared.phase.End.TheVariants as end
 use Rattle.dt_consumer.specs.declared.phase.Phase.TheVariants.{Inactive, Active}
 use Rattle.dt_consumer.specs.declared.refusal.Refusal.{Refusal}
 use Rattle.dt_consumer.specs.declared.refusal.Refusal.TheVariants as refusal
-use Rattle.dt_consumer.specs.declared.refusal.Refusal.TheVariants.{Program, Busy, NoCpu, NoEpid, Quota}
+use Rattle.dt_consumer.specs.declared.refusal.Refusal.TheVariants.{Program, Busy, Limit, NoCpu, NoEpid, Quota}
 use Rattle.dt_consumer.specs.declared.reply.Reply.{Reply}
 use Rattle.dt_consumer.specs.declared.reply.Reply.TheVariants.{Refused}
 
@@ -32,11 +35,14 @@ module _ (account : Account) (registry : Registry) (life : List Item) where
   now = set_up account registry life
 
   -- after tracing began, and before
-  pub late : (set_up account registry life).begun ≡ true → is_asked_late account registry life ≡ true
-  late on = ap (λ b. not (is_inactive (cond b Active Inactive))) on
+  pub late : is_inactive (phase account registry life) ≡ false → is_asked_late account registry life ≡ true
+  late on = ap not on
 
-  pub early : (set_up account registry life).begun ≡ false → is_asked_late account registry life ≡ false
-  early off = ap (λ b. not (is_inactive (cond b Active Inactive))) off
+  pub early : phase account registry life ≡ Inactive → is_asked_late account registry life ≡ false
+  early off = ap (λ p. not (is_inactive p)) off
+
+  idle_is : phase account registry life ≡ Inactive → is_inactive (phase account registry life) ≡ true
+  idle_is off = ap is_inactive off
 
   pub in_quota : (line : Result Ask Refusal) (answer : Answer) → is_over life ≡ false
       → RepliesInQuota account registry life line answer → Replies account registry life line answer
@@ -82,7 +88,7 @@ module _ (account : Account) (registry : Registry) (life : List Item) where
   }
 
   -- a program, or a text that is none, after tracing began
-  pub enable_busy : (reading : Reading) → (set_up account registry life).begun ≡ true
+  pub enable_busy : (reading : Reading) → is_inactive (phase account registry life) ≡ false
       → IsVerdictOnCommand account registry life (enable reading) (Some Busy)
   enable_busy (program clauses) on =
       let P : Bool → Type 0 = λ b. MatchBool b (Some Busy ≡ Some Busy)
@@ -93,29 +99,29 @@ module _ (account : Account) (registry : Registry) (life : List Item) where
   enable_busy (destructive at what) on =
       sym (ap (λ b. cond b (Some Busy) (Some (refusal.Destructive at what))) (late on))
 
-  pub idle_late : (reading : Reading) → (set_up account registry life).begun ≡ true
+  pub idle_late : (reading : Reading) → is_inactive (phase account registry life) ≡ false
       → set_up account registry (asked (Ok (enable reading)) ∷ life) ≡ now
   idle_late (program clauses) on =
       ap
-      (λ b. cond (not b && is_enabled account registry now.shapes (next_epid account registry now) clauses)
+      (λ b. cond (b && is_enabled account registry now.shapes (next_epid account registry now) clauses)
       (with_program now clauses) now)
       on
   idle_late (fault at why) on = refl
   idle_late (destructive at what) on = refl
 
   -- a text that is no program, asked in time
-  pub fault_refused : (at : ℕ) (why : Why) → (set_up account registry life).begun ≡ false
+  pub fault_refused : (at : ℕ) (why : Why) → phase account registry life ≡ Inactive
       → IsVerdictOnCommand account registry life (enable (fault at why)) (Some (Program at why))
   fault_refused at why off = sym (ap (λ b. cond b (Some Busy) (Some (Program at why))) (early off))
 
-  pub destructive_refused : (at : ℕ) (what : Destructive) → (set_up account registry life).begun ≡ false
+  pub destructive_refused : (at : ℕ) (what : Destructive) → phase account registry life ≡ Inactive
       → IsVerdictOnCommand account registry life (enable (destructive at what))
       (Some (refusal.Destructive at what))
   destructive_refused at what off =
       sym (ap (λ b. cond b (Some Busy) (Some (refusal.Destructive at what))) (early off))
 
   -- a program's verdict is the command's
-  pub program_verdict : (clauses : List ClauseForm) (v : Verdict) → (set_up account registry life).begun ≡ false
+  pub program_verdict : (clauses : List ClauseForm) (v : Verdict) → phase account registry life ≡ Inactive
       → IsVerdict account registry (set_up account registry life).shapes (next_epid account registry now) clauses v
       → IsVerdictOnCommand account registry life (enable (program clauses)) (refusal_of v)
   program_verdict clauses v off is =
@@ -130,37 +136,119 @@ module _ (account : Account) (registry : Registry) (life : List Item) where
       ≡ false
       → set_up account registry (asked (Ok (enable (program clauses))) ∷ life) ≡ now
   idle_program clauses fails =
-      ap (λ b. cond (not now.begun && b) (with_program now clauses) now) fails ∙ neither (not now.begun)
+      ap (λ b. cond (is_inactive (phase_of now) && b) (with_program now clauses) now) fails
+      ∙ neither (is_inactive (phase_of now))
     where
       neither : (b : Bool) → cond (b && false) (with_program now clauses) now ≡ now
       neither true = refl
       neither false = refl
 
   -- an accepted one adds its clauses
-  pub program_added : (clauses : List ClauseForm) → (set_up account registry life).begun ≡ false
+  pub program_added : (clauses : List ClauseForm) → phase account registry life ≡ Inactive
       → is_enabled account registry (set_up account registry life).shapes (next_epid account registry now) clauses
       ≡ true
       → set_up account registry (asked (Ok (enable (program clauses))) ∷ life) ≡ with_program now clauses
   program_added clauses off holds =
       ap
-      (λ b. cond (not b && is_enabled account registry now.shapes (next_epid account registry now) clauses)
+      (λ b. cond (b && is_enabled account registry now.shapes (next_epid account registry now) clauses)
       (with_program now clauses) now)
-      off
+      (idle_is off)
       ∙ ap (λ b. cond b (with_program now clauses) now) holds
 
+  -- `option`
+  pub option_busy : (setting : Option Setting) → is_inactive (phase account registry life) ≡ false
+      → IsVerdictOnCommand account registry life (option setting) (Some Busy)
+  option_busy setting on =
+      sym (ap (λ b. cond b (Some Busy) (option_map_or (λ _. None) setting (Some refusal.Option))) (late on))
+
+  pub idle_option : (setting : Option Setting) → is_inactive (phase account registry life) ≡ false
+      → set_up account registry (asked (Ok (option setting)) ∷ life) ≡ now
+  idle_option None on = refl
+  idle_option (Some setting) on = ap (λ b. cond b (with_options now (with_setting now.options setting)) now) on
+
+  pub option_refused : (setting : Option Setting) → setting ≡ None → phase account registry life ≡ Inactive
+      → IsVerdictOnCommand account registry life (option setting) (Some refusal.Option)
+  option_refused None e off =
+      sym (ap (λ b. cond b (Some Busy) (Some refusal.Option)) (early off))
+  option_refused (Some setting) e off = cc
+
+  pub idle_unset : (setting : Option Setting) → setting ≡ None
+      → set_up account registry (asked (Ok (option setting)) ∷ life) ≡ now
+  idle_unset None e = refl
+  idle_unset (Some setting) e = cc
+
+  pub option_taken : (setting : Setting) → phase account registry life ≡ Inactive
+      → IsVerdictOnCommand account registry life (option (Some setting)) None
+  option_taken setting off = sym (ap (λ b. cond b (Some Busy) None) (early off))
+
+  pub set_by : (setting : Setting) → phase account registry life ≡ Inactive
+      → set_up account registry (asked (Ok (option (Some setting))) ∷ life)
+      ≡ with_options now (with_setting now.options setting)
+  set_by setting off = ap (λ b. cond b (with_options now (with_setting now.options setting)) now) (idle_is off)
+
   -- `go`
-  pub go_busy : (set_up account registry life).begun ≡ true → IsVerdictOnCommand account registry life go (Some Busy)
-  go_busy on = sym (ap (λ b. cond b (Some Busy) None) (late on))
+  by_room : Bool → Option Refusal
+  by_room b = cond b None (Some Limit)
 
-  pub go_taken : (set_up account registry life).begun ≡ false → IsVerdictOnCommand account registry life go None
-  go_taken off = sym (ap (λ b. cond b (Some Busy) None) (early off))
+  pub go_busy : is_inactive (phase account registry life) ≡ false
+      → IsVerdictOnCommand account registry life go (Some Busy)
+  go_busy on = sym (ap (λ b. cond b (Some Busy) (cond (has_room account registry now) None (Some Limit))) (late on))
 
-  pub idle_go : (set_up account registry life).begun ≡ true → set_up account registry (asked (Ok go) ∷ life) ≡ now
-  idle_go on = ap (λ b. cond b now (with_go now)) on
+  pub go_taken : phase account registry life ≡ Inactive
+      → has_room account registry (set_up account registry life) ≡ true
+      → IsVerdictOnCommand account registry life go None
+  go_taken off room =
+      sym
+      (ap (λ b. cond b (Some Busy) (cond (has_room account registry now) None (Some Limit))) (early off)
+      ∙ ap (λ b. cond b None (Some Limit)) room)
 
-  pub begun_by_go : (set_up account registry life).begun ≡ false
-      → set_up account registry (asked (Ok go) ∷ life) ≡ with_go now
-  begun_by_go off = ap (λ b. cond b now (with_go now)) off
+  pub go_limited : phase account registry life ≡ Inactive
+      → has_room account registry (set_up account registry life) ≡ false
+      → IsVerdictOnCommand account registry life go (Some Limit)
+  go_limited off room =
+      sym
+      (ap (λ b. cond b (Some Busy) (cond (has_room account registry now) None (Some Limit))) (early off)
+      ∙ ap (λ b. cond b None (Some Limit)) room)
+
+  abbrev begun : SetUp
+  begun = happens account registry (since_then now []) began
+
+  pub idle_go : is_inactive (phase account registry life) ≡ false
+      → set_up account registry (asked (Ok go) ∷ life) ≡ now
+  idle_go on = ap (λ b. cond (b && has_room account registry now) begun now) on
+
+  pub idle_limited : has_room account registry (set_up account registry life) ≡ false
+      → set_up account registry (asked (Ok go) ∷ life) ≡ now
+  idle_limited room =
+      ap (λ b. cond (is_inactive (phase_of now) && b) begun now) room ∙ neither (is_inactive (phase_of now))
+    where
+      neither : (b : Bool) → cond (b && false) begun now ≡ now
+      neither true = refl
+      neither false = refl
+
+  pub begun_by_go : phase account registry life ≡ Inactive
+      → has_room account registry (set_up account registry life) ≡ true
+      → set_up account registry (asked (Ok go) ∷ life)
+      ≡ happens account registry (since_then (set_up account registry life) []) began
+  begun_by_go off room =
+      ap (λ b. cond (b && has_room account registry now) begun now) (idle_is off)
+      ∙ ap (λ b. cond b begun now) room
+
+  -- `stop`
+  pub stop_busy : is_active (phase account registry life) ≡ false
+      → IsVerdictOnCommand account registry life stop (Some Busy)
+  stop_busy e = sym (ap (λ b. cond b None (Some Busy)) e)
+
+  pub stop_taken : phase account registry life ≡ Active → IsVerdictOnCommand account registry life stop None
+  stop_taken on = sym (ap (λ p. cond (is_active p) None (Some Busy)) on)
+
+  pub idle_stop : is_active (phase account registry life) ≡ false
+      → set_up account registry (asked (Ok stop) ∷ life) ≡ now
+  idle_stop e = ap (λ b. cond b (with_event now (ended end.Stop)) now) e
+
+  pub stopped_by : phase account registry life ≡ Active
+      → set_up account registry (asked (Ok stop) ∷ life) ≡ with_event (set_up account registry life) (ended end.Stop)
+  stopped_by on = ap (λ p. cond (is_active p) (with_event now (ended end.Stop)) now) on
 
   -- `snap`
   abbrev by_phase : Bool → Option Refusal
@@ -169,42 +257,49 @@ module _ (account : Account) (registry : Registry) (life : List Item) where
   pub no_cpu : (n : ℕ) → registry.cpus ≤ n → IsVerdictOnCommand account registry life (snap n) (Some NoCpu)
   no_cpu n past =
       sym
-      (ap (λ b. cond b (Some NoCpu) (by_phase (is_asked_late account registry life))) (le-leb registry.cpus n past))
+      (ap
+      (λ b. cond b (Some NoCpu) (by_phase (is_readable now (phase account registry life))))
+      (le-leb registry.cpus n past))
 
-  verdict_inside : (n : ℕ) (b : Bool) → n < registry.cpus → is_asked_late account registry life ≡ b
+  verdict_inside : (n : ℕ) (b : Bool) → n < registry.cpus
+      → is_readable (set_up account registry life) (phase account registry life) ≡ b
       → IsVerdictOnCommand account registry life (snap n) (by_phase b)
   verdict_inside n b inside e =
       sym
       (ap
-      (λ x. cond x (Some NoCpu) (by_phase (is_asked_late account registry life)))
+      (λ x. cond x (Some NoCpu) (by_phase (is_readable now (phase account registry life))))
       (lt-leb registry.cpus n inside)
       ∙ ap by_phase e)
 
-  pub snap_early : (n : ℕ) → n < registry.cpus → (set_up account registry life).begun ≡ false
+  pub snap_early : (n : ℕ) → n < registry.cpus
+      → is_readable (set_up account registry life) (phase account registry life) ≡ false
       → IsVerdictOnCommand account registry life (snap n) (Some Busy)
-  snap_early n inside off = verdict_inside n false inside (early off)
+  snap_early n inside off = verdict_inside n false inside off
 
-  pub snap_taken : (n : ℕ) → n < registry.cpus → (set_up account registry life).begun ≡ true
+  pub snap_taken : (n : ℕ) → n < registry.cpus
+      → is_readable (set_up account registry life) (phase account registry life) ≡ true
       → IsVerdictOnCommand account registry life (snap n) None
-  snap_taken n inside on = verdict_inside n true inside (late on)
+  snap_taken n inside on = verdict_inside n true inside on
 
-  pub idle_early : (n : ℕ) → (set_up account registry life).begun ≡ false
+  pub idle_early : (n : ℕ) → is_readable (set_up account registry life) (phase account registry life) ≡ false
       → set_up account registry (asked (Ok (snap n)) ∷ life) ≡ now
-  idle_early n off = ap (λ b. cond (b && nat_lt n registry.cpus) (with_event now (read n)) now) off
-
-  pub idle_past : (n : ℕ) → registry.cpus ≤ n → set_up account registry (asked (Ok (snap n)) ∷ life) ≡ now
-  idle_past n past =
-      ap (λ b. cond (now.begun && b) (with_event now (read n)) now) (le-ltb n registry.cpus past) ∙ neither now.begun
+  idle_early n off =
+      ap (λ b. cond (nat_lt n registry.cpus && b) (with_event now (read n)) now) off ∙ neither (nat_lt n registry.cpus)
     where
       neither : (b : Bool) → cond (b && false) (with_event now (read n)) now ≡ now
       neither true = refl
       neither false = refl
 
-  pub read_by_snap : (n : ℕ) → n < registry.cpus → (set_up account registry life).begun ≡ true
-      → set_up account registry (asked (Ok (snap n)) ∷ life) ≡ with_event now (read n)
+  pub idle_past : (n : ℕ) → registry.cpus ≤ n → set_up account registry (asked (Ok (snap n)) ∷ life) ≡ now
+  idle_past n past = ap
+      (λ b. cond (b && is_readable now (phase_of now)) (with_event now (read n)) now) (le-ltb n registry.cpus past)
+
+  pub read_by_snap : (n : ℕ) → n < registry.cpus
+      → is_readable (set_up account registry life) (phase account registry life) ≡ true
+      → set_up account registry (asked (Ok (snap n)) ∷ life) ≡ with_event (set_up account registry life) (read n)
   read_by_snap n inside on =
-      ap (λ b. cond (b && nat_lt n registry.cpus) (with_event now (read n)) now) on
-      ∙ ap (λ b. cond b (with_event now (read n)) now) (lt-ltb n registry.cpus inside)
+      ap (λ b. cond (b && is_readable now (phase_of now)) (with_event now (read n)) now) (lt-ltb n registry.cpus inside)
+      ∙ ap (λ b. cond b (with_event now (read n)) now) on
 
   -- `describe`
   pub no_ecb : (epid : ℕ) → ecb_of account registry life epid ≡ None

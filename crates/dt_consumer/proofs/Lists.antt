@@ -68,3 +68,7 @@ empty-from_length (x ∷ xs) e = absurd (omega arith)
 pub held : (b : Bool) → not b ≡ false → b ≡ true
 held true e = refl
 held false e = sym e
+
+pub unheld : (b : Bool) → not b ≡ true → b ≡ false
+unheld true e = sym e
+unheld false e = refl

@@ -13,15 +13,15 @@ use Rattle.dt_ecb.specs.Enable.{Verdict, IsVerdict}
 use Rattle.dt_ecb.specs.Shapes.{ShapeForm}
 use Rattle.dt_consumer.specs.Answer.{Answer, done, enabled, snapped, listed, described, refused}
 use Rattle.dt_consumer.specs.Answer as answers
-use Rattle.dt_consumer.specs.Ask.{Ask, enable, go, snap, status, list, describe}
+use Rattle.dt_buffer.specs.History.{Past}
+use Rattle.dt_buffer.specs.Shows.{Shows}
+use Rattle.dt_consumer.specs.Ask.{Ask, option, enable, go, stop, snap, status, list, describe}
+use Rattle.dt_consumer.specs.Buffers.{past}
 use Rattle.dt_consumer.specs.Life.{Item, SetUp, is_over, set_up, next_epid}
-use Rattle.dt_consumer.specs.Takings.{attempts}
 use Rattle.dt_consumer.specs.Reply.{Replies, RepliesInQuota, IsVerdictOnCommand, Accepted, is_asked_late, ecb_of, refusal_of}
-use Rattle.dt_consumer.specs.declared.limits.TheConstants.{BUFFER_SIZE}
 use Rattle.dt_consumer.specs.declared.refusal.Refusal.{Refusal}
 use Rattle.dt_consumer.specs.declared.refusal.Refusal.TheVariants.{Program, Busy, NoEpid, Quota}
 use Rattle.dt_consumer.specs.declared.refusal.Refusal.TheVariants as refusal
-use Rattle.dt_consumer.proofs.Choices.{one_shown, some_shown}
 
 one_by_bool : {X : Type 0} (b : Bool) (P : X → Type 0) (r x y : X) → ((x y : X) → P x → P y → x ≡ y)
     → MatchBool b (x ≡ r) (P x) → MatchBool b (y ≡ r) (P y) → x ≡ y
@@ -60,6 +60,9 @@ described_so (Some f) P v = (P f, refl)
 module _ (one_verdict : (account : Account) (registry : Registry) (accepted : List ShapeForm) (epid : ℕ)
     (clauses : List ClauseForm) (a b : Verdict) → IsVerdict account registry accepted epid clauses a
     → IsVerdict account registry accepted epid clauses b → a ≡ b)
+    (one_shown : (past : Past) (bytes other : List ℕ) (drops count : ℕ) (filled full : Bool)
+    → Shows past bytes drops filled → Shows past other count full
+    → (bytes ≡ other) × (drops ≡ count) × (filled ≡ full))
     (account : Account) (registry : Registry) (life : List Item) where
   abbrev Verdict-on : Ask → Option Refusal → Type 0
   Verdict-on = IsVerdictOnCommand account registry life
@@ -85,7 +88,9 @@ module _ (one_verdict : (account : Account) (registry : Registry) (accepted : Li
       hv hw
   same_verdict (enable (fault at why)) v w hv hw = hv ∙ sym hw
   same_verdict (enable (destructive at what)) v w hv hw = hv ∙ sym hw
+  same_verdict (option setting) v w hv hw = hv ∙ sym hw
   same_verdict go v w hv hw = hv ∙ sym hw
+  same_verdict stop v w hv hw = hv ∙ sym hw
   same_verdict (snap cpu) v w hv hw = hv ∙ sym hw
   same_verdict status v w hv hw = hv ∙ sym hw
   same_verdict (list None) v w hv hw = hv ∙ sym hw
@@ -97,19 +102,21 @@ module _ (one_verdict : (account : Account) (registry : Registry) (accepted : Li
   one_accepted (enable (program clauses)) a b ha hb = ha ∙ sym hb
   one_accepted (enable (fault at why)) a b ha hb = absurd ha
   one_accepted (enable (destructive at what)) a b ha hb = absurd ha
+  one_accepted (option setting) a b ha hb = ha ∙ sym hb
   one_accepted go a b ha hb = ha ∙ sym hb
+  one_accepted stop a b ha hb = ha ∙ sym hb
   one_accepted status a b ha hb = ha ∙ sym hb
   one_accepted (list None) a b ha hb = absurd ha
   one_accepted (list (Some desc)) a b ha hb = ha ∙ sym hb
   one_accepted (describe epid) a b ha hb =
       described_once (ecb_of account registry life epid) (λ f. described epid f.0 (layout_of f.1.clause)) a b ha hb
   one_accepted (snap cpu) a b ha hb =
-      let tried = attempts account registry life cpu in
-      let same = one_shown BUFFER_SIZE tried ha.0 hb.0 ha.1 hb.1 ha.2 hb.2 in
-      ha.3
-      ∙ ap (λ bytes. snapped cpu bytes ha.1 false) same.0
-      ∙ ap (λ drops. snapped cpu hb.0 drops false) same.1
-      ∙ sym hb.3
+      let same = one_shown (past account registry life cpu) ha.0 hb.0 ha.1 hb.1 ha.2 hb.2 ha.3 hb.3 in
+      ha.4
+      ∙ ap (λ bytes. snapped cpu bytes ha.1 ha.2) same.0
+      ∙ ap (λ drops. snapped cpu hb.0 drops ha.2) same.1
+      ∙ ap (snapped cpu hb.0 hb.1) same.2
+      ∙ sym hb.4
 
   one_in_quota : (line : Result Ask Refusal) (a b : Answer) → RepliesInQuota account registry life line a
       → RepliesInQuota account registry life line b → a ≡ b
@@ -128,6 +135,7 @@ module _ (one_verdict : (account : Account) (registry : Registry) (accepted : Li
 
 module _ (some_verdict : (account : Account) (registry : Registry) (accepted : List ShapeForm) (epid : ℕ)
     (clauses : List ClauseForm) → (v : Verdict) × IsVerdict account registry accepted epid clauses v)
+    (some_shown : (past : Past) → (bytes : List ℕ) × (drops : ℕ) × (filled : Bool) × Shows past bytes drops filled)
     (account : Account) (registry : Registry) (life : List Item) where
   abbrev s : SetUp
   s = set_up account registry life
@@ -138,7 +146,9 @@ module _ (some_verdict : (account : Account) (registry : Registry) (accepted : L
       some_by_bool (is_asked_late account registry life) _ (Some Busy) (refusal_of v.0, (v.0, v.1, refl))
   verdict_of (enable (fault at why)) = (_, refl)
   verdict_of (enable (destructive at what)) = (_, refl)
+  verdict_of (option setting) = (_, refl)
   verdict_of go = (_, refl)
+  verdict_of stop = (_, refl)
   verdict_of (snap cpu) = (_, refl)
   verdict_of status = (_, refl)
   verdict_of (list None) = (_, refl)
@@ -152,15 +162,17 @@ module _ (some_verdict : (account : Account) (registry : Registry) (accepted : L
       absurd (always_refused (is_asked_late account registry life) Busy (Program at why) v)
   some_accepted (enable (destructive at what)) v =
       absurd (always_refused (is_asked_late account registry life) Busy (refusal.Destructive at what) v)
+  some_accepted (option setting) v = (done, refl)
   some_accepted go v = (done, refl)
+  some_accepted stop v = (done, refl)
   some_accepted status v = (answers.status _ _ _, refl)
   some_accepted (list None) v = cc
   some_accepted (list (Some desc)) v = (listed _, refl)
   some_accepted (describe epid) v =
       described_so (ecb_of account registry life epid) (λ f. described epid f.0 (layout_of f.1.clause)) v
   some_accepted (snap cpu) v =
-      let shown = some_shown BUFFER_SIZE (attempts account registry life cpu) in
-      (snapped cpu shown.0 shown.1 false, (shown.0, shown.1, shown.2, refl))
+      let shown = some_shown (past account registry life cpu) in
+      (snapped cpu shown.0 shown.1 shown.2, (shown.0, shown.1, shown.2, shown.3, refl))
 
   some_in_quota : (line : Result Ask Refusal) → (a : Answer) × RepliesInQuota account registry life line a
   some_in_quota (Err refusal) = (refused refusal, refl)

@@ -1,7 +1,7 @@
 -- A consumer after a line of its own, and after a firing.
 use Rattle.std.proofs.Common.{◌≡◌, ℕ, zero, suc, ◌+◌, ◌-◌, ◌<◌, ◌≤◌, ◌&&◌, ◌||◌, not, Bool, true, false, cond, List, [], ◌∷◌, ◌++◌, Option, Some, None, Result, length, get_or, map, refl, sym, ap, ◌∙◌, subst, arith}
-use Rattle.std.specs.List.{All, AllByRecursion, list_any, enumerate_from}
-use Rattle.std.specs.Option.{MatchOption, is_some}
+use Rattle.std.specs.List.{All, AllByRecursion, slice_get, list_any, enumerate_from}
+use Rattle.std.specs.Option.{IfSome, MatchOption, is_some, option_and_then}
 use Rattle.std.proofs.lemmas.List.{length-append, length-map, map-append}
 use Rattle.std.proofs.lemmas.List.Elements.{All-from_recursion, recursion_from_All}
 use Rattle.std.proofs.lemmas.List.FromFn.{length-enumerate_from}
@@ -20,11 +20,17 @@ use Rattle.dt_ecb.specs.declared.limits.TheConstants.{ECBS_MAX}
 use Rattle.dt_ecb.specs.declared.parts.Ecb.{Ecb}
 use Rattle.dt_consumer.specs.Ask.{Ask}
 use Rattle.dt_consumer.specs.Draft.{after_line}
-use Rattle.dt_consumer.specs.Keeps.{AreEcbs, IsTracing, Keeps, placed_after}
-use Rattle.dt_consumer.specs.Life.{Item, asked, SetUp, lines, is_over, set_up, ecbs_in, next_epid, with_program, with_go}
+use Rattle.dt_consumer.specs.Keeps.{AreEcbs, HasTaken, IsTracing, Keeps, form_of_options, phase_by, placed_after}
+use Rattle.dt_consumer.specs.Life.{Item, asked, SetUp, lines, is_inactive, is_over, set_up, ecbs_in, next_epid, phase_of, with_options, with_program}
 use Rattle.dt_consumer.specs.StandsFor.{StandsFor}
 use Rattle.dt_consumer.specs.declared.consumer.Consumer.{Consumer}
 use Rattle.dt_consumer.specs.declared.limits.TheConstants.{LINES_MAX}
+use Rattle.dt_consumer.specs.declared.options.Options.{Options}
+use Rattle.dt_consumer.specs.declared.phase.End.{End}
+use Rattle.dt_consumer.specs.declared.phase.Phase.{Phase}
+use Rattle.dt_consumer.specs.declared.phase.Phase.TheVariants.{Inactive}
+use Rattle.dt_consumer.specs.Buffers.{errors_in, past_in}
+use Rattle.dt_consumer.specs.declared.processor.Processor.{Processor}
 use Rattle.dt_consumer.specs.declared.programs.Programs.{Programs}
 use Rattle.dt_consumer.specs.declared.refusal.Refusal.{Refusal}
 use Rattle.dt_consumer.specs.declared.tracing.Tracing.{Tracing}
@@ -183,15 +189,20 @@ module _ (account : Account) (registry : Registry) where
         (none (is_too_much account registry shapes epid clauses)
         (both (not (list_any (is_unmatched account registry) clauses)) _ after_clash).1)).0
 
+-- what traces, or has traced, is not inactive
+pub begun_phase : (phase : Phase) (o : Option End) → phase ≡ phase_by o → is_inactive phase ≡ false
+begun_phase phase None e = ap is_inactive e
+begun_phase phase (Some end) e = ap is_inactive e
+
+clashing : (phase : Phase) → phase ≡ Inactive → is_inactive phase ≡ false → ⊥
+clashing phase e f = let no : true ≡ false = sym (ap is_inactive e) ∙ f in cc
+
 -- a consumer that was not tracing keeps so
-still_none : (o : Option Tracing) (b : Bool) (P Q : Tracing → Type 0) → b ≡ false
-    → MatchOption o (b ≡ false) (λ t. (b ≡ true) × P t) → MatchOption o (b ≡ false) (λ t. (b ≡ true) × Q t)
-still_none None b P Q off h = h
-still_none (Some t) b P Q off h = absurd (clashing b off h.0)
-  where
-    clashing : (b : Bool) → b ≡ false → b ≡ true → ⊥
-    clashing true e f = cc
-    clashing false e f = cc
+still_idle : (o : Option Tracing) (phase : Phase) (P Q : Tracing → Type 0) → phase ≡ Inactive
+    → ((t : Tracing) → P t → phase ≡ phase_by t.ended) → MatchOption o (phase ≡ Inactive) P
+    → MatchOption o (phase ≡ Inactive) Q
+still_idle None phase P Q off f h = h
+still_idle (Some t) phase P Q off f h = absurd (clashing phase off (begun_phase phase t.ended (f t h)))
 
 module _ (account : Account) (registry : Registry) (consumer : Consumer) where
   -- a count more changes nothing that is kept
@@ -199,6 +210,7 @@ module _ (account : Account) (registry : Registry) (consumer : Consumer) where
       → Keeps account registry s (record consumer { lines = n })
   keeps_counted s n k = record {
     same_account = k.same_account;
+    options = k.options;
     clauses = k.clauses;
     ecbs = k.ecbs;
     shapes = k.shapes;
@@ -215,23 +227,36 @@ module _ (account : Account) (registry : Registry) (consumer : Consumer) where
           let P : SetUp → Type 0 = λ x. Keeps account registry x (record consumer { lines = n }) in
           subst P (sym same) (keeps_counted (set_up account registry life) n s.keeps);
       counted = counts;
-      seen = s.seen;
     }
 
     -- a line that changes it
     pub stands_changed : (line : Result Ask Refusal) (next : Consumer) (t : SetUp)
         → set_up account registry (asked line ∷ life) ≡ t
-        → next.lines ≡ suc (lines life) → next.seen ≡ consumer.seen → Keeps account registry t next
+        → next.lines ≡ suc (lines life) → Keeps account registry t next
         → StandsFor account registry next (asked line ∷ life)
-    stands_changed line next t is counts same k = record {
+    stands_changed line next t is counts k = record {
       keeps = let P : SetUp → Type 0 = λ x. Keeps account registry x next in subst P (sym is) k;
       counted = counts;
-      seen = same ∙ s.seen;
     }
+
+  -- other options
+  pub keeps_set : (s : SetUp) (n : ℕ) (options : Options) → phase_of s ≡ Inactive
+      → Keeps account registry s consumer
+      → Keeps account registry (with_options s (form_of_options options))
+      (record consumer { options = options; lines = n })
+  keeps_set s n options off k = record {
+    same_account = k.same_account;
+    options = refl;
+    clauses = k.clauses;
+    ecbs = k.ecbs;
+    shapes = k.shapes;
+    tracing = still_idle consumer.tracing (phase_of s) (IsTracing account registry s) _ off
+        (λ t is. is.standing) k.tracing;
+  }
 
   -- an accepted program
   module _ (s : SetUp) (k : Keeps account registry s consumer) (clauses : List Clause) (ecbs : List Ecb)
-      (off : s.begun ≡ false)
+      (off : phase_of s ≡ Inactive)
       (holds : is_enabled account registry s.shapes (next_epid account registry s) (map form_of_clause clauses)
       ≡ true)
       (are : AreEcbs (s.clauses ++ map form_of_clause clauses)
@@ -275,6 +300,7 @@ module _ (account : Account) (registry : Registry) (consumer : Consumer) where
         → Keeps account registry (with_program s forms) (record consumer { programs = programs; lines = n })
     keeps_program go_on n programs grown grown_ecbs shaped = record {
       same_account = k.same_account;
+      options = k.options;
       clauses =
           ap (map form_of_clause) grown
           ∙ map-append form_of_clause consumer.programs.clauses.items clauses
@@ -287,58 +313,80 @@ module _ (account : Account) (registry : Registry) (consumer : Consumer) where
           ++ added account registry (length (ecbs_of account registry s.clauses) + 1) forms) xs in
           subst P (sym (go_on s.clauses forms)) (subst Q (sym grown_ecbs) both);
       shapes = shaped;
-      tracing = still_none consumer.tracing s.begun _ _ off k.tracing;
+      tracing = still_idle consumer.tracing (phase_of s) (IsTracing account registry s) _ off
+          (λ t is. is.standing) k.tracing;
     }
 
-  -- an accepted `go`
-  pub keeps_begun : (s : SetUp) (n : ℕ) (tracing : Tracing) → Keeps account registry s consumer
-      → IsTracing account registry (with_go s) tracing
-      → Keeps account registry (with_go s) (record consumer { tracing = Some tracing; lines = n })
-  keeps_begun s n tracing k t = record {
-    same_account = k.same_account;
-    clauses = k.clauses;
-    ecbs = k.ecbs;
-    shapes = k.shapes;
-    tracing = (refl, t);
-  }
-
-  -- what there is while it traces changed, and with it the set-up by an event
-  pub keeps_traced : (s next : SetUp) (n m : ℕ) (tracing : Tracing) → Keeps account registry s consumer
-      → next.clauses ≡ s.clauses → next.shapes ≡ s.shapes → next.begun ≡ true
+  -- an accepted `go`, and what happens later: what there is from then on, and the set-up by an event
+  pub keeps_traced : (s next : SetUp) (n : ℕ) (tracing : Tracing) → Keeps account registry s consumer
+      → next.options ≡ s.options → next.clauses ≡ s.clauses → next.shapes ≡ s.shapes
       → IsTracing account registry next tracing
-      → Keeps account registry next (record consumer { tracing = Some tracing; lines = n; seen = m })
-  keeps_traced s next n m tracing k clauses shapes on t = record {
+      → Keeps account registry next (record consumer { tracing = Some tracing; lines = n })
+  keeps_traced s next n tracing k options clauses shapes t = record {
     same_account = k.same_account;
+    options = k.options ∙ sym options;
     clauses = k.clauses ∙ sym clauses;
     ecbs =
         let P : List ClauseForm → Type 0 = λ cs.
         AreEcbs cs (ecbs_of account registry cs) consumer.programs.ecbs.items in
         subst P (sym clauses) k.ecbs;
     shapes = k.shapes ∙ sym shapes;
-    tracing = (on, t);
+    tracing = t;
   }
 
 -- whether a consumer traces
 module _ (account : Account) (registry : Registry) (s : SetUp) (consumer : Consumer)
     (k : Keeps account registry s consumer)
   where
-    pub traced : (t : Tracing) → consumer.tracing ≡ Some t → (s.begun ≡ true) × IsTracing account registry s t
+    pub traced : (t : Tracing) → consumer.tracing ≡ Some t → IsTracing account registry s t
     traced t e =
         let P : Option Tracing → Type 0 = λ o.
-        MatchOption o (s.begun ≡ false) (λ x. (s.begun ≡ true) × IsTracing account registry s x) in
+        MatchOption o (phase_of s ≡ Inactive) (IsTracing account registry s) in
         subst P e k.tracing
 
-    pub untraced : consumer.tracing ≡ None → s.begun ≡ false
+    pub untraced : consumer.tracing ≡ None → phase_of s ≡ Inactive
     untraced e =
         let P : Option Tracing → Type 0 = λ o.
-        MatchOption o (s.begun ≡ false) (λ x. (s.begun ≡ true) × IsTracing account registry s x) in
+        MatchOption o (phase_of s ≡ Inactive) (IsTracing account registry s) in
         subst P e k.tracing
 
-    is_begun : (o : Option Tracing)
-        → MatchOption o (s.begun ≡ false) (λ x. (s.begun ≡ true) × IsTracing account registry s x)
-        → is_some o ≡ s.begun
-    is_begun None h = sym h
-    is_begun (Some t) h = sym h.0
+    is_begun : (o : Option Tracing) → MatchOption o (phase_of s ≡ Inactive) (IsTracing account registry s)
+        → is_some o ≡ not (is_inactive (phase_of s))
+    is_begun None h = sym (ap (λ p. not (is_inactive p)) h)
+    is_begun (Some t) h = sym (ap not (begun_phase (phase_of s) t.ended h.standing))
 
-    pub traces : is_some consumer.tracing ≡ s.begun
+    pub traces : is_some consumer.tracing ≡ not (is_inactive (phase_of s))
     traces = is_begun consumer.tracing k.tracing
+
+    idle_phase : (o : Option Tracing) → MatchOption o (phase_of s ≡ Inactive) (IsTracing account registry s)
+        → is_some o ≡ false → phase_of s ≡ Inactive
+    idle_phase None h e = h
+    idle_phase (Some t) h e = cc
+
+    pub idle : is_some consumer.tracing ≡ false → phase_of s ≡ Inactive
+    idle e = idle_phase consumer.tracing k.tracing e
+
+-- the same set-up, written in another way
+pub keeps_same : (account : Account) (registry : Registry) (s s' : SetUp) (consumer : Consumer) → s' ≡ s
+    → Keeps account registry s consumer → Keeps account registry s' consumer
+keeps_same account registry s s' consumer e k = subst (λ x. Keeps account registry x consumer) (sym e) k
+
+-- what a processor of a consumer has taken
+pub taken_by_one : (account : Account) (registry : Registry) (s : SetUp) (consumer : Consumer)
+    → Keeps account registry s consumer → (cpu : ℕ) (p : Processor)
+    → Some p ≡ option_and_then (λ (t : Tracing). slice_get t.processors.all.items cpu) consumer.tracing
+    → HasTaken (past_in account registry s cpu) (errors_in account registry s cpu) p
+taken_by_one account registry s consumer k cpu p e = step consumer.tracing k.tracing e
+  where
+    inner : (o : Option Processor)
+        → IfSome o (HasTaken (past_in account registry s cpu) (errors_in account registry s cpu))
+        → Some p ≡ o → HasTaken (past_in account registry s cpu) (errors_in account registry s cpu) p
+    inner None h e = cc
+    inner (Some q) h e = let same : p ≡ q = cc in
+        subst (HasTaken (past_in account registry s cpu) (errors_in account registry s cpu)) (sym same) h
+
+    step : (o : Option Tracing) → MatchOption o (phase_of s ≡ Inactive) (IsTracing account registry s)
+        → Some p ≡ option_and_then (λ (t : Tracing). slice_get t.processors.all.items cpu) o
+        → HasTaken (past_in account registry s cpu) (errors_in account registry s cpu) p
+    step None h e = cc
+    step (Some t) h e = inner (slice_get t.processors.all.items cpu) (h.processors cpu) e

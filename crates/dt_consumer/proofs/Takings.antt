@@ -1,22 +1,12 @@
--- What takings add to records and faults, and to a processor.
-use Rattle.std.proofs.Common.{◌≡◌, ℕ, zero, suc, ◌+◌, ◌<◌, ◌≤◌, get_or, take, Bool, true, false, List, [], ◌∷◌, ◌++◌, length, filter, if◌then◌else◌, Option, Some, None, map, refl, sym, ap, ◌∙◌, subst, arith}
-use Rattle.std.specs.Option.{option_to_list, is_none}
-use Rattle.std.proofs.lemmas.List.{append-nil, append_assoc, length-append, map-append, take_all, take_more}
-use Rattle.std.proofs.lemmas.Grind.{flat_map-append}
+-- What takings add to faults, and where they exit.
+use Rattle.std.proofs.Common.{◌≡◌, ℕ, ℤ, zero, suc, ◌+◌, ◌<◌, get_or, take, drop, Bool, true, false, List, [], ◌∷◌, ◌++◌, length, filter, if◌then◌else◌, Option, Some, None, map, refl, sym, ap, ◌∙◌, arith}
+use Rattle.std.specs.Option.{is_none, is_some, option_or}
+use Rattle.std.proofs.lemmas.List.{length-append, map-append, take_more}
 use Rattle.dt_lang.specs.Program.{form_of_clause}
 use Rattle.dt_lang.specs.declared.program.Clause.{Clause}
 use Rattle.dt_ecb.specs.Forms.{no_clause}
 use Rattle.dt_ecb.specs.declared.parts.Ecb.{Ecb}
-use Rattle.dt_consumer.specs.Keeps.{HasTaken}
-use Rattle.dt_consumer.specs.Takings.{Taking, record_of, records, faults}
-use Rattle.dt_consumer.specs.declared.processor.Processor.{Processor}
-
--- the attempts and the faults with one taking more
-pub records-push : (takings : List Taking) (one : Taking)
-    → records (takings ++ one ∷ []) ≡ records takings ++ option_to_list (record_of one)
-records-push takings one =
-    flat_map-append (λ t. option_to_list (record_of t)) takings (one ∷ [])
-    ∙ ap (λ xs. records takings ++ xs) (append-nil (option_to_list (record_of one)))
+use Rattle.dt_consumer.specs.Takings.{Taking, exit_of, first_exit, through_exit, faults}
 
 picked-append : {X : Type 0} (b : Bool) (x : X) (xs ys zs : List X) → zs ≡ xs ++ ys
     → (if b then x ∷ zs else zs) ≡ (if b then x ∷ xs else xs) ++ ys
@@ -33,57 +23,11 @@ faults-append xs ys =
     ap length (filter-append (λ (t : Taking). is_none t.came) xs ys)
     ∙ length-append (filter (λ (t : Taking). is_none t.came) xs) (filter (λ (t : Taking). is_none t.came) ys)
 
--- how many there are
-picked_few : {X : Type 0} (b : Bool) (x : X) (xs : List X) (n : ℕ) → length xs ≤ n
-    → length (if b then x ∷ xs else xs) ≤ suc n
-picked_few true x xs n h = omega arith
-picked_few false x xs n h = omega arith
-
-pub filter_few : {X : Type 0} (p : X → Bool) (xs : List X) → length (filter p xs) ≤ length xs
-filter_few p [] = omega arith
-filter_few p (x ∷ xs) = picked_few (p x) x (filter p xs) (length xs) (filter_few p xs)
-
-pub faults_few : (takings : List Taking) → faults takings ≤ length takings
-faults_few takings = filter_few (λ (t : Taking). is_none t.came) takings
-
-one_few : (o : Option (List ℕ)) → length (option_to_list o) ≤ 1
-one_few None = omega arith
-one_few (Some bytes) = omega arith
-
-pub records_few : (takings : List Taking) → length (records takings) ≤ length takings
-records_few [] = omega arith
-records_few (one ∷ takings) = omega (
-  arith,
-  one_few (record_of one),
-  records_few takings,
-  length-append (option_to_list (record_of one)) (records takings),
-)
-
 -- the takings of a row, one ECB further
-row_more : (f : Ecb → Taking) (row : List Ecb) (i : ℕ) (d : Ecb) → i < length row
+pub row_more : (f : Ecb → Taking) (row : List Ecb) (i : ℕ) (d : Ecb) → i < length row
     → map f (take (i + 1) row) ≡ map f (take i row) ++ f (get_or row i d) ∷ []
 row_more f row i d inside =
     ap (map f) (take_more row i d inside) ∙ map-append f (take i row) (get_or row i d ∷ [])
-
-pub took_more : (f : Ecb → Taking) (row : List Ecb) (i : ℕ) (d : Ecb) (unread taken : List Taking) (p : Processor)
-    → i < length row
-    → HasTaken ((unread ++ map f (take i row)) ++ f (get_or row i d) ∷ [])
-    ((taken ++ map f (take i row)) ++ f (get_or row i d) ∷ []) p
-    → HasTaken (unread ++ map f (take (i + 1) row)) (taken ++ map f (take (i + 1) row)) p
-took_more f row i d unread taken p inside h =
-    let longer : (xs : List Taking)
-    → (xs ++ map f (take i row)) ++ f (get_or row i d) ∷ [] ≡ xs ++ map f (take (i + 1) row) =
-    λ xs. append_assoc xs (map f (take i row)) (f (get_or row i d) ∷ [])
-    ∙ ap (λ ys. xs ++ ys) (sym (row_more f row i d inside)) in
-    let P : List Taking → Type 0 = λ xs. HasTaken xs ((taken ++ map f (take i row)) ++ f (get_or row i d) ∷ []) p in
-    let Q : List Taking → Type 0 = λ ys. HasTaken (unread ++ map f (take (i + 1) row)) ys p in
-    subst Q (longer taken) (subst P (longer unread) h)
-
-pub took_all : (f : Ecb → Taking) (row : List Ecb) (i : ℕ) (unread taken : List Taking) (p : Processor)
-    → length row ≤ i → HasTaken (unread ++ map f (take i row)) (taken ++ map f (take i row)) p
-    → HasTaken (unread ++ map f row) (taken ++ map f row) p
-took_all f row i unread taken p past h =
-    subst (λ xs. HasTaken (unread ++ map f xs) (taken ++ map f xs) p) (take_all i row past) h
 
 -- the form of a clause that is found at a place
 pub clause_found : (clauses : List Clause) (place : ℕ) (clause : Clause) → place < length clauses
@@ -92,3 +36,76 @@ pub clause_found : (clauses : List Clause) (place : ℕ) (clause : Clause) → p
 clause_found [] place clause inside e = absurd (omega arith)
 clause_found (first ∷ clauses) zero clause inside e = ap form_of_clause (sym e)
 clause_found (first ∷ clauses) (suc place) clause inside e = clause_found clauses place clause (omega arith) e
+
+-- where none exits
+none_first : {X : Type 0} (o p : Option X) → option_or o p ≡ None → (o ≡ None) × (p ≡ None)
+none_first None p e = (refl, e)
+none_first (Some x) p e = cc
+
+pub first_exit-append : (xs ys : List Taking) → first_exit xs ≡ None → first_exit (xs ++ ys) ≡ first_exit ys
+first_exit-append [] ys e = refl
+first_exit-append (x ∷ xs) ys e =
+    let two = none_first (exit_of x) (first_exit xs) e in
+    ap (λ o. option_or o (first_exit (xs ++ ys))) two.0 ∙ first_exit-append xs ys two.1
+
+pub through_none : (xs : List Taking) → first_exit xs ≡ None → through_exit xs ≡ xs
+through_none [] e = refl
+through_none (x ∷ xs) e =
+    let two = none_first (exit_of x) (first_exit xs) e in
+    ap (λ o. x ∷ (if is_some o then [] else through_exit xs)) two.0 ∙ ap (λ rest. x ∷ rest) (through_none xs two.1)
+
+-- the first that exits is the last that is taken
+pub through_first : (xs : List Taking) (y : Taking) (ys : List Taking) → first_exit xs ≡ None
+    → is_some (exit_of y) ≡ true → through_exit (xs ++ y ∷ ys) ≡ xs ++ y ∷ []
+through_first [] y ys e exits = ap (λ b. y ∷ (if b then [] else through_exit ys)) exits
+through_first (x ∷ xs) y ys e exits =
+    let two = none_first (exit_of x) (first_exit xs) e in
+    ap (λ o. x ∷ (if is_some o then [] else through_exit (xs ++ y ∷ ys))) two.0
+    ∙ ap (λ rest. x ∷ rest) (through_first xs y ys two.1 exits)
+
+same_first : (o : Option ℤ) (rest later : List Taking) → first_exit rest ≡ first_exit later
+    → option_or o (first_exit (if is_some o then [] else rest)) ≡ option_or o (first_exit later)
+same_first None rest later e = e
+same_first (Some status) rest later e = refl
+
+pub first_through : (xs : List Taking) → first_exit (through_exit xs) ≡ first_exit xs
+first_through [] = refl
+first_through (x ∷ xs) = same_first (exit_of x) (through_exit xs) xs (first_through xs)
+
+exit_there : (o : Option ℤ) (p : Option ℤ) → is_some o ≡ true → option_or o p ≡ o
+exit_there None p e = cc
+exit_there (Some status) p e = refl
+
+-- the first exit of a row whose first ECBs don't exit
+pub first_here : (xs : List Taking) (y : Taking) (ys : List Taking) → first_exit xs ≡ None
+    → is_some (exit_of y) ≡ true → first_exit (xs ++ y ∷ ys) ≡ exit_of y
+first_here xs y ys e exits = first_exit-append xs (y ∷ ys) e ∙ exit_there (exit_of y) (first_exit ys) exits
+
+no_exit : (o : Option ℤ) (p : Option ℤ) → is_some o ≡ false → p ≡ None → option_or o p ≡ None
+no_exit None p e n = n
+no_exit (Some status) p e n = cc
+
+pub none_more : (xs : List Taking) (y : Taking) → first_exit xs ≡ None → is_some (exit_of y) ≡ false
+    → first_exit (xs ++ y ∷ []) ≡ None
+none_more xs y e stays = first_exit-append xs (y ∷ []) e ∙ no_exit (exit_of y) None stays refl
+
+-- a row, cut at an ECB
+pub row_split : (f : Ecb → Taking) (row : List Ecb) (i : ℕ) (d : Ecb) → i < length row
+    → map f row ≡ map f (take i row) ++ f (get_or row i d) ∷ map f (drop (suc i) row)
+row_split f [] i d inside = absurd (omega arith)
+row_split f (ecb ∷ row) zero d inside = refl
+row_split f (ecb ∷ row) (suc i) d inside = ap (λ rest. f ecb ∷ rest) (row_split f row i d (omega arith))
+
+-- the first exit of a row
+pub exit_found : (f : Ecb → Taking) (row : List Ecb) (i : ℕ) (d : Ecb) → i < length row
+    → first_exit (map f (take i row)) ≡ None → is_some (exit_of (f (get_or row i d))) ≡ true
+    → exit_of (f (get_or row i d)) ≡ first_exit (map f row)
+exit_found f row i d inside stays exits =
+    sym (ap first_exit (row_split f row i d inside)
+    ∙ first_here (map f (take i row)) (f (get_or row i d)) (map f (drop (suc i) row)) stays exits)
+
+pub stays_more : (f : Ecb → Taking) (row : List Ecb) (i : ℕ) (d : Ecb) → i < length row
+    → first_exit (map f (take i row)) ≡ None → is_some (exit_of (f (get_or row i d))) ≡ false
+    → first_exit (map f (take (i + 1) row)) ≡ None
+stays_more f row i d inside stays one =
+    ap first_exit (row_more f row i d inside) ∙ none_more (map f (take i row)) (f (get_or row i d)) stays one

@@ -1,10 +1,10 @@
 -- What `status` and `describe` tell.
-use Rattle.std.proofs.Common.{◌≡◌, ℕ, zero, suc, ◌+◌, ◌<◌, ◌≤◌, ◌^◌, ◌==◌, Bool, true, false, List, [], ◌∷◌, Option, Some, None, Result, Ok, Err, length, map, min, replicate, refl, sym, ap, ◌∙◌, subst, if◌then◌else◌, arith}
+use Rattle.std.proofs.Common.{◌≡◌, ℕ, zero, suc, ◌+◌, ◌<◌, ◌==◌, Bool, true, false, List, [], ◌∷◌, Option, Some, None, Result, Ok, Err, length, map, replicate, refl, sym, ap, ◌∙◌, subst, if◌then◌else◌, arith}
 use Rattle.std.specs.List.{slice_get, find, range_with_len, AllByRecursion}
 use Rattle.std.specs.Option.{IfSome, MatchOption, option_map, option_and_then}
 use Rattle.std.specs.Result.{IfOk}
 use Rattle.std.proofs.lemmas.Bool.{eqb-true}
-use Rattle.std.proofs.lemmas.List.{length-map}
+use Rattle.std.proofs.lemmas.List.{append-nil, length-map}
 use Rattle.std.proofs.lemmas.List.Elements.{recursion_from_All}
 use Rattle.dt_cred.specs.declared.account.Account.{Account}
 use Rattle.dt_cred.specs.declared.probe.Probe.{Probe}
@@ -12,20 +12,18 @@ use Rattle.dt_machine.specs.Registry.{Registry, probe_of}
 use Rattle.dt_lang.specs.Program.{form_of_clause}
 use Rattle.dt_ecb.specs.Ecbs.{EcbForm}
 use Rattle.dt_ecb.specs.Forms.{form_of_ecb}
-use Rattle.dt_ecb.specs.declared.limits.TheConstants.{ECBS_MAX}
 use Rattle.dt_ecb.specs.declared.parts.Ecb.{Ecb}
-use Rattle.dt_consumer.specs.Keeps.{HasTaken, IsTracing, Keeps}
-use Rattle.dt_consumer.specs.Life.{Item, SetUp, firings, set_up, ecbs_in}
+use Rattle.dt_consumer.specs.Buffers.{errors}
+use Rattle.dt_consumer.specs.Keeps.{IsTracing, Keeps}
+use Rattle.dt_consumer.specs.Life.{Item, SetUp, seen_in, phase_after, set_up, ecbs_in, phase}
 use Rattle.dt_consumer.specs.Reply.{all_errors, ecb_of}
-use Rattle.dt_consumer.specs.Takings.{takings, takings_since_snap, errors, faults}
+use Rattle.dt_consumer.specs.Takings.{Event, began, seen, read, ended, faults, taken_since}
+use Rattle.dt_consumer.specs.declared.phase.Phase.TheVariants.{Inactive}
 use Rattle.dt_consumer.specs.declared.consumer.Consumer.{Consumer}
-use Rattle.dt_consumer.specs.declared.limits.TheConstants.{FIRINGS_MAX, COUNT_MAX}
 use Rattle.dt_consumer.specs.declared.processor.Processor.{Processor}
 use Rattle.dt_consumer.specs.declared.tracing.Tracing.{Tracing}
-use Rattle.dt_consumer.proofs.Counts.{few_taken}
 use Rattle.dt_consumer.proofs.Lists.{find-map}
-use Rattle.dt_consumer.proofs.Takings.{faults_few}
-use Rattle.dt_consumer.proofs.Tracings.{taken-none}
+use Rattle.dt_consumer.proofs.Taken.{if_some_map}
 
 pub if_ok_map : {T E : Type 0} (P Q : T → Type 0) (r : Result T E) → ((x : T) → P x → Q x) → IfOk r P → IfOk r Q
 if_ok_map P Q (Ok x) f h = f x h
@@ -49,54 +47,43 @@ all_zero f zero base none = refl
 all_zero f (suc n) base none =
     ap (λ k. k ∷ map f (range_with_len (base + 1) n)) (none base) ∙ ap (λ ns. 0 ∷ ns) (all_zero f n (base + 1) none)
 
--- the ECBs of a consumer are few
-pub ecbs_few : (account : Account) (registry : Registry) (consumer : Consumer) (s : SetUp)
-    → Keeps account registry s consumer → length consumer.programs.ecbs.items ≤ ECBS_MAX
-    → length (ecbs_in account registry s) ≤ ECBS_MAX
-ecbs_few account registry consumer s k few = omega (
-  arith,
-  few,
-  length-map consumer.programs.ecbs.items (form_of_ecb s.clauses),
-  ap length k.ecbs.forms,
-)
+-- before tracing begins nothing was taken, and nothing seen
+none_taken : (account : Account) (registry : Registry) (ecbs : List EcbForm) (cpu : ℕ) (events : List Event)
+    → phase_after events ≡ Inactive → taken_since account registry ecbs cpu events ≡ []
+none_taken account registry ecbs cpu [] e = refl
+none_taken account registry ecbs cpu (began ∷ events) e = cc
+none_taken account registry ecbs cpu (seen firing ∷ events) e = cc
+none_taken account registry ecbs cpu (read n ∷ events) e =
+    append-nil (taken_since account registry ecbs cpu events) ∙ none_taken account registry ecbs cpu events e
+none_taken account registry ecbs cpu (ended end ∷ events) e = cc
+
+pub none_seen : (events : List Event) → phase_after events ≡ Inactive → seen_in events ≡ 0
+none_seen [] e = refl
+none_seen (began ∷ events) e = cc
+none_seen (seen firing ∷ events) e = cc
+none_seen (read n ∷ events) e = none_seen events e
+none_seen (ended end ∷ events) e = cc
 
 module _ (account : Account) (registry : Registry) (life : List Item) where
-  counted_all : (n : ℕ) (cpu : ℕ) → length (takings account registry life cpu) < 2 ^ 40
-      → n ≡ min (faults (takings account registry life cpu)) COUNT_MAX → n ≡ errors account registry life cpu
-  counted_all n cpu few e = omega (arith, e, few, faults_few (takings account registry life cpu))
-
-  if_counted : (o : Option Processor) (cpu : ℕ) → length (takings account registry life cpu) < 2 ^ 40
-      → IfSome o (λ p. p.errors ≡ min (faults (takings account registry life cpu)) COUNT_MAX)
-      → IfSome o (λ p. p.errors ≡ errors account registry life cpu)
-  if_counted None cpu few h = tt
-  if_counted (Some p) cpu few h = counted_all p.errors cpu few h
-
-  has_counted : (o : Option Processor) (cpu : ℕ)
-      → IfSome o (HasTaken (takings_since_snap account registry life cpu) (takings account registry life cpu))
-      → IfSome o (λ p. p.errors ≡ min (faults (takings account registry life cpu)) COUNT_MAX)
-  has_counted None cpu h = tt
-  has_counted (Some p) cpu h = h.counted
-
-  -- the errors of the processors, while it traces
+  -- the errors of the processors, from `go` on
   pub errors_told : (t : Tracing) → IsTracing account registry (set_up account registry life) t
-      → length (ecbs_in account registry (set_up account registry life)) ≤ ECBS_MAX → firings life ≤ FIRINGS_MAX
-      → map (λ (p : Processor). p.errors) t.processors.items ≡ all_errors account registry life
-  errors_told t is few small =
-      each_error (errors account registry life) 0 t.processors.items
+      → map (λ (p : Processor). p.errors) t.processors.all.items ≡ all_errors account registry life
+  errors_told t is =
+      each_error (errors account registry life) 0 t.processors.all.items
       (λ i.
       subst
-      (λ k. IfSome (slice_get t.processors.items i) (λ (p : Processor). p.errors ≡ errors account registry life k))
+      (λ k. IfSome (slice_get t.processors.all.items i) (λ (p : Processor). p.errors ≡ errors account registry life k))
       (omega arith)
-      (if_counted (slice_get t.processors.items i) i (few_taken account registry life i few small)
-      (has_counted (slice_get t.processors.items i) i (is.processors i))))
+      (if_some_map _ _ (slice_get t.processors.all.items i) (λ p h. h.counted) (is.processors i)))
       ∙ ap (λ n. map (errors account registry life) (range_with_len 0 n)) is.all_processors
 
   -- and before
-  pub no_errors : (set_up account registry life).begun ≡ false
-      → replicate registry.cpus 0 ≡ all_errors account registry life
+  pub no_errors : phase account registry life ≡ Inactive → replicate registry.cpus 0 ≡ all_errors account registry life
   no_errors off =
       sym (all_zero (errors account registry life) registry.cpus 0
-      (λ cpu. ap faults (taken-none account registry (set_up account registry life) off cpu)))
+      (λ cpu. ap faults
+      (none_taken account registry (ecbs_in account registry (set_up account registry life)) cpu
+      (set_up account registry life).since off)))
 
 -- the test that a search found holds of what it found, and so does what holds of each
 found_here : {X : Type 0} (P : X → Type 0) (b : Bool) (x : X) (later : Option X) (y : X)

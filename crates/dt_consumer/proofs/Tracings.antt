@@ -1,226 +1,423 @@
--- How takings grow with a set-up, and what a consumer has while it traces.
-use Rattle.std.proofs.Common.{◌≡◌, ◌≢◌, ℕ, ◌<◌, ◌≤◌, ◌==◌, true, false, cond, List, [], ◌++◌, Option, Some, length, get_or, map, refl, sym, ap, ◌∙◌, subst, ⊎_elim, arith}
+-- What a consumer has from `go` on, as more happens.
+use Rattle.std.proofs.Common.{◌≡◌, ◌≢◌, ℕ, ℤ, ◌+◌, ◌<◌, ◌≤◌, ◌==◌, ◌&&◌, Bool, true, false, cond, List, [], ◌∷◌, ◌++◌, Option, Some, None, length, get_or, filter, map, refl, sym, ap, ◌∙◌, subst, ⊎_elim, arith}
 use Rattle.std.specs.Global.{Vec}
-use Rattle.std.specs.List.{slice_get, All}
-use Rattle.std.specs.Option.{IfSome}
+use Rattle.std.specs.List.{slice_get, All, AllByRecursion}
+use Rattle.std.proofs.lemmas.List.Elements.{All-from_recursion, recursion_from_All}
+use Rattle.std.specs.Option.{IfSome, IsSomeAnd, is_some, option_and_then, option_map, option_map_or, option_or}
 use Rattle.std.specs.Vec.{with_item}
 use Rattle.std.proofs.Math.ListN.{length-set}
 use Rattle.std.proofs.lemmas.Bool.{cases_eq, eq-eqb, ne_eqb}
 use Rattle.std.proofs.lemmas.List.{append-nil, length-map}
+use Rattle.dt_buffer.specs.History.{Past, after, new_past, of_end, swap}
+use Rattle.dt_buffer.specs.History as buffer
+use Rattle.dt_buffer.specs.Shows.{EndLast}
 use Rattle.dt_cred.specs.declared.account.Account.{Account}
-use Rattle.dt_machine.specs.Registry.{Registry}
-use Rattle.dt_machine.specs.declared.firing.Firing.{Firing}
+use Rattle.dt_cred.specs.declared.probe.Probe.{Probe}
+use Rattle.dt_machine.specs.Registry.{Registry, probe_of}
 use Rattle.dt_lang.specs.Program.{ClauseForm, form_of_clause}
 use Rattle.dt_lang.specs.declared.program.Clause.{Clause}
-use Rattle.dt_ecb.specs.Ecbs.{EcbForm, ecbs_of, of_probe}
+use Rattle.dt_ecb.specs.Ecbs.{EcbForm, of_probe}
 use Rattle.dt_ecb.specs.Forms.{form_of_ecb}
 use Rattle.dt_ecb.specs.declared.parts.Ecb.{Ecb}
-use Rattle.dt_consumer.specs.Keeps.{AreEcbs, Grows, HasTaken, IsTracing, taking_by}
-use Rattle.dt_consumer.specs.Life.{seen, read, SetUp, ecbs_in, with_go, with_event}
-use Rattle.dt_consumer.specs.Takings.{Taking, MomentForm, taking_of, taken_at, taken_here, taken_since, unread_since, all_taken, unread, moment_of, moment_in, own_process, begin_firing}
+use Rattle.dt_consumer.specs.Buffers.{attempts_of, comes_by, errors_in, past_in, reserve_on}
+use Rattle.dt_consumer.specs.Keeps.{AreEcbs, AreTaken, HasTaken, IsTracing, errors_and, followed_by, pasts_and, phase_by, taking_by, where_taken}
+use Rattle.dt_consumer.specs.Life.{SetUp, ecbs_in, end_by, end_size, happens, seen_in, since_then, with_event}
+use Rattle.dt_consumer.specs.Options.{OptionsForm, is_fill}
+use Rattle.dt_consumer.specs.Takings.{Event, began, seen, read, ended, is_end, Taking, MomentForm, exit_of, faults, first_exit, moment_at, own_firing, own_moment, own_process, record_of, taken_at, taken_by, taken_on, taken_since, taking_of, through_exit}
+use Rattle.dt_consumer.specs.declared.limits.TheConstants.{END}
+use Rattle.dt_consumer.specs.declared.phase.End.{End}
+use Rattle.dt_consumer.specs.declared.phase.End.TheVariants.{Exit, History}
 use Rattle.dt_consumer.specs.declared.processor.Processor.{Processor}
+use Rattle.dt_consumer.specs.declared.rows.Row.{Row}
 use Rattle.dt_consumer.specs.declared.tracing.Tracing.{Tracing}
-use Rattle.dt_consumer.proofs.Lists.{replaced, nothing_past, found_at, map_twice}
+use Rattle.dt_consumer.proofs.Buffers.{ordinary_one, same_has, of_end-append}
+use Rattle.dt_consumer.proofs.Lists.{filter-map, found_at, map_twice, nothing_past, replaced}
+use Rattle.dt_consumer.proofs.Takings.{faults-append, first_through}
+use Rattle.dt_consumer.proofs.Taken.{if_some_map}
+
+-- an event at which ECBs are taken
+abbrev pub IsFiring : Event → Type 0
+IsFiring (read cpu) = ⊥
+IsFiring _ = Unit {0}
 
 module _ (account : Account) (registry : Registry) (s : SetUp) where
   abbrev own : List EcbForm
   own = ecbs_in account registry s
 
-  abbrev taken_until : ℕ → List Taking
-  taken_until cpu = taken_since account registry (ecbs_in account registry s) cpu s.since
+  comes_firing : (cpu : ℕ) (event : Event) → IsFiring event
+      → comes_by account registry (ecbs_in account registry s) cpu event
+      ≡ attempts_of (taken_on account registry (ecbs_in account registry s) cpu event)
+  comes_firing cpu began is = refl
+  comes_firing cpu (seen firing) is = refl
+  comes_firing cpu (read n) is = absurd is
+  comes_firing cpu (ended end) is = refl
 
-  abbrev unread_until : ℕ → List Taking
-  unread_until cpu = unread_since account registry (ecbs_in account registry s) cpu s.since
+  module _ (event : Event) (m : MomentForm) (fires : IsFiring event)
+      (at : moment_at account registry event ≡ Some m) where
+    on_is : (cpu : ℕ) → taken_on account registry (ecbs_in account registry s) cpu event
+        ≡ where_taken m.firing.cpu (taken_at (is_end event) (ecbs_in account registry s) m) cpu
+    on_is cpu = ap
+        (λ o. option_map_or
+        (λ (x : MomentForm). cond (x.firing.cpu == cpu) (taken_at (is_end event) own x) []) o [])
+        at
 
-  module _ (m : MomentForm) where
-    abbrev here : ℕ → List Taking
-    here cpu = cond (m.firing.cpu == cpu) (taken_at (ecbs_in account registry s) m) []
+    pub by_is : taken_by account registry (ecbs_in account registry s) event
+        ≡ taken_at (is_end event) (ecbs_in account registry s) m
+    by_is = ap (λ o. option_map_or (taken_at (is_end event) own) o []) at
 
-    -- a firing that is seen is a moment more
-    pub grows_seen : (firing : Firing) → s.begun ≡ true → moment_of registry firing ≡ Some m
-        → Grows account registry s (with_event s (seen firing)) m
-    grows_seen firing on is = record {
-      same_clauses = refl;
-      more_taken = λ cpu.
-          ap (λ b. cond b (taken_until cpu ++ taken_here account registry own cpu (moment_of registry firing)) []) on
-          ∙ ap (λ o. taken_until cpu ++ taken_here account registry own cpu o) is
-          ∙ ap (λ b. cond b (taken_until cpu) [] ++ here cpu) (sym on);
-      more_unread = λ cpu.
-          ap (λ b. cond b (unread_until cpu ++ taken_here account registry own cpu (moment_of registry firing)) []) on
-          ∙ ap (λ o. unread_until cpu ++ taken_here account registry own cpu o) is
-          ∙ ap (λ b. cond b (unread_until cpu) [] ++ here cpu) (sym on);
+    -- what was taken at an event is what the set-up with it says
+    pub grown : (all : List Processor) (new : List Taking)
+        → new ≡ taken_at (is_end event) (ecbs_in account registry s) m
+        → AreTaken (pasts_and (past_in account registry s) (where_taken m.firing.cpu new))
+        (errors_and (errors_in account registry s) (where_taken m.firing.cpu new)) all
+        → AreTaken (past_in account registry (with_event s event)) (errors_in account registry (with_event s event)) all
+    grown all new is h = λ cpu.
+        let w : where_taken m.firing.cpu new cpu ≡ taken_on account registry own cpu event =
+        ap (λ xs. where_taken m.firing.cpu xs cpu) is ∙ sym (on_is cpu) in
+        if_some_map _ _ (slice_get all cpu)
+        (λ p. same_has _ _ _ _ p
+        (ap (λ xs. followed_by (past_in account registry s cpu) (attempts_of xs)) w
+        ∙ ap (followed_by (past_in account registry s cpu)) (sym (comes_firing cpu event fires)))
+        (ap (λ xs. errors_in account registry s cpu + faults xs) w
+        ∙ sym
+        (faults-append (taken_since account registry own cpu s.since) (taken_on account registry own cpu event))))
+        (h cpu)
+
+-- why tracing ends, written by what is known of it
+pub end_is : (account : Account) (registry : Registry) (s : SetUp) (event : Event) (exit : Option ℤ) (b : Bool)
+    → first_exit (taken_by account registry (ecbs_in account registry s) event) ≡ exit
+    → (seen_in s.since == s.options.histsize) ≡ b
+    → end_by account registry s event ≡ option_or (option_map Exit exit) (cond b (Some History) None)
+end_is account registry s event exit b e f =
+    ap (λ x. option_or (option_map Exit x) (cond (seen_in s.since == s.options.histsize) (Some History) None)) e
+    ∙ ap (λ x. option_or (option_map Exit exit) (cond x (Some History) None)) f
+
+pub happens_on : (account : Account) (registry : Registry) (s : SetUp) (event : Event)
+    → end_by account registry (with_event s event) event ≡ None
+    → happens account registry s event ≡ with_event s event
+happens_on account registry s event e = ap
+    (λ o. option_map_or (λ end. with_event (with_event s event) (ended end)) o (with_event s event)) e
+
+pub happens_last : (account : Account) (registry : Registry) (s : SetUp) (event : Event) (end : End)
+    → end_by account registry (with_event s event) event ≡ Some end
+    → happens account registry s event ≡ with_event (with_event s event) (ended end)
+happens_last account registry s event end e = ap
+    (λ o. option_map_or (λ end. with_event (with_event s event) (ended end)) o (with_event s event)) e
+
+-- the row of a probe
+pub record RowOf (account : Account) (registry : Registry) (s : SetUp) (probe : ℕ) (row : Row) : Type 0 where
+  pub its : AreEcbs s.clauses (of_probe probe (ecbs_in account registry s)) row.ecbs.items
+
+pub row_at : (account : Account) (registry : Registry) (s : SetUp) (rows : List Row) (probe : ℕ) (row : Row)
+    → ((probe : ℕ) → IfSome (slice_get rows probe)
+    (λ row. AreEcbs s.clauses (of_probe probe (ecbs_in account registry s)) row.ecbs.items))
+    → probe < length rows → row ≡ get_or rows probe row → RowOf account registry s probe row
+row_at account registry s rows probe row each inside at = record {
+  its = found_at (λ (r : Row). AreEcbs s.clauses (of_probe probe (ecbs_in account registry s)) r.ecbs.items) rows
+      probe row inside at (each probe);
+}
+
+module _ (account : Account) (registry : Registry) (s : SetUp) (probe : ℕ) (row : Row)
+    (r : RowOf account registry s probe row) (clauses : List Clause)
+    (own_clauses : map form_of_clause clauses ≡ s.clauses) where
+  pub row_placed : All (λ ecb. ecb.clause < length clauses) row.ecbs.items
+  row_placed =
+      let long : length s.clauses ≡ length clauses =
+      sym (ap length own_clauses) ∙ length-map clauses form_of_clause in
+      let P : ℕ → Type 0 = λ n. All (λ ecb. ecb.clause < n) row.ecbs.items in
+      subst P long r.its.placed
+
+  pub row_taken : (in_end : Bool) (m : MomentForm)
+      → map (taking_by in_end m (map form_of_clause clauses)) row.ecbs.items
+      ≡ map (taking_of in_end m) (of_probe probe (ecbs_in account registry s))
+  row_taken in_end m =
+      sym (map_twice (form_of_ecb (map form_of_clause clauses)) (taking_of in_end m) row.ecbs.items)
+      ∙ ap (λ cs. map (taking_of in_end m) (map (form_of_ecb cs) row.ecbs.items)) own_clauses
+      ∙ ap (map (taking_of in_end m)) r.its.forms
+
+-- a moment of the consumer's own
+pub record OwnMoment (account : Account) (registry : Registry) (id : ℕ) (P : MomentForm → Type 0) : Type 0 where
+  pub probe : Probe
+  pub is : own_moment account registry id
+      ≡ Some (record { probe = probe; process = own_process account; firing = own_firing id })
+  pub holds : P (record { probe = probe; process = own_process account; firing = own_firing id })
+
+own_of : (account : Account) (registry : Registry) (id : ℕ) (P : MomentForm → Type 0) (o : Option Probe)
+    → probe_of registry id ≡ o
+    → IsSomeAnd (option_and_then
+    (λ (p : Probe). option_map
+    (λ q. record { probe = p; process = q; firing = own_firing id }) (Some (own_process account))) o) P
+    → OwnMoment account registry id P
+own_of account registry id P None e h = absurd h
+own_of account registry id P (Some probe) e h = record {
+  probe = probe;
+  is = ap
+      (λ o. option_and_then
+      (λ (p : Probe). option_map
+      (λ q. record { probe = p; process = q; firing = own_firing id }) (Some (own_process account))) o) e;
+  holds = h;
+}
+
+pub own_found : (account : Account) (registry : Registry) (id : ℕ) (P : MomentForm → Type 0)
+    → IsSomeAnd (own_moment account registry id) P → OwnMoment account registry id P
+own_found account registry id P h = own_of account registry id P (probe_of registry id) refl h
+
+-- END fired on what had been taken
+pub end_fired : (account : Account) (registry : Registry) (s : SetUp) (end : End) (row : Row) (all : List Processor)
+    (clauses : List Clause) → map form_of_clause clauses ≡ s.clauses → RowOf account registry s END row
+    → IsSomeAnd (own_moment account registry END) (λ m.
+    let new = map (taking_by true m (map form_of_clause clauses)) row.ecbs.items in
+    AreTaken (pasts_and (past_in account registry s) (where_taken 0 new))
+    (errors_and (errors_in account registry s) (where_taken 0 new)) all)
+    → AreTaken (past_in account registry (with_event s (ended end)))
+    (errors_in account registry (with_event s (ended end))) all
+end_fired account registry s end row all clauses own_clauses r h =
+    let found = own_found account registry END _ h in
+    grown account registry s (ended end) _ tt found.is all _
+    (row_taken account registry s END row r clauses own_clauses true _)
+    found.holds
+
+-- what is put at an ordinary firing is none of END's
+attempts_first : (m : MomentForm) (es : List EcbForm) (b : Bool)
+    → of_end (attempts_of (through_exit (map (taking_of false m) es))) ≡ []
+    → of_end (attempts_of (cond b [] (through_exit (map (taking_of false m) es)))) ≡ []
+attempts_first m es true e = refl
+attempts_first m es false e = e
+
+none_at : (m : MomentForm) (es : List EcbForm) → of_end (attempts_of (through_exit (map (taking_of false m) es))) ≡ []
+none_at m [] = refl
+none_at m (ecb ∷ es) =
+    ordinary_one (record_of (taking_of false m ecb))
+    (attempts_of (cond (is_some (exit_of (taking_of false m ecb))) [] (through_exit (map (taking_of false m) es))))
+    (attempts_first m es (is_some (exit_of (taking_of false m ecb))) (none_at m es))
+
+none_where : (b : Bool) (xs : List Taking) → of_end (attempts_of xs) ≡ [] → of_end (attempts_of (cond b xs [])) ≡ []
+none_where true xs e = e
+none_where false xs e = refl
+
+pub still_open : (account : Account) (registry : Registry) (s : SetUp) (event : Event) (m : MomentForm)
+    → IsFiring event → moment_at account registry event ≡ Some m → is_end event ≡ false
+    → ((cpu : ℕ) → of_end (past_in account registry s cpu).events ≡ [])
+    → (cpu : ℕ) → of_end (past_in account registry (with_event s event) cpu).events ≡ []
+still_open account registry s event m fires at ordinary none cpu =
+    let es = ecbs_in account registry s in
+    of_end-append (past_in account registry s cpu).events (comes_by account registry es cpu event)
+    ∙ ap (λ xs. xs ++ of_end (comes_by account registry es cpu event)) (none cpu)
+    ∙ ap of_end (comes_firing account registry s cpu event fires)
+    ∙ ap (λ xs. of_end (attempts_of xs)) (on_is account registry s event m fires at cpu)
+    ∙ ap (λ b. of_end (attempts_of (where_taken m.firing.cpu (taken_at b es m) cpu))) ordinary
+    ∙ none_where (m.firing.cpu == cpu) (taken_at false es m) (none_at m (of_probe m.firing.probe es))
+
+-- pasts with nothing of END
+pub all_last : (account : Account) (registry : Registry) (s : SetUp)
+    → ((cpu : ℕ) → of_end (past_in account registry s cpu).events ≡ [])
+    → (cpu : ℕ) → EndLast (past_in account registry s cpu) false
+all_last account registry s none = λ cpu fill e. none cpu
+
+-- the first exit of a row is that of what is taken
+pub exit_is : (account : Account) (registry : Registry) (s : SetUp) (row : Row) (clauses : List Clause)
+    (event : Event) (m : MomentForm) (exit : Option ℤ) → IsFiring event → moment_at account registry event ≡ Some m
+    → is_end event ≡ false
+    → map (taking_by false m (map form_of_clause clauses)) row.ecbs.items
+    ≡ map (taking_of false m) (of_probe m.firing.probe (ecbs_in account registry s))
+    → exit ≡ first_exit (map (taking_by false m (map form_of_clause clauses)) row.ecbs.items)
+    → first_exit (taken_by account registry (ecbs_in account registry s) event) ≡ exit
+exit_is account registry s row clauses event m exit fires at ordinary same e =
+    let es = ecbs_in account registry s in
+    ap first_exit (by_is account registry s event m fires at)
+    ∙ ap (λ b. first_exit (taken_at b es m)) ordinary
+    ∙ first_through (map (taking_of false m) (of_probe m.firing.probe es))
+    ∙ sym (e ∙ ap first_exit same)
+
+-- a firing was taken
+pub record TookAt (account : Account) (registry : Registry) (s : SetUp) (event : Event) (all : List Processor)
+    (exit : Option ℤ) : Type 0 where
+  pub taken : AreTaken (past_in account registry (with_event s event)) (errors_in account registry (with_event s event))
+      all
+  pub exited : first_exit (taken_by account registry (ecbs_in account registry s) event) ≡ exit
+  pub still : (cpu : ℕ) → of_end (past_in account registry (with_event s event) cpu).events ≡ []
+
+pub took_at : (account : Account) (registry : Registry) (s : SetUp) (event : Event) (m : MomentForm) (row : Row)
+    (clauses : List Clause) (old new : List Processor) (exit : Option ℤ)
+    → IsFiring event → moment_at account registry event ≡ Some m → is_end event ≡ false
+    → map form_of_clause clauses ≡ s.clauses → RowOf account registry s m.firing.probe row
+    → ((cpu : ℕ) → of_end (past_in account registry s cpu).events ≡ [])
+    → (All (λ ecb. ecb.clause < length clauses) row.ecbs.items → (pasts : ℕ → Past) (errors : ℕ → ℕ)
+    → ((cpu : ℕ) → EndLast (pasts cpu) false) → AreTaken pasts errors old
+    → (let taken = through_exit (map (taking_by false m (map form_of_clause clauses)) row.ecbs.items) in
+    AreTaken (pasts_and pasts (where_taken m.firing.cpu taken))
+    (errors_and errors (where_taken m.firing.cpu taken)) new))
+    → (All (λ ecb. ecb.clause < length clauses) row.ecbs.items → exit
+    ≡ first_exit (map (taking_by false m (map form_of_clause clauses)) row.ecbs.items))
+    → AreTaken (past_in account registry s) (errors_in account registry s) old
+    → TookAt account registry s event new exit
+took_at account registry s event m row clauses old new exit fires at ordinary own r none took left was =
+    let placed = row_placed account registry s m.firing.probe row r clauses own in
+    let same = row_taken account registry s m.firing.probe row r clauses own false m in
+    let es = ecbs_in account registry s in
+    record {
+      taken = grown account registry s event m fires at new _
+          (ap through_exit same ∙ ap (λ b. taken_at b es m) (sym ordinary))
+          (took placed (past_in account registry s) (errors_in account registry s) (all_last account registry s none)
+          was);
+      exited = exit_is account registry s row clauses event m exit fires at ordinary same (left placed);
+      still = still_open account registry s event m fires at ordinary none;
     }
 
-    -- and so is BEGIN
-    pub grows_begun : s.begun ≡ false → moment_in registry (Some (own_process account)) begin_firing ≡ Some m
-        → Grows account registry s (with_go s) m
-    grows_begun off is = record {
-      same_clauses = refl;
-      more_taken = λ cpu.
-          ap (taken_here account registry own cpu) is ∙ ap (λ b. cond b (taken_until cpu) [] ++ here cpu) (sym off);
-      more_unread = λ cpu.
-          ap (taken_here account registry own cpu) is ∙ ap (λ b. cond b (unread_until cpu) [] ++ here cpu) (sym off);
-    }
+-- the same set-up, written in another way
+pub becomes : (account : Account) (registry : Registry) (s s' : SetUp) (t : Tracing) → s' ≡ s
+    → IsTracing account registry s t → IsTracing account registry s' t
+becomes account registry s s' t e h = subst (λ x. IsTracing account registry x t) (sym e) h
 
-  -- before tracing begins nothing was taken
-  pub taken-none : s.begun ≡ false → (cpu : ℕ) → all_taken account registry s cpu ≡ []
-  taken-none off cpu = ap (λ b. cond b (taken_until cpu) []) off
+-- a reading takes nothing, and is a swap on its processor alone
+read_errors : (account : Account) (registry : Registry) (s : SetUp) (n cpu : ℕ)
+    → errors_in account registry s cpu ≡ errors_in account registry (with_event s (read n)) cpu
+read_errors account registry s n cpu =
+    ap faults (sym (append-nil (taken_since account registry (ecbs_in account registry s) cpu s.since)))
 
-  pub unread-none : s.begun ≡ false → (cpu : ℕ) → unread account registry s cpu ≡ []
-  unread-none off cpu = ap (λ b. cond b (unread_until cpu) []) off
+read_past : (account : Account) (registry : Registry) (s : SetUp) (n cpu : ℕ) (b : Bool) → (n == cpu) ≡ b
+    → followed_by (past_in account registry s cpu) (cond b (swap ∷ []) [])
+    ≡ past_in account registry (with_event s (read n)) cpu
+read_past account registry s n cpu b e =
+    ap (λ x. followed_by (past_in account registry s cpu) (cond x (swap ∷ []) [])) (sym e)
 
-  -- a reading takes nothing, and leaves nothing unread on its processor alone
-  pub taken-read : (n cpu : ℕ)
-      → all_taken account registry (with_event s (read n)) cpu ≡ all_taken account registry s cpu
-  taken-read n cpu = ap (λ xs. cond s.begun xs []) (append-nil (taken_until cpu))
-
-  pub unread-read : s.begun ≡ true → (cpu : ℕ) → unread account registry (with_event s (read cpu)) cpu ≡ []
-  unread-read on cpu =
-      ap (λ b. cond b (cond (cpu == cpu) [] (unread_until cpu)) []) on
-      ∙ ap (λ b. cond b [] (unread_until cpu)) (eq-eqb cpu cpu refl)
-
-  pub unread-elsewhere : (n cpu : ℕ) → n ≢ cpu
-      → unread account registry (with_event s (read n)) cpu ≡ unread account registry s cpu
-  unread-elsewhere n cpu ne = ap (λ b. cond s.begun (cond b [] (unread_until cpu)) []) (ne_eqb n cpu ne)
-
--- the same takings, written in another way
-pub same_taken : (u v a b : List Taking) (o : Option Processor) → u ≡ v → a ≡ b → IfSome o (HasTaken u a)
-    → IfSome o (HasTaken v b)
-same_taken u v a b o e f h =
-    let P : List Taking → Type 0 = λ x. IfSome o (HasTaken x a) in
-    let Q : List Taking → Type 0 = λ y. IfSome o (HasTaken v y) in
-    subst Q f (subst P e h)
+still_with : (b : Bool) (xs : List buffer.Event) → of_end xs ≡ [] → of_end (xs ++ cond b (swap ∷ []) []) ≡ []
+still_with true xs e = of_end-append xs (swap ∷ []) ∙ ap (λ ys. ys ++ []) e
+still_with false xs e = ap of_end (append-nil xs) ∙ e
 
 module _ (account : Account) (registry : Registry) (s : SetUp) (old : Tracing)
-    (t : IsTracing account registry s old) where
-  abbrev processors : List Processor
-  processors = old.processors.items
+    (t : IsTracing account registry s old) (cpu : ℕ) where
+  abbrev after_read : SetUp
+  after_read = with_event s (read cpu)
 
-  module _ (cpu : ℕ) (on : s.begun ≡ true) where
-    abbrev after_read : SetUp
-    after_read = with_event s (read cpu)
+  read_there : (j : ℕ) → j ≢ cpu → IfSome (slice_get old.processors.all.items j)
+      (HasTaken (past_in account registry after_read j) (errors_in account registry after_read j))
+  read_there j ne =
+      if_some_map _ _ (slice_get old.processors.all.items j)
+      (λ p h. same_has _ _ _ _ p
+      (ap
+      (λ es. record {
+        policy = s.options.bufpolicy;
+        size = s.options.bufsize;
+        reserve = reserve_on account registry s j;
+        events = es;
+      })
+      (sym (append-nil (past_in account registry s j).events))
+      ∙ read_past account registry s cpu j false (ne_eqb cpu j (λ e. ne (sym e))))
+      (read_errors account registry s cpu j)
+      h)
+      (t.processors j)
 
-    read_there : (j : ℕ) → j ≢ cpu → IfSome (slice_get processors j)
-        (HasTaken (unread account registry after_read j) (all_taken account registry after_read j))
-    read_there j ne =
-        same_taken _ _ _ _ (slice_get processors j)
-        (sym (unread-elsewhere account registry s cpu j (λ e. ne (sym e))))
-        (sym (taken-read account registry s cpu j)) (t.processors j)
+  pub tracing_read : (p q : Processor) → cpu < length old.processors.all.items
+      → p ≡ get_or old.processors.all.items cpu p
+      → ((past : Past) (errors : ℕ) → HasTaken past errors p → HasTaken (after past swap) errors q)
+      → (new : Tracing) → new.rows ≡ old.rows → new.processors.all ≡ with_item old.processors.all cpu q
+      → new.history ≡ old.history → new.seen ≡ old.seen → new.ended ≡ old.ended
+      → IsTracing account registry after_read new
+  tracing_read p q inside at swapped new rows all history seen' ended' = record {
+    rows = subst
+        (λ (r : Vec Row). (probe : ℕ) → IfSome (slice_get r.items probe)
+        (λ row. AreEcbs s.clauses (of_probe probe (ecbs_in account registry s)) row.ecbs.items))
+        (sym rows) t.rows;
+    all_rows = ap (λ (r : Vec Row). length r.items) rows ∙ t.all_rows;
+    processors = subst
+        (λ (v : Vec Processor). AreTaken (past_in account registry after_read) (errors_in account registry after_read)
+        v.items)
+        (sym all)
+        (replaced (λ j p. HasTaken (past_in account registry after_read j) (errors_in account registry after_read j) p)
+        old.processors.all.items cpu q
+        (same_has _ _ _ _ q (read_past account registry s cpu cpu true (eq-eqb cpu cpu refl))
+        (read_errors account registry s cpu cpu)
+        (swapped _ _ (found_at (HasTaken (past_in account registry s cpu) (errors_in account registry s cpu))
+        old.processors.all.items cpu p inside at (t.processors cpu))))
+        read_there);
+    all_processors = ap (λ (v : Vec Processor). length v.items) all ∙ length-set old.processors.all.items cpu q
+        ∙ t.all_processors;
+    history = history ∙ t.history;
+    seen = seen' ∙ t.seen;
+    standing = t.standing ∙ sym (ap phase_by ended');
+    end_last = λ e j. still_with (cpu == j) (past_in account registry s j).events (t.end_last (sym ended' ∙ e) j);
+  }
 
-    -- the buffer of a processor was read
-    pub tracing_read : (p q : Processor) → cpu < length processors → p ≡ get_or processors cpu p
-        → ((u a : List Taking) → HasTaken u a p → HasTaken [] a q)
-        → IsTracing account registry after_read
-        (record { rows = old.rows; processors = with_item old.processors cpu q })
-    tracing_read p q inside at cleared = record {
-      rows = t.rows;
-      all_rows = t.all_rows;
-      processors =
-          replaced
-          (λ j x. HasTaken (unread account registry after_read j) (all_taken account registry after_read j) x)
-          processors cpu q
-          (subst
-          (λ a. HasTaken (unread account registry after_read cpu) a q)
-          (sym (taken-read account registry s cpu cpu))
-          (subst (λ u. HasTaken u (all_taken account registry s cpu) q) (sym (unread-read account registry s on cpu))
-          (cleared _ _ (found_at _ processors cpu p inside at (t.processors cpu)))))
-          read_there;
-      all_processors = length-set processors cpu q ∙ t.all_processors;
-    }
+  -- there is no such processor
+  pub tracing_read-past : length old.processors.all.items ≤ cpu → IsTracing account registry after_read old
+  tracing_read-past past = record {
+    rows = t.rows;
+    all_rows = t.all_rows;
+    processors = λ j. ⊎_elim
+        (λ e. nothing_past
+        (HasTaken (past_in account registry after_read j) (errors_in account registry after_read j))
+        old.processors.all.items j (omega arith))
+        (read_there j)
+        (cases_eq j cpu);
+    all_processors = t.all_processors;
+    history = t.history;
+    seen = t.seen;
+    standing = t.standing;
+    end_last = λ e j. still_with (cpu == j) (past_in account registry s j).events (t.end_last e j);
+  }
 
-    -- there is no such processor
-    pub tracing_read-past : length processors ≤ cpu
-        → IsTracing account registry after_read (record { rows = old.rows; processors = old.processors })
-    tracing_read-past past = record {
-      rows = t.rows;
-      all_rows = t.all_rows;
-      processors = λ j. ⊎_elim
-          (λ e. nothing_past _ processors j (omega arith))
-          (read_there j)
-          (cases_eq j cpu);
-      all_processors = t.all_processors;
-    }
+reserved : (fill first : Bool) (size reserve : ℕ) → reserve ≡ cond (fill && true) size 0
+    → cond first reserve 0 ≡ cond (fill && first) size 0
+reserved true true size reserve e = e
+reserved true false size reserve e = refl
+reserved false true size reserve e = e
+reserved false false size reserve e = refl
 
-  module _ (next : SetUp) (m : MomentForm) (g : Grows account registry s next m) where
-    abbrev cpu : ℕ
-    cpu = m.firing.cpu
+-- new processors are those of a set-up to which nothing has happened
+pub new_taken : (account : Account) (registry : Registry) (s : SetUp) (options : OptionsForm) (reserve : ℕ)
+    (all : List Processor) → options ≡ s.options → reserve ≡ reserve_on account registry s 0
+    → ((cpu : ℕ) → IfSome (slice_get all cpu)
+    (HasTaken (new_past options.bufpolicy options.bufsize (cond (cpu == 0) reserve 0)) 0))
+    → AreTaken (past_in account registry (since_then s [])) (errors_in account registry (since_then s [])) all
+new_taken account registry s options reserve all same room h = λ cpu.
+    if_some_map _ _ (slice_get all cpu)
+    (λ p. same_has _ _ _ _ p
+    (ap (λ (o : OptionsForm). new_past o.bufpolicy o.bufsize (cond (cpu == 0) reserve 0)) same
+    ∙ ap (new_past s.options.bufpolicy s.options.bufsize)
+    (reserved (is_fill s.options.bufpolicy) (cpu == 0) (end_size account registry s) reserve room))
+    refl)
+    (h cpu)
 
-    abbrev new : List Taking
-    new = taken_at (ecbs_in account registry s) m
+-- the ECBs of a probe are among those that are kept
+picked_all : (b : Bool) (n : ℕ) (ecb : Ecb) (ecbs : List Ecb) → ecb.clause < n
+    → AllByRecursion (λ (e : Ecb). e.clause < n) ecbs
+    → AllByRecursion (λ (e : Ecb). e.clause < n) (cond b (ecb ∷ ecbs) ecbs)
+picked_all true n ecb ecbs h all = (h, all)
+picked_all false n ecb ecbs h all = all
 
-    taken_there : (j : ℕ) → j ≢ cpu → IfSome (slice_get processors j)
-        (HasTaken (unread account registry next j) (all_taken account registry next j))
-    taken_there j ne =
-        let other : (m.firing.cpu == j) ≡ false = ne_eqb m.firing.cpu j (λ e. ne (sym e)) in
-        same_taken _ _ _ _ (slice_get processors j)
-        (sym (g.more_unread j ∙ ap (λ b. unread account registry s j ++ cond b new []) other ∙ append-nil _))
-        (sym (g.more_taken j ∙ ap (λ b. all_taken account registry s j ++ cond b new []) other ∙ append-nil _))
-        (t.processors j)
+filtered_all : (n probe : ℕ) (ecbs : List Ecb) → AllByRecursion (λ (e : Ecb). e.clause < n) ecbs
+    → AllByRecursion (λ (e : Ecb). e.clause < n) (filter (λ (e : Ecb). e.probe == probe) ecbs)
+filtered_all n probe [] h = tt
+filtered_all n probe (ecb ∷ ecbs) h =
+    picked_all (ecb.probe == probe) n ecb (filter (λ (e : Ecb). e.probe == probe) ecbs) h.0
+    (filtered_all n probe ecbs h.1)
 
-    same_rows : (probe : ℕ) → IfSome (slice_get old.rows.items probe)
-        (λ row. AreEcbs next.clauses (of_probe probe (ecbs_in account registry next)) row.items)
-    same_rows =
-        let P : List ClauseForm → Type 0 = λ cs. (probe : ℕ) → IfSome (slice_get old.rows.items probe)
-        (λ row. AreEcbs cs (of_probe probe (ecbs_of account registry cs)) row.items) in
-        subst P (sym g.same_clauses) t.rows
+of_row : (clauses : List ClauseForm) (probe : ℕ) (wanted : List EcbForm) (ecbs : List Ecb)
+    → AreEcbs clauses wanted ecbs
+    → AreEcbs clauses (of_probe probe wanted) (filter (λ (e : Ecb). e.probe == probe) ecbs)
+of_row clauses probe wanted ecbs h = record {
+  forms =
+      sym (filter-map (form_of_ecb clauses) (λ (e : EcbForm). e.probe == probe) ecbs)
+      ∙ ap (of_probe probe) h.forms;
+  placed =
+      All-from_recursion _ (filter (λ (e : Ecb). e.probe == probe) ecbs)
+      (filtered_all (length clauses) probe ecbs (recursion_from_All _ ecbs h.placed));
+}
 
-    module _ (clauses : List Clause) (own_clauses : map form_of_clause clauses ≡ s.clauses) (row : Vec Ecb)
-        (known : m.firing.probe < length old.rows.items) (is : row ≡ get_or old.rows.items m.firing.probe row) where
-      abbrev forms : List ClauseForm
-      forms = map form_of_clause clauses
+pub rows_kept : (account : Account) (registry : Registry) (s : SetUp) (ecbs : List Ecb) (rows : List Row)
+    → AreEcbs s.clauses (ecbs_in account registry s) ecbs
+    → ((probe : ℕ) → IfSome (slice_get rows probe)
+    (λ row. row.ecbs.items ≡ filter (λ ecb. ecb.probe == probe) ecbs))
+    → (probe : ℕ) → IfSome (slice_get rows probe)
+    (λ row. AreEcbs s.clauses (of_probe probe (ecbs_in account registry s)) row.ecbs.items)
+rows_kept account registry s ecbs rows kept each probe =
+    if_some_map _ _ (slice_get rows probe)
+    (λ row is. subst (AreEcbs s.clauses (of_probe probe (ecbs_in account registry s))) (sym is)
+    (of_row s.clauses probe (ecbs_in account registry s) ecbs kept))
+    (each probe)
 
-      its_row : AreEcbs s.clauses (of_probe m.firing.probe (ecbs_in account registry s)) row.items
-      its_row = found_at
-          (λ (r : Vec Ecb). AreEcbs s.clauses (of_probe m.firing.probe (ecbs_in account registry s)) r.items)
-          old.rows.items m.firing.probe row known is (t.rows m.firing.probe)
-
-      row_placed : All (λ ecb. ecb.clause < length clauses) row.items
-      row_placed =
-          let long : length s.clauses ≡ length clauses =
-          sym (ap length own_clauses) ∙ length-map clauses form_of_clause in
-          let P : ℕ → Type 0 = λ n. All (λ ecb. ecb.clause < n) row.items in
-          subst P long its_row.placed
-
-      row_taken : map (taking_by m forms) row.items ≡ new
-      row_taken =
-          sym (map_twice (form_of_ecb forms) (taking_of m) row.items)
-          ∙ ap (λ cs. map (taking_of m) (map (form_of_ecb cs) row.items)) own_clauses
-          ∙ ap (map (taking_of m)) its_row.forms
-
-      -- the ECBs of a moment were taken
-      pub tracing_took : (p q : Processor) → cpu < length processors → p ≡ get_or processors cpu p
-          → (All (λ ecb. ecb.clause < length clauses) row.items → (u a : List Taking) → HasTaken u a p
-          → HasTaken (u ++ map (taking_by m forms) row.items) (a ++ map (taking_by m forms) row.items) q)
-          → IsTracing account registry next (record { rows = old.rows; processors = with_item old.processors cpu q })
-      tracing_took p q inside at took =
-          let one : (m.firing.cpu == m.firing.cpu) ≡ true = eq-eqb m.firing.cpu m.firing.cpu refl in
-          let was = found_at _ processors cpu p inside at (t.processors cpu) in
-          let then' = took row_placed (unread account registry s cpu) (all_taken account registry s cpu) was in
-          record {
-            rows = same_rows;
-            all_rows = t.all_rows;
-            processors =
-                replaced (λ j x. HasTaken (unread account registry next j) (all_taken account registry next j) x)
-                processors cpu q
-                (same_taken _ _ _ _ (Some q)
-                (ap (λ xs. unread account registry s cpu ++ xs) row_taken
-                ∙ sym (g.more_unread cpu ∙ ap (λ b. unread account registry s cpu ++ cond b new []) one))
-                (ap (λ xs. all_taken account registry s cpu ++ xs) row_taken
-                ∙ sym (g.more_taken cpu ∙ ap (λ b. all_taken account registry s cpu ++ cond b new []) one))
-                then')
-                taken_there;
-            all_processors = length-set processors cpu q ∙ t.all_processors;
-          }
-
-    -- there is no such processor
-    pub tracing_took-past : length processors ≤ cpu
-        → IsTracing account registry next (record { rows = old.rows; processors = old.processors })
-    tracing_took-past past = record {
-      rows = same_rows;
-      all_rows = t.all_rows;
-      processors = λ j. ⊎_elim
-          (λ e. nothing_past _ processors j (omega arith))
-          (taken_there j)
-          (cases_eq j cpu);
-      all_processors = t.all_processors;
-    }
+pub two_there : {X : Type 0} (P : X → Type 0) (xs : List X) → IsSomeAnd (slice_get xs 1) P → 1 < length xs
+two_there P [] h = absurd h
+two_there P (x ∷ []) h = absurd h
+two_there P (x ∷ (y ∷ xs)) h = omega arith

@@ -6,8 +6,9 @@ use Rattle.dt_lang.proofs.SomeDescription.{some_description}
 use Rattle.dt_lang.specs.Reads.{Reading, Reads}
 use Rattle.dt_lang.proofs.SomeReading.{some_reading}
 use Rattle.dt_consumer.specs.declared.command.Command.{Command}
-use Rattle.dt_consumer.specs.declared.command.Command.TheVariants.{Enable, Go, Snap, Status, List as ListOf, Describe}
+use Rattle.dt_consumer.specs.declared.command.Command.TheVariants.{Option as SetOption, Enable, Go, Stop, Snap, Status, List as ListOf, Describe}
 use Rattle.dt_consumer.specs.declared.refusal.Refusal.{Refusal}
+use Rattle.dt_consumer.specs.Options.{Setting, setting_of}
 
 -- The reading of a text as a program: that it has one is a law, and which one is the law's witness.
 pub reading_of : List ℕ → Reading
@@ -25,10 +26,12 @@ pub is_described : (text : List ℕ) → ReadsDescription text (description_of t
 unfolding description_of
 is_described text = (some_description text).1
 
--- a command, with the reading of its program or its description
+-- a command, with what it sets, or with the reading of its program or its description
 pub data Ask : Type 0 where
+  option : Option Setting → Ask
   enable : Reading → Ask
   go : Ask
+  stop : Ask
   snap : (cpu : ℕ) → Ask
   status : Ask
   list : Option DescForm → Ask
@@ -36,8 +39,10 @@ pub data Ask : Type 0 where
 
 -- what a command asks for
 abbrev pub ask_of : Command → Ask
+ask_of (SetOption name value) = option (setting_of (string_bytes name) value)
 ask_of (Enable text) = enable (reading_of (string_bytes text))
 ask_of Go = go
+ask_of Stop = stop
 ask_of (Snap cpu) = snap cpu
 ask_of Status = status
 ask_of (ListOf probe) = list (description_of (string_bytes probe))

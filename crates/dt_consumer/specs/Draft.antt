@@ -1,5 +1,5 @@
 -- What a draft says of the change that a line will make.
-use Rattle.std.specs.Prelude.{◌≡◌, ◌<◌, true, false, List, ◌∷◌, ◌++◌, Result, Ok, map, if◌then◌else◌}
+use Rattle.std.specs.Prelude.{◌≡◌, ◌<◌, true, false, List, [], ◌∷◌, ◌++◌, Result, Ok, map, if◌then◌else◌}
 use Rattle.dt_cred.specs.declared.account.Account.{Account}
 use Rattle.dt_machine.specs.Registry.{Registry}
 use Rattle.dt_lang.specs.Program.{form_of_clause}
@@ -9,14 +9,15 @@ use Rattle.dt_ecb.specs.Enable.{is_enabled}
 use Rattle.dt_ecb.specs.Forms.{shapes_of}
 use Rattle.dt_ecb.specs.Shapes.{uses_of}
 use Rattle.dt_consumer.specs.Answer.{answer_of}
-use Rattle.dt_consumer.specs.Ask.{Ask, enable, go, snap}
-use Rattle.dt_consumer.specs.Keeps.{AreEcbs, IsTracing}
-use Rattle.dt_consumer.specs.Life.{Item, asked, SetUp, is_over, set_up, next_epid, phase}
+use Rattle.dt_consumer.specs.Ask.{Ask, enable, go, stop, snap}
+use Rattle.dt_consumer.specs.Keeps.{AreEcbs, IsTracing, form_of_options}
+use Rattle.dt_consumer.specs.Life.{Item, asked, SetUp, is_over, set_up, since_then, happens, is_readable, next_epid, phase, has_room, with_options}
 use Rattle.dt_consumer.specs.Reply.{Replies}
+use Rattle.dt_consumer.specs.Takings.{began}
 use Rattle.dt_consumer.specs.declared.draft.Change.{Change}
-use Rattle.dt_consumer.specs.declared.draft.Change.TheVariants.{Nothing, Enable, Go, Snap, Refuse}
+use Rattle.dt_consumer.specs.declared.draft.Change.TheVariants.{Nothing, Set, Enable, Go, Stop, Snap, Refuse}
 use Rattle.dt_consumer.specs.declared.draft.Draft.{Draft}
-use Rattle.dt_consumer.specs.declared.phase.Phase.TheVariants.{Inactive}
+use Rattle.dt_consumer.specs.declared.phase.Phase.TheVariants.{Inactive, Active}
 use Rattle.dt_consumer.specs.declared.refusal.Refusal.{Refusal}
 
 -- a life after a line: one over the quota is no part of it
@@ -26,27 +27,36 @@ after_line life line = if is_over life then life else asked line ∷ life
 module _ (account : Account) (registry : Registry) (life : List Item) where
   -- The line is a `go` that is accepted: tracing begins after it.
   abbrev pub IsAcceptedGo : Result Ask Refusal → Type 0
-  IsAcceptedGo line = (is_over life ≡ false) × (phase account registry life ≡ Inactive) × (line ≡ Ok go)
+  IsAcceptedGo line =
+      (is_over life ≡ false) × (phase account registry life ≡ Inactive)
+      × (has_room account registry (set_up account registry life) ≡ true) × (line ≡ Ok go)
 
   abbrev now : SetUp
   now = set_up account registry life
 
+  abbrev after : Result Ask Refusal → SetUp
+  after line = set_up account registry (asked line ∷ life)
+
   -- The change is the one that the line makes.
   abbrev pub Drafted : Result Ask Refusal → Change → Type 0
   Drafted line Refuse = is_over life ≡ true
-  Drafted line Nothing = (is_over life ≡ false) × (set_up account registry (asked line ∷ life) ≡ now)
+  Drafted line Nothing = (is_over life ≡ false) × (after line ≡ now)
+  Drafted line (Set options) =
+      (is_over life ≡ false) × (phase account registry life ≡ Inactive)
+      × (after line ≡ with_options now (form_of_options options))
   Drafted line (Enable clauses new shapes) =
       let forms = map form_of_clause clauses.items in
       let epid = next_epid account registry now in
-      (is_over life ≡ false) × (now.begun ≡ false) × (line ≡ Ok (enable (program forms)))
+      (is_over life ≡ false) × (phase account registry life ≡ Inactive) × (line ≡ Ok (enable (program forms)))
       × (is_enabled account registry now.shapes epid forms ≡ true)
       × AreEcbs (now.clauses ++ forms) (added account registry epid forms) new.items
       × (shapes_of shapes ≡ now.shapes ++ uses_of forms)
   Drafted line (Go tracing) =
-      (is_over life ≡ false) × (now.begun ≡ false) × (line ≡ Ok go)
-      × IsTracing account registry (set_up account registry (asked line ∷ life)) tracing
+      IsAcceptedGo line × IsTracing account registry (happens account registry (since_then now []) began) tracing
+  Drafted line Stop = (is_over life ≡ false) × (phase account registry life ≡ Active) × (line ≡ Ok stop)
   Drafted line (Snap cpu) =
-      (is_over life ≡ false) × (now.begun ≡ true) × (line ≡ Ok (snap cpu)) × (cpu < registry.cpus)
+      (is_over life ≡ false) × (is_readable now (phase account registry life) ≡ true) × (line ≡ Ok (snap cpu))
+      × (cpu < registry.cpus)
 
   -- A draft of a line: its reply is the definition's, and its change is the one that the line makes.
   pub record IsDraftOf (line : Result Ask Refusal) (draft : Draft) : Type 0 where

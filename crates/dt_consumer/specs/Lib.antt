@@ -1,12 +1,13 @@
 -- The definitions of the crate, lowest first.
+pub mod Options
 pub mod Ask
 pub mod Refusal
 pub mod Answer
-pub mod Life
 pub mod Takings
-pub mod Kept
+pub mod Life
 pub mod Buffers
 pub mod Reply
+pub mod Counts
 pub mod Keeps
 pub mod StandsFor
 pub mod Draft

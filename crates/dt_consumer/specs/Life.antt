@@ -1,17 +1,23 @@
--- A consumer's life, and the set-up that its own lines have made of it.
-use Rattle.std.specs.Prelude.{ℕ, ◌+◌, ◌&&◌, Bool, true, false, not, List, [], ◌∷◌, ◌++◌, Result, Ok, length, nat_lt, nat_le, filter, if◌then◌else◌}
+-- A consumer's life, and the set-up that its own lines and the firings that it saw have made of it.
+use Rattle.std.specs.Prelude.{ℕ, ◌+◌, ◌==◌, ◌&&◌, ◌||◌, Bool, true, false, not, List, [], ◌∷◌, ◌++◌, Option, Some, None, Result, Ok, length, map, sum, nat_lt, nat_le, filter, if◌then◌else◌}
+use Rattle.std.specs.Option.{option_map, option_map_or, option_or}
 use Rattle.dt_cred.specs.declared.account.Account.{Account}
 use Rattle.dt_machine.specs.Registry.{Registry}
 use Rattle.dt_machine.specs.declared.firing.Firing.{Firing}
 use Rattle.dt_lang.specs.Program.{ClauseForm}
 use Rattle.dt_lang.specs.Reads.{program}
-use Rattle.dt_ecb.specs.Ecbs.{EcbForm, ecbs_of}
+use Rattle.dt_record.specs.Layout.{layout_of, size_of}
+use Rattle.dt_ecb.specs.Ecbs.{EcbForm, ecbs_of, of_probe}
 use Rattle.dt_ecb.specs.Enable.{is_enabled}
 use Rattle.dt_ecb.specs.Shapes.{ShapeForm, uses_of}
-use Rattle.dt_consumer.specs.Ask.{Ask, enable, go, snap}
-use Rattle.dt_consumer.specs.declared.limits.TheConstants.{LINES_MAX}
+use Rattle.dt_consumer.specs.Ask.{Ask, option, enable, go, stop, snap}
+use Rattle.dt_consumer.specs.Options.{OptionsForm, default_options, with_setting, is_fill, is_ring}
+use Rattle.dt_consumer.specs.Takings.{Event, began, seen, read, ended, first_exit, taken_by}
+use Rattle.dt_consumer.specs.declared.limits.TheConstants.{LINES_MAX, END}
+use Rattle.dt_consumer.specs.declared.phase.End.{End}
+use Rattle.dt_consumer.specs.declared.phase.End.TheVariants.{Stop, Exit, History}
 use Rattle.dt_consumer.specs.declared.phase.Phase.{Phase}
-use Rattle.dt_consumer.specs.declared.phase.Phase.TheVariants.{Inactive, Active}
+use Rattle.dt_consumer.specs.declared.phase.Phase.TheVariants.{Inactive, Active, Stopped}
 use Rattle.dt_consumer.specs.declared.refusal.Refusal.{Refusal}
 
 -- What reaches a consumer: an own line, which is a command or its refusal, or a firing.
@@ -26,17 +32,9 @@ abbrev pub is_line : Item → Bool
 is_line (asked line) = true
 is_line (fired firing) = false
 
-abbrev pub is_fired : Item → Bool
-is_fired (asked line) = false
-is_fired (fired firing) = true
-
 -- how many lines were asked
 abbrev pub lines : List Item → ℕ
 lines life = length (filter is_line life)
-
--- how many firings were seen
-abbrev pub firings : List Item → ℕ
-firings life = length (filter is_fired life)
 
 -- The quota of lines is used up.
 abbrev pub is_over : List Item → Bool
@@ -46,36 +44,67 @@ abbrev pub is_inactive : Phase → Bool
 is_inactive Inactive = true
 is_inactive _ = false
 
--- what happens while a consumer traces: a firing is seen, or the buffer of a processor is read
-pub data Event : Type 0 where
-  seen : Firing → Event
-  read : (cpu : ℕ) → Event
+abbrev pub is_active : Phase → Bool
+is_active Active = true
+is_active _ = false
 
--- What a consumer's own lines and the firings that it saw have made of it: the clauses of its accepted programs, in
--- order of acceptance, and the aggregations that they use; whether tracing began, and what happened since then, the
--- newest first.
+-- What a life has made of a consumer: its options; the clauses of its accepted programs, in order of acceptance, and
+-- the aggregations that they use; and what happened from its accepted `go` on, the newest first.
 pub record SetUp : Type 0 where
+  pub options : OptionsForm
   pub clauses : List ClauseForm
   pub shapes : List ShapeForm
-  pub begun : Bool
   pub since : List Event
 
 abbrev pub nothing_yet : SetUp
-nothing_yet = record { clauses = []; shapes = []; begun = false; since = [] }
+nothing_yet = record { options = default_options; clauses = []; shapes = []; since = [] }
 
-abbrev pub with_program : SetUp → List ClauseForm → SetUp
-with_program s clauses = record {
-  clauses = s.clauses ++ clauses;
-  shapes = s.shapes ++ uses_of clauses;
-  begun = s.begun;
+abbrev pub with_options : SetUp → OptionsForm → SetUp
+with_options s options = record {
+  options = options;
+  clauses = s.clauses;
+  shapes = s.shapes;
   since = s.since;
 }
 
-abbrev pub with_go : SetUp → SetUp
-with_go s = record { clauses = s.clauses; shapes = s.shapes; begun = true; since = [] }
+abbrev pub with_program : SetUp → List ClauseForm → SetUp
+with_program s clauses = record {
+  options = s.options;
+  clauses = s.clauses ++ clauses;
+  shapes = s.shapes ++ uses_of clauses;
+  since = s.since;
+}
+
+abbrev pub since_then : SetUp → List Event → SetUp
+since_then s events = record { options = s.options; clauses = s.clauses; shapes = s.shapes; since = events }
 
 abbrev pub with_event : SetUp → Event → SetUp
-with_event s event = record { clauses = s.clauses; shapes = s.shapes; begun = s.begun; since = event ∷ s.since }
+with_event s event = since_then s (event ∷ s.since)
+
+-- Tracing begins as BEGIN fires, and ends, for good, as END fires.
+abbrev pub phase_after : List Event → Phase
+phase_after [] = Inactive
+phase_after (began ∷ events) = Active
+phase_after (seen firing ∷ events) = Active
+phase_after (read cpu ∷ events) = phase_after events
+phase_after (ended end ∷ events) = Stopped end
+
+abbrev pub phase_of : SetUp → Phase
+phase_of s = phase_after s.since
+
+-- how many firings were seen
+abbrev pub seen_in : List Event → ℕ
+seen_in [] = 0
+seen_in (seen firing ∷ events) = seen_in events + 1
+seen_in (began ∷ events) = seen_in events
+seen_in (read cpu ∷ events) = seen_in events
+seen_in (ended end ∷ events) = seen_in events
+
+-- A processor's buffer can be read from `go` on, under ring only after tracing ended.
+abbrev pub is_readable : SetUp → Phase → Bool
+is_readable s Inactive = false
+is_readable s Active = not (is_ring s.options.bufpolicy)
+is_readable s (Stopped end) = true
 
 module _ (account : Account) (registry : Registry) where
   -- a consumer's ECBs, and the EPID of its next one
@@ -87,25 +116,46 @@ module _ (account : Account) (registry : Registry) where
 
   -- A program is accepted before tracing begins, where it is enabled after those accepted before it.
   abbrev pub accepts : SetUp → List ClauseForm → Bool
-  accepts s clauses = not s.begun && is_enabled account registry s.shapes (next_epid s) clauses
+  accepts s clauses = is_inactive (phase_of s) && is_enabled account registry s.shapes (next_epid s) clauses
 
-  -- The first `go` begins tracing. Only what has an effect stands among the events: a reading of a processor that is
-  -- there, once tracing began, and a firing.
+  -- the bytes of one record of each of END's ECBs
+  abbrev pub end_size : SetUp → ℕ
+  end_size s = sum (map (λ (ecb : EcbForm). size_of (layout_of ecb.clause)) (of_probe END (ecbs_in s)))
+
+  -- Under fill, processor 0 keeps room for END's records, and there must be room for them.
+  abbrev pub has_room : SetUp → Bool
+  has_room s = not (is_fill s.options.bufpolicy) || nat_le (end_size s) s.options.bufsize
+
+  -- Why tracing ends by an event: an exit is taken, or the firing is the last of the history.
+  abbrev pub end_by : SetUp → Event → Option End
+  end_by s event = option_or
+      (option_map Exit (first_exit (taken_by account registry (ecbs_in s) event)))
+      (if seen_in s.since == s.options.histsize then Some History else None)
+
+  -- Something happens, and where tracing ends by it, END fires in the same step.
+  abbrev pub happens : SetUp → Event → SetUp
+  happens s event = option_map_or
+      (λ end. with_event (with_event s event) (ended end)) (end_by (with_event s event) event) (with_event s event)
+
+  -- Only what has an effect changes the set-up: options and programs before tracing begins, the first `go`, and then
+  -- readings that are answered, firings, and one `stop`.
   abbrev pub after_item : SetUp → Item → SetUp
+  after_item s (asked (Ok (option (Some setting)))) =
+      if is_inactive (phase_of s) then with_options s (with_setting s.options setting) else s
   after_item s (asked (Ok (enable (program clauses)))) = if accepts s clauses then with_program s clauses else s
-  after_item s (asked (Ok go)) = if s.begun then s else with_go s
-  after_item s (asked (Ok (snap cpu))) = if s.begun && nat_lt cpu registry.cpus then with_event s (read cpu) else s
-  after_item s (fired firing) = with_event s (seen firing)
+  after_item s (asked (Ok go)) =
+      if is_inactive (phase_of s) && has_room s then happens (since_then s []) began else s
+  after_item s (asked (Ok stop)) = if is_active (phase_of s) then with_event s (ended Stop) else s
+  after_item s (asked (Ok (snap cpu))) =
+      if nat_lt cpu registry.cpus && is_readable s (phase_of s) then with_event s (read cpu) else s
+  after_item s (fired firing) = if is_active (phase_of s) then happens s (seen firing) else s
   after_item s _ = s
 
   abbrev pub set_up : List Item → SetUp
   set_up [] = nothing_yet
   set_up (item ∷ life) = after_item (set_up life) item
 
-  -- Tracing begins with the accepted `go`.
-  abbrev pub phase_of : SetUp → Phase
-  phase_of s = if s.begun then Active else Inactive
-
+  -- How far a consumer has come: active from its accepted `go` on, until it ends.
   abbrev pub phase : List Item → Phase
   phase life = phase_of (set_up life)
 

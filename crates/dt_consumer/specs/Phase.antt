@@ -1,5 +1,7 @@
--- How a phase is written.
+-- How a phase and a cause are written.
 use Rattle.std.specs.Prelude.{ℕ, List, codes}
+use Rattle.dt_consumer.specs.declared.phase.End.{End}
+use Rattle.dt_consumer.specs.declared.phase.End.TheVariants.{Stop, Exit, History}
 use Rattle.dt_consumer.specs.declared.phase.Phase.{Phase}
 use Rattle.dt_consumer.specs.declared.phase.Phase.TheVariants.{Inactive, Active, Stopped}
 
@@ -7,4 +9,10 @@ use Rattle.dt_consumer.specs.declared.phase.Phase.TheVariants.{Inactive, Active,
 abbrev pub phase_word : Phase → List ℕ
 phase_word Inactive = codes "inactive"
 phase_word Active = codes "active"
-phase_word Stopped = codes "stopped"
+phase_word (Stopped end) = codes "stopped"
+
+-- the word for why tracing ended
+abbrev pub cause_word : End → List ℕ
+cause_word Stop = codes "stop"
+cause_word (Exit status) = codes "exit"
+cause_word History = codes "history"

@@ -1,7 +1,8 @@
 -- What a consumer answers to a line, given its life before it.
-use Rattle.std.specs.Prelude.{◌≡◌, ℕ, ◌==◌, Bool, false, not, List, Option, Some, None, Result, Ok, Err, length, map, find, nat_le, option_and_then, MatchOption, MatchBool, if◌then◌else◌}
+use Rattle.std.specs.Prelude.{◌≡◌, ℕ, ◌==◌, Bool, not, List, Option, Some, None, Result, Ok, Err, length, map, find, nat_le, option_and_then, MatchOption, MatchBool, if◌then◌else◌}
 use Rattle.std.specs.List.{range_with_len}
 use Rattle.std.specs.Option.{option_map, option_map_or}
+use Rattle.dt_buffer.specs.Shows.{Shows}
 use Rattle.dt_cred.specs.declared.account.Account.{Account}
 use Rattle.dt_cred.specs.declared.probe.Probe.{Probe as AProbe}
 use Rattle.dt_machine.specs.Registry.{Registry, probe_of}
@@ -15,13 +16,12 @@ use Rattle.dt_ecb.specs.Matching as matching
 use Rattle.dt_ecb.specs.declared.fault.RestrictedAction.TheVariants.{Stack}
 use Rattle.dt_consumer.specs.Answer as answers
 use Rattle.dt_consumer.specs.Answer.{Answer, done, enabled, snapped, listed, described, refused}
-use Rattle.dt_consumer.specs.Ask.{Ask, enable, go, snap, status, list, describe}
-use Rattle.dt_consumer.specs.Kept.{Shows}
-use Rattle.dt_consumer.specs.Life.{Item, SetUp, firings, is_over, set_up, next_epid, phase, is_inactive, ecbs}
-use Rattle.dt_consumer.specs.Takings.{attempts, errors}
-use Rattle.dt_consumer.specs.declared.limits.TheConstants.{BUFFER_SIZE}
+use Rattle.dt_consumer.specs.Ask.{Ask, option, enable, go, stop, snap, status, list, describe}
+use Rattle.dt_consumer.specs.Buffers.{errors, past}
+use Rattle.dt_consumer.specs.Life.{Item, SetUp, seen_in, is_over, set_up, next_epid, phase, is_active, is_inactive, is_readable, has_room, ecbs}
 use Rattle.dt_consumer.specs.declared.refusal.Refusal.{Refusal}
 use Rattle.dt_consumer.specs.declared.refusal.Refusal.TheVariants.{Program, NoMatch, Privilege, Destructive, AggClash, Limit, Busy, NoCpu, NoEpid, Quota}
+use Rattle.dt_consumer.specs.declared.refusal.Refusal.TheVariants as refusal
 
 -- for what a program is refused, if it is
 abbrev pub refusal_of : Verdict → Option Refusal
@@ -39,6 +39,10 @@ module _ (account : Account) (registry : Registry) (life : List Item) where
   abbrev pub is_asked_late : Bool
   is_asked_late = not (is_inactive (phase account registry life))
 
+  -- how many firings were seen
+  abbrev pub seen_firings : ℕ
+  seen_firings = seen_in now.since
+
   -- a processor's errors, one number for each
   abbrev pub all_errors : List ℕ
   all_errors = map (errors account registry life) (range_with_len 0 registry.cpus)
@@ -51,6 +55,8 @@ module _ (account : Account) (registry : Registry) (life : List Item) where
 
   -- What becomes of a command: it is accepted (None), or refused, for the first cause in this order.
   abbrev pub IsVerdictOnCommand : Ask → Option Refusal → Type 0
+  IsVerdictOnCommand (option setting) verdict =
+      verdict ≡ (if is_asked_late then Some Busy else option_map_or (λ _. None) setting (Some refusal.Option))
   IsVerdictOnCommand (enable (program clauses)) verdict =
       MatchBool is_asked_late (verdict ≡ Some Busy)
       ((v : Verdict) × IsVerdict account registry now.shapes (next_epid account registry now) clauses v
@@ -59,9 +65,12 @@ module _ (account : Account) (registry : Registry) (life : List Item) where
       verdict ≡ (if is_asked_late then Some Busy else Some (Program at why))
   IsVerdictOnCommand (enable (destructive at what)) verdict =
       verdict ≡ (if is_asked_late then Some Busy else Some (Destructive at what))
-  IsVerdictOnCommand go verdict = verdict ≡ (if is_asked_late then Some Busy else None)
+  IsVerdictOnCommand go verdict =
+      verdict ≡ (if is_asked_late then Some Busy else (if has_room account registry now then None else Some Limit))
+  IsVerdictOnCommand stop verdict = verdict ≡ (if is_active (phase account registry life) then None else Some Busy)
   IsVerdictOnCommand (snap cpu) verdict =
-      verdict ≡ (if nat_le registry.cpus cpu then Some NoCpu else (if is_asked_late then None else Some Busy))
+      verdict ≡ (if nat_le registry.cpus cpu then Some NoCpu else
+      (if is_readable now (phase account registry life) then None else Some Busy))
   IsVerdictOnCommand status verdict = verdict ≡ None
   IsVerdictOnCommand (list None) verdict = verdict ≡ Some (Program 0 Probe)
   IsVerdictOnCommand (list (Some desc)) verdict = verdict ≡ None
@@ -69,16 +78,18 @@ module _ (account : Account) (registry : Registry) (life : List Item) where
 
   -- the answer to an accepted command
   abbrev pub Accepted : Ask → Answer → Type 0
+  Accepted (option setting) answer = answer ≡ done
   Accepted (enable (program clauses)) answer =
       answer ≡ enabled (length (added account registry (next_epid account registry now) clauses))
       (next_epid account registry now)
   Accepted (enable (fault at why)) answer = ⊥
   Accepted (enable (destructive at what)) answer = ⊥
   Accepted go answer = answer ≡ done
+  Accepted stop answer = answer ≡ done
   Accepted (snap cpu) answer =
-      (bytes : List ℕ) × (drops : ℕ) × Shows BUFFER_SIZE (attempts account registry life cpu) bytes drops
-      × (answer ≡ snapped cpu bytes drops false)
-  Accepted status answer = answer ≡ answers.status (phase account registry life) (firings life) all_errors
+      (bytes : List ℕ) × (drops : ℕ) × (filled : Bool) × Shows (past account registry life cpu) bytes drops filled
+      × (answer ≡ snapped cpu bytes drops filled)
+  Accepted status answer = answer ≡ answers.status (phase account registry life) seen_firings all_errors
   Accepted (list None) answer = ⊥
   Accepted (list (Some desc)) answer = answer ≡ listed (matching.listed account registry desc)
   Accepted (describe epid) answer = MatchOption (ecb_of epid) ⊥

@@ -1,21 +1,12 @@
 -- Which firings a consumer sees.
-use Rattle.std.specs.Prelude.{◌≡◌, ◌≢◌, List, [], Some, IsTrue}
-use Rattle.dt_cred.specs.Rights as rights
+use Rattle.std.specs.Prelude.{◌≡◌, ◌≢◌, List, []}
 use Rattle.dt_cred.specs.declared.account.Account.{Account}
-use Rattle.dt_cred.specs.declared.account.Process.{Process}
-use Rattle.dt_cred.specs.declared.probe.Probe.{Probe}
-use Rattle.dt_machine.specs.Registry.{Registry, Belongs, probe_of, process_of}
+use Rattle.dt_machine.specs.Registry.{Registry, Belongs}
+use Rattle.dt_machine.specs.Shown.{IsShown}
 use Rattle.dt_machine.specs.declared.firing.Firing.{Firing}
 use Rattle.dt_ecb.specs.Ecbs.{of_probe}
 use Rattle.dt_consumer.specs.Life.{Item, phase, ecbs}
 use Rattle.dt_consumer.specs.declared.phase.Phase.TheVariants.{Active}
-
--- The account is shown the firing: its class of probe in that mode and that process.
-abbrev pub IsShown : Account → Registry → Firing → Type 0
-IsShown account registry firing =
-    (probe : Probe) (process : Process)
-    → probe_of registry firing.probe ≡ Some probe → process_of registry firing.pid ≡ Some process
-    → IsTrue (rights.admits account probe.class firing.mode process)
 
 -- A consumer sees a firing where it is active, the firing belongs to the machine, one of its ECBs names the probe,
 -- and its account is shown it.

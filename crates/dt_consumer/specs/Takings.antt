@@ -1,7 +1,7 @@
--- What a consumer takes: its ECBs, one after another, where a probe fires. Guide, Program Structure.
-use Rattle.std.specs.Prelude.{ℕ, pos, ◌==◌, Bool, false, List, [], ◌∷◌, ◌++◌, Option, Some, length, map, filter, replicate, is_none, option_and_then, if◌then◌else◌}
-use Rattle.std.specs.List.{flat_map}
-use Rattle.std.specs.Option.{option_map, option_map_or, option_to_list}
+-- What a consumer takes: its ECBs, one after another, where a probe fires. Guide, Program Structure; Actions and
+-- Subroutines (exit).
+use Rattle.std.specs.Prelude.{ℕ, ℤ, pos, ◌==◌, Bool, true, false, List, [], ◌∷◌, ◌++◌, Option, Some, None, length, map, filter, replicate, is_none, is_some, option_and_then, if◌then◌else◌}
+use Rattle.std.specs.Option.{option_map, option_map_or, option_or}
 use Rattle.dt_cred.specs.declared.account.Account.{Account}
 use Rattle.dt_cred.specs.declared.account.Process.{Process}
 use Rattle.dt_cred.specs.declared.probe.Probe.{Probe}
@@ -12,8 +12,20 @@ use Rattle.dt_machine.specs.declared.limits.TheConstants.{ARGS, FRAMES}
 use Rattle.dt_expr.specs.Scene.{SceneForm}
 use Rattle.dt_ecb.specs.Ecbs.{EcbForm, of_probe}
 use Rattle.dt_record.specs.Taking.{TakenForm, taking}
-use Rattle.dt_consumer.specs.Life.{Item, Event, seen, read, SetUp, ecbs_in, set_up}
-use Rattle.dt_consumer.specs.declared.limits.TheConstants.{BEGIN}
+use Rattle.dt_consumer.specs.declared.limits.TheConstants.{BEGIN, END}
+use Rattle.dt_consumer.specs.declared.phase.End.{End}
+
+-- what happens from the accepted `go` on: tracing begins, a firing is seen, the buffer of a processor is read, and
+-- tracing ends
+pub data Event : Type 0 where
+  began : Event
+  seen : Firing → Event
+  read : (cpu : ℕ) → Event
+  ended : End → Event
+
+abbrev pub is_end : Event → Bool
+is_end (ended end) = true
+is_end _ = false
 
 -- a probe that fires in a process
 pub record MomentForm : Type 0 where
@@ -33,17 +45,46 @@ abbrev pub scene_at : MomentForm → ℕ → SceneForm
 scene_at moment epid =
     record { epid = epid; probe = moment.probe; process = moment.process; firing = moment.firing }
 
-abbrev pub taking_of : MomentForm → EcbForm → Taking
-taking_of moment ecb = record {
+abbrev pub taking_of : Bool → MomentForm → EcbForm → Taking
+taking_of in_end moment ecb = record {
   scene = scene_at moment ecb.epid;
   ecb = ecb;
   came = taking ecb.epid (scene_at moment ecb.epid) ecb.clause;
-  in_end = false;
+  in_end = in_end;
 }
 
--- the ECBs of the probe that fires, in order of EPID
-abbrev pub taken_at : List EcbForm → MomentForm → List Taking
-taken_at ecbs moment = map (taking_of moment) (of_probe moment.firing.probe ecbs)
+-- what a taking left, where it left something
+abbrev pub left_by : Taking → Option TakenForm
+left_by t = option_and_then (λ left. left) t.came
+
+-- the bytes of the record that it attempts to put into its processor's buffer, where it attempts one
+abbrev pub record_of : Taking → Option (List ℕ)
+record_of t = option_and_then (λ (form : TakenForm). form.record_bytes) (left_by t)
+
+-- the status that it exits with, where it exits
+abbrev pub exit_of : Taking → Option ℤ
+exit_of t = option_and_then (λ (form : TakenForm). form.exit) (left_by t)
+
+-- the status of the first exit
+abbrev pub first_exit : List Taking → Option ℤ
+first_exit [] = None
+first_exit (t ∷ later) = option_or (exit_of t) (first_exit later)
+
+-- the takings up to and including the first that exits
+abbrev pub through_exit : List Taking → List Taking
+through_exit [] = []
+through_exit (t ∷ later) = t ∷ (if is_some (exit_of t) then [] else through_exit later)
+
+-- how many takings a division by zero ended
+abbrev pub faults : List Taking → ℕ
+faults takings = length (filter (λ t. is_none t.came) takings)
+
+-- The ECBs of the probe that fires, in order of EPID. After an exit the later ones aren't taken; in END an exit is
+-- passed over.
+abbrev pub taken_at : Bool → List EcbForm → MomentForm → List Taking
+taken_at in_end ecbs moment =
+    let all = map (taking_of in_end moment) (of_probe moment.firing.probe ecbs) in
+    if in_end then all else through_exit all
 
 -- a firing, with the probe and the process of the machine that it names
 abbrev pub moment_in : Registry → Option Process → Firing → Option MomentForm
@@ -54,12 +95,13 @@ moment_in registry process firing = option_and_then
 abbrev pub moment_of : Registry → Firing → Option MomentForm
 moment_of registry firing = moment_in registry (process_of registry firing.pid) firing
 
--- BEGIN fires on processor 0, in a process of the consumer's own: of number 0, with the account's uid and no name.
-abbrev pub begin_firing : Firing
-begin_firing = record {
+-- BEGIN and END fire on processor 0, in a process of the consumer's own: of number 0, with the account's uid and no
+-- name.
+abbrev pub own_firing : ℕ → Firing
+own_firing probe = record {
   cpu = 0;
   place = 0;
-  probe = BEGIN;
+  probe = probe;
   pid = 0;
   tid = 0;
   mode = User;
@@ -72,62 +114,28 @@ begin_firing = record {
 abbrev pub own_process : Account → Process
 own_process account = record { pid = 0; uid = account.uid; execname = [] }
 
--- the bytes of the record that a taking attempts to put into its processor's buffer, where it attempts one
-abbrev pub record_of : Taking → Option (List ℕ)
-record_of t = option_and_then (λ left. option_and_then (λ (form : TakenForm). form.record_bytes) left) t.came
+abbrev pub own_moment : Account → Registry → ℕ → Option MomentForm
+own_moment account registry probe = moment_in registry (Some (own_process account)) (own_firing probe)
 
--- the attempts among takings
-abbrev pub records : List Taking → List (List ℕ)
-records takings = flat_map (λ t. option_to_list (record_of t)) takings
+module _ (account : Account) (registry : Registry) where
+  -- the moment at which ECBs are taken by an event: BEGIN's, the firing's, END's
+  abbrev pub moment_at : Event → Option MomentForm
+  moment_at began = own_moment account registry BEGIN
+  moment_at (seen firing) = moment_of registry firing
+  moment_at (read cpu) = None
+  moment_at (ended end) = own_moment account registry END
 
--- how many takings a division by zero ended
-abbrev pub faults : List Taking → ℕ
-faults takings = length (filter (λ t. is_none t.came) takings)
+  module _ (ecbs : List EcbForm) where
+    -- what is taken by an event
+    abbrev pub taken_by : Event → List Taking
+    taken_by event = option_map_or (taken_at (is_end event) ecbs) (moment_at event) []
 
-module _ (account : Account) (registry : Registry) (ecbs : List EcbForm) (cpu : ℕ) where
-  -- what is taken on the processor at a moment
-  abbrev pub taken_here : Option MomentForm → List Taking
-  taken_here moment = option_map_or (λ m. if m.firing.cpu == cpu then taken_at ecbs m else []) moment []
+    -- the same, where it happens on this processor
+    abbrev pub taken_on : ℕ → Event → List Taking
+    taken_on cpu event = option_map_or
+        (λ m. if m.firing.cpu == cpu then taken_at (is_end event) ecbs m else []) (moment_at event) []
 
-  abbrev pub at_begin : List Taking
-  at_begin = taken_here (moment_in registry (Some (own_process account)) begin_firing)
-
-  abbrev pub at_event : Event → List Taking
-  at_event (seen firing) = taken_here (moment_of registry firing)
-  at_event (read n) = []
-
-  -- the takings of BEGIN and of events after it, the newest event first, the oldest taking first
-  abbrev pub taken_since : List Event → List Taking
-  taken_since [] = at_begin
-  taken_since (event ∷ events) = taken_since events ++ at_event event
-
-  -- those since the processor's buffer was last read
-  abbrev pub unread_since : List Event → List Taking
-  unread_since [] = at_begin
-  unread_since (seen firing ∷ events) = unread_since events ++ at_event (seen firing)
-  unread_since (read n ∷ events) = if n == cpu then [] else unread_since events
-
-module _ (account : Account) (registry : Registry) (s : SetUp) (cpu : ℕ) where
-  -- all takings on the processor since tracing began
-  abbrev pub all_taken : List Taking
-  all_taken = if s.begun then taken_since account registry (ecbs_in account registry s) cpu s.since else []
-
-  -- those since its buffer was last read
-  abbrev pub unread : List Taking
-  unread = if s.begun then unread_since account registry (ecbs_in account registry s) cpu s.since else []
-
-module _ (account : Account) (registry : Registry) (life : List Item) (cpu : ℕ) where
-  -- the takings of a life on a processor, oldest first
-  abbrev pub takings : List Taking
-  takings = all_taken account registry (set_up account registry life) cpu
-
-  abbrev pub takings_since_snap : List Taking
-  takings_since_snap = unread account registry (set_up account registry life) cpu
-
-  -- the records attempted there since its buffer was last read
-  abbrev pub attempts : List (List ℕ)
-  attempts = records takings_since_snap
-
-  -- the clauses that a division by zero ended there, since tracing began
-  abbrev pub errors : ℕ
-  errors = faults takings
+    -- what is taken on a processor by events, the newest event first, the oldest taking first
+    abbrev pub taken_since : ℕ → List Event → List Taking
+    taken_since cpu [] = []
+    taken_since cpu (event ∷ events) = taken_since cpu events ++ taken_on cpu event

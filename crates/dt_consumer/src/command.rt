@@ -2,10 +2,14 @@
 /// What a consumer asks for by one line.
 #[derive(Debug, Drop)]
 pub enum Command {
+    /// Set an option, before tracing begins: `bufsize` and `histsize` to a number, `bufpolicy` to a policy's word.
+    Option { name: String, value: OptionValue },
     /// Enable the probes that a program's clauses describe.
     Enable { text: String },
     /// Begin to trace.
     Go,
+    /// End tracing.
+    Stop,
     /// Read the principal buffer of a processor.
     Snap { cpu: u64 },
     /// Tell the phase and the counts.
@@ -14,4 +18,15 @@ pub enum Command {
     List { probe: String },
     /// Tell of what the records of an ECB are made.
     Describe { epid: u64 },
+}
+
+/// A value that a line gives for an option.
+#[derive(Debug, Drop)]
+pub enum OptionValue {
+    /// A whole number, from 0 on.
+    Number(u64),
+    /// A text.
+    Text(String),
+    /// Anything else, which no option takes.
+    Other,
 }

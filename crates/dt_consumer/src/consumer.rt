@@ -1,5 +1,6 @@
 //! One consumer, from its first line to its last.
 use crate::draft::{Change, Draft};
+use crate::options::Options;
 use crate::phase::Phase;
 use crate::programs::Programs;
 use crate::tracing::Tracing;
@@ -10,14 +11,14 @@ use dt_lang::Clause;
 use dt_machine::{Firing, Machine};
 use std::alloc::{AllocError, Global};
 
-/// One consumer: what it has enabled, and, from its `go` on, what it has of each processor.
+/// One consumer: its options, what it has enabled, and, from its `go` on, what it has of each processor.
 #[derive(Drop)]
 pub struct Consumer {
     pub(crate) account: Account,
+    pub(crate) options: Options,
     pub(crate) programs: Programs,
     pub(crate) tracing: Option<Tracing>,
     pub(crate) lines: u32,
-    pub(crate) seen: u64,
 }
 
 impl Consumer {
@@ -38,27 +39,29 @@ impl Consumer {
     {
         Ok(Consumer {
             account,
+            options: Options::new(),
             programs: Programs::new(alloc)?,
             tracing: None,
             lines: 0,
-            seen: 0,
         })
     }
 
-    /// How far the consumer has come: active from its accepted `go` on.
+    /// How far the consumer has come: active from its accepted `go` on, until a `stop` is accepted, a clause exits, or
+    /// the last firing of its history is seen; then it has stopped for good.
     pub fn phase(&self) -> Phase
         ensures { (account : Account) (registry : Registry) (life : List Item)
             → StandsFor account registry self.now life → result ≡ phase account registry life }
     {
-        match self.tracing {
-            Some(_) => Phase::Active,
+        match &self.tracing {
+            Some(tracing) => tracing.phase(),
             None => Phase::Inactive,
         }
     }
 
     /// Takes a firing, and answers whether the consumer saw it: it is active, the firing belongs to the machine, one
-    /// of its ECBs names the probe, and its account is shown the firing. An unseen firing changes nothing. It takes
-    /// no memory.
+    /// of its ECBs names the probe, and its account is shown the firing. Where a clause exits, or the firing is the last
+    /// of the history, tracing ends, and END fires in the same step. An unseen firing changes nothing. It takes no
+    /// memory.
     pub fn offer(&mut self, machine: &Machine, firing: &Firing) -> bool
         ensures sees { (account : Account) (life : List Item)
             → StandsFor account machine.now.registry self.old life
@@ -73,36 +76,36 @@ impl Consumer {
             return false;
         };
         // most firings are of probes that this consumer never enabled: they leave here, before anything is looked up
-        if !tracing.names(firing.probe) {
+        if !tracing.wants(firing.probe) {
             return false;
         }
         let Some(moment) = shown(&self.account, machine, firing) else {
             return false;
         };
-        tracing.take(self.programs.clauses(), &moment);
-        self.seen = self.seen.saturating_add(1);
+        tracing.see(&self.account, machine, self.programs.clauses(), &moment);
         true
     }
 
     /// Makes the change of a draft. It takes no memory. The draft must come from this consumer, as it stood for the
-    /// same life; firings that it didn't see since don't matter. The machine is the one that the contract speaks of;
-    /// nothing is read of it.
-    pub fn apply(&mut self, _machine: &Machine, draft: Draft)
+    /// same life; firings that it didn't see since don't matter. The machine is the one that the consumer was made for.
+    pub fn apply(&mut self, machine: &Machine, draft: Draft)
         ensures { (account : Account) (life : List Item) (line : Result Ask Refusal)
-            → StandsFor account _machine.now.registry self.old life
-            → IsDraftOf account _machine.now.registry life line draft
-            → StandsFor account _machine.now.registry self.new (after_line life line) }
+            → StandsFor account machine.now.registry self.old life
+            → IsDraftOf account machine.now.registry life line draft
+            → StandsFor account machine.now.registry self.new (after_line life line) }
     {
         match draft.into_change() {
             Change::Refuse => {}
             Change::Nothing => self.count(),
+            Change::Set { options } => self.set(options),
             Change::Enable {
                 clauses,
                 ecbs,
                 shapes,
             } => self.enable(clauses, ecbs, shapes),
             Change::Go { tracing } => self.begin(tracing),
-            Change::Snap { cpu } => self.empty(cpu),
+            Change::Stop => self.stop(machine),
+            Change::Snap { cpu } => self.swap(cpu),
         }
     }
 
@@ -112,6 +115,16 @@ impl Consumer {
             → StandsFor account registry self.old life → Drafted account registry life line Change.Nothing
             → StandsFor account registry self.new (after_line life line) }
     {
+        self.lines = self.lines.saturating_add(1);
+    }
+
+    /// Takes these options.
+    fn set(&mut self, options: Options)
+        ensures { (account : Account) (registry : Registry) (life : List Item) (line : Result Ask Refusal)
+            → StandsFor account registry self.old life → Drafted account registry life line (Change.Set options)
+            → StandsFor account registry self.new (after_line life line) }
+    {
+        self.options = options;
         self.lines = self.lines.saturating_add(1);
     }
 
@@ -137,14 +150,27 @@ impl Consumer {
         self.lines = self.lines.saturating_add(1);
     }
 
-    /// Empties the buffer of a processor that was read.
-    fn empty(&mut self, cpu: usize)
+    /// Ends tracing, where it goes on.
+    fn stop(&mut self, machine: &Machine)
+        ensures { (account : Account) (life : List Item) (line : Result Ask Refusal)
+            → StandsFor account machine.now.registry self.old life
+            → Drafted account machine.now.registry life line Change.Stop
+            → StandsFor account machine.now.registry self.new (after_line life line) }
+    {
+        if let Some(tracing) = &mut self.tracing {
+            tracing.stop(&self.account, machine, self.programs.clauses());
+        }
+        self.lines = self.lines.saturating_add(1);
+    }
+
+    /// Goes on after the buffer of a processor was read.
+    fn swap(&mut self, cpu: usize)
         ensures { (account : Account) (registry : Registry) (life : List Item) (line : Result Ask Refusal)
             → StandsFor account registry self.old life → Drafted account registry life line (Change.Snap cpu)
             → StandsFor account registry self.new (after_line life line) }
     {
         if let Some(tracing) = &mut self.tracing {
-            tracing.clear(cpu);
+            tracing.swap(cpu);
         }
         self.lines = self.lines.saturating_add(1);
     }

@@ -1,6 +1,7 @@
 //! The draft of a line: its reply, and what it will change.
 ghost use Rattle.std.specs.Prelude.{◌≡◌, ◌↔◌, List, Result, IsTrue};
 
+use crate::options::Options;
 use crate::refusal::Refusal;
 use crate::reply::Reply;
 use crate::tracing::Tracing;
@@ -12,6 +13,10 @@ use dt_lang::Clause;
 pub(crate) enum Change {
     /// The line is counted, and that is all.
     Nothing,
+    /// These are the options from now on.
+    Set {
+        options: Options,
+    },
     /// These clauses and their ECBs are enabled too, and these are all aggregations.
     Enable {
         clauses: Vec<Clause>,
@@ -22,6 +27,8 @@ pub(crate) enum Change {
     Go {
         tracing: Tracing,
     },
+    /// Tracing ends.
+    Stop,
     /// The buffer of a processor was read.
     Snap {
         cpu: usize,
@@ -79,8 +86,8 @@ impl Draft {
         &self.reply
     }
 
-    /// Whether the line is a `go` that is accepted, so that tracing begins as it is applied. A line over the quota,
-    /// or in another phase, is none.
+    /// Whether the line is a `go` that is accepted, so that tracing begins as it is applied. A line over the quota, or
+    /// in another phase, or with no room for END's records, is none.
     pub fn publishes(&self) -> bool
         ensures { (account : Account) (registry : Registry) (life : List Item) (line : Result Ask Refusal)
             → IsDraftOf account registry life line self.now

@@ -1,6 +1,7 @@
 //! The drafts of a consumer's lines.
-ghost use Rattle.std.specs.Prelude.{◌≡◌, ◌≤◌, ◌+◌, ◌<◌, ℕ, List, Option, Result, Ok, Err, Some, None, true, false, length, map, All, IsTrue, IfOk, IfErr, MatchOption, is_some, option_and_then};
+ghost use Rattle.std.specs.Prelude.{◌≡◌, ◌≤◌, ◌+◌, ◌<◌, ℕ, List, Option, Result, Ok, Err, Some, None, true, false, length, map, All, IsTrue, IfOk, IfErr, IfSome, MatchOption, is_some, option_and_then, slice_get};
 ghost use Rattle.dt_cred.specs.declared.account.Account.{Account};
+ghost use Rattle.dt_machine.specs.Registry.{Registry};
 ghost use Rattle.dt_lang.specs.Description.{DescForm, ReadsDescription};
 ghost use Rattle.dt_lang.specs.Program.{form_of_program};
 ghost use Rattle.dt_lang.specs.Reads as lang;
@@ -10,26 +11,34 @@ ghost use Rattle.dt_ecb.specs.Enable.{IsVerdict};
 ghost use Rattle.dt_ecb.specs.Forms.{form_of_ecb, shapes_of, verdict_of};
 ghost use Rattle.dt_ecb.specs.declared.limits.TheConstants.{ECBS_MAX};
 ghost use Rattle.dt_consumer.specs.Answer.{answer_of, described};
-ghost use Rattle.dt_consumer.specs.Ask.{Ask, ask_of, line_asks, reading_of, description_of, enable, go, snap, status, list, describe};
+ghost use Rattle.dt_consumer.specs.Ask.{Ask, ask_of, line_asks, reading_of, description_of, enable, go, snap, status, list, describe, option, stop};
+ghost use Rattle.dt_consumer.specs.Buffers.{reserve_on};
+ghost use Rattle.dt_consumer.specs.Options.{setting_of};
+ghost use Rattle.dt_consumer.specs.Keeps.{Keeps};
+ghost use Rattle.dt_consumer.specs.declared.phase.Phase.TheVariants.{Inactive};
+ghost use Rattle.std.specs.String.{string_bytes};
+ghost use Rattle.std.specs.Option.{option_copied};
 ghost use Rattle.dt_consumer.specs.Draft.{IsDraftOf};
-ghost use Rattle.dt_consumer.specs.Life.{Item, firings, set_up, next_epid};
+ghost use Rattle.dt_consumer.specs.Life as spec;
+ghost use Rattle.dt_consumer.specs.Life.{Item, SetUp, set_up, phase, phase_of, next_epid, has_room};
 ghost use Rattle.dt_consumer.specs.Refusal.{IsNoCommand, refused_as};
-ghost use Rattle.dt_consumer.specs.Reply.{ecb_of, all_errors, refusal_of};
+ghost use Rattle.dt_consumer.specs.Reply.{ecb_of, all_errors, refusal_of, seen_firings};
 ghost use Rattle.dt_consumer.specs.StandsFor.{StandsFor, MayAsk};
 ghost use Rattle.dt_consumer.specs.declared.reply.Reply.{Reply};
-ghost use Rattle.dt_consumer.specs.declared.limits.TheConstants.{FIRINGS_MAX};
 ghost use Rattle.dt_record.specs.Layout.{layout_of};
 
-use crate::begin::{begin_firing, own_process};
-use crate::command::Command;
+use crate::command::{Command, OptionValue};
 use crate::consumer::Consumer;
 use crate::draft::{Change, Draft};
-use crate::limits::{BEGIN, LINES_MAX};
-use crate::moment::Moment;
+use crate::limits::LINES_MAX;
+use crate::options::Options;
+use crate::phase::Phase;
 use crate::placing::placed_after;
+use crate::processor::Processor;
 use crate::refusal::Refusal;
 use crate::reply::Reply;
 use crate::tracing::Tracing;
+use dt_buffer::{Policy, one_shown};
 use dt_ecb::{Ecb, EnableFault, enable, listed, one_verdict};
 use dt_lang::{Description, LangFault, Program, Why, one_description, one_reading};
 use dt_machine::Machine;
@@ -48,9 +57,7 @@ impl Consumer {
     /// memory that the change needs: an error, which comes when memory runs out, leaves everything as it was.
     ///
     /// The line is a command, or the refusal of a line that is none: [`Refusal::Json`], [`Refusal::Request`] or
-    /// [`Refusal::LineLong`], and no other. The machine is the one that the consumer was made for, and the consumer
-    /// has seen at most [`FIRINGS_MAX`](crate::FIRINGS_MAX) firings, which is as many as the scripts of a machine can
-    /// hold.
+    /// [`Refusal::LineLong`], and no other. The machine is the one that the consumer was made for.
     pub fn draft(
         &self,
         alloc: Global,
@@ -59,7 +66,7 @@ impl Consumer {
     ) -> Result<Draft, AllocError>
         requires { IfErr line.now IsNoCommand }
         ensures { IfOk result (λ draft. (account : Account) (life : List Item)
-            → StandsFor account machine.now.registry self.now life → firings life ≤ FIRINGS_MAX
+            → StandsFor account machine.now.registry self.now life
             → IsDraftOf account machine.now.registry life (line_asks line.now) draft) }
     {
         // a line over the quota is answered before anything else is asked of it
@@ -84,12 +91,33 @@ impl Consumer {
             → IsDraftOf account machine.now.registry life (Ok (ask_of command.now)) draft) }
     {
         match command {
+            Command::Option { name, value } => Ok(self.draft_option(machine, name, value)),
             Command::Enable { text } => self.draft_enable(alloc, machine, text.as_bytes()),
             Command::Go => self.draft_go(alloc, machine),
+            Command::Stop => Ok(self.draft_stop(machine)),
             Command::Snap { cpu } => self.draft_snap(alloc, machine, *cpu),
             Command::Status => self.draft_status(alloc, machine),
             Command::List { probe } => self.draft_list(alloc, machine, probe.as_bytes()),
             Command::Describe { epid } => Ok(self.draft_describe(machine, *epid)),
+        }
+    }
+
+    /// The draft of an `option`.
+    fn draft_option(&self, _machine: &Machine, name: &String, value: &OptionValue) -> Draft
+        ensures { (account : Account) (life : List Item) → MayAsk account _machine.now.registry self.now life
+            → IsDraftOf account _machine.now.registry life
+            (Ok (option (setting_of (string_bytes name.now) value.now))) result }
+    {
+        // options hold for the whole of tracing
+        if self.has_begun() {
+            return Draft::refused(Refusal::Busy);
+        }
+        match self.options.set(name.as_str(), value) {
+            Some(options) => Draft {
+                reply: Reply::Done,
+                change: Change::Set { options },
+            },
+            None => Draft::refused(Refusal::Option),
         }
     }
 
@@ -127,7 +155,7 @@ impl Consumer {
     ) -> Result<Draft, AllocError>
         ensures { IfOk result (λ draft. (account : Account) (life : List Item)
             → MayAsk account machine.now.registry self.now life
-            → (set_up account machine.now.registry life).begun ≡ false
+            → phase account machine.now.registry life ≡ Inactive
             → IsDraftOf account machine.now.registry life (Ok (enable (lang.program (form_of_program program))))
             draft) }
     {
@@ -157,7 +185,7 @@ impl Consumer {
         requires placed { All (λ ecb. ecb.clause < length program.clauses.items) ecbs.items }
         ensures { IfOk result (λ draft. (account : Account) (life : List Item)
             → MayAsk account _machine.now.registry self.now life
-            → (set_up account _machine.now.registry life).begun ≡ false
+            → phase account _machine.now.registry life ≡ Inactive
             → first ≡ next_epid account _machine.now.registry (set_up account _machine.now.registry life)
             → IsVerdict account _machine.now.registry (shapes_of self.now.programs.shapes) first
             (form_of_program program) verdict.enabled
@@ -182,7 +210,7 @@ impl Consumer {
         })
     }
 
-    /// The draft of a `go`: rows and processors, and what is taken at BEGIN.
+    /// The draft of a `go`: the room for tracing, and what is taken at BEGIN.
     fn draft_go(&self, alloc: Global, machine: &Machine) -> Result<Draft, AllocError>
         ensures { IfOk result (λ draft. (account : Account) (life : List Item)
             → MayAsk account machine.now.registry self.now life
@@ -192,19 +220,48 @@ impl Consumer {
         if self.has_begun() {
             return Ok(Draft::refused(Refusal::Busy));
         }
-        let probes = machine.probes().len() as u32;
-        let ecbs = self.programs.ecbs();
-        let mut tracing = Tracing::new(alloc, ecbs, probes + 1, machine.cpus())?;
-        let moment = Moment {
-            probe: machine.probe(BEGIN).unwrap(),
-            process: &own_process(&self.account),
-            firing: &begin_firing(),
+        let Some(reserve) = self.reserve() else {
+            return Ok(Draft::refused(Refusal::Limit));
         };
-        tracing.take(self.programs.clauses(), &moment);
+        let (account, options) = (&self.account, self.options);
+        let tracing = Tracing::begin(alloc, account, machine, options, &self.programs, reserve)?;
         Ok(Draft {
             reply: Reply::Done,
             change: Change::Go { tracing },
         })
+    }
+
+    /// How many bytes of the first processor's buffer are kept for END's records, or `None` where it hasn't as many.
+    /// Under fill it is one record of each of END's ECBs, whatever their predicates.
+    fn reserve(&self) -> Option<usize>
+        ensures within { IfSome result (λ reserve. reserve ≤ self.now.options.bufsize) }
+        ensures reserve { (account : Account) (registry : Registry) (s : SetUp) → Keeps account registry s self.now
+            → MatchOption result (has_room account registry s ≡ false)
+            (λ reserve. (has_room account registry s ≡ true) × (reserve ≡ reserve_on account registry s 0)) }
+    {
+        let Options {
+            bufsize,
+            bufpolicy,
+            ..
+        } = self.options;
+        match bufpolicy {
+            Policy::Fill => Some(bufsize - self.programs.left_by_end(bufsize)?),
+            Policy::Switch | Policy::Ring => Some(0),
+        }
+    }
+
+    /// The draft of a `stop`.
+    fn draft_stop(&self, _machine: &Machine) -> Draft
+        ensures { (account : Account) (life : List Item) → MayAsk account _machine.now.registry self.now life
+            → IsDraftOf account _machine.now.registry life (Ok stop) result }
+    {
+        match self.phase() {
+            Phase::Active => Draft {
+                reply: Reply::Done,
+                change: Change::Stop,
+            },
+            Phase::Inactive | Phase::Stopped(_) => Draft::refused(Refusal::Busy),
+        }
     }
 
     /// The draft of a `snap`.
@@ -217,24 +274,46 @@ impl Consumer {
         if cpu >= u64::from(machine.cpus()) {
             return Ok(Draft::refused(Refusal::NoCpu));
         }
-        let Some(tracing) = &self.tracing else {
+        if !self.is_readable() {
             return Ok(Draft::refused(Refusal::Busy));
-        };
+        }
         let cpu = cpu as u32;
-        // a consumer that traces has each processor of its machine, so there is always one
-        let Some(processor) = tracing.processors.get(cpu as usize) else {
+        // a consumer that is readable traces, and has each processor of its machine: so there is always one
+        let Some(processor) = self.processor(cpu) else {
             return Ok(Draft::refused(Refusal::NoCpu));
         };
+        one_shown();
         let reply = Reply::Snapped {
             cpu,
-            data: Vec::from_slice(alloc, processor.buffer.kept())?,
+            data: processor.buffer.content(alloc)?,
             drops: processor.buffer.drops(),
-            filled: false,
+            filled: processor.buffer.filled(),
         };
         Ok(Draft {
             reply,
             change: Change::Snap { cpu: cpu as usize },
         })
+    }
+
+    /// Whether buffers can be read: from `go` on, under ring only after tracing ended.
+    fn is_readable(&self) -> bool
+        ensures { (account : Account) (registry : Registry) (life : List Item)
+            → StandsFor account registry self.now life
+            → result ≡ spec.is_readable (set_up account registry life) (phase account registry life) }
+    {
+        match self.phase() {
+            Phase::Inactive => false,
+            Phase::Active => !matches!(self.options.bufpolicy, Policy::Ring),
+            Phase::Stopped(_) => true,
+        }
+    }
+
+    /// What there is of a processor, from `go` on.
+    fn processor(&self, cpu: u32) -> Option<&Processor>
+        ensures { option_copied result ≡ option_and_then
+            (λ tracing. slice_get tracing.processors.all.items cpu) self.now.tracing }
+    {
+        self.tracing.as_ref()?.processors.all.get(cpu as usize)
     }
 
     /// The draft of a `status`.
@@ -245,13 +324,24 @@ impl Consumer {
     {
         let reply = Reply::Status {
             phase: self.phase(),
-            seen: self.seen,
+            seen: self.seen(),
             errors: self.errors(alloc, machine)?,
         };
         Ok(Draft {
             reply,
             change: Change::Nothing,
         })
+    }
+
+    /// How many firings were seen.
+    fn seen(&self) -> u64
+        ensures { (account : Account) (registry : Registry) (life : List Item)
+            → StandsFor account registry self.now life → result ≡ seen_firings account registry life }
+    {
+        match &self.tracing {
+            Some(tracing) => u64::from(tracing.seen),
+            None => 0,
+        }
     }
 
     /// How many clauses a division by zero ended on each processor, since tracing began: none before that.

@@ -8,6 +8,7 @@ ghost use Rattle.dt_consumer.specs.Life.{Item};
 ghost use Rattle.dt_consumer.specs.Reply.{Replies};
 ghost use Rattle.dt_consumer.specs.declared.refusal.Refusal.{Refusal};
 
+use dt_buffer::{one_shown, some_shown};
 use dt_ecb::{one_verdict, some_verdict};
 
 /// Law: a line has at most one reply.
@@ -16,6 +17,7 @@ pub fn one_reply()
         → Replies account registry life line a → Replies account registry life line b → a ≡ b }
 {
     one_verdict();
+    one_shown();
 }
 
 /// Law: each line has a reply.
@@ -24,4 +26,5 @@ pub fn some_reply()
         → (answer : Answer) × Replies account registry life line answer }
 {
     some_verdict();
+    some_shown();
 }

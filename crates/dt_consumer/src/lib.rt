@@ -6,8 +6,6 @@
 //! a line has one (`one_reply`, `some_reply`). `Draft::publishes` says whether tracing begins by the line.
 #![tactic(auto)]
 
-mod begin;
-mod buffer;
 mod command;
 mod consumer;
 mod draft;
@@ -15,9 +13,12 @@ mod drafts;
 mod laws;
 mod limits;
 mod moment;
+mod options;
+mod own;
 mod phase;
 mod placing;
 mod processor;
+mod processors;
 mod programs;
 mod refusal;
 mod reply;
@@ -25,11 +26,11 @@ mod rows;
 mod tracing;
 mod visibility;
 
-pub use command::Command;
+pub use command::{Command, OptionValue};
 pub use consumer::Consumer;
 pub use draft::Draft;
 pub use laws::{one_reply, some_reply};
-pub use limits::{BUFFER_SIZE, FIRINGS_MAX, LINES_MAX};
-pub use phase::Phase;
+pub use limits::{BUFFER_SIZE, HISTORY, HISTORY_MAX, LINES_MAX};
+pub use phase::{End, Phase};
 pub use refusal::Refusal;
 pub use reply::Reply;

@@ -3,17 +3,17 @@
 /// The most lines of one session.
 pub const LINES_MAX: u32 = 1024;
 
-/// How many bytes each processor's principal buffer has.
+/// How many bytes a principal buffer has where no option says otherwise. The most are dt_buffer's `SIZE_MAX`.
 pub const BUFFER_SIZE: usize = 65_536;
 
-/// The most firings of one life: as many as the scripts of a machine can hold, which are 65,536 on each of 64
-/// processors.
-pub const FIRINGS_MAX: u32 = 4_194_304;
+/// After how many seen firings tracing ends, where no option says otherwise.
+pub const HISTORY: u32 = 4_096;
 
-/// The end of a count of dropped records, of errors or of seen firings, of which only definitions speak: a life of at
-/// most [`FIRINGS_MAX`] firings doesn't come near it.
-#[expect(dead_code)]
-pub(crate) const COUNT_MAX: u64 = u64::MAX;
+/// The most firings that `histsize` may ask for.
+pub const HISTORY_MAX: u32 = 65_536;
 
 /// The identifier of the probe that fires as tracing begins.
 pub(crate) const BEGIN: u32 = 1;
+
+/// The identifier of the probe that fires as tracing ends.
+pub(crate) const END: u32 = 2;

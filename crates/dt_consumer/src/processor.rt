@@ -1,98 +1,136 @@
-//! What a consumer has of one processor while it traces.
-use crate::buffer::Switch;
+//! What a consumer has of one processor from its `go` on.
 use crate::moment::Moment;
+use crate::options::Options;
+use crate::rows::Row;
+use dt_buffer::Principal;
 use dt_ecb::Ecb;
 use dt_expr::EvalFault;
 use dt_lang::Clause;
-use dt_record::{Taken, taken};
+use dt_record::Taken;
 use std::alloc::{AllocError, Global};
 
-/// What a consumer has of one processor while it traces: its principal buffer, and how many clauses a division by
+/// What a consumer has of one processor from its `go` on: its principal buffer, and how many clauses a division by
 /// zero ended there.
 #[derive(Drop)]
 pub(crate) struct Processor {
-    pub(crate) buffer: Switch,
+    pub(crate) buffer: Principal,
     pub(crate) errors: u64,
 }
 
 impl Processor {
-    ghost use Rattle.std.specs.Prelude.{◌≡◌, ◌<◌, ◌++◌, List, [], ◌∷◌, Option, Some, None, All, IfOk, length, map, vec_len};
-    ghost use Rattle.std.specs.Option.{option_map};
-    ghost use Rattle.dt_record.specs.Forms.{form_of_taken};
+    ghost use Rattle.std.specs.Prelude.{◌≡◌, ◌<◌, ◌+◌, ◌++◌, ◌-◌, ◌≤◌, ℕ, Bool, true, false, List, [], ◌∷◌, Option, Some, None, All, IfOk, length, map, if◌then◌else◌};
+    ghost use Rattle.dt_buffer.specs.History.{Past, new_past, after, swap};
+    ghost use Rattle.dt_buffer.specs.IsAt.{drops_of};
+    ghost use Rattle.dt_buffer.specs.Shows.{EndLast};
+    ghost use Rattle.dt_buffer.specs.declared.limits.TheConstants.{DROPS_LIMIT, SIZE_MAX};
+    ghost use Rattle.dt_ecb.specs.Forms.{form_of_ecb};
+    ghost use Rattle.dt_ecb.specs.declared.limits.TheConstants.{ECBS_MAX};
     ghost use Rattle.dt_lang.specs.Program.{form_of_clause};
-    ghost use Rattle.dt_consumer.specs.Keeps.{form_of_moment, HasTaken, taking_by};
-    ghost use Rattle.dt_consumer.specs.Takings.{Taking};
+    ghost use Rattle.dt_consumer.specs.Buffers.{attempts_of};
+    ghost use Rattle.dt_consumer.specs.Counts.{AtMost, AtMostMore};
+    ghost use Rattle.dt_consumer.specs.Keeps.{form_of_moment, followed_by, HasTaken, taking_by};
+    ghost use Rattle.dt_consumer.specs.Takings.{Taking, exit_of, first_exit, through_exit, faults};
 
-    /// A processor on which nothing was taken.
-    fn new(alloc: Global) -> Result<Self, AllocError>
-        ensures { IfOk result (HasTaken [] []) }
+    /// A processor on which nothing was taken, with the room that the options ask for.
+    pub(crate) fn new(alloc: Global, options: Options, reserve: usize) -> Result<Self, AllocError>
+        requires { reserve ≤ options.bufsize }
+        ensures empty { IfOk result (HasTaken (new_past options.bufpolicy options.bufsize reserve) 0) }
+        ensures counts { IfOk result (AtMost 0) }
     {
         Ok(Processor {
-            buffer: Switch::new(alloc)?,
+            buffer: Principal::new(alloc, options.bufpolicy, options.bufsize, reserve)?,
             errors: 0,
         })
     }
 
-    /// As many processors as these, on which nothing was taken.
-    pub(crate) fn for_each(alloc: Global, cpus: u32) -> Result<Vec<Self>, AllocError>
-        ensures len { IfOk result (λ processors. vec_len processors ≡ cpus) }
-        ensures empty { IfOk result (λ processors. All (HasTaken [] []) processors.items) }
+    /// Takes a probe's ECBs, in order of EPID, up to the first that exits, and answers its status. It takes no memory.
+    pub(crate) fn take(
+        &mut self,
+        left: &mut Taken,
+        clauses: &[Clause],
+        row: &Row,
+        moment: &Moment,
+    ) -> Option<i64>
+        requires { AtMost (DROPS_LIMIT - ECBS_MAX) self.old }
+        ensures taken { All (λ ecb. ecb.clause < length clauses.now) row.now.ecbs.items
+            → (past : Past) (errors : ℕ) → EndLast past false → HasTaken past errors self.old
+            → (let new = through_exit
+            (map (taking_by false (form_of_moment moment.now) (map form_of_clause clauses.now)) row.now.ecbs.items) in
+            HasTaken (followed_by past (attempts_of new)) (errors + faults new) self.new) }
+        ensures exit { All (λ ecb. ecb.clause < length clauses.now) row.now.ecbs.items → result ≡ first_exit
+            (map (taking_by false (form_of_moment moment.now) (map form_of_clause clauses.now)) row.now.ecbs.items) }
+        ensures counts { AtMostMore ECBS_MAX self.old self.new }
     {
-        let mut processors = Vec::with_capacity(alloc, cpus as usize)?;
-        for _cpu in 0..cpus {
-            processors.push(Processor::new(alloc)?)?;
+        for ecb in &row.ecbs {
+            let exit = self.take_one(left, clauses, *ecb, moment, false);
+            if exit.is_some() {
+                return exit;
+            }
         }
-        Ok(processors)
+        None
     }
 
-    /// Takes a probe's ECBs, in order of EPID. It takes no memory.
-    pub(crate) fn take(&mut self, clauses: &[Clause], row: &[Ecb], moment: &Moment)
-        ensures { All (λ ecb. ecb.clause < length clauses.now) row.now
-            → (unread taken : List Taking) → HasTaken unread taken self.old
-            → (let new = map (taking_by (form_of_moment moment.now) (map form_of_clause clauses.now)) row.now in
-            HasTaken (unread ++ new) (taken ++ new) self.new) }
+    /// Takes END's ECBs, in order of EPID: an exit is passed over. It takes no memory.
+    pub(crate) fn take_end(
+        &mut self,
+        left: &mut Taken,
+        clauses: &[Clause],
+        row: &Row,
+        moment: &Moment,
+    )
+        requires { AtMost (DROPS_LIMIT - ECBS_MAX) self.old }
+        ensures taken { All (λ ecb. ecb.clause < length clauses.now) row.now.ecbs.items
+            → (past : Past) (errors : ℕ) → HasTaken past errors self.old
+            → (let new = map (taking_by true (form_of_moment moment.now) (map form_of_clause clauses.now))
+            row.now.ecbs.items in
+            HasTaken (followed_by past (attempts_of new)) (errors + faults new) self.new) }
+        ensures counts { AtMostMore ECBS_MAX self.old self.new }
     {
-        for ecb in row {
-            self.take_one(clauses, *ecb, moment);
-        }
-    }
-
-    /// Takes one ECB.
-    fn take_one(&mut self, clauses: &[Clause], ecb: Ecb, moment: &Moment)
-        ensures { ecb.clause < length clauses.now → (unread taken : List Taking) → HasTaken unread taken self.old
-            → (let one = taking_by (form_of_moment moment.now) (map form_of_clause clauses.now) ecb in
-            HasTaken (unread ++ one ∷ []) (taken ++ one ∷ []) self.new) }
-    {
-        let Some(clause) = clauses.get(ecb.clause) else {
-            return;
-        };
-        match taken(ecb.epid, clause, &moment.scene(ecb.epid)) {
-            Ok(left) => self.keep(left),
-            Err(EvalFault::DivZero) => self.errors = self.errors.saturating_add(1),
-        }
-    }
-
-    /// Keeps what a clause left.
-    fn keep(&mut self, left: Option<Taken>)
-        ensures { (unread taken : List Taking) (one : Taking) → HasTaken unread taken self.old
-            → one.came ≡ Some (option_map form_of_taken left)
-            → HasTaken (unread ++ one ∷ []) (taken ++ one ∷ []) self.new }
-    {
-        if let Some(
-            Taken {
-                bytes: Some(bytes),
-                ..
-            },
-        ) = left
-        {
-            self.buffer.put(&bytes);
+        for ecb in &row.ecbs {
+            let _exit = self.take_one(left, clauses, *ecb, moment, true);
         }
     }
 
-    /// Begins the buffer anew, after a reading.
-    pub(crate) fn clear(&mut self)
-        ensures { (unread taken : List Taking) → HasTaken unread taken self.old → HasTaken [] taken self.new }
+    /// Takes one ECB, and answers the status that it exits with, if it exits: its record goes into the buffer.
+    fn take_one(
+        &mut self,
+        left: &mut Taken,
+        clauses: &[Clause],
+        ecb: Ecb,
+        moment: &Moment,
+        in_end: bool,
+    ) -> Option<i64>
+        requires { (drops_of self.old.buffer < DROPS_LIMIT) × (self.old.errors < DROPS_LIMIT) }
+        ensures taken { ecb.clause < length clauses.now
+            → (past : Past) (errors : ℕ) → EndLast past in_end → HasTaken past errors self.old
+            → (let one = taking_by in_end (form_of_moment moment.now) (map form_of_clause clauses.now) ecb in
+            HasTaken (followed_by past (attempts_of (one ∷ []))) (errors + faults (one ∷ [])) self.new) }
+        ensures exit { ecb.clause < length clauses.now
+            → result ≡ exit_of (taking_by in_end (form_of_moment moment.now) (map form_of_clause clauses.now) ecb) }
+        ensures counts { AtMostMore 1 self.old self.new }
     {
-        self.buffer.clear();
+        let clause = clauses.get(ecb.clause)?;
+        match left.take(ecb.epid, clause, &moment.scene(ecb.epid)) {
+            Ok(true) => {
+                if let Some(bytes) = &left.bytes {
+                    let _put = self.buffer.put(bytes, in_end);
+                }
+                left.exit
+            }
+            Ok(false) => None,
+            Err(EvalFault::DivZero) => {
+                self.errors += 1;
+                None
+            }
+        }
+    }
+
+    /// Goes on after a reading of the buffer.
+    pub(crate) fn swap(&mut self)
+        ensures stands { (past : Past) (errors : ℕ) → HasTaken past errors self.old
+            → HasTaken (after past swap) errors self.new }
+        ensures counts { AtMostMore 0 self.old self.new }
+    {
+        self.buffer.swap();
     }
 }

@@ -30,6 +30,8 @@ pub enum Refusal {
     Limit,
     /// 10: not in this phase.
     Busy,
+    /// 11: there is no such option, or the value is of another kind than it takes, or out of its range.
+    Option,
     /// 12: the machine has no such processor.
     NoCpu,
     /// 14: there is no ECB of this number.
@@ -62,6 +64,7 @@ impl Refusal {
             Refusal::AggClash { .. } => 8,
             Refusal::Limit => 9,
             Refusal::Busy => 10,
+            Refusal::Option => 11,
             Refusal::NoCpu => 12,
             Refusal::NoEpid => 14,
             Refusal::Quota => 15,
@@ -84,6 +87,7 @@ impl Refusal {
             Refusal::AggClash { .. } => "AggClash",
             Refusal::Limit => "Limit",
             Refusal::Busy => "Busy",
+            Refusal::Option => "Option",
             Refusal::NoCpu => "NoCpu",
             Refusal::NoEpid => "NoEpid",
             Refusal::Quota => "Quota",

@@ -14,15 +14,15 @@ pub enum Reply {
         count: u32,
         first: u32,
     },
-    /// What the principal buffer of a processor held, and what was dropped since it was last read.
+    /// What the principal buffer of a processor held, how many records it dropped, and whether it is filled.
     Snapped {
         cpu: u32,
         data: Vec<u8>,
         drops: u64,
         filled: bool,
     },
-    /// How far the consumer has come, how many firings it saw, and for each processor how many clauses a division by
-    /// zero ended there.
+    /// How far the consumer has come and why it ended, how many firings it saw, and for each processor how many clauses
+    /// a division by zero ended there.
     Status {
         phase: Phase,
         seen: u64,

@@ -1,96 +1,205 @@
-//! What a consumer has while it traces.
+//! What a consumer has from its `go` on.
+ghost use Rattle.std.specs.Prelude.{◌≡◌, ◌≤◌, ◌<◌, ◌+◌, ◌*◌, ◌==◌, All, None, Some, vec_len, if◌then◌else◌};
+ghost use Rattle.std.specs.Option.{option_map, option_or};
+ghost use Rattle.dt_ecb.specs.declared.limits.TheConstants.{ECBS_MAX};
+ghost use Rattle.dt_consumer.specs.Counts.{AtMost, own_firings, must_be_left};
+ghost use Rattle.dt_consumer.specs.declared.limits.TheConstants.{END, HISTORY_MAX};
+
+use crate::limits::{BEGIN, END, HISTORY_MAX};
 use crate::moment::Moment;
-use crate::processor::Processor;
-use crate::rows::rows_of;
-use dt_ecb::Ecb;
+use crate::options::Options;
+use crate::own::{own_firing, own_process};
+use crate::phase::{End, Phase};
+use crate::processors::Processors;
+use crate::programs::Programs;
+use crate::rows::Row;
+use dt_cred::Account;
 use dt_lang::Clause;
+use dt_machine::Machine;
 use std::alloc::{AllocError, Global};
 
-/// What a consumer has from its `go` on: the ECBs of each probe, so that a firing finds its own without a look at
-/// others, and what it has of each processor.
+/// What a consumer has from its `go` on, and still has when tracing ended: the ECBs of each probe, so that a firing
+/// finds its own without a look at others, what it has of each processor, how many firings it saw, of how many at the
+/// most, and why tracing ended.
 #[derive(Drop)]
 pub(crate) struct Tracing {
-    pub(crate) rows: Vec<Vec<Ecb>>,
-    pub(crate) processors: Vec<Processor>,
+    pub(crate) rows: Vec<Row>,
+    pub(crate) processors: Processors,
+    pub(crate) history: u32,
+    pub(crate) seen: u32,
+    pub(crate) ended: Option<End>,
+    ghost own_rows: { END < vec_len rows },
+    ghost few: { history ≤ HISTORY_MAX },
+    ghost in_history: { seen + must_be_left ended ≤ history },
+    ghost counted: { All (AtMost (ECBS_MAX * (seen + own_firings ended))) processors.all.items },
 }
 
 impl Tracing {
-    ghost use Rattle.std.specs.Prelude.{◌≡◌, ◌≢◌, ◌<◌, ◌==◌, ℕ, [], All, IsTrue, IfOk, IfSome, slice_get, vec_len, filter, map, true, false};
+    ghost use Rattle.std.specs.Prelude.{◌≡◌, ◌≢◌, ◌==◌, ◌&&◌, ℕ, [], List, Option, Some, None, IsTrue, IfOk, IfSome, length, slice_get, filter, map, true, false, if◌then◌else◌};
     ghost use Rattle.dt_cred.specs.declared.account.Account.{Account};
     ghost use Rattle.dt_machine.specs.Registry.{Registry};
+    ghost use Rattle.dt_machine.specs.declared.firing.Firing.{Firing};
     ghost use Rattle.dt_lang.specs.Program.{form_of_clause};
     ghost use Rattle.dt_ecb.specs.Ecbs.{of_probe};
-    ghost use Rattle.dt_consumer.specs.Keeps.{Grows, HasTaken, IsTracing, form_of_moment};
-    ghost use Rattle.dt_consumer.specs.Life.{SetUp, ecbs_in, with_event, read};
+    ghost use Rattle.dt_consumer.specs.Keeps.{AreEcbs, IsTracing, form_of_moment, form_of_options, phase_by};
+    ghost use Rattle.dt_consumer.specs.Buffers.{reserve_on};
+    ghost use Rattle.dt_consumer.specs.Life.{SetUp, ecbs_in, phase_of, with_event, since_then, happens};
+    ghost use Rattle.dt_consumer.specs.declared.phase.Phase.TheVariants.{Active};
+    ghost use Rattle.dt_consumer.specs.Takings.{began, seen as sees, read, ended as ends, moment_of};
 
-    /// The rows of these ECBs for as many probes, from identifier 0 on, and as many processors on which nothing was
-    /// taken.
-    pub(crate) fn new(
+    /// Begins to trace: makes all the room that tracing needs, and fires BEGIN. The reserve is that of the first
+    /// processor's buffer.
+    pub(crate) fn begin(
         alloc: Global,
-        ecbs: &[Ecb],
-        probes: u32,
-        cpus: u32,
+        account: &Account,
+        machine: &Machine,
+        options: Options,
+        programs: &Programs,
+        reserve: usize,
     ) -> Result<Self, AllocError>
-        ensures rows { IfOk result (λ tracing. (probe : ℕ) → IfSome (slice_get tracing.rows.items probe)
-            (λ row. row.items ≡ filter (λ ecb. ecb.probe == probe) ecbs.now)) }
-        ensures all_rows { IfOk result (λ tracing. vec_len tracing.rows ≡ probes) }
-        ensures empty { IfOk result (λ tracing. All (HasTaken [] []) tracing.processors.items) }
-        ensures all_processors { IfOk result (λ tracing. vec_len tracing.processors ≡ cpus) }
+        requires { reserve ≤ options.bufsize }
+        ensures { IfOk result (λ tracing. (s : SetUp) → form_of_options options ≡ s.options
+            → map form_of_clause programs.now.clauses.items ≡ s.clauses
+            → AreEcbs s.clauses (ecbs_in account.now machine.now.registry s) programs.now.ecbs.items
+            → reserve ≡ reserve_on account.now machine.now.registry s 0
+            → IsTracing account.now machine.now.registry
+            (happens account.now machine.now.registry (since_then s []) began) tracing) }
     {
-        Ok(Tracing {
-            rows: rows_of(alloc, ecbs, probes)?,
-            processors: Processor::for_each(alloc, cpus)?,
-        })
+        let probes = machine.probes().len() as u32;
+        let rows = Row::for_each(alloc, programs.ecbs(), probes + 1)?;
+        let mut processors = Processors::new(alloc, options, reserve, machine.cpus())?;
+        let moment = Moment {
+            probe: machine.probe(BEGIN).unwrap(),
+            process: &own_process(account),
+            firing: &own_firing(BEGIN),
+        };
+        let exit = processors.take(programs.clauses(), &rows[BEGIN as usize], &moment);
+        let mut tracing = Tracing {
+            rows,
+            processors,
+            history: options.histsize,
+            seen: 0,
+            ended: None,
+        };
+        let Some(end) = end_after(exit, 0, options.histsize) else {
+            return Ok(tracing);
+        };
+        tracing.finish(end, account, machine, programs.clauses());
+        Ok(tracing)
     }
 
-    /// Whether any ECB names the probe.
-    pub(crate) fn names(&self, probe: u32) -> bool
+    /// How far tracing has come.
+    pub(crate) fn phase(&self) -> Phase
+        ensures { result ≡ phase_by self.now.ended }
+    {
+        match self.ended {
+            None => Phase::Active,
+            Some(end) => Phase::Stopped(end),
+        }
+    }
+
+    /// Whether it goes on, and any ECB names the probe.
+    pub(crate) fn wants(&self, probe: u32) -> bool
+        ensures going { IsTrue result → (self.now.ended ≡ None) × (probe < vec_len self.now.rows) }
         ensures named { (account : Account) (registry : Registry) (s : SetUp) → IsTracing account registry s self.now
-            → IsTrue result → (of_probe probe (ecbs_in account registry s) ≢ []) × (probe < vec_len self.now.rows) }
+            → IsTrue result → of_probe probe (ecbs_in account registry s) ≢ [] }
         ensures unnamed { (account : Account) (registry : Registry) (s : SetUp)
-            → IsTracing account registry s self.now → result ≡ false → probe < vec_len self.now.rows → of_probe probe (ecbs_in account registry s) ≡ [] }
+            → IsTracing account registry s self.now → result ≡ false → self.now.ended ≡ None
+            → probe < vec_len self.now.rows → of_probe probe (ecbs_in account registry s) ≡ [] }
     {
         match self.rows.get(probe as usize) {
-            Some(row) => !row.is_empty(),
+            Some(row) => self.ended.is_none() && !row.ecbs.is_empty(),
             None => false,
         }
     }
 
-    /// Takes the ECBs of the probe that fires, on the processor of the firing. It takes no memory.
-    pub(crate) fn take(&mut self, clauses: &[Clause], moment: &Moment)
-        ensures { (account : Account) (registry : Registry) (s next : SetUp)
-            → IsTracing account registry s self.old → map form_of_clause clauses.now ≡ s.clauses
-            → moment.now.firing.now.probe < vec_len self.old.rows
-            → Grows account registry s next (form_of_moment moment.now) → IsTracing account registry next self.new }
+    /// Sees a firing: takes the ECBs of its probe, and ends where one exits, or where it is the last of the history.
+    /// It takes no memory.
+    pub(crate) fn see(
+        &mut self,
+        account: &Account,
+        machine: &Machine,
+        clauses: &[Clause],
+        moment: &Moment,
+    )
+        requires going { self.old.ended ≡ None }
+        requires known { moment.now.firing.now.probe < vec_len self.old.rows }
+        ensures { (s : SetUp) (firing : Firing) → IsTracing account.now machine.now.registry s self.old
+            → map form_of_clause clauses.now ≡ s.clauses
+            → moment.now.firing.now.cpu < machine.now.registry.cpus
+            → moment_of machine.now.registry firing ≡ Some (form_of_moment moment.now)
+            → IsTracing account.now machine.now.registry
+            (happens account.now machine.now.registry s (sees firing)) self.new }
     {
-        let Some(row) = self.rows.get(moment.firing.probe as usize) else {
-            return;
-        };
-        let cpu = moment.firing.cpu as usize;
-        if cpu < self.processors.len() {
-            self.processors[cpu].take(clauses, row, moment);
+        let row = &self.rows[moment.firing.probe as usize];
+        let exit = self.processors.take(clauses, row, moment);
+        self.seen += 1;
+        if let Some(end) = end_after(exit, self.seen, self.history) {
+            self.ended = Some(end);
+            let row = &self.rows[END as usize];
+            self.processors.fire_end(account, machine, clauses, row);
         }
     }
 
-    /// Begins the buffer of a processor anew, after a reading.
-    pub(crate) fn clear(&mut self, cpu: usize)
-        ensures { (account : Account) (registry : Registry) (s : SetUp) → IsTracing account registry s self.old
-            → s.begun ≡ true → IsTracing account registry (with_event s (read cpu)) self.new }
+    /// Ends tracing for good: END fires. It takes no memory.
+    pub(crate) fn finish(
+        &mut self,
+        end: End,
+        account: &Account,
+        machine: &Machine,
+        clauses: &[Clause],
+    )
+        requires { self.old.ended ≡ None }
+        ensures { (s : SetUp) → IsTracing account.now machine.now.registry s self.old
+            → map form_of_clause clauses.now ≡ s.clauses
+            → IsTracing account.now machine.now.registry (with_event s (ends end)) self.new }
     {
-        if cpu < self.processors.len() {
-            self.processors[cpu].clear();
+        self.ended = Some(end);
+        let row = &self.rows[END as usize];
+        self.processors.fire_end(account, machine, clauses, row);
+    }
+
+    /// Ends tracing by a `stop`, where it goes on.
+    pub(crate) fn stop(&mut self, account: &Account, machine: &Machine, clauses: &[Clause])
+        ensures { (s : SetUp) → IsTracing account.now machine.now.registry s self.old
+            → map form_of_clause clauses.now ≡ s.clauses → phase_of s ≡ Active
+            → IsTracing account.now machine.now.registry (with_event s (ends End.Stop)) self.new }
+    {
+        if self.ended.is_none() {
+            self.finish(End::Stop, account, machine, clauses);
+        }
+    }
+
+    /// Goes on after the buffer of a processor was read.
+    pub(crate) fn swap(&mut self, cpu: usize)
+        ensures { (account : Account) (registry : Registry) (s : SetUp) → IsTracing account registry s self.old
+            → IsTracing account registry (with_event s (read cpu)) self.new }
+    {
+        if cpu < self.processors.all.len() {
+            self.processors.all[cpu].swap();
         }
     }
 
     /// How many clauses a division by zero ended on each processor.
     pub(crate) fn errors(&self, alloc: Global) -> Result<Vec<u64>, AllocError>
         ensures { IfOk result (λ errors.
-            errors.items ≡ map (λ processor. processor.errors) self.now.processors.items) }
+            errors.items ≡ map (λ processor. processor.errors) self.now.processors.all.items) }
     {
         let mut errors = Vec::new(alloc);
-        for processor in &self.processors {
+        for processor in &self.processors.all {
             errors.push(processor.errors)?;
         }
         Ok(errors)
+    }
+}
+
+/// Why tracing ends after a firing, if it does: one of its clauses exited, or it is the last of the history.
+fn end_after(exit: Option<i64>, seen: u32, history: u32) -> Option<End>
+    ensures { result ≡ option_or (option_map End.Exit exit) (if seen == history then Some End.History else None) }
+{
+    match exit {
+        Some(status) => Some(End::Exit(status)),
+        None if seen == history => Some(End::History),
+        None => None,
     }
 }

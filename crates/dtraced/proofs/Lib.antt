@@ -11,5 +11,7 @@ pub mod Sessions
 pub mod Streams
 pub mod OneOutput
 pub mod Floats
+pub mod ItemTexts
 pub mod ListedTexts
-pub mod Firings
+pub mod StatusTexts
+pub mod DescribedTexts

@@ -1,13 +1,12 @@
 -- A session after one step more.
-use Rattle.std.proofs.Common.{◌≡◌, ℕ, ◌≤◌, ◌++◌, ◌||◌, Bool, true, false, List, [], ◌∷◌, Option, Some, None, IsTrue, ◌↔◌, codes, reverse, append_assoc, refl, sym, ap, ◌∙◌, subst, inl, inr}
+use Rattle.std.proofs.Common.{◌≡◌, ℕ, ◌++◌, ◌||◌, Bool, true, false, List, [], ◌∷◌, Option, Some, None, IsTrue, ◌↔◌, codes, reverse, append_assoc, refl, sym, ap, ◌∙◌, subst, inl, inr}
 use Rattle.std.proofs.lemmas.List.{append-nil}
 use Rattle.std.proofs.lemmas.Grind.{flat_map-append}
 use Rattle.dt_cred.specs.declared.account.Account.{Account}
-use Rattle.dt_machine.specs.Registry.{Registry, Contents, IsSound, account_of, firing_at}
+use Rattle.dt_machine.specs.Registry.{Registry, Contents, account_of, firing_at}
 use Rattle.dt_machine.specs.declared.firing.Firing.{Firing}
 use Rattle.dt_consumer.specs.Answer.{Answer}
-use Rattle.dt_consumer.specs.Life.{Item, fired, firings}
-use Rattle.dt_consumer.specs.declared.limits.TheConstants.{FIRINGS_MAX}
+use Rattle.dt_consumer.specs.Life.{Item, fired}
 use Rattle.dt_consumer.specs.Sees.{Sees}
 use Rattle.dt_consumer.specs.StandsFor.{StandsFor}
 use Rattle.dt_consumer.specs.declared.consumer.Consumer.{Consumer}
@@ -15,7 +14,6 @@ use Rattle.dtraced.specs.Input.{AreSteps, lines_of}
 use Rattle.dtraced.specs.Replay.{session_view, brings, reached_by, account_opened, output_line, output_of, taken, AreAnswers, IsReplay}
 use Rattle.dtraced.specs.Reply.{reply_text}
 use Rattle.dtraced.specs.Run.{IsSession, IsServed, IsAnswer, HasTaken}
-use Rattle.dtraced.proofs.Firings.{session-few}
 use Rattle.dtraced.specs.declared.run.Run.{Run}
 use Rattle.dtraced.specs.Step.{Act, opens, calls, fires, may_open, is_opened}
 
@@ -101,12 +99,12 @@ written-more answers answer output bytes was is =
     ∙ seat_and_reply (output_of answers) (codes "0 ") (reply_text answer)))
 
 pub session-called : (contents : Contents) (past : List Act) (consumer after : Consumer) (output line bytes : List ℕ)
-    → IsSound contents → IsSession contents past consumer output
+    → IsSession contents past consumer output
     → ((account : Account) (life : List Item) → StandsFor account contents.registry consumer life
-    → firings life ≤ FIRINGS_MAX → IsAnswer account contents.registry life line after bytes)
+    → IsAnswer account contents.registry life line after bytes)
     → IsSession contents (calls line ∷ past) after ((output ++ codes "0 ") ++ bytes)
-session-called contents past consumer after output line bytes sound s answered =
-    let a = answered s.account s.life s.stands (session-few s.account contents past s.life sound s.lives) in
+session-called contents past consumer after output line bytes s answered =
+    let a = answered s.account s.life s.stands in
     let more = view-more contents past (calls line) s.opened in
     record {
       opened = s.opened;

@@ -10,7 +10,7 @@ use Rattle.dt_consumer.specs.Answer.{snapped}
 use Rattle.dtraced.specs.Reply.{reply_text}
 
 -- in a text the byte is written as it is
-abbrev IsPlain : ℕ → Type 0
+abbrev pub IsPlain : ℕ → Type 0
 IsPlain x = (rest : List ℕ) → compact_text (string (x ∷ rest)) ≡ 34 ∷ x ∷ drop 1 (compact_text (string rest))
 
 digits_plain : AllByRecursion IsPlain lower_digits

@@ -1,5 +1,6 @@
 -- The line that a consumer is answered: JSON with the keys in the order of their bytes and no blanks.
 use Rattle.std.specs.Prelude.{ℕ, List, [], ◌∷◌, ◌++◌, Option, unwrap_or, true, codes, decimal, length, map, replicate, encode_utf8}
+use Rattle.serde_json.specs.Find.{of_integer}
 use Rattle.std.specs.List.{flat_map, join_with_byte}
 use Rattle.hex.specs.Hex.{encode_lower}
 use Rattle.serde_json.specs.Data.{Data, null, boolean, number as json_number, unsigned, string, array, object, Members, no_members, member}
@@ -11,9 +12,12 @@ use Rattle.dt_lang.specs.Fault.{word_of}
 use Rattle.dt_lang.specs.Word.{name_of_destructive}
 use Rattle.dt_ecb.specs.Fault.{word_of as word_of_action}
 use Rattle.dt_record.specs.Layout.{FieldForm, number, text, stack, ustack, size_of}
-use Rattle.dt_consumer.specs.Phase.{phase_word}
+use Rattle.dt_consumer.specs.Phase.{phase_word, cause_word}
 use Rattle.dt_consumer.specs.Refusal.{refusal_number, refusal_name}
 use Rattle.dt_consumer.specs.Answer.{Answer, done, enabled, snapped, status, listed, described, refused}
+use Rattle.dt_consumer.specs.declared.phase.Phase.{Phase}
+use Rattle.dt_consumer.specs.declared.phase.Phase.TheVariants.{Stopped}
+use Rattle.dt_consumer.specs.declared.phase.End.TheVariants.{Exit}
 use Rattle.dt_consumer.specs.declared.refusal.Refusal.{Refusal}
 use Rattle.dt_consumer.specs.declared.refusal.Refusal.TheVariants.{Program, Privilege, Destructive, AggClash, NoMatch}
 
@@ -70,7 +74,17 @@ field_data field = string (field_word field)
 abbrev pub fields_in : Option (List FieldForm) → List FieldForm
 fields_in layout = unwrap_or layout []
 
--- Nothing drops what is aggregated yet, and nothing ends tracing: the drops are 0, and cause and exit null.
+-- why tracing ended; null where it didn't
+abbrev pub cause_data : Phase → Data
+cause_data (Stopped end) = string (cause_word end)
+cause_data _ = null
+
+-- the status with which a clause exited; null where tracing didn't end by it
+abbrev pub exit_data : Phase → Data
+exit_data (Stopped (Exit code)) = json_number (of_integer code)
+exit_data _ = null
+
+-- Nothing drops what is aggregated yet: its drops are 0, for each processor.
 abbrev pub reply_members : Answer → Members
 reply_members done = ok_and no_members
 reply_members (enabled count first) = member (codes "count") (of_number count)
@@ -80,8 +94,8 @@ reply_members (snapped cpu bytes drops filled) =
     (member (codes "drops") (of_number drops) (member (codes "filled") (boolean filled) (ok_and no_members))))
 reply_members (status phase seen errors) =
     member (codes "aggdrops") (array (items_of (replicate (length errors) (of_number 0))))
-    (member (codes "cause") null (member (codes "errors") (array (items_of (map of_number errors)))
-    (member (codes "exit") null (ok_and (member (codes "phase") (string (phase_word phase))
+    (member (codes "cause") (cause_data phase) (member (codes "errors") (array (items_of (map of_number errors)))
+    (member (codes "exit") (exit_data phase) (ok_and (member (codes "phase") (string (phase_word phase))
     (member (codes "seen") (of_number seen) no_members))))))
 reply_members (described epid probe layout) =
     member (codes "epid") (of_number epid) (member (codes "id") (of_number probe.id)
@@ -95,6 +109,29 @@ reply_members (refused refusal) = refusal_members refusal
 abbrev pub probe_text : Probe → List ℕ
 probe_text probe = codes "{\"id\":" ++ decimal probe.id ++ codes ",\"name\":" ++ compact_text
     (string (tuple_text probe.tuple)) ++ codes "}"
+
+-- numbers with commas between them
+abbrev pub numbers_text : List ℕ → List ℕ
+numbers_text numbers = join_with_byte 44 (map decimal numbers)
+
+-- the text of a status whose cause, exit and phase have these texts; its drops are a zero for each processor
+abbrev pub status_text : (cause exit phase : List ℕ) (seen : ℕ) (errors : List ℕ) → List ℕ
+status_text cause exit phase seen errors =
+    codes "{\"aggdrops\":[" ++ numbers_text (replicate (length errors) 0)
+    ++ codes "],\"cause\":" ++ cause ++ codes ",\"errors\":[" ++ numbers_text errors
+    ++ codes "],\"exit\":" ++ exit ++ codes ",\"ok\":true,\"phase\":\"" ++ phase
+    ++ codes "\",\"seen\":" ++ decimal seen ++ codes "}\n"
+
+-- the text that describes an ECB, of whose record the values and the size have these texts
+abbrev pub describe_text : (epid : ℕ) → Probe → (values size : List ℕ) → List ℕ
+describe_text epid probe values size =
+    codes "{\"epid\":" ++ decimal epid ++ codes ",\"id\":" ++ decimal probe.id
+    ++ codes ",\"layout\":[" ++ values ++ codes "],\"ok\":true,\"probe\":" ++ compact_text
+    (string (tuple_text probe.tuple)) ++ codes ",\"size\":" ++ size ++ codes "}\n"
+
+-- a value's word in quotes
+abbrev pub field_text : FieldForm → List ℕ
+field_text field = codes "\"" ++ field_word field ++ codes "\""
 
 -- the line with its newline
 abbrev pub reply_text : Answer → List ℕ

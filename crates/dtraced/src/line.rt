@@ -1,11 +1,11 @@
 //! What a consumer asks for by the bytes of a line.
-ghost use Rattle.std.specs.Prelude.{◌≡◌, ◌≢◌, Ok, Err, IfOk, IfErr, option_map};
+ghost use Rattle.std.specs.Prelude.{◌≡◌, ◌≢◌, Some, None, Ok, Err, IfOk, IfErr, option_map};
 ghost use Rattle.serde_json.specs.View.{view};
 ghost use Rattle.dt_consumer.specs.Ask.{line_asks};
 ghost use Rattle.dt_consumer.specs.Refusal.{IsNoCommand};
-ghost use Rattle.dtraced.specs.Line.{field_text, field_number, request_of, requested_by, requested, requested_by_line, BytesAsk};
+ghost use Rattle.dtraced.specs.Line.{field_text, field_number, option_request, request_of, requested_by, requested, requested_by_line, value_in, value_of, BytesAsk};
 
-use dt_consumer::{Command, Refusal};
+use dt_consumer::{Command, OptionValue, Refusal};
 use serde_json::Value;
 use std::alloc::{AllocError, Global};
 
@@ -66,12 +66,14 @@ fn requested_command(alloc: Global, request: &Value) -> Result<Command, Refusal>
     ensures no_command { IfErr result (λ refusal. refusal ≢ Refusal.Memory → IsNoCommand refusal) }
 {
     match text_field(request, "cmd").ok_or(Refusal::Request)? {
+        "option" => option_command(alloc, request),
         "enable" => {
             let text = text_field(request, "text").ok_or(Refusal::Request)?;
             let text = String::from_str(alloc, text).map_err(|_| Refusal::Memory)?;
             Ok(Command::Enable { text })
         }
         "go" => Ok(Command::Go),
+        "stop" => Ok(Command::Stop),
         "snap" => {
             let cpu = number_field(request, "cpu").ok_or(Refusal::Request)?;
             Ok(Command::Snap { cpu })
@@ -87,6 +89,33 @@ fn requested_command(alloc: Global, request: &Value) -> Result<Command, Refusal>
             Ok(Command::Describe { epid })
         }
         _ => Err(Refusal::Request),
+    }
+}
+
+/// The `option` that a JSON value asks for. Its `value` may be of any kind: whether the option takes it, the consumer
+/// judges.
+fn option_command(alloc: Global, request: &Value) -> Result<Command, Refusal>
+    ensures ok { IfOk result (λ command. option_request (view request.now) ≡ Some (request_of command)) }
+    ensures err { IfErr result (λ refusal. refusal ≢ Refusal.Memory
+        → (refusal ≡ Refusal.Request) × (option_request (view request.now) ≡ None)) }
+{
+    let name = text_field(request, "name").ok_or(Refusal::Request)?;
+    let value = request.get("value").ok_or(Refusal::Request)?;
+    let name = String::from_str(alloc, name).map_err(|_| Refusal::Memory)?;
+    let value = option_value(alloc, value).map_err(|_| Refusal::Memory)?;
+    Ok(Command::Option { name, value })
+}
+
+/// What a JSON value is as an option's.
+fn option_value(alloc: Global, value: &Value) -> Result<OptionValue, AllocError>
+    ensures { IfOk result (λ given. value_of given ≡ value_in (view value.now)) }
+{
+    if let Some(number) = value.as_u64() {
+        Ok(OptionValue::Number(number))
+    } else if let Some(text) = value.as_str() {
+        Ok(OptionValue::Text(String::from_str(alloc, text)?))
+    } else {
+        Ok(OptionValue::Other)
     }
 }
 

@@ -2,7 +2,7 @@
 ghost use Rattle.std.specs.Prelude.{◌≡◌, ◌≢◌, ◌<◌, ℕ, List, [], ◌∷◌, IfOk, IfErr, IfSome, IfNone, OnOk, length, take};
 ghost use Rattle.std.specs.Io.KnownBytes.{Appends, Keeps};
 ghost use Rattle.dt_machine.specs.Reading.{IsDescribed, IsFaultOf};
-ghost use Rattle.dt_machine.specs.Registry.{Contents, IsSound};
+ghost use Rattle.dt_machine.specs.Registry.{Contents};
 ghost use Rattle.dt_machine.specs.Sections.{NowhereIfMemory, UnlessMemory};
 ghost use Rattle.dt_machine.specs.declared.fault.MachineFault.{MachineFault};
 ghost use Rattle.dtraced.specs.Faults.{IsFaultOfReading, IsFaultOfSteps, IsOfMachine};
@@ -107,7 +107,6 @@ fn read_input<R: Read>(alloc: Global, reader: &mut R) -> Result<Vec<u8>, ReplayF
 
 /// What is written for an input.
 fn output_of(alloc: Global, machine: &Machine, input: &[u8]) -> Result<Vec<u8>, ReplayFault>
-    requires { IsSound machine.now }
     ensures ok { IfOk result (λ output. IsReplay machine.now input.now output.items) }
     ensures err { IfErr result (IsFaultOfSteps machine.now input.now) }
 {

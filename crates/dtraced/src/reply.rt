@@ -1,11 +1,13 @@
 //! The line that a consumer is answered.
-ghost use Rattle.std.specs.Prelude.{◌≡◌, ℕ, ◌<◌, List, ◌++◌, Bool, if◌then◌else◌, IfOk, codes, decimal, map, replicate};
+ghost use Rattle.std.specs.Prelude.{◌≡◌, ℕ, ◌<◌, ℤ, List, [], ◌++◌, Bool, Some, None, if◌then◌else◌, IfOk, codes, decimal, map, replicate};
+ghost use Rattle.std.specs.Fmt.{signed_decimal};
 ghost use Rattle.std.specs.List.{AllByRecursion, join_with_byte};
 ghost use Rattle.dt_cred.specs.declared.probe.Probe.{Probe};
 ghost use Rattle.serde_json.specs.Data.{object, string};
 ghost use Rattle.serde_json.specs.View.{view};
 ghost use Rattle.hex.specs.Hex.{encode_lower};
 ghost use Rattle.dt_consumer.specs.Answer.{done, enabled, snapped, status, listed, described, refused, answer_of};
+ghost use Rattle.dt_consumer.specs.declared.phase.End.TheVariants.{Stop, Exit, History};
 ghost use Rattle.dt_lang.specs.Fault.{word_of};
 ghost use Rattle.dt_lang.specs.Word.{name_of_destructive};
 ghost use Rattle.dt_lang.specs.declared.fault.Why.{Why};
@@ -13,10 +15,11 @@ ghost use Rattle.dt_lang.specs.declared.word.Destructive.{Destructive};
 ghost use Rattle.dt_ecb.specs.declared.fault.RestrictedAction.TheVariants.{Stack};
 ghost use Rattle.serde_json.specs.Written.{compact_text};
 ghost use Rattle.dt_record.specs.Fields.{form_of_field, form_of_layout};
+ghost use Rattle.dt_record.specs.Layout.{FieldForm, size_of};
 ghost use Rattle.std.specs.String.{string_bytes};
-ghost use Rattle.dtraced.specs.Reply.{characters, field_data, fields_in, of_number, refusal_members, probe_data, probe_text, reply_members, reply_text};
+ghost use Rattle.dtraced.specs.Reply.{cause_data, characters, describe_text, exit_data, field_data, field_text, fields_in, of_number, refusal_members, probe_data, probe_text, reply_members, reply_text, status_text};
 
-use dt_consumer::{Phase, Refusal, Reply};
+use dt_consumer::{End, Phase, Refusal, Reply};
 use dt_cred::Probe;
 use dt_record::{Field, Layout};
 use serde_json::{Value, json};
@@ -83,14 +86,36 @@ fn listed_value(alloc: Global, probes: &[Probe]) -> Result<Value, AllocError>
     json!(in alloc; {"ok": true, "probes": values})
 }
 
-/// Nothing drops what is aggregated, and nothing ends tracing yet: the drops are 0, cause and exit null.
+/// Nothing drops what is aggregated yet: its drops are 0.
 fn status_value(alloc: Global, phase: Phase, seen: u64, errors: &[u64]) -> Result<Value, AllocError>
     ensures { IfOk result (λ value. view value ≡ object (reply_members (status phase seen errors.now))) }
 {
     let drops = zeros(alloc, errors.len())?;
     let errors = numbers(alloc, errors)?;
-    json!(in alloc; {"aggdrops": drops, "cause": null, "errors": errors, "exit": null, "ok": true,
+    let cause = cause_value(alloc, phase)?;
+    let exit = exit_value(phase);
+    json!(in alloc; {"aggdrops": drops, "cause": cause, "errors": errors, "exit": exit, "ok": true,
         "phase": phase.word(), "seen": seen})
+}
+
+/// Why tracing ended; null where it didn't.
+fn cause_value(alloc: Global, phase: Phase) -> Result<Value, AllocError>
+    ensures { IfOk result (λ value. view value ≡ cause_data phase) }
+{
+    match phase {
+        Phase::Stopped(end) => Value::try_from_str(alloc, end.word()),
+        _ => Ok(Value::Null),
+    }
+}
+
+/// The status with which a clause exited; null where tracing didn't end by it.
+fn exit_value(phase: Phase) -> Value
+    ensures { view result ≡ exit_data phase }
+{
+    match phase {
+        Phase::Stopped(End::Exit(status)) => Value::from(status),
+        _ => Value::Null,
+    }
 }
 
 /// As many zeros.
@@ -210,6 +235,23 @@ pub fn reply_texts()
     ensures listed { (probes : List Probe) → reply_text (listed probes)
         ≡ codes "{\"ok\":true,\"probes\":[" ++ join_with_byte 44 (map probe_text probes) ++ codes "]}\n" }
 
+    ensures inactive { (seen : ℕ) (errors : List ℕ) → reply_text (status Phase.Inactive seen errors)
+        ≡ status_text (codes "null") (codes "null") (codes "inactive") seen errors }
+    ensures active { (seen : ℕ) (errors : List ℕ) → reply_text (status Phase.Active seen errors)
+        ≡ status_text (codes "null") (codes "null") (codes "active") seen errors }
+    ensures stopped { (seen : ℕ) (errors : List ℕ) → reply_text (status (Phase.Stopped Stop) seen errors)
+        ≡ status_text (codes "\"stop\"") (codes "null") (codes "stopped") seen errors }
+    ensures exited { (code : ℤ) (seen : ℕ) (errors : List ℕ)
+        → reply_text (status (Phase.Stopped (Exit code)) seen errors)
+        ≡ status_text (codes "\"exit\"") (signed_decimal code) (codes "stopped") seen errors }
+    ensures history { (seen : ℕ) (errors : List ℕ) → reply_text (status (Phase.Stopped History) seen errors)
+        ≡ status_text (codes "\"history\"") (codes "null") (codes "stopped") seen errors }
+    ensures described { (epid : ℕ) (probe : Probe) (fields : List FieldForm)
+        → reply_text (described epid probe (Some fields))
+        ≡ describe_text epid probe (join_with_byte 44 (map field_text fields)) (decimal (size_of (Some fields))) }
+    ensures described_unrecorded { (epid : ℕ) (probe : Probe) → reply_text (described epid probe None)
+        ≡ describe_text epid probe [] (codes "0") }
+
     ensures json { reply_text (refused Refusal.Json) ≡ codes "{\"error\":1,\"name\":\"Json\"}\n" }
     ensures request { reply_text (refused Refusal.Request) ≡ codes "{\"error\":2,\"name\":\"Request\"}\n" }
     ensures line_long { reply_text (refused Refusal.LineLong) ≡ codes "{\"error\":3,\"name\":\"LineLong\"}\n" }
@@ -225,6 +267,7 @@ pub fn reply_texts()
         ≡ codes "{\"error\":8,\"name\":\"AggClash\",\"what\":" ++ compact_text (string (characters what)) ++ codes "}\n" }
     ensures limit { reply_text (refused Refusal.Limit) ≡ codes "{\"error\":9,\"name\":\"Limit\"}\n" }
     ensures busy { reply_text (refused Refusal.Busy) ≡ codes "{\"error\":10,\"name\":\"Busy\"}\n" }
+    ensures option { reply_text (refused Refusal.Option) ≡ codes "{\"error\":11,\"name\":\"Option\"}\n" }
     ensures no_cpu { reply_text (refused Refusal.NoCpu) ≡ codes "{\"error\":12,\"name\":\"NoCpu\"}\n" }
     ensures no_epid { reply_text (refused Refusal.NoEpid) ≡ codes "{\"error\":14,\"name\":\"NoEpid\"}\n" }
     ensures quota { reply_text (refused Refusal.Quota) ≡ codes "{\"error\":15,\"name\":\"Quota\"}\n" }

@@ -1,9 +1,9 @@
 //! The steps of a replay, taken one by one.
 ghost use Rattle.std.specs.Prelude.{◌≡◌, ◌<◌, ◌≤◌, ◌↔◌, ◌++◌, ℕ, List, [], ◌∷◌, Ok, true, false, IsTrue, IfOk, OnOk};
-ghost use Rattle.dt_consumer.specs.Life.{Item, firings};
+ghost use Rattle.dt_consumer.specs.Life.{Item};
 ghost use Rattle.dt_consumer.specs.StandsFor.{StandsFor};
 ghost use Rattle.dt_cred.specs.declared.account.Account.{Account};
-ghost use Rattle.dt_machine.specs.Registry.{Contents, IsSound};
+ghost use Rattle.dt_machine.specs.Registry.{Contents};
 ghost use Rattle.dtraced.specs.Input.{AreSteps};
 ghost use Rattle.dtraced.specs.Run.{IsAllowed, IsAnswer, IsAfter, HasTaken};
 ghost use Rattle.dtraced.specs.Step.{Act, opens, calls, fires, act_of};
@@ -11,7 +11,7 @@ ghost use Rattle.dtraced.specs.Step.{Act, opens, calls, fires, act_of};
 use crate::line::read_line;
 use crate::reply::reply_bytes;
 use crate::step::Step;
-use dt_consumer::{Consumer, FIRINGS_MAX};
+use dt_consumer::Consumer;
 use dt_machine::{CPUS_MAX, Machine};
 use std::alloc::{AllocError, Global};
 
@@ -44,7 +44,6 @@ impl Run {
         machine: &Machine,
         line: &[u8],
     ) -> Result<bool, AllocError>
-        requires { IsSound machine.now }
         ensures taken { result ≡ Ok true → (lines : List (List ℕ)) → HasTaken machine.now lines self.old
             → HasTaken machine.now (lines ++ line.now ∷ []) self.new }
         ensures refused { result ≡ Ok false → (lines : List (List ℕ)) → HasTaken machine.now lines self.old
@@ -61,7 +60,6 @@ impl Run {
 
     /// Takes a step, and answers whether it may stand here.
     fn take(&mut self, alloc: Global, machine: &Machine, step: Step<'_>) -> Result<bool, AllocError>
-        requires { IsSound machine.now }
         ensures taken { result ≡ Ok true → (past : List Act) → IsAfter machine.now past self.old
             → IsAllowed machine.now.registry past (act_of step.entry)
             × IsAfter machine.now (act_of step.entry ∷ past) self.new }
@@ -102,7 +100,6 @@ impl Run {
 
     /// Asks a line of the session, if one is open, and keeps the reply.
     fn call(&mut self, alloc: Global, machine: &Machine, line: &[u8]) -> Result<(), AllocError>
-        requires { IsSound machine.now }
         ensures { OnOk result ((past : List Act) → IsAfter machine.now past self.old
             → IsAfter machine.now (calls line.now ∷ past) self.new) }
     {
@@ -146,7 +143,7 @@ fn answer(
 ) -> Result<Vec<u8>, AllocError>
     ensures { IfOk result (λ bytes. (account : Account) (life : List Item)
         → StandsFor account machine.now.registry consumer.old life
-        → firings life ≤ FIRINGS_MAX → IsAnswer account machine.now.registry life line.now consumer.new bytes.items) }
+        → IsAnswer account machine.now.registry life line.now consumer.new bytes.items) }
 {
     let asked = read_line(alloc, line)?;
     let draft = consumer.draft(alloc, machine, &asked)?;

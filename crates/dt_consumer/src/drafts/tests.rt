@@ -1,5 +1,5 @@
 //! Worked rows: what each line is answered, and which firings are seen, with programs that are made by hand.
-use crate::command::Command;
+use crate::command::{Command, OptionValue};
 use crate::consumer::Consumer;
 use crate::draft::Draft;
 use crate::refusal::Refusal;
@@ -19,7 +19,8 @@ const MACHINE: &str = r#"{"cpus":2,
 [{"probe":3,"pid":100,"args":[9,3]},{"probe":3,"pid":200}]]}"#;
 
 /// `account NAME` begins a consumer; in any other row a step and what it is answered. A program is clauses with ` / `
-/// between them, each a description and `quotient`, which traces arg0 / arg1, or nothing.
+/// between them, each a description and `quotient`, which traces arg0 / arg1, or `exit`, which exits with arg0, or
+/// nothing.
 const ROWS: &str = "
 account root
 status = Inactive 0 0 0
@@ -53,6 +54,57 @@ snap 0 = 0: [] 0
 fire 1 1 = unseen
 fire 1 0 = seen
 status = Active 1 0 0
+account root
+option bufsize 0 = refused 11 Option
+option bufsize 1048577 = refused 11 Option
+option histsize 65537 = refused 11 Option
+option bufsize ring = refused 11 Option
+option bufpolicy tape = refused 11 Option
+option bufpolicy 1 = refused 11 Option
+option size 1 = refused 11 Option
+stop = refused 10 Busy
+option bufpolicy fill = done
+option bufsize 3 = done
+program read:entry / END = 2 from 1
+go = refused 9 Limit
+option bufsize 16 = done
+go = done, publishes
+option bufsize 16 = refused 10 Busy
+fire 0 0 = seen
+fire 0 0 = seen
+fire 0 0 = seen
+snap 0 = 0: [0, 0, 0, 1, 0, 0, 0, 1, 0, 0, 0, 1] 0
+fire 0 0 = seen
+stop = done
+snap 0 = 0: [0, 0, 0, 1, 0, 0, 0, 1, 0, 0, 0, 1, 0, 0, 0, 2] 0 filled
+status = Stopped(Stop) 4 0 0
+stop = refused 10 Busy
+fire 0 0 = unseen
+account root
+option bufpolicy ring = done
+option bufsize 8 = done
+option histsize 3 = done
+program read:entry / read:entry quotient = 2 from 1
+go = done, publishes
+fire 0 1 = seen
+fire 0 1 = seen
+snap 0 = refused 10 Busy
+fire 0 1 = seen
+status = Stopped(History) 3 0 0
+snap 0 = 0: [0, 0, 0, 1, 0, 0, 0, 1] 3
+account root
+program BEGIN exit / END = 2 from 1
+go = done, publishes
+status = Stopped(Exit(0)) 0 0 0
+snap 0 = 0: [0, 0, 0, 2] 0
+go = refused 10 Busy
+account root
+option histsize 1 = done
+program read:entry exit / read:entry / END exit = 3 from 1
+go = done, publishes
+fire 0 1 = seen
+status = Stopped(Exit(4)) 1 0 0
+snap 0 = 0: [] 0
 ";
 
 /// `arg0 / arg1`
@@ -74,6 +126,9 @@ fn clause(alloc: Global, text: &str) -> Result<Clause, Fail> {
     let mut statements = Vec::new(alloc);
     if body == "quotient" {
         statements.push(Statement::Trace(Argument::Number(quotient(alloc)?)))?;
+    }
+    if body == "exit" {
+        statements.push(Statement::Exit(Expr::Variable(NumberVariable::Arg0)))?;
     }
     Ok(Clause {
         descriptions,
@@ -102,8 +157,11 @@ fn spelled(alloc: Global, reply: &Reply) -> Result<String, Fail> {
             cpu,
             data,
             drops,
-            ..
-        } => format!(in alloc; "{cpu}: {data:?} {drops}")?,
+            filled,
+        } => {
+            let end = if *filled { " filled" } else { "" };
+            format!(in alloc; "{cpu}: {data:?} {drops}{end}")?
+        }
         Reply::Status {
             phase,
             seen,
@@ -133,6 +191,19 @@ fn spelled(alloc: Global, reply: &Reply) -> Result<String, Fail> {
     })
 }
 
+/// An option's name and its value, which is a number or a word.
+fn option(alloc: Global, text: &str) -> Result<Command, Fail> {
+    let (name, value) = text.split_once(' ').ok_or("no value")?;
+    let value = match value.parse::<u64>() {
+        Ok(number) => OptionValue::Number(number),
+        Err(_) => OptionValue::Text(String::from_str(alloc, value)?),
+    };
+    Ok(Command::Option {
+        name: String::from_str(alloc, name)?,
+        value,
+    })
+}
+
 /// The draft of a step that is a line.
 fn drafted(
     alloc: Global,
@@ -143,7 +214,9 @@ fn drafted(
     let (word, rest) = text.split_once(' ').unwrap_or((text, ""));
     let command = match word {
         "program" => return Ok(consumer.draft_program(alloc, machine, program(alloc, rest)?)?),
+        "option" => option(alloc, rest)?,
         "go" => Command::Go,
+        "stop" => Command::Stop,
         "status" => Command::Status,
         "snap" => Command::Snap {
             cpu: rest.parse::<u64>().ok().ok_or("no number")?,

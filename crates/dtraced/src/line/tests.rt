@@ -13,7 +13,7 @@ fn told(alloc: Global, line: &[u8]) -> Result<String, Fail> {
 
 #[test]
 fn answers_each_line(rt: HostRuntime) -> Result<(), Fail> {
-    let rows: [(&[u8], &str); 22] = [
+    let rows: [(&[u8], &str); 35] = [
         (b"{\"cmd\":\"go\"}", "Go"),
         (
             b"{\"cmd\": \"enable\", \"text\": \"x{}\"}",
@@ -39,7 +39,48 @@ fn answers_each_line(rt: HostRuntime) -> Result<(), Fail> {
         (b"[]", "Request"),
         (b"{}", "Request"),
         (b"{\"cmd\":1}", "Request"),
-        (b"{\"cmd\":\"stop\"}", "Request"),
+        (b"{\"cmd\":\"stop\"}", "Stop"),
+        (b"{\"cmd\":\"close\"}", "Request"),
+        (
+            b"{\"cmd\":\"option\",\"name\":\"bufsize\",\"value\":28}",
+            "Option { name: \"bufsize\", value: Number(28) }",
+        ),
+        (
+            b"{\"cmd\":\"option\",\"name\":\"bufpolicy\",\"value\":\"ring\"}",
+            "Option { name: \"bufpolicy\", value: Text(\"ring\") }",
+        ),
+        // a value of any other kind is read, and is for the consumer to refuse
+        (
+            b"{\"cmd\":\"option\",\"name\":\"\",\"value\":18446744073709551615}",
+            "Option { name: \"\", value: Number(18446744073709551615) }",
+        ),
+        (
+            b"{\"cmd\":\"option\",\"name\":\"x\",\"value\":18446744073709551616}",
+            "Option { name: \"x\", value: Other }",
+        ),
+        (
+            b"{\"cmd\":\"option\",\"name\":\"x\",\"value\":-1}",
+            "Option { name: \"x\", value: Other }",
+        ),
+        (
+            b"{\"cmd\":\"option\",\"name\":\"x\",\"value\":1.0}",
+            "Option { name: \"x\", value: Other }",
+        ),
+        (
+            b"{\"cmd\":\"option\",\"name\":\"x\",\"value\":true}",
+            "Option { name: \"x\", value: Other }",
+        ),
+        (
+            b"{\"cmd\":\"option\",\"name\":\"x\",\"value\":null}",
+            "Option { name: \"x\", value: Other }",
+        ),
+        (
+            b"{\"cmd\":\"option\",\"name\":\"x\",\"value\":[1]}",
+            "Option { name: \"x\", value: Other }",
+        ),
+        (b"{\"cmd\":\"option\",\"name\":\"bufsize\"}", "Request"),
+        (b"{\"cmd\":\"option\",\"value\":1}", "Request"),
+        (b"{\"cmd\":\"option\",\"name\":1,\"value\":1}", "Request"),
         (b"{\"cmd\":\"enable\",\"text\":1}", "Request"),
         (b"{\"cmd\":\"snap\"}", "Request"),
         (b"{\"cmd\":\"snap\",\"cpu\":-1}", "Request"),

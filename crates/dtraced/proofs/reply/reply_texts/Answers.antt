@@ -11,6 +11,8 @@ use Rattle.dt_consumer.specs.declared.refusal.Refusal.TheVariants as Refusal
 use Rattle.dtraced.specs.Reply.{reply_text}
 use Rattle.serde_json.proofs.OnLiterals.{serde_json_on_literals}
 use Rattle.dtraced.proofs.ListedTexts.{text-listed}
+use Rattle.dtraced.proofs.DescribedTexts.{text-described, text-unrecorded}
+use Rattle.dtraced.proofs.StatusTexts.{text-inactive, text-active, text-stopped, text-exited, text-history}
 use Rattle.dtraced.proofs.Texts.{text-snapped}
 use Rattle.dtraced.proofs.reply.reply_texts.Goals as goal
 
@@ -110,6 +112,10 @@ pub returns-clause-busy : goal.returns-clause-busy
 unfolding serde_json_on_literals digits
 returns-clause-busy c = refl
 
+pub returns-clause-option : goal.returns-clause-option
+unfolding serde_json_on_literals digits
+returns-clause-option c = refl
+
 pub returns-clause-no_cpu : goal.returns-clause-no_cpu
 unfolding serde_json_on_literals digits
 returns-clause-no_cpu c = refl
@@ -124,3 +130,24 @@ returns-clause-memory c = refl
 
 pub returns-clause-listed : goal.returns-clause-listed
 returns-clause-listed c = text-listed
+
+pub returns-clause-inactive : goal.returns-clause-inactive
+returns-clause-inactive c = text-inactive
+
+pub returns-clause-active : goal.returns-clause-active
+returns-clause-active c = text-active
+
+pub returns-clause-stopped : goal.returns-clause-stopped
+returns-clause-stopped c = text-stopped
+
+pub returns-clause-exited : goal.returns-clause-exited
+returns-clause-exited c = text-exited
+
+pub returns-clause-history : goal.returns-clause-history
+returns-clause-history c = text-history
+
+pub returns-clause-described : goal.returns-clause-described
+returns-clause-described c = text-described
+
+pub returns-clause-described_unrecorded : goal.returns-clause-described_unrecorded
+returns-clause-described_unrecorded c = text-unrecorded

@@ -5,9 +5,9 @@ use Rattle.dt_consumer.specs.Ask.{line_asks}
 use Rattle.dtraced.proofs.run.answer.Goals as goal
 
 pub returns : goal.returns
-returns c = λ account life stands few.
+returns c = λ account life stands.
     let ask = line_asks c.in_ok-asked.asked in
-    let drafted = c.in_ok-draft.ensures account life stands few in
+    let drafted = c.in_ok-draft.ensures account life stands in
     record {
       ask = ask;
       asks = c.in_ok-asked.ensures.asks;

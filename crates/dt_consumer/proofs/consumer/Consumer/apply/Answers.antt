@@ -5,18 +5,24 @@ use Rattle.dt_consumer.proofs.consumer.Consumer.apply.Goals as goal
 
 pub returns-in-Enable : goal.returns-in-Enable
 returns-in-Enable c = λ account life line s drafted.
-    let registry = c.args._machine.now.registry in
+    let registry = c.args.machine.now.registry in
     c.enable.ensures account registry life line s
     (subst (Drafted account registry life line) (sym c.into_change.ensures ∙ c.in-Enable.is) drafted.makes)
 
 pub returns-in-Go : goal.returns-in-Go
 returns-in-Go c = λ account life line s drafted.
-    let registry = c.args._machine.now.registry in
+    let registry = c.args.machine.now.registry in
     c.begin.ensures account registry life line s
     (subst (Drafted account registry life line) (sym c.into_change.ensures ∙ c.in-Go.is) drafted.makes)
 
 pub returns-in-Snap : goal.returns-in-Snap
 returns-in-Snap c = λ account life line s drafted.
-    let registry = c.args._machine.now.registry in
-    c.empty.ensures account registry life line s
+    let registry = c.args.machine.now.registry in
+    c.swap.ensures account registry life line s
     (subst (Drafted account registry life line) (sym c.into_change.ensures ∙ c.in-Snap.is) drafted.makes)
+
+pub returns-in-Stop : goal.returns-in-Stop
+returns-in-Stop c = λ account life line s drafted.
+    let registry = c.args.machine.now.registry in
+    c.stop.ensures account life line s
+    (subst (Drafted account registry life line) (sym c.into_change.ensures ∙ c.in-Stop.is) drafted.makes)

@@ -1,5 +1,5 @@
 -- The program's clauses and ECBs are added, and there is room for them.
-use Rattle.std.proofs.Common.{◌+◌, ◌≤◌, map, refl, ap, ◌∙◌, arith}
+use Rattle.std.proofs.Common.{◌+◌, ◌≤◌, map, ap, ◌∙◌, arith}
 use Rattle.std.specs.Vec.{vec_len}
 use Rattle.dt_lang.specs.Program.{form_of_clause}
 use Rattle.dt_ecb.specs.Forms.{shapes_of}
@@ -27,7 +27,8 @@ returns c = λ account registry life line s drafted.
     rw (after_counted life line drafted.0, drafted.2)
     (stands_changed account registry old life s _ _ (with_program own forms)
     (program_added account registry life forms drafted.1 drafted.3)
-    (omega (arith, quota_left life drafted.0, s.counted, c.saturating_add-self.ensures)) refl
+    (omega (arith, quota_left life drafted.0, s.counted, c.saturating_add-self.ensures))
     (keeps_program account registry old own s.keeps clauses ecbs drafted.1 drafted.3 drafted.4
-    (c.ecbs_go_on.ensures account registry) _ c.extend.new.self (c.extend.ensures.clauses effective fit) (c.extend.ensures.ecbs effective fit)
+    (c.ecbs_go_on.ensures account registry) _ c.extend.new.self (c.extend.ensures.clauses effective fit)
+    (c.extend.ensures.ecbs effective fit)
     (ap shapes_of (c.extend.ensures.shapes effective fit) ∙ drafted.5)))

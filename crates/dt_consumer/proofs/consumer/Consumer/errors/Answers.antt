@@ -1,8 +1,8 @@
 -- The errors of each processor, while it traces; and zeros before.
-use Rattle.std.proofs.Common.{replicate, ap, ◌∙◌, arith}
+use Rattle.std.proofs.Common.{replicate, ap, ◌∙◌}
 use Rattle.dt_consumer.specs.Life.{set_up}
 use Rattle.dt_consumer.proofs.Stands.{traced, untraced}
-use Rattle.dt_consumer.proofs.Telling.{if_ok_map, errors_told, no_errors, ecbs_few}
+use Rattle.dt_consumer.proofs.Telling.{if_ok_map, errors_told, no_errors}
 use Rattle.dt_consumer.proofs.consumer.Consumer.errors.Goals as goal
 
 pub returns-in-Some : goal.returns-in-Some
@@ -12,8 +12,7 @@ returns-in-Some c =
     let registry = c.args.machine.now.registry in
     let s = set_up account registry life in
     let t = traced account registry s c.args.self.now m.stands.keeps c.in-Some.tracing c.in-Some.is in
-    h ∙ errors_told account registry life c.in-Some.tracing t.1
-    (ecbs_few account registry c.args.self.now s m.stands.keeps (omega arith)) m.few_firings)
+    h ∙ errors_told account registry life c.in-Some.tracing t)
     c.errors.ensures
 
 pub returns-in_ok-vec-in-None : goal.returns-in_ok-vec-in-None

@@ -1,18 +1,77 @@
--- One ECB more was taken.
-use Rattle.std.proofs.Common.{map, arith}
+-- One ECB more was taken, or the first that exits.
+use Rattle.std.proofs.Common.{◌≡◌, ◌+◌, ◌<◌, true, false, List, length, map, take, sym, ◌∙◌, subst, arith}
+use Rattle.std.specs.List.{All}
+use Rattle.std.specs.Option.{is_some}
+use Rattle.dt_ecb.specs.declared.parts.Ecb.{Ecb}
 use Rattle.dt_lang.specs.Program.{form_of_clause}
-use Rattle.dt_consumer.specs.Keeps.{form_of_moment, taking_by}
-use Rattle.dt_consumer.proofs.Takings.{took_more, took_all}
+use Rattle.dt_consumer.specs.Buffers.{attempts_of}
+use Rattle.dt_consumer.specs.Keeps.{form_of_moment, followed_by, HasTaken, taking_by}
+use Rattle.dt_consumer.specs.Takings.{faults, first_exit, through_exit}
+use Rattle.dt_consumer.proofs.Buffers.{took_more, took_exit, took_through, still_last, none_of_end}
+use Rattle.dt_consumer.proofs.Takings.{exit_found, stays_more}
 use Rattle.dt_consumer.proofs.processor.Processor.take.Goals as goal
 
-pub loop-ecb-preserved : goal.loop-ecb-preserved
-loop-ecb-preserved c = λ there unread taken h.
-    took_more (taking_by (form_of_moment c.args.moment.now) (map form_of_clause c.args.clauses.now)) c.args.row.now
-    c.loop-ecb.ecb-index _ unread taken _ c.loop-ecb-test.true
-    (c.take_one.ensures (there c.loop-ecb.ecb-index _ c.loop-ecb-test.true) _ _
-    (c.loop-ecb.invariant there unread taken h))
+pub returns-then-is_some-clause-taken : goal.returns-then-is_some-clause-taken
+returns-then-is_some-clause-taken c = λ there past errors last h.
+    let m = form_of_moment c.args.moment.now in
+    let forms = map form_of_clause c.args.clauses.now in
+    let f = taking_by false m forms in
+    let row = c.deref-ecb-items.result.now in
+    let i = c.loop-ecb.ecb-index in
+    let P : List Ecb → Type 0 = λ es. All (λ ecb. ecb.clause < length c.args.clauses.now) es
+    → HasTaken (followed_by past (attempts_of (through_exit (map f es)))) (errors + faults (through_exit (map f es)))
+    c.take_one-exit.new.self in
+    subst P c.deref-ecb-items.ensures.value
+    (λ there.
+    let one = there i _ c.loop-ecb-test.true in
+    took_exit f row i _ past errors _ c.loop-ecb-test.true (c.loop-ecb.invariant.stays there)
+    (subst (λ o. is_some o ≡ true) (c.take_one-exit.ensures.exit one) (sym c.if-is_some.ensures))
+    (c.take_one-exit.ensures.taken one _ _ (still_last past _ (none_of_end m forms (take i row)) last)
+    (c.loop-ecb.invariant.taken there past errors last h)))
+    there
 
-pub returns : goal.returns
-returns c = λ there unread taken h.
-    took_all (taking_by (form_of_moment c.args.moment.now) (map form_of_clause c.args.clauses.now)) c.args.row.now
-    c.loop-ecb.ecb-index unread taken _ (omega arith) (c.loop-ecb.invariant there unread taken h)
+pub returns-then-is_some-clause-exit : goal.returns-then-is_some-clause-exit
+returns-then-is_some-clause-exit c = λ there.
+    let f = taking_by false (form_of_moment c.args.moment.now) (map form_of_clause c.args.clauses.now) in
+    let row = c.deref-ecb-items.result.now in
+    let P : List Ecb → Type 0 = λ es. All (λ ecb. ecb.clause < length c.args.clauses.now) es
+    → c.take_one-exit.result ≡ first_exit (map f es) in
+    subst P c.deref-ecb-items.ensures.value
+    (λ there.
+    let same = c.take_one-exit.ensures.exit (there c.loop-ecb.ecb-index _ c.loop-ecb-test.true) in
+    same
+    ∙ exit_found f row c.loop-ecb.ecb-index _ c.loop-ecb-test.true (c.loop-ecb.invariant.stays there)
+    (subst (λ o. is_some o ≡ true) same (sym c.if-is_some.ensures)))
+    there
+
+pub loop-ecb-preserved : goal.loop-ecb-preserved
+loop-ecb-preserved c = record {
+  taken = λ there past errors last h.
+      let m = form_of_moment c.args.moment.now in
+      let forms = map form_of_clause c.args.clauses.now in
+      let row = c.deref-ecb-items.result.now in
+      took_more (taking_by false m forms) row c.loop-ecb.ecb-index _ past errors _ c.loop-ecb-test.true
+      (c.take_one-exit.ensures.taken (there c.loop-ecb.ecb-index _ c.loop-ecb-test.true) _ _
+      (still_last past _ (none_of_end m forms (take c.loop-ecb.ecb-index row)) last)
+      (c.loop-ecb.invariant.taken there past errors last h));
+  stays = λ there.
+      stays_more (taking_by false (form_of_moment c.args.moment.now) (map form_of_clause c.args.clauses.now))
+      c.deref-ecb-items.result.now c.loop-ecb.ecb-index _ c.loop-ecb-test.true (c.loop-ecb.invariant.stays there)
+      (subst (λ o. is_some o ≡ false)
+      (c.take_one-exit.ensures.exit (there c.loop-ecb.ecb-index _ c.loop-ecb-test.true)) (sym c.if-is_some.ensures));
+  counts = (
+    omega (arith, c.loop-ecb.invariant.counts.0, c.take_one-exit.ensures.counts.0),
+    omega (arith, c.loop-ecb.invariant.counts.1, c.take_one-exit.ensures.counts.1),
+  );
+}
+
+pub returns-clause-taken : goal.returns-clause-taken
+returns-clause-taken c = λ there past errors last h.
+    let f = taking_by false (form_of_moment c.args.moment.now) (map form_of_clause c.args.clauses.now) in
+    let P : List Ecb → Type 0 = λ es. All (λ ecb. ecb.clause < length c.args.clauses.now) es
+    → HasTaken (followed_by past (attempts_of (through_exit (map f es)))) (errors + faults (through_exit (map f es)))
+    c.loop-ecb.self in
+    subst P c.deref-ecb-items.ensures.value
+    (λ there. took_through f c.deref-ecb-items.result.now c.loop-ecb.ecb-index past errors _ (omega arith)
+    (c.loop-ecb.invariant.stays there) (c.loop-ecb.invariant.taken there past errors last h))
+    there

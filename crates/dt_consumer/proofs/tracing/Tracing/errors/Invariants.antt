@@ -4,4 +4,4 @@ use Rattle.dt_consumer.proofs.tracing.Tracing.errors.Given as goal
 
 abbrev pub invariant-loop-processor : goal.invariant-loop-processor
 invariant-loop-processor l =
-    l.errors.items ≡ map (λ processor. processor.errors) (take l.processor-index l.self.processors.items)
+    l.errors.items ≡ map (λ processor. processor.errors) (take l.processor-index l.self.processors.all.items)

@@ -1,0 +1,127 @@
+-- What takings bring to a processor's buffer.
+use Rattle.std.proofs.Common.{◌≡◌, ℕ, suc, ◌+◌, ◌<◌, ◌≤◌, get_or, take, drop, true, false, List, [], ◌∷◌, ◌++◌, length, Option, Some, None, map, refl, sym, ap, ◌∙◌, subst, arith}
+use Rattle.std.specs.Option.{is_some, option_map, option_to_list}
+use Rattle.std.proofs.lemmas.List.{append-nil, append_assoc, take_all}
+use Rattle.std.proofs.lemmas.Grind.{flat_map-append}
+use Rattle.dt_buffer.specs.History.{Past, attempt, swap, of_end, after}
+use Rattle.dt_buffer.specs.History as buffer
+use Rattle.dt_buffer.specs.Shows.{EndLast}
+use Rattle.dt_ecb.specs.declared.parts.Ecb.{Ecb}
+use Rattle.dt_lang.specs.Program.{ClauseForm}
+use Rattle.dt_consumer.specs.Buffers.{attempts_of}
+use Rattle.dt_consumer.specs.Keeps.{HasTaken, followed_by, taking_by}
+use Rattle.dt_consumer.specs.Takings.{Taking, MomentForm, exit_of, faults, first_exit, record_of, through_exit}
+use Rattle.dt_consumer.specs.declared.processor.Processor.{Processor}
+use Rattle.dt_consumer.proofs.Takings.{faults-append, row_more, row_split, through_first, through_none}
+
+pub attempts-append : (xs ys : List Taking) → attempts_of (xs ++ ys) ≡ attempts_of xs ++ attempts_of ys
+attempts-append xs ys =
+    flat_map-append
+    (λ (t : Taking). option_to_list (option_map (λ bytes. attempt bytes t.in_end) (record_of t))) xs ys
+
+-- the same past and the same errors, written in another way
+pub same_has : (past past' : Past) (n m : ℕ) (p : Processor) → past ≡ past' → n ≡ m → HasTaken past n p
+    → HasTaken past' m p
+same_has past past' n m p e f h =
+    subst (λ x. HasTaken past' x p) f (subst (λ x. HasTaken x n p) e h)
+
+-- some takings, and then more
+pub has_more : (past : Past) (errors : ℕ) (xs ys : List Taking) (p : Processor)
+    → HasTaken (followed_by (followed_by past (attempts_of xs)) (attempts_of ys)) ((errors + faults xs) + faults ys) p
+    → HasTaken (followed_by past (attempts_of (xs ++ ys))) (errors + faults (xs ++ ys)) p
+has_more past errors xs ys p h =
+    same_has _ _ _ _ p
+    (ap
+    (λ es. record { policy = past.policy; size = past.size; reserve = past.reserve; events = es })
+    (append_assoc past.events (attempts_of xs) (attempts_of ys)
+    ∙ ap (λ es. past.events ++ es) (sym (attempts-append xs ys))))
+    (omega (arith, faults-append xs ys))
+    h
+
+-- none yet
+pub has_none : (past : Past) (errors : ℕ) (p : Processor) → HasTaken past errors p
+    → HasTaken (followed_by past []) (errors + 0) p
+has_none past errors p h =
+    same_has _ _ _ _ p
+    (ap
+    (λ es. record { policy = past.policy; size = past.size; reserve = past.reserve; events = es })
+    (sym (append-nil past.events)))
+    (omega arith)
+    h
+
+-- the attempts of END's among those of others
+pub of_end-append : (xs ys : List buffer.Event) → of_end (xs ++ ys) ≡ of_end xs ++ of_end ys
+of_end-append [] ys = refl
+of_end-append (attempt bytes true ∷ xs) ys = ap (λ rest. bytes ∷ rest) (of_end-append xs ys)
+of_end-append (attempt bytes false ∷ xs) ys = of_end-append xs ys
+of_end-append (swap ∷ xs) ys = of_end-append xs ys
+
+pub ordinary_one : (o : Option (List ℕ)) (rest : List buffer.Event) → of_end rest ≡ []
+    → of_end (option_to_list (option_map (λ bytes. attempt bytes false) o) ++ rest) ≡ []
+ordinary_one None rest e = e
+ordinary_one (Some bytes) rest e = e
+
+-- ordinary takings attempt no record of END
+pub none_of_end : (m : MomentForm) (forms : List ClauseForm) (row : List Ecb)
+    → of_end (attempts_of (map (taking_by false m forms) row)) ≡ []
+none_of_end m forms [] = refl
+none_of_end m forms (ecb ∷ row) =
+    ordinary_one (record_of (taking_by false m forms ecb)) (attempts_of (map (taking_by false m forms) row))
+    (none_of_end m forms row)
+
+pub still_last : (past : Past) (events : List buffer.Event) → of_end events ≡ [] → EndLast past false
+    → EndLast (followed_by past events) false
+still_last past events none last = λ fill e.
+    of_end-append past.events events ∙ ap (λ xs. of_end past.events ++ xs) none ∙ append-nil (of_end past.events)
+    ∙ last fill e
+
+-- nothing of END comes after what is of END
+pub in_end_last : (past : Past) → EndLast past true
+in_end_last past = λ fill e. cc
+
+-- one ECB of a row more was taken
+pub took_more : (f : Ecb → Taking) (row : List Ecb) (i : ℕ) (d : Ecb) (past : Past) (errors : ℕ) (p : Processor)
+    → i < length row
+    → HasTaken
+    (followed_by (followed_by past (attempts_of (map f (take i row)))) (attempts_of (f (get_or row i d) ∷ [])))
+    ((errors + faults (map f (take i row))) + faults (f (get_or row i d) ∷ [])) p
+    → HasTaken (followed_by past (attempts_of (map f (take (i + 1) row))))
+    (errors + faults (map f (take (i + 1) row))) p
+took_more f row i d past errors p inside h =
+    subst (λ xs. HasTaken (followed_by past (attempts_of xs)) (errors + faults xs) p) (sym (row_more f row i d inside))
+    (has_more past errors (map f (take i row)) (f (get_or row i d) ∷ []) p h)
+
+-- all were
+pub took_all : (f : Ecb → Taking) (row : List Ecb) (i : ℕ) (past : Past) (errors : ℕ) (p : Processor)
+    → length row ≤ i
+    → HasTaken (followed_by past (attempts_of (map f (take i row)))) (errors + faults (map f (take i row))) p
+    → HasTaken (followed_by past (attempts_of (map f row))) (errors + faults (map f row)) p
+took_all f row i past errors p beyond h =
+    subst (λ xs. HasTaken (followed_by past (attempts_of (map f xs))) (errors + faults (map f xs)) p)
+    (take_all i row beyond) h
+
+-- the last of the takings up to an exit
+pub took_exit : (f : Ecb → Taking) (row : List Ecb) (i : ℕ) (d : Ecb) (past : Past) (errors : ℕ) (p : Processor)
+    → i < length row → first_exit (map f (take i row)) ≡ None → is_some (exit_of (f (get_or row i d))) ≡ true
+    → HasTaken
+    (followed_by (followed_by past (attempts_of (map f (take i row)))) (attempts_of (f (get_or row i d) ∷ [])))
+    ((errors + faults (map f (take i row))) + faults (f (get_or row i d) ∷ [])) p
+    → HasTaken (followed_by past (attempts_of (through_exit (map f row))))
+    (errors + faults (through_exit (map f row))) p
+took_exit f row i d past errors p inside stays exits h =
+    subst (λ xs. HasTaken (followed_by past (attempts_of xs)) (errors + faults xs) p)
+    (sym (ap through_exit (row_split f row i d inside)
+    ∙ through_first (map f (take i row)) (f (get_or row i d)) (map f (drop (suc i) row)) stays exits))
+    (has_more past errors (map f (take i row)) (f (get_or row i d) ∷ []) p h)
+
+-- none exited
+pub took_through : (f : Ecb → Taking) (row : List Ecb) (i : ℕ) (past : Past) (errors : ℕ) (p : Processor)
+    → length row ≤ i → first_exit (map f (take i row)) ≡ None
+    → HasTaken (followed_by past (attempts_of (map f (take i row)))) (errors + faults (map f (take i row))) p
+    → HasTaken (followed_by past (attempts_of (through_exit (map f row))))
+    (errors + faults (through_exit (map f row))) p
+took_through f row i past errors p beyond stays h =
+    let all : take i row ≡ row = take_all i row beyond in
+    subst (λ xs. HasTaken (followed_by past (attempts_of xs)) (errors + faults xs) p)
+    (sym (through_none (map f row) (subst (λ xs. first_exit (map f xs) ≡ None) all stays)))
+    (took_all f row i past errors p beyond h)

@@ -1,0 +1,75 @@
+-- What takings on one processor make of all.
+use Rattle.std.proofs.Common.{◌≡◌, ◌≢◌, ℕ, ◌+◌, ◌<◌, ◌≤◌, ◌==◌, true, false, cond, List, [], Option, Some, None, length, get_or, refl, sym, ap, ◌∙◌, subst, ⊎_elim, arith}
+use Rattle.std.specs.List.{slice_get, slice_set}
+use Rattle.std.specs.Option.{IfSome, IsSomeAnd, option_and_then, option_map}
+use Rattle.std.proofs.lemmas.Bool.{cases_eq, eq-eqb, ne_eqb}
+use Rattle.dt_buffer.specs.History.{Past}
+use Rattle.dt_cred.specs.declared.account.Account.{Account}
+use Rattle.dt_cred.specs.declared.account.Process.{Process}
+use Rattle.dt_cred.specs.declared.probe.Probe.{Probe}
+use Rattle.dt_machine.specs.Registry.{Registry, probe_of}
+use Rattle.dt_machine.specs.declared.firing.Firing.{Firing}
+use Rattle.dt_consumer.specs.Buffers.{attempts_of}
+use Rattle.dt_consumer.specs.Keeps.{AreTaken, HasTaken, errors_and, followed_by, pasts_and, where_taken}
+use Rattle.dt_consumer.specs.Takings.{Taking, faults, own_firing, own_moment, own_process}
+use Rattle.dt_consumer.specs.declared.processor.Processor.{Processor}
+use Rattle.dt_consumer.proofs.Buffers.{has_none}
+use Rattle.dt_consumer.proofs.Lists.{replaced, nothing_past, found_at}
+
+pub if_some_map : {X : Type 0} (P Q : X → Type 0) (o : Option X) → ((x : X) → P x → Q x) → IfSome o P → IfSome o Q
+if_some_map P Q None f h = tt
+if_some_map P Q (Some x) f h = f x h
+
+module _ (pasts : ℕ → Past) (errors : ℕ → ℕ) (all : List Processor) (there : ℕ) (new : List Taking)
+    (taken : AreTaken pasts errors all) where
+  abbrev Wanted : ℕ → Processor → Type 0
+  Wanted j p = HasTaken (pasts_and pasts (where_taken there new) j) (errors_and errors (where_taken there new) j) p
+
+  -- where it was not
+  elsewhere : (j : ℕ) → j ≢ there → IfSome (slice_get all j) (Wanted j)
+  elsewhere j ne =
+      let other : (there == j) ≡ false = ne_eqb there j (λ e. ne (sym e)) in
+      if_some_map _ _ (slice_get all j)
+      (λ p h. subst (λ b. HasTaken (followed_by (pasts j) (attempts_of (cond b new [])))
+      (errors j + faults (cond b new [])) p) (sym other) (has_none (pasts j) (errors j) p h))
+      (taken j)
+
+  -- where it was
+  pub took_there : (p q : Processor) → there < length all → p ≡ get_or all there p
+      → (HasTaken (pasts there) (errors there) p
+      → HasTaken (followed_by (pasts there) (attempts_of new)) (errors there + faults new) q)
+      → AreTaken (pasts_and pasts (where_taken there new)) (errors_and errors (where_taken there new))
+      (slice_set all there q)
+  took_there p q inside at took =
+      let same : (there == there) ≡ true = eq-eqb there there refl in
+      replaced Wanted all there q
+      (subst (λ b. HasTaken (followed_by (pasts there) (attempts_of (cond b new [])))
+      (errors there + faults (cond b new [])) q) (sym same)
+      (took (found_at (HasTaken (pasts there) (errors there)) all there p inside at (taken there))))
+      elsewhere
+
+  -- where there is no such processor
+  pub took_nowhere : length all ≤ there
+      → AreTaken (pasts_and pasts (where_taken there new)) (errors_and errors (where_taken there new)) all
+  took_nowhere past = λ j. ⊎_elim
+      (λ e. nothing_past (Wanted j) all j (omega arith))
+      (elsewhere j)
+      (cases_eq j there)
+
+-- the moment of BEGIN or END
+pub own_is : (account : Account) (registry : Registry) (id : ℕ) (probe : Probe) (process : Process) (firing : Firing)
+    → Some probe ≡ probe_of registry id → process ≡ own_process account → firing ≡ own_firing id
+    → own_moment account registry id ≡ Some (record { probe = probe; process = process; firing = firing })
+own_is account registry id probe process firing is own fires =
+    ap
+    (λ o. option_and_then
+    (λ (p : Probe). option_map
+    (λ (q : Process). record { probe = p; process = q; firing = own_firing id })
+    (Some (own_process account)))
+    o)
+    (sym is)
+    ∙ ap (λ (q : Process). Some (record { probe = probe; process = q; firing = own_firing id })) (sym own)
+    ∙ ap (λ (f : Firing). Some (record { probe = probe; process = process; firing = f })) (sym fires)
+
+pub some_and : {X : Type 0} (o : Option X) (x : X) (P : X → Type 0) → o ≡ Some x → P x → IsSomeAnd o P
+some_and o x P e h = subst (λ p. IsSomeAnd p P) (sym e) h

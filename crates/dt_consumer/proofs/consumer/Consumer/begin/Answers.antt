@@ -1,0 +1,22 @@
+-- Tracing begins, and may have ended in the same step.
+use Rattle.std.proofs.Common.{[], arith}
+use Rattle.dt_consumer.specs.Life.{set_up, since_then, happens}
+use Rattle.dt_consumer.specs.Takings.{began}
+use Rattle.dt_consumer.proofs.DraftLemmas.{begun_by_go}
+use Rattle.dt_consumer.proofs.Happening.{same_options, same_clauses, same_shapes}
+use Rattle.dt_consumer.proofs.Stands.{after_counted, keeps_traced, quota_left, stands_changed}
+use Rattle.dt_consumer.proofs.consumer.Consumer.begin.Goals as goal
+
+pub returns : goal.returns
+returns c = λ account registry life line s drafted.
+    let own = set_up account registry life in
+    let fresh = since_then own [] in
+    let next = happens account registry fresh began in
+    let accepted = drafted.0 in
+    rw (after_counted life line accepted.0, accepted.3)
+    (stands_changed account registry c.args.self.now life s _ _ next
+    (begun_by_go account registry life accepted.1 accepted.2)
+    (omega (arith, quota_left life accepted.0, s.counted, c.saturating_add-self.ensures))
+    (keeps_traced account registry c.args.self.now own next _ c.args.tracing s.keeps
+    (same_options account registry fresh began) (same_clauses account registry fresh began)
+    (same_shapes account registry fresh began) drafted.1))

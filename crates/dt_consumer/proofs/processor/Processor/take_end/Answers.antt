@@ -1,0 +1,35 @@
+-- One ECB of END more was taken.
+use Rattle.std.proofs.Common.{◌+◌, ◌<◌, true, List, length, map, take, subst, arith}
+use Rattle.std.specs.List.{All}
+use Rattle.dt_ecb.specs.declared.parts.Ecb.{Ecb}
+use Rattle.dt_lang.specs.Program.{form_of_clause}
+use Rattle.dt_consumer.specs.Buffers.{attempts_of}
+use Rattle.dt_consumer.specs.Keeps.{form_of_moment, followed_by, HasTaken, taking_by}
+use Rattle.dt_consumer.specs.Takings.{faults}
+use Rattle.dt_consumer.proofs.Buffers.{took_more, took_all, in_end_last}
+use Rattle.dt_consumer.proofs.processor.Processor.take_end.Goals as goal
+
+pub loop-ecb-preserved : goal.loop-ecb-preserved
+loop-ecb-preserved c = record {
+  taken = λ there past errors h.
+      let f = taking_by true (form_of_moment c.args.moment.now) (map form_of_clause c.args.clauses.now) in
+      let row = c.deref-ecb-items.result.now in
+      let before = followed_by past (attempts_of (map f (take c.loop-ecb.ecb-index row))) in
+      took_more f row c.loop-ecb.ecb-index _ past errors _ c.loop-ecb-test.true
+      (c.take_one-exit.ensures.taken (there c.loop-ecb.ecb-index _ c.loop-ecb-test.true) before _
+      (in_end_last before) (c.loop-ecb.invariant.taken there past errors h));
+  counts = (
+    omega (arith, c.loop-ecb.invariant.counts.0, c.take_one-exit.ensures.counts.0),
+    omega (arith, c.loop-ecb.invariant.counts.1, c.take_one-exit.ensures.counts.1),
+  );
+}
+
+pub returns-clause-taken : goal.returns-clause-taken
+returns-clause-taken c = λ there past errors h.
+    let f = taking_by true (form_of_moment c.args.moment.now) (map form_of_clause c.args.clauses.now) in
+    let P : List Ecb → Type 0 = λ es. All (λ ecb. ecb.clause < length c.args.clauses.now) es
+    → HasTaken (followed_by past (attempts_of (map f es))) (errors + faults (map f es)) c.loop-ecb.self in
+    subst P c.deref-ecb-items.ensures.value
+    (λ there. took_all f c.deref-ecb-items.result.now c.loop-ecb.ecb-index past errors _ (omega arith)
+    (c.loop-ecb.invariant.taken there past errors h))
+    there

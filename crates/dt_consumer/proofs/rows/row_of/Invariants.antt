@@ -1,6 +1,0 @@
--- The ECBs so far that have the probe.
-use Rattle.std.proofs.Common.{◌≡◌, ◌==◌, take, filter}
-use Rattle.dt_consumer.proofs.rows.row_of.Given as goal
-
-abbrev pub invariant-loop-ecb : goal.invariant-loop-ecb
-invariant-loop-ecb l = l.row.items ≡ filter (λ ecb. ecb.probe == l.probe) (take l.ecb-index l.ecbs)

@@ -1,0 +1,35 @@
+-- END fired, and that was all.
+use Rattle.std.proofs.Common.{◌≡◌, ◌+◌, ◌*◌, subst, refl, arith}
+use Rattle.std.specs.List.{All}
+use Rattle.dt_ecb.specs.declared.limits.TheConstants.{ECBS_MAX}
+use Rattle.dt_consumer.specs.Counts.{AtMost, own_firings}
+use Rattle.dt_consumer.specs.declared.limits.TheConstants.{END}
+use Rattle.dt_consumer.proofs.Tracings.{end_fired, row_at, row_placed}
+use Rattle.dt_consumer.proofs.tracing.Tracing.finish.Goals as goal
+
+pub invariant_of-self-clause-counted : goal.invariant_of-self-clause-counted
+invariant_of-self-clause-counted c =
+    let old : All (AtMost (ECBS_MAX * (c.args.self.now.seen + 1))) c.args.self.now.processors.all.items =
+    subst (λ e. All (AtMost (ECBS_MAX * (c.args.self.now.seen + own_firings e))) c.args.self.now.processors.all.items)
+    c.requires c.args.self.now.counted in
+    let more : ECBS_MAX * (c.args.self.now.seen + 1) + ECBS_MAX ≡ ECBS_MAX * (c.args.self.now.seen + 2) = omega arith in
+    subst (λ n. All (AtMost n) c.fire_end.new.self.all.items) more (c.fire_end.ensures.counts _ old)
+
+pub returns : goal.returns
+returns c = λ s t own.
+    let account = c.args.account.now in
+    let registry = c.args.machine.now.registry in
+    let row = c.index-row.result.now in
+    let its = row_at account registry s c.args.self.now.rows.items END row t.rows (omega arith) c.index-row.ensures in
+    record {
+      rows = t.rows;
+      all_rows = t.all_rows;
+      processors = end_fired account registry s c.args.end row c.fire_end.new.self.all.items c.args.clauses.now own its
+          (c.fire_end.ensures.taken (row_placed account registry s END row its c.args.clauses.now own) _ _
+          t.processors);
+      all_processors = omega (arith, c.fire_end.ensures.len, t.all_processors);
+      history = t.history;
+      seen = t.seen;
+      standing = refl;
+      end_last = λ e. cc;
+    }

@@ -1,0 +1,118 @@
+-- A firing was seen, and perhaps it was the last.
+use Rattle.std.proofs.Common.{◌≡◌, ◌+◌, ◌*◌, ◌≤◌, ◌==◌, ℕ, refl, sym, ap, ◌∙◌, subst, arith}
+use Rattle.dt_consumer.specs.Keeps.{form_of_moment, phase_by}
+use Rattle.dt_consumer.specs.Life.{with_event}
+use Rattle.dt_consumer.specs.Takings.{seen}
+use Rattle.dt_consumer.specs.declared.limits.TheConstants.{END}
+use Rattle.std.specs.List.{All}
+use Rattle.dt_ecb.specs.declared.limits.TheConstants.{ECBS_MAX}
+use Rattle.dt_consumer.specs.Counts.{AtMost, must_be_left, own_firings}
+use Rattle.dt_consumer.proofs.Counted.{below_limit, counted_on, left_on, no_more, one_left, one_more}
+use Rattle.dt_consumer.proofs.Tracings.{becomes, end_fired, end_is, happens_last, happens_on, row_at, row_placed, took_at}
+use Rattle.dt_consumer.proofs.tracing.Tracing.see.Goals as goal
+
+counted_is : (a b c d : ℕ) → a ≡ b → c ≡ d → (b + 1 == d) ≡ (a + 1 == c)
+counted_is a b c d e f = ap (λ n. n + 1 == d) (sym e) ∙ ap (λ n. a + 1 == n) (sym f)
+
+pub returns-in-Some : goal.returns-in-Some
+returns-in-Some c = λ s firing t own on at.
+    let account = c.args.account.now in
+    let registry = c.args.machine.now.registry in
+    let m = form_of_moment c.args.moment.now in
+    let row = c.index-row.result.now in
+    let took = took_at account registry s (seen firing) m row c.args.clauses.now
+    c.args.self.now.processors.all.items c.take-exit.new.self.all.items c.take-exit.result tt at refl own
+    (row_at account registry s c.args.self.now.rows.items m.firing.probe row t.rows (omega (arith, c.requires.known))
+    c.index-row.ensures)
+    (t.end_last c.requires.going) c.take-exit.ensures.taken
+    (λ placed. c.take-exit.ensures.exit placed (omega (arith, t.all_processors, on))) t.processors in
+    let next = with_event s (seen firing) in
+    let end_row = c.index-row-in-Some.result.now in
+    let its = row_at account registry next c.args.self.now.rows.items END end_row t.rows (omega arith)
+    c.index-row-in-Some.ensures in
+    let ends = end_is account registry next (seen firing) c.take-exit.result _ took.exited
+    (counted_is c.args.self.now.seen _ c.args.self.now.history _ t.seen t.history)
+    ∙ sym c.end_after.ensures ∙ c.in-Some.is in
+    becomes account registry _ _ _ (happens_last account registry s (seen firing) c.in-Some.end ends)
+    (record {
+      rows = t.rows;
+      all_rows = t.all_rows;
+      processors = end_fired account registry next c.in-Some.end end_row c.fire_end.new.self.all.items
+          c.args.clauses.now own its
+          (c.fire_end.ensures.taken (row_placed account registry next END end_row its c.args.clauses.now own) _ _
+          took.taken);
+      all_processors = omega (arith, c.fire_end.ensures.len, c.take-exit.ensures.len, t.all_processors);
+      history = t.history;
+      seen = omega (arith, t.seen);
+      standing = refl;
+      end_last = λ e. cc;
+    })
+
+pub returns-in_default : goal.returns-in_default
+returns-in_default c = λ s firing t own on at.
+    let account = c.args.account.now in
+    let registry = c.args.machine.now.registry in
+    let m = form_of_moment c.args.moment.now in
+    let row = c.index-row.result.now in
+    let took = took_at account registry s (seen firing) m row c.args.clauses.now
+    c.args.self.now.processors.all.items c.take-exit.new.self.all.items c.take-exit.result tt at refl own
+    (row_at account registry s c.args.self.now.rows.items m.firing.probe row t.rows (omega (arith, c.requires.known))
+    c.index-row.ensures)
+    (t.end_last c.requires.going) c.take-exit.ensures.taken
+    (λ placed. c.take-exit.ensures.exit placed (omega (arith, t.all_processors, on))) t.processors in
+    let next = with_event s (seen firing) in
+    let stays = end_is account registry next (seen firing) c.take-exit.result _ took.exited
+    (counted_is c.args.self.now.seen _ c.args.self.now.history _ t.seen t.history)
+    ∙ sym c.end_after.ensures ∙ c.in_default.is in
+    becomes account registry _ _ _ (happens_on account registry s (seen firing) stays)
+    (record {
+      rows = t.rows;
+      all_rows = t.all_rows;
+      processors = took.taken;
+      all_processors = omega (arith, c.take-exit.ensures.len, t.all_processors);
+      history = t.history;
+      seen = omega (arith, t.seen);
+      standing = ap phase_by (sym c.requires.going);
+      end_last = λ e. took.still;
+    })
+
+pub fire_end-requires : goal.fire_end-requires
+fire_end-requires c =
+    let own = c.args.self.now in
+    below_limit own.seen own.history c.take-exit.new.self.all.items
+    (left_on own.seen own.history own.ended c.requires.going own.in_history) own.few
+    (one_more own.seen c.take-exit.new.self.all.items
+    (c.take-exit.ensures.counts _
+    (counted_on own.seen own.ended own.processors.all.items c.requires.going own.counted)))
+
+pub invariant_of-self-clause-counted : goal.invariant_of-self-clause-counted
+invariant_of-self-clause-counted c =
+    let own = c.args.self.now in
+    no_more _ (ECBS_MAX * (own.seen + 1 + 2)) c.fire_end.new.self.all.items (omega arith)
+    (c.fire_end.ensures.counts _
+    (one_more own.seen c.take-exit.new.self.all.items
+    (c.take-exit.ensures.counts _
+    (counted_on own.seen own.ended own.processors.all.items c.requires.going own.counted))))
+
+pub invariant_of-self-clause-in_history : goal.invariant_of-self-clause-in_history
+invariant_of-self-clause-in_history c =
+    let own = c.args.self.now in
+    omega (arith, left_on own.seen own.history own.ended c.requires.going own.in_history)
+
+pub invariant_of-self-in_default-clause-counted : goal.invariant_of-self-in_default-clause-counted
+invariant_of-self-in_default-clause-counted c =
+    let own = c.args.self.now in
+    let now' = one_more own.seen c.take-exit.new.self.all.items
+    (c.take-exit.ensures.counts _
+    (counted_on own.seen own.ended own.processors.all.items c.requires.going own.counted)) in
+    subst (λ e. All (AtMost (ECBS_MAX * (own.seen + 1 + own_firings e))) c.take-exit.new.self.all.items)
+    (sym c.requires.going)
+    (no_more _ (ECBS_MAX * (own.seen + 1 + 1)) c.take-exit.new.self.all.items (omega arith) now')
+
+pub invariant_of-self-in_default-clause-in_history : goal.invariant_of-self-in_default-clause-in_history
+invariant_of-self-in_default-clause-in_history c =
+    let own = c.args.self.now in
+    subst (λ e. (own.seen + 1) + must_be_left e ≤ own.history) (sym c.requires.going)
+    (one_left c.take-exit.result own.seen own.history
+    (left_on own.seen own.history own.ended c.requires.going own.in_history)
+    (sym c.in_default.is ∙ c.end_after.ensures))
