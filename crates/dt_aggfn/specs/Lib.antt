@@ -1,0 +1,5 @@
+-- What the contracts of this crate cite.
+pub mod Bounds
+pub mod Rows
+pub mod Cells
+pub mod Answers

@@ -1,0 +1,168 @@
+//! The aggregating functions, over cells.
+ghost use Rattle.std.specs.Prelude.{◌≡◌, ◌^◌, ◌<◌, ◌≤◌, List, [], ◌∷◌, ◌++◌, length, map, ℤ, pos, int_div, IfOk};
+
+use crate::answer::{Answer, CountedRow};
+use crate::levels::Bounds;
+use crate::limits::{CELL_WORDS_MAX, QUANTIZE_ROWS};
+use crate::powers;
+use crate::words::{add_words, count_at};
+use std::alloc::{AllocError, Global};
+
+/// What an aggregation makes of its values, which are signed 64-bit numbers. Sums wrap at 64 bits. (illumos Dynamic
+/// Tracing Guide, "Aggregations".)
+#[derive(Clone, Copy, Debug, PartialEq, Eq)]
+pub enum AggFn {
+    /// How many values there are.
+    Count,
+    /// Their sum.
+    Sum,
+    /// Their sum divided by their count, cut toward zero.
+    Avg,
+    /// The least of them.
+    Min,
+    /// The greatest of them.
+    Max,
+    /// How many values lie from each power of two to the next.
+    Quantize,
+    /// How many values lie in each level.
+    Lquantize(Bounds),
+}
+
+impl AggFn {
+    ghost use Rattle.dt_aggfn.specs.Rows.{name_at, counted_words};
+    ghost use Rattle.dt_aggfn.specs.Cells.{cell_words, rows_of, cell_of, IsBag};
+    ghost use Rattle.dt_aggfn.specs.Answers.{answer_of, form_of_row, form_of_answer};
+
+    /// How many words a cell has: at most [`CELL_WORDS_MAX`].
+    pub fn cell_words(self) -> usize
+        ensures words { result ≡ cell_words self }
+        ensures few { result ≤ CELL_WORDS_MAX }
+    {
+        match self {
+            AggFn::Avg => 2,
+            AggFn::Quantize => QUANTIZE_ROWS,
+            AggFn::Lquantize(bounds) => bounds.levels() + 2,
+            _ => 1,
+        }
+    }
+
+    /// Makes a cell that of one value, whatever its words were. It has [`AggFn::cell_words`] words, as in each call.
+    pub fn first(self, cell: &mut [u64], value: i64)
+        requires { length cell.old ≡ cell_words self }
+        ensures { cell.new ≡ cell_of self (value ∷ []) }
+    {
+        match self {
+            AggFn::Count => cell[0] = 1,
+            AggFn::Avg => {
+                cell[0] = 1;
+                cell[1] = value.cast_unsigned();
+            }
+            AggFn::Quantize => {
+                cell.fill(0);
+                count_at(cell, powers::row_of(value));
+            }
+            AggFn::Lquantize(bounds) => {
+                cell.fill(0);
+                count_at(cell, bounds.row_of(value));
+            }
+            _ => cell[0] = value.cast_unsigned(),
+        }
+    }
+
+    /// Adds a value to the bag of a cell, which has fewer than [`BAG_LIMIT`] values.
+    pub fn add(self, cell: &mut [u64], value: i64)
+        requires { length cell.old ≡ cell_words self }
+        ensures cell { (bag : List ℤ) → IsBag bag → cell.old ≡ cell_of self bag
+            → cell.new ≡ cell_of self (bag ++ value ∷ []) }
+        ensures len { length cell.new ≡ length cell.old }
+    {
+        match self {
+            AggFn::Count => count_at(cell, 0),
+            AggFn::Sum => cell[0] = cell[0].wrapping_add(value.cast_unsigned()),
+            AggFn::Avg => {
+                count_at(cell, 0);
+                cell[1] = cell[1].wrapping_add(value.cast_unsigned());
+            }
+            AggFn::Min => cell[0] = cell[0].cast_signed().min(value).cast_unsigned(),
+            AggFn::Max => cell[0] = cell[0].cast_signed().max(value).cast_unsigned(),
+            AggFn::Quantize => count_at(cell, powers::row_of(value)),
+            AggFn::Lquantize(bounds) => count_at(cell, bounds.row_of(value)),
+        }
+    }
+
+    /// Adds the values of another cell's bag to those of a cell's. Each bag has fewer than [`BAG_LIMIT`] values.
+    pub fn merge(self, cell: &mut [u64], other: &[u64])
+        requires own { length cell.old ≡ cell_words self }
+        requires others { length other.now ≡ cell_words self }
+        ensures cell { (bag other_bag : List ℤ) → IsBag bag → IsBag other_bag → cell.old ≡ cell_of self bag
+            → other.now ≡ cell_of self other_bag → cell.new ≡ cell_of self (bag ++ other_bag) }
+        ensures len { length cell.new ≡ length cell.old }
+    {
+        match self {
+            AggFn::Min => {
+                let least = cell[0].cast_signed().min(other[0].cast_signed());
+                cell[0] = least.cast_unsigned();
+            }
+            AggFn::Max => {
+                let greatest = cell[0].cast_signed().max(other[0].cast_signed());
+                cell[0] = greatest.cast_unsigned();
+            }
+            _ => add_words(cell, other),
+        }
+    }
+
+    /// What a cell says of its bag, which has fewer than [`BAG_LIMIT`] values. `Err`: there was no memory for the
+    /// rows; a number takes none.
+    pub fn answer(self, alloc: Global, cell: &[u64]) -> Result<Answer, AllocError>
+        requires { length cell.now ≡ cell_words self }
+        ensures { (bag : List ℤ) → IsBag bag → cell.now ≡ cell_of self bag
+            → IfOk result (λ answer. form_of_answer answer ≡ answer_of self bag) }
+    {
+        match self {
+            AggFn::Avg => Ok(Answer::Number(average(cell[0], cell[1].cast_signed()))),
+            AggFn::Quantize | AggFn::Lquantize(_) => {
+                let counted = self.counted_rows(alloc, cell)?;
+                Ok(Answer::Rows(counted))
+            }
+            _ => Ok(Answer::Number(cell[0].cast_signed())),
+        }
+    }
+
+    /// The rows that count something.
+    fn counted_rows(self, alloc: Global, cell: &[u64]) -> Result<Vec<CountedRow>, AllocError>
+        requires { length cell.now ≡ cell_words self }
+        ensures { IfOk result (λ counted. map form_of_row counted.items ≡ counted_words (rows_of self) cell.now) }
+    {
+        let mut counted = Vec::new(alloc);
+        for (index, count) in cell.iter().enumerate() {
+            if *count > 0 {
+                let least = self.row_name(index);
+                let count = *count;
+                counted.push(CountedRow { least, count })?;
+            }
+        }
+        Ok(counted)
+    }
+
+    /// The name of the row at a place, if it has one.
+    fn row_name(self, index: usize) -> Option<i64>
+        requires { index < cell_words self }
+        ensures { result ≡ name_at (rows_of self) index }
+    {
+        match self {
+            AggFn::Quantize => Some(powers::row_name(index)),
+            AggFn::Lquantize(bounds) => bounds.row_name(index),
+            _ => None,
+        }
+    }
+}
+
+/// A sum divided by a count, cut toward zero.
+fn average(count: u64, sum: i64) -> i64
+    ensures { 0 < count → count < 2 ^ 63 → result ≡ int_div sum (pos count) }
+{
+    match i64::try_from(count) {
+        Ok(count) => sum.checked_div(count).unwrap_or(0),
+        Err(_) => 0,
+    }
+}
