@@ -1,0 +1,223 @@
+-- The bags of a store's entries, gathered one after another.
+use Rattle.std.proofs.Common.{◌≡◌, ℕ, ◌+◌, ◌<◌, ⊎_elim, ℤ, Bool, true, false, cond, ◌||◌, ◌&&◌, List, [], ◌∷◌, ◌++◌, length, get_or, take, drop, refl, sym, ap, ◌∙◌, subst, arith}
+use Rattle.std.specs.Prelude.{slice_range}
+use Rattle.std.proofs.lemmas.Bool.{false≢true}
+use Rattle.std.proofs.lemmas.List.{append-nil, take_more, drop_more, map-append}
+use Rattle.std.proofs.lemmas.List.Folds.{list_any-append}
+use Rattle.dt_aggfn.specs.declared.function.AggFn.{AggFn}
+use Rattle.dt_aggfn.specs.declared.limits.TheConstants.{BAG_LIMIT}
+use Rattle.dt_aggfn.specs.Cells.{cell_words, cell_of, IsBag}
+use Rattle.dt_aggstore.specs.Keys.{Entry, same_entry, same_aggregation, same_key}
+use Rattle.dt_aggstore.specs.History.{Past}
+use Rattle.dt_aggstore.specs.Held.{entry_of, counted, held, bag}
+use Rattle.dt_aggstore.specs.Entries.{name_of, names_of, words_of}
+use Rattle.dt_aggstore.specs.IsAt.{IsAt}
+use Rattle.dt_aggstore.specs.Joining.{AreJoined, joined_at}
+use Rattle.dt_aggstore.specs.declared.key.Aggregation.{Aggregation}
+use Rattle.dt_aggstore.specs.declared.held.Held.{Held}
+use Rattle.dt_aggstore.specs.declared.joining.Joined.{Joined}
+use Rattle.dt_aggstore.specs.declared.store.AggStore.{AggStore}
+use Rattle.dt_aggstore.proofs.Same.{aggregation_is, own_aggregation, key_decides, own_entry}
+use Rattle.dt_aggstore.proofs.Filters.{yes_or_no}
+use Rattle.dt_aggstore.proofs.Distinct.{has, has-distinct, AreApart, distinct_apart}
+use Rattle.dt_aggstore.proofs.Counting.{names, values_none}
+use Rattle.dt_aggstore.proofs.Words.{names-take}
+use Rattle.dt_aggstore.proofs.Standing.{held_bag, Lengths, apart_before, cell_at, cells_from}
+use Rattle.dt_aggstore.proofs.Rising.{Key}
+
+aggregation_back : (a b : Aggregation) → same_aggregation a b ≡ false → same_aggregation b a ≡ false
+aggregation_back a b e = ⊎_elim
+    (λ yes. absurd (false≢true (sym e
+    ∙ subst (λ x. same_aggregation x b ≡ true) (aggregation_is b a yes) (own_aggregation b))))
+    (λ no. no)
+    (yes_or_no (same_aggregation b a))
+
+has-push : (entry : Entry) (before : List Entry) (e : Entry)
+    → has entry (before ++ e ∷ []) ≡ (has entry before || (same_entry e entry || false))
+has-push entry before e = list_any-append (λ o. same_entry o entry) before (e ∷ [])
+
+or_false : (b : Bool) → (b || (false || false)) ≡ b
+or_false true = refl
+or_false false = refl
+
+or_true : (b : Bool) → (b || (true || false)) ≡ true
+or_true true = refl
+or_true false = refl
+
+module _ (past : Past) (store : AggStore) (at : IsAt past store) (aggregation : Aggregation) (bags : Key
+    → List ℤ) where
+  abbrev Own : Key → List ℤ
+  Own key = bag past.events at.chosen aggregation key
+
+  -- what is gathered after some entries
+  abbrev pub Gathered : List Entry → Key → List ℤ
+  Gathered entries key = cond (has (entry_of aggregation key) entries) (bags key ++ Own key) (bags key)
+
+  -- an entry of another aggregation adds nothing
+  pub gathered_other : (before : List Entry) (e : Entry) → same_aggregation aggregation e.aggregation ≡ false
+      → (key : Key) → Gathered before key ≡ Gathered (before ++ e ∷ []) key
+  gathered_other before e other key =
+      ap (λ b. cond b (bags key ++ Own key) (bags key)) (sym (
+      has-push (entry_of aggregation key) before e
+      ∙ ap (λ b. has (entry_of aggregation key) before || ((b && same_key e.key key) || false))
+      (aggregation_back aggregation e.aggregation other)
+      ∙ or_false (has (entry_of aggregation key) before)))
+
+  -- one of this aggregation adds its bag to that of its key
+  pub gathered_more : (before : List Entry) (e : Entry) → has e before ≡ false
+      → same_aggregation aggregation e.aggregation ≡ true
+      → (key : Key) → joined_at e.key (Own e.key) (Gathered before) key ≡ Gathered (before ++ e ∷ []) key
+  gathered_more before e none same key =
+      let own = aggregation_is aggregation e.aggregation same in
+      let back : same_aggregation e.aggregation aggregation ≡ true =
+      subst (λ a. same_aggregation a aggregation ≡ true) own (own_aggregation aggregation) in
+      ⊎_elim
+      (λ yes.
+      let is = (key_decides e.key key).0 yes in
+      let entry : e ≡ entry_of aggregation key = (λ i. record { aggregation = sym own i; key = is i }) in
+      let never : has (entry_of aggregation key) before ≡ false = subst (λ x. has x before ≡ false) entry none in
+      ap (λ b. cond b (Gathered before key ++ Own e.key) (Gathered before key)) yes
+      ∙ ap (λ b. cond b (bags key ++ Own key) (bags key) ++ Own e.key) never
+      ∙ ap (λ k. bags key ++ Own k) is
+      ∙ sym (ap (λ b. cond b (bags key ++ Own key) (bags key))
+      (has-push (entry_of aggregation key) before e
+      ∙ ap (λ x. has (entry_of aggregation key) before || (same_entry x (entry_of aggregation key) || false)) entry
+      ∙ ap (λ b. has (entry_of aggregation key) before || (b || false)) (own_entry (entry_of aggregation key))
+      ∙ or_true (has (entry_of aggregation key) before))))
+      (λ no.
+      ap (λ b. cond b (Gathered before key ++ Own e.key) (Gathered before key)) no
+      ∙ sym (ap (λ b. cond b (bags key ++ Own key) (bags key))
+      (has-push (entry_of aggregation key) before e
+      ∙ ap (λ b. has (entry_of aggregation key) before || ((b && same_key e.key key) || false)) back
+      ∙ ap (λ b. has (entry_of aggregation key) before || (b || false)) no
+      ∙ or_false (has (entry_of aggregation key) before))))
+      (yes_or_no (same_key e.key key))
+
+  -- all entries add all bags
+  pub gathered_all : (key : Key) → Gathered (held past.events at.chosen) key ≡ bags key ++ Own key
+  gathered_all key = ⊎_elim
+      (λ yes. ap (λ b. cond b (bags key ++ Own key) (bags key)) yes)
+      (λ no. ap (λ b. cond b (bags key ++ Own key) (bags key)) no ∙ sym (append-nil (bags key))
+      ∙ ap (λ b. bags key ++ b) (sym (values_none (counted past.events at.chosen) (entry_of aggregation key)
+      (sym (has-distinct (names (counted past.events at.chosen)) (entry_of aggregation key)) ∙ no))))
+      (yes_or_no (has (entry_of aggregation key) (held past.events at.chosen)))
+
+-- ---- the entry that a loop reads
+
+pub names_more : (entries : List Held) (i : ℕ) (x : Held) → i < length entries → x ≡ get_or entries i x
+    → names_of (take (i + 1) entries) ≡ names_of (take i entries) ++ name_of x ∷ []
+names_more entries i x h is =
+    ap names_of (take_more entries i x h) ∙ map-append name_of (take i entries) (get_or entries i x ∷ [])
+    ∙ ap (λ y. names_of (take i entries) ++ name_of y ∷ []) (sym is)
+
+names_around : (entries : List Held) (i : ℕ) (x : Held) → i < length entries → x ≡ get_or entries i x
+    → names_of entries ≡ names_of (take i entries) ++ name_of x ∷ names_of (drop (i + 1) entries)
+names_around entries i x h is =
+    names-take entries i ∙ ap (λ xs. names_of (take i entries) ++ names_of xs) (drop_more entries i x h)
+    ∙ ap (λ y. names_of (take i entries) ++ name_of y ∷ names_of (drop (i + 1) entries)) (sym is)
+
+module _ (past : Past) (store : AggStore) (at : IsAt past store) (i : ℕ) (x : Held) (here :
+    i < length store.entries.items)
+    (is : x ≡ get_or store.entries.items i x) where
+  abbrev Before : List Entry
+  Before = names_of (take i store.entries.items)
+
+  abbrev Later : List Entry
+  Later = names_of (drop (i + 1) store.entries.items)
+
+  split : held past.events at.chosen ≡ Before ++ name_of x ∷ Later
+  split = sym at.names ∙ names_around store.entries.items i x here is
+
+  pub not_before : has (name_of x) Before ≡ false
+  not_before =
+      apart_before (name_of x) Before Later
+      (subst AreApart split (distinct_apart (names (counted past.events at.chosen))))
+
+  abbrev Bag : List ℤ
+  Bag = bag past.events at.chosen x.aggregation x.key.parts.items
+
+  pub bag_here : IsBag Bag
+  bag_here =
+      held_bag past.events at.chosen x.aggregation x.key.parts.items at.numbers (omega (arith, at.added, store.few))
+      (ap (has (name_of x)) split ∙ list_any-append (λ o. same_entry o (name_of x)) Before (name_of x ∷ Later)
+      ∙ ap (λ b. has (name_of x) Before || (b || has (name_of x) Later)) (own_entry (name_of x))
+      ∙ by (has (name_of x) Before))
+    where
+      by : (b : Bool) → (b || true) ≡ true
+      by true = refl
+      by false = refl
+
+  pub cell_here : Lengths → (place words : ℕ) → place ≡ words_of Before → words ≡ cell_words x.aggregation.function
+      → slice_range store.cells.items place (place + words) ≡ cell_of x.aggregation.function Bag
+  cell_here lengths place words p w =
+      let bags = λ (e : Entry). bag past.events at.chosen e.aggregation e.key in
+      ap (λ n. slice_range store.cells.items n (n + words)) p
+      ∙ ap (λ n. slice_range store.cells.items (words_of Before) (words_of Before + n)) w
+      ∙ ap (λ xs. slice_range xs (words_of Before) (words_of Before + cell_words x.aggregation.function))
+      (at.cells ∙ ap (cells_from bags) split)
+      ∙ cell_at lengths bags (name_of x) Before Later
+
+-- rows are joined from bags that are the same
+pub joined_alike : (function : AggFn) (bags other : Key → List ℤ) (rows : List Joined)
+    → ((key : Key) → bags key ≡ other key) → AreJoined function bags rows → AreJoined function other rows
+joined_alike function bags other rows h j =
+    let same : bags ≡ other = (λ i key. h key i) in subst (λ b. AreJoined function b rows) same j
+
+module _ (past : Past) (store : AggStore) (at : IsAt past store) (aggregation : Aggregation) (bags : Key → List ℤ)
+    (i : ℕ)
+    (x : Held) (here : i < length store.entries.items) (is : x ≡ get_or store.entries.items i x) (rows rows' :
+    List Joined)
+    (so_far : AreJoined aggregation.function
+    (Gathered past store at aggregation bags (names_of (take i store.entries.items)))
+    rows) where
+  abbrev So-far : List Entry
+  So-far = names_of (take i store.entries.items)
+
+  abbrev Next : List Entry
+  Next = names_of (take (i + 1) store.entries.items)
+
+  more : (key : Key) → Gathered past store at aggregation bags (So-far ++ name_of x ∷ []) key
+      ≡ Gathered past store at aggregation bags Next key
+  more key =
+      ap (λ xs. Gathered past store at aggregation bags xs key) (sym (names_more store.entries.items i x here is))
+
+  pub entry_passed : same_aggregation aggregation x.aggregation ≡ false → rows' ≡ rows
+      → AreJoined aggregation.function (Gathered past store at aggregation bags Next) rows'
+  entry_passed other same =
+      subst (AreJoined aggregation.function (Gathered past store at aggregation bags Next)) (sym same)
+      (joined_alike aggregation.function (Gathered past store at aggregation bags So-far)
+      (Gathered past store at aggregation bags Next) rows
+      (λ key. gathered_other past store at aggregation bags So-far (name_of x) other key ∙ more key) so_far)
+
+  abbrev Joins : AggFn → List ℕ → Type 0
+  Joins function cell =
+      (bags : Key → List ℤ) (bag : List ℤ) → AreJoined function bags rows
+      → length (bags x.key.parts.items) < BAG_LIMIT
+      → IsBag bag → cell ≡ cell_of function bag → AreJoined function (joined_at x.key.parts.items bag bags) rows'
+
+  pub entry_joined : Lengths → ((key : Key) → length (bags key) < BAG_LIMIT)
+      → same_aggregation aggregation x.aggregation ≡ true → (function : AggFn) → function ≡ aggregation.function
+      → (place words : ℕ) → place ≡ words_of So-far → words ≡ cell_words x.aggregation.function
+      → (cell : List ℕ) → cell ≡ slice_range store.cells.items place (place + words) → Joins function cell
+      → AreJoined aggregation.function (Gathered past store at aggregation bags Next) rows'
+  entry_joined lengths few same function f place words p w cell c joins =
+      let key = x.key.parts.items in
+      let own = aggregation_is aggregation x.aggregation same in
+      let gathered = Gathered past store at aggregation bags So-far in
+      let bag-of = bag past.events at.chosen aggregation key in
+      let is_bag : IsBag bag-of =
+      subst (λ a. IsBag (bag past.events at.chosen a key)) (sym own) (bag_here past store at i x here is) in
+      let has_cell : cell ≡ cell_of aggregation.function bag-of =
+      c ∙ cell_here past store at i x here is lengths place words p w
+      ∙ ap (λ (a : Aggregation). cell_of a.function (bag past.events at.chosen a key)) (sym own) in
+      let never : has (entry_of aggregation key) So-far ≡ false =
+      subst (λ a. has (entry_of a key) So-far ≡ false) (sym own) (not_before past store at i x here is) in
+      let short : length (gathered key) < BAG_LIMIT =
+      subst (λ b. length (cond b (bags key ++ bag-of) (bags key)) < BAG_LIMIT) (sym never) (few key) in
+      let joins' = subst (λ g. Joins g cell) f joins in
+      joined_alike aggregation.function (joined_at key bag-of gathered)
+      (Gathered past store at aggregation bags Next) rows'
+      (λ k. gathered_more past store at aggregation bags So-far (name_of x)
+      (not_before past store at i x here is) same k
+      ∙ more k)
+      (joins' gathered bag-of so_far short is_bag has_cell)

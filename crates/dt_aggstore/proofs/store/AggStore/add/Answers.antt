@@ -1,0 +1,73 @@
+-- A contribution goes to the entry that is held, or to a new one.
+use Rattle.std.proofs.Common.{◌≡◌, ◌+◌, ◌≤◌, ℤ, Bool, true, false, List, [], ◌∷◌, ◌++◌, length, take, drop, refl, ap, ◌∙◌, subst, arith}
+use Rattle.std.specs.Prelude.{FitsSigned, slice_range, Contains}
+use Rattle.std.specs.Int.{w64}
+use Rattle.std.proofs.lemmas.Int.{to_z-of_z}
+use Rattle.std.proofs.lemmas.Bool.{false≢true}
+use Rattle.std.proofs.lemmas.List.{with_items_is}
+use Rattle.dt_aggfn.specs.Cells.{cell_words, cell_of}
+use Rattle.dt_aggstore.specs.History.{Past, after, given, contributions}
+use Rattle.dt_aggstore.specs.Held.{entry_of, bag}
+use Rattle.dt_aggstore.specs.Entries.{names_of}
+use Rattle.dt_aggstore.specs.IsAt.{IsAt, Makes}
+use Rattle.dt_aggstore.specs.declared.limits.TheConstants.{ADDED_LIMIT}
+use Rattle.dt_aggstore.specs.declared.key.Aggregation.{Aggregation}
+use Rattle.dt_aggstore.specs.declared.key.KeyPart.{KeyPart}
+use Rattle.dt_aggstore.specs.declared.store.AggStore.{AggStore}
+use Rattle.dt_aggstore.proofs.Steps.{after_added, keeps_added, given_bag, cell_is, after_made, after_dropped, keeps_made}
+use Rattle.dt_aggstore.proofs.store.AggStore.add.Goals as goal
+
+-- a store where none was found, made or not
+made : (past : Past) (old new : AggStore) (at : IsAt past old) (aggregation : Aggregation) (key : List KeyPart)
+    (value : ℤ)
+    (b : Bool) → FitsSigned w64 value → (Contains (names_of old.entries.items) (entry_of aggregation key) → ⊥)
+    → Makes aggregation key value old.size (old.added + 1) (names_of old.entries.items) old.cells.items new b
+    → IsAt (after past (given aggregation key value)) new
+made past old new at aggregation key value true word none m =
+    after_made past old at aggregation key value none new m.same_size m.same_count word
+    (m.fits.0 refl) m.names m.all_cells
+made past old new at aggregation key value false word none m =
+    after_dropped past old at aggregation key value none new m.same_size m.same_count word
+    (λ fits. false≢true (m.fits.1 fits)) m.names m.all_cells
+
+pub returns-in-Some-clause-stands : goal.returns-in-Some-clause-stands
+returns-in-Some-clause-stands c = λ past at.
+    let self = c.args.self.now in
+    let key = c.args.key.now.parts.items in
+    let words = cell_words c.args.aggregation.function in
+    let lengths = c.cell_length.ensures.words in
+    let lies = c.in-Some.ensures.found in
+    let then : c.deref_mut.result.now ≡ self.cells.items = c.deref_mut.ensures.value in
+    let bag = bag past.events at.chosen c.args.aggregation key in
+    let few : contributions past.events ≤ ADDED_LIMIT = omega (arith, at.added, self.few) in
+    let added = c.add_at.ensures bag
+    (given_bag past self at c.args.aggregation key c.args.value lengths c.in-Some.place lies few)
+    (ap (λ xs. slice_range xs c.in-Some.place (c.in-Some.place + words)) then
+    ∙ cell_is past self at c.args.aggregation key c.args.value lengths c.in-Some.place lies) in
+    after_added past self at c.args.aggregation key c.args.value lengths c.in-Some.place lies _ refl refl
+    c.ranges.value refl
+    (with_items_is self.cells c.add_at.new.cells (omega (arith, c.add_at.auto.cells, ap length then, self.cells.ok))
+    ∙ added
+    ∙ ap (λ z. take c.in-Some.place c.deref_mut.result.now ++ cell_of c.args.aggregation.function (bag ++ z ∷ [])
+    ++ drop (c.in-Some.place + words) c.deref_mut.result.now) (to_z-of_z w64 c.args.value c.ranges.value)
+    ∙ ap (λ xs. take c.in-Some.place xs ++ cell_of c.args.aggregation.function (bag ++ c.args.value ∷ [])
+    ++ drop (c.in-Some.place + words) xs) then)
+
+pub returns-in-Some-clause-keeps : goal.returns-in-Some-clause-keeps
+returns-in-Some-clause-keeps c = λ past at.
+    keeps_added past c.args.self.now at c.args.aggregation c.args.key.now.parts.items c.args.value c.in-Some.place
+    c.in-Some.ensures.found
+
+pub returns-in-None-clause-stands : goal.returns-in-None-clause-stands
+returns-in-None-clause-stands c = λ past at.
+    let self = c.args.self.now in
+    made past self c.insert.new.self at c.args.aggregation c.args.key.now.parts.items c.args.value c.insert.result
+    c.ranges.value c.in-None.ensures.none
+    (subst (λ z. Makes c.args.aggregation c.args.key.now.parts.items z self.size (self.added + 1)
+    (names_of self.entries.items) self.cells.items c.insert.new.self c.insert.result)
+    (to_z-of_z w64 c.args.value c.ranges.value) c.insert.ensures)
+
+pub returns-in-None-clause-keeps : goal.returns-in-None-clause-keeps
+returns-in-None-clause-keeps c = λ past at.
+    keeps_made past c.args.self.now at c.args.aggregation c.args.key.now.parts.items c.args.value
+    c.in-None.ensures.none c.insert.result c.insert.ensures.fits

@@ -1,0 +1,40 @@
+-- Rows while a table is made.
+use Rattle.std.specs.Prelude.{◌≡◌, ◌≢◌, ◌↔◌, ℕ, ◌<◌, ◌≤◌, length, slice_index_or, ℤ, cond, List, [], ◌++◌, map, Contains, FitsSigned}
+use Rattle.std.specs.Int.{w64}
+use Rattle.std.specs.List.{AllByRecursion, AllZip}
+use Rattle.dt_aggfn.specs.declared.function.AggFn.{AggFn}
+use Rattle.dt_aggfn.specs.Answers.{answer_of}
+use Rattle.dt_aggfn.specs.Cells.{cell_of}
+use Rattle.dt_aggstore.specs.Keys.{same_key, IsBelow}
+use Rattle.dt_aggstore.specs.Table.{IsRising, RowForm}
+use Rattle.dt_aggstore.specs.declared.key.KeyPart.{KeyPart}
+use Rattle.dt_aggstore.specs.declared.joining.Joined.{Joined}
+
+abbrev pub key_of : Joined → List KeyPart
+key_of row = row.key.parts.items
+
+abbrev pub keys_of : List Joined → List (List KeyPart)
+keys_of rows = map key_of rows
+
+-- Rows have been joined from bags: they rise by key, the keys whose bag has a value have one, and each has its bag's
+-- cell.
+pub record AreJoined (function : AggFn) (bags : List KeyPart → List ℤ) (rows : List Joined) : Type 0 where
+  pub rising : IsRising (keys_of rows)
+  pub has : (key : List KeyPart) → Contains (keys_of rows) key ↔ (bags key ≢ [])
+  pub cells : AllByRecursion (λ row. row.cell.items ≡ cell_of function (bags (key_of row))) rows
+  pub words : (key : List KeyPart) → AllByRecursion (λ z. FitsSigned w64 z) (bags key)
+
+-- the bags with one more for a key
+abbrev pub joined_at : List KeyPart → List ℤ → (List KeyPart → List ℤ) → List KeyPart → List ℤ
+joined_at key bag bags other = cond (same_key key other) (bags other ++ bag) (bags other)
+
+-- So many keys come before a key, and the next one doesn't.
+pub record IsPlaceOf (keys : List (List KeyPart)) (key : List KeyPart) (place : ℕ) : Type 0 where
+  pub within : place ≤ length keys
+  pub before : (k : ℕ) (default : List KeyPart) → k < place → IsBelow (slice_index_or keys k default) key
+  pub rest : (default : List KeyPart) → place < length keys → IsBelow (slice_index_or keys place default) key → ⊥
+
+-- Rows of a table are made of joined ones: each has its key, and the answer of its bag.
+abbrev pub MakesRows : AggFn → (List KeyPart → List ℤ) → List Joined → List RowForm → Type 0
+MakesRows function bags joined rows =
+    AllZip (λ row form. (form.key ≡ key_of row) × (form.value ≡ answer_of function (bags (key_of row)))) joined rows

@@ -1,0 +1,9 @@
+-- What the contracts of this crate cite.
+pub mod Keys
+pub mod History
+pub mod Held
+pub mod Choice
+pub mod Table
+pub mod Entries
+pub mod IsAt
+pub mod Joining

@@ -1,0 +1,96 @@
+//! Aggregations and their keys.
+ghost use Rattle.std.specs.Prelude.{◌≡◌, ◌≤◌, ◌*◌};
+
+use crate::limits::KEYS_MAX;
+use arrayvec::ArrayVec;
+use dt_aggfn::AggFn;
+use std::cmp::Ordering;
+
+/// An aggregation: its number in the consumer and its function. Two that differ in either are two.
+#[derive(Clone, Copy, Debug, PartialEq, Eq)]
+pub struct Aggregation {
+    pub number: u32,
+    pub function: AggFn,
+}
+
+/// A part of a key. Numbers come before texts, numbers by size and texts by their bytes.
+#[derive(Clone, Copy, Debug, PartialEq, Eq, PartialOrd, Ord)]
+pub enum KeyPart {
+    Number(i64),
+    /// A text has 32 bytes, filled with zeros.
+    Text([u8; 32]),
+}
+
+/// What an entry of an aggregation is found by: at most [`KEYS_MAX`] parts, or none.
+#[derive(Drop)]
+pub struct Key {
+    pub parts: ArrayVec<KeyPart, KEYS_MAX>,
+}
+
+impl Default for KeyPart {
+    ghost use Rattle.std.specs.Prelude.{pos};
+    ghost use Rattle.dt_aggstore.specs.declared.key.KeyPart.TheVariants.{Number};
+
+    ghost is_default = { λ part. part ≡ Number (pos 0) };
+
+    /// The number 0.
+    fn default() -> Self {
+        KeyPart::Number(0)
+    }
+}
+
+impl Aggregation {
+    ghost use Rattle.dt_aggstore.specs.Keys.{same_aggregation};
+
+    /// Whether both are one aggregation.
+    pub(crate) fn is(self, other: Aggregation) -> bool
+        ensures { result ≡ same_aggregation self other }
+    {
+        self == other
+    }
+}
+
+impl Key {
+    ghost use Rattle.dt_aggstore.specs.Keys.{same_key, key_cmp, key_words};
+
+    /// Whether both have the same parts.
+    pub(crate) fn is(&self, other: &Key) -> bool
+        ensures { result ≡ same_key self.now.parts.items other.now.parts.items }
+    {
+        self.parts.as_slice() == other.parts.as_slice()
+    }
+
+    /// How this key and another are ordered: the first position that differs decides, and a key that ends there
+    /// comes first.
+    pub(crate) fn order(&self, other: &Key) -> Ordering
+        ensures { result ≡ key_cmp self.now.parts.items other.now.parts.items }
+    {
+        self.parts.as_slice().cmp(other.parts.as_slice())
+    }
+
+    /// The same key.
+    pub(crate) fn copy(&self) -> Key
+        ensures { result.parts.items ≡ self.now.parts.items }
+    {
+        let mut parts = ArrayVec::new();
+        for part in self.parts.as_slice() {
+            parts.push(*part);
+        }
+        Key { parts }
+    }
+
+    /// How many words its parts take: a number one, a text four.
+    pub(crate) fn words(&self) -> usize
+        ensures words { result ≡ key_words self.now.parts.items }
+        ensures few { result ≤ 4 * KEYS_MAX }
+    {
+        let mut words = 0;
+        for part in self.parts.as_slice() {
+            words += match part {
+                KeyPart::Number(_) => 1,
+                KeyPart::Text(_) => 4,
+            };
+        }
+        words
+    }
+}

@@ -1,0 +1,26 @@
+//! Stores of aggregations: what one processor keeps of the values that a consumer gives to its aggregations there.
+//!
+//! A store holds entries, each an aggregation, a key and the cell of its bag (`dt_aggfn`). Which contributions
+//! it keeps, which entries it holds and with which values is defined over the list of all that came to it,
+//! contributions and truncations (`specs/History.antt`, `specs/Held.antt`, `specs/Choice.antt`), and not over
+//! how its entries lie. A new store has an empty past, and each `add` and `trunc` makes its past one event
+//! longer (`specs/IsAt.antt`). The table of an aggregation joins the stores of all processors
+//! (`specs/Table.antt`).
+#![tactic(auto)]
+
+mod cells;
+mod held;
+mod joining;
+mod key;
+mod laws;
+mod limits;
+mod store;
+mod table;
+#[cfg(test)]
+mod tests;
+
+pub use key::{Aggregation, Key, KeyPart};
+pub use laws::{held_entries, one_choice, one_table};
+pub use limits::{ADDED_LIMIT, AGGSIZE_MAX, KEYS_MAX, STORES_MAX};
+pub use store::AggStore;
+pub use table::Row;

@@ -1,0 +1,15 @@
+//! The limits of stores and keys.
+/// The most parts of a key.
+pub const KEYS_MAX: usize = 4;
+
+/// The most bytes that the entries of a store may cost.
+pub const AGGSIZE_MAX: usize = 1_048_576;
+
+/// How many contributions a store counts: an `add` wants fewer counted before it. This is 2^40.
+pub const ADDED_LIMIT: u64 = 1_099_511_627_776;
+
+/// The most stores that a table joins.
+pub const STORES_MAX: usize = 64;
+
+/// The least bytes that an entry costs: its head and a cell of one word.
+pub(crate) const COST_MIN: usize = 16;

@@ -1,0 +1,230 @@
+//! Stores, as a table of contributions and truncations with what is answered and what the table then shows.
+
+use super::*;
+use arrayvec::ArrayVec;
+use dt_aggfn::{AggFn, Answer, Bounds};
+use std::alloc::{AllocError, Global};
+use std::process::Abort;
+use std::test::Fail;
+
+/// In each line: the size of two stores, and then words in order. `@1:avg` names the aggregation that is meant
+/// from there on, by its number and function; `lq100` is an `lquantize` of ten levels from 0 to 100.
+/// `0+KEY:VALUE` gives a value on store 0 and is kept, `1-KEY:VALUE` gives one on store 1 and is dropped. `0!`
+/// truncates on store 0. `0#3` says that store 0 counts three contributions. `[KEY:VALUE;..]` is the table of
+/// both stores. A key has its parts between commas: numbers, and texts behind a `'`. A value of rows has
+/// `NAME=COUNT` for each, between `&`.
+const TABLE: &str = "
+56 @1:avg 0+'sh:1 0+'sh:2 1+'sh:9 1-'cron:9 ['sh:4] 0! 1! [] 1+'cron:5 ['cron:5]
+56 @1:avg 0+'sh:1 0-'cron:2 0+'sh:5 ['sh:3] 0#3 1#0
+55 @1:avg 0-'sh:1 [] 0#1
+48 @1:count 0+1:0 0+2:0 0-3:0 0+1:0 [1:2;2:1]
+47 @1:count 0+1:0 0-2:0 [1:1]
+16 @1:count 0+:0 0+:0 [:2]
+15 @1:count 0-:0 []
+0 @1:count 0-:0 1-:0 [] 0#1 1#1
+64 @1:count 0+:0 @2:count 0+:0 @1:count 0+:0 [:2] @2:count [:1] @1:count 0! [] @2:count [:1]
+64 @1:sum 0+:5 @1:max 0+:7 0+:6 [:7] @1:sum [:5]
+1000 @1:lq100 0+1:15 @1:lq200 0+1:15 [1:0=1] @1:lq100 [1:10=1]
+112 @1:lq100 0+1:100 0+1:-1 0-2:5 [1:null=1&100=1]
+1056 @1:quantize 0+'sh:0 0+'sh:1 0+'sh:-3 0-'ls:1 1+'sh:1 ['sh:-2=1&0=1&1=2]
+1055 @1:quantize 0-'sh:0 1-'sh:0 []
+80 @1:count 0+1:0 @2:count 0+1:0 @1:count 0+2:0 0-3:0 0! [] 0+3:0 0+4:0 0-5:0 [3:1;4:1] @2:count [1:1]
+80 @1:sum 0+1:1 @2:avg 0+1:4 @3:sum 0+1:3 @2:avg 0! @3:sum 0+1:4 [1:7] @1:sum [1:1] 0+1:1 [1:2] @2:avg []
+1000 @1:count 0+'b:0 0+'a:0 1+10:0 1+9:0 1+-1:0 1+'ab:0 [-1:1;9:1;10:1;'a:1;'ab:1;'b:1]
+1000 @1:sum 0+2,1:1 0+1,'b:2 0+1,'a:3 0+1,2:4 1+1:5 1+1,'a:6 [1:5;1,2:4;1,'a:9;1,'b:2;2,1:1]
+1000 @1:sum 0+1:1 0+'1:2 0+1,1:3 0+1,'1:4 0+'1,1:5 [1:1;1,1:3;1,'1:4;'1:2;'1,1:5]
+1000 @1:sum 0+1,2,3,4:1 0+1,2,3:2 0+1,2,3,5:3 [1,2,3:2;1,2,3,4:1;1,2,3,5:3]
+1000 @1:sum 0+1:9223372036854775807 1+1:9223372036854775807 [1:-2]
+1000 @1:sum 0+1:5 1+1:6 0! [1:6] 0+1:1 [1:7] 1! 1! [1:1]
+1000 @1:min 0+1:5 1+1:7 1+2:-3 [1:5;2:-3] 0#1 1#2
+1000 @1:max 0+1:-5 1+1:-7 0! 0#1 [1:-7]
+";
+
+#[test]
+fn stores_show_what_the_table_says(rt: HostRuntime) -> Result<(), Fail> {
+    for line in TABLE.lines() {
+        if !line.is_empty() {
+            shows(&rt, rt.alloc(), line)?;
+        }
+    }
+    Ok(())
+}
+
+#[test]
+fn many_keys_come_in_order(rt: HostRuntime) -> Result<(), Fail> {
+    let alloc = rt.alloc();
+    let aggregation = aggregation_of("1:sum").ok_or("aggregation")?;
+    let mut stores = [AggStore::new(alloc, 2400)?, AggStore::new(alloc, 2400)?];
+    for store in stores.iter_mut() {
+        for n in 0..101_i64 {
+            let number = n.wrapping_mul(37) % 101;
+            assert!(&rt; store.added() < ADDED_LIMIT);
+            let kept = store.add(aggregation, &number_key(number), number);
+            assert_eq!(&rt; kept, n < 100);
+        }
+    }
+    let rows = AggStore::merge_all(alloc, &stores, aggregation)?;
+    assert_eq!(&rt; rows.len(), 100);
+    for (place, row) in rows.iter().enumerate() {
+        // 64 came last, and was dropped.
+        let number = if place < 64 {
+            place
+        } else {
+            place.wrapping_add(1)
+        };
+        let expected = format!(in alloc; "{number}:{}", number.wrapping_mul(2))?;
+        assert_eq!(&rt; row_text(alloc, row)?, expected);
+    }
+    Ok(())
+}
+
+/// Makes the line's stores, does what its words say and compares what is shown.
+fn shows(rt: &impl Abort, alloc: Global, line: &str) -> Result<(), Fail> {
+    let mut words = line.split_whitespace();
+    let size = words.next().unwrap_or("0").parse().unwrap_or(0);
+    assert!(rt; size <= AGGSIZE_MAX);
+    let mut stores = [AggStore::new(alloc, size)?, AggStore::new(alloc, size)?];
+    let mut aggregation = aggregation_of("1:count").ok_or("aggregation")?;
+    for word in words {
+        if let Some(named) = word.strip_prefix('@') {
+            aggregation = aggregation_of(named).ok_or("aggregation")?;
+        } else if word.starts_with('[') {
+            let table = table_text(alloc, &AggStore::merge_all(alloc, &stores, aggregation)?)?;
+            assert_eq!(rt; table.as_str(), word, "{line}");
+        } else if let Some(step) = word.strip_prefix('0') {
+            take(rt, &mut stores[0], aggregation, step)?;
+        } else if let Some(step) = word.strip_prefix('1') {
+            take(rt, &mut stores[1], aggregation, step)?;
+        }
+    }
+    Ok(())
+}
+
+/// Does one step on a store, and compares what it answers.
+fn take(
+    rt: &impl Abort,
+    store: &mut AggStore,
+    aggregation: Aggregation,
+    step: &str,
+) -> Result<(), Fail> {
+    if step == "!" {
+        store.trunc(aggregation);
+        return Ok(());
+    }
+    if let Some(count) = step.strip_prefix('#') {
+        assert_eq!(rt; store.added(), count.parse().unwrap_or(0), "{step}");
+        return Ok(());
+    }
+    let (key, value) = step.split_once(':').ok_or("value")?;
+    let kept = key.starts_with('+');
+    let key = key
+        .strip_prefix('+')
+        .or(key.strip_prefix('-'))
+        .ok_or("key")?;
+    assert!(rt; store.added() < ADDED_LIMIT);
+    let value = value.parse().unwrap_or(0);
+    assert_eq!(rt;
+        store.add(aggregation, &key_of(rt, key), value),
+        kept,
+        "{step}"
+    );
+    Ok(())
+}
+
+/// The aggregation that a word names.
+fn aggregation_of(word: &str) -> Option<Aggregation> {
+    let (number, function) = word.split_once(':')?;
+    let function = match function {
+        "count" => AggFn::Count,
+        "sum" => AggFn::Sum,
+        "avg" => AggFn::Avg,
+        "min" => AggFn::Min,
+        "max" => AggFn::Max,
+        "quantize" => AggFn::Quantize,
+        "lq100" => AggFn::Lquantize(Bounds::new(0, 100, 10)?),
+        _ => AggFn::Lquantize(Bounds::new(0, 200, 20)?),
+    };
+    let number = number.parse().unwrap_or(0);
+    Some(Aggregation { number, function })
+}
+
+/// The key of one number.
+fn number_key(number: i64) -> Key {
+    let mut parts = ArrayVec::new();
+    parts.push(KeyPart::Number(number));
+    Key { parts }
+}
+
+/// The key that a word writes.
+fn key_of(rt: &impl Abort, word: &str) -> Key {
+    let mut parts = ArrayVec::new();
+    if word.is_empty() {
+        return Key { parts };
+    }
+    for part in word.split(',') {
+        assert!(rt; parts.len() < KEYS_MAX);
+        match part.strip_prefix('\'') {
+            Some(text) => parts.push(text_part(text)),
+            None => parts.push(KeyPart::Number(part.parse().unwrap_or(0))),
+        }
+    }
+    Key { parts }
+}
+
+/// A text as a part of a key.
+fn text_part(text: &str) -> KeyPart {
+    let mut bytes = [0; 32];
+    for (byte, given) in bytes.iter_mut().zip(text.as_bytes()) {
+        *byte = *given;
+    }
+    KeyPart::Text(bytes)
+}
+
+/// A table as a line writes it.
+fn table_text(alloc: Global, rows: &[Row]) -> Result<String, AllocError> {
+    let mut text = String::from_str(alloc, "[")?;
+    for row in rows {
+        if text.len() > 1 {
+            text.push(';')?;
+        }
+        text.push_str(row_text(alloc, row)?.as_str())?;
+    }
+    text.push(']')?;
+    Ok(text)
+}
+
+/// A row as a line writes it.
+fn row_text(alloc: Global, row: &Row) -> Result<String, AllocError> {
+    let mut text = String::new(alloc);
+    for part in row.key.parts.as_slice() {
+        if !text.is_empty() {
+            text.push(',')?;
+        }
+        match part {
+            KeyPart::Number(number) => text.push_str(format!(in alloc; "{number}")?.as_str())?,
+            KeyPart::Text(bytes) => {
+                text.push('\'')?;
+                for byte in bytes {
+                    if *byte != 0 {
+                        text.push(*byte as char)?;
+                    }
+                }
+            }
+        }
+    }
+    text.push(':')?;
+    match &row.value {
+        Answer::Number(value) => text.push_str(format!(in alloc; "{value}")?.as_str())?,
+        Answer::Rows(rows) => {
+            for (place, counted) in rows.iter().enumerate() {
+                let between = if place == 0 { "" } else { "&" };
+                let one = match counted.least {
+                    Some(least) => format!(in alloc; "{between}{least}={}", counted.count)?,
+                    None => format!(in alloc; "{between}null={}", counted.count)?,
+                };
+                text.push_str(one.as_str())?;
+            }
+        }
+    }
+    Ok(text)
+}
