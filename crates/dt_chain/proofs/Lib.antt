@@ -1,0 +1,4 @@
+-- The lemmas of this crate.
+pub mod Bits
+pub mod Listing
+pub mod Publishing

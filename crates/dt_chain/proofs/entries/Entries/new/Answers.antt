@@ -1,0 +1,15 @@
+-- Nothing is kept, and no list is there.
+use Rattle.std.proofs.Common.{◌≡◌, ℕ, zero, suc, None, get_or, replicate, refl}
+use Rattle.std.proofs.lemmas.Bool.{false≢true}
+use Rattle.dt_chain.proofs.entries.Entries.new.Goals as goal
+
+copies : {A : Type 0} (count place : ℕ) (x : A) → get_or (replicate count x) place x ≡ x
+copies zero place x = refl
+copies (suc count) zero x = refl
+copies (suc count) (suc place) x = copies count place x
+
+pub returns : goal.returns
+returns c = record {
+  kept = λ seat. copies 64 seat None;
+  listed = λ probe seat. rw c.new.ensures.items (λ e. absurd (false≢true e), λ (e : ⊥). absurd e);
+}

@@ -1,0 +1,21 @@
+-- Which seats a look names.
+use Rattle.std.specs.Prelude.{◌≡◌, ◌↔◌, ℕ, List, Option, Some, IsSomeAnd}
+use Rattle.dt_machine.specs.Interest as interest
+use Rattle.dt_machine.specs.Registry.{Registry, Belongs}
+use Rattle.dt_machine.specs.Shown.{IsShown}
+use Rattle.dt_machine.specs.declared.firing.Firing.{Firing}
+use Rattle.dt_chain.specs.Writes.{Write, Entry, state}
+
+-- An entry names a firing that belongs to the machine, whose probe is one of the entry's, and that the entry's
+-- account is shown.
+pub record Names (registry : Registry) (entry : Entry) (firing : Firing) : Type 0 where
+  pub belongs : Belongs registry firing
+  pub interested : interest.Names entry.probes firing.probe
+  pub admitted : IsShown entry.account registry firing
+
+-- After these writes a look names a seat with a life exactly where the seat's entry has that life and names the
+-- firing.
+pub record IsLook (registry : Registry) (writes : List Write) (firing : Firing) (lives : ℕ → Option ℕ) : Type 0 where
+  pub exactly : (seat life : ℕ)
+      → (lives seat ≡ Some life)
+      ↔ IsSomeAnd (state writes seat) (λ entry. (entry.life ≡ life) × Names registry entry firing)

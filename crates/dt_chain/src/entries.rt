@@ -1,0 +1,137 @@
+//! The entries of all seats.
+ghost use Rattle.std.specs.Prelude.{◌≡◌, ◌≤◌, ℕ, List, [], ◌∷◌, None, IsOk, OnOk, OnErr, vec_len, slice_index_or, if◌then◌else◌};
+ghost use Rattle.dt_chain.specs.declared.lists.TheConstants.{LISTS};
+
+use crate::lists::{LISTS, list, strike};
+use crate::seat::{SEATS, Seat};
+use crate::seat_mask::SeatMask;
+use crate::seat_set::SeatSet;
+use dt_cred::{Account, Mode, Probe, Process, admits};
+use dt_machine::{Firing, Interest, Machine};
+use std::alloc::{AllocError, Global};
+
+/// The entries of all seats: for each the last that it published, if it didn't withdraw it since.
+///
+/// Contracts speak of the list of all writes, the newest first: `IsAt writes entries`.
+#[derive(Drop)]
+pub struct Entries {
+    pub(crate) slots: [Option<Slot>; SEATS],
+    pub(crate) lists: Vec<SeatSet>,
+    ghost few: { vec_len lists ≤ LISTS },
+}
+
+/// What is kept of a seat's entry beside the lists.
+#[derive(Clone, Copy)]
+pub(crate) struct Slot {
+    pub(crate) life: u64,
+    pub(crate) account: Account,
+}
+
+impl Entries {
+    ghost use Rattle.dt_chain.specs.Writes.{Write, published, withdrawn};
+    ghost use Rattle.dt_chain.specs.Look.{IsLook};
+    ghost use Rattle.dt_chain.specs.Seats.{has, life_at};
+    ghost use Rattle.dt_chain.specs.Kept.{is_listed, life_shown};
+    ghost use Rattle.dt_chain.specs.IsAt.{IsAt, HasRoom};
+
+    /// No entry. It takes no memory yet.
+    pub fn new(alloc: Global) -> Entries
+        ensures { IsAt [] result }
+    {
+        Entries {
+            slots: [None; SEATS],
+            lists: Vec::new(alloc),
+        }
+    }
+
+    /// Takes the room for all that may be published (32 KB), if it isn't taken yet: no publication needs memory
+    /// then.
+    ///
+    /// `Err`: there was no memory. The entries are as they were, in both cases.
+    pub fn reserve(&mut self) -> Result<(), AllocError>
+        ensures room { OnOk result (HasRoom self.new) }
+        ensures kept { HasRoom self.old → IsOk result }
+        ensures same { (writes : List Write) → IsAt writes self.old → IsAt writes self.new }
+    {
+        self.lists.resize(LISTS, SeatSet::new())
+    }
+
+    /// A seat publishes an entry for one of its lives, in place of the one that it may have. It takes the room for
+    /// all that may be published, if that isn't taken yet.
+    ///
+    /// `Err`: there was no memory, and the entries are as they were.
+    pub fn publish(
+        &mut self,
+        seat: Seat,
+        life: u64,
+        account: &Account,
+        interest: &Interest,
+    ) -> Result<(), AllocError>
+        ensures ok { OnOk result ((writes : List Write) → IsAt writes self.old
+            → IsAt (published seat life account.now interest.now ∷ writes) self.new) }
+        ensures err { OnErr result ((writes : List Write) → IsAt writes self.old → IsAt writes self.new) }
+        ensures room { OnOk result (HasRoom self.new) }
+        ensures kept { HasRoom self.old → IsOk result }
+    {
+        self.lists.resize(LISTS, SeatSet::new())?;
+        list(self.lists.as_mut_slice(), seat, interest);
+        self.slots[seat.number() as usize] = Some(Slot {
+            life,
+            account: *account,
+        });
+        Ok(())
+    }
+
+    /// A seat withdraws its entry, if it has one. It takes no memory.
+    pub fn withdraw(&mut self, seat: Seat)
+        ensures stands { (writes : List Write) → IsAt writes self.old → IsAt (withdrawn seat ∷ writes) self.new }
+        ensures room { HasRoom self.old → HasRoom self.new }
+    {
+        strike(self.lists.as_mut_slice(), seat);
+        self.slots[seat.number() as usize] = None;
+    }
+
+    /// The seats whose entries name a firing, each with the life of its entry: the firing belongs to the machine,
+    /// its probe is one of the entry's, and the entry's account is shown the firing. It takes no memory.
+    pub fn look(&self, machine: &Machine, firing: &Firing) -> SeatMask
+        ensures { (writes : List Write) → IsAt writes self.now
+            → IsLook machine.now.registry writes firing.now (life_at result) }
+    {
+        // most firings are of probes that no seat is interested in: they leave here, before anything is looked up
+        let seats = self.interested(firing.probe);
+        if seats.is_empty() {
+            return SeatMask::new();
+        }
+        match machine.belonging(firing) {
+            Some((probe, process)) => self.shown(seats, probe, firing.mode, process),
+            None => SeatMask::new(),
+        }
+    }
+
+    /// The seats that are listed for a probe.
+    fn interested(&self, probe: u32) -> SeatSet
+        ensures { (seat : ℕ) → has result seat ≡ is_listed self.now.lists.items probe seat }
+    {
+        match self.lists.get(probe as usize) {
+            Some(seats) => *seats,
+            None => SeatSet::new(),
+        }
+    }
+
+    /// Those of some seats whose accounts are shown a firing of a probe, in this mode and this process.
+    fn shown(&self, seats: SeatSet, probe: &Probe, mode: Mode, process: &Process) -> SeatMask
+        ensures { (seat : ℕ) → life_at result seat ≡ (if has seats seat
+            then life_shown probe.now.class mode process.now (slice_index_or self.now.slots seat None) else None) }
+    {
+        let mut mask = SeatMask::new();
+        let mut left = seats;
+        while let Some(seat) = left.pop_first() {
+            if let Some(slot) = &self.slots[seat.number() as usize] {
+                if admits(&slot.account, probe, mode, process) {
+                    mask.insert(seat, slot.life);
+                }
+            }
+        }
+        mask
+    }
+}

@@ -1,0 +1,22 @@
+//! The published entries of the seats: who is interested in which probes, and so whom a firing is offered to.
+//!
+//! Consumers trace one machine together, each on one of [`SEATS`] seats. A seat publishes an entry, which says on
+//! whose behalf it traces and in which probes it is interested, and withdraws it ([`Entries`]). A processor that makes
+//! a firing looks which seats' entries name it, and offers it to these alone ([`SeatMask`]). What is named is defined
+//! over the list of all publications and withdrawals (`specs/Writes.antt`, `specs/Look.antt`), and not over how
+//! entries are kept; `one_look` says that there is one answer. Looking takes no memory.
+#![tactic(auto)]
+
+mod entries;
+mod laws;
+mod lists;
+mod seat;
+mod seat_mask;
+mod seat_set;
+#[cfg(test)]
+mod tests;
+
+pub use entries::Entries;
+pub use laws::one_look;
+pub use seat::{SEATS, Seat};
+pub use seat_mask::SeatMask;

@@ -1,0 +1,72 @@
+//! The seats that a look names.
+ghost use Rattle.std.specs.Prelude.{◌≡◌, ◌<◌, ◌==◌, ◌↔◌, ℕ, Some, None, IsTrue, MatchOption, if◌then◌else◌};
+
+use crate::seat::{SEATS, Seat};
+use crate::seat_set::SeatSet;
+
+/// Some seats, each with the number of the life that it is named for. It lies in the value itself.
+///
+/// Contracts see it as `life_at mask seat`: the life that a seat is named with, if it is named.
+#[derive(Clone, Copy)]
+pub struct SeatMask {
+    pub(crate) seats: SeatSet,
+    pub(crate) lives: [u64; SEATS],
+}
+
+impl SeatMask {
+    ghost use Rattle.dt_chain.specs.Seats.{life_at};
+
+    /// A mask that names no seat.
+    pub fn new() -> Self
+        ensures { (seat : ℕ) → life_at result seat ≡ None }
+    {
+        SeatMask {
+            seats: SeatSet::new(),
+            lives: [0; SEATS],
+        }
+    }
+
+    /// Names a seat with a life, in place of another that it may be named with.
+    pub(crate) fn insert(&mut self, seat: Seat, life: u64)
+        ensures { (other : ℕ)
+            → life_at self.new other ≡ (if other == seat then Some life else life_at self.old other) }
+    {
+        self.seats.insert(seat);
+        self.lives[seat.number() as usize] = life;
+    }
+
+    /// Names a seat no more.
+    pub fn remove(&mut self, seat: Seat)
+        ensures { (other : ℕ) → life_at self.new other ≡ (if other == seat then None else life_at self.old other) }
+    {
+        self.seats.remove(seat);
+    }
+
+    /// The number of the life that a seat is named with, or `None` where it is not named.
+    pub fn life_of(&self, seat: Seat) -> Option<u64>
+        ensures { result ≡ life_at self.now seat }
+    {
+        if self.seats.contains(seat) {
+            Some(self.lives[seat.number() as usize])
+        } else {
+            None
+        }
+    }
+
+    /// The seat of the least number that is named, with its life.
+    pub fn first(&self) -> Option<(Seat, u64)>
+        ensures { MatchOption result ((seat : ℕ) → life_at self.now seat ≡ None)
+            (λ first. (life_at self.now first.0 ≡ Some first.1)
+            × ((seat : ℕ) → seat < first.0 → life_at self.now seat ≡ None)) }
+    {
+        let seat = self.seats.first()?;
+        Some((seat, self.lives[seat.number() as usize]))
+    }
+
+    /// Whether no seat is named.
+    pub fn is_empty(&self) -> bool
+        ensures { IsTrue result ↔ ((seat : ℕ) → life_at self.now seat ≡ None) }
+    {
+        self.seats.is_empty()
+    }
+}
