@@ -30,3 +30,6 @@ same_quotient (negsuc a) by p q h = absurd (grind (arith, ints))
 
 pub not_above : (z : ℤ) → int_lt (pos 512) z ≡ false → int_le z (pos 512) ≡ true
 not_above z h = grind (arith, ints)
+
+pub above : (z : ℤ) → int_lt (pos 512) z ≡ true → int_le z (pos 512) ≡ true → ⊥
+above z h k = grind (arith, ints)

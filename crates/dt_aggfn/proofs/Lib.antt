@@ -2,6 +2,7 @@
 mod PowerLemmas
 mod RowLemmas
 mod BoundLemmas
+pub mod SameBounds
 mod LevelRowLemmas
 mod CountLemmas
 mod SumLemmas

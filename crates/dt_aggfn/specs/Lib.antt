@@ -1,5 +1,6 @@
 -- What the contracts of this crate cite.
 pub mod Bounds
+pub mod BoundsOf
 pub mod Rows
 pub mod Cells
 pub mod Answers

@@ -15,6 +15,7 @@ pub struct Bounds {
 }
 
 impl Bounds {
+    ghost use Rattle.dt_aggfn.specs.BoundsOf.{bounds_of};
     ghost use Rattle.dt_aggfn.specs.Rows.{name_at, levels_of, lquantize_rows, IsRowOf};
 
     /// The levels with these bounds, where there are some and not too many.
@@ -22,6 +23,7 @@ impl Bounds {
         ensures found { IfSome result (λ bounds. (bounds.lower ≡ lower) × (bounds.upper ≡ upper)
             × (bounds.step ≡ step)) }
         ensures none { IfNone result (AreBounds lower upper step → ⊥) }
+        ensures value { result ≡ bounds_of lower upper step }
     {
         if lower >= upper || step <= 0 {
             return None;
