@@ -1,21 +1,22 @@
 -- A past has one choice, and one event more is chosen or it isn't.
-use Rattle.std.proofs.Common.{◌≡◌, ℕ, zero, suc, ◌+◌, ◌<◌, ◌≤◌, ◌↔◌, ◌⊎◌, ⊎_elim, inl, inr, ℤ, Bool, true, false, List, [], ◌∷◌, ◌++◌, length, get_or, take, Some, refl, sym, ap, ◌∙◌, subst, IsTrue, arith}
-use Rattle.std.specs.Prelude.{slice_get}
+use Rattle.std.proofs.Common.{◌≡◌, ℕ, zero, suc, ◌+◌, ◌<◌, ◌≤◌, ◌↔◌, ⊎_elim, inl, inr, ℤ, Bool, true, false, List, [], ◌∷◌, ◌++◌, length, get_or, take, Some, refl, sym, ap, ◌∙◌, subst, IsTrue, ◌||◌, arith}
+use Rattle.std.specs.Prelude.{slice_get, nat_le}
+use Rattle.std.specs.List.{fold}
 use Rattle.std.proofs.Math.Seq.{take-suc}
-use Rattle.std.proofs.lemmas.Bool.{cases_lt, cases_eq, false≢true}
+use Rattle.std.proofs.lemmas.Bool.{cases_eq, false≢true, or_cases, leb-true, le-leb}
 use Rattle.std.proofs.lemmas.List.{append_assoc, append-nil, take-append-le, take_all, length_push}
 use Rattle.std.proofs.lemmas.Option.{slice_get_within}
 use Rattle.dt_aggstore.specs.Keys.{entry_cost, cost_of}
 use Rattle.dt_aggstore.specs.History.{Event, given, truncated, Past, after}
 use Rattle.dt_aggstore.specs.Held.{entry_of, held}
 use Rattle.dt_aggstore.specs.Choice.{IsKept, IsChoice, Keeps}
+use Rattle.dt_aggstore.specs.Chosen.{is_kept, choice_of}
 use Rattle.dt_aggstore.specs.declared.key.Aggregation.{Aggregation}
 use Rattle.dt_aggstore.specs.declared.key.KeyPart.{KeyPart}
-use Rattle.dt_aggstore.proofs.Filters.{yes_or_no}
 use Rattle.dt_aggstore.proofs.Distinct.{has, has_from_contains, contains_from_has}
 
 -- what is true exactly where the same holds is the same
-same_bits : (x y : Bool) (P : Type 0) → IsTrue x ↔ P → IsTrue y ↔ P → x ≡ y
+pub same_bits : (x y : Bool) (P : Type 0) → IsTrue x ↔ P → IsTrue y ↔ P → x ≡ y
 same_bits true true P f g = refl
 same_bits true false P f g = sym (g.1 (f.0 refl))
 same_bits false true P f g = f.1 (g.0 refl)
@@ -124,39 +125,51 @@ module _ (past : Past) (chosen : List Bool) (event : Event) (b : Bool) (choice :
 
 -- ---- some choice
 
-kept_or_not : (size : ℕ) (events : List Event) (chosen : List Bool) (event : Event)
-    → IsKept size events chosen event ⊎ (IsKept size events chosen event → ⊥)
-kept_or_not size events chosen (given aggregation key value) =
-    let entry = entry_of aggregation key in
-    ⊎_elim
-    (λ yes. inl (inl (contains_from_has (held events chosen) entry yes)))
-    (λ no. ⊎_elim
-    (λ over. inr (⊎_elim
-    (λ among. false≢true (sym no ∙ has_from_contains (held events chosen) entry among))
-    (λ fits. omega arith)))
-    (λ fits. inl (inr fits))
-    (cases_lt size (entry_cost aggregation key + cost_of (held events chosen))))
-    (yes_or_no (has entry (held events chosen)))
-kept_or_not size events chosen (truncated aggregation) = inr (λ h. h)
+or_true : (b : Bool) → (b || true) ≡ true
+or_true true = refl
+or_true false = refl
 
-choice_pushed : (past : Past) (chosen : List Bool) (event : Event) → IsChoice past chosen
-    → (b : Bool) × IsChoice (after past event) (chosen ++ b ∷ [])
-choice_pushed past chosen event choice = ⊎_elim
-    (λ yes. (true, choice_more past chosen event true choice ((λ _. yes), (λ _. refl))))
-    (λ no. (false, choice_more past chosen event false choice ((λ e. absurd (false≢true e)), (λ k. absurd (no k)))))
-    (kept_or_not past.size past.events chosen event)
+-- the test of what is kept tells it
+pub kept_exactly : (size : ℕ) (events : List Event) (chosen : List Bool) (event : Event)
+    → IsTrue (is_kept size events chosen event) ↔ IsKept size events chosen event
+kept_exactly size events chosen (given aggregation key value) =
+    let entry = entry_of aggregation key in
+    let among = has entry (held events chosen) in
+    let cost = entry_cost aggregation key + cost_of (held events chosen) in (
+      (λ kept. ⊎_elim
+          (λ yes. inl (contains_from_has (held events chosen) entry yes))
+          (λ fits. inr (leb-true cost size fits))
+          (or_cases among (nat_le cost size) kept)),
+      (λ kept. ⊎_elim
+          (λ yes. ap (λ b. b || nat_le cost size) (has_from_contains (held events chosen) entry yes))
+          (λ fits. ap (λ b. among || b) (le-leb cost size fits) ∙ or_true among)
+          kept),
+    )
+kept_exactly size events chosen (truncated aggregation) = ((λ e. absurd (false≢true e)), (λ none. absurd none))
 
 abbrev Of : ℕ → List Event → Past
 Of size events = record { size = size; events = events }
 
+-- the choice, one event longer
+abbrev Step : ℕ → List Event → List Bool → Event → List Bool
+Step size events chosen event = chosen ++ is_kept size (take (length chosen) events) chosen event ∷ []
+
 choice_from : (size : ℕ) (done rest : List Event) (chosen : List Bool) → IsChoice (Of size done) chosen
-    → (c : List Bool) × IsChoice (Of size (done ++ rest)) c
-choice_from size done [] chosen choice =
-    (chosen, subst (λ xs. IsChoice (Of size xs) chosen) (sym (append-nil done)) choice)
+    → IsChoice (Of size (done ++ rest)) (fold (Step size (done ++ rest)) chosen rest)
+choice_from size done [] chosen choice = subst (λ xs. IsChoice (Of size xs) chosen) (sym (append-nil done)) choice
 choice_from size done (event ∷ rest) chosen choice =
-    let b = choice_pushed (Of size done) chosen event choice in
-    let c = choice_from size (done ++ event ∷ []) rest (chosen ++ b.0 ∷ []) b.1 in
-    (c.0, subst (λ xs. IsChoice (Of size xs) c.0) (append_assoc done (event ∷ []) rest) c.1)
+    let all = done ++ event ∷ rest in
+    let before : take (length chosen) all ≡ done =
+    take-append-le (length chosen) done (event ∷ rest) (omega (arith, choice.whole))
+    ∙ take-whole done (length chosen) choice.whole in
+    let b = is_kept size (take (length chosen) all) chosen event in
+    let kept : IsTrue b ↔ IsKept size done chosen event =
+    subst (λ xs. IsTrue (is_kept size xs chosen event) ↔ IsKept size done chosen event) (sym before)
+    (kept_exactly size done chosen event) in
+    subst (λ xs. IsChoice (Of size xs) (fold (Step size xs) (chosen ++ b ∷ []) rest))
+    (append_assoc done (event ∷ []) rest)
+    (choice_from size (done ++ event ∷ []) rest (chosen ++ b ∷ [])
+    (choice_more (Of size done) chosen event b choice kept))
 
 pub no_choice : (size : ℕ) → IsChoice (Of size []) []
 no_choice size = record {
@@ -165,8 +178,22 @@ no_choice size = record {
       λ i event e. absurd (omega (arith, slice_get_within [] i event e));
 }
 
+pub is_choice : (past : Past) → IsChoice past (choice_of past)
+unfolding choice_of
+is_choice past = choice_from past.size [] past.events [] (no_choice past.size)
+
 pub some_choice : (past : Past) → (c : List Bool) × IsChoice past c
-some_choice past = choice_from past.size [] past.events [] (no_choice past.size)
+some_choice past = (choice_of past, is_choice past)
+
+-- the choice of a past that is one event longer
+pub choice_of-after : (past : Past) (event : Event)
+    → choice_of (after past event)
+    ≡ choice_of past ++ is_kept past.size past.events (choice_of past) event ∷ []
+choice_of-after past event =
+    let chosen = choice_of past in
+    let b = is_kept past.size past.events chosen event in
+    one_choice (after past event) (choice_of (after past event)) (chosen ++ b ∷ []) (is_choice (after past event))
+    (choice_more past chosen event b (is_choice past) (kept_exactly past.size past.events chosen event))
 
 -- ---- what is answered
 

@@ -4,6 +4,7 @@ pub mod Filters
 pub mod Distinct
 pub mod Counting
 pub mod Choices
+pub mod Drops
 pub mod Words
 pub mod Standing
 pub mod Steps

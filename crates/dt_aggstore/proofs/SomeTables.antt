@@ -1,31 +1,32 @@
 -- Pasts have a table.
 use Rattle.std.proofs.Common.{◌≡◌, ◌⊎◌, ⊎_elim, inl, inr, Bool, cond, List, [], ◌∷◌, Ordering, Less, refl, sym, ap, ◌∙◌, subst, arith}
-use Rattle.std.specs.Prelude.{map, Contains}
-use Rattle.std.specs.List.{AllByRecursion, AllZip}
-use Rattle.std.specs.Ordering.{ordering_reverse}
+use Rattle.std.specs.Prelude.{map, filter, Contains}
+use Rattle.std.specs.List.{AllByRecursion, AllZip, fold, flat_map}
+use Rattle.std.specs.BTreeSet.{insert_key}
+use Rattle.std.proofs.lemmas.List.Elements.{Contains-append_left, Contains-append_right, Contains-append_cases}
+use Rattle.std.specs.Ordering.{ordering_reverse, match_ordering}
 use Rattle.std.specs.declared.cmp.Ordering.TheVariants.{Equal, Greater}
 use Rattle.dt_aggfn.specs.Answers.{answer_of}
 use Rattle.dt_aggstore.specs.Keys.{Entry, key_cmp, same_aggregation, IsBelow}
 use Rattle.dt_aggstore.specs.History.{Past}
 use Rattle.dt_aggstore.specs.Held.{entry_of, held}
 use Rattle.dt_aggstore.specs.Choice.{IsChoice}
+use Rattle.dt_aggstore.specs.Chosen.{choice_of}
 use Rattle.dt_aggstore.specs.Table.{IsRising, HeldInSome, joined, RowForm, IsTable}
+use Rattle.dt_aggstore.specs.TableOf.{table_of}
 use Rattle.dt_aggstore.specs.declared.key.Aggregation.{Aggregation}
 use Rattle.dt_aggstore.proofs.Same.{aggregation_is, own_aggregation}
 use Rattle.dt_aggstore.proofs.Filters.{yes_or_no}
-use Rattle.dt_aggstore.proofs.Choices.{some_choice}
+use Rattle.dt_aggstore.proofs.Choices.{is_choice}
 use Rattle.dt_aggstore.proofs.Rising.{Key, keys_total, key_exact, below_chain, all_weaker, contains_cases, contains_here, contains_later}
 
 -- ---- a key is put among others in rising order
 
 abbrev put_by : Ordering → Key → Key → List Key → List Key → List Key
-put_by Less key first later rest = key ∷ (first ∷ later)
-put_by Equal key first later rest = first ∷ later
-put_by Greater key first later rest = first ∷ rest
+put_by order key first later rest = match_ordering order (key ∷ (first ∷ later)) (first ∷ later) (first ∷ rest)
 
 abbrev put : Key → List Key → List Key
-put key [] = key ∷ []
-put key (first ∷ later) = put_by (key_cmp key first) key first later (put key later)
+put key keys = insert_key key_cmp keys key
 
 -- what holds of the key and of all others holds of all after it was put
 all_put_by : (P : Key → Type 0) (o : Ordering) (key first : Key) (later rest : List Key) → P key
@@ -104,109 +105,115 @@ has_put : (key : Key) (keys : List Key) (k : Key) → Contains (put key keys) k 
 has_put key [] k a = contains_cases key [] k a
 has_put key (first ∷ later) k a = has_put_by (key_cmp key first) key first later k (has_put key later k) a
 
--- ---- the keys of an aggregation's entries are put
+-- ---- all keys are put
+
+abbrev put_all : List Key → List Key → List Key
+put_all more keys = fold (insert_key key_cmp) keys more
+
+rising_put_all : (more keys : List Key) → IsRising keys → IsRising (put_all more keys)
+rising_put_all [] keys rising = rising
+rising_put_all (key ∷ more) keys rising = rising_put_all more (put key keys) (rising_put key keys rising)
+
+put_all_has : (more keys : List Key) (k : Key) → Contains keys k ⊎ Contains more k → Contains (put_all more keys) k
+put_all_has [] keys k h = ⊎_elim (λ old. old) (λ (i, lt, e). absurd (omega arith)) h
+put_all_has (key ∷ more) keys k h =
+    put_all_has more (put key keys) k (⊎_elim
+    (λ old. inl (put_has key keys k (inr old)))
+    (λ new. ⊎_elim
+    (λ is. inl (put_has key keys k (inl is)))
+    (λ later. inr later)
+    (contains_cases key more k new))
+    h)
+
+has_put_all : (more keys : List Key) (k : Key) → Contains (put_all more keys) k → Contains keys k ⊎ Contains more k
+has_put_all [] keys k a = inl a
+has_put_all (key ∷ more) keys k a = ⊎_elim
+    (λ old. ⊎_elim
+    (λ is. inr (subst (λ x. Contains (key ∷ more) x) is (contains_here key more)))
+    (λ before. inl before)
+    (has_put key keys k old))
+    (λ later. inr (contains_later key more k later))
+    (has_put_all more (put key keys) k a)
+
+none : {X : Type 0} (x : X) → Contains [] x → ⊥
+none x (i, lt, e) = omega arith
+
+-- ---- the keys of an aggregation's entries
 
 module _ (aggregation : Aggregation) where
-  abbrev with_keys : List Entry → List Key → List Key
-  with_keys [] keys = keys
-  with_keys (e ∷ entries) keys =
-      cond (same_aggregation aggregation e.aggregation) (put e.key (with_keys entries keys)) (with_keys entries keys)
+  abbrev is_own : Entry → Bool
+  is_own e = same_aggregation aggregation e.aggregation
 
-  rising_with : (entries : List Entry) (keys : List Key) → IsRising keys → IsRising (with_keys entries keys)
-  rising_with [] keys rising = rising
-  rising_with (e ∷ entries) keys rising =
-      let rest = rising_with entries keys rising in
-      let P : Bool → Type 0 = λ b. IsRising (cond b (put e.key (with_keys entries keys)) (with_keys entries keys)) in
-      ⊎_elim
-      (λ yes. subst P (sym yes) (rising_put e.key (with_keys entries keys) rest))
-      (λ no. subst P (sym no) rest)
-      (yes_or_no (same_aggregation aggregation e.aggregation))
+  abbrev own_keys : List Entry → List Key
+  own_keys entries = map (λ (e : Entry). e.key) (filter is_own entries)
 
-  with_has : (entries : List Entry) (keys : List Key) (k : Key)
-      → Contains entries (entry_of aggregation k) ⊎ Contains keys k → Contains (with_keys entries keys) k
-  with_has [] keys k h = ⊎_elim (λ (i, lt, e). absurd (omega arith)) (λ old. old) h
-  with_has (e ∷ entries) keys k h =
-      let rest = with_has entries keys k in
-      let P : Bool → Type 0 = λ b. Contains
-      (cond b (put e.key (with_keys entries keys)) (with_keys entries keys)) k in
-      let more : Contains (with_keys entries keys) k → P (same_aggregation aggregation e.aggregation) =
-      λ a. ⊎_elim
-      (λ yes. subst P (sym yes) (put_has e.key (with_keys entries keys) k (inr a)))
-      (λ no. subst P (sym no) a)
-      (yes_or_no (same_aggregation aggregation e.aggregation)) in
+  abbrev Has-key : Entry → List Entry → Key → Bool → Type 0
+  Has-key e entries k b =
+      Contains (map (λ (e : Entry). e.key) (cond b (e ∷ filter is_own entries) (filter is_own entries))) k
+
+  entry_key : (entries : List Entry) (k : Key) → Contains entries (entry_of aggregation k)
+      → Contains (own_keys entries) k
+  entry_key [] k h = absurd (none (entry_of aggregation k) h)
+  entry_key (e ∷ entries) k h =
+      let P = Has-key e entries k in
       ⊎_elim
-      (λ among. ⊎_elim
       (λ is. subst P
       (sym (ap (λ (x : Entry). same_aggregation aggregation x.aggregation) is ∙ own_aggregation aggregation))
-      (put_has e.key (with_keys entries keys) k (inl (ap (λ (x : Entry). x.key) is))))
-      (λ later. more (rest (inl later)))
-      (contains_cases e entries (entry_of aggregation k) among))
-      (λ old. more (rest (inr old)))
-      h
+      (subst (λ x. Contains (e.key ∷ own_keys entries) x) (ap (λ (x : Entry). x.key) is)
+      (contains_here e.key (own_keys entries))))
+      (λ later.
+      let rest = entry_key entries k later in
+      ⊎_elim
+      (λ yes. subst P (sym yes) (contains_later e.key (own_keys entries) k rest))
+      (λ no. subst P (sym no) rest)
+      (yes_or_no (is_own e)))
+      (contains_cases e entries (entry_of aggregation k) h)
 
-  has_with : (entries : List Entry) (keys : List Key) (k : Key) → Contains (with_keys entries keys) k
-      → Contains entries (entry_of aggregation k) ⊎ Contains keys k
-  has_with [] keys k a = inr a
-  has_with (e ∷ entries) keys k a =
-      let rest : Contains (with_keys entries keys) k
-      → Contains (e ∷ entries) (entry_of aggregation k) ⊎ Contains keys k =
-      λ b. ⊎_elim
-      (λ later. inl (contains_later e entries (entry_of aggregation k) later))
-      (λ old. inr old)
-      (has_with entries keys k b) in
-      let P : Bool → Type 0 = λ b. Contains
-      (cond b (put e.key (with_keys entries keys)) (with_keys entries keys)) k in
+  key_entry : (entries : List Entry) (k : Key) → Contains (own_keys entries) k
+      → Contains entries (entry_of aggregation k)
+  key_entry [] k a = absurd (none k a)
+  key_entry (e ∷ entries) k a =
+      let P = Has-key e entries k in
+      let rest : Contains (own_keys entries) k → Contains (e ∷ entries) (entry_of aggregation k) =
+      λ b. contains_later e entries (entry_of aggregation k) (key_entry entries k b) in
       ⊎_elim
       (λ yes. ⊎_elim
       (λ is.
       let own = aggregation_is aggregation e.aggregation yes in
       let entry : e ≡ entry_of aggregation k = (λ i. record { aggregation = sym own i; key = is i }) in
-      inl (subst (λ x. Contains (e ∷ entries) x) entry (contains_here e entries)))
+      subst (λ x. Contains (e ∷ entries) x) entry (contains_here e entries))
       rest
-      (has_put e.key (with_keys entries keys) k (subst P yes a)))
+      (contains_cases e.key (own_keys entries) k (subst P yes a)))
       (λ no. rest (subst P no a))
-      (yes_or_no (same_aggregation aggregation e.aggregation))
+      (yes_or_no (is_own e))
 
-  -- the keys that are held in some past
-  abbrev all_keys : List Past → List (List Bool) → List Key
-  all_keys [] choices = []
-  all_keys (past ∷ pasts) [] = []
-  all_keys (past ∷ pasts) (chosen ∷ choices) = with_keys (held past.events chosen) (all_keys pasts choices)
+  -- the entries that are held at the ends of some pasts
+  abbrev all_held : List Past → List Entry
+  all_held pasts = flat_map (λ past. held past.events (choice_of past)) pasts
 
-  all_rising : (pasts : List Past) (choices : List (List Bool)) → IsRising (all_keys pasts choices)
-  all_rising [] choices = tt
-  all_rising (past ∷ pasts) [] = tt
-  all_rising (past ∷ pasts) (chosen ∷ choices) =
-      rising_with (held past.events chosen) (all_keys pasts choices) (all_rising pasts choices)
-
-  none : (k : Key) → Contains [] k → ⊥
-  none k (i, lt, e) = omega arith
-
-  keys_held : (pasts : List Past) (choices : List (List Bool)) (k : Key) → Contains (all_keys pasts choices) k
-      → HeldInSome aggregation k pasts choices
-  keys_held [] choices k a = none k a
-  keys_held (past ∷ pasts) [] k a = none k a
-  keys_held (past ∷ pasts) (chosen ∷ choices) k a = ⊎_elim
+  held_all : (pasts : List Past) (k : Key) → Contains (all_held pasts) (entry_of aggregation k)
+      → HeldInSome aggregation k pasts (map choice_of pasts)
+  held_all [] k a = none (entry_of aggregation k) a
+  held_all (past ∷ pasts) k a = ⊎_elim
       (λ here. inl here)
-      (λ later. inr (keys_held pasts choices k later))
-      (has_with (held past.events chosen) (all_keys pasts choices) k a)
+      (λ later. inr (held_all pasts k later))
+      (Contains-append_cases (held past.events (choice_of past)) (all_held pasts) (entry_of aggregation k) a)
 
-  held_keys : (pasts : List Past) (choices : List (List Bool)) (k : Key) → HeldInSome aggregation k pasts choices
-      → Contains (all_keys pasts choices) k
-  held_keys [] choices k h = absurd h
-  held_keys (past ∷ pasts) [] k h = absurd h
-  held_keys (past ∷ pasts) (chosen ∷ choices) k h =
-      with_has (held past.events chosen) (all_keys pasts choices) k
-      (⊎_elim (λ here. inl here) (λ later. inr (held_keys pasts choices k later)) h)
+  all_held_has : (pasts : List Past) (k : Key) → HeldInSome aggregation k pasts (map choice_of pasts)
+      → Contains (all_held pasts) (entry_of aggregation k)
+  all_held_has [] k h = absurd h
+  all_held_has (past ∷ pasts) k h = ⊎_elim
+      (λ here. Contains-append_left (held past.events (choice_of past)) (all_held pasts) (entry_of aggregation k)
+      here)
+      (λ later. Contains-append_right (held past.events (choice_of past)) (all_held pasts) (entry_of aggregation k)
+      (all_held_has pasts k later))
+      h
 
 -- ---- the table
 
-some_choices : (pasts : List Past) → (choices : List (List Bool)) × AllZip IsChoice pasts choices
-some_choices [] = ([], tt)
-some_choices (past ∷ pasts) =
-    let one = some_choice past in
-    let rest = some_choices pasts in
-    (one.0 ∷ rest.0, (one.1, rest.1))
+are_choices : (pasts : List Past) → AllZip IsChoice pasts (map choice_of pasts)
+are_choices [] = tt
+are_choices (past ∷ pasts) = (is_choice past, are_choices pasts)
 
 module _ (pasts : List Past) (aggregation : Aggregation) (choices : List (List Bool)) where
   abbrev row_of : Key → RowForm
@@ -222,21 +229,27 @@ module _ (pasts : List Past) (aggregation : Aggregation) (choices : List (List B
   answers_are [] = tt
   answers_are (key ∷ keys) = (refl, answers_are keys)
 
+pub is_table : (pasts : List Past) (aggregation : Aggregation) → IsTable pasts aggregation (table_of pasts aggregation)
+unfolding table_of
+is_table pasts aggregation =
+    let choices = map choice_of pasts in
+    let entries = all_held aggregation pasts in
+    let keys = own_keys aggregation entries in
+    let same = keys_are pasts aggregation choices (put_all keys []) in record {
+      choices = choices;
+      choice = are_choices pasts;
+      rising = subst IsRising (sym same) (rising_put_all keys [] tt);
+      held = λ key. (
+        (λ a. held_all aggregation pasts key (key_entry aggregation entries key (⊎_elim
+            (λ before. absurd (none key before))
+            (λ put. put)
+            (has_put_all keys [] key (subst (λ xs. Contains xs key) same a))))),
+        (λ h. subst (λ xs. Contains xs key) (sym same)
+            (put_all_has keys [] key (inr (entry_key aggregation entries key (all_held_has aggregation pasts key h))))),
+      );
+      answers = answers_are pasts aggregation choices (put_all keys []);
+    }
+
 pub some_table : (pasts : List Past) (aggregation : Aggregation)
     → (rows : List RowForm) × IsTable pasts aggregation rows
-some_table pasts aggregation =
-    let c = some_choices pasts in
-    let keys = all_keys aggregation pasts c.0 in
-    let same = keys_are pasts aggregation c.0 keys in (
-      map (row_of pasts aggregation c.0) keys,
-      record {
-        choices = c.0;
-        choice = c.1;
-        rising = subst IsRising (sym same) (all_rising aggregation pasts c.0);
-        held = λ key. (
-          (λ a. keys_held aggregation pasts c.0 key (subst (λ xs. Contains xs key) same a)),
-          (λ h. subst (λ xs. Contains xs key) (sym same) (held_keys aggregation pasts c.0 key h)),
-        );
-        answers = answers_are pasts aggregation c.0 keys;
-      },
-    )
+some_table pasts aggregation = (table_of pasts aggregation, is_table pasts aggregation)

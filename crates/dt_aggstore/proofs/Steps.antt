@@ -12,6 +12,7 @@ use Rattle.dt_aggstore.specs.Keys.{Entry, same_entry, same_aggregation, entry_co
 use Rattle.dt_aggstore.specs.History.{Event, given, truncated, Past, after, contributions}
 use Rattle.dt_aggstore.specs.Held.{Contribution, entry_of, counted, distinct, held, values_of}
 use Rattle.dt_aggstore.specs.Choice.{IsKept, Keeps}
+use Rattle.dt_aggstore.specs.Chosen.{drops}
 use Rattle.dt_aggstore.specs.Entries.{names_of, words_of, LiesAt, cells_without}
 use Rattle.dt_aggstore.specs.IsAt.{IsAt}
 use Rattle.dt_aggstore.specs.declared.limits.TheConstants.{ADDED_LIMIT}
@@ -23,6 +24,7 @@ use Rattle.dt_aggstore.proofs.Filters.{yes_or_no, filter_yes, filter_no}
 use Rattle.dt_aggstore.proofs.Distinct.{has, has-distinct, has_from_contains, contains_from_has, distinct-push, AreApart, distinct_apart}
 use Rattle.dt_aggstore.proofs.Counting.{contribution, names, names-push, counted-given, counted-truncated, others, held-others, values-others, values-push_same, values-push_other, values_none}
 use Rattle.dt_aggstore.proofs.Choices.{choice_more, keeps}
+use Rattle.dt_aggstore.proofs.Drops.{drops-given, drops-truncated}
 use Rattle.dt_aggstore.proofs.Standing.{held_bag, numbers-push, contributions-given, Bags, cells_from, cells_alike, Lengths, apart_before, apart_later, cells_before, cell_at, cells_later}
 
 -- ---- a contribution
@@ -66,15 +68,22 @@ module _ (past : Past) (old : AggStore) (at : IsAt past old) (aggregation : Aggr
         ∙ ap distinct (names-push Counted (contribution aggregation key value))
         ∙ distinct-push (names Counted) Given
 
+    -- it is no drop
+    drops_kept : IsKept past.size past.events at.chosen Event-of → drops (after past Event-of) ≡ drops past
+    drops_kept kept =
+        drops-given past aggregation key value true
+        (keeps past aggregation key value at.chosen true at.choice ((λ _. kept), (λ _. refl)))
+
     -- the store keeps the contribution
-    after_kept : (new : AggStore) → new.size ≡ old.size → new.added ≡ old.added + 1 → FitsSigned w64 value →
-        IsKept past.size past.events at.chosen Event-of → (entries : List Entry)
+    after_kept : (new : AggStore) → new.size ≡ old.size → new.added ≡ old.added + 1 → new.dropped ≡ old.dropped
+        → FitsSigned w64 value → IsKept past.size past.events at.chosen Event-of → (entries : List Entry)
         → entries ≡ cond (has Given (names Counted)) Held-then (Held-then ++ Given ∷ [])
         → names_of new.entries.items ≡ entries → new.cells.items ≡ cells_from Bags-now entries
         → IsAt (after past Event-of) new
-    after_kept new size added word kept entries is named cells = record {
+    after_kept new size added dropped word kept entries is named cells = record {
       size = size ∙ at.size;
       added = added ∙ ap (λ n. n + 1) at.added ∙ sym (contributions-given past.events aggregation key value);
+      dropped = dropped ∙ at.dropped ∙ sym (drops_kept kept);
       numbers = numbers-push past.events Event-of at.numbers word;
       chosen = at.chosen ++ true ∷ [];
       choice = choice_more past at.chosen Event-of true at.choice ((λ _. kept), (λ _. refl));
@@ -146,14 +155,14 @@ module _ (past : Past) (old : AggStore) (at : IsAt past old) (aggregation : Aggr
       among : Contains Held-then Given
       among = contains_from_has Held-then Given is_held
 
-      pub after_added : (new : AggStore) → new.size ≡ old.size → new.added ≡ old.added + 1 → FitsSigned w64 value →
-          new.entries ≡ old.entries
+      pub after_added : (new : AggStore) → new.size ≡ old.size → new.added ≡ old.added + 1
+          → new.dropped ≡ old.dropped → FitsSigned w64 value → new.entries ≡ old.entries
           → new.cells.items ≡ take place old.cells.items
           ++ cell_of aggregation.function (Bags-then Given ++ value ∷ [])
           ++ drop (place + cell_words aggregation.function) old.cells.items
           → IsAt (after past Event-of) new
-      after_added new size added word same cells =
-          after_kept new size added word (inl among) Held-then
+      after_added new size added dropped word same cells =
+          after_kept new size added dropped word (inl among) Held-then
           (sym (ap (λ b. cond b Held-then (Held-then ++ Given ∷ [])) (sym (has-distinct (names Counted) Given)
           ∙ is_held)))
           (ap (λ v. names_of v.items) same ∙ at.names) (cells_now new cells ∙ ap (cells_from Bags-now) (sym split))
@@ -173,13 +182,14 @@ module _ (past : Past) (old : AggStore) (at : IsAt past old) (aggregation : Aggr
       new_bag : Bags-now Given ≡ value ∷ []
       new_bag = own_bag ∙ ap (λ b. b ++ value ∷ []) (values_none Counted Given not_counted)
 
-      pub after_made : (new : AggStore) → new.size ≡ old.size → new.added ≡ old.added + 1 → FitsSigned w64 value →
-          entry_cost aggregation key + cost_of (names_of old.entries.items) ≤ old.size
+      pub after_made : (new : AggStore) → new.size ≡ old.size → new.added ≡ old.added + 1
+          → new.dropped ≡ old.dropped → FitsSigned w64 value
+          → entry_cost aggregation key + cost_of (names_of old.entries.items) ≤ old.size
           → names_of new.entries.items ≡ names_of old.entries.items ++ Given ∷ []
           → new.cells.items ≡ old.cells.items ++ cell_of aggregation.function (value ∷ [])
           → IsAt (after past Event-of) new
-      after_made new size added word fits named cells =
-          after_kept new size added word (inr (omega (arith, fits, at.size, ap cost_of at.names)))
+      after_made new size added dropped word fits named cells =
+          after_kept new size added dropped word (inr (omega (arith, fits, at.size, ap cost_of at.names)))
           (Held-then ++ Given ∷ [])
           (sym (ap (λ b. cond b Held-then (Held-then ++ Given ∷ [])) not_counted))
           (named ∙ ap (λ xs. xs ++ Given ∷ []) at.names)
@@ -202,13 +212,22 @@ module _ (past : Past) (old : AggStore) (at : IsAt past old) (aggregation : Aggr
       counted_dropped =
           counted-given past.events at.chosen aggregation key value false at.choice.whole ∙ append-nil Counted
 
-      pub after_dropped : (new : AggStore) → new.size ≡ old.size → new.added ≡ old.added + 1 → FitsSigned w64 value →
-          (entry_cost aggregation key + cost_of (names_of old.entries.items) ≤ old.size → ⊥)
+      drops_dropped : (entry_cost aggregation key + cost_of (names_of old.entries.items) ≤ old.size → ⊥)
+          → drops (after past Event-of) ≡ drops past + 1
+      drops_dropped over =
+          drops-given past aggregation key value false
+          (keeps past aggregation key value at.chosen false at.choice
+          ((λ e. absurd (false≢true e)), (λ kept. absurd (not_kept over kept))))
+
+      pub after_dropped : (new : AggStore) → new.size ≡ old.size → new.added ≡ old.added + 1
+          → new.dropped ≡ old.dropped + 1 → FitsSigned w64 value
+          → (entry_cost aggregation key + cost_of (names_of old.entries.items) ≤ old.size → ⊥)
           → names_of new.entries.items ≡ names_of old.entries.items → new.cells.items ≡ old.cells.items
           → IsAt (after past Event-of) new
-      after_dropped new size added word over named cells = record {
+      after_dropped new size added dropped word over named cells = record {
         size = size ∙ at.size;
         added = added ∙ ap (λ n. n + 1) at.added ∙ sym (contributions-given past.events aggregation key value);
+        dropped = dropped ∙ ap (λ n. n + 1) at.dropped ∙ sym (drops_dropped over);
         numbers = numbers-push past.events Event-of at.numbers word;
         chosen = at.chosen ++ false ∷ [];
         choice = choice_more past at.chosen Event-of false at.choice
@@ -297,13 +316,14 @@ module _ (lengths : Lengths) (past : Past) (old : AggStore) (at : IsAt past old)
   held_then : distinct (names (others aggregation Before)) ≡ without aggregation (held past.events at.chosen)
   held_then = held-others aggregation Before
 
-  pub after_truncated : (new : AggStore) → new.size ≡ old.size → new.added ≡ old.added
+  pub after_truncated : (new : AggStore) → new.size ≡ old.size → new.added ≡ old.added → new.dropped ≡ old.dropped
       → names_of new.entries.items ≡ without aggregation (names_of old.entries.items)
       → new.cells.items ≡ cells_without aggregation (names_of old.entries.items) old.cells.items
       → IsAt (after past (truncated aggregation)) new
-  after_truncated new size added named cells = record {
+  after_truncated new size added dropped named cells = record {
     size = size ∙ at.size;
     added = added ∙ at.added ∙ sym (contributions-truncated past.events aggregation);
+    dropped = dropped ∙ at.dropped ∙ sym (drops-truncated past aggregation);
     numbers = numbers-push past.events (truncated aggregation) at.numbers tt;
     chosen = at.chosen ++ false ∷ [];
     choice = choice_more past at.chosen (truncated aggregation) false at.choice

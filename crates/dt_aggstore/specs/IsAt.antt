@@ -7,6 +7,7 @@ use Rattle.dt_aggstore.specs.History.{Event, given, truncated, Past, contributio
 use Rattle.dt_aggstore.specs.Keys.{Entry, entry_cost, cost_of}
 use Rattle.dt_aggstore.specs.Held.{entry_of, held, bag}
 use Rattle.dt_aggstore.specs.Choice.{IsChoice}
+use Rattle.dt_aggstore.specs.Chosen.{drops}
 use Rattle.dt_aggstore.specs.Entries.{names_of}
 use Rattle.dt_aggstore.specs.declared.key.Aggregation.{Aggregation}
 use Rattle.dt_aggstore.specs.declared.key.KeyPart.{KeyPart}
@@ -23,10 +24,11 @@ cells_of events chosen entries =
     flat_map (λ e. cell_of e.aggregation.function (bag events chosen e.aggregation e.key)) entries
 
 -- A store is at the end of a past: it was made for that size, counted the contributions, whose values are signed
--- 64-bit numbers, and has the held entries, each with the cell of its bag.
+-- 64-bit numbers, and those that were dropped, and has the held entries, each with the cell of its bag.
 pub record IsAt (past : Past) (store : AggStore) : Type 0 where
   pub size : store.size ≡ past.size
   pub added : store.added ≡ contributions past.events
+  pub dropped : store.dropped ≡ drops past
   pub numbers : AllByRecursion GivesWord past.events
   pub chosen : List Bool
   pub choice : IsChoice past chosen
@@ -37,12 +39,13 @@ pub record IsAt (past : Past) (store : AggStore) : Type 0 where
 abbrev pub added_of : AggStore → ℕ
 added_of store = store.added
 
--- A store of this size, count, entries and cells gets a new entry with the cell of one value, where its cost
--- fits, and otherwise stays as it was.
-pub record Makes (aggregation : Aggregation) (key : List KeyPart) (value : ℤ) (size added : ℕ) (entries : List Entry)
-    (cells : List ℕ) (new : AggStore) (made : Bool) : Type 0 where
+-- A store of this size, counts, entries and cells gets a new entry with the cell of one value, where its cost
+-- fits, and otherwise counts a drop.
+pub record Makes (aggregation : Aggregation) (key : List KeyPart) (value : ℤ) (size added dropped : ℕ)
+    (entries : List Entry) (cells : List ℕ) (new : AggStore) (made : Bool) : Type 0 where
   pub fits : IsTrue made ↔ (entry_cost aggregation key + cost_of entries ≤ size)
   pub same_size : new.size ≡ size
   pub same_count : new.added ≡ added
+  pub drops : new.dropped ≡ (if made then dropped else dropped + 1)
   pub names : names_of new.entries.items ≡ (if made then entries ++ entry_of aggregation key ∷ [] else entries)
   pub all_cells : new.cells.items ≡ (if made then cells ++ cell_of aggregation.function (value ∷ []) else cells)

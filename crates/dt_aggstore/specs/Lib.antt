@@ -3,7 +3,9 @@ pub mod Keys
 pub mod History
 pub mod Held
 pub mod Choice
+pub mod Chosen
 pub mod Table
+pub mod TableOf
 pub mod Entries
 pub mod IsAt
 pub mod Joining

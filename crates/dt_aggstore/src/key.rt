@@ -9,7 +9,7 @@ use std::cmp::Ordering;
 /// An aggregation: its number in the consumer and its function. Two that differ in either are two.
 #[derive(Clone, Copy, Debug, PartialEq, Eq)]
 pub struct Aggregation {
-    pub number: u32,
+    pub number: usize,
     pub function: AggFn,
 }
 

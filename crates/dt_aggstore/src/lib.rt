@@ -20,7 +20,7 @@ mod table;
 mod tests;
 
 pub use key::{Aggregation, Key, KeyPart};
-pub use laws::{held_entries, one_choice, one_table};
+pub use laws::{drops_go_on, held_entries, one_choice, one_table};
 pub use limits::{ADDED_LIMIT, AGGSIZE_MAX, KEYS_MAX, STORES_MAX};
 pub use store::AggStore;
 pub use table::Row;

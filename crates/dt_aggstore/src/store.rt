@@ -1,5 +1,5 @@
 //! The store of one processor.
-ghost use Rattle.std.specs.Prelude.{◌≡◌, ◌+◌, ◌*◌, ◌<◌, ◌≤◌, ◌↔◌, ℕ, ℤ, List, length, IfOk, IfSome, IfNone, IsTrue, Contains, vec_len, vec_capacity};
+ghost use Rattle.std.specs.Prelude.{◌≡◌, ◌+◌, ◌*◌, ◌<◌, ◌≤◌, ◌↔◌, ℕ, ℤ, List, length, IfOk, IfSome, IfNone, IsTrue, Contains, if◌then◌else◌, vec_len, vec_capacity};
 ghost use Rattle.dt_aggstore.specs.Keys.{cost_of};
 ghost use Rattle.dt_aggstore.specs.Entries.{names_of, words_of, LiesAt};
 ghost use Rattle.dt_aggstore.specs.Held.{entry_of};
@@ -22,6 +22,8 @@ pub struct AggStore {
     /// What the entries cost.
     pub(crate) spent: usize,
     pub(crate) added: u64,
+    /// How many of those that were added were not kept.
+    pub(crate) dropped: u64,
     ghost entry_room: { size < COST_MIN * (vec_capacity entries + 1) },
     ghost cell_room: { size < 8 * (vec_capacity cells + 1) },
     ghost spent_is: { spent ≡ cost_of (names_of entries.items) },
@@ -29,18 +31,21 @@ pub struct AggStore {
     ghost within: { spent ≤ size },
     ghost small: { size ≤ AGGSIZE_MAX },
     ghost few: { added ≤ ADDED_LIMIT },
+    ghost dropped_among: { dropped ≤ added },
 }
 
 impl AggStore {
     ghost use Rattle.dt_aggstore.specs.History.{Past, given, truncated, new_past, after, contributions};
     ghost use Rattle.dt_aggstore.specs.Choice.{Keeps};
+    ghost use Rattle.dt_aggstore.specs.Chosen.{drops};
     ghost use Rattle.dt_aggstore.specs.IsAt.{IsAt, Makes, added_of};
 
     /// An empty store whose entries may cost `aggsize` bytes, at most [`AGGSIZE_MAX`]. `Err`: there was no
     /// memory for its room.
     pub fn new(alloc: Global, aggsize: usize) -> Result<Self, AllocError>
         requires { aggsize ≤ AGGSIZE_MAX }
-        ensures { IfOk result (IsAt (new_past aggsize)) }
+        ensures stands { IfOk result (IsAt (new_past aggsize)) }
+        ensures added { IfOk result (λ store. added_of store ≡ 0) }
     {
         Ok(AggStore {
             entries: Vec::with_capacity(alloc, aggsize / COST_MIN)?,
@@ -48,6 +53,7 @@ impl AggStore {
             size: aggsize,
             spent: 0,
             added: 0,
+            dropped: 0,
         })
     }
 
@@ -62,6 +68,9 @@ impl AggStore {
         ensures keeps { (past : Past) → IsAt past self.old
             → (IsTrue result ↔ Keeps past aggregation key.now.parts.items value) }
         ensures added { added_of self.new ≡ added_of self.old + 1 }
+        ensures drops { (past : Past) → IsAt past self.old
+            → drops (after past (given aggregation key.now.parts.items value))
+            ≡ (if result then drops past else drops past + 1) }
     {
         // A cell has its function's words.
         cell_length();
@@ -96,6 +105,13 @@ impl AggStore {
         self.added
     }
 
+    /// How many values were not kept so far. A truncation doesn't change it.
+    pub fn dropped(&self) -> u64
+        ensures { (past : Past) → IsAt past self.now → result ≡ drops past }
+    {
+        self.dropped
+    }
+
     /// Where the cell of an entry lies, if the entry is held.
     fn find(&self, aggregation: Aggregation, key: &Key) -> Option<usize>
         ensures found { IfSome result (LiesAt (names_of self.now.entries.items)
@@ -113,15 +129,17 @@ impl AggStore {
         None
     }
 
-    /// Makes an entry with the cell of one value, if its cost fits, and says so.
+    /// Makes an entry with the cell of one value, if its cost fits, and says so. Otherwise counts a drop.
     fn insert(&mut self, aggregation: Aggregation, key: &Key, value: i64) -> bool
-        ensures { Makes aggregation key.now.parts.items value self.old.size self.old.added
+        requires { self.old.dropped < self.old.added }
+        ensures { Makes aggregation key.now.parts.items value self.old.size self.old.added self.old.dropped
             (names_of self.old.entries.items) self.old.cells.items self.new result }
     {
         // A cell has one word at least.
         cell_length();
         let cost = cost(aggregation, key);
         if self.size - self.spent < cost {
+            self.dropped += 1;
             return false;
         }
         push_first(aggregation.function, &mut self.cells, value);

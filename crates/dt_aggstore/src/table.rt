@@ -8,6 +8,7 @@ ghost use Rattle.dt_aggstore.specs.Held.{bag};
 ghost use Rattle.dt_aggstore.specs.IsAt.{IsAt};
 ghost use Rattle.dt_aggstore.specs.Joining.{AreJoined, MakesRows};
 ghost use Rattle.dt_aggstore.specs.Table.{IsTable};
+ghost use Rattle.dt_aggstore.specs.TableOf.{table_of};
 ghost use Rattle.dt_aggstore.specs.declared.key.KeyPart.{KeyPart};
 ghost use Rattle.dt_aggstore.specs.declared.limits.TheConstants.{STORES_MAX, ADDED_LIMIT};
 
@@ -36,8 +37,10 @@ impl AggStore {
         aggregation: Aggregation,
     ) -> Result<Vec<Row>, AllocError>
         requires { length stores.now ≤ STORES_MAX }
-        ensures { (pasts : List Past) → AllZip IsAt pasts stores.now
+        ensures table { (pasts : List Past) → AllZip IsAt pasts stores.now
             → IfOk result (λ rows. IsTable pasts aggregation (map form_of_row rows.items)) }
+        ensures value { (pasts : List Past) → AllZip IsAt pasts stores.now
+            → IfOk result (λ rows. map form_of_row rows.items ≡ table_of pasts aggregation) }
     {
         let mut joining = Joining {
             function: aggregation.function,

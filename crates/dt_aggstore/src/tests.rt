@@ -10,13 +10,13 @@ use std::test::Fail;
 /// In each line: the size of two stores, and then words in order. `@1:avg` names the aggregation that is meant
 /// from there on, by its number and function; `lq100` is an `lquantize` of ten levels from 0 to 100.
 /// `0+KEY:VALUE` gives a value on store 0 and is kept, `1-KEY:VALUE` gives one on store 1 and is dropped. `0!`
-/// truncates on store 0. `0#3` says that store 0 counts three contributions. `[KEY:VALUE;..]` is the table of
-/// both stores. A key has its parts between commas: numbers, and texts behind a `'`. A value of rows has
-/// `NAME=COUNT` for each, between `&`.
+/// truncates on store 0. `0#3` says that store 0 counts three contributions, and `0~1` that one of them was
+/// dropped. `[KEY:VALUE;..]` is the table of both stores. A key has its parts between commas: numbers, and texts
+/// behind a `'`. A value of rows has `NAME=COUNT` for each, between `&`.
 const TABLE: &str = "
 56 @1:avg 0+'sh:1 0+'sh:2 1+'sh:9 1-'cron:9 ['sh:4] 0! 1! [] 1+'cron:5 ['cron:5]
-56 @1:avg 0+'sh:1 0-'cron:2 0+'sh:5 ['sh:3] 0#3 1#0
-55 @1:avg 0-'sh:1 [] 0#1
+56 @1:avg 0+'sh:1 0-'cron:2 0+'sh:5 ['sh:3] 0#3 1#0 0~1 1~0
+55 @1:avg 0-'sh:1 [] 0#1 0~1 0! 0~1
 48 @1:count 0+1:0 0+2:0 0-3:0 0+1:0 [1:2;2:1]
 47 @1:count 0+1:0 0-2:0 [1:1]
 16 @1:count 0+:0 0+:0 [:2]
@@ -28,7 +28,7 @@ const TABLE: &str = "
 112 @1:lq100 0+1:100 0+1:-1 0-2:5 [1:null=1&100=1]
 1056 @1:quantize 0+'sh:0 0+'sh:1 0+'sh:-3 0-'ls:1 1+'sh:1 ['sh:-2=1&0=1&1=2]
 1055 @1:quantize 0-'sh:0 1-'sh:0 []
-80 @1:count 0+1:0 @2:count 0+1:0 @1:count 0+2:0 0-3:0 0! [] 0+3:0 0+4:0 0-5:0 [3:1;4:1] @2:count [1:1]
+80 @1:count 0+1:0 @2:count 0+1:0 @1:count 0+2:0 0-3:0 0! [] 0~1 0+3:0 0+4:0 0-5:0 [3:1;4:1] @2:count [1:1] 0~2
 80 @1:sum 0+1:1 @2:avg 0+1:4 @3:sum 0+1:3 @2:avg 0! @3:sum 0+1:4 [1:7] @1:sum [1:1] 0+1:1 [1:2] @2:avg []
 1000 @1:count 0+'b:0 0+'a:0 1+10:0 1+9:0 1+-1:0 1+'ab:0 [-1:1;9:1;10:1;'a:1;'ab:1;'b:1]
 1000 @1:sum 0+2,1:1 0+1,'b:2 0+1,'a:3 0+1,2:4 1+1:5 1+1,'a:6 [1:5;1,2:4;1,'a:9;1,'b:2;2,1:1]
@@ -113,6 +113,10 @@ fn take(
     }
     if let Some(count) = step.strip_prefix('#') {
         assert_eq!(rt; store.added(), count.parse().unwrap_or(0), "{step}");
+        return Ok(());
+    }
+    if let Some(count) = step.strip_prefix('~') {
+        assert_eq!(rt; store.dropped(), count.parse().unwrap_or(0), "{step}");
         return Ok(());
     }
     let (key, value) = step.split_once(':').ok_or("value")?;

@@ -15,19 +15,20 @@ use Rattle.dt_aggstore.specs.declared.key.Aggregation.{Aggregation}
 use Rattle.dt_aggstore.specs.declared.key.KeyPart.{KeyPart}
 use Rattle.dt_aggstore.specs.declared.store.AggStore.{AggStore}
 use Rattle.dt_aggstore.proofs.Steps.{after_added, keeps_added, given_bag, cell_is, after_made, after_dropped, keeps_made}
+use Rattle.dt_aggstore.proofs.Drops.{drops-given}
 use Rattle.dt_aggstore.proofs.store.AggStore.add.Goals as goal
 
 -- a store where none was found, made or not
 made : (past : Past) (old new : AggStore) (at : IsAt past old) (aggregation : Aggregation) (key : List KeyPart)
     (value : ℤ)
     (b : Bool) → FitsSigned w64 value → (Contains (names_of old.entries.items) (entry_of aggregation key) → ⊥)
-    → Makes aggregation key value old.size (old.added + 1) (names_of old.entries.items) old.cells.items new b
+    → Makes aggregation key value old.size (old.added + 1) old.dropped (names_of old.entries.items) old.cells.items new b
     → IsAt (after past (given aggregation key value)) new
 made past old new at aggregation key value true word none m =
-    after_made past old at aggregation key value none new m.same_size m.same_count word
+    after_made past old at aggregation key value none new m.same_size m.same_count m.drops word
     (m.fits.0 refl) m.names m.all_cells
 made past old new at aggregation key value false word none m =
-    after_dropped past old at aggregation key value none new m.same_size m.same_count word
+    after_dropped past old at aggregation key value none new m.same_size m.same_count m.drops word
     (λ fits. false≢true (m.fits.1 fits)) m.names m.all_cells
 
 pub returns-in-Some-clause-stands : goal.returns-in-Some-clause-stands
@@ -44,7 +45,7 @@ returns-in-Some-clause-stands c = λ past at.
     (given_bag past self at c.args.aggregation key c.args.value lengths c.in-Some.place lies few)
     (ap (λ xs. slice_range xs c.in-Some.place (c.in-Some.place + words)) then
     ∙ cell_is past self at c.args.aggregation key c.args.value lengths c.in-Some.place lies) in
-    after_added past self at c.args.aggregation key c.args.value lengths c.in-Some.place lies _ refl refl
+    after_added past self at c.args.aggregation key c.args.value lengths c.in-Some.place lies _ refl refl refl
     c.ranges.value refl
     (with_items_is self.cells c.add_at.new.cells (omega (arith, c.add_at.auto.cells, ap length then, self.cells.ok))
     ∙ added
@@ -63,7 +64,7 @@ returns-in-None-clause-stands c = λ past at.
     let self = c.args.self.now in
     made past self c.insert.new.self at c.args.aggregation c.args.key.now.parts.items c.args.value c.insert.result
     c.ranges.value c.in-None.ensures.none
-    (subst (λ z. Makes c.args.aggregation c.args.key.now.parts.items z self.size (self.added + 1)
+    (subst (λ z. Makes c.args.aggregation c.args.key.now.parts.items z self.size (self.added + 1) self.dropped
     (names_of self.entries.items) self.cells.items c.insert.new.self c.insert.result)
     (to_z-of_z w64 c.args.value c.ranges.value) c.insert.ensures)
 
@@ -71,3 +72,13 @@ pub returns-in-None-clause-keeps : goal.returns-in-None-clause-keeps
 returns-in-None-clause-keeps c = λ past at.
     keeps_made past c.args.self.now at c.args.aggregation c.args.key.now.parts.items c.args.value
     c.in-None.ensures.none c.insert.result c.insert.ensures.fits
+
+pub returns-in-Some-clause-drops : goal.returns-in-Some-clause-drops
+returns-in-Some-clause-drops c = λ past at.
+    drops-given past c.args.aggregation c.args.key.now.parts.items c.args.value true
+    (returns-in-Some-clause-keeps c past at)
+
+pub returns-in-None-clause-drops : goal.returns-in-None-clause-drops
+returns-in-None-clause-drops c = λ past at.
+    drops-given past c.args.aggregation c.args.key.now.parts.items c.args.value c.insert.result
+    (returns-in-None-clause-keeps c past at)

@@ -12,7 +12,9 @@ use Rattle.std.specs.declared.alloc.AllocError.{AllocError}
 use Rattle.dt_aggstore.specs.declared.joining.Joined.{Joined}
 use Rattle.dt_aggstore.specs.declared.table.Row.{Row}
 use Rattle.dt_aggstore.proofs.Rising.{Key}
-use Rattle.dt_aggstore.proofs.Tables.{choices_of, choices_are, none_joined, store_joined, all_joined, all_short, table_is}
+use Rattle.dt_aggstore.proofs.Tables.{choices_of, choices_are, none_joined, store_joined, all_joined, all_short, table_is, one_table}
+use Rattle.dt_aggstore.proofs.SomeTables.{is_table}
+use Rattle.dt_aggstore.specs.TableOf.{table_of}
 use Rattle.dt_aggstore.proofs.store.AggStore.merge_all.Goals as goal
 
 pub loop-store-init : goal.loop-store-init
@@ -37,8 +39,8 @@ AnswersRows result rows function =
     (bags : Key → List ℤ) → AreJoined function bags rows → ((key : Key) → length (bags key) < BAG_LIMIT)
     → IfOk result (λ made. MakesRows function bags rows (map form_of_row made.items))
 
-pub returns : goal.returns
-returns c = λ pasts at.
+pub returns-clause-table : goal.returns-clause-table
+returns-clause-table c = λ pasts at.
     let aggregation = c.args.aggregation in
     let stores = c.args.stores.now in
     let rows = c.loop-store.joining.rows.items in
@@ -51,3 +53,10 @@ returns c = λ pasts at.
     (choices_are pasts stores at) j m)
     (answers (λ key. joined aggregation key pasts choices) j
     (λ key. omega (arith, c.requires, all_short aggregation pasts stores at key)))
+
+pub returns-clause-value : goal.returns-clause-value
+returns-clause-value c = λ pasts at.
+    IfOk-weaker c.rows_of.result _ _
+    (λ made table. one_table pasts c.args.aggregation (map form_of_row made.items)
+    (table_of pasts c.args.aggregation) table (is_table pasts c.args.aggregation))
+    (returns-clause-table c pasts at)

@@ -41,11 +41,12 @@ invariant_of-self c =
       );
       small = self.small;
       few = self.few;
+      dropped_among = omega (arith, self.dropped_among);
     }
 
 pub returns-clause-stands : goal.returns-clause-stands
 returns-clause-stands c = λ past at.
     let self = c.args.self.now in
-    after_truncated c.cell_length.ensures.words past self at c.args.aggregation _ refl refl c.let_go.ensures.names
+    after_truncated c.cell_length.ensures.words past self at c.args.aggregation _ refl refl refl c.let_go.ensures.names
     (c.close_up.ensures.items
     ∙ ap (λ xs. cells_without c.args.aggregation (names_of xs) self.cells.items) c.deref.ensures.value)
