@@ -17,6 +17,6 @@ pub enum Put {
     Kept,
     /// It was dropped and counted.
     Dropped,
-    /// The buffer's policy is fill, and it keeps the record not.
+    /// It wasn't kept. The buffer's policy is fill, and such a record isn't counted.
     Filled,
 }

@@ -28,7 +28,7 @@ pub(crate) enum Store {
 
 impl Principal {
     /// An empty buffer of `size` bytes, at most `SIZE_MAX`. Under fill the last `reserve` bytes are for END's records;
-    /// the other policies keep no reserve, and look not at it. `Err`: there was no memory for its room.
+    /// the other policies have no reserve and ignore it. `Err`: there was no memory for its room.
     pub fn new(
         alloc: Global,
         policy: Policy,

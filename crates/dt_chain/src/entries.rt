@@ -50,9 +50,10 @@ impl Entries {
     /// `Err`: there was no memory. The entries are as they were, in both cases.
     pub fn reserve(&mut self) -> Result<(), AllocError>
         ensures room { OnOk result (HasRoom self.new) }
-        ensures kept { HasRoom self.old → IsOk result }
+        ensures succeeds { HasRoom self.old → IsOk result }
         ensures same { (writes : List Write) → IsAt writes self.old → IsAt writes self.new }
     {
+        // lists that are there keep their seats: only empty ones are added
         self.lists.resize(LISTS, SeatSet::new())
     }
 
@@ -71,8 +72,9 @@ impl Entries {
             → IsAt (published seat life account.now interest.now ∷ writes) self.new) }
         ensures err { OnErr result ((writes : List Write) → IsAt writes self.old → IsAt writes self.new) }
         ensures room { OnOk result (HasRoom self.new) }
-        ensures kept { HasRoom self.old → IsOk result }
+        ensures succeeds { HasRoom self.old → IsOk result }
     {
+        // only this can fail, so nothing has changed when it does
         self.lists.resize(LISTS, SeatSet::new())?;
         list(self.lists.as_mut_slice(), seat, interest);
         self.slots[seat.number() as usize] = Some(Slot {
@@ -114,6 +116,7 @@ impl Entries {
     {
         match self.lists.get(probe as usize) {
             Some(seats) => *seats,
+            // no list was made yet, or there is no such probe
             None => SeatSet::new(),
         }
     }

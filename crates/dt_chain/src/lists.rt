@@ -20,6 +20,7 @@ pub(crate) fn list(lists: &mut [SeatSet], seat: Seat, interest: &Interest)
     ensures others { (probe other : ℕ) → other ≢ seat
         → is_listed lists.new probe other ≡ is_listed lists.old probe other }
 {
+    // all lists, since an earlier interest of the seat may name any probe
     for probe in 0..LISTS {
         let seats = &mut lists[probe];
         if interest.contains(probe as u32) {

@@ -39,6 +39,7 @@ impl SeatMask {
     pub fn remove(&mut self, seat: Seat)
         ensures { (other : ℕ) → life_at self.new other ≡ (if other == seat then None else life_at self.old other) }
     {
+        // its life stays where it was, and means nothing there while the seat isn't named
         self.seats.remove(seat);
     }
 

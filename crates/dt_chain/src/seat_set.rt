@@ -52,6 +52,7 @@ impl SeatSet {
         ensures { MatchOption result ((seat : ℕ) → has self.now seat ≡ false)
             (λ first. (has self.now first ≡ true) × ((seat : ℕ) → seat < first → has self.now seat ≡ false)) }
     {
+        // the empty set has 64 trailing zeros, and there is no seat 64
         Seat::new(self.bits.trailing_zeros())
     }
 
