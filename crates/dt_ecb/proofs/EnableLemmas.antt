@@ -1,6 +1,6 @@
 -- What the parts of `enable` come to.
-use Rattle.std.proofs.Common.{◌≡◌, ℕ, ◌+◌, ◌-◌, ◌<◌, ◌≤◌, ◌||◌, Bool, true, false, ltb, List, ◌++◌, Option, Some, None, length, map, refl, sym, ap, ◌∙◌, subst}
-use Rattle.std.specs.List.{All, AllByRecursion, list_any}
+use Rattle.std.proofs.Common.{◌≡◌, ℕ, ◌+◌, ◌-◌, ◌<◌, ◌≤◌, ◌||◌, Bool, ltb, List, ◌++◌, Option, Some, None, length, map, refl, sym, ap, ◌∙◌, subst}
+use Rattle.std.specs.List.{All, AllByRecursion}
 use Rattle.std.specs.Option.{MatchOption}
 use Rattle.std.proofs.lemmas.List.{length-map}
 use Rattle.std.proofs.lemmas.List.Elements.{All-from_recursion}
@@ -8,7 +8,7 @@ use Rattle.dt_cred.specs.declared.account.Account.{Account}
 use Rattle.dt_machine.specs.Registry.{Registry}
 use Rattle.dt_lang.specs.Program.{ClauseForm}
 use Rattle.dt_ecb.specs.Ecbs.{added}
-use Rattle.dt_ecb.specs.Enable.{has_unserved, is_too_much}
+use Rattle.dt_ecb.specs.Enable.{is_too_much}
 use Rattle.dt_ecb.specs.Forms.{form_of_ecb}
 use Rattle.dt_ecb.specs.Places.{kept_from, keys_from}
 use Rattle.dt_ecb.specs.Shapes.{ShapeForm, uses_of, names_count}
@@ -23,16 +23,9 @@ pub no_answer : {X : Type 0} (o : Option X) (P : Type 0) (Q : X → Type 0) → 
 no_answer None P Q never h = h
 no_answer (Some x) P Q never h = absurd (never x refl)
 
--- the third of three tests decides
-pub third : (a b c r : Bool) → a ≡ false → b ≡ false → r ≡ c → r ≡ (a || (b || c))
-third false false c r ae be e = e
-third true b c r ae be e = cc
-third false true c r ae be e = cc
-
 -- the test of the limits, by how many ECBs and which uses there are
-abbrev pub much_by : ℕ → List ClauseForm → ℕ → List ShapeForm → Bool
-much_by epid clauses count all =
-    ltb ECBS_MAX (epid - 1 + count) || (ltb AGGREGATIONS_MAX (names_count all) || list_any has_unserved clauses)
+abbrev pub much_by : ℕ → ℕ → List ShapeForm → Bool
+much_by epid count all = ltb ECBS_MAX (epid - 1 + count) || ltb AGGREGATIONS_MAX (names_count all)
 
 module _ (account : Account) (registry : Registry) (accepted : List ShapeForm) (epid : ℕ) (clauses : List ClauseForm)
     (ecbs : List Ecb) (made : ecbs ≡ kept_from epid (keys_from account registry 0 clauses)) where
@@ -40,11 +33,11 @@ module _ (account : Account) (registry : Registry) (accepted : List ShapeForm) (
   forms_are = ap (map (form_of_ecb clauses)) made ∙ added_by_keys account registry epid clauses
 
   pub much_is : (count : ℕ) (all : List ShapeForm) → count ≡ length ecbs → all ≡ accepted ++ uses_of clauses
-      → much_by epid clauses count all ≡ is_too_much account registry accepted epid clauses
+      → much_by epid count all ≡ is_too_much account registry accepted epid clauses
   much_is count all counted uses =
-      ap (λ n. much_by epid clauses n all)
+      ap (λ n. much_by epid n all)
       (counted ∙ sym (length-map ecbs (form_of_ecb clauses)) ∙ ap length forms_are)
-      ∙ ap (much_by epid clauses (length (added account registry epid clauses))) uses
+      ∙ ap (much_by epid (length (added account registry epid clauses))) uses
 
   pub placed : (bound : ℕ) → length clauses ≤ bound → All (λ (ecb : Ecb). ecb.clause < bound) ecbs
   placed bound few =

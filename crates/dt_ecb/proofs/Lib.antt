@@ -8,3 +8,4 @@ mod EcbLaws
 mod PlaceLemmas
 mod VerdictLaws
 mod EnableLemmas
+mod NameLemmas

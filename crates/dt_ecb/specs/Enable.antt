@@ -26,14 +26,6 @@ is_stack _ = false
 abbrev pub has_stack : ClauseForm → Bool
 has_stack clause = list_any is_stack clause.statements
 
--- an action that is read and not served yet: what aggregates
-abbrev pub is_yet_unserved : StatementForm → Bool
-is_yet_unserved (program.aggregate name keys call) = true
-is_yet_unserved _ = false
-
-abbrev pub has_unserved : ClauseForm → Bool
-has_unserved clause = list_any is_yet_unserved clause.statements
-
 -- what becomes of a program: it is enabled, or refused for its first fault
 pub data Verdict : Type 0 where
   enabled : Verdict
@@ -52,11 +44,11 @@ module _ (account : Account) (registry : Registry) where
     abbrev pub is_allowed : Bool
     is_allowed = account.privs.dtrace_kernel || not (list_any has_stack clauses)
 
-    -- more than one consumer may have, or what is not served yet
+    -- more than one consumer may have
     abbrev pub is_too_much : Bool
     is_too_much =
         nat_lt ECBS_MAX (epid - 1 + length (added account registry epid clauses))
-        || (nat_lt AGGREGATIONS_MAX (names_count (accepted ++ uses_of clauses)) || list_any has_unserved clauses)
+        || nat_lt AGGREGATIONS_MAX (names_count (accepted ++ uses_of clauses))
 
     -- A program is enabled after these accepted aggregations and with this next EPID.
     abbrev pub is_enabled : Bool

@@ -1,5 +1,5 @@
--- ECBs and shapes of aggregations without where they lie in memory, and what a fault says.
-use Rattle.std.specs.Prelude.{List, [], None, Option, Some, map, slice_index_or}
+-- ECBs, shapes and names of aggregations without where they lie in memory, and what a fault says.
+use Rattle.std.specs.Prelude.{ℕ, List, [], None, Option, Some, map, slice_index_or}
 use Rattle.dt_lang.specs.Program.{ClauseForm}
 use Rattle.dt_ecb.specs.Ecbs.{EcbForm}
 use Rattle.dt_ecb.specs.Enable.{Verdict, privilege, clash, unmatched, limit}
@@ -12,6 +12,7 @@ use Rattle.dt_ecb.specs.declared.shape.Function.TheVariants as function
 use Rattle.dt_ecb.specs.declared.shape.KeyKind as kinds
 use Rattle.dt_ecb.specs.declared.shape.KeyKind.TheVariants as kind
 use Rattle.dt_ecb.specs.declared.shape.Shape.{Shape}
+use Rattle.dt_ecb.specs.declared.shapes.Named.{Named}
 use Rattle.dt_ecb.specs.declared.shapes.Shapes.{Shapes}
 
 -- where no clause stands
@@ -46,6 +47,10 @@ form_of_shape shape = record {
 -- the uses of the accepted programs, in order
 abbrev pub shapes_of : Shapes → List ShapeForm
 shapes_of shapes = map form_of_shape shapes.uses.items
+
+-- a named aggregation: its number, its name and its function
+abbrev pub form_of_named : Named → ℕ × (List ℕ × FunctionForm)
+form_of_named one = (one.number, (one.name, form_of_function one.function))
 
 -- what a fault says of the program; that memory ran out says nothing of it
 abbrev pub verdict_of : EnableFault → Option Verdict

@@ -1,6 +1,6 @@
--- The shapes of aggregations, and which of two uses clash. Guide, Aggregations.
-use Rattle.std.specs.Prelude.{◌≡◌, ℕ, ◌+◌, ◌<◌, ◌&&◌, ◌||◌, Bool, true, false, not, ℤ, List, [], ◌∷◌, ◌++◌, map, take, Some, IfSome, slice_get, if◌then◌else◌}
-use Rattle.std.specs.List.{flat_map, list_any}
+-- The shapes of aggregations, which of two uses clash, and the numbers of names. Guide, Aggregations.
+use Rattle.std.specs.Prelude.{◌≡◌, ℕ, ◌+◌, ◌<◌, ◌&&◌, ◌||◌, Bool, true, false, not, ℤ, List, [], ◌∷◌, ◌++◌, map, take, find, Option, Some, IfSome, slice_get, if◌then◌else◌}
+use Rattle.std.specs.List.{flat_map, list_any, enumerate_from}
 use Rattle.std.specs.Ordering.{int_eq}
 use Rattle.std.specs.Str.{bytes_eq}
 use Rattle.dt_lang.specs.Program.{ArgForm, CallForm, ClauseForm, StatementForm}
@@ -95,3 +95,7 @@ abbrev pub names_count : List ShapeForm → ℕ
 names_count [] = 0
 names_count (one ∷ shapes) =
     if list_any (λ other. bytes_eq one.name other.name) shapes then names_count shapes else 1 + names_count shapes
+
+-- the first use of a name, with its place among all uses, which is the aggregation's number
+abbrev pub named : List ShapeForm → List ℕ → Option (ℕ × ShapeForm)
+named shapes name = find (λ (one : ℕ × ShapeForm). bytes_eq one.1.name name) (enumerate_from 0 shapes)

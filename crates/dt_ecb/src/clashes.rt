@@ -10,7 +10,7 @@ use crate::shapes::Shapes;
 use dt_names::ShortText;
 
 /// The name of a program's first use that clashes with the accepted ones or with an earlier use of the program. All
-/// uses are the accepted ones, and behind them the program's.
+/// uses are the accepted ones, and after them the program's.
 pub(crate) fn first_clash(accepted: &Shapes, all: &Shapes) -> Option<ShortText>
     ensures { (uses : List ShapeForm) → shapes_of all.now ≡ shapes_of accepted.now ++ uses
         → MatchOption result (any_clash (shapes_of accepted.now) uses ≡ false)

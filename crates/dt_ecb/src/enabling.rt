@@ -1,16 +1,15 @@
 //! Whether a program is enabled, and the ECBs that it adds.
 ghost use Rattle.std.specs.Prelude.{◌≡◌, ◌+◌, ◌-◌, ◌<◌, ◌≤◌, ◌^◌, ◌||◌, length, map, nat_lt, All, IfOk, IfErr, IfSome};
-ghost use Rattle.std.specs.List.{list_any};
 ghost use Rattle.dt_lang.specs.Program.{form_of_program};
 ghost use Rattle.dt_ecb.specs.Ecbs.{added};
-ghost use Rattle.dt_ecb.specs.Enable.{IsVerdict, enabled, has_unserved};
+ghost use Rattle.dt_ecb.specs.Enable.{IsVerdict, enabled};
 ghost use Rattle.dt_ecb.specs.Forms.{form_of_ecb, shapes_of, verdict_of};
 ghost use Rattle.dt_ecb.specs.Shapes as spec;
 
 use crate::clashes::{first_clash, names_count};
 use crate::ecbs::ecbs_of;
 use crate::fault::{EnableFault, RestrictedAction};
-use crate::faults::{first_unallowed, first_unmatched, is_unserved};
+use crate::faults::{first_unallowed, first_unmatched};
 use crate::limits::{AGGREGATIONS_MAX, ECBS_MAX};
 use crate::parts::Ecb;
 use crate::shapes::Shapes;
@@ -54,25 +53,18 @@ pub fn enable(
         return Err(EnableFault::NoMatch { clause });
     }
     let ecbs = ecbs_of(alloc, account, machine, program, next_epid)?;
-    if is_too_much(program, &all, next_epid, ecbs.len()) {
+    if is_too_much(&all, next_epid, ecbs.len()) {
         return Err(EnableFault::Limit);
     }
     Ok(ecbs)
 }
 
-/// Whether a program with so many ECBs comes to more than one consumer may have, or has what is not served yet.
-fn is_too_much(program: &Program, all: &Shapes, next_epid: u32, ecbs: usize) -> bool
+/// Whether so many further ECBs, or the names of all uses, are more than one consumer may have.
+fn is_too_much(all: &Shapes, next_epid: u32, ecbs: usize) -> bool
     requires from_one { 1 ≤ next_epid }
     requires few { ecbs < 2 ^ 31 }
     ensures { result ≡ (nat_lt ECBS_MAX (next_epid - 1 + ecbs)
-        || (nat_lt AGGREGATIONS_MAX (spec.names_count (shapes_of all.now))
-        || list_any has_unserved (form_of_program program.now))) }
+        || nat_lt AGGREGATIONS_MAX (spec.names_count (shapes_of all.now))) }
 {
-    if next_epid as usize - 1 + ecbs > ECBS_MAX {
-        return true;
-    }
-    if names_count(&all.uses) > AGGREGATIONS_MAX {
-        return true;
-    }
-    is_unserved(program)
+    next_epid as usize - 1 + ecbs > ECBS_MAX || names_count(&all.uses) > AGGREGATIONS_MAX
 }

@@ -49,7 +49,8 @@ pub enum EnableFault {
     /// A clause takes effect on no probe: the first such clause, counted from 1.
     #[error("clause {clause} matches no probe")]
     NoMatch { clause: u32 },
-    /// The consumer would have too many ECBs or aggregations, or the program has an action that is not served yet.
+    /// The consumer would have more than [`ECBS_MAX`](crate::ECBS_MAX) ECBs or
+    /// [`AGGREGATIONS_MAX`](crate::AGGREGATIONS_MAX) aggregations.
     #[error("more than one consumer may have")]
     Limit,
     /// Memory ran out.

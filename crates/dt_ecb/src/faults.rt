@@ -1,4 +1,4 @@
-//! The first clauses for which a program is refused, and what is not served yet.
+//! The first clauses for which a program is refused.
 ghost use Rattle.std.specs.Prelude.{◌≡◌, ◌||◌, true, false, not, MatchOption};
 ghost use Rattle.std.specs.List.{list_any};
 ghost use Rattle.dt_lang.specs.Program.{form_of_clause, form_of_program, form_of_statement};
@@ -56,15 +56,6 @@ pub(crate) fn first_unmatched(
     None
 }
 
-/// Whether a clause of the program has an action that is not served yet: one that aggregates.
-pub(crate) fn is_unserved(program: &Program) -> bool
-    ensures { result ≡ list_any (λ clause.
-        list_any (λ statement. spec.is_yet_unserved (form_of_statement statement)) clause.statements.items)
-        program.now.clauses.items }
-{
-    program.clauses.iter().any(|clause| has_unserved(clause))
-}
-
 /// Whether a clause records the kernel's stack.
 fn has_stack(clause: &Clause) -> bool
     ensures { result ≡ list_any (λ statement. spec.is_stack (form_of_statement statement))
@@ -81,24 +72,6 @@ fn is_stack(statement: &Statement) -> bool
     ensures { result ≡ spec.is_stack (form_of_statement statement.now) }
 {
     matches!(statement, Statement::Stack(_))
-}
-
-/// Whether a clause has an action that is not served yet.
-fn has_unserved(clause: &Clause) -> bool
-    ensures { result ≡ list_any (λ statement. spec.is_yet_unserved (form_of_statement statement))
-        clause.now.statements.items }
-{
-    clause
-        .statements
-        .iter()
-        .any(|statement| is_yet_unserved(statement))
-}
-
-/// Whether a statement's action is not served yet.
-fn is_yet_unserved(statement: &Statement) -> bool
-    ensures { result ≡ spec.is_yet_unserved (form_of_statement statement.now) }
-{
-    matches!(statement, Statement::Aggregate(_))
 }
 
 /// Whether a clause takes effect on a probe.

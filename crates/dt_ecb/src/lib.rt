@@ -1,8 +1,9 @@
 //! Enabling: the ECBs that a program adds to a consumer, or its first refusal.
 //!
-//! `enable` answers what the definition `IsVerdict` in `specs/Enable.antt` says of a program: its ECBs, which are `added`
-//! of `specs/Ecbs.antt`, or the first fault in the order privilege, clash, no match, limit. A program has one verdict
-//! (`one_verdict`, `some_verdict`). `listed` gives the probes that a description asks for.
+//! `enable` answers what the definition `IsVerdict` in `specs/Enable.antt` says of a program: its ECBs, which are
+//! `added` of `specs/Ecbs.antt`, or the first fault in the order privilege, clash, no match, limit. A program has one
+//! verdict (`one_verdict`, `some_verdict`). `listed` gives the probes that a description asks for. `Shapes` has the
+//! aggregations of the accepted programs, and `Shapes::named` the number and the function of a name.
 #![tactic(auto)]
 
 mod clashes;
@@ -19,11 +20,12 @@ mod shapes;
 
 pub use enabling::enable;
 pub use fault::{EnableFault, RestrictedAction};
-pub use laws::{ecbs_go_on, one_verdict, some_verdict};
+pub use laws::{ecbs_go_on, numbers_stay, one_verdict, some_verdict, uses_are_named, uses_of_both};
 pub use limits::{AGGREGATIONS_MAX, ECBS_MAX};
 pub use matches::listed;
 pub use parts::Ecb;
-pub use shapes::Shapes;
+pub use shape::Function;
+pub use shapes::{Named, Shapes};
 
 #[cfg(test)]
 mod tests;

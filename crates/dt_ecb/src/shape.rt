@@ -39,15 +39,22 @@ impl KeyKind {
     }
 }
 
-/// By which function an aggregation is kept, with the bounds of its levels where it has some.
-#[derive(Clone, Copy, PartialEq, Eq)]
-pub(crate) enum Function {
+/// By which function an aggregation is kept. (illumos Dynamic Tracing Guide, "Aggregations".)
+#[derive(Clone, Copy, Debug, PartialEq, Eq)]
+pub enum Function {
+    /// `count()`: how many values there are.
     Count,
+    /// `sum(e)`: their sum.
     Sum,
+    /// `avg(e)`: their average.
     Avg,
+    /// `min(e)`: the least of them.
     Min,
+    /// `max(e)`: the greatest of them.
     Max,
+    /// `quantize(e)`: how many of them lie in each level, where powers of two bound the levels.
     Quantize,
+    /// `lquantize(e, lower, upper, step)`: how many of them lie in each of these levels, below them and above them.
     Lquantize(Bounds),
 }
 
@@ -94,7 +101,7 @@ impl Function {
 #[derive(Drop)]
 pub(crate) struct Shape {
     pub(crate) name: ShortText,
-    function: Function,
+    pub(crate) function: Function,
     keys: Vec<KeyKind>,
 }
 

@@ -1,13 +1,26 @@
 //! The aggregations of a consumer's accepted programs.
-ghost use Rattle.std.specs.Prelude.{◌≡◌, ◌++◌, [], map, OnOk, IfOk};
+ghost use Rattle.std.specs.Prelude.{◌≡◌, ◌++◌, [], map, option_map, OnOk, IfOk};
 ghost use Rattle.std.specs.List.{flat_map};
 ghost use Rattle.dt_lang.specs.Program.{form_of_program, form_of_statement};
-ghost use Rattle.dt_ecb.specs.Forms.{form_of_shape, shapes_of};
-ghost use Rattle.dt_ecb.specs.Shapes.{used_by, uses_of};
+ghost use Rattle.dt_ecb.specs.Forms.{form_of_named, form_of_shape, shapes_of};
+ghost use Rattle.dt_ecb.specs.Shapes.{named, used_by, uses_of};
 
-use crate::shape::Shape;
+use crate::shape::{Function, Shape};
 use dt_lang::{Program, Statement};
+use dt_names::ShortText;
 use std::alloc::{AllocError, Global};
+
+/// An aggregation of the accepted programs: its number, its name, and by which function it is kept.
+#[derive(Clone, Copy, PartialEq, Eq)]
+pub struct Named {
+    /// Its number: the place of its name's first use among all uses of the accepted programs, from 0 on. It stays the
+    /// same whatever is accepted later. Numbers have gaps: further uses of a name take places, and no numbers.
+    pub number: usize,
+    /// Its name, without the `@`. It is empty where the aggregation has none.
+    pub name: ShortText,
+    /// By which function it is kept.
+    pub function: Function,
+}
 
 /// The aggregations that accepted programs use, each use with its name, function, bounds and kinds of keys. (illumos
 /// Dynamic Tracing Guide, "Aggregations".)
@@ -26,7 +39,7 @@ impl Shapes {
         }
     }
 
-    /// These, and behind them those of a further program.
+    /// These, and after them those of a further program.
     pub fn after(&self, alloc: Global, program: &Program) -> Result<Self, AllocError>
         ensures { IfOk result (λ shapes.
             shapes_of shapes ≡ shapes_of self.now ++ uses_of (form_of_program program.now)) }
@@ -36,6 +49,23 @@ impl Shapes {
             push_uses(alloc, &mut uses, &clause.statements)?;
         }
         Ok(Shapes { uses })
+    }
+
+    /// The aggregation of this name, or `None` where no accepted program uses the name. It takes no memory.
+    pub fn named(&self, name: &[u8]) -> Option<Named>
+        ensures { option_map form_of_named result ≡ option_map (λ one. (one.0, (one.1.name, one.1.function)))
+            (named (shapes_of self.now) name.now) }
+    {
+        for (number, one) in self.uses.iter().enumerate() {
+            if one.name.as_bytes() == name {
+                return Some(Named {
+                    number,
+                    name: one.name,
+                    function: one.function,
+                });
+            }
+        }
+        None
     }
 }
 

@@ -20,7 +20,7 @@ const MACHINE: &str = r#"{"cpus":1,
 
 /// `given PROGRAM` accepts what a program uses, `forget` forgets all that. Else an account, its next EPID and a
 /// program, with the EPID, the probe and the clause of each of its ECBs, or the refusal; or `list`, an account and a
-/// description, with the numbers of the probes.
+/// description, with the numbers of the probes; or `named` and a name, with its number and its function.
 const ROWS: &str = "
 ann 1 fbt:::entry = NoMatch 1
 ann 1 syscall:::entry stack = Privilege 1 stack
@@ -35,23 +35,41 @@ ann 1 BEGIN / rea? / read:entry,tick-1sec,syscall::: = NoMatch 2
 ann 1 BEGIN / rea?:entry / read:entry,tick-1sec,syscall::: = 1:1:0 2:3:1 3:3:2 4:4:2
 ann 1 BEGIN / nothing / read:entry trace;stack = Privilege 3 stack
 root 1 BEGIN exit = 1:1:0
-root 1 BEGIN trace;count,a = Limit
+root 1 BEGIN trace;count,a = 1:1:0
 root 1 nothing count,a = NoMatch 1
 root 1 nothing count,a;sum,a = AggClash a
 ann 1 nothing count,a;sum,a;stack = Privilege 1 stack
 root 1 BEGIN count,a;sum,b / END sum,a;count,b = AggClash a
-root 1 BEGIN count,a;count,a = Limit
+root 1 BEGIN count,a;count,a = 1:1:0
 root 1 BEGIN count,a,number;count,a,text = AggClash a
 root 1 BEGIN count,a,number;count,a,number,text = AggClash a
-root 1 BEGIN ten,a;ten,a = Limit
+root 1 BEGIN ten,a;ten,a = 1:1:0
 root 1 BEGIN ten,a;tens,a = AggClash a
 root 1 BEGIN ten,a;twenty,a = AggClash a
+root 1 text BEGIN{@a=lquantize(arg0,0,10)}END{@a=lquantize(arg0,0,10,1)} = 1:1:0 2:2:1
+root 1 text BEGIN{@a=lquantize(arg0,0,10)}END{@a=lquantize(arg0,0,10,2)} = AggClash a
+named a =
 given BEGIN count,a,text;ten,b
+given BEGIN ten,b;sum,
+named a = 0 a Count
+named b = 1 b Lquantize(Bounds { lower: 0, upper: 10, step: 1 })
+named c =
+named ab =
+named  = 3  Sum
 root 1 BEGIN sum,c;count,a = AggClash a
+root 1 BEGIN sum,a,text = AggClash a
 root 1 BEGIN count,c;twenty,b;count,c,number = AggClash b
-root 1 BEGIN count,a,text;ten,b = Limit
+root 1 BEGIN count,a,text;ten,b = 1:1:0
 forget
-root 1 BEGIN sum,c;count,a = Limit
+root 1 BEGIN sum,c;count,a = 1:1:0
+root 1 16 x BEGIN sum,a#;sum,b#;sum,c#;sum,d# = 16 from 1:1:0 to 16:1:15
+root 1 13 x BEGIN sum,a#;sum,b#;sum,c#;sum,d#;sum,e# = Limit
+given 16 x BEGIN sum,a#;sum,b#;sum,c#;sum,d#
+named d15 = 63 d15 Sum
+root 1 BEGIN sum,a0;sum,d15 = 1:1:0
+root 1 BEGIN sum,a0;sum,e = Limit
+root 1 nothing sum,e = NoMatch 1
+forget
 root 705 64 x ::: = 320 from 705:1:0 to 1024:5:63
 root 706 64 x ::: = Limit
 root 1020 ::: = 1020:1:0 1021:2:0 1022:3:0 1023:4:0 1024:5:0
@@ -163,14 +181,24 @@ fn clause(alloc: Global, text: &str) -> Result<Clause, Fail> {
     })
 }
 
-/// A program: clauses with ` / ` between them, or a number of times the same with ` x ` behind the number.
+/// A program: clauses with ` / ` between them, or a number of times the same with ` x ` after the number, where `#` is
+/// how many times went before; or its text after `text`.
 fn program(alloc: Global, text: &str) -> Result<Program, Fail> {
+    if let Some(text) = text.strip_prefix("text ") {
+        return Ok(
+            Program::parse(alloc, text.as_bytes())
+                .ok()
+                .ok_or("no program")?,
+        );
+    }
     let (times, text) = text.split_once(" x ").unwrap_or(("1", text));
     let times = times.parse::<u32>().ok().ok_or("no number")?;
     let mut clauses = Vec::new(alloc);
-    for _time in 0..times {
+    for time in 0..times {
+        let number = format!(in alloc; "{time}")?;
         for part in text.split(" / ") {
-            clauses.push(clause(alloc, part)?)?;
+            let part = part.replace(alloc, "#", number.as_str())?;
+            clauses.push(clause(alloc, part.as_str())?)?;
         }
     }
     if clauses.is_empty() || clauses.len() > CLAUSES_MAX {
@@ -238,6 +266,15 @@ fn listing(alloc: Global, machine: &Machine, row: &str) -> Result<String, Fail> 
     Ok(told)
 }
 
+/// The number of a name, the name and its function, or nothing.
+fn numbered(alloc: Global, shapes: &Shapes, name: &str) -> Result<String, Fail> {
+    let Some(one) = shapes.named(name.as_bytes()) else {
+        return Ok(String::new(alloc));
+    };
+    let name = str::from_utf8(one.name.as_bytes()).ok().ok_or("no name")?;
+    Ok(format!(in alloc; " {} {name} {:?}", one.number, one.function)?)
+}
+
 #[test]
 fn worked_rows(rt: HostRuntime) -> Result<(), Fail> {
     let alloc = rt.alloc();
@@ -251,9 +288,12 @@ fn worked_rows(rt: HostRuntime) -> Result<(), Fail> {
         } else if row == "forget" {
             shapes = Shapes::new(alloc);
         } else if let Some((asked, want)) = row.split_once(" =") {
-            let told = match asked.strip_prefix("list ") {
-                Some(rest) => listing(alloc, &machine, rest)?,
-                None => answered(alloc, &machine, &shapes, asked)?,
+            let told = if let Some(rest) = asked.strip_prefix("list ") {
+                listing(alloc, &machine, rest)?
+            } else if let Some(name) = asked.strip_prefix("named ") {
+                numbered(alloc, &shapes, name)?
+            } else {
+                answered(alloc, &machine, &shapes, asked)?
             };
             assert_eq!(rt; told.as_str(), want, "{asked}");
         }
