@@ -3,9 +3,11 @@ use Rattle.std.proofs.Common.{◌≡◌, ℕ, ℤ, ◌+◌, ◌*◌, ◌-◌, �
 use Rattle.std.specs.List.{All}
 use Rattle.std.specs.Option.{option_map, option_or}
 use Rattle.std.proofs.lemmas.Bool.{eqb-false}
+use Rattle.dt_aggstore.specs.declared.limits.TheConstants.{ADDED_LIMIT}
+use Rattle.dt_aggstore.specs.declared.store.AggStore.{AggStore}
 use Rattle.dt_buffer.specs.declared.limits.TheConstants.{DROPS_LIMIT}
 use Rattle.dt_ecb.specs.declared.limits.TheConstants.{ECBS_MAX}
-use Rattle.dt_consumer.specs.Counts.{AtMost, must_be_left, own_firings}
+use Rattle.dt_consumer.specs.Counts.{AtMost, GivenAtMost, GIVES_MAX, must_be_left, own_firings}
 use Rattle.dt_consumer.specs.declared.limits.TheConstants.{HISTORY_MAX}
 use Rattle.dt_consumer.specs.declared.phase.End.{End}
 use Rattle.dt_consumer.specs.declared.phase.End.TheVariants.{Exit, History}
@@ -43,3 +45,21 @@ pub one_left : (exit : Option ℤ) (seen history : ℕ) → seen + 1 ≤ history
     → None ≡ option_or (option_map Exit exit) (cond (seen + 1 == history) (Some History) None)
     → (seen + 1) + 1 ≤ history
 one_left exit seen history h e = omega (arith, eqb-false (seen + 1) history (none_second exit (seen + 1 == history) e))
+
+-- the same of what stores count
+pub none_more : (n m : ℕ) (stores : List AggStore) → n ≤ m → All (GivenAtMost n) stores → All (GivenAtMost m) stores
+none_more n m stores few h = λ k d inside. omega (arith, h k d inside)
+
+pub given_on : (seen : ℕ) (ended : Option End) (stores : List AggStore) → ended ≡ None
+    → All (GivenAtMost (GIVES_MAX * (seen + own_firings ended))) stores
+    → All (GivenAtMost (GIVES_MAX * (seen + 1))) stores
+given_on seen ended stores e h =
+    subst (λ x. All (GivenAtMost (GIVES_MAX * (seen + own_firings x))) stores) e h
+
+pub given_more : (seen : ℕ) (stores : List AggStore) → All (GivenAtMost (GIVES_MAX * (seen + 1) + GIVES_MAX)) stores
+    → All (GivenAtMost (GIVES_MAX * (seen + 2))) stores
+given_more seen stores h = none_more _ (GIVES_MAX * (seen + 2)) stores (omega arith) h
+
+pub given_below : (seen history : ℕ) (stores : List AggStore) → seen + 1 ≤ history → history ≤ HISTORY_MAX
+    → All (GivenAtMost (GIVES_MAX * (seen + 2))) stores → All (GivenAtMost (ADDED_LIMIT - GIVES_MAX)) stores
+given_below seen history stores left few h = none_more _ (ADDED_LIMIT - GIVES_MAX) stores (omega arith) h

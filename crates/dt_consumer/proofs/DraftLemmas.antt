@@ -1,7 +1,10 @@
 -- What drafts say, case by case.
-use Rattle.std.proofs.Common.{◌≡◌, ℕ, ◌<◌, ◌≤◌, ◌&&◌, not, Bool, true, false, cond, List, [], ◌∷◌, Option, Some, None, Result, Ok, refl, sym, ap, ◌∙◌, subst}
+use Rattle.std.proofs.Common.{◌≡◌, ℕ, ◌<◌, ◌≤◌, ◌&&◌, ◌||◌, not, Bool, true, false, cond, List, [], ◌∷◌, Option, Some, None, Result, Ok, refl, sym, ap, ◌∙◌, subst}
+use Rattle.dt_aggstore.specs.declared.key.Aggregation.{Aggregation}
+use Rattle.dt_aggstore.specs.TableOf.{table_of}
+use Rattle.dt_consumer.specs.Stores.{stores_in}
 use Rattle.std.specs.Bool.{MatchBool, nat_lt}
-use Rattle.std.specs.Option.{MatchOption, option_map_or}
+use Rattle.std.specs.Option.{MatchOption, option_map_or, is_none}
 use Rattle.std.proofs.lemmas.Bool.{le-leb, lt-leb, le-ltb, lt-ltb}
 use Rattle.dt_cred.specs.declared.account.Account.{Account}
 use Rattle.dt_cred.specs.declared.probe.Probe.{Probe as AProbe}
@@ -13,20 +16,20 @@ use Rattle.dt_lang.specs.declared.word.Destructive.{Destructive}
 use Rattle.dt_record.specs.Layout.{layout_of}
 use Rattle.dt_ecb.specs.Ecbs.{EcbForm}
 use Rattle.dt_ecb.specs.Enable.{Verdict, IsVerdict, is_enabled}
-use Rattle.dt_consumer.specs.Answer.{Answer, described, refused, answer_of}
-use Rattle.dt_consumer.specs.Ask.{Ask, option, enable, go, stop, snap, describe}
+use Rattle.dt_consumer.specs.Answer.{Answer, described, refused, answer_of, aggregated}
+use Rattle.dt_consumer.specs.Ask.{Ask, option, enable, go, stop, snap, describe, agg, trunc}
 use Rattle.dt_consumer.specs.Draft.{Drafted, IsDraftOf}
-use Rattle.dt_consumer.specs.Life.{Item, asked, SetUp, is_active, is_over, is_inactive, is_readable, set_up, phase, phase_of, next_epid, since_then, happens, has_room, with_program, with_options, with_event}
+use Rattle.dt_consumer.specs.Life.{Item, asked, SetUp, is_active, is_over, is_inactive, is_readable, set_up, phase, phase_of, next_epid, since_then, happens, has_room, with_program, with_options, with_event, shapes_in}
 use Rattle.dt_consumer.specs.Options.{Setting, with_setting}
-use Rattle.dt_consumer.specs.Reply.{Replies, RepliesInQuota, IsVerdictOnCommand, Accepted, is_asked_late, ecb_of, refusal_of}
-use Rattle.dt_consumer.specs.Takings.{began, ended, read}
+use Rattle.dt_consumer.specs.Reply.{Replies, RepliesInQuota, IsVerdictOnCommand, Accepted, is_asked_late, ecb_of, refusal_of, known}
+use Rattle.dt_consumer.specs.Takings.{began, ended, read, truncated}
 use Rattle.dt_consumer.specs.declared.draft.Change.TheVariants.{Nothing}
 use Rattle.dt_consumer.specs.declared.draft.Draft.{Draft}
 use Rattle.dt_consumer.specs.declared.phase.End.TheVariants as end
 use Rattle.dt_consumer.specs.declared.phase.Phase.TheVariants.{Inactive, Active}
 use Rattle.dt_consumer.specs.declared.refusal.Refusal.{Refusal}
 use Rattle.dt_consumer.specs.declared.refusal.Refusal.TheVariants as refusal
-use Rattle.dt_consumer.specs.declared.refusal.Refusal.TheVariants.{Program, Busy, Limit, NoCpu, NoEpid, Quota}
+use Rattle.dt_consumer.specs.declared.refusal.Refusal.TheVariants.{Program, Busy, Limit, NoCpu, NoEpid, Quota, NoAgg}
 use Rattle.dt_consumer.specs.declared.reply.Reply.{Reply}
 use Rattle.dt_consumer.specs.declared.reply.Reply.TheVariants.{Refused}
 
@@ -92,7 +95,7 @@ module _ (account : Account) (registry : Registry) (life : List Item) where
       → IsVerdictOnCommand account registry life (enable reading) (Some Busy)
   enable_busy (program clauses) on =
       let P : Bool → Type 0 = λ b. MatchBool b (Some Busy ≡ Some Busy)
-      ((v : Verdict) × IsVerdict account registry now.shapes (next_epid account registry now) clauses v
+      ((v : Verdict) × IsVerdict account registry (shapes_in now) (next_epid account registry now) clauses v
       × (Some Busy ≡ refusal_of v)) in
       subst P (sym (late on)) refl
   enable_busy (fault at why) on = sym (ap (λ b. cond b (Some Busy) (Some (Program at why))) (late on))
@@ -103,7 +106,7 @@ module _ (account : Account) (registry : Registry) (life : List Item) where
       → set_up account registry (asked (Ok (enable reading)) ∷ life) ≡ now
   idle_late (program clauses) on =
       ap
-      (λ b. cond (b && is_enabled account registry now.shapes (next_epid account registry now) clauses)
+      (λ b. cond (b && is_enabled account registry (shapes_in now) (next_epid account registry now) clauses)
       (with_program now clauses) now)
       on
   idle_late (fault at why) on = refl
@@ -122,17 +125,17 @@ module _ (account : Account) (registry : Registry) (life : List Item) where
 
   -- a program's verdict is the command's
   pub program_verdict : (clauses : List ClauseForm) (v : Verdict) → phase account registry life ≡ Inactive
-      → IsVerdict account registry (set_up account registry life).shapes (next_epid account registry now) clauses v
+      → IsVerdict account registry (shapes_in (set_up account registry life)) (next_epid account registry now) clauses v
       → IsVerdictOnCommand account registry life (enable (program clauses)) (refusal_of v)
   program_verdict clauses v off is =
       let P : Bool → Type 0 = λ b. MatchBool b (refusal_of v ≡ Some Busy)
-      ((w : Verdict) × IsVerdict account registry now.shapes (next_epid account registry now) clauses w
+      ((w : Verdict) × IsVerdict account registry (shapes_in now) (next_epid account registry now) clauses w
       × (refusal_of v ≡ refusal_of w)) in
       subst P (sym (early off)) (v, is, refl)
 
   -- a program that is not enabled leaves the set-up
   pub idle_program : (clauses : List ClauseForm)
-      → is_enabled account registry (set_up account registry life).shapes (next_epid account registry now) clauses
+      → is_enabled account registry (shapes_in (set_up account registry life)) (next_epid account registry now) clauses
       ≡ false
       → set_up account registry (asked (Ok (enable (program clauses))) ∷ life) ≡ now
   idle_program clauses fails =
@@ -145,12 +148,12 @@ module _ (account : Account) (registry : Registry) (life : List Item) where
 
   -- an accepted one adds its clauses
   pub program_added : (clauses : List ClauseForm) → phase account registry life ≡ Inactive
-      → is_enabled account registry (set_up account registry life).shapes (next_epid account registry now) clauses
+      → is_enabled account registry (shapes_in (set_up account registry life)) (next_epid account registry now) clauses
       ≡ true
       → set_up account registry (asked (Ok (enable (program clauses))) ∷ life) ≡ with_program now clauses
   program_added clauses off holds =
       ap
-      (λ b. cond (b && is_enabled account registry now.shapes (next_epid account registry now) clauses)
+      (λ b. cond (b && is_enabled account registry (shapes_in now) (next_epid account registry now) clauses)
       (with_program now clauses) now)
       (idle_is off)
       ∙ ap (λ b. cond b (with_program now clauses) now) holds
@@ -300,6 +303,59 @@ module _ (account : Account) (registry : Registry) (life : List Item) where
   read_by_snap n inside on =
       ap (λ b. cond (b && is_readable now (phase_of now)) (with_event now (read n)) now) (lt-ltb n registry.cpus inside)
       ∙ ap (λ b. cond b (with_event now (read n)) now) on
+
+  -- `agg` and `trunc`
+  abbrev by_known : Option Aggregation → Option Refusal
+  by_known o = option_map_or (λ (a : Aggregation). None) o (Some NoAgg)
+
+  pub no_agg : (name : List ℕ) → known account registry life name ≡ None
+      → IsVerdictOnCommand account registry life (agg name) (Some NoAgg)
+  no_agg name none = sym (ap by_known none)
+
+  pub no_trunc : (name : List ℕ) → known account registry life name ≡ None
+      → IsVerdictOnCommand account registry life (trunc name) (Some NoAgg)
+  no_trunc name none = sym (ap by_known none)
+
+  pub some_agg : (name : List ℕ) (a : Aggregation) → known account registry life name ≡ Some a
+      → IsVerdictOnCommand account registry life (agg name) None
+  some_agg name a is = sym (ap by_known is)
+
+  pub some_trunc : (name : List ℕ) (a : Aggregation) → known account registry life name ≡ Some a
+      → IsVerdictOnCommand account registry life (trunc name) None
+  some_trunc name a is = sym (ap by_known is)
+
+  pub table_told : (name : List ℕ) (a : Aggregation) (answer : Answer) → known account registry life name ≡ Some a
+      → answer ≡ aggregated name a.function
+      (table_of (stores_in account registry (set_up account registry life)) a)
+      → Accepted account registry life (agg name) answer
+  table_told name a answer is e =
+      let P : Option Aggregation → Type 0 = λ o. MatchOption o ⊥
+      (λ (x : Aggregation). answer ≡ aggregated name x.function (table_of (stores_in account registry now) x)) in
+      subst P (sym is) e
+
+  abbrev by_trunc : List ℕ → Bool → SetUp
+  by_trunc name b = cond b now (with_event now (truncated name))
+
+  pub idle_unknown : (name : List ℕ) → known account registry life name ≡ None
+      → set_up account registry (asked (Ok (trunc name)) ∷ life) ≡ now
+  idle_unknown name none =
+      ap (λ o. by_trunc name (is_inactive (phase_of now) || is_none o)) none ∙ either (is_inactive (phase_of now))
+    where
+      either : (b : Bool) → by_trunc name (b || true) ≡ now
+      either true = refl
+      either false = refl
+
+  pub idle_before : (name : List ℕ) → phase account registry life ≡ Inactive
+      → set_up account registry (asked (Ok (trunc name)) ∷ life) ≡ now
+  idle_before name off = ap (λ b. by_trunc name (b || is_none (known account registry life name))) (idle_is off)
+
+  pub truncated_by : (name : List ℕ) (a : Aggregation) → is_inactive (phase account registry life) ≡ false
+      → known account registry life name ≡ Some a
+      → set_up account registry (asked (Ok (trunc name)) ∷ life)
+      ≡ with_event (set_up account registry life) (truncated name)
+  truncated_by name a on is =
+      ap (λ b. by_trunc name (b || is_none (known account registry life name))) on
+      ∙ ap (λ o. by_trunc name (is_none o)) is
 
   -- `describe`
   pub no_ecb : (epid : ℕ) → ecb_of account registry life epid ≡ None

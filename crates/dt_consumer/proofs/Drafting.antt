@@ -27,7 +27,7 @@ use Rattle.dt_consumer.specs.Ask.{option, enable, go, stop, snap, reading_of, is
 use Rattle.dt_consumer.specs.Buffers.{past}
 use Rattle.dt_consumer.specs.Draft.{IsDraftOf}
 use Rattle.dt_consumer.specs.Keeps.{AreEcbs, IsTracing, Keeps, form_of_options}
-use Rattle.dt_consumer.specs.Life.{Item, SetUp, is_over, is_readable, set_up, phase, next_epid, has_room, happens, since_then, with_options}
+use Rattle.dt_consumer.specs.Life.{Item, SetUp, is_over, is_readable, set_up, phase, next_epid, has_room, happens, since_then, with_options, shapes_in}
 use Rattle.dt_consumer.specs.Options.{Setting, with_setting}
 use Rattle.dt_consumer.specs.Refusal.{refused_as}
 use Rattle.dt_consumer.specs.Reply.{IsVerdictOnCommand, refusal_of}
@@ -104,17 +104,17 @@ module _ (account : Account) (registry : Registry) (life : List Item) where
   pub program_draft : (count first : ℕ) (clauses : Vec Clause) (ecbs : Vec Ecb) (shapes : Shapes)
       → is_over life ≡ false → phase account registry life ≡ Inactive
       → first ≡ next_epid account registry (set_up account registry life)
-      → is_enabled account registry (set_up account registry life).shapes first (map form_of_clause clauses.items)
+      → is_enabled account registry (shapes_in (set_up account registry life)) first (map form_of_clause clauses.items)
       ≡ true
       → AreEcbs ((set_up account registry life).clauses ++ map form_of_clause clauses.items)
       (added account registry first (map form_of_clause clauses.items)) ecbs.items
       → count ≡ length ecbs.items
-      → shapes_of shapes ≡ (set_up account registry life).shapes ++ uses_of (map form_of_clause clauses.items)
+      → shapes_of shapes ≡ (shapes_in (set_up account registry life)) ++ uses_of (map form_of_clause clauses.items)
       → IsDraftOf account registry life (Ok (enable (program (map form_of_clause clauses.items))))
       (record { reply = Enabled count first; change = Enable clauses ecbs shapes })
   program_draft count first clauses ecbs shapes fresh off is holds are counts shaped =
       let forms = map form_of_clause clauses.items in
-      let H : ℕ → Type 0 = λ n. is_enabled account registry now.shapes n (map form_of_clause clauses.items) ≡ true in
+      let H : ℕ → Type 0 = λ n. is_enabled account registry (shapes_in now) n (map form_of_clause clauses.items) ≡ true in
       let A : ℕ → Type 0 = λ n. AreEcbs (now.clauses ++ map form_of_clause clauses.items)
       (added account registry n (map form_of_clause clauses.items)) ecbs.items in
       let allowed = subst H is holds in
@@ -143,7 +143,7 @@ module _ (account : Account) (registry : Registry) (life : List Item) where
       → (clauses : List ClauseForm) (o : Option Verdict) (refusal : Refusal) (draft : Draft)
       → draft.reply ≡ Refused refusal → draft.change ≡ Nothing → is_over life ≡ false
       → phase account registry life ≡ Inactive
-      → IfSome o (IsVerdict account registry (set_up account registry life).shapes
+      → IfSome o (IsVerdict account registry (shapes_in (set_up account registry life))
       (next_epid account registry (set_up account registry life)) clauses)
       → Some refusal ≡ option_and_then refusal_of o
       → IsDraftOf account registry life (Ok (enable (program clauses))) draft
@@ -154,10 +154,10 @@ module _ (account : Account) (registry : Registry) (life : List Item) where
       subst P (sym e) (program_verdict account registry life clauses v off is))
       (idle_program account registry life clauses
       (⊎_elim
-      (λ holds. absurd (never v (one account registry now.shapes (next_epid account registry now) clauses v
+      (λ holds. absurd (never v (one account registry (shapes_in now) (next_epid account registry now) clauses v
       enabling.enabled is holds) e))
       (λ fails. fails)
-      (cases_Bool (is_enabled account registry now.shapes (next_epid account registry now) clauses))))
+      (cases_Bool (is_enabled account registry (shapes_in now) (next_epid account registry now) clauses))))
     where
       never : (v : Verdict) → v ≡ enabling.enabled → Some refusal ≡ refusal_of v → ⊥
       never v same r = let no : Some refusal ≡ None = r ∙ ap refusal_of same in cc
@@ -213,12 +213,12 @@ module _ (account : Account) (registry : Registry) (s : SetUp) (consumer : Consu
   pub program_asked : (clauses : List ClauseForm) (first : ℕ) (o : Option Verdict)
       → first ≡ next_epid account registry s
       → IfSome o (IsVerdict consumer.account registry (shapes_of consumer.programs.shapes) first clauses)
-      → IfSome o (IsVerdict account registry s.shapes (next_epid account registry s) clauses)
+      → IfSome o (IsVerdict account registry (shapes_in s) (next_epid account registry s) clauses)
   program_asked clauses first o e is =
       let P : Account → Type 0 = λ a.
       IfSome o (IsVerdict a registry (shapes_of consumer.programs.shapes) first clauses) in
       let Q : List ShapeForm → Type 0 = λ shapes. IfSome o (IsVerdict account registry shapes first clauses) in
-      let R : ℕ → Type 0 = λ n. IfSome o (IsVerdict account registry s.shapes n clauses) in
+      let R : ℕ → Type 0 = λ n. IfSome o (IsVerdict account registry (shapes_in s) n clauses) in
       subst R e (subst Q k.shapes (subst P k.same_account is))
 
   pub enabled_asked : (clauses : List ClauseForm) (first : ℕ) (ecbs : List Ecb)

@@ -24,8 +24,3 @@ module _ (account : Account) (registry : Registry) (s : SetUp) (event : Event) w
   same_clauses =
       either_event (λ x. x.clauses) s (with_event s event) (end_by account registry (with_event s event) event)
       (λ end. refl) refl
-
-  pub same_shapes : (happens account registry s event).shapes ≡ s.shapes
-  same_shapes =
-      either_event (λ x. x.shapes) s (with_event s event) (end_by account registry (with_event s event) event)
-      (λ end. refl) refl

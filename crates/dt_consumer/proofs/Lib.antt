@@ -3,12 +3,17 @@ pub mod Lists
 pub mod Takings
 pub mod Buffers
 pub mod Sizes
+pub mod Giving
 pub mod Taken
 pub mod Tracings
+pub mod Stores
+pub mod Reading
 pub mod Counted
 pub mod Stands
 pub mod DraftLemmas
 pub mod Happening
 pub mod Telling
+pub mod Names
+pub mod StoresTold
 pub mod Drafting
 pub mod ReplyLaws

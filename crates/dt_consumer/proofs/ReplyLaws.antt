@@ -1,5 +1,7 @@
 -- A line has one reply.
 use Rattle.std.proofs.Common.{◌≡◌, ℕ, Bool, true, false, cond, List, Option, Some, None, Result, Ok, Err, refl, sym, ap, ◌∙◌, subst}
+use Rattle.dt_aggstore.specs.TableOf.{table_of}
+use Rattle.dt_consumer.specs.Stores.{stores_in}
 use Rattle.std.specs.Bool.{MatchBool}
 use Rattle.std.specs.Option.{MatchOption, option_map_or}
 use Rattle.dt_cred.specs.declared.account.Account.{Account}
@@ -11,16 +13,16 @@ use Rattle.dt_record.specs.Layout.{layout_of}
 use Rattle.dt_ecb.specs.Ecbs.{EcbForm}
 use Rattle.dt_ecb.specs.Enable.{Verdict, IsVerdict}
 use Rattle.dt_ecb.specs.Shapes.{ShapeForm}
-use Rattle.dt_consumer.specs.Answer.{Answer, done, enabled, snapped, listed, described, refused}
+use Rattle.dt_consumer.specs.Answer.{Answer, done, enabled, snapped, listed, described, refused, aggregated}
 use Rattle.dt_consumer.specs.Answer as answers
 use Rattle.dt_buffer.specs.History.{Past}
 use Rattle.dt_buffer.specs.Shows.{Shows}
-use Rattle.dt_consumer.specs.Ask.{Ask, option, enable, go, stop, snap, status, list, describe}
+use Rattle.dt_consumer.specs.Ask.{Ask, option, enable, go, stop, snap, status, list, describe, agg, trunc}
 use Rattle.dt_consumer.specs.Buffers.{past}
-use Rattle.dt_consumer.specs.Life.{Item, SetUp, is_over, set_up, next_epid}
-use Rattle.dt_consumer.specs.Reply.{Replies, RepliesInQuota, IsVerdictOnCommand, Accepted, is_asked_late, ecb_of, refusal_of}
+use Rattle.dt_consumer.specs.Life.{Item, SetUp, is_over, set_up, next_epid, shapes_in}
+use Rattle.dt_consumer.specs.Reply.{Replies, RepliesInQuota, IsVerdictOnCommand, Accepted, is_asked_late, ecb_of, refusal_of, known}
 use Rattle.dt_consumer.specs.declared.refusal.Refusal.{Refusal}
-use Rattle.dt_consumer.specs.declared.refusal.Refusal.TheVariants.{Program, Busy, NoEpid, Quota}
+use Rattle.dt_consumer.specs.declared.refusal.Refusal.TheVariants.{Program, Busy, NoEpid, Quota, NoAgg}
 use Rattle.dt_consumer.specs.declared.refusal.Refusal.TheVariants as refusal
 
 one_by_bool : {X : Type 0} (b : Bool) (P : X → Type 0) (r x y : X) → ((x y : X) → P x → P y → x ≡ y)
@@ -46,16 +48,15 @@ always_refused : (b : Bool) (r s : Refusal) → None ≡ cond b (Some r) (Some s
 always_refused true r s e = cc
 always_refused false r s e = cc
 
-described_once : (o : Option (Probe × EcbForm)) (P : Probe × EcbForm → Answer) (a b : Answer)
+told_once : {X : Type 0} (o : Option X) (P : X → Answer) (a b : Answer)
     → MatchOption o ⊥ (λ f. a ≡ P f) → MatchOption o ⊥ (λ f. b ≡ P f) → a ≡ b
-described_once None P a b ha hb = absurd ha
-described_once (Some f) P a b ha hb = ha ∙ sym hb
+told_once None P a b ha hb = absurd ha
+told_once (Some f) P a b ha hb = ha ∙ sym hb
 
-described_so : (o : Option (Probe × EcbForm)) (P : Probe × EcbForm → Answer)
-    → None ≡ option_map_or (λ (f : Probe × EcbForm). None) o (Some NoEpid)
-    → (a : Answer) × MatchOption o ⊥ (λ f. a ≡ P f)
-described_so None P v = cc
-described_so (Some f) P v = (P f, refl)
+told_so : {X : Type 0} (o : Option X) (P : X → Answer) (r : Refusal)
+    → None ≡ option_map_or (λ (f : X). None) o (Some r) → (a : Answer) × MatchOption o ⊥ (λ f. a ≡ P f)
+told_so None P r v = cc
+told_so (Some f) P r v = (P f, refl)
 
 module _ (one_verdict : (account : Account) (registry : Registry) (accepted : List ShapeForm) (epid : ℕ)
     (clauses : List ClauseForm) (a b : Verdict) → IsVerdict account registry accepted epid clauses a
@@ -72,14 +73,14 @@ module _ (one_verdict : (account : Account) (registry : Registry) (accepted : Li
 
   abbrev OfProgram : List ClauseForm → Option Refusal → Type 0
   OfProgram clauses verdict = (v : Verdict)
-      × IsVerdict account registry now.shapes (next_epid account registry now) clauses v × (verdict ≡ refusal_of v)
+      × IsVerdict account registry (shapes_in now) (next_epid account registry now) clauses v × (verdict ≡ refusal_of v)
 
   one_of_program : (clauses : List ClauseForm) (v w : Option Refusal) → OfProgram clauses v → OfProgram clauses w
       → v ≡ w
   one_of_program clauses v w hv hw =
       hv.2
       ∙ ap refusal_of
-      (one_verdict account registry now.shapes (next_epid account registry now) clauses hv.0 hw.0 hv.1 hw.1)
+      (one_verdict account registry (shapes_in now) (next_epid account registry now) clauses hv.0 hw.0 hv.1 hw.1)
       ∙ sym hw.2
 
   same_verdict : (ask : Ask) (v w : Option Refusal) → Verdict-on ask v → Verdict-on ask w → v ≡ w
@@ -92,6 +93,8 @@ module _ (one_verdict : (account : Account) (registry : Registry) (accepted : Li
   same_verdict go v w hv hw = hv ∙ sym hw
   same_verdict stop v w hv hw = hv ∙ sym hw
   same_verdict (snap cpu) v w hv hw = hv ∙ sym hw
+  same_verdict (agg name) v w hv hw = hv ∙ sym hw
+  same_verdict (trunc name) v w hv hw = hv ∙ sym hw
   same_verdict status v w hv hw = hv ∙ sym hw
   same_verdict (list None) v w hv hw = hv ∙ sym hw
   same_verdict (list (Some desc)) v w hv hw = hv ∙ sym hw
@@ -109,7 +112,11 @@ module _ (one_verdict : (account : Account) (registry : Registry) (accepted : Li
   one_accepted (list None) a b ha hb = absurd ha
   one_accepted (list (Some desc)) a b ha hb = ha ∙ sym hb
   one_accepted (describe epid) a b ha hb =
-      described_once (ecb_of account registry life epid) (λ f. described epid f.0 (layout_of f.1.clause)) a b ha hb
+      told_once (ecb_of account registry life epid) (λ f. described epid f.0 (layout_of f.1.clause)) a b ha hb
+  one_accepted (agg name) a b ha hb =
+      told_once (known account registry life name)
+      (λ x. aggregated name x.function (table_of (stores_in account registry now) x)) a b ha hb
+  one_accepted (trunc name) a b ha hb = ha ∙ sym hb
   one_accepted (snap cpu) a b ha hb =
       let same = one_shown (past account registry life cpu) ha.0 hb.0 ha.1 hb.1 ha.2 hb.2 ha.3 hb.3 in
       ha.4
@@ -142,7 +149,7 @@ module _ (some_verdict : (account : Account) (registry : Registry) (accepted : L
 
   verdict_of : (ask : Ask) → (v : Option Refusal) × IsVerdictOnCommand account registry life ask v
   verdict_of (enable (program clauses)) =
-      let v = some_verdict account registry s.shapes (next_epid account registry s) clauses in
+      let v = some_verdict account registry (shapes_in s) (next_epid account registry s) clauses in
       some_by_bool (is_asked_late account registry life) _ (Some Busy) (refusal_of v.0, (v.0, v.1, refl))
   verdict_of (enable (fault at why)) = (_, refl)
   verdict_of (enable (destructive at what)) = (_, refl)
@@ -150,6 +157,8 @@ module _ (some_verdict : (account : Account) (registry : Registry) (accepted : L
   verdict_of go = (_, refl)
   verdict_of stop = (_, refl)
   verdict_of (snap cpu) = (_, refl)
+  verdict_of (agg name) = (_, refl)
+  verdict_of (trunc name) = (_, refl)
   verdict_of status = (_, refl)
   verdict_of (list None) = (_, refl)
   verdict_of (list (Some desc)) = (_, refl)
@@ -165,11 +174,15 @@ module _ (some_verdict : (account : Account) (registry : Registry) (accepted : L
   some_accepted (option setting) v = (done, refl)
   some_accepted go v = (done, refl)
   some_accepted stop v = (done, refl)
-  some_accepted status v = (answers.status _ _ _, refl)
+  some_accepted status v = (answers.status _ _ _ _, refl)
   some_accepted (list None) v = cc
   some_accepted (list (Some desc)) v = (listed _, refl)
   some_accepted (describe epid) v =
-      described_so (ecb_of account registry life epid) (λ f. described epid f.0 (layout_of f.1.clause)) v
+      told_so (ecb_of account registry life epid) (λ f. described epid f.0 (layout_of f.1.clause)) NoEpid v
+  some_accepted (agg name) v =
+      told_so (known account registry life name)
+      (λ x. aggregated name x.function (table_of (stores_in account registry s) x)) NoAgg v
+  some_accepted (trunc name) v = (done, refl)
   some_accepted (snap cpu) v =
       let shown = some_shown (past account registry life cpu) in
       (snapped cpu shown.0 shown.1 shown.2, (shown.0, shown.1, shown.2, shown.3, refl))

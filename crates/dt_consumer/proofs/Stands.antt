@@ -21,7 +21,7 @@ use Rattle.dt_ecb.specs.declared.parts.Ecb.{Ecb}
 use Rattle.dt_consumer.specs.Ask.{Ask}
 use Rattle.dt_consumer.specs.Draft.{after_line}
 use Rattle.dt_consumer.specs.Keeps.{AreEcbs, HasTaken, IsTracing, Keeps, form_of_options, phase_by, placed_after}
-use Rattle.dt_consumer.specs.Life.{Item, asked, SetUp, lines, is_inactive, is_over, set_up, ecbs_in, next_epid, phase_of, with_options, with_program}
+use Rattle.dt_consumer.specs.Life.{Item, asked, SetUp, lines, is_inactive, is_over, set_up, ecbs_in, next_epid, phase_of, with_options, with_program, shapes_in}
 use Rattle.dt_consumer.specs.StandsFor.{StandsFor}
 use Rattle.dt_consumer.specs.declared.consumer.Consumer.{Consumer}
 use Rattle.dt_consumer.specs.declared.limits.TheConstants.{LINES_MAX}
@@ -257,7 +257,7 @@ module _ (account : Account) (registry : Registry) (consumer : Consumer) where
   -- an accepted program
   module _ (s : SetUp) (k : Keeps account registry s consumer) (clauses : List Clause) (ecbs : List Ecb)
       (off : phase_of s ≡ Inactive)
-      (holds : is_enabled account registry s.shapes (next_epid account registry s) (map form_of_clause clauses)
+      (holds : is_enabled account registry (shapes_in s) (next_epid account registry s) (map form_of_clause clauses)
       ≡ true)
       (are : AreEcbs (s.clauses ++ map form_of_clause clauses)
       (added account registry (next_epid account registry s) (map form_of_clause clauses)) ecbs) where
@@ -277,7 +277,7 @@ module _ (account : Account) (registry : Registry) (consumer : Consumer) where
         omega (
           arith,
           new_count,
-          many_ecbs account registry s.shapes (next_epid account registry s) forms holds,
+          many_ecbs account registry (shapes_in s) (next_epid account registry s) forms holds,
           length-map clauses form_of_clause,
         )
 
@@ -287,18 +287,18 @@ module _ (account : Account) (registry : Registry) (consumer : Consumer) where
           arith,
           new_count,
           old_count,
-          few_ecbs account registry s.shapes (next_epid account registry s) forms holds,
+          few_ecbs account registry (shapes_in s) (next_epid account registry s) forms holds,
         )
 
     pub keeps_program : ((before more : List ClauseForm) → ecbs_of account registry (before ++ more)
         ≡ ecbs_of account registry before
         ++ added account registry (length (ecbs_of account registry before) + 1) more)
-        → (n : ℕ) (programs : Programs)
+        → ((a b : List ClauseForm) → uses_of (a ++ b) ≡ uses_of a ++ uses_of b) → (n : ℕ) (programs : Programs)
         → programs.clauses.items ≡ consumer.programs.clauses.items ++ clauses
         → programs.ecbs.items ≡ consumer.programs.ecbs.items ++ ecbs
-        → shapes_of programs.shapes ≡ s.shapes ++ uses_of forms
+        → shapes_of programs.shapes ≡ (shapes_in s) ++ uses_of forms
         → Keeps account registry (with_program s forms) (record consumer { programs = programs; lines = n })
-    keeps_program go_on n programs grown grown_ecbs shaped = record {
+    keeps_program go_on uses_both n programs grown grown_ecbs shaped = record {
       same_account = k.same_account;
       options = k.options;
       clauses =
@@ -312,17 +312,17 @@ module _ (account : Account) (registry : Registry) (consumer : Consumer) where
           (ecbs_of account registry s.clauses
           ++ added account registry (length (ecbs_of account registry s.clauses) + 1) forms) xs in
           subst P (sym (go_on s.clauses forms)) (subst Q (sym grown_ecbs) both);
-      shapes = shaped;
+      shapes = shaped ∙ sym (uses_both s.clauses forms);
       tracing = still_idle consumer.tracing (phase_of s) (IsTracing account registry s) _ off
           (λ t is. is.standing) k.tracing;
     }
 
   -- an accepted `go`, and what happens later: what there is from then on, and the set-up by an event
   pub keeps_traced : (s next : SetUp) (n : ℕ) (tracing : Tracing) → Keeps account registry s consumer
-      → next.options ≡ s.options → next.clauses ≡ s.clauses → next.shapes ≡ s.shapes
+      → next.options ≡ s.options → next.clauses ≡ s.clauses
       → IsTracing account registry next tracing
       → Keeps account registry next (record consumer { tracing = Some tracing; lines = n })
-  keeps_traced s next n tracing k options clauses shapes t = record {
+  keeps_traced s next n tracing k options clauses t = record {
     same_account = k.same_account;
     options = k.options ∙ sym options;
     clauses = k.clauses ∙ sym clauses;
@@ -330,7 +330,7 @@ module _ (account : Account) (registry : Registry) (consumer : Consumer) where
         let P : List ClauseForm → Type 0 = λ cs.
         AreEcbs cs (ecbs_of account registry cs) consumer.programs.ecbs.items in
         subst P (sym clauses) k.ecbs;
-    shapes = k.shapes ∙ sym shapes;
+    shapes = k.shapes ∙ sym (ap uses_of clauses);
     tracing = t;
   }
 
@@ -390,3 +390,9 @@ taken_by_one account registry s consumer k cpu p e = step consumer.tracing k.tra
         → HasTaken (past_in account registry s cpu) (errors_in account registry s cpu) p
     step None h e = cc
     step (Some t) h e = inner (slice_get t.processors.all.items cpu) (h.processors cpu) e
+
+-- what is found only where a test holds
+pub found_readable : {X : Type 0} (b : Bool) (o : Option X) (x : X) → Some x ≡ cond b o None
+    → (b ≡ true) × (Some x ≡ o)
+found_readable true o x e = (refl, e)
+found_readable false o x e = cc

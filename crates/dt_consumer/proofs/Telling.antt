@@ -17,7 +17,7 @@ use Rattle.dt_consumer.specs.Buffers.{errors}
 use Rattle.dt_consumer.specs.Keeps.{IsTracing, Keeps}
 use Rattle.dt_consumer.specs.Life.{Item, SetUp, seen_in, phase_after, set_up, ecbs_in, phase}
 use Rattle.dt_consumer.specs.Reply.{all_errors, ecb_of}
-use Rattle.dt_consumer.specs.Takings.{Event, began, seen, read, ended, faults, taken_since}
+use Rattle.dt_consumer.specs.Takings.{Event, began, seen, read, truncated, ended, faults, taken_since}
 use Rattle.dt_consumer.specs.declared.phase.Phase.TheVariants.{Inactive}
 use Rattle.dt_consumer.specs.declared.consumer.Consumer.{Consumer}
 use Rattle.dt_consumer.specs.declared.processor.Processor.{Processor}
@@ -42,7 +42,7 @@ each_error f base (p ∷ xs) each =
     shift : (base i : ℕ) → base + suc i ≡ base + 1 + i
     shift base i = omega arith
 
-all_zero : (f : ℕ → ℕ) (n base : ℕ) → ((k : ℕ) → f k ≡ 0) → map f (range_with_len base n) ≡ replicate n 0
+pub all_zero : (f : ℕ → ℕ) (n base : ℕ) → ((k : ℕ) → f k ≡ 0) → map f (range_with_len base n) ≡ replicate n 0
 all_zero f zero base none = refl
 all_zero f (suc n) base none =
     ap (λ k. k ∷ map f (range_with_len (base + 1) n)) (none base) ∙ ap (λ ns. 0 ∷ ns) (all_zero f n (base + 1) none)
@@ -55,6 +55,8 @@ none_taken account registry ecbs cpu (began ∷ events) e = cc
 none_taken account registry ecbs cpu (seen firing ∷ events) e = cc
 none_taken account registry ecbs cpu (read n ∷ events) e =
     append-nil (taken_since account registry ecbs cpu events) ∙ none_taken account registry ecbs cpu events e
+none_taken account registry ecbs cpu (truncated name ∷ events) e =
+    append-nil (taken_since account registry ecbs cpu events) ∙ none_taken account registry ecbs cpu events e
 none_taken account registry ecbs cpu (ended end ∷ events) e = cc
 
 pub none_seen : (events : List Event) → phase_after events ≡ Inactive → seen_in events ≡ 0
@@ -62,6 +64,7 @@ none_seen [] e = refl
 none_seen (began ∷ events) e = cc
 none_seen (seen firing ∷ events) e = cc
 none_seen (read n ∷ events) e = none_seen events e
+none_seen (truncated name ∷ events) e = none_seen events e
 none_seen (ended end ∷ events) e = cc
 
 module _ (account : Account) (registry : Registry) (life : List Item) where

@@ -1,15 +1,10 @@
 -- What a consumer has from `go` on, as more happens.
-use Rattle.std.proofs.Common.{◌≡◌, ◌≢◌, ℕ, ℤ, ◌+◌, ◌<◌, ◌≤◌, ◌==◌, ◌&&◌, Bool, true, false, cond, List, [], ◌∷◌, ◌++◌, Option, Some, None, length, get_or, filter, map, refl, sym, ap, ◌∙◌, subst, ⊎_elim, arith}
-use Rattle.std.specs.Global.{Vec}
+use Rattle.std.proofs.Common.{◌≡◌, ℕ, ℤ, ◌+◌, ◌<◌, ◌==◌, ◌&&◌, Bool, true, false, cond, List, [], ◌∷◌, ◌++◌, Option, Some, None, length, get_or, filter, map, refl, sym, ap, ◌∙◌, subst, arith}
 use Rattle.std.specs.List.{slice_get, All, AllByRecursion}
 use Rattle.std.proofs.lemmas.List.Elements.{All-from_recursion, recursion_from_All}
 use Rattle.std.specs.Option.{IfSome, IsSomeAnd, is_some, option_and_then, option_map, option_map_or, option_or}
-use Rattle.std.specs.Vec.{with_item}
-use Rattle.std.proofs.Math.ListN.{length-set}
-use Rattle.std.proofs.lemmas.Bool.{cases_eq, eq-eqb, ne_eqb}
-use Rattle.std.proofs.lemmas.List.{append-nil, length-map}
-use Rattle.dt_buffer.specs.History.{Past, after, new_past, of_end, swap}
-use Rattle.dt_buffer.specs.History as buffer
+use Rattle.std.proofs.lemmas.List.{length-map}
+use Rattle.dt_buffer.specs.History.{Past, new_past, of_end}
 use Rattle.dt_buffer.specs.Shows.{EndLast}
 use Rattle.dt_cred.specs.declared.account.Account.{Account}
 use Rattle.dt_cred.specs.declared.probe.Probe.{Probe}
@@ -20,10 +15,10 @@ use Rattle.dt_ecb.specs.Ecbs.{EcbForm, of_probe}
 use Rattle.dt_ecb.specs.Forms.{form_of_ecb}
 use Rattle.dt_ecb.specs.declared.parts.Ecb.{Ecb}
 use Rattle.dt_consumer.specs.Buffers.{attempts_of, comes_by, errors_in, past_in, reserve_on}
-use Rattle.dt_consumer.specs.Keeps.{AreEcbs, AreTaken, HasTaken, IsTracing, errors_and, followed_by, pasts_and, phase_by, taking_by, where_taken}
+use Rattle.dt_consumer.specs.Keeps.{AreEcbs, AreTaken, HasTaken, IsTracing, errors_and, followed_by, pasts_and, taking_by, where_taken}
 use Rattle.dt_consumer.specs.Life.{SetUp, ecbs_in, end_by, end_size, happens, seen_in, since_then, with_event}
 use Rattle.dt_consumer.specs.Options.{OptionsForm, is_fill}
-use Rattle.dt_consumer.specs.Takings.{Event, began, seen, read, ended, is_end, Taking, MomentForm, exit_of, faults, first_exit, moment_at, own_firing, own_moment, own_process, record_of, taken_at, taken_by, taken_on, taken_since, taking_of, through_exit}
+use Rattle.dt_consumer.specs.Takings.{Event, began, seen, read, truncated, ended, is_end, Taking, MomentForm, exit_of, faults, first_exit, moment_at, own_firing, own_moment, own_process, record_of, taken_at, taken_by, taken_on, taken_since, taking_of, through_exit}
 use Rattle.dt_consumer.specs.declared.limits.TheConstants.{END}
 use Rattle.dt_consumer.specs.declared.phase.End.{End}
 use Rattle.dt_consumer.specs.declared.phase.End.TheVariants.{Exit, History}
@@ -31,13 +26,14 @@ use Rattle.dt_consumer.specs.declared.processor.Processor.{Processor}
 use Rattle.dt_consumer.specs.declared.rows.Row.{Row}
 use Rattle.dt_consumer.specs.declared.tracing.Tracing.{Tracing}
 use Rattle.dt_consumer.proofs.Buffers.{ordinary_one, same_has, of_end-append}
-use Rattle.dt_consumer.proofs.Lists.{filter-map, found_at, map_twice, nothing_past, replaced}
+use Rattle.dt_consumer.proofs.Lists.{filter-map, found_at, map_twice}
 use Rattle.dt_consumer.proofs.Takings.{faults-append, first_through}
 use Rattle.dt_consumer.proofs.Taken.{if_some_map}
 
 -- an event at which ECBs are taken
 abbrev pub IsFiring : Event → Type 0
 IsFiring (read cpu) = ⊥
+IsFiring (truncated name) = ⊥
 IsFiring _ = Unit {0}
 
 module _ (account : Account) (registry : Registry) (s : SetUp) where
@@ -50,11 +46,12 @@ module _ (account : Account) (registry : Registry) (s : SetUp) where
   comes_firing cpu began is = refl
   comes_firing cpu (seen firing) is = refl
   comes_firing cpu (read n) is = absurd is
+  comes_firing cpu (truncated name) is = absurd is
   comes_firing cpu (ended end) is = refl
 
   module _ (event : Event) (m : MomentForm) (fires : IsFiring event)
       (at : moment_at account registry event ≡ Some m) where
-    on_is : (cpu : ℕ) → taken_on account registry (ecbs_in account registry s) cpu event
+    pub on_is : (cpu : ℕ) → taken_on account registry (ecbs_in account registry s) cpu event
         ≡ where_taken m.firing.cpu (taken_at (is_end event) (ecbs_in account registry s) m) cpu
     on_is cpu = ap
         (λ o. option_map_or
@@ -268,94 +265,6 @@ took_at account registry s event m row clauses old new exit fires at ordinary ow
 pub becomes : (account : Account) (registry : Registry) (s s' : SetUp) (t : Tracing) → s' ≡ s
     → IsTracing account registry s t → IsTracing account registry s' t
 becomes account registry s s' t e h = subst (λ x. IsTracing account registry x t) (sym e) h
-
--- a reading takes nothing, and is a swap on its processor alone
-read_errors : (account : Account) (registry : Registry) (s : SetUp) (n cpu : ℕ)
-    → errors_in account registry s cpu ≡ errors_in account registry (with_event s (read n)) cpu
-read_errors account registry s n cpu =
-    ap faults (sym (append-nil (taken_since account registry (ecbs_in account registry s) cpu s.since)))
-
-read_past : (account : Account) (registry : Registry) (s : SetUp) (n cpu : ℕ) (b : Bool) → (n == cpu) ≡ b
-    → followed_by (past_in account registry s cpu) (cond b (swap ∷ []) [])
-    ≡ past_in account registry (with_event s (read n)) cpu
-read_past account registry s n cpu b e =
-    ap (λ x. followed_by (past_in account registry s cpu) (cond x (swap ∷ []) [])) (sym e)
-
-still_with : (b : Bool) (xs : List buffer.Event) → of_end xs ≡ [] → of_end (xs ++ cond b (swap ∷ []) []) ≡ []
-still_with true xs e = of_end-append xs (swap ∷ []) ∙ ap (λ ys. ys ++ []) e
-still_with false xs e = ap of_end (append-nil xs) ∙ e
-
-module _ (account : Account) (registry : Registry) (s : SetUp) (old : Tracing)
-    (t : IsTracing account registry s old) (cpu : ℕ) where
-  abbrev after_read : SetUp
-  after_read = with_event s (read cpu)
-
-  read_there : (j : ℕ) → j ≢ cpu → IfSome (slice_get old.processors.all.items j)
-      (HasTaken (past_in account registry after_read j) (errors_in account registry after_read j))
-  read_there j ne =
-      if_some_map _ _ (slice_get old.processors.all.items j)
-      (λ p h. same_has _ _ _ _ p
-      (ap
-      (λ es. record {
-        policy = s.options.bufpolicy;
-        size = s.options.bufsize;
-        reserve = reserve_on account registry s j;
-        events = es;
-      })
-      (sym (append-nil (past_in account registry s j).events))
-      ∙ read_past account registry s cpu j false (ne_eqb cpu j (λ e. ne (sym e))))
-      (read_errors account registry s cpu j)
-      h)
-      (t.processors j)
-
-  pub tracing_read : (p q : Processor) → cpu < length old.processors.all.items
-      → p ≡ get_or old.processors.all.items cpu p
-      → ((past : Past) (errors : ℕ) → HasTaken past errors p → HasTaken (after past swap) errors q)
-      → (new : Tracing) → new.rows ≡ old.rows → new.processors.all ≡ with_item old.processors.all cpu q
-      → new.history ≡ old.history → new.seen ≡ old.seen → new.ended ≡ old.ended
-      → IsTracing account registry after_read new
-  tracing_read p q inside at swapped new rows all history seen' ended' = record {
-    rows = subst
-        (λ (r : Vec Row). (probe : ℕ) → IfSome (slice_get r.items probe)
-        (λ row. AreEcbs s.clauses (of_probe probe (ecbs_in account registry s)) row.ecbs.items))
-        (sym rows) t.rows;
-    all_rows = ap (λ (r : Vec Row). length r.items) rows ∙ t.all_rows;
-    processors = subst
-        (λ (v : Vec Processor). AreTaken (past_in account registry after_read) (errors_in account registry after_read)
-        v.items)
-        (sym all)
-        (replaced (λ j p. HasTaken (past_in account registry after_read j) (errors_in account registry after_read j) p)
-        old.processors.all.items cpu q
-        (same_has _ _ _ _ q (read_past account registry s cpu cpu true (eq-eqb cpu cpu refl))
-        (read_errors account registry s cpu cpu)
-        (swapped _ _ (found_at (HasTaken (past_in account registry s cpu) (errors_in account registry s cpu))
-        old.processors.all.items cpu p inside at (t.processors cpu))))
-        read_there);
-    all_processors = ap (λ (v : Vec Processor). length v.items) all ∙ length-set old.processors.all.items cpu q
-        ∙ t.all_processors;
-    history = history ∙ t.history;
-    seen = seen' ∙ t.seen;
-    standing = t.standing ∙ sym (ap phase_by ended');
-    end_last = λ e j. still_with (cpu == j) (past_in account registry s j).events (t.end_last (sym ended' ∙ e) j);
-  }
-
-  -- there is no such processor
-  pub tracing_read-past : length old.processors.all.items ≤ cpu → IsTracing account registry after_read old
-  tracing_read-past past = record {
-    rows = t.rows;
-    all_rows = t.all_rows;
-    processors = λ j. ⊎_elim
-        (λ e. nothing_past
-        (HasTaken (past_in account registry after_read j) (errors_in account registry after_read j))
-        old.processors.all.items j (omega arith))
-        (read_there j)
-        (cases_eq j cpu);
-    all_processors = t.all_processors;
-    history = t.history;
-    seen = t.seen;
-    standing = t.standing;
-    end_last = λ e j. still_with (cpu == j) (past_in account registry s j).events (t.end_last e j);
-  }
 
 reserved : (fill first : Bool) (size reserve : ℕ) → reserve ≡ cond (fill && true) size 0
     → cond first reserve 0 ≡ cond (fill && first) size 0

@@ -6,7 +6,7 @@ use Rattle.dt_lang.proofs.SomeDescription.{some_description}
 use Rattle.dt_lang.specs.Reads.{Reading, Reads}
 use Rattle.dt_lang.proofs.SomeReading.{some_reading}
 use Rattle.dt_consumer.specs.declared.command.Command.{Command}
-use Rattle.dt_consumer.specs.declared.command.Command.TheVariants.{Option as SetOption, Enable, Go, Stop, Snap, Status, List as ListOf, Describe}
+use Rattle.dt_consumer.specs.declared.command.Command.TheVariants.{Option as SetOption, Enable, Go, Stop, Snap, Agg, Trunc, Status, List as ListOf, Describe}
 use Rattle.dt_consumer.specs.declared.refusal.Refusal.{Refusal}
 use Rattle.dt_consumer.specs.Options.{Setting, setting_of}
 
@@ -33,6 +33,8 @@ pub data Ask : Type 0 where
   go : Ask
   stop : Ask
   snap : (cpu : ℕ) → Ask
+  agg : (name : List ℕ) → Ask
+  trunc : (name : List ℕ) → Ask
   status : Ask
   list : Option DescForm → Ask
   describe : (epid : ℕ) → Ask
@@ -44,6 +46,8 @@ ask_of (Enable text) = enable (reading_of (string_bytes text))
 ask_of Go = go
 ask_of Stop = stop
 ask_of (Snap cpu) = snap cpu
+ask_of (Agg name) = agg (string_bytes name)
+ask_of (Trunc name) = trunc (string_bytes name)
 ask_of Status = status
 ask_of (ListOf probe) = list (description_of (string_bytes probe))
 ask_of (Describe epid) = describe epid

@@ -46,11 +46,6 @@ module _ (account : Account) (registry : Registry) where
   errors_in s cpu = faults (taken_since account registry (ecbs_in account registry s) cpu s.since)
 
 module _ (account : Account) (registry : Registry) (life : List Item) (cpu : ℕ) where
-  -- the takings of a life on a processor, oldest first
-  abbrev pub takings : List Taking
-  takings = taken_since account registry (ecbs_in account registry (set_up account registry life)) cpu
-      (set_up account registry life).since
-
   -- what came to the buffer of a processor in a life, and the errors there
   abbrev pub past : Past
   past = past_in account registry (set_up account registry life) cpu

@@ -1,5 +1,5 @@
 -- What a draft says of the change that a line will make.
-use Rattle.std.specs.Prelude.{◌≡◌, ◌<◌, true, false, List, [], ◌∷◌, ◌++◌, Result, Ok, map, if◌then◌else◌}
+use Rattle.std.specs.Prelude.{◌≡◌, ◌<◌, ℕ, true, false, List, Some, [], ◌∷◌, ◌++◌, Result, Ok, map, if◌then◌else◌}
 use Rattle.dt_cred.specs.declared.account.Account.{Account}
 use Rattle.dt_machine.specs.Registry.{Registry}
 use Rattle.dt_lang.specs.Program.{form_of_clause}
@@ -9,13 +9,14 @@ use Rattle.dt_ecb.specs.Enable.{is_enabled}
 use Rattle.dt_ecb.specs.Forms.{shapes_of}
 use Rattle.dt_ecb.specs.Shapes.{uses_of}
 use Rattle.dt_consumer.specs.Answer.{answer_of}
-use Rattle.dt_consumer.specs.Ask.{Ask, enable, go, stop, snap}
+use Rattle.dt_consumer.specs.Aggregations.{aggregation_of}
+use Rattle.dt_consumer.specs.Ask.{Ask, enable, go, stop, snap, trunc}
 use Rattle.dt_consumer.specs.Keeps.{AreEcbs, IsTracing, form_of_options}
-use Rattle.dt_consumer.specs.Life.{Item, asked, SetUp, is_over, set_up, since_then, happens, is_readable, next_epid, phase, has_room, with_options}
+use Rattle.dt_consumer.specs.Life.{Item, asked, SetUp, is_over, set_up, since_then, happens, is_readable, next_epid, phase, has_room, with_options, shapes_in, is_inactive}
 use Rattle.dt_consumer.specs.Reply.{Replies}
 use Rattle.dt_consumer.specs.Takings.{began}
 use Rattle.dt_consumer.specs.declared.draft.Change.{Change}
-use Rattle.dt_consumer.specs.declared.draft.Change.TheVariants.{Nothing, Set, Enable, Go, Stop, Snap, Refuse}
+use Rattle.dt_consumer.specs.declared.draft.Change.TheVariants.{Nothing, Set, Enable, Go, Stop, Snap, Trunc, Refuse}
 use Rattle.dt_consumer.specs.declared.draft.Draft.{Draft}
 use Rattle.dt_consumer.specs.declared.phase.Phase.TheVariants.{Inactive, Active}
 use Rattle.dt_consumer.specs.declared.refusal.Refusal.{Refusal}
@@ -48,15 +49,18 @@ module _ (account : Account) (registry : Registry) (life : List Item) where
       let forms = map form_of_clause clauses.items in
       let epid = next_epid account registry now in
       (is_over life ≡ false) × (phase account registry life ≡ Inactive) × (line ≡ Ok (enable (program forms)))
-      × (is_enabled account registry now.shapes epid forms ≡ true)
+      × (is_enabled account registry (shapes_in now) epid forms ≡ true)
       × AreEcbs (now.clauses ++ forms) (added account registry epid forms) new.items
-      × (shapes_of shapes ≡ now.shapes ++ uses_of forms)
+      × (shapes_of shapes ≡ shapes_in now ++ uses_of forms)
   Drafted line (Go tracing) =
       IsAcceptedGo line × IsTracing account registry (happens account registry (since_then now []) began) tracing
   Drafted line Stop = (is_over life ≡ false) × (phase account registry life ≡ Active) × (line ≡ Ok stop)
   Drafted line (Snap cpu) =
       (is_over life ≡ false) × (is_readable now (phase account registry life) ≡ true) × (line ≡ Ok (snap cpu))
       × (cpu < registry.cpus)
+  Drafted line (Trunc aggregation) = (name : List ℕ)
+      × (is_over life ≡ false) × (is_inactive (phase account registry life) ≡ false) × (line ≡ Ok (trunc name))
+      × (aggregation_of (shapes_in now) name ≡ Some aggregation)
 
   -- A draft of a line: its reply is the definition's, and its change is the one that the line makes.
   pub record IsDraftOf (line : Result Ask Refusal) (draft : Draft) : Type 0 where

@@ -10,9 +10,11 @@ use Rattle.dt_ecb.specs.Ecbs.{EcbForm, of_probe}
 use Rattle.dt_ecb.specs.Forms.{form_of_ecb, shapes_of}
 use Rattle.dt_ecb.specs.declared.parts.Ecb.{Ecb}
 use Rattle.dt_consumer.specs.Buffers.{attempts_of, errors_in, past_in}
-use Rattle.dt_consumer.specs.Life.{SetUp, ecbs_in, phase_of, seen_in}
+use Rattle.dt_consumer.specs.Life.{SetUp, ecbs_in, phase_of, seen_in, shapes_in}
 use Rattle.dt_consumer.specs.Options.{OptionsForm}
+use Rattle.dt_consumer.specs.Stores.{given_in}
 use Rattle.dt_consumer.specs.Takings.{Taking, MomentForm, faults, taking_of}
+use Rattle.dt_consumer.specs.Uses.{AreGiven, AreUses}
 use Rattle.dt_consumer.specs.declared.consumer.Consumer.{Consumer}
 use Rattle.dt_consumer.specs.declared.moment.Moment.{Moment}
 use Rattle.dt_consumer.specs.declared.options.Options.{Options}
@@ -28,7 +30,12 @@ form_of_moment moment = record { probe = moment.probe.now; process = moment.proc
 
 -- options without their invariants
 abbrev pub form_of_options : Options → OptionsForm
-form_of_options o = record { bufsize = o.bufsize; bufpolicy = o.bufpolicy; histsize = o.histsize }
+form_of_options o = record {
+  bufsize = o.bufsize;
+  bufpolicy = o.bufpolicy;
+  aggsize = o.aggsize;
+  histsize = o.histsize;
+}
 
 -- The ECBs are these, each kept by the place of its clause.
 pub record AreEcbs (clauses : List ClauseForm) (wanted : List EcbForm) (kept : List Ecb) : Type 0 where
@@ -85,6 +92,8 @@ module _ (account : Account) (registry : Registry) (s : SetUp) where
     pub all_rows : length tracing.rows.items ≡ length registry.probes + 1
     pub processors : AreTaken (past_in account registry s) (errors_in account registry s) tracing.processors.all.items
     pub all_processors : length tracing.processors.all.items ≡ registry.cpus
+    pub uses : AreUses (shapes_in s) s.clauses tracing.uses.items
+    pub stores : AreGiven (given_in account registry s) tracing.processors.stores.items
     pub history : tracing.history ≡ s.options.histsize
     pub seen : tracing.seen ≡ seen_in s.since
     pub standing : phase_of s ≡ phase_by tracing.ended
@@ -96,5 +105,5 @@ module _ (account : Account) (registry : Registry) (s : SetUp) where
     pub options : form_of_options consumer.options ≡ s.options
     pub clauses : map form_of_clause consumer.programs.clauses.items ≡ s.clauses
     pub ecbs : AreEcbs s.clauses (ecbs_in account registry s) consumer.programs.ecbs.items
-    pub shapes : shapes_of consumer.programs.shapes ≡ s.shapes
+    pub shapes : shapes_of consumer.programs.shapes ≡ shapes_in s
     pub tracing : MatchOption consumer.tracing (phase_of s ≡ Inactive) IsTracing

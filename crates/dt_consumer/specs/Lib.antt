@@ -4,9 +4,12 @@ pub mod Ask
 pub mod Refusal
 pub mod Answer
 pub mod Takings
+pub mod Aggregations
 pub mod Life
 pub mod Buffers
+pub mod Stores
 pub mod Reply
+pub mod Uses
 pub mod Counts
 pub mod Keeps
 pub mod StandsFor

@@ -1,5 +1,5 @@
 -- A consumer's life, and the set-up that its own lines and the firings that it saw have made of it.
-use Rattle.std.specs.Prelude.{ℕ, ◌+◌, ◌==◌, ◌&&◌, ◌||◌, Bool, true, false, not, List, [], ◌∷◌, ◌++◌, Option, Some, None, Result, Ok, length, map, sum, nat_lt, nat_le, filter, if◌then◌else◌}
+use Rattle.std.specs.Prelude.{ℕ, ◌+◌, ◌==◌, ◌&&◌, ◌||◌, Bool, true, false, not, List, [], ◌∷◌, ◌++◌, Option, Some, None, Result, Ok, is_none, length, map, sum, nat_lt, nat_le, filter, if◌then◌else◌}
 use Rattle.std.specs.Option.{option_map, option_map_or, option_or}
 use Rattle.dt_cred.specs.declared.account.Account.{Account}
 use Rattle.dt_machine.specs.Registry.{Registry}
@@ -10,9 +10,10 @@ use Rattle.dt_record.specs.Layout.{layout_of, size_of}
 use Rattle.dt_ecb.specs.Ecbs.{EcbForm, ecbs_of, of_probe}
 use Rattle.dt_ecb.specs.Enable.{is_enabled}
 use Rattle.dt_ecb.specs.Shapes.{ShapeForm, uses_of}
-use Rattle.dt_consumer.specs.Ask.{Ask, option, enable, go, stop, snap}
+use Rattle.dt_consumer.specs.Aggregations.{aggregation_of}
+use Rattle.dt_consumer.specs.Ask.{Ask, option, enable, go, stop, snap, trunc}
 use Rattle.dt_consumer.specs.Options.{OptionsForm, default_options, with_setting, is_fill, is_ring}
-use Rattle.dt_consumer.specs.Takings.{Event, began, seen, read, ended, first_exit, taken_by}
+use Rattle.dt_consumer.specs.Takings.{Event, began, seen, read, truncated, ended, first_exit, taken_by}
 use Rattle.dt_consumer.specs.declared.limits.TheConstants.{LINES_MAX, END}
 use Rattle.dt_consumer.specs.declared.phase.End.{End}
 use Rattle.dt_consumer.specs.declared.phase.End.TheVariants.{Stop, Exit, History}
@@ -48,38 +49,31 @@ abbrev pub is_active : Phase → Bool
 is_active Active = true
 is_active _ = false
 
--- What a life has made of a consumer: its options; the clauses of its accepted programs, in order of acceptance, and
--- the aggregations that they use; and what happened from its accepted `go` on, the newest first.
+-- What a life has made of a consumer: its options; the clauses of its accepted programs, in order of acceptance; and
+-- what happened from its accepted `go` on, the newest first.
 pub record SetUp : Type 0 where
   pub options : OptionsForm
   pub clauses : List ClauseForm
-  pub shapes : List ShapeForm
   pub since : List Event
 
 abbrev pub nothing_yet : SetUp
-nothing_yet = record { options = default_options; clauses = []; shapes = []; since = [] }
+nothing_yet = record { options = default_options; clauses = []; since = [] }
 
 abbrev pub with_options : SetUp → OptionsForm → SetUp
-with_options s options = record {
-  options = options;
-  clauses = s.clauses;
-  shapes = s.shapes;
-  since = s.since;
-}
+with_options s options = record { options = options; clauses = s.clauses; since = s.since }
 
 abbrev pub with_program : SetUp → List ClauseForm → SetUp
-with_program s clauses = record {
-  options = s.options;
-  clauses = s.clauses ++ clauses;
-  shapes = s.shapes ++ uses_of clauses;
-  since = s.since;
-}
+with_program s clauses = record { options = s.options; clauses = s.clauses ++ clauses; since = s.since }
 
 abbrev pub since_then : SetUp → List Event → SetUp
-since_then s events = record { options = s.options; clauses = s.clauses; shapes = s.shapes; since = events }
+since_then s events = record { options = s.options; clauses = s.clauses; since = events }
 
 abbrev pub with_event : SetUp → Event → SetUp
 with_event s event = since_then s (event ∷ s.since)
+
+-- all uses of aggregations by the accepted programs, in order
+abbrev pub shapes_in : SetUp → List ShapeForm
+shapes_in s = uses_of s.clauses
 
 -- Tracing begins as BEGIN fires, and ends, for good, as END fires.
 abbrev pub phase_after : List Event → Phase
@@ -87,6 +81,7 @@ phase_after [] = Inactive
 phase_after (began ∷ events) = Active
 phase_after (seen firing ∷ events) = Active
 phase_after (read cpu ∷ events) = phase_after events
+phase_after (truncated name ∷ events) = phase_after events
 phase_after (ended end ∷ events) = Stopped end
 
 abbrev pub phase_of : SetUp → Phase
@@ -98,6 +93,7 @@ seen_in [] = 0
 seen_in (seen firing ∷ events) = seen_in events + 1
 seen_in (began ∷ events) = seen_in events
 seen_in (read cpu ∷ events) = seen_in events
+seen_in (truncated name ∷ events) = seen_in events
 seen_in (ended end ∷ events) = seen_in events
 
 -- A processor's buffer can be read from `go` on, under ring only after tracing ended.
@@ -116,7 +112,7 @@ module _ (account : Account) (registry : Registry) where
 
   -- A program is accepted before tracing begins, where it is enabled after those accepted before it.
   abbrev pub accepts : SetUp → List ClauseForm → Bool
-  accepts s clauses = is_inactive (phase_of s) && is_enabled account registry s.shapes (next_epid s) clauses
+  accepts s clauses = is_inactive (phase_of s) && is_enabled account registry (shapes_in s) (next_epid s) clauses
 
   -- the bytes of one record of each of END's ECBs
   abbrev pub end_size : SetUp → ℕ
@@ -138,7 +134,7 @@ module _ (account : Account) (registry : Registry) where
       (λ end. with_event (with_event s event) (ended end)) (end_by (with_event s event) event) (with_event s event)
 
   -- Only what has an effect changes the set-up: options and programs before tracing begins, the first `go`, and then
-  -- readings that are answered, firings, and one `stop`.
+  -- readings that are answered, truncations of aggregations, firings, and one `stop`.
   abbrev pub after_item : SetUp → Item → SetUp
   after_item s (asked (Ok (option (Some setting)))) =
       if is_inactive (phase_of s) then with_options s (with_setting s.options setting) else s
@@ -148,6 +144,9 @@ module _ (account : Account) (registry : Registry) where
   after_item s (asked (Ok stop)) = if is_active (phase_of s) then with_event s (ended Stop) else s
   after_item s (asked (Ok (snap cpu))) =
       if nat_lt cpu registry.cpus && is_readable s (phase_of s) then with_event s (read cpu) else s
+  after_item s (asked (Ok (trunc name))) =
+      if is_inactive (phase_of s) || is_none (aggregation_of (shapes_in s) name) then s else
+      with_event s (truncated name)
   after_item s (fired firing) = if is_active (phase_of s) then happens s (seen firing) else s
   after_item s _ = s
 

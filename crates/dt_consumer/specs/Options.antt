@@ -3,38 +3,47 @@ use Rattle.std.specs.Prelude.{ℕ, ◌&&◌, Bool, false, true, List, Option, So
 use Rattle.std.specs.Option.{option_map}
 use Rattle.std.specs.Str.{bytes_eq}
 use Rattle.std.specs.String.{string_bytes}
+use Rattle.dt_aggstore.specs.declared.limits.TheConstants.{AGGSIZE_MAX}
 use Rattle.dt_buffer.specs.declared.limits.TheConstants.{SIZE_MAX}
 use Rattle.dt_buffer.specs.declared.policy.Policy.{Policy}
 use Rattle.dt_buffer.specs.declared.policy.Policy.TheVariants.{Switch, Fill, Ring}
 use Rattle.dt_consumer.specs.declared.command.OptionValue.{OptionValue}
 use Rattle.dt_consumer.specs.declared.command.OptionValue.TheVariants.{Number, Text, Other}
-use Rattle.dt_consumer.specs.declared.limits.TheConstants.{BUFFER_SIZE, HISTORY, HISTORY_MAX}
+use Rattle.dt_consumer.specs.declared.limits.TheConstants.{AGGSIZE, AGGSIZE_MIN, BUFFER_SIZE, HISTORY, HISTORY_MAX}
 
--- The options: how many bytes a principal buffer has, by which policy it keeps records, and after how many seen
--- firings tracing ends.
+-- The options: how many bytes a principal buffer has, by which policy it keeps records, how many bytes the entries of
+-- aggregations may cost on each processor, and after how many seen firings tracing ends.
 pub record OptionsForm : Type 0 where
   pub bufsize : ℕ
   pub bufpolicy : Policy
+  pub aggsize : ℕ
   pub histsize : ℕ
 
 -- as they are where no line sets them
 abbrev pub default_options : OptionsForm
-default_options = record { bufsize = BUFFER_SIZE; bufpolicy = Switch; histsize = HISTORY }
+default_options = record { bufsize = BUFFER_SIZE; bufpolicy = Switch; aggsize = AGGSIZE; histsize = HISTORY }
 
 -- one option with its new value
 pub data Setting : Type 0 where
   size : ℕ → Setting
   policy : Policy → Setting
+  entries : ℕ → Setting
   history : ℕ → Setting
 
 abbrev pub with_setting : OptionsForm → Setting → OptionsForm
-with_setting o (size n) = record { bufsize = n; bufpolicy = o.bufpolicy; histsize = o.histsize }
-with_setting o (policy p) = record { bufsize = o.bufsize; bufpolicy = p; histsize = o.histsize }
-with_setting o (history n) = record { bufsize = o.bufsize; bufpolicy = o.bufpolicy; histsize = n }
+with_setting o (size n) = record { bufsize = n; bufpolicy = o.bufpolicy; aggsize = o.aggsize; histsize = o.histsize }
+with_setting o (policy p) = record { bufsize = o.bufsize; bufpolicy = p; aggsize = o.aggsize; histsize = o.histsize }
+with_setting o (entries n) = record {
+  bufsize = o.bufsize;
+  bufpolicy = o.bufpolicy;
+  aggsize = n;
+  histsize = o.histsize;
+}
+with_setting o (history n) = record { bufsize = o.bufsize; bufpolicy = o.bufpolicy; aggsize = o.aggsize; histsize = n }
 
--- from 1 to the most
-abbrev pub in_range : ℕ → ℕ → Bool
-in_range most n = nat_le 1 n && nat_le n most
+-- from the least to the most
+abbrev pub in_range : ℕ → ℕ → ℕ → Bool
+in_range least most n = nat_le least n && nat_le n most
 
 -- a policy by its word
 abbrev pub policy_of : List ℕ → Option Policy
@@ -45,8 +54,10 @@ policy_of word =
 
 abbrev pub number_set : List ℕ → ℕ → Option Setting
 number_set name n =
-    if bytes_eq name (codes "bufsize") then (if in_range SIZE_MAX n then Some (size n) else None) else
-    (if bytes_eq name (codes "histsize") then (if in_range HISTORY_MAX n then Some (history n) else None) else None)
+    if bytes_eq name (codes "bufsize") then (if in_range 1 SIZE_MAX n then Some (size n) else None) else
+    (if bytes_eq name (codes "aggsize") then
+    (if in_range AGGSIZE_MIN AGGSIZE_MAX n then Some (entries n) else None) else
+    (if bytes_eq name (codes "histsize") then (if in_range 1 HISTORY_MAX n then Some (history n) else None) else None))
 
 -- what a name and a value set: nothing where there is no such option, or the value isn't one of it
 abbrev pub setting_of : List ℕ → OptionValue → Option Setting

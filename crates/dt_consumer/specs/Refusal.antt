@@ -3,7 +3,7 @@ use Rattle.std.specs.Prelude.{ℕ, List, Option, Some, None, codes}
 use Rattle.dt_lang.specs.declared.fault.LangFault.{LangFault}
 use Rattle.dt_lang.specs.declared.fault.LangFault.TheVariants as fault
 use Rattle.dt_consumer.specs.declared.refusal.Refusal.{Refusal}
-use Rattle.dt_consumer.specs.declared.refusal.Refusal.TheVariants.{Json, Request, LineLong, Program, NoMatch, Privilege, Destructive, AggClash, Limit, Busy, NoCpu, NoEpid, Quota, Memory}
+use Rattle.dt_consumer.specs.declared.refusal.Refusal.TheVariants.{Json, Request, LineLong, Program, NoMatch, Privilege, Destructive, AggClash, Limit, Busy, NoCpu, NoAgg, NoEpid, Quota, Memory}
 use Rattle.dt_consumer.specs.declared.refusal.Refusal.TheVariants as refusal
 
 -- What a line is refused for that is no command: it is no JSON, no request, or too long. Every other refusal is one
@@ -33,6 +33,7 @@ refusal_number Limit = 9
 refusal_number Busy = 10
 refusal_number refusal.Option = 11
 refusal_number NoCpu = 12
+refusal_number NoAgg = 13
 refusal_number NoEpid = 14
 refusal_number Quota = 15
 refusal_number Memory = 16
@@ -50,6 +51,7 @@ refusal_name Limit = codes "Limit"
 refusal_name Busy = codes "Busy"
 refusal_name refusal.Option = codes "Option"
 refusal_name NoCpu = codes "NoCpu"
+refusal_name NoAgg = codes "NoAgg"
 refusal_name NoEpid = codes "NoEpid"
 refusal_name Quota = codes "Quota"
 refusal_name Memory = codes "Memory"

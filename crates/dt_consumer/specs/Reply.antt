@@ -1,7 +1,9 @@
 -- What a consumer answers to a line, given its life before it.
 use Rattle.std.specs.Prelude.{◌≡◌, ℕ, ◌==◌, Bool, not, List, Option, Some, None, Result, Ok, Err, length, map, find, nat_le, option_and_then, MatchOption, MatchBool, if◌then◌else◌}
+use Rattle.dt_aggstore.specs.TableOf.{table_of}
 use Rattle.std.specs.List.{range_with_len}
 use Rattle.std.specs.Option.{option_map, option_map_or}
+use Rattle.dt_aggstore.specs.declared.key.Aggregation.{Aggregation}
 use Rattle.dt_buffer.specs.Shows.{Shows}
 use Rattle.dt_cred.specs.declared.account.Account.{Account}
 use Rattle.dt_cred.specs.declared.probe.Probe.{Probe as AProbe}
@@ -15,12 +17,14 @@ use Rattle.dt_ecb.specs.Enable as enabling
 use Rattle.dt_ecb.specs.Matching as matching
 use Rattle.dt_ecb.specs.declared.fault.RestrictedAction.TheVariants.{Stack}
 use Rattle.dt_consumer.specs.Answer as answers
-use Rattle.dt_consumer.specs.Answer.{Answer, done, enabled, snapped, listed, described, refused}
-use Rattle.dt_consumer.specs.Ask.{Ask, option, enable, go, stop, snap, status, list, describe}
+use Rattle.dt_consumer.specs.Answer.{Answer, done, enabled, snapped, aggregated, listed, described, refused}
+use Rattle.dt_consumer.specs.Aggregations.{aggregation_of}
+use Rattle.dt_consumer.specs.Ask.{Ask, option, enable, go, stop, snap, agg, trunc, status, list, describe}
 use Rattle.dt_consumer.specs.Buffers.{errors, past}
-use Rattle.dt_consumer.specs.Life.{Item, SetUp, seen_in, is_over, set_up, next_epid, phase, is_active, is_inactive, is_readable, has_room, ecbs}
+use Rattle.dt_consumer.specs.Life.{Item, SetUp, seen_in, is_over, set_up, next_epid, phase, is_active, is_inactive, is_readable, has_room, ecbs, shapes_in}
+use Rattle.dt_consumer.specs.Stores.{aggdrops_in, stores_in}
 use Rattle.dt_consumer.specs.declared.refusal.Refusal.{Refusal}
-use Rattle.dt_consumer.specs.declared.refusal.Refusal.TheVariants.{Program, NoMatch, Privilege, Destructive, AggClash, Limit, Busy, NoCpu, NoEpid, Quota}
+use Rattle.dt_consumer.specs.declared.refusal.Refusal.TheVariants.{Program, NoMatch, Privilege, Destructive, AggClash, Limit, Busy, NoCpu, NoAgg, NoEpid, Quota}
 use Rattle.dt_consumer.specs.declared.refusal.Refusal.TheVariants as refusal
 
 -- for what a program is refused, if it is
@@ -47,6 +51,14 @@ module _ (account : Account) (registry : Registry) (life : List Item) where
   abbrev pub all_errors : List ℕ
   all_errors = map (errors account registry life) (range_with_len 0 registry.cpus)
 
+  -- the contributions that each processor's store doesn't keep
+  abbrev pub all_aggdrops : List ℕ
+  all_aggdrops = map (aggdrops_in account registry now) (range_with_len 0 registry.cpus)
+
+  -- the aggregation of a name, where an accepted program uses one
+  abbrev pub known : List ℕ → Option Aggregation
+  known name = aggregation_of (shapes_in now) name
+
   -- the ECB of a number, with its probe
   abbrev pub ecb_of : ℕ → Option (AProbe × EcbForm)
   ecb_of epid = option_and_then
@@ -59,7 +71,7 @@ module _ (account : Account) (registry : Registry) (life : List Item) where
       verdict ≡ (if is_asked_late then Some Busy else option_map_or (λ _. None) setting (Some refusal.Option))
   IsVerdictOnCommand (enable (program clauses)) verdict =
       MatchBool is_asked_late (verdict ≡ Some Busy)
-      ((v : Verdict) × IsVerdict account registry now.shapes (next_epid account registry now) clauses v
+      ((v : Verdict) × IsVerdict account registry (shapes_in now) (next_epid account registry now) clauses v
       × (verdict ≡ refusal_of v))
   IsVerdictOnCommand (enable (fault at why)) verdict =
       verdict ≡ (if is_asked_late then Some Busy else Some (Program at why))
@@ -71,6 +83,8 @@ module _ (account : Account) (registry : Registry) (life : List Item) where
   IsVerdictOnCommand (snap cpu) verdict =
       verdict ≡ (if nat_le registry.cpus cpu then Some NoCpu else
       (if is_readable now (phase account registry life) then None else Some Busy))
+  IsVerdictOnCommand (agg name) verdict = verdict ≡ option_map_or (λ _. None) (known name) (Some NoAgg)
+  IsVerdictOnCommand (trunc name) verdict = verdict ≡ option_map_or (λ _. None) (known name) (Some NoAgg)
   IsVerdictOnCommand status verdict = verdict ≡ None
   IsVerdictOnCommand (list None) verdict = verdict ≡ Some (Program 0 Probe)
   IsVerdictOnCommand (list (Some desc)) verdict = verdict ≡ None
@@ -89,7 +103,11 @@ module _ (account : Account) (registry : Registry) (life : List Item) where
   Accepted (snap cpu) answer =
       (bytes : List ℕ) × (drops : ℕ) × (filled : Bool) × Shows (past account registry life cpu) bytes drops filled
       × (answer ≡ snapped cpu bytes drops filled)
-  Accepted status answer = answer ≡ answers.status (phase account registry life) seen_firings all_errors
+  Accepted (agg name) answer = MatchOption (known name) ⊥
+      (λ a. answer ≡ aggregated name a.function (table_of (stores_in account registry now) a))
+  Accepted (trunc name) answer = answer ≡ done
+  Accepted status answer =
+      answer ≡ answers.status (phase account registry life) seen_firings all_errors all_aggdrops
   Accepted (list None) answer = ⊥
   Accepted (list (Some desc)) answer = answer ≡ listed (matching.listed account registry desc)
   Accepted (describe epid) answer = MatchOption (ecb_of epid) ⊥

@@ -15,12 +15,13 @@ use Rattle.dt_record.specs.Taking.{TakenForm, taking}
 use Rattle.dt_consumer.specs.declared.limits.TheConstants.{BEGIN, END}
 use Rattle.dt_consumer.specs.declared.phase.End.{End}
 
--- what happens from the accepted `go` on: tracing begins, a firing is seen, the buffer of a processor is read, and
--- tracing ends
+-- what happens from the accepted `go` on: tracing begins, a firing is seen, the buffer of a processor is read, the
+-- aggregation of a name is truncated, and tracing ends
 pub data Event : Type 0 where
   began : Event
   seen : Firing → Event
   read : (cpu : ℕ) → Event
+  truncated : (name : List ℕ) → Event
   ended : End → Event
 
 abbrev pub is_end : Event → Bool
@@ -123,6 +124,7 @@ module _ (account : Account) (registry : Registry) where
   moment_at began = own_moment account registry BEGIN
   moment_at (seen firing) = moment_of registry firing
   moment_at (read cpu) = None
+  moment_at (truncated name) = None
   moment_at (ended end) = own_moment account registry END
 
   module _ (ecbs : List EcbForm) where

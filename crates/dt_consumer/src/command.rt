@@ -2,7 +2,8 @@
 /// What a consumer asks for by one line.
 #[derive(Debug, Drop)]
 pub enum Command {
-    /// Set an option, before tracing begins: `bufsize` and `histsize` to a number, `bufpolicy` to a policy's word.
+    /// Set an option, before tracing begins: `bufsize`, `aggsize` and `histsize` to a number, `bufpolicy` to a policy's
+    /// word.
     Option { name: String, value: OptionValue },
     /// Enable the probes that a program's clauses describe.
     Enable { text: String },
@@ -12,6 +13,10 @@ pub enum Command {
     Stop,
     /// Read the principal buffer of a processor.
     Snap { cpu: u64 },
+    /// Read the table of an aggregation, by its name without the `@`.
+    Agg { name: String },
+    /// Forget all that was given to an aggregation so far.
+    Trunc { name: String },
     /// Tell the phase and the counts.
     Status,
     /// List the probes that a description asks for.

@@ -5,8 +5,9 @@ use crate::phase::Phase;
 use crate::programs::Programs;
 use crate::tracing::Tracing;
 use crate::visibility::shown;
+use dt_aggstore::Aggregation;
 use dt_cred::Account;
-use dt_ecb::{Ecb, Shapes, ecbs_go_on};
+use dt_ecb::{Ecb, Shapes, ecbs_go_on, uses_of_both};
 use dt_lang::Clause;
 use dt_machine::{Firing, Machine};
 use std::alloc::{AllocError, Global};
@@ -106,6 +107,7 @@ impl Consumer {
             Change::Go { tracing } => self.begin(tracing),
             Change::Stop => self.stop(machine),
             Change::Snap { cpu } => self.swap(cpu),
+            Change::Trunc { aggregation } => self.trunc(aggregation),
         }
     }
 
@@ -136,6 +138,7 @@ impl Consumer {
             → StandsFor account registry self.new (after_line life line) }
     {
         ecbs_go_on();
+        uses_of_both();
         self.programs.extend(clauses, ecbs, shapes);
         self.lines = self.lines.saturating_add(1);
     }
@@ -171,6 +174,17 @@ impl Consumer {
     {
         if let Some(tracing) = &mut self.tracing {
             tracing.swap(cpu);
+        }
+        self.lines = self.lines.saturating_add(1);
+    }
+    /// Goes on after an aggregation was truncated.
+    fn trunc(&mut self, aggregation: Aggregation)
+        ensures { (account : Account) (registry : Registry) (life : List Item) (line : Result Ask Refusal)
+            → StandsFor account registry self.old life → Drafted account registry life line (Change.Trunc aggregation)
+            → StandsFor account registry self.new (after_line life line) }
+    {
+        if let Some(tracing) = &mut self.tracing {
+            tracing.trunc(aggregation);
         }
         self.lines = self.lines.saturating_add(1);
     }

@@ -5,6 +5,7 @@ use crate::options::Options;
 use crate::refusal::Refusal;
 use crate::reply::Reply;
 use crate::tracing::Tracing;
+use dt_aggstore::Aggregation;
 use dt_ecb::{Ecb, Shapes};
 use dt_lang::Clause;
 
@@ -32,6 +33,10 @@ pub(crate) enum Change {
     /// The buffer of a processor was read.
     Snap {
         cpu: usize,
+    },
+    /// An aggregation is truncated.
+    Trunc {
+        aggregation: Aggregation,
     },
     /// The line isn't even counted.
     Refuse,

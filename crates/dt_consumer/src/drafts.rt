@@ -1,5 +1,8 @@
 //! The drafts of a consumer's lines.
-ghost use Rattle.std.specs.Prelude.{◌≡◌, ◌≤◌, ◌+◌, ◌<◌, ℕ, List, Option, Result, Ok, Err, Some, None, true, false, length, map, All, IsTrue, IfOk, IfErr, IfSome, MatchOption, is_some, option_and_then, slice_get};
+ghost use Rattle.std.specs.Prelude.{◌≡◌, ◌≤◌, ◌+◌, ◌<◌, ℕ, List, Option, Result, Ok, Err, Some, None, true, false, length, map, All, IsTrue, IfOk, IfErr, IfSome, MatchOption, is_some, option_and_then, slice_get, if◌then◌else◌};
+ghost use Rattle.std.specs.List.{AllZip};
+ghost use Rattle.dt_aggstore.specs.IsAt.{IsAt};
+ghost use Rattle.dt_aggstore.specs.declared.limits.TheConstants.{STORES_MAX};
 ghost use Rattle.dt_cred.specs.declared.account.Account.{Account};
 ghost use Rattle.dt_machine.specs.Registry.{Registry};
 ghost use Rattle.dt_lang.specs.Description.{DescForm, ReadsDescription};
@@ -11,7 +14,7 @@ ghost use Rattle.dt_ecb.specs.Enable.{IsVerdict};
 ghost use Rattle.dt_ecb.specs.Forms.{form_of_ecb, shapes_of, verdict_of};
 ghost use Rattle.dt_ecb.specs.declared.limits.TheConstants.{ECBS_MAX};
 ghost use Rattle.dt_consumer.specs.Answer.{answer_of, described};
-ghost use Rattle.dt_consumer.specs.Ask.{Ask, ask_of, line_asks, reading_of, description_of, enable, go, snap, status, list, describe, option, stop};
+ghost use Rattle.dt_consumer.specs.Ask.{Ask, ask_of, line_asks, reading_of, description_of, agg, enable, go, snap, status, list, describe, option, stop, trunc};
 ghost use Rattle.dt_consumer.specs.Buffers.{reserve_on};
 ghost use Rattle.dt_consumer.specs.Options.{setting_of};
 ghost use Rattle.dt_consumer.specs.Keeps.{Keeps};
@@ -19,10 +22,10 @@ ghost use Rattle.dt_consumer.specs.declared.phase.Phase.TheVariants.{Inactive};
 ghost use Rattle.std.specs.String.{string_bytes};
 ghost use Rattle.std.specs.Option.{option_copied};
 ghost use Rattle.dt_consumer.specs.Draft.{IsDraftOf};
-ghost use Rattle.dt_consumer.specs.Life as spec;
-ghost use Rattle.dt_consumer.specs.Life.{Item, SetUp, set_up, phase, phase_of, next_epid, has_room};
+ghost use Rattle.dt_consumer.specs.Life.{Item, SetUp, set_up, phase, phase_of, next_epid, has_room, is_readable};
 ghost use Rattle.dt_consumer.specs.Refusal.{IsNoCommand, refused_as};
-ghost use Rattle.dt_consumer.specs.Reply.{ecb_of, all_errors, refusal_of, seen_firings};
+ghost use Rattle.dt_consumer.specs.Reply.{ecb_of, all_aggdrops, all_errors, refusal_of, seen_firings};
+ghost use Rattle.dt_consumer.specs.Stores.{stores_in};
 ghost use Rattle.dt_consumer.specs.StandsFor.{StandsFor, MayAsk};
 ghost use Rattle.dt_consumer.specs.declared.reply.Reply.{Reply};
 ghost use Rattle.dt_record.specs.Layout.{layout_of};
@@ -30,6 +33,7 @@ ghost use Rattle.dt_record.specs.Layout.{layout_of};
 use crate::command::{Command, OptionValue};
 use crate::consumer::Consumer;
 use crate::draft::{Change, Draft};
+use crate::known::Known;
 use crate::limits::LINES_MAX;
 use crate::options::Options;
 use crate::phase::Phase;
@@ -38,6 +42,7 @@ use crate::processor::Processor;
 use crate::refusal::Refusal;
 use crate::reply::Reply;
 use crate::tracing::Tracing;
+use dt_aggstore::{AggStore, drops_go_on};
 use dt_buffer::{Policy, one_shown};
 use dt_ecb::{Ecb, EnableFault, enable, listed, one_verdict};
 use dt_lang::{Description, LangFault, Program, Why, one_description, one_reading};
@@ -96,6 +101,8 @@ impl Consumer {
             Command::Go => self.draft_go(alloc, machine),
             Command::Stop => Ok(self.draft_stop(machine)),
             Command::Snap { cpu } => self.draft_snap(alloc, machine, *cpu),
+            Command::Agg { name } => self.draft_agg(alloc, machine, name.as_bytes()),
+            Command::Trunc { name } => Ok(self.draft_trunc(machine, name.as_bytes())),
             Command::Status => self.draft_status(alloc, machine),
             Command::List { probe } => self.draft_list(alloc, machine, probe.as_bytes()),
             Command::Describe { epid } => Ok(self.draft_describe(machine, *epid)),
@@ -274,13 +281,9 @@ impl Consumer {
         if cpu >= u64::from(machine.cpus()) {
             return Ok(Draft::refused(Refusal::NoCpu));
         }
-        if !self.is_readable() {
-            return Ok(Draft::refused(Refusal::Busy));
-        }
         let cpu = cpu as u32;
-        // a consumer that is readable traces, and has each processor of its machine: so there is always one
-        let Some(processor) = self.processor(cpu) else {
-            return Ok(Draft::refused(Refusal::NoCpu));
+        let Some(processor) = self.readable(cpu) else {
+            return Ok(Draft::refused(Refusal::Busy));
         };
         one_shown();
         let reply = Reply::Snapped {
@@ -295,25 +298,74 @@ impl Consumer {
         })
     }
 
-    /// Whether buffers can be read: from `go` on, under ring only after tracing ended.
-    fn is_readable(&self) -> bool
+    /// A processor whose buffer can be read: from `go` on, under ring only after tracing ended.
+    fn readable(&self, cpu: u32) -> Option<&Processor>
         ensures { (account : Account) (registry : Registry) (life : List Item)
             → StandsFor account registry self.now life
-            → result ≡ spec.is_readable (set_up account registry life) (phase account registry life) }
+            → option_copied result ≡ (if is_readable (set_up account registry life) (phase account registry life)
+            then option_and_then (λ tracing. slice_get tracing.processors.all.items cpu) self.now.tracing else None) }
     {
-        match self.phase() {
-            Phase::Inactive => false,
-            Phase::Active => !matches!(self.options.bufpolicy, Policy::Ring),
-            Phase::Stopped(_) => true,
+        let tracing = self.tracing.as_ref()?;
+        if tracing.ended.is_none() && matches!(self.options.bufpolicy, Policy::Ring) {
+            return None;
+        }
+        tracing.processors.all.get(cpu as usize)
+    }
+
+    /// The draft of an `agg`.
+    fn draft_agg(&self, alloc: Global, _machine: &Machine, name: &[u8]) -> Result<Draft, AllocError>
+        ensures { IfOk result (λ draft. (account : Account) (life : List Item)
+            → MayAsk account _machine.now.registry self.now life
+            → IsDraftOf account _machine.now.registry life (Ok (agg name.now)) draft) }
+    {
+        let Some(known) = Known::of(&self.programs.shapes, name) else {
+            return Ok(Draft::refused(Refusal::NoAgg));
+        };
+        let reply = Reply::Aggregated {
+            name: known.name,
+            function: known.aggregation.function,
+            rows: AggStore::merge_all(alloc, self.stores(), known.aggregation)?,
+        };
+        Ok(Draft {
+            reply,
+            change: Change::Nothing,
+        })
+    }
+
+    /// The stores of all processors: none before tracing begins.
+    fn stores(&self) -> &[AggStore]
+        ensures few { length result.now ≤ STORES_MAX }
+        ensures stand { (account : Account) (registry : Registry) (life : List Item)
+            → StandsFor account registry self.now life
+            → AllZip IsAt (stores_in account registry (set_up account registry life)) result.now }
+    {
+        match &self.tracing {
+            Some(tracing) => &tracing.processors.stores,
+            None => &[],
         }
     }
 
-    /// What there is of a processor, from `go` on.
-    fn processor(&self, cpu: u32) -> Option<&Processor>
-        ensures { option_copied result ≡ option_and_then
-            (λ tracing. slice_get tracing.processors.all.items cpu) self.now.tracing }
+    /// The draft of a `trunc`.
+    fn draft_trunc(&self, _machine: &Machine, name: &[u8]) -> Draft
+        ensures { (account : Account) (life : List Item) → MayAsk account _machine.now.registry self.now life
+            → IsDraftOf account _machine.now.registry life (Ok (trunc name.now)) result }
     {
-        self.tracing.as_ref()?.processors.all.get(cpu as usize)
+        let Some(known) = Known::of(&self.programs.shapes, name) else {
+            return Draft::refused(Refusal::NoAgg);
+        };
+        // before tracing begins nothing was given
+        if !self.has_begun() {
+            return Draft {
+                reply: Reply::Done,
+                change: Change::Nothing,
+            };
+        }
+        Draft {
+            reply: Reply::Done,
+            change: Change::Trunc {
+                aggregation: known.aggregation,
+            },
+        }
     }
 
     /// The draft of a `status`.
@@ -326,6 +378,7 @@ impl Consumer {
             phase: self.phase(),
             seen: self.seen(),
             errors: self.errors(alloc, machine)?,
+            aggdrops: self.aggdrops(alloc, machine)?,
         };
         Ok(Draft {
             reply,
@@ -353,6 +406,21 @@ impl Consumer {
         match &self.tracing {
             Some(tracing) => tracing.errors(alloc),
             None => Ok(vec![in alloc; 0; machine.cpus() as usize]?),
+        }
+    }
+
+    /// How many values the store of each processor did not keep, since tracing began: none before that.
+    fn aggdrops(&self, alloc: Global, machine: &Machine) -> Result<Vec<u64>, AllocError>
+        ensures { IfOk result (λ aggdrops. (account : Account) (life : List Item)
+            → MayAsk account machine.now.registry self.now life
+            → aggdrops.items ≡ all_aggdrops account machine.now.registry life) }
+    {
+        match &self.tracing {
+            Some(tracing) => tracing.processors.aggdrops(alloc),
+            None => {
+                drops_go_on();
+                Ok(vec![in alloc; 0; machine.cpus() as usize]?)
+            }
         }
     }
 

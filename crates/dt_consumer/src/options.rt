@@ -1,11 +1,13 @@
 //! A consumer's options.
 ghost use Rattle.std.specs.Prelude.{◌≡◌, ◌≤◌};
+ghost use Rattle.dt_aggstore.specs.declared.limits.TheConstants.{AGGSIZE_MAX};
 ghost use Rattle.dt_buffer.specs.declared.limits.TheConstants.{SIZE_MAX};
 ghost use Rattle.dt_consumer.specs.Options as spec;
 ghost use Rattle.dt_consumer.specs.declared.limits.TheConstants.{HISTORY_MAX};
 
 use crate::command::OptionValue;
-use crate::limits::{BUFFER_SIZE, HISTORY, HISTORY_MAX};
+use crate::limits::{AGGSIZE, AGGSIZE_MIN, BUFFER_SIZE, HISTORY, HISTORY_MAX};
+use dt_aggstore::AGGSIZE_MAX;
 use dt_buffer::{Policy, SIZE_MAX};
 
 /// What holds of a consumer's tracing from its `go` on. (illumos Dynamic Tracing Guide, "Options and Tunables".)
@@ -15,9 +17,12 @@ pub(crate) struct Options {
     pub(crate) bufsize: usize,
     /// By which policy a buffer keeps records.
     pub(crate) bufpolicy: Policy,
+    /// How many bytes the entries of aggregations may cost on each processor.
+    pub(crate) aggsize: usize,
     /// After how many seen firings tracing ends.
     pub(crate) histsize: u32,
     ghost small: { bufsize ≤ SIZE_MAX },
+    ghost few_entries: { aggsize ≤ AGGSIZE_MAX },
     ghost some: { 1 ≤ histsize },
     ghost few: { histsize ≤ HISTORY_MAX },
 }
@@ -35,6 +40,7 @@ impl Options {
         Options {
             bufsize: BUFFER_SIZE,
             bufpolicy: Policy::Switch,
+            aggsize: AGGSIZE,
             histsize: HISTORY,
         }
     }
@@ -53,6 +59,7 @@ impl Options {
                     Some(Options {
                         bufsize: self.bufsize,
                         bufpolicy,
+                        aggsize: self.aggsize,
                         histsize: self.histsize,
                     })
                 } else {
@@ -72,12 +79,24 @@ impl Options {
             Some(Options {
                 bufsize: number as usize,
                 bufpolicy: self.bufpolicy,
+                aggsize: self.aggsize,
+                histsize: self.histsize,
+            })
+        } else if name == "aggsize"
+            && AGGSIZE_MIN as u64 <= number
+            && number <= AGGSIZE_MAX as u64
+        {
+            Some(Options {
+                bufsize: self.bufsize,
+                bufpolicy: self.bufpolicy,
+                aggsize: number as usize,
                 histsize: self.histsize,
             })
         } else if name == "histsize" && 1 <= number && number <= u64::from(HISTORY_MAX) {
             Some(Options {
                 bufsize: self.bufsize,
                 bufpolicy: self.bufpolicy,
+                aggsize: self.aggsize,
                 histsize: number as u32,
             })
         } else {

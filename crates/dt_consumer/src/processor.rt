@@ -2,6 +2,8 @@
 use crate::moment::Moment;
 use crate::options::Options;
 use crate::rows::Row;
+use crate::uses::Uses;
+use dt_aggstore::AggStore;
 use dt_buffer::Principal;
 use dt_ecb::Ecb;
 use dt_expr::EvalFault;
@@ -9,16 +11,20 @@ use dt_lang::Clause;
 use dt_record::Taken;
 use std::alloc::{AllocError, Global};
 
-/// What a consumer has of one processor from its `go` on: its principal buffer, and how many clauses a division by
-/// zero ended there.
+/// What a consumer has of one processor from its `go` on: its principal buffer, how many clauses a division by zero
+/// ended there, and the place in which what a clause leaves is made.
 #[derive(Drop)]
 pub(crate) struct Processor {
     pub(crate) buffer: Principal,
     pub(crate) errors: u64,
+    left: Taken,
 }
 
 impl Processor {
     ghost use Rattle.std.specs.Prelude.{◌≡◌, ◌<◌, ◌+◌, ◌++◌, ◌-◌, ◌≤◌, ℕ, Bool, true, false, List, [], ◌∷◌, Option, Some, None, All, IfOk, length, map, if◌then◌else◌};
+    ghost use Rattle.dt_aggstore.specs.History as stores;
+    ghost use Rattle.dt_aggstore.specs.IsAt.{IsAt, added_of};
+    ghost use Rattle.dt_aggstore.specs.declared.limits.TheConstants.{ADDED_LIMIT};
     ghost use Rattle.dt_buffer.specs.History.{Past, new_past, after, swap};
     ghost use Rattle.dt_buffer.specs.IsAt.{drops_of};
     ghost use Rattle.dt_buffer.specs.Shows.{EndLast};
@@ -26,8 +32,12 @@ impl Processor {
     ghost use Rattle.dt_ecb.specs.Forms.{form_of_ecb};
     ghost use Rattle.dt_ecb.specs.declared.limits.TheConstants.{ECBS_MAX};
     ghost use Rattle.dt_lang.specs.Program.{form_of_clause};
+    ghost use Rattle.dt_lang.specs.declared.program.TheConstants.{STATEMENTS_MAX};
+    ghost use Rattle.dt_ecb.specs.Shapes.{ShapeForm};
+    ghost use Rattle.dt_consumer.specs.Aggregations.{contributions, contributions_of};
     ghost use Rattle.dt_consumer.specs.Buffers.{attempts_of};
-    ghost use Rattle.dt_consumer.specs.Counts.{AtMost, AtMostMore};
+    ghost use Rattle.dt_consumer.specs.Counts.{AtMost, AtMostMore, GivenAtMost, GIVES_MAX};
+    ghost use Rattle.dt_consumer.specs.Uses.{AreUses, given_then};
     ghost use Rattle.dt_consumer.specs.Keeps.{form_of_moment, followed_by, HasTaken, taking_by};
     ghost use Rattle.dt_consumer.specs.Takings.{Taking, exit_of, first_exit, through_exit, faults};
 
@@ -40,18 +50,22 @@ impl Processor {
         Ok(Processor {
             buffer: Principal::new(alloc, options.bufpolicy, options.bufsize, reserve)?,
             errors: 0,
+            left: Taken::new(),
         })
     }
 
-    /// Takes a probe's ECBs, in order of EPID, up to the first that exits, and answers its status. It takes no memory.
+    /// Takes a probe's ECBs, in order of EPID, up to the first that exits, and answers its status. The store is that of
+    /// this processor. It takes no memory.
     pub(crate) fn take(
         &mut self,
-        left: &mut Taken,
+        store: &mut AggStore,
         clauses: &[Clause],
+        uses: &[Uses],
         row: &Row,
         moment: &Moment,
     ) -> Option<i64>
-        requires { AtMost (DROPS_LIMIT - ECBS_MAX) self.old }
+        requires counts { AtMost (DROPS_LIMIT - ECBS_MAX) self.old }
+        requires gives { GivenAtMost (ADDED_LIMIT - GIVES_MAX) store.old }
         ensures taken { All (λ ecb. ecb.clause < length clauses.now) row.now.ecbs.items
             → (past : Past) (errors : ℕ) → EndLast past false → HasTaken past errors self.old
             → (let new = through_exit
@@ -60,9 +74,16 @@ impl Processor {
         ensures exit { All (λ ecb. ecb.clause < length clauses.now) row.now.ecbs.items → result ≡ first_exit
             (map (taking_by false (form_of_moment moment.now) (map form_of_clause clauses.now)) row.now.ecbs.items) }
         ensures counts { AtMostMore ECBS_MAX self.old self.new }
+        ensures given { (shapes : List ShapeForm) → AreUses shapes (map form_of_clause clauses.now) uses.now
+            → All (λ ecb. ecb.clause < length clauses.now) row.now.ecbs.items
+            → (past : stores.Past) → IsAt past store.old
+            → (let new = through_exit
+            (map (taking_by false (form_of_moment moment.now) (map form_of_clause clauses.now)) row.now.ecbs.items) in
+            IsAt (given_then past (contributions shapes new)) store.new) }
+        ensures gives { added_of store.new ≤ added_of store.old + GIVES_MAX }
     {
         for ecb in &row.ecbs {
-            let exit = self.take_one(left, clauses, *ecb, moment, false);
+            let exit = self.take_one(store, clauses, uses, *ecb, moment, false);
             if exit.is_some() {
                 return exit;
             }
@@ -73,34 +94,45 @@ impl Processor {
     /// Takes END's ECBs, in order of EPID: an exit is passed over. It takes no memory.
     pub(crate) fn take_end(
         &mut self,
-        left: &mut Taken,
+        store: &mut AggStore,
         clauses: &[Clause],
+        uses: &[Uses],
         row: &Row,
         moment: &Moment,
     )
-        requires { AtMost (DROPS_LIMIT - ECBS_MAX) self.old }
+        requires counts { AtMost (DROPS_LIMIT - ECBS_MAX) self.old }
+        requires gives { GivenAtMost (ADDED_LIMIT - GIVES_MAX) store.old }
         ensures taken { All (λ ecb. ecb.clause < length clauses.now) row.now.ecbs.items
             → (past : Past) (errors : ℕ) → HasTaken past errors self.old
             → (let new = map (taking_by true (form_of_moment moment.now) (map form_of_clause clauses.now))
             row.now.ecbs.items in
             HasTaken (followed_by past (attempts_of new)) (errors + faults new) self.new) }
         ensures counts { AtMostMore ECBS_MAX self.old self.new }
+        ensures given { (shapes : List ShapeForm) → AreUses shapes (map form_of_clause clauses.now) uses.now
+            → All (λ ecb. ecb.clause < length clauses.now) row.now.ecbs.items
+            → (past : stores.Past) → IsAt past store.old
+            → (let new = map (taking_by true (form_of_moment moment.now) (map form_of_clause clauses.now))
+            row.now.ecbs.items in IsAt (given_then past (contributions shapes new)) store.new) }
+        ensures gives { added_of store.new ≤ added_of store.old + GIVES_MAX }
     {
         for ecb in &row.ecbs {
-            let _exit = self.take_one(left, clauses, *ecb, moment, true);
+            let _exit = self.take_one(store, clauses, uses, *ecb, moment, true);
         }
     }
 
-    /// Takes one ECB, and answers the status that it exits with, if it exits: its record goes into the buffer.
+    /// Takes one ECB, and answers the status that it exits with, if it exits: its record goes into the buffer, and then
+    /// its values into the store.
     fn take_one(
         &mut self,
-        left: &mut Taken,
+        store: &mut AggStore,
         clauses: &[Clause],
+        uses: &[Uses],
         ecb: Ecb,
         moment: &Moment,
         in_end: bool,
     ) -> Option<i64>
-        requires { (drops_of self.old.buffer < DROPS_LIMIT) × (self.old.errors < DROPS_LIMIT) }
+        requires counts { (drops_of self.old.buffer < DROPS_LIMIT) × (self.old.errors < DROPS_LIMIT) }
+        requires gives { added_of store.old + STATEMENTS_MAX ≤ ADDED_LIMIT }
         ensures taken { ecb.clause < length clauses.now
             → (past : Past) (errors : ℕ) → EndLast past in_end → HasTaken past errors self.old
             → (let one = taking_by in_end (form_of_moment moment.now) (map form_of_clause clauses.now) ecb in
@@ -108,14 +140,23 @@ impl Processor {
         ensures exit { ecb.clause < length clauses.now
             → result ≡ exit_of (taking_by in_end (form_of_moment moment.now) (map form_of_clause clauses.now) ecb) }
         ensures counts { AtMostMore 1 self.old self.new }
+        ensures given { ecb.clause < length clauses.now
+            → (shapes : List ShapeForm) → AreUses shapes (map form_of_clause clauses.now) uses.now
+            → (past : stores.Past) → IsAt past store.old
+            → (let one = taking_by in_end (form_of_moment moment.now) (map form_of_clause clauses.now) ecb in
+            IsAt (given_then past (contributions_of shapes one)) store.new) }
+        ensures gives { added_of store.new ≤ added_of store.old + STATEMENTS_MAX }
     {
         let clause = clauses.get(ecb.clause)?;
-        match left.take(ecb.epid, clause, &moment.scene(ecb.epid)) {
+        match self.left.take(ecb.epid, clause, &moment.scene(ecb.epid)) {
             Ok(true) => {
-                if let Some(bytes) = &left.bytes {
+                if let Some(bytes) = &self.left.bytes {
                     let _put = self.buffer.put(bytes, in_end);
                 }
-                left.exit
+                if let Some(uses) = uses.get(ecb.clause) {
+                    uses.give(store, &self.left.values);
+                }
+                self.left.exit
             }
             Ok(false) => None,
             Err(EvalFault::DivZero) => {

@@ -1,5 +1,6 @@
 //! What a consumer has of its processors from its `go` on.
-ghost use Rattle.std.specs.Prelude.{◌≤◌};
+ghost use Rattle.std.specs.Prelude.{◌≡◌, ◌≤◌, vec_len};
+ghost use Rattle.dt_aggstore.specs.declared.limits.TheConstants.{STORES_MAX};
 
 use crate::limits::END;
 use crate::moment::Moment;
@@ -7,27 +8,36 @@ use crate::options::Options;
 use crate::own::{own_firing, own_process};
 use crate::processor::Processor;
 use crate::rows::Row;
+use crate::uses::Uses;
+use dt_aggstore::{AggStore, Aggregation};
 use dt_cred::Account;
 use dt_lang::Clause;
 use dt_machine::Machine;
-use dt_record::Taken;
 use std::alloc::{AllocError, Global};
 
-/// What a consumer has of its processors from its `go` on, and the place in which what a clause leaves is made.
+/// What a consumer has of its processors from its `go` on, each with its store of aggregations.
 #[derive(Drop)]
 pub(crate) struct Processors {
     pub(crate) all: Vec<Processor>,
-    pub(crate) left: Taken,
+    pub(crate) stores: Vec<AggStore>,
+    ghost each: { vec_len stores ≡ vec_len all },
+    ghost few: { vec_len stores ≤ STORES_MAX },
 }
 
 impl Processors {
     ghost use Rattle.std.specs.Prelude.{◌≡◌, ◌+◌, ◌-◌, ◌<◌, ◌==◌, ◌&&◌, ℕ, true, false, List, All, IfOk, IfSome, IsSomeAnd, length, map, slice_get, vec_len, if◌then◌else◌};
+    ghost use Rattle.dt_aggstore.specs.Chosen.{drops};
+    ghost use Rattle.dt_aggstore.specs.History as stores;
+    ghost use Rattle.std.specs.List.{range_with_len};
+    ghost use Rattle.dt_aggstore.specs.declared.limits.TheConstants.{ADDED_LIMIT, AGGSIZE_MAX};
+    ghost use Rattle.dt_ecb.specs.Shapes.{ShapeForm};
     ghost use Rattle.dt_buffer.specs.History.{Past, new_past};
     ghost use Rattle.dt_buffer.specs.Shows.{EndLast};
     ghost use Rattle.dt_buffer.specs.declared.limits.TheConstants.{DROPS_LIMIT};
     ghost use Rattle.dt_ecb.specs.declared.limits.TheConstants.{ECBS_MAX};
     ghost use Rattle.dt_lang.specs.Program.{form_of_clause};
-    ghost use Rattle.dt_consumer.specs.Counts.{AtMost};
+    ghost use Rattle.dt_consumer.specs.Counts.{AtMost, GivenAtMost, GIVES_MAX};
+    ghost use Rattle.dt_consumer.specs.Uses.{AreGiven, AreUses, given_and};
     ghost use Rattle.dt_consumer.specs.Keeps.{form_of_moment, AreTaken, HasTaken, errors_and, pasts_and, taking_by, where_taken};
     ghost use Rattle.dt_consumer.specs.Takings.{first_exit, own_moment, through_exit};
     ghost use Rattle.dt_consumer.specs.declared.limits.TheConstants.{END};
@@ -39,27 +49,68 @@ impl Processors {
         reserve: usize,
         cpus: u32,
     ) -> Result<Self, AllocError>
-        requires { reserve ≤ options.bufsize }
+        requires reserve { reserve ≤ options.bufsize }
+        requires few { cpus ≤ STORES_MAX }
         ensures len { IfOk result (λ processors. vec_len processors.all ≡ cpus) }
         ensures empty { IfOk result (λ processors. (cpu : ℕ) → IfSome (slice_get processors.all.items cpu)
             (HasTaken (new_past options.bufpolicy options.bufsize (if cpu == 0 then reserve else 0)) 0)) }
         ensures counts { IfOk result (λ processors. All (AtMost 0) processors.all.items) }
+        ensures fresh { IfOk result (λ processors.
+            AreGiven (λ cpu. stores.new_past options.aggsize) processors.stores.items) }
+        ensures gives { IfOk result (λ processors. All (GivenAtMost 0) processors.stores.items) }
+    {
+        Ok(Processors {
+            all: Processors::fresh(alloc, options, reserve, cpus)?,
+            stores: Processors::empty_stores(alloc, options.aggsize, cpus)?,
+        })
+    }
+
+    /// Processors on which nothing was taken.
+    fn fresh(
+        alloc: Global,
+        options: Options,
+        reserve: usize,
+        cpus: u32,
+    ) -> Result<Vec<Processor>, AllocError>
+        requires { reserve ≤ options.bufsize }
+        ensures len { IfOk result (λ all. vec_len all ≡ cpus) }
+        ensures empty { IfOk result (λ all. (cpu : ℕ) → IfSome (slice_get all.items cpu)
+            (HasTaken (new_past options.bufpolicy options.bufsize (if cpu == 0 then reserve else 0)) 0)) }
+        ensures counts { IfOk result (λ all. All (AtMost 0) all.items) }
     {
         let mut all = Vec::with_capacity(alloc, cpus as usize)?;
         for cpu in 0..cpus {
             let reserve = if cpu == 0 { reserve } else { 0 };
             all.push(Processor::new(alloc, options, reserve)?)?;
         }
-        Ok(Processors {
-            all,
-            left: Taken::new(),
-        })
+        Ok(all)
+    }
+
+    /// Stores to which nothing was given.
+    fn empty_stores(alloc: Global, size: usize, cpus: u32) -> Result<Vec<AggStore>, AllocError>
+        requires { size ≤ AGGSIZE_MAX }
+        ensures len { IfOk result (λ all. vec_len all ≡ cpus) }
+        ensures fresh { IfOk result (λ all. AreGiven (λ cpu. stores.new_past size) all.items) }
+        ensures gives { IfOk result (λ all. All (GivenAtMost 0) all.items) }
+    {
+        let mut all = Vec::with_capacity(alloc, cpus as usize)?;
+        for _cpu in 0..cpus {
+            all.push(AggStore::new(alloc, size)?)?;
+        }
+        Ok(all)
     }
 
     /// Takes the ECBs of the probe that fires, on the processor of the firing, up to the first that exits, and answers
     /// its status. It takes no memory.
-    pub(crate) fn take(&mut self, clauses: &[Clause], row: &Row, moment: &Moment) -> Option<i64>
-        requires { All (AtMost (DROPS_LIMIT - ECBS_MAX)) self.old.all.items }
+    pub(crate) fn take(
+        &mut self,
+        clauses: &[Clause],
+        uses: &[Uses],
+        row: &Row,
+        moment: &Moment,
+    ) -> Option<i64>
+        requires counts { All (AtMost (DROPS_LIMIT - ECBS_MAX)) self.old.all.items }
+        requires gives { All (GivenAtMost (ADDED_LIMIT - GIVES_MAX)) self.old.stores.items }
         ensures len { vec_len self.new.all ≡ vec_len self.old.all }
         ensures counts { (n : ℕ) → All (AtMost n) self.old.all.items
             → All (AtMost (n + ECBS_MAX)) self.new.all.items }
@@ -74,10 +125,18 @@ impl Processors {
             → moment.now.firing.now.cpu < vec_len self.old.all
             → (let m = form_of_moment moment.now in
             result ≡ first_exit (map (taking_by false m (map form_of_clause clauses.now)) row.now.ecbs.items)) }
+        ensures given { (shapes : List ShapeForm) → AreUses shapes (map form_of_clause clauses.now) uses.now
+            → All (λ ecb. ecb.clause < length clauses.now) row.now.ecbs.items
+            → (pasts : ℕ → stores.Past) → AreGiven pasts self.old.stores.items
+            → (let m = form_of_moment moment.now in
+            let new = through_exit (map (taking_by false m (map form_of_clause clauses.now)) row.now.ecbs.items) in
+            AreGiven (given_and shapes pasts (where_taken m.firing.cpu new)) self.new.stores.items) }
+        ensures gives { (n : ℕ) → All (GivenAtMost n) self.old.stores.items
+            → All (GivenAtMost (n + GIVES_MAX)) self.new.stores.items }
     {
         let cpu = moment.firing.cpu as usize;
         if cpu < self.all.len() {
-            self.all[cpu].take(&mut self.left, clauses, row, moment)
+            self.all[cpu].take(&mut self.stores[cpu], clauses, uses, row, moment)
         } else {
             None
         }
@@ -89,9 +148,11 @@ impl Processors {
         account: &Account,
         machine: &Machine,
         clauses: &[Clause],
+        uses: &[Uses],
         row: &Row,
     )
-        requires { All (AtMost (DROPS_LIMIT - ECBS_MAX)) self.old.all.items }
+        requires counts { All (AtMost (DROPS_LIMIT - ECBS_MAX)) self.old.all.items }
+        requires gives { All (GivenAtMost (ADDED_LIMIT - GIVES_MAX)) self.old.stores.items }
         ensures len { vec_len self.new.all ≡ vec_len self.old.all }
         ensures counts { (n : ℕ) → All (AtMost n) self.old.all.items
             → All (AtMost (n + ECBS_MAX)) self.new.all.items }
@@ -101,6 +162,14 @@ impl Processors {
             (λ m. let new = map (taking_by true m (map form_of_clause clauses.now)) row.now.ecbs.items in
             AreTaken (pasts_and pasts (where_taken 0 new)) (errors_and errors (where_taken 0 new))
             self.new.all.items) }
+        ensures given { (shapes : List ShapeForm) → AreUses shapes (map form_of_clause clauses.now) uses.now
+            → All (λ ecb. ecb.clause < length clauses.now) row.now.ecbs.items
+            → (pasts : ℕ → stores.Past) → AreGiven pasts self.old.stores.items
+            → IsSomeAnd (own_moment account.now machine.now.registry END)
+            (λ m. let new = map (taking_by true m (map form_of_clause clauses.now)) row.now.ecbs.items in
+            AreGiven (given_and shapes pasts (where_taken 0 new)) self.new.stores.items) }
+        ensures gives { (n : ℕ) → All (GivenAtMost n) self.old.stores.items
+            → All (GivenAtMost (n + GIVES_MAX)) self.new.stores.items }
     {
         let process = own_process(account);
         let firing = own_firing(END);
@@ -110,7 +179,31 @@ impl Processors {
             firing: &firing,
         };
         if !self.all.is_empty() {
-            self.all[0].take_end(&mut self.left, clauses, row, &moment);
+            self.all[0].take_end(&mut self.stores[0], clauses, uses, row, &moment);
         }
+    }
+    /// Forgets what was given to an aggregation, on every processor. It takes no memory.
+    pub(crate) fn trunc(&mut self, aggregation: Aggregation)
+        ensures all { self.new.all ≡ self.old.all }
+        ensures given { (pasts : ℕ → stores.Past) → AreGiven pasts self.old.stores.items
+            → AreGiven (λ cpu. stores.after (pasts cpu) (stores.truncated aggregation)) self.new.stores.items }
+        ensures gives { (n : ℕ) → All (GivenAtMost n) self.old.stores.items
+            → All (GivenAtMost n) self.new.stores.items }
+    {
+        for cpu in 0..self.stores.len() {
+            self.stores[cpu].trunc(aggregation);
+        }
+    }
+
+    /// How many values the store of each processor did not keep.
+    pub(crate) fn aggdrops(&self, alloc: Global) -> Result<Vec<u64>, AllocError>
+        ensures { IfOk result (λ aggdrops. (pasts : ℕ → stores.Past) → AreGiven pasts self.now.stores.items
+            → aggdrops.items ≡ map (λ cpu. drops (pasts cpu)) (range_with_len 0 (vec_len self.now.stores))) }
+    {
+        let mut aggdrops = Vec::new(alloc);
+        for store in &self.stores {
+            aggdrops.push(store.dropped())?;
+        }
+        Ok(aggdrops)
     }
 }

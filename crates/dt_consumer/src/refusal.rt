@@ -34,6 +34,8 @@ pub enum Refusal {
     Option,
     /// 12: the machine has no such processor.
     NoCpu,
+    /// 13: no accepted program uses an aggregation of this name.
+    NoAgg,
     /// 14: there is no ECB of this number.
     NoEpid,
     /// 15: the session has asked its 1,024 lines.
@@ -66,6 +68,7 @@ impl Refusal {
             Refusal::Busy => 10,
             Refusal::Option => 11,
             Refusal::NoCpu => 12,
+            Refusal::NoAgg => 13,
             Refusal::NoEpid => 14,
             Refusal::Quota => 15,
             Refusal::Memory => 16,
@@ -89,6 +92,7 @@ impl Refusal {
             Refusal::Busy => "Busy",
             Refusal::Option => "Option",
             Refusal::NoCpu => "NoCpu",
+            Refusal::NoAgg => "NoAgg",
             Refusal::NoEpid => "NoEpid",
             Refusal::Quota => "Quota",
             Refusal::Memory => "Memory",

@@ -1,7 +1,10 @@
 //! What a line is answered.
 use crate::phase::Phase;
 use crate::refusal::Refusal;
+use dt_aggfn::AggFn;
+use dt_aggstore::Row;
 use dt_cred::Probe;
+use dt_names::ShortText;
 use dt_record::Layout;
 
 /// What a consumer is answered to one line.
@@ -21,12 +24,19 @@ pub enum Reply {
         drops: u64,
         filled: bool,
     },
+    /// The table of an aggregation: its name, its function, and a row for each key, in order of key.
+    Aggregated {
+        name: ShortText,
+        function: AggFn,
+        rows: Vec<Row>,
+    },
     /// How far the consumer has come and why it ended, how many firings it saw, and for each processor how many clauses
-    /// a division by zero ended there.
+    /// a division by zero ended there, and how many values its store of aggregations did not keep.
     Status {
         phase: Phase,
         seen: u64,
         errors: Vec<u64>,
+        aggdrops: Vec<u64>,
     },
     /// The probes that a description asks for and the account may enable, by rising identifier.
     Listed {

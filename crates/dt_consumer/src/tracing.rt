@@ -2,7 +2,7 @@
 ghost use Rattle.std.specs.Prelude.{◌≡◌, ◌≤◌, ◌<◌, ◌+◌, ◌*◌, ◌==◌, All, None, Some, vec_len, if◌then◌else◌};
 ghost use Rattle.std.specs.Option.{option_map, option_or};
 ghost use Rattle.dt_ecb.specs.declared.limits.TheConstants.{ECBS_MAX};
-ghost use Rattle.dt_consumer.specs.Counts.{AtMost, own_firings, must_be_left};
+ghost use Rattle.dt_consumer.specs.Counts.{AtMost, GivenAtMost, GIVES_MAX, own_firings, must_be_left};
 ghost use Rattle.dt_consumer.specs.declared.limits.TheConstants.{END, HISTORY_MAX};
 
 use crate::limits::{BEGIN, END, HISTORY_MAX};
@@ -13,17 +13,20 @@ use crate::phase::{End, Phase};
 use crate::processors::Processors;
 use crate::programs::Programs;
 use crate::rows::Row;
+use crate::uses::Uses;
+use dt_aggstore::Aggregation;
 use dt_cred::Account;
 use dt_lang::Clause;
 use dt_machine::Machine;
 use std::alloc::{AllocError, Global};
 
 /// What a consumer has from its `go` on, and still has when tracing ended: the ECBs of each probe, so that a firing
-/// finds its own without a look at others, what it has of each processor, how many firings it saw, of how many at the
-/// most, and why tracing ended.
+/// finds its own without a look at others, what its clauses give to aggregations, what it has of each processor, how
+/// many firings it saw, of how many at the most, and why tracing ended.
 #[derive(Drop)]
 pub(crate) struct Tracing {
     pub(crate) rows: Vec<Row>,
+    pub(crate) uses: Vec<Uses>,
     pub(crate) processors: Processors,
     pub(crate) history: u32,
     pub(crate) seen: u32,
@@ -32,6 +35,7 @@ pub(crate) struct Tracing {
     ghost few: { history ≤ HISTORY_MAX },
     ghost in_history: { seen + must_be_left ended ≤ history },
     ghost counted: { All (AtMost (ECBS_MAX * (seen + own_firings ended))) processors.all.items },
+    ghost given: { All (GivenAtMost (GIVES_MAX * (seen + own_firings ended))) processors.stores.items },
 }
 
 impl Tracing {
@@ -42,10 +46,13 @@ impl Tracing {
     ghost use Rattle.dt_lang.specs.Program.{form_of_clause};
     ghost use Rattle.dt_ecb.specs.Ecbs.{of_probe};
     ghost use Rattle.dt_consumer.specs.Keeps.{AreEcbs, IsTracing, form_of_moment, form_of_options, phase_by};
+    ghost use Rattle.dt_ecb.specs.Forms.{shapes_of};
+    ghost use Rattle.dt_aggstore.specs.declared.key.Aggregation.{Aggregation};
+    ghost use Rattle.dt_consumer.specs.Aggregations.{aggregation_of};
     ghost use Rattle.dt_consumer.specs.Buffers.{reserve_on};
-    ghost use Rattle.dt_consumer.specs.Life.{SetUp, ecbs_in, phase_of, with_event, since_then, happens};
+    ghost use Rattle.dt_consumer.specs.Life.{SetUp, ecbs_in, shapes_in, phase_of, with_event, since_then, happens};
     ghost use Rattle.dt_consumer.specs.declared.phase.Phase.TheVariants.{Active};
-    ghost use Rattle.dt_consumer.specs.Takings.{began, seen as sees, read, ended as ends, moment_of};
+    ghost use Rattle.dt_consumer.specs.Takings.{began, seen as sees, read, truncated, ended as ends, moment_of};
 
     /// Begins to trace: makes all the room that tracing needs, and fires BEGIN. The reserve is that of the first
     /// processor's buffer.
@@ -61,21 +68,24 @@ impl Tracing {
         ensures { IfOk result (λ tracing. (s : SetUp) → form_of_options options ≡ s.options
             → map form_of_clause programs.now.clauses.items ≡ s.clauses
             → AreEcbs s.clauses (ecbs_in account.now machine.now.registry s) programs.now.ecbs.items
+            → shapes_of programs.now.shapes ≡ shapes_in s
             → reserve ≡ reserve_on account.now machine.now.registry s 0
             → IsTracing account.now machine.now.registry
             (happens account.now machine.now.registry (since_then s []) began) tracing) }
     {
         let probes = machine.probes().len() as u32;
         let rows = Row::for_each(alloc, programs.ecbs(), probes + 1)?;
+        let uses = Uses::of_each(alloc, &programs.shapes, programs.clauses())?;
         let mut processors = Processors::new(alloc, options, reserve, machine.cpus())?;
         let moment = Moment {
             probe: machine.probe(BEGIN).unwrap(),
             process: &own_process(account),
             firing: &own_firing(BEGIN),
         };
-        let exit = processors.take(programs.clauses(), &rows[BEGIN as usize], &moment);
+        let exit = processors.take(programs.clauses(), &uses, &rows[BEGIN as usize], &moment);
         let mut tracing = Tracing {
             rows,
+            uses,
             processors,
             history: options.histsize,
             seen: 0,
@@ -132,12 +142,13 @@ impl Tracing {
             (happens account.now machine.now.registry s (sees firing)) self.new }
     {
         let row = &self.rows[moment.firing.probe as usize];
-        let exit = self.processors.take(clauses, row, moment);
+        let exit = self.processors.take(clauses, &self.uses, row, moment);
         self.seen += 1;
         if let Some(end) = end_after(exit, self.seen, self.history) {
             self.ended = Some(end);
             let row = &self.rows[END as usize];
-            self.processors.fire_end(account, machine, clauses, row);
+            self.processors
+                .fire_end(account, machine, clauses, &self.uses, row);
         }
     }
 
@@ -156,7 +167,8 @@ impl Tracing {
     {
         self.ended = Some(end);
         let row = &self.rows[END as usize];
-        self.processors.fire_end(account, machine, clauses, row);
+        self.processors
+            .fire_end(account, machine, clauses, &self.uses, row);
     }
 
     /// Ends tracing by a `stop`, where it goes on.
@@ -178,6 +190,15 @@ impl Tracing {
         if cpu < self.processors.all.len() {
             self.processors.all[cpu].swap();
         }
+    }
+
+    /// Goes on after an aggregation was truncated on every processor.
+    pub(crate) fn trunc(&mut self, aggregation: Aggregation)
+        ensures { (account : Account) (registry : Registry) (s : SetUp) (name : List ℕ)
+            → IsTracing account registry s self.old → aggregation_of (shapes_in s) name ≡ Some aggregation
+            → IsTracing account registry (with_event s (truncated name)) self.new }
+    {
+        self.processors.trunc(aggregation);
     }
 
     /// How many clauses a division by zero ended on each processor.

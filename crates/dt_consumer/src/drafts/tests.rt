@@ -4,9 +4,12 @@ use crate::consumer::Consumer;
 use crate::draft::Draft;
 use crate::refusal::Refusal;
 use crate::reply::Reply;
+use dt_aggfn::{AggFn, Answer};
+use dt_aggstore::{KeyPart, Row};
 use dt_expr::{BinaryOp, Expr, NumberVariable};
-use dt_lang::{Argument, CLAUSES_MAX, Clause, Description, Program, Statement};
+use dt_lang::{Aggregation, Argument, CLAUSES_MAX, Call, Clause, Description, Program, Statement};
 use dt_machine::Machine;
+use dt_names::ShortText;
 use std::alloc::Global;
 use std::test::Fail;
 
@@ -16,11 +19,11 @@ const MACHINE: &str = r#"{"cpus":2,
 "processes":[{"pid":100,"uid":501,"execname":"sh"},{"pid":200,"uid":0,"execname":"cron"}],
 "probes":["syscall::read:entry","profile:::tick-1sec","fbt:genunix:kmem_alloc:entry"],
 "scripts":[[{"probe":3,"pid":100,"args":[4,0]},{"probe":3,"pid":100,"args":[4,2]}],
-[{"probe":3,"pid":100,"args":[9,3]},{"probe":3,"pid":200}]]}"#;
+[{"probe":3,"pid":100,"args":[9,3]},{"probe":3,"pid":200},{"probe":3,"pid":100,"args":[6,1]}]]}"#;
 
 /// `account NAME` begins a consumer; in any other row a step and what it is answered. A program is clauses with ` / `
-/// between them, each a description and `quotient`, which traces arg0 / arg1, or `exit`, which exits with arg0, or
-/// nothing.
+/// between them, each a description and `quotient`, which traces arg0 / arg1, or `total`, which is
+/// `@total[arg1] = sum(arg0 / arg1)`, or `exit`, which exits with arg0, or nothing.
 const ROWS: &str = "
 account root
 status = Inactive 0 0 0
@@ -105,6 +108,34 @@ go = done, publishes
 fire 0 1 = seen
 status = Stopped(Exit(4)) 1 0 0
 snap 0 = 0: [] 0
+account root
+option aggsize 7 = refused 11 Option
+option aggsize 1048577 = refused 11 Option
+option aggsize 24 = done
+agg total = refused 13 NoAgg
+program tick-1sec / read:entry total = 2 from 1
+agg total = Sum
+trunc total = done
+go = done, publishes
+option aggsize 24 = refused 10 Busy
+fire 0 0 = seen
+fire 0 1 = seen
+fire 0 1 = seen
+fire 1 0 = seen
+agg total = Sum 2=4 3=3
+fire 1 2 = seen
+fire 1 0 = seen
+agg total = Sum 2=4 3=6
+status = Active 6 1 0, dropped 0 1
+trunc other = refused 13 NoAgg
+trunc total = done
+agg total = Sum
+fire 1 2 = seen
+stop = done
+agg total = Sum 1=6
+status = Stopped(Stop) 7 1 0, dropped 0 1
+trunc total = done
+agg total = Sum
 ";
 
 /// `arg0 / arg1`
@@ -127,6 +158,13 @@ fn clause(alloc: Global, text: &str) -> Result<Clause, Fail> {
     if body == "quotient" {
         statements.push(Statement::Trace(Argument::Number(quotient(alloc)?)))?;
     }
+    if body == "total" {
+        let mut keys = Vec::new(alloc);
+        keys.push(Argument::Number(Expr::Variable(NumberVariable::Arg1)))?;
+        let name = ShortText::new(b"total").ok_or("no name")?;
+        let call = Call::Sum(quotient(alloc)?);
+        statements.push(Statement::Aggregate(Aggregation { name, keys, call }))?;
+    }
     if body == "exit" {
         statements.push(Statement::Exit(Expr::Variable(NumberVariable::Arg0)))?;
     }
@@ -148,6 +186,19 @@ fn program(alloc: Global, text: &str) -> Result<Program, Fail> {
     Ok(Program { clauses })
 }
 
+/// A table of sums as text: its function, and each key with its sum.
+fn table(alloc: Global, function: AggFn, rows: &[Row]) -> Result<String, Fail> {
+    let mut text = format!(in alloc; "{function:?}")?;
+    for row in rows {
+        if let Some(KeyPart::Number(key)) = row.key.parts.as_slice().first() {
+            if let Answer::Number(sum) = &row.value {
+                text.push_str(format!(in alloc; " {key}={sum}")?.as_str())?;
+            }
+        }
+    }
+    Ok(text)
+}
+
 /// A reply as text.
 fn spelled(alloc: Global, reply: &Reply) -> Result<String, Fail> {
     Ok(match reply {
@@ -166,13 +217,21 @@ fn spelled(alloc: Global, reply: &Reply) -> Result<String, Fail> {
             phase,
             seen,
             errors,
+            aggdrops,
         } => {
             let mut text = format!(in alloc; "{phase:?} {seen}")?;
             for count in errors {
                 text.push_str(format!(in alloc; " {count}")?.as_str())?;
             }
+            if aggdrops.iter().any(|count| *count > 0) {
+                text.push_str(", dropped")?;
+                for count in aggdrops {
+                    text.push_str(format!(in alloc; " {count}")?.as_str())?;
+                }
+            }
             text
         }
+        Reply::Aggregated { function, rows, .. } => table(alloc, *function, rows)?,
         Reply::Listed { probes } => {
             let mut text = String::new(alloc);
             for probe in probes {
@@ -220,6 +279,12 @@ fn drafted(
         "status" => Command::Status,
         "snap" => Command::Snap {
             cpu: rest.parse::<u64>().ok().ok_or("no number")?,
+        },
+        "agg" => Command::Agg {
+            name: String::from_str(alloc, rest)?,
+        },
+        "trunc" => Command::Trunc {
+            name: String::from_str(alloc, rest)?,
         },
         "describe" => Command::Describe {
             epid: rest.parse::<u64>().ok().ok_or("no number")?,

@@ -26,3 +26,9 @@ returns-in-Stop c = λ account life line s drafted.
     let registry = c.args.machine.now.registry in
     c.stop.ensures account life line s
     (subst (Drafted account registry life line) (sym c.into_change.ensures ∙ c.in-Stop.is) drafted.makes)
+
+pub returns-in-Trunc : goal.returns-in-Trunc
+returns-in-Trunc c = λ account life line s drafted.
+    let registry = c.args.machine.now.registry in
+    c.trunc.ensures account registry life line s
+    (subst (Drafted account registry life line) (sym c.into_change.ensures ∙ c.in-Trunc.is) drafted.makes)

@@ -3,7 +3,7 @@ use Rattle.std.proofs.Common.{[], arith}
 use Rattle.dt_consumer.specs.Life.{set_up, since_then, happens}
 use Rattle.dt_consumer.specs.Takings.{began}
 use Rattle.dt_consumer.proofs.DraftLemmas.{begun_by_go}
-use Rattle.dt_consumer.proofs.Happening.{same_options, same_clauses, same_shapes}
+use Rattle.dt_consumer.proofs.Happening.{same_options, same_clauses}
 use Rattle.dt_consumer.proofs.Stands.{after_counted, keeps_traced, quota_left, stands_changed}
 use Rattle.dt_consumer.proofs.consumer.Consumer.begin.Goals as goal
 
@@ -19,4 +19,4 @@ returns c = λ account registry life line s drafted.
     (omega (arith, quota_left life accepted.0, s.counted, c.saturating_add-self.ensures))
     (keeps_traced account registry c.args.self.now own next _ c.args.tracing s.keeps
     (same_options account registry fresh began) (same_clauses account registry fresh began)
-    (same_shapes account registry fresh began) drafted.1))
+    drafted.1))

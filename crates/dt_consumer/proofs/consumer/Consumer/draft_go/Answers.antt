@@ -22,5 +22,5 @@ returns c = λ account life m.
     (λ (a : Account). AreEcbs s.clauses (ecbs_in a registry s) consumer.programs.ecbs.items
     → c.in-Some.reserve ≡ reserve_on a registry s 0
     → IsTracing a registry (happens a registry (since_then s []) began) c.in_ok-tracing.tracing)
-    own (c.in_ok-tracing.ensures s k.options k.clauses) in
+    own (λ are. c.in_ok-tracing.ensures s k.options k.clauses are k.shapes) in
     go_draft account registry life c.in_ok-tracing.tracing m.in_quota off room.0 (begun k.ecbs room.1)

@@ -29,6 +29,7 @@ returns c = λ account registry life line s drafted.
     (program_added account registry life forms drafted.1 drafted.3)
     (omega (arith, quota_left life drafted.0, s.counted, c.saturating_add-self.ensures))
     (keeps_program account registry old own s.keeps clauses ecbs drafted.1 drafted.3 drafted.4
-    (c.ecbs_go_on.ensures account registry) _ c.extend.new.self (c.extend.ensures.clauses effective fit)
+    (c.ecbs_go_on.ensures account registry) c.uses_of_both.ensures _ c.extend.new.self
+    (c.extend.ensures.clauses effective fit)
     (c.extend.ensures.ecbs effective fit)
     (ap shapes_of (c.extend.ensures.shapes effective fit) ∙ drafted.5)))

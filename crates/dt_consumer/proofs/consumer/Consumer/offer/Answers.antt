@@ -6,7 +6,7 @@ use Rattle.dt_machine.specs.declared.firing.Firing.{Firing}
 use Rattle.dt_consumer.specs.Keeps.{IsTracing, phase_by}
 use Rattle.dt_consumer.specs.Life.{set_up, happens, is_active, phase_of}
 use Rattle.dt_consumer.specs.Takings.{seen}
-use Rattle.dt_consumer.proofs.Happening.{same_options, same_clauses, same_shapes}
+use Rattle.dt_consumer.proofs.Happening.{same_options, same_clauses}
 use Rattle.dt_consumer.proofs.Stands.{keeps_same, keeps_traced, traced}
 use Rattle.dt_consumer.proofs.consumer.Consumer.offer.Goals as goal
 
@@ -33,6 +33,6 @@ returns-clause-seen c = λ account life s holds.
       keeps = keeps_same account registry next _ _ (ap (λ b. cond b next own) active)
           (keeps_traced account registry c.args.self.now own next c.args.self.now.lines c.see.new.self s.keeps
           (same_options account registry own (seen firing)) (same_clauses account registry own (seen firing))
-          (same_shapes account registry own (seen firing)) (saw t));
+          (saw t));
       counted = s.counted;
     }

@@ -32,7 +32,7 @@ returns c = λ account life line s drafted.
           (stopped_by account registry life drafted.1)
           (omega (arith, quota_left life drafted.0, s.counted, c.saturating_add-self.ensures, lines))
           (keeps_traced account registry old own (with_event own (ended Stop)) _ w.stop.new.self s.keeps
-          refl refl refl (stopped t)))
+          refl refl (stopped t)))
       | in_default w ↦
           let off = untraced account registry own old s.keeps w.in_default.is in
           let no : true ≡ false = sym (ap is_active drafted.1) ∙ ap is_active off in

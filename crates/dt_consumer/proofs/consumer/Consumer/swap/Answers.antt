@@ -22,7 +22,7 @@ returns c = λ account registry life line s drafted.
           (read_by_snap account registry life c.args.cpu drafted.3 drafted.1)
           (omega (arith, quota_left life drafted.0, s.counted, c.saturating_add-self.ensures, lines))
           (keeps_traced account registry old own (with_event own (read c.args.cpu)) _ w.swap.new.self s.keeps
-          refl refl refl (w.swap.ensures account registry own t)))
+          refl refl (w.swap.ensures account registry own t)))
       | in_default w ↦
           let off = untraced account registry own old s.keeps w.in_default.is in
           let no : true ≡ false = sym drafted.1 ∙ ap (is_readable own) off in

@@ -4,10 +4,14 @@ use Rattle.std.specs.List.{All}
 use Rattle.std.specs.Option.{is_some}
 use Rattle.dt_ecb.specs.declared.parts.Ecb.{Ecb}
 use Rattle.dt_lang.specs.Program.{form_of_clause}
+use Rattle.dt_aggstore.specs.IsAt.{IsAt}
+use Rattle.dt_consumer.specs.Aggregations.{contributions}
+use Rattle.dt_consumer.specs.Uses.{given_then}
 use Rattle.dt_consumer.specs.Buffers.{attempts_of}
 use Rattle.dt_consumer.specs.Keeps.{form_of_moment, followed_by, HasTaken, taking_by}
 use Rattle.dt_consumer.specs.Takings.{faults, first_exit, through_exit}
 use Rattle.dt_consumer.proofs.Buffers.{took_more, took_exit, took_through, still_last, none_of_end}
+use Rattle.dt_consumer.proofs.Giving.{gave_exit, gave_more, gave_through}
 use Rattle.dt_consumer.proofs.Takings.{exit_found, stays_more}
 use Rattle.dt_consumer.proofs.processor.Processor.take.Goals as goal
 
@@ -63,6 +67,12 @@ loop-ecb-preserved c = record {
     omega (arith, c.loop-ecb.invariant.counts.0, c.take_one-exit.ensures.counts.0),
     omega (arith, c.loop-ecb.invariant.counts.1, c.take_one-exit.ensures.counts.1),
   );
+  given = λ shapes are there past h.
+      gave_more shapes (taking_by false (form_of_moment c.args.moment.now) (map form_of_clause c.args.clauses.now))
+      c.deref-ecb-items.result.now c.loop-ecb.ecb-index _ past _ c.loop-ecb-test.true
+      (c.take_one-exit.ensures.given (there c.loop-ecb.ecb-index _ c.loop-ecb-test.true) shapes are _
+      (c.loop-ecb.invariant.given shapes are there past h));
+  gives = omega (arith, c.loop-ecb.invariant.gives, c.take_one-exit.ensures.gives);
 }
 
 pub returns-clause-taken : goal.returns-clause-taken
@@ -74,4 +84,28 @@ returns-clause-taken c = λ there past errors last h.
     subst P c.deref-ecb-items.ensures.value
     (λ there. took_through f c.deref-ecb-items.result.now c.loop-ecb.ecb-index past errors _ (omega arith)
     (c.loop-ecb.invariant.stays there) (c.loop-ecb.invariant.taken there past errors last h))
+    there
+
+pub returns-then-is_some-clause-given : goal.returns-then-is_some-clause-given
+returns-then-is_some-clause-given c = λ shapes are there past h.
+    let f = taking_by false (form_of_moment c.args.moment.now) (map form_of_clause c.args.clauses.now) in
+    let row = c.deref-ecb-items.result.now in
+    let P : List Ecb → Type 0 = λ es. All (λ ecb. ecb.clause < length c.args.clauses.now) es
+    → IsAt (given_then past (contributions shapes (through_exit (map f es)))) c.take_one-exit.new.store in
+    subst P c.deref-ecb-items.ensures.value
+    (λ there.
+    let one = there c.loop-ecb.ecb-index _ c.loop-ecb-test.true in
+    gave_exit shapes f row c.loop-ecb.ecb-index _ past _ c.loop-ecb-test.true (c.loop-ecb.invariant.stays there)
+    (subst (λ o. is_some o ≡ true) (c.take_one-exit.ensures.exit one) (sym c.if-is_some.ensures))
+    (c.take_one-exit.ensures.given one shapes are _ (c.loop-ecb.invariant.given shapes are there past h)))
+    there
+
+pub returns-clause-given : goal.returns-clause-given
+returns-clause-given c = λ shapes are there past h.
+    let f = taking_by false (form_of_moment c.args.moment.now) (map form_of_clause c.args.clauses.now) in
+    let P : List Ecb → Type 0 = λ es. All (λ ecb. ecb.clause < length c.args.clauses.now) es
+    → IsAt (given_then past (contributions shapes (through_exit (map f es)))) c.loop-ecb.store in
+    subst P c.deref-ecb-items.ensures.value
+    (λ there. gave_through shapes f c.deref-ecb-items.result.now c.loop-ecb.ecb-index past _ (omega arith)
+    (c.loop-ecb.invariant.stays there) (c.loop-ecb.invariant.given shapes are there past h))
     there

@@ -1,6 +1,12 @@
 -- The ECBs so far were taken, and none of them exited.
-use Rattle.std.proofs.Common.{◌≡◌, ◌+◌, ◌<◌, false, ℕ, None, length, map, take}
+use Rattle.std.proofs.Common.{List, ◌*◌, ◌≤◌, ◌≡◌, ◌+◌, ◌<◌, false, ℕ, None, length, map, take}
 use Rattle.std.specs.List.{All}
+use Rattle.dt_aggstore.specs.History as stores
+use Rattle.dt_aggstore.specs.IsAt.{IsAt, added_of}
+use Rattle.dt_ecb.specs.Shapes.{ShapeForm}
+use Rattle.dt_lang.specs.declared.program.TheConstants.{STATEMENTS_MAX}
+use Rattle.dt_consumer.specs.Aggregations.{contributions}
+use Rattle.dt_consumer.specs.Uses.{AreUses, given_then}
 use Rattle.dt_buffer.specs.History.{Past}
 use Rattle.dt_buffer.specs.Shows.{EndLast}
 use Rattle.dt_lang.specs.Program.{form_of_clause}
@@ -23,4 +29,10 @@ invariant-loop-ecb l = record {
       → first_exit (map (taking_by false (form_of_moment l.moment) (map form_of_clause l.clauses))
       (take l.ecb-index l.ecb-items)) ≡ None;
   counts : AtMostMore l.ecb-index l.fn.self l.self;
+  given : (shapes : List ShapeForm) → AreUses shapes (map form_of_clause l.clauses) l.uses
+      → All (λ ecb. ecb.clause < length l.clauses) l.ecb-items → (past : stores.Past) → IsAt past l.fn.store
+      → IsAt (given_then past (contributions shapes
+      (map (taking_by false (form_of_moment l.moment) (map form_of_clause l.clauses)) (take l.ecb-index l.ecb-items))))
+      l.store;
+  gives : added_of l.store ≤ added_of l.fn.store + STATEMENTS_MAX * l.ecb-index;
 }

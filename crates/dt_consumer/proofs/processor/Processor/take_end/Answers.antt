@@ -3,10 +3,14 @@ use Rattle.std.proofs.Common.{◌+◌, ◌<◌, true, List, length, map, take, s
 use Rattle.std.specs.List.{All}
 use Rattle.dt_ecb.specs.declared.parts.Ecb.{Ecb}
 use Rattle.dt_lang.specs.Program.{form_of_clause}
+use Rattle.dt_aggstore.specs.IsAt.{IsAt}
+use Rattle.dt_consumer.specs.Aggregations.{contributions}
+use Rattle.dt_consumer.specs.Uses.{given_then}
 use Rattle.dt_consumer.specs.Buffers.{attempts_of}
 use Rattle.dt_consumer.specs.Keeps.{form_of_moment, followed_by, HasTaken, taking_by}
 use Rattle.dt_consumer.specs.Takings.{faults}
 use Rattle.dt_consumer.proofs.Buffers.{took_more, took_all, in_end_last}
+use Rattle.dt_consumer.proofs.Giving.{gave_all, gave_more}
 use Rattle.dt_consumer.proofs.processor.Processor.take_end.Goals as goal
 
 pub loop-ecb-preserved : goal.loop-ecb-preserved
@@ -22,6 +26,12 @@ loop-ecb-preserved c = record {
     omega (arith, c.loop-ecb.invariant.counts.0, c.take_one-exit.ensures.counts.0),
     omega (arith, c.loop-ecb.invariant.counts.1, c.take_one-exit.ensures.counts.1),
   );
+  given = λ shapes are there past h.
+      gave_more shapes (taking_by true (form_of_moment c.args.moment.now) (map form_of_clause c.args.clauses.now))
+      c.deref-ecb-items.result.now c.loop-ecb.ecb-index _ past _ c.loop-ecb-test.true
+      (c.take_one-exit.ensures.given (there c.loop-ecb.ecb-index _ c.loop-ecb-test.true) shapes are _
+      (c.loop-ecb.invariant.given shapes are there past h));
+  gives = omega (arith, c.loop-ecb.invariant.gives, c.take_one-exit.ensures.gives);
 }
 
 pub returns-clause-taken : goal.returns-clause-taken
@@ -32,4 +42,14 @@ returns-clause-taken c = λ there past errors h.
     subst P c.deref-ecb-items.ensures.value
     (λ there. took_all f c.deref-ecb-items.result.now c.loop-ecb.ecb-index past errors _ (omega arith)
     (c.loop-ecb.invariant.taken there past errors h))
+    there
+
+pub returns-clause-given : goal.returns-clause-given
+returns-clause-given c = λ shapes are there past h.
+    let f = taking_by true (form_of_moment c.args.moment.now) (map form_of_clause c.args.clauses.now) in
+    let P : List Ecb → Type 0 = λ es. All (λ ecb. ecb.clause < length c.args.clauses.now) es
+    → IsAt (given_then past (contributions shapes (map f es))) c.loop-ecb.store in
+    subst P c.deref-ecb-items.ensures.value
+    (λ there. gave_all shapes f c.deref-ecb-items.result.now c.loop-ecb.ecb-index past _ (omega arith)
+    (c.loop-ecb.invariant.given shapes are there past h))
     there

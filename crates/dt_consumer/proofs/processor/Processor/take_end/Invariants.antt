@@ -1,6 +1,12 @@
 -- The ECBs so far were taken.
-use Rattle.std.proofs.Common.{◌+◌, ◌<◌, true, ℕ, length, map, take}
+use Rattle.std.proofs.Common.{List, ◌*◌, ◌≤◌, ◌+◌, ◌<◌, true, ℕ, length, map, take}
 use Rattle.std.specs.List.{All}
+use Rattle.dt_aggstore.specs.History as stores
+use Rattle.dt_aggstore.specs.IsAt.{IsAt, added_of}
+use Rattle.dt_ecb.specs.Shapes.{ShapeForm}
+use Rattle.dt_lang.specs.declared.program.TheConstants.{STATEMENTS_MAX}
+use Rattle.dt_consumer.specs.Aggregations.{contributions}
+use Rattle.dt_consumer.specs.Uses.{AreUses, given_then}
 use Rattle.dt_buffer.specs.History.{Past}
 use Rattle.dt_lang.specs.Program.{form_of_clause}
 use Rattle.dt_consumer.specs.Buffers.{attempts_of}
@@ -18,4 +24,10 @@ invariant-loop-ecb l = record {
       → HasTaken past errors l.fn.self
       → HasTaken (followed_by past (attempts_of new)) (errors + faults new) l.self;
   counts : AtMostMore l.ecb-index l.fn.self l.self;
+  given : (shapes : List ShapeForm) → AreUses shapes (map form_of_clause l.clauses) l.uses
+      → All (λ ecb. ecb.clause < length l.clauses) l.ecb-items → (past : stores.Past) → IsAt past l.fn.store
+      → IsAt (given_then past (contributions shapes
+      (map (taking_by true (form_of_moment l.moment) (map form_of_clause l.clauses)) (take l.ecb-index l.ecb-items))))
+      l.store;
+  gives : added_of l.store ≤ added_of l.fn.store + STATEMENTS_MAX * l.ecb-index;
 }

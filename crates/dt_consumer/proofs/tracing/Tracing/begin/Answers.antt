@@ -2,14 +2,18 @@
 use Rattle.std.proofs.Common.{◌≡◌, ◌+◌, ◌*◌, ◌<◌, ◌==◌, ℕ, IfSome, filter, slice_get, [], length, map, refl, sym, ap, ◌∙◌, subst, arith}
 use Rattle.std.specs.Option.{option_copied}
 use Rattle.dt_ecb.specs.declared.limits.TheConstants.{ECBS_MAX}
+use Rattle.dt_ecb.specs.Forms.{shapes_of}
 use Rattle.dt_lang.specs.Program.{form_of_clause}
 use Rattle.dt_machine.specs.declared.firing.Firing.{Firing}
 use Rattle.dt_consumer.specs.Keeps.{form_of_options}
-use Rattle.dt_consumer.specs.Life.{since_then, with_event}
+use Rattle.dt_consumer.specs.Life.{shapes_in, since_then, with_event}
 use Rattle.dt_consumer.specs.Options.{OptionsForm}
+use Rattle.dt_consumer.specs.Counts.{GIVES_MAX}
+use Rattle.dt_consumer.specs.Uses.{AreUses}
 use Rattle.dt_consumer.specs.Takings.{MomentForm, began, ended}
 use Rattle.dt_consumer.specs.declared.limits.TheConstants.{BEGIN}
-use Rattle.dt_consumer.proofs.Counted.{no_more}
+use Rattle.dt_consumer.proofs.Counted.{no_more, none_more}
+use Rattle.dt_consumer.proofs.Stores.{gave_at, new_given}
 use Rattle.dt_consumer.proofs.Taken.{own_is}
 use Rattle.dt_consumer.proofs.Tracings.{RowOf, becomes, end_is, happens_last, happens_on, new_taken, row_at, rows_kept, took_at, two_there}
 use Rattle.dt_consumer.proofs.tracing.Tracing.begin.Goals as goal
@@ -26,6 +30,8 @@ invariant_of-tracing c = record {
   in_history = c.args.options.some;
   counted = no_more _ (ECBS_MAX * (0 + 1)) c.take-exit.new.self.all.items (omega arith)
       (c.take-exit.ensures.counts 0 c.in_ok-processors.ensures.counts);
+  given = none_more _ (GIVES_MAX * (0 + 1)) c.take-exit.new.self.stores.items (omega arith)
+      (c.take-exit.ensures.gives 0 c.in_ok-processors.ensures.gives);
 }
 
 pub invariant_of-tracing-2 : goal.invariant_of-tracing-2
@@ -40,10 +46,12 @@ invariant_of-tracing-2 c = record {
   in_history = c.args.options.some;
   counted = no_more _ (ECBS_MAX * (0 + 1)) c.take-exit.new.self.all.items (omega arith)
       (c.take-exit.ensures.counts 0 c.in_ok-processors.ensures.counts);
+  given = none_more _ (GIVES_MAX * (0 + 1)) c.take-exit.new.self.stores.items (omega arith)
+      (c.take-exit.ensures.gives 0 c.in_ok-processors.ensures.gives);
 }
 
 pub returns-in_default : goal.returns-in_default
-returns-in_default c = λ s same own kept room.
+returns-in_default c = λ s same own kept shaped room.
     let account = c.args.account.now in
     let registry = c.args.machine.now.registry in
     let fresh = since_then s [] in
@@ -68,8 +76,8 @@ returns-in_default c = λ s same own kept room.
     let row = c.index.result.now in
     let its = row_at account registry fresh c.in_ok-rows.rows.items BEGIN row rows long c.index.ensures in
     let named : BEGIN ≡ c.own_firing.result.probe = sym (ap (λ (f : Firing). f.probe) c.own_firing.ensures) in
-    let own_clauses = ap (map form_of_clause) c.clauses.ensures.value ∙ own in
-    let took = took_at account registry fresh began m row c.clauses.result.now c.in_ok-processors.processors.all.items
+    let own_clauses = ap (map form_of_clause) c.clauses-2.ensures.value ∙ own in
+    let took = took_at account registry fresh began m row c.clauses-2.result.now c.in_ok-processors.processors.all.items
     c.take-exit.new.self.all.items c.take-exit.result tt at refl own_clauses
     (subst (λ n. RowOf account registry fresh n row) named its) (λ cpu. refl) c.take-exit.ensures.taken
     (λ placed. c.take-exit.ensures.exit placed
@@ -82,6 +90,17 @@ returns-in_default c = λ s same own kept room.
     )))
     (new_taken account registry s (form_of_options c.args.options) c.args.reserve
     c.in_ok-processors.processors.all.items same room c.in_ok-processors.ensures.empty) in
+    let used : AreUses (shapes_in s) s.clauses c.in_ok-uses.uses.items =
+    subst (λ shapes. AreUses shapes s.clauses c.in_ok-uses.uses.items) shaped
+    (subst (λ cs. AreUses (shapes_of c.args.programs.now.shapes) cs c.in_ok-uses.uses.items)
+    (ap (map form_of_clause) c.clauses.ensures.value ∙ own) c.in_ok-uses.ensures) in
+    let gave = gave_at account registry fresh began m row c.clauses-2.result.now c.deref.result.now
+    c.in_ok-processors.processors.stores.items c.take-exit.new.self.stores.items tt at refl own_clauses
+    (subst (AreUses (shapes_in s) s.clauses) (sym c.deref.ensures.value) used)
+    (subst (λ n. RowOf account registry fresh n row) named its)
+    c.take-exit.ensures.given
+    (new_given account registry s c.args.options.aggsize c.in_ok-processors.processors.stores.items
+    (ap (λ (o : OptionsForm). o.aggsize) same) c.in_ok-processors.ensures.fresh) in
     let first = end_is account registry next began c.take-exit.result (0 == c.args.options.histsize) took.exited
     (ap (λ (o : OptionsForm). 0 == o.histsize) (sym same)) in
     becomes account registry next _ _
@@ -92,6 +111,8 @@ returns-in_default c = λ s same own kept room.
       all_rows = omega (arith, c.in_ok-rows.ensures.len, ap length c.probes.ensures.value);
       processors = took.taken;
       all_processors = omega (arith, c.take-exit.ensures.len, c.in_ok-processors.ensures.len, c.cpus.ensures.value);
+      uses = used;
+      stores = gave;
       history = ap (λ (o : OptionsForm). o.histsize) same;
       seen = refl;
       standing = refl;
@@ -99,7 +120,7 @@ returns-in_default c = λ s same own kept room.
     })
 
 pub returns : goal.returns
-returns c = λ s same own kept room.
+returns c = λ s same own kept shaped room.
     let account = c.args.account.now in
     let registry = c.args.machine.now.registry in
     let fresh = since_then s [] in
@@ -124,8 +145,8 @@ returns c = λ s same own kept room.
     let row = c.index.result.now in
     let its = row_at account registry fresh c.in_ok-rows.rows.items BEGIN row rows long c.index.ensures in
     let named : BEGIN ≡ c.own_firing.result.probe = sym (ap (λ (f : Firing). f.probe) c.own_firing.ensures) in
-    let own_clauses = ap (map form_of_clause) c.clauses.ensures.value ∙ own in
-    let took = took_at account registry fresh began m row c.clauses.result.now c.in_ok-processors.processors.all.items
+    let own_clauses = ap (map form_of_clause) c.clauses-2.ensures.value ∙ own in
+    let took = took_at account registry fresh began m row c.clauses-2.result.now c.in_ok-processors.processors.all.items
     c.take-exit.new.self.all.items c.take-exit.result tt at refl own_clauses
     (subst (λ n. RowOf account registry fresh n row) named its) (λ cpu. refl) c.take-exit.ensures.taken
     (λ placed. c.take-exit.ensures.exit placed
@@ -138,6 +159,17 @@ returns c = λ s same own kept room.
     )))
     (new_taken account registry s (form_of_options c.args.options) c.args.reserve
     c.in_ok-processors.processors.all.items same room c.in_ok-processors.ensures.empty) in
+    let used : AreUses (shapes_in s) s.clauses c.in_ok-uses.uses.items =
+    subst (λ shapes. AreUses shapes s.clauses c.in_ok-uses.uses.items) shaped
+    (subst (λ cs. AreUses (shapes_of c.args.programs.now.shapes) cs c.in_ok-uses.uses.items)
+    (ap (map form_of_clause) c.clauses.ensures.value ∙ own) c.in_ok-uses.ensures) in
+    let gave = gave_at account registry fresh began m row c.clauses-2.result.now c.deref.result.now
+    c.in_ok-processors.processors.stores.items c.take-exit.new.self.stores.items tt at refl own_clauses
+    (subst (AreUses (shapes_in s) s.clauses) (sym c.deref.ensures.value) used)
+    (subst (λ n. RowOf account registry fresh n row) named its)
+    c.take-exit.ensures.given
+    (new_given account registry s c.args.options.aggsize c.in_ok-processors.processors.stores.items
+    (ap (λ (o : OptionsForm). o.aggsize) same) c.in_ok-processors.ensures.fresh) in
     let first = end_is account registry next began c.take-exit.result (0 == c.args.options.histsize) took.exited
     (ap (λ (o : OptionsForm). 0 == o.histsize) (sym same)) in
     becomes account registry (with_event next (ended c.in-Some.end)) _ _
@@ -148,9 +180,11 @@ returns c = λ s same own kept room.
       all_rows = omega (arith, c.in_ok-rows.ensures.len, ap length c.probes.ensures.value);
       processors = took.taken;
       all_processors = omega (arith, c.take-exit.ensures.len, c.in_ok-processors.ensures.len, c.cpus.ensures.value);
+      uses = used;
+      stores = gave;
       history = ap (λ (o : OptionsForm). o.histsize) same;
       seen = refl;
       standing = refl;
       end_last = λ e. took.still;
     })
-    (ap (map form_of_clause) c.clauses-2.ensures.value ∙ own))
+    (ap (map form_of_clause) c.clauses-3.ensures.value ∙ own))

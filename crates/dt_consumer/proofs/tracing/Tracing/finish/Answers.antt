@@ -1,9 +1,13 @@
 -- END fired, and that was all.
-use Rattle.std.proofs.Common.{◌≡◌, ◌+◌, ◌*◌, subst, refl, arith}
+use Rattle.std.proofs.Common.{◌≡◌, sym, ◌+◌, ◌*◌, subst, refl, arith}
 use Rattle.std.specs.List.{All}
 use Rattle.dt_ecb.specs.declared.limits.TheConstants.{ECBS_MAX}
 use Rattle.dt_consumer.specs.Counts.{AtMost, own_firings}
 use Rattle.dt_consumer.specs.declared.limits.TheConstants.{END}
+use Rattle.dt_consumer.specs.Life.{shapes_in}
+use Rattle.dt_consumer.specs.Uses.{AreUses}
+use Rattle.dt_consumer.proofs.Counted.{given_more, given_on}
+use Rattle.dt_consumer.proofs.Stores.{end_gave}
 use Rattle.dt_consumer.proofs.Tracings.{end_fired, row_at, row_placed}
 use Rattle.dt_consumer.proofs.tracing.Tracing.finish.Goals as goal
 
@@ -14,6 +18,12 @@ invariant_of-self-clause-counted c =
     c.requires c.args.self.now.counted in
     let more : ECBS_MAX * (c.args.self.now.seen + 1) + ECBS_MAX ≡ ECBS_MAX * (c.args.self.now.seen + 2) = omega arith in
     subst (λ n. All (AtMost n) c.fire_end.new.self.all.items) more (c.fire_end.ensures.counts _ old)
+
+pub invariant_of-self-clause-given : goal.invariant_of-self-clause-given
+invariant_of-self-clause-given c =
+    let own = c.args.self.now in
+    given_more own.seen c.fire_end.new.self.stores.items
+    (c.fire_end.ensures.gives _ (given_on own.seen own.ended own.processors.stores.items c.requires own.given))
 
 pub returns : goal.returns
 returns c = λ s t own.
@@ -28,6 +38,11 @@ returns c = λ s t own.
           (c.fire_end.ensures.taken (row_placed account registry s END row its c.args.clauses.now own) _ _
           t.processors);
       all_processors = omega (arith, c.fire_end.ensures.len, t.all_processors);
+      uses = t.uses;
+      stores = end_gave account registry s c.args.end row c.deref.result.now c.args.clauses.now
+          c.args.self.now.processors.stores.items c.fire_end.new.self.stores.items own
+          (subst (AreUses (shapes_in s) s.clauses) (sym c.deref.ensures.value) t.uses) its
+          c.fire_end.ensures.given t.stores;
       history = t.history;
       seen = t.seen;
       standing = refl;

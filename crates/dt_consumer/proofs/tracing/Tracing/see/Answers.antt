@@ -1,13 +1,15 @@
 -- A firing was seen, and perhaps it was the last.
 use Rattle.std.proofs.Common.{◌≡◌, ◌+◌, ◌*◌, ◌≤◌, ◌==◌, ℕ, refl, sym, ap, ◌∙◌, subst, arith}
 use Rattle.dt_consumer.specs.Keeps.{form_of_moment, phase_by}
-use Rattle.dt_consumer.specs.Life.{with_event}
+use Rattle.dt_consumer.specs.Life.{shapes_in, with_event}
 use Rattle.dt_consumer.specs.Takings.{seen}
 use Rattle.dt_consumer.specs.declared.limits.TheConstants.{END}
 use Rattle.std.specs.List.{All}
 use Rattle.dt_ecb.specs.declared.limits.TheConstants.{ECBS_MAX}
-use Rattle.dt_consumer.specs.Counts.{AtMost, must_be_left, own_firings}
-use Rattle.dt_consumer.proofs.Counted.{below_limit, counted_on, left_on, no_more, one_left, one_more}
+use Rattle.dt_consumer.specs.Counts.{AtMost, GivenAtMost, GIVES_MAX, must_be_left, own_firings}
+use Rattle.dt_consumer.specs.Uses.{AreUses}
+use Rattle.dt_consumer.proofs.Counted.{below_limit, counted_on, given_below, given_more, given_on, left_on, none_more, no_more, one_left, one_more}
+use Rattle.dt_consumer.proofs.Stores.{end_gave, gave_at}
 use Rattle.dt_consumer.proofs.Tracings.{becomes, end_fired, end_is, happens_last, happens_on, row_at, row_placed, took_at}
 use Rattle.dt_consumer.proofs.tracing.Tracing.see.Goals as goal
 
@@ -26,6 +28,12 @@ returns-in-Some c = λ s firing t own on at.
     c.index-row.ensures)
     (t.end_last c.requires.going) c.take-exit.ensures.taken
     (λ placed. c.take-exit.ensures.exit placed (omega (arith, t.all_processors, on))) t.processors in
+    let gave = gave_at account registry s (seen firing) m row c.args.clauses.now c.deref.result.now
+    c.args.self.now.processors.stores.items c.take-exit.new.self.stores.items tt at refl own
+    (subst (AreUses (shapes_in s) s.clauses) (sym c.deref.ensures.value) t.uses)
+    (row_at account registry s c.args.self.now.rows.items m.firing.probe row t.rows (omega (arith, c.requires.known))
+    c.index-row.ensures)
+    c.take-exit.ensures.given t.stores in
     let next = with_event s (seen firing) in
     let end_row = c.index-row-in-Some.result.now in
     let its = row_at account registry next c.args.self.now.rows.items END end_row t.rows (omega arith)
@@ -42,6 +50,11 @@ returns-in-Some c = λ s firing t own on at.
           (c.fire_end.ensures.taken (row_placed account registry next END end_row its c.args.clauses.now own) _ _
           took.taken);
       all_processors = omega (arith, c.fire_end.ensures.len, c.take-exit.ensures.len, t.all_processors);
+      uses = t.uses;
+      stores = end_gave account registry next c.in-Some.end end_row c.deref-in-Some.result.now c.args.clauses.now
+          c.take-exit.new.self.stores.items c.fire_end.new.self.stores.items own
+          (subst (AreUses (shapes_in s) s.clauses) (sym c.deref-in-Some.ensures.value) t.uses) its
+          c.fire_end.ensures.given gave;
       history = t.history;
       seen = omega (arith, t.seen);
       standing = refl;
@@ -60,6 +73,12 @@ returns-in_default c = λ s firing t own on at.
     c.index-row.ensures)
     (t.end_last c.requires.going) c.take-exit.ensures.taken
     (λ placed. c.take-exit.ensures.exit placed (omega (arith, t.all_processors, on))) t.processors in
+    let gave = gave_at account registry s (seen firing) m row c.args.clauses.now c.deref.result.now
+    c.args.self.now.processors.stores.items c.take-exit.new.self.stores.items tt at refl own
+    (subst (AreUses (shapes_in s) s.clauses) (sym c.deref.ensures.value) t.uses)
+    (row_at account registry s c.args.self.now.rows.items m.firing.probe row t.rows (omega (arith, c.requires.known))
+    c.index-row.ensures)
+    c.take-exit.ensures.given t.stores in
     let next = with_event s (seen firing) in
     let stays = end_is account registry next (seen firing) c.take-exit.result _ took.exited
     (counted_is c.args.self.now.seen _ c.args.self.now.history _ t.seen t.history)
@@ -70,14 +89,16 @@ returns-in_default c = λ s firing t own on at.
       all_rows = t.all_rows;
       processors = took.taken;
       all_processors = omega (arith, c.take-exit.ensures.len, t.all_processors);
+      uses = t.uses;
+      stores = gave;
       history = t.history;
       seen = omega (arith, t.seen);
       standing = ap phase_by (sym c.requires.going);
       end_last = λ e. took.still;
     })
 
-pub fire_end-requires : goal.fire_end-requires
-fire_end-requires c =
+pub fire_end-requires-clause-counts : goal.fire_end-requires-clause-counts
+fire_end-requires-clause-counts c =
     let own = c.args.self.now in
     below_limit own.seen own.history c.take-exit.new.self.all.items
     (left_on own.seen own.history own.ended c.requires.going own.in_history) own.few
@@ -116,3 +137,31 @@ invariant_of-self-in_default-clause-in_history c =
     (one_left c.take-exit.result own.seen own.history
     (left_on own.seen own.history own.ended c.requires.going own.in_history)
     (sym c.in_default.is ∙ c.end_after.ensures))
+
+pub fire_end-requires-clause-gives : goal.fire_end-requires-clause-gives
+fire_end-requires-clause-gives c =
+    let own = c.args.self.now in
+    given_below own.seen own.history c.take-exit.new.self.stores.items
+    (left_on own.seen own.history own.ended c.requires.going own.in_history) own.few
+    (given_more own.seen c.take-exit.new.self.stores.items
+    (c.take-exit.ensures.gives _
+    (given_on own.seen own.ended own.processors.stores.items c.requires.going own.given)))
+
+pub invariant_of-self-clause-given : goal.invariant_of-self-clause-given
+invariant_of-self-clause-given c =
+    let own = c.args.self.now in
+    none_more _ (GIVES_MAX * (own.seen + 1 + 2)) c.fire_end.new.self.stores.items (omega arith)
+    (c.fire_end.ensures.gives _
+    (given_more own.seen c.take-exit.new.self.stores.items
+    (c.take-exit.ensures.gives _
+    (given_on own.seen own.ended own.processors.stores.items c.requires.going own.given))))
+
+pub invariant_of-self-in_default-clause-given : goal.invariant_of-self-in_default-clause-given
+invariant_of-self-in_default-clause-given c =
+    let own = c.args.self.now in
+    let now' = given_more own.seen c.take-exit.new.self.stores.items
+    (c.take-exit.ensures.gives _
+    (given_on own.seen own.ended own.processors.stores.items c.requires.going own.given)) in
+    subst (λ e. All (GivenAtMost (GIVES_MAX * (own.seen + 1 + own_firings e))) c.take-exit.new.self.stores.items)
+    (sym c.requires.going)
+    (none_more _ (GIVES_MAX * (own.seen + 1 + 1)) c.take-exit.new.self.stores.items (omega arith) now')

@@ -5,7 +5,7 @@ use Rattle.std.specs.Option.{IfSome}
 use Rattle.dt_buffer.specs.History.{new_past}
 use Rattle.dt_consumer.specs.Counts.{AtMost}
 use Rattle.dt_consumer.specs.Keeps.{HasTaken}
-use Rattle.dt_consumer.proofs.processors.Processors.new.Given as goal
+use Rattle.dt_consumer.proofs.processors.Processors.fresh.Given as goal
 
 abbrev pub invariant-loop-cpu : goal.invariant-loop-cpu
 invariant-loop-cpu l = record {
