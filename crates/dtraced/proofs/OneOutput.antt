@@ -9,8 +9,8 @@ use Rattle.dt_consumer.specs.Draft.{after_line}
 use Rattle.dt_consumer.specs.Life.{Item}
 use Rattle.dt_consumer.specs.Reply.{Replies}
 use Rattle.dt_consumer.specs.declared.refusal.Refusal.{Refusal}
-use Rattle.dtraced.specs.Alone.{Reached, own_line, firing_made, IsAfterFiring, IsLifeOf, IsReplyTo, Alone}
-use Rattle.dtraced.specs.Line.{BytesAsk}
+use Rattle.dt_proto.specs.Alone.{Reached, own_line, firing_made, IsAfterFiring, IsLifeOf, IsReplyTo, Alone}
+use Rattle.dt_proto.specs.Line.{BytesAsk}
 use Rattle.dtraced.specs.Replay.{session_view, account_opened, AreAnswers, IsReplay, output_of}
 use Rattle.dtraced.specs.Step.{Act}
 use Rattle.dtraced.proofs.Steps.{same_acts}

@@ -12,7 +12,7 @@ use Rattle.dt_consumer.specs.StandsFor.{StandsFor}
 use Rattle.dt_consumer.specs.declared.consumer.Consumer.{Consumer}
 use Rattle.dtraced.specs.Input.{AreSteps, lines_of}
 use Rattle.dtraced.specs.Replay.{session_view, brings, reached_by, account_opened, output_line, output_of, taken, AreAnswers, IsReplay}
-use Rattle.dtraced.specs.Reply.{reply_text}
+use Rattle.dt_proto.specs.Reply.{reply_text}
 use Rattle.dtraced.specs.Run.{IsSession, IsServed, IsAnswer, HasTaken}
 use Rattle.dtraced.specs.declared.run.Run.{Run}
 use Rattle.dtraced.specs.Step.{Act, opens, calls, fires, may_open, is_opened}

@@ -5,9 +5,9 @@ use Rattle.dt_cred.specs.declared.account.Account.{Account}
 use Rattle.dt_machine.specs.Registry.{Registry, Contents, account_of, firing_at}
 use Rattle.dt_machine.specs.declared.firing.Firing.{Firing}
 use Rattle.dt_consumer.specs.Answer.{Answer}
-use Rattle.dtraced.specs.Alone.{Reached, own_line, firing_made, Alone}
+use Rattle.dt_proto.specs.Alone.{Reached, own_line, firing_made, Alone}
 use Rattle.dtraced.specs.Input.{AreSteps, lines_of}
-use Rattle.dtraced.specs.Reply.{reply_text}
+use Rattle.dt_proto.specs.Reply.{reply_text}
 use Rattle.dtraced.specs.Step.{Act, opens, calls, fires, is_fire_of, may_open, is_opened}
 
 -- The steps so far are called the past; the newest goes first.

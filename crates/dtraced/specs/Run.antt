@@ -11,10 +11,10 @@ use Rattle.dt_consumer.specs.Reply.{Replies}
 use Rattle.dt_consumer.specs.StandsFor.{StandsFor}
 use Rattle.dt_consumer.specs.declared.consumer.Consumer.{Consumer}
 use Rattle.dt_consumer.specs.declared.refusal.Refusal.{Refusal}
-use Rattle.dtraced.specs.Alone.{IsLifeOf, Alone}
+use Rattle.dt_proto.specs.Alone.{IsLifeOf, Alone}
 use Rattle.dtraced.specs.Input.{IsStepOn, AreSteps}
-use Rattle.dtraced.specs.Line.{BytesAsk}
-use Rattle.dtraced.specs.Reply.{reply_text}
+use Rattle.dt_proto.specs.Line.{BytesAsk}
+use Rattle.dt_proto.specs.Reply.{reply_text}
 use Rattle.dtraced.specs.Replay.{taken, session_view, account_opened, output_of}
 use Rattle.dtraced.specs.Step.{Act, opens_session, is_opened}
 use Rattle.dtraced.specs.declared.run.Run.{Run}

@@ -3,7 +3,6 @@ ghost use Rattle.std.specs.Prelude.{◌≡◌, ℕ, List};
 ghost use Rattle.dt_machine.specs.Registry.{Contents};
 ghost use Rattle.dtraced.specs.Replay.{IsReplay};
 
-pub use crate::reply::reply_texts;
 pub use crate::step::one_step;
 use dt_consumer::one_reply;
 

@@ -6,9 +6,7 @@
 
 mod fault;
 pub mod laws;
-mod line;
 pub mod replay;
-mod reply;
 mod run;
 mod step;
 mod words;

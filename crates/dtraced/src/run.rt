@@ -8,11 +8,10 @@ ghost use Rattle.dtraced.specs.Input.{AreSteps};
 ghost use Rattle.dtraced.specs.Run.{IsAllowed, IsAnswer, IsAfter, HasTaken};
 ghost use Rattle.dtraced.specs.Step.{Act, opens, calls, fires, act_of};
 
-use crate::line::read_line;
-use crate::reply::reply_bytes;
 use crate::step::Step;
 use dt_consumer::Consumer;
 use dt_machine::{CPUS_MAX, Machine};
+use dt_proto::{read_line, reply_bytes};
 use std::alloc::{AllocError, Global};
 
 /// The one session of a replay, how far each processor's script has come, and what is to be written.

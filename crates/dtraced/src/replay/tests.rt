@@ -3,6 +3,8 @@ use super::*;
 use std::io;
 use std::test::Fail;
 
+mod aggregations;
+
 /// Two processors, four accounts, two processes; the first processor fires a system call, and then the clock twice.
 const MACHINE: &str = r#"{"cpus":2,
 "accounts":[{"name":"root","uid":0,"privs":["dtrace_kernel"]},{"name":"ann","uid":501,"privs":["dtrace_user"]},
@@ -311,8 +313,8 @@ call 0 {"cmd":"status"}
     Ok(())
 }
 
-/// A machine whose first processor fires this script.
-fn machine_with(alloc: Global, script: &str) -> Result<String, Fail> {
+/// A machine whose two processors fire these scripts.
+fn machine_with(alloc: Global, first: &str, second: &str) -> Result<String, Fail> {
     let mut machine = String::from_str(
         alloc,
         r#"{"cpus":2,"accounts":[{"name":"root","uid":0,"privs":["dtrace_kernel"]},
@@ -320,8 +322,10 @@ fn machine_with(alloc: Global, script: &str) -> Result<String, Fail> {
 "processes":[{"pid":100,"uid":501,"execname":"sh"},{"pid":200,"uid":0,"execname":"cron"}],
 "probes":["syscall::read:entry","profile:::tick-1sec","fbt:genunix:kmem_alloc:entry"],"scripts":[["#,
     )?;
-    machine.push_str(script)?;
-    machine.push_str("],[]]}")?;
+    machine.push_str(first)?;
+    machine.push_str("],[")?;
+    machine.push_str(second)?;
+    machine.push_str("]]}")?;
     Ok(machine)
 }
 
@@ -608,7 +612,7 @@ call 0 {"cmd": "describe", "epid": 2}
         ),
     ];
     for (script, input, wanted) in rows {
-        let machine = machine_with(rt.alloc(), script)?;
+        let machine = machine_with(rt.alloc(), script, "")?;
         assert!(rt;
             tells(rt.alloc(), machine.as_str(), input, wanted)?,
             "{input}"

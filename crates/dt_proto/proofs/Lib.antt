@@ -1,0 +1,14 @@
+-- What the prover was told of lines and replies.
+pub mod Parts
+pub mod Splitting
+pub mod Feeding
+pub mod Giving
+pub mod Requests
+pub mod Texts
+pub mod Asks
+pub mod Floats
+pub mod ItemTexts
+pub mod ListedTexts
+pub mod StatusTexts
+pub mod DescribedTexts
+pub mod TableTexts

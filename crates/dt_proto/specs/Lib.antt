@@ -1,0 +1,10 @@
+-- What the contracts of this crate cite.
+pub mod Lines
+pub mod Splits
+pub mod HasRead
+pub mod Asked
+pub mod Line
+pub mod Scalars
+pub mod Rows
+pub mod Reply
+pub mod Alone

@@ -1,0 +1,31 @@
+//! Lines and replies as bytes.
+//!
+//! A session's input comes as pieces of bytes, cut anywhere. [`Lines`] finds the lines in it: a line is what stands
+//! before a newline, and one of more than [`LINE_MAX`] bytes is long, whatever they are. Which lines an input has is
+//! defined over all its bytes (`specs/Lines.antt`), and not over how it is read; `one_cutting` says how the lines of
+//! two pieces are those of the whole, and `one_splitting` that an input is its lines and a rest in one way.
+//!
+//! [`read_line`] gives what a line's bytes ask of a consumer, or for what they are refused (`specs/Line.antt`), and
+//! [`reply_bytes`] writes a reply as its JSON (`specs/Reply.antt`), whose text the law `reply_texts` gives letter by
+//! letter. `specs/Alone.antt` says what a consumer is answered that traces alone.
+#![tactic(auto)]
+
+mod asked;
+mod laws;
+mod limits;
+mod line;
+mod lines;
+mod pieces;
+mod reply;
+mod rows;
+#[cfg(test)]
+mod tests;
+mod text;
+
+pub use asked::{Asked, WholeLine};
+pub use laws::{one_cutting, one_splitting};
+pub use limits::LINE_MAX;
+pub use line::{command_of, read_line};
+pub use lines::{Fed, Lines};
+pub use pieces::asked_in;
+pub use reply::{reply_bytes, reply_texts};

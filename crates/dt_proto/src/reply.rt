@@ -1,0 +1,296 @@
+//! The line that a consumer is answered.
+ghost use Rattle.std.specs.Prelude.{◌≡◌, ℕ, ◌<◌, ℤ, List, [], ◌++◌, Bool, Some, None, if◌then◌else◌, IfOk, codes, decimal, map};
+ghost use Rattle.std.specs.Fmt.{signed_decimal};
+ghost use Rattle.std.specs.List.{AllByRecursion, join_with_byte};
+ghost use Rattle.dt_aggfn.specs.declared.function.AggFn.{AggFn};
+ghost use Rattle.dt_aggstore.specs.Entries.{form_of_row};
+ghost use Rattle.dt_aggstore.specs.Table.{RowForm};
+ghost use Rattle.dt_cred.specs.declared.probe.Probe.{Probe};
+ghost use Rattle.serde_json.specs.Data.{object, string};
+ghost use Rattle.serde_json.specs.View.{view};
+ghost use Rattle.hex.specs.Hex.{encode_lower};
+ghost use Rattle.dt_consumer.specs.Answer.{done, enabled, snapped, aggregated, status, listed, described, refused, answer_of};
+ghost use Rattle.dt_consumer.specs.declared.phase.End.TheVariants.{Stop, Exit, History};
+ghost use Rattle.dt_lang.specs.Fault.{word_of};
+ghost use Rattle.dt_lang.specs.Word.{name_of_destructive};
+ghost use Rattle.dt_lang.specs.declared.fault.Why.{Why};
+ghost use Rattle.dt_lang.specs.declared.word.Destructive.{Destructive};
+ghost use Rattle.dt_ecb.specs.declared.fault.RestrictedAction.TheVariants.{Stack};
+ghost use Rattle.serde_json.specs.Written.{compact_text};
+ghost use Rattle.dt_record.specs.Fields.{form_of_field, form_of_layout};
+ghost use Rattle.dt_record.specs.Layout.{FieldForm, size_of};
+ghost use Rattle.dt_proto.specs.Reply.{cause_data, describe_text, exit_data, field_data, field_text, fields_in, refusal_members, probe_data, probe_text, reply_members, reply_text, status_text};
+ghost use Rattle.dt_proto.specs.Rows.{function_word, row_text};
+ghost use Rattle.dt_proto.specs.Scalars.{characters, of_number};
+
+use crate::rows::{row_values, word_of};
+use crate::text::text_of;
+use dt_aggfn::AggFn;
+use dt_aggstore::Row;
+use dt_consumer::{End, Phase, Refusal, Reply};
+use dt_cred::Probe;
+use dt_record::{Field, Layout};
+use serde_json::{Value, json};
+use std::alloc::{AllocError, Global};
+
+/// The line that a reply is, with its newline: JSON with the keys in the order of their bytes and no blanks.
+pub fn reply_bytes(alloc: Global, reply: &Reply) -> Result<Vec<u8>, AllocError>
+    ensures { IfOk result (λ bytes. bytes.items ≡ reply_text (answer_of reply.now)) }
+{
+    let mut bytes = reply_value(alloc, reply)?.to_vec(alloc)?;
+    bytes.push(b'\n')?;
+    Ok(bytes)
+}
+
+fn reply_value(alloc: Global, reply: &Reply) -> Result<Value, AllocError>
+    ensures { IfOk result (λ value. view value ≡ object (reply_members (answer_of reply.now))) }
+{
+    match reply {
+        Reply::Done => json!(in alloc; {"ok": true}),
+        Reply::Enabled { count, first } => {
+            json!(in alloc; {"count": *count, "first": *first, "ok": true})
+        }
+        Reply::Snapped {
+            cpu,
+            data,
+            drops,
+            filled,
+        } => snapped_value(alloc, *cpu, data, *drops, *filled),
+        Reply::Aggregated {
+            name,
+            function,
+            rows,
+        } => table_value(alloc, name.as_bytes(), *function, rows),
+        Reply::Status {
+            phase,
+            seen,
+            errors,
+            aggdrops,
+        } => status_value(alloc, *phase, *seen, errors, aggdrops),
+        Reply::Listed { probes } => listed_value(alloc, probes),
+        Reply::Described {
+            epid,
+            probe,
+            layout,
+        } => described_value(alloc, *epid, probe, layout),
+        Reply::Refused(refusal) => refusal_value(alloc, *refusal),
+    }
+}
+
+fn snapped_value(
+    alloc: Global,
+    cpu: u32,
+    bytes: &[u8],
+    drops: u64,
+    filled: bool,
+) -> Result<Value, AllocError>
+    ensures { IfOk result (λ value. view value ≡ object (reply_members (snapped cpu bytes.now drops filled))) }
+{
+    let digits = hex::encode(alloc, bytes)?;
+    json!(in alloc; {"cpu": cpu, "data": digits, "drops": drops, "filled": filled, "ok": true})
+}
+
+fn listed_value(alloc: Global, probes: &[Probe]) -> Result<Value, AllocError>
+    ensures { IfOk result (λ value. view value ≡ object (reply_members (listed probes.now))) }
+{
+    let mut values = Vec::new(alloc);
+    for probe in probes {
+        values.push(probe_value(alloc, probe)?)?;
+    }
+    json!(in alloc; {"ok": true, "probes": values})
+}
+
+/// The table of an aggregation.
+fn table_value(
+    alloc: Global,
+    name: &[u8],
+    function: AggFn,
+    rows: &[Row],
+) -> Result<Value, AllocError>
+    ensures { IfOk result (λ value. view value
+        ≡ object (reply_members (aggregated name.now function (map form_of_row rows.now)))) }
+{
+    let name = text_of(alloc, name)?;
+    let rows = row_values(alloc, rows)?;
+    json!(in alloc; {"fn": word_of(function), "name": name, "ok": true, "rows": rows})
+}
+
+fn status_value(
+    alloc: Global,
+    phase: Phase,
+    seen: u64,
+    errors: &[u64],
+    aggdrops: &[u64],
+) -> Result<Value, AllocError>
+    ensures { IfOk result (λ value. view value ≡ object (reply_members (status phase seen errors.now aggdrops.now))) }
+{
+    let drops = numbers(alloc, aggdrops)?;
+    let errors = numbers(alloc, errors)?;
+    let cause = cause_value(alloc, phase)?;
+    let exit = exit_value(phase);
+    json!(in alloc; {"aggdrops": drops, "cause": cause, "errors": errors, "exit": exit, "ok": true,
+        "phase": phase.word(), "seen": seen})
+}
+
+/// Why tracing ended; null where it didn't.
+fn cause_value(alloc: Global, phase: Phase) -> Result<Value, AllocError>
+    ensures { IfOk result (λ value. view value ≡ cause_data phase) }
+{
+    match phase {
+        Phase::Stopped(end) => Value::try_from_str(alloc, end.word()),
+        _ => Ok(Value::Null),
+    }
+}
+
+/// The status with which a clause exited; null where tracing didn't end by it.
+fn exit_value(phase: Phase) -> Value
+    ensures { view result ≡ exit_data phase }
+{
+    match phase {
+        Phase::Stopped(End::Exit(status)) => Value::from(status),
+        _ => Value::Null,
+    }
+}
+
+fn numbers(alloc: Global, list: &[u64]) -> Result<Vec<Value>, AllocError>
+    ensures { IfOk result (λ values. map view values.items ≡ map of_number list.now) }
+{
+    let mut values = Vec::new(alloc);
+    for number in list {
+        values.push(Value::from(*number))?;
+    }
+    Ok(values)
+}
+
+fn described_value(
+    alloc: Global,
+    epid: u32,
+    probe: &Probe,
+    layout: &Layout,
+) -> Result<Value, AllocError>
+    ensures { IfOk result (λ value. view value ≡ object (reply_members (described epid probe.now (form_of_layout layout.now)))) }
+{
+    let words = field_words(alloc, layout)?;
+    let name = probe.tuple.to_string(alloc)?;
+    json!(in alloc; {"epid": epid, "id": probe.id, "layout": words, "ok": true, "probe": name, "size": layout.size()})
+}
+
+/// The word for each value of a record; none where there is no record.
+fn field_words(alloc: Global, layout: &Layout) -> Result<Vec<Value>, AllocError>
+    ensures { IfOk result (λ values. map view values.items ≡ map field_data (fields_in (form_of_layout layout.now))) }
+{
+    let mut values = Vec::new(alloc);
+    if let Some(fields) = &layout.fields {
+        for field in fields.as_slice() {
+            values.push(field_value(alloc, *field)?)?;
+        }
+    }
+    Ok(values)
+}
+
+fn field_value(alloc: Global, field: Field) -> Result<Value, AllocError>
+    ensures { IfOk result (λ value. view value ≡ field_data (form_of_field field)) }
+{
+    let word = match field {
+        Field::Number => String::from_str(alloc, "number")?,
+        Field::Text => String::from_str(alloc, "string")?,
+        Field::Stack(frames) => format!(in alloc; "stack{}", frames.count)?,
+        Field::Ustack(frames) => format!(in alloc; "ustack{}", frames.count)?,
+    };
+    Ok(Value::String(word))
+}
+
+fn probe_value(alloc: Global, probe: &Probe) -> Result<Value, AllocError>
+    ensures { IfOk result (λ value. view value ≡ probe_data probe.now) }
+{
+    let name = probe.tuple.to_string(alloc)?;
+    json!(in alloc; {"id": probe.id, "name": name})
+}
+
+fn refusal_value(alloc: Global, refusal: Refusal) -> Result<Value, AllocError>
+    ensures { IfOk result (λ value. view value ≡ object (refusal_members refusal)) }
+{
+    let number = refusal.number();
+    let name = refusal.name();
+    match refusal {
+        Refusal::Program { at, why } => {
+            json!(in alloc; {"at": at, "error": number, "name": name, "why": why.word()})
+        }
+        Refusal::Privilege { clause, what } => {
+            json!(in alloc; {"clause": clause, "error": number, "name": name, "what": what.word()})
+        }
+        Refusal::Destructive { at, what } => {
+            json!(in alloc; {"at": at, "error": number, "name": name, "what": what.name()})
+        }
+        Refusal::AggClash { what } => {
+            let what = text_of(alloc, what.as_bytes())?;
+            json!(in alloc; {"error": number, "name": name, "what": what})
+        }
+        Refusal::NoMatch { clause } => {
+            json!(in alloc; {"clause": clause, "error": number, "name": name})
+        }
+        // of any other there is no more to tell
+        _ => json!(in alloc; {"error": number, "name": name}),
+    }
+}
+
+/// Law: the texts of the replies, letter by letter. The data is that of bytes, each below 256.
+pub fn reply_texts()
+    ensures done { reply_text done ≡ codes "{\"ok\":true}\n" }
+    ensures enabled { (count first : ℕ) → reply_text (enabled count first)
+        ≡ codes "{\"count\":" ++ decimal count ++ codes ",\"first\":" ++ decimal first ++ codes ",\"ok\":true}\n" }
+    ensures snapped { (cpu drops : ℕ) (bytes : List ℕ) (filled : Bool) → AllByRecursion (λ byte. byte < 256) bytes
+        → reply_text (snapped cpu bytes drops filled)
+        ≡ codes "{\"cpu\":" ++ decimal cpu ++ codes ",\"data\":\"" ++ encode_lower bytes
+        ++ codes "\",\"drops\":" ++ decimal drops
+        ++ codes ",\"filled\":" ++ (if filled then codes "true" else codes "false") ++ codes ",\"ok\":true}\n" }
+    ensures listed { (probes : List Probe) → reply_text (listed probes)
+        ≡ codes "{\"ok\":true,\"probes\":[" ++ join_with_byte 44 (map probe_text probes) ++ codes "]}\n" }
+
+    ensures aggregated { (name : List ℕ) (function : AggFn) (rows : List RowForm)
+        → reply_text (aggregated name function rows)
+        ≡ codes "{\"fn\":\"" ++ function_word function ++ codes "\",\"name\":"
+        ++ compact_text (string (characters name)) ++ codes ",\"ok\":true,\"rows\":["
+        ++ join_with_byte 44 (map row_text rows) ++ codes "]}\n" }
+
+    ensures inactive { (seen : ℕ) (errors aggdrops : List ℕ) → reply_text (status Phase.Inactive seen errors aggdrops)
+        ≡ status_text (codes "null") (codes "null") (codes "inactive") seen errors aggdrops }
+    ensures active { (seen : ℕ) (errors aggdrops : List ℕ) → reply_text (status Phase.Active seen errors aggdrops)
+        ≡ status_text (codes "null") (codes "null") (codes "active") seen errors aggdrops }
+    ensures stopped { (seen : ℕ) (errors aggdrops : List ℕ)
+        → reply_text (status (Phase.Stopped Stop) seen errors aggdrops)
+        ≡ status_text (codes "\"stop\"") (codes "null") (codes "stopped") seen errors aggdrops }
+    ensures exited { (code : ℤ) (seen : ℕ) (errors aggdrops : List ℕ)
+        → reply_text (status (Phase.Stopped (Exit code)) seen errors aggdrops)
+        ≡ status_text (codes "\"exit\"") (signed_decimal code) (codes "stopped") seen errors aggdrops }
+    ensures history { (seen : ℕ) (errors aggdrops : List ℕ)
+        → reply_text (status (Phase.Stopped History) seen errors aggdrops)
+        ≡ status_text (codes "\"history\"") (codes "null") (codes "stopped") seen errors aggdrops }
+    ensures described { (epid : ℕ) (probe : Probe) (fields : List FieldForm)
+        → reply_text (described epid probe (Some fields))
+        ≡ describe_text epid probe (join_with_byte 44 (map field_text fields)) (decimal (size_of (Some fields))) }
+    ensures described_unrecorded { (epid : ℕ) (probe : Probe) → reply_text (described epid probe None)
+        ≡ describe_text epid probe [] (codes "0") }
+
+    ensures json { reply_text (refused Refusal.Json) ≡ codes "{\"error\":1,\"name\":\"Json\"}\n" }
+    ensures request { reply_text (refused Refusal.Request) ≡ codes "{\"error\":2,\"name\":\"Request\"}\n" }
+    ensures line_long { reply_text (refused Refusal.LineLong) ≡ codes "{\"error\":3,\"name\":\"LineLong\"}\n" }
+    ensures program { (at : ℕ) (why : Why) → reply_text (refused (Refusal.Program at why))
+        ≡ codes "{\"at\":" ++ decimal at ++ codes ",\"error\":4,\"name\":\"Program\",\"why\":\"" ++ word_of why ++ codes "\"}\n" }
+    ensures no_match { (clause : ℕ) → reply_text (refused (Refusal.NoMatch clause))
+        ≡ codes "{\"clause\":" ++ decimal clause ++ codes ",\"error\":5,\"name\":\"NoMatch\"}\n" }
+    ensures privilege { (clause : ℕ) → reply_text (refused (Refusal.Privilege clause Stack))
+        ≡ codes "{\"clause\":" ++ decimal clause ++ codes ",\"error\":6,\"name\":\"Privilege\",\"what\":\"stack\"}\n" }
+    ensures destructive { (at : ℕ) (what : Destructive) → reply_text (refused (Refusal.Destructive at what))
+        ≡ codes "{\"at\":" ++ decimal at ++ codes ",\"error\":7,\"name\":\"Destructive\",\"what\":\"" ++ name_of_destructive what ++ codes "\"}\n" }
+    ensures clash { (what : List ℕ) → reply_text (refused (Refusal.AggClash what))
+        ≡ codes "{\"error\":8,\"name\":\"AggClash\",\"what\":" ++ compact_text (string (characters what)) ++ codes "}\n" }
+    ensures limit { reply_text (refused Refusal.Limit) ≡ codes "{\"error\":9,\"name\":\"Limit\"}\n" }
+    ensures busy { reply_text (refused Refusal.Busy) ≡ codes "{\"error\":10,\"name\":\"Busy\"}\n" }
+    ensures option { reply_text (refused Refusal.Option) ≡ codes "{\"error\":11,\"name\":\"Option\"}\n" }
+    ensures no_cpu { reply_text (refused Refusal.NoCpu) ≡ codes "{\"error\":12,\"name\":\"NoCpu\"}\n" }
+    ensures no_agg { reply_text (refused Refusal.NoAgg) ≡ codes "{\"error\":13,\"name\":\"NoAgg\"}\n" }
+    ensures no_epid { reply_text (refused Refusal.NoEpid) ≡ codes "{\"error\":14,\"name\":\"NoEpid\"}\n" }
+    ensures quota { reply_text (refused Refusal.Quota) ≡ codes "{\"error\":15,\"name\":\"Quota\"}\n" }
+    ensures memory { reply_text (refused Refusal.Memory) ≡ codes "{\"error\":16,\"name\":\"Memory\"}\n" }
+{}

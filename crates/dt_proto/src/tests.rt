@@ -1,0 +1,126 @@
+//! Inputs with their lines, cut at each place, and lines about the limit.
+use super::*;
+use std::alloc::Global;
+use std::process::Abort;
+use std::test::Fail;
+
+/// Inputs, in which `/` stands for a newline, with the lines that they have, each in brackets.
+const TABLE: &[(&str, &str)] = &[
+    ("", ""),
+    ("a", ""),
+    ("/", "[]"),
+    ("a/", "[a]"),
+    ("a/b", "[a]"),
+    ("//", "[][]"),
+    ("ab/c/", "[ab][c]"),
+    ("/a//b c/d", "[][a][][b c]"),
+];
+
+#[test]
+fn lines_do_not_depend_on_the_cutting(rt: HostRuntime) -> Result<(), Fail> {
+    let alloc = rt.alloc();
+    for (input, lines) in TABLE {
+        let mut text = Vec::new(alloc);
+        for byte in input.as_bytes() {
+            text.push(if *byte == b'/' { b'\n' } else { *byte })?;
+        }
+        for cut in 0..text.len() + 1 {
+            for second in cut..text.len() + 1 {
+                let pieces = [&text[..cut], &text[cut..second], &text[second..]];
+                let asked = asked_in(alloc, &pieces)?;
+                assert_eq!(rt;
+                    shown(alloc, &asked)?.as_slice(),
+                    lines.as_bytes(),
+                    "{input}"
+                );
+            }
+        }
+    }
+    Ok(())
+}
+
+/// Each line in brackets, where a long one is `!`.
+fn shown(alloc: Global, asked: &[Asked]) -> Result<Vec<u8>, Fail> {
+    let mut text = Vec::new(alloc);
+    for line in asked {
+        text.push(b'[')?;
+        match line {
+            Asked::Line(bytes) => text.extend_from_slice(bytes)?,
+            Asked::Long => text.push(b'!')?,
+        }
+        text.push(b']')?;
+    }
+    Ok(text)
+}
+
+#[test]
+fn lines_are_long_from_65537_bytes_on(rt: HostRuntime) -> Result<(), Fail> {
+    let alloc = rt.alloc();
+    for (length, long) in [
+        (65_535, false),
+        (65_536, false),
+        (65_537, true),
+        (131_074, true),
+    ] {
+        for cut in [0, 1, 65_535, length] {
+            is_long(&rt, alloc, length, cut, long)?;
+        }
+    }
+    Ok(())
+}
+
+/// Feeds a line of so many bytes in two pieces, then its newline and a short line.
+fn is_long(
+    rt: &impl Abort,
+    alloc: Global,
+    length: usize,
+    cut: usize,
+    long: bool,
+) -> Result<(), Fail> {
+    let bytes = vec![in alloc; b'x'; length]?;
+    assert!(rt; cut <= bytes.len());
+    let mut lines = Lines::new(alloc)?;
+    for piece in [&bytes[..cut], &bytes[cut..]] {
+        let fed = lines.feed(piece);
+        assert_eq!(rt;
+            fed,
+            Fed {
+                used: piece.len(),
+                whole: false
+            },
+            "{length} cut at {cut}"
+        );
+    }
+    let fed = lines.feed(b"\ny\nz");
+    assert_eq!(rt;
+        fed,
+        Fed {
+            used: 1,
+            whole: true
+        },
+        "{length} cut at {cut}"
+    );
+    assert!(rt; fed.whole);
+    let expected = if long {
+        WholeLine::Long
+    } else {
+        WholeLine::Bytes(&bytes)
+    };
+    assert_eq!(rt; lines.line(), expected, "{length} cut at {cut}");
+    let fed = lines.feed(b"y\nz");
+    assert_eq!(rt;
+        fed,
+        Fed {
+            used: 2,
+            whole: true
+        },
+        "after {length} cut at {cut}"
+    );
+    assert!(rt; fed.whole);
+    assert_eq!(rt;
+        lines.line(),
+        WholeLine::Bytes(b"y"),
+        "after {length} cut at {cut}"
+    );
+    Ok(())
+}

@@ -1,8 +1,0 @@
--- The characters so far.
-use Rattle.std.proofs.Common.{◌≡◌, take}
-use Rattle.std.specs.String.{string_bytes}
-use Rattle.dtraced.specs.Reply.{characters}
-use Rattle.dtraced.proofs.reply.text_of.Given as goal
-
-abbrev pub invariant-loop-byte : goal.invariant-loop-byte
-invariant-loop-byte l = string_bytes l.text ≡ characters (take l.byte-index l.bytes)
