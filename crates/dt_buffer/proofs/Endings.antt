@@ -6,8 +6,8 @@ use Rattle.std.proofs.lemmas.List.{length-append, length-drop, length_push, drop
 use Rattle.dt_buffer.proofs.Beginnings.{size_push}
 use Rattle.dt_buffer.proofs.Keeping.{concat-push}
 use Rattle.dt_buffer.specs.Beginning.{size_of}
-use Rattle.dt_buffer.specs.Ending.{IsLongestEnd}
-use Rattle.dt_buffer.specs.Stores.{MakesRoom, lengths_of}
+use Rattle.dt_buffer.specs.Ending.{IsLongestEnd, lengths_of}
+use Rattle.dt_buffer.specs.Stores.{MakesRoom}
 
 pub one_ends : (room : ℕ) (records : List (List ℕ)) (a b : ℕ)
     → IsLongestEnd room records a → IsLongestEnd room records b → a ≡ b

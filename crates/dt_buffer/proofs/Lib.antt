@@ -4,7 +4,7 @@ pub mod Keeping
 pub mod Choices
 pub mod Beginnings
 pub mod Endings
-pub mod Rings
+pub mod Overwriting
 pub mod Filling
 pub mod Showing
 pub mod Pasts

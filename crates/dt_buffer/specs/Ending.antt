@@ -26,6 +26,19 @@ pub record ShowsRing (size : ℕ) (attempts : List (List ℕ)) (bytes : List ℕ
   pub kept : bytes ≡ concat (drop passed (fitting size attempts))
   pub dropped : drops ≡ length (too_long size attempts)
 
+-- the lengths of those records that have bytes
+abbrev pub lengths_of : List (List ℕ) → List ℕ
+lengths_of [] = []
+lengths_of ([] ∷ records) = lengths_of records
+lengths_of ((byte ∷ bytes) ∷ records) = length (byte ∷ bytes) ∷ lengths_of records
+
+-- The bytes of the records that a ring buffer holds, and the lengths of those that have bytes, the oldest first.
+pub record HoldsRing (size : ℕ) (attempts : List (List ℕ)) (bytes lengths : List ℕ) : Type 0 where
+  pub passed : ℕ
+  pub newest : IsLongestEnd size (fitting size attempts) passed
+  pub kept : bytes ≡ concat (drop passed (fitting size attempts))
+  pub long : lengths ≡ lengths_of (drop passed (fitting size attempts))
+
 -- A ring buffer keeps a record after some: it isn't longer than the size, and the longest end has it.
 pub record KeepsRing (size : ℕ) (attempts : List (List ℕ)) (bytes : List ℕ) : Type 0 where
   pub short : length bytes ≤ size

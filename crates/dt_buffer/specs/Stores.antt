@@ -1,9 +1,9 @@
 -- What each policy's store holds after some records.
-use Rattle.std.specs.Prelude.{◌≡◌, ℕ, ◌+◌, ◌-◌, ◌<◌, ◌≤◌, ◌↔◌, Bool, List, [], ◌∷◌, ◌++◌, IsTrue, length, take, drop}
+use Rattle.std.specs.Prelude.{◌≡◌, ℕ, ◌+◌, ◌-◌, ◌<◌, ◌≤◌, ◌↔◌, Bool, List, ◌++◌, IsTrue, length, take, drop}
 use Rattle.std.specs.List.{concat}
 use Rattle.dt_buffer.specs.Choice.{ShowsSwitch}
 use Rattle.dt_buffer.specs.Beginning.{IsLongestBeginning, size_of}
-use Rattle.dt_buffer.specs.Ending.{ShowsRing, fitting}
+use Rattle.dt_buffer.specs.Ending.{ShowsRing, fitting, lengths_of}
 use Rattle.dt_buffer.specs.declared.fill.FillStore.{FillStore}
 use Rattle.dt_buffer.specs.declared.ring.RingStore.{RingStore}
 use Rattle.dt_buffer.specs.declared.switch.SwitchStore.{SwitchStore}
@@ -29,12 +29,6 @@ pub record FillIsAt (size reserve : ℕ) (ordinary of_end : List (List ℕ)) (st
   pub same_size : store.size ≡ size
   pub same_reserve : store.reserve ≡ reserve
   pub holds : FillHolds size reserve ordinary of_end store.kept.items store.ordinary_filled store.end_filled
-
--- the lengths of those records that have bytes
-abbrev pub lengths_of : List (List ℕ) → List ℕ
-lengths_of [] = []
-lengths_of ([] ∷ records) = lengths_of records
-lengths_of ((byte ∷ bytes) ∷ records) = length (byte ∷ bytes) ∷ lengths_of records
 
 -- A ring store has its room, holds what the definition says, and the lengths of the records that it holds.
 pub record RingIsAt (size : ℕ) (attempts : List (List ℕ)) (store : RingStore) : Type 0 where

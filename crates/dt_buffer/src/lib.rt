@@ -21,4 +21,4 @@ mod tests;
 pub use laws::{one_beginning, one_choice, one_end, one_shown, some_shown};
 pub use limits::{DROPS_LIMIT, SIZE_MAX};
 pub use policy::{Policy, Put};
-pub use principal::Principal;
+pub use principal::{Principal, Rings};

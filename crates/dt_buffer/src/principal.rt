@@ -1,6 +1,7 @@
 //! The principal buffer of one processor.
-ghost use Rattle.std.specs.Prelude.{◌≡◌, ◌+◌, ◌<◌, ◌≤◌, ◌↔◌, ℕ, [], IfOk, if◌then◌else◌};
-ghost use Rattle.dt_buffer.specs.History.{Past, attempt, swap, new_past, after};
+ghost use Rattle.std.specs.Prelude.{◌≡◌, ◌≢◌, ◌+◌, ◌<◌, ◌≤◌, ◌↔◌, ℕ, [], IfOk, MatchOption, if◌then◌else◌};
+ghost use Rattle.dt_buffer.specs.Ending.{HoldsRing};
+ghost use Rattle.dt_buffer.specs.History.{Past, attempt, attempts, swap, new_past, after};
 ghost use Rattle.dt_buffer.specs.Shows.{HasContent, HasDrops, IsFilled, EndLast, Answers, drops_after};
 ghost use Rattle.dt_buffer.specs.IsAt.{IsAt, drops_of};
 ghost use Rattle.dt_buffer.specs.declared.limits.TheConstants.{DROPS_LIMIT, SIZE_MAX};
@@ -10,12 +11,22 @@ use crate::limits::{DROPS_LIMIT, SIZE_MAX};
 use crate::policy::{Policy, Put};
 use crate::ring::RingStore;
 use crate::switch::SwitchStore;
+use circular_buffer::HeapCircularBuffer;
 use std::alloc::{AllocError, Global};
 
 /// The principal buffer of one processor: it keeps records by a policy. All its room is made by `new`.
 #[derive(Drop)]
 pub struct Principal {
     pub(crate) store: Store,
+}
+
+/// What a buffer holds under the ring policy.
+#[derive(Clone, Copy)]
+pub struct Rings<'a> {
+    /// The bytes of the records kept, the oldest first.
+    pub bytes: &'a HeapCircularBuffer<u8>,
+    /// The lengths of those records that have bytes, the oldest first.
+    pub lengths: &'a HeapCircularBuffer<u32>,
 }
 
 /// A store for each policy.
@@ -92,6 +103,21 @@ impl Principal {
             Store::Switch(store) => Vec::from_slice(alloc, &store.kept),
             Store::Fill(store) => Vec::from_slice(alloc, &store.kept),
             Store::Ring(store) => store.bytes.to_vec(alloc),
+        }
+    }
+
+    /// The two rings of a buffer under the ring policy, or `None` under another. It takes no memory.
+    pub fn ring(&self) -> Option<Rings<'_>>
+        ensures { (past : Past) → IsAt past self.now → MatchOption result (past.policy ≢ Policy.Ring)
+            (λ rings. (past.policy ≡ Policy.Ring)
+            × HoldsRing past.size (attempts past.events) rings.bytes.now.items rings.lengths.now.items) }
+    {
+        match &self.store {
+            Store::Ring(store) => Some(Rings {
+                bytes: &store.bytes,
+                lengths: &store.lengths,
+            }),
+            Store::Switch(_) | Store::Fill(_) => None,
         }
     }
 

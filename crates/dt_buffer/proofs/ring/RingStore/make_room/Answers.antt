@@ -1,7 +1,7 @@
 -- The oldest record goes; where none is left, all the room is free.
 use Rattle.std.proofs.Common.{ℕ, sym, ap, ◌∙◌, arith}
 use Rattle.circular_buffer.specs.Buffer.{Buffer}
-use Rattle.dt_buffer.proofs.Rings.{room_step, room_whole, none_left}
+use Rattle.dt_buffer.proofs.Overwriting.{room_step, room_whole, none_left}
 use Rattle.dt_buffer.specs.Ending.{fitting}
 use Rattle.dt_buffer.proofs.ring.RingStore.make_room.Goals as goal
 

@@ -1,6 +1,6 @@
 -- A record is kept after room was made for it, or it is too long.
 use Rattle.std.proofs.Common.{refl, arith, rules}
-use Rattle.dt_buffer.proofs.Rings.{ring_dropped, ring_put_some, ring_put_empty}
+use Rattle.dt_buffer.proofs.Overwriting.{ring_dropped, ring_put_some, ring_put_empty}
 use Rattle.dt_buffer.proofs.ring.RingStore.put.Goals as goal
 
 pub returns-then-capacity-bytes-clause-shows : goal.returns-then-capacity-bytes-clause-shows

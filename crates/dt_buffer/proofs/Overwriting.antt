@@ -7,8 +7,8 @@ use Rattle.std.proofs.lemmas.List.Elements.{filter-append}
 use Rattle.circular_buffer.specs.Buffer.{Buffer, buffer, keep_last}
 use Rattle.dt_buffer.proofs.Endings.{ends_more, kept_more, lengths_more, some_ends, room_more, room_all, lengths_within}
 use Rattle.dt_buffer.specs.Beginning.{size_of}
-use Rattle.dt_buffer.specs.Ending.{IsLongestEnd, KeepsRing, fitting, too_long}
-use Rattle.dt_buffer.specs.Stores.{MakesRoom, RingIsAt, lengths_of}
+use Rattle.dt_buffer.specs.Ending.{IsLongestEnd, KeepsRing, fitting, too_long, lengths_of}
+use Rattle.dt_buffer.specs.Stores.{MakesRoom, RingIsAt}
 use Rattle.dt_buffer.specs.declared.ring.RingStore.{RingStore}
 
 -- a test of one more record
