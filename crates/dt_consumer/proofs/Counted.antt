@@ -9,7 +9,8 @@ use Rattle.dt_buffer.specs.declared.limits.TheConstants.{DROPS_LIMIT}
 use Rattle.dt_ecb.specs.declared.limits.TheConstants.{ECBS_MAX}
 use Rattle.dt_consumer.specs.Counts.{AtMost, GivenAtMost, GIVES_MAX, must_be_left, own_firings}
 use Rattle.dt_consumer.specs.declared.limits.TheConstants.{HISTORY_MAX}
-use Rattle.dt_consumer.specs.declared.phase.End.{End}
+use Rattle.dt_consumer.specs.declared.phase.Course.{Course}
+use Rattle.dt_consumer.specs.declared.phase.Course.TheVariants.{Running}
 use Rattle.dt_consumer.specs.declared.phase.End.TheVariants.{Exit, History}
 use Rattle.dt_consumer.specs.declared.processor.Processor.{Processor}
 
@@ -17,11 +18,11 @@ pub no_more : (n m : ℕ) (all : List Processor) → n ≤ m → All (AtMost n) 
 no_more n m all few h = λ k d inside. let at = h k d inside in (omega (arith, at.0), omega (arith, at.1))
 
 -- what is counted while tracing goes on
-pub counted_on : (seen : ℕ) (ended : Option End) (all : List Processor) → ended ≡ None
+pub counted_on : (seen : ℕ) (ended : Course) (all : List Processor) → ended ≡ Running
     → All (AtMost (ECBS_MAX * (seen + own_firings ended))) all → All (AtMost (ECBS_MAX * (seen + 1))) all
 counted_on seen ended all e h = subst (λ x. All (AtMost (ECBS_MAX * (seen + own_firings x))) all) e h
 
-pub left_on : (seen history : ℕ) (ended : Option End) → ended ≡ None → seen + must_be_left ended ≤ history
+pub left_on : (seen history : ℕ) (ended : Course) → ended ≡ Running → seen + must_be_left ended ≤ history
     → seen + 1 ≤ history
 left_on seen history ended e h = subst (λ x. seen + must_be_left x ≤ history) e h
 
@@ -50,7 +51,7 @@ one_left exit seen history h e = omega (arith, eqb-false (seen + 1) history (non
 pub none_more : (n m : ℕ) (stores : List AggStore) → n ≤ m → All (GivenAtMost n) stores → All (GivenAtMost m) stores
 none_more n m stores few h = λ k d inside. omega (arith, h k d inside)
 
-pub given_on : (seen : ℕ) (ended : Option End) (stores : List AggStore) → ended ≡ None
+pub given_on : (seen : ℕ) (ended : Course) (stores : List AggStore) → ended ≡ Running
     → All (GivenAtMost (GIVES_MAX * (seen + own_firings ended))) stores
     → All (GivenAtMost (GIVES_MAX * (seen + 1))) stores
 given_on seen ended stores e h =

@@ -17,16 +17,17 @@ use Rattle.dt_record.specs.Layout.{layout_of}
 use Rattle.dt_ecb.specs.Ecbs.{EcbForm}
 use Rattle.dt_ecb.specs.Enable.{Verdict, IsVerdict, is_enabled}
 use Rattle.dt_consumer.specs.Answer.{Answer, described, refused, answer_of, aggregated}
-use Rattle.dt_consumer.specs.Ask.{Ask, option, enable, go, stop, snap, describe, agg, trunc}
-use Rattle.dt_consumer.specs.Draft.{Drafted, IsDraftOf}
-use Rattle.dt_consumer.specs.Life.{Item, asked, SetUp, is_active, is_over, is_inactive, is_readable, set_up, phase, phase_of, next_epid, since_then, happens, has_room, with_program, with_options, with_event, shapes_in}
+use Rattle.dt_consumer.specs.Ask.{Ask, option, enable, go, stop, snap, describe, agg, trunc, close}
+use Rattle.dt_consumer.specs.Draft.{Drafted, IsDraftOf, is_close}
+use Rattle.dt_consumer.specs.Life.{Item, asked, SetUp, is_active, is_over, is_inactive, is_stopped, is_readable, set_up, phase, phase_of, next_epid, since_then, happens, has_room, with_program, with_options, with_event, shapes_in}
 use Rattle.dt_consumer.specs.Options.{Setting, with_setting}
 use Rattle.dt_consumer.specs.Reply.{Replies, RepliesInQuota, IsVerdictOnCommand, Accepted, is_asked_late, ecb_of, refusal_of, known}
-use Rattle.dt_consumer.specs.Takings.{began, ended, read, truncated}
+use Rattle.dt_consumer.specs.Takings.{began, ended, read, truncated, closed}
 use Rattle.dt_consumer.specs.declared.draft.Change.TheVariants.{Nothing}
 use Rattle.dt_consumer.specs.declared.draft.Draft.{Draft}
 use Rattle.dt_consumer.specs.declared.phase.End.TheVariants as end
-use Rattle.dt_consumer.specs.declared.phase.Phase.TheVariants.{Inactive, Active}
+use Rattle.dt_consumer.specs.declared.phase.Phase.{Phase}
+use Rattle.dt_consumer.specs.declared.phase.Phase.TheVariants.{Inactive, Active, Stopped}
 use Rattle.dt_consumer.specs.declared.refusal.Refusal.{Refusal}
 use Rattle.dt_consumer.specs.declared.refusal.Refusal.TheVariants as refusal
 use Rattle.dt_consumer.specs.declared.refusal.Refusal.TheVariants.{Program, Busy, Limit, NoCpu, NoEpid, Quota, NoAgg}
@@ -43,6 +44,21 @@ module _ (account : Account) (registry : Registry) (life : List Item) where
 
   pub early : phase account registry life ≡ Inactive → is_asked_late account registry life ≡ false
   early off = ap (λ p. not (is_inactive p)) off
+
+  pub idle_phase : is_asked_late account registry life ≡ false → phase account registry life ≡ Inactive
+  idle_phase e = by_case (phase account registry life) e
+    where
+      by_case : (p : Phase) → not (is_inactive p) ≡ false → p ≡ Inactive
+      by_case Inactive e = refl
+      by_case Active e = cc
+      by_case (Stopped cause) e = cc
+
+  pub late_phase : is_asked_late account registry life ≡ true → is_inactive (phase account registry life) ≡ false
+  late_phase e = by_case (is_inactive (phase account registry life)) e
+    where
+      by_case : (b : Bool) → not b ≡ true → b ≡ false
+      by_case true e = cc
+      by_case false e = refl
 
   idle_is : phase account registry life ≡ Inactive → is_inactive (phase account registry life) ≡ true
   idle_is off = ap is_inactive off
@@ -62,32 +78,32 @@ module _ (account : Account) (registry : Registry) (life : List Item) where
   pub refused_draft : (line : Result Ask Refusal) (refusal : Refusal) (draft : Draft)
       → draft.reply ≡ Refused refusal → draft.change ≡ Nothing → is_over life ≡ false
       → RepliesInQuota account registry life line (refused refusal)
-      → set_up account registry (asked line ∷ life) ≡ now
+      → set_up account registry (asked line ∷ life) ≡ now → is_close line ≡ false
       → IsDraftOf account registry life line draft
-  refused_draft line refusal draft reply change fresh replies idle = record {
+  refused_draft line refusal draft reply change fresh replies idle goes_on = record {
     replies =
         in_quota line (answer_of draft.reply) fresh
         (subst (RepliesInQuota account registry life line) (sym (ap answer_of reply)) replies);
-    makes = subst (Drafted account registry life line) (sym change) (fresh, idle);
+    makes = subst (Drafted account registry life line) (sym change) (fresh, idle, goes_on);
   }
 
   -- a command that is refused
   pub refused_by : (ask : Ask) (refusal : Refusal) (draft : Draft)
       → draft.reply ≡ Refused refusal → draft.change ≡ Nothing → is_over life ≡ false
       → IsVerdictOnCommand account registry life ask (Some refusal)
-      → set_up account registry (asked (Ok ask) ∷ life) ≡ now
+      → set_up account registry (asked (Ok ask) ∷ life) ≡ now → is_close (Ok ask) ≡ false
       → IsDraftOf account registry life (Ok ask) draft
-  refused_by ask refusal draft reply change fresh verdict idle =
-      refused_draft (Ok ask) refusal draft reply change fresh (Some refusal, verdict, refl) idle
+  refused_by ask refusal draft reply change fresh verdict idle goes_on =
+      refused_draft (Ok ask) refusal draft reply change fresh (Some refusal, verdict, refl) idle goes_on
 
   -- a command that is answered, counted, and changes nothing else
   pub told_draft : (ask : Ask) (reply : Reply) → is_over life ≡ false
       → IsVerdictOnCommand account registry life ask None → Accepted account registry life ask (answer_of reply)
-      → set_up account registry (asked (Ok ask) ∷ life) ≡ now
+      → set_up account registry (asked (Ok ask) ∷ life) ≡ now → is_close (Ok ask) ≡ false
       → IsDraftOf account registry life (Ok ask) (record { reply = reply; change = Nothing })
-  told_draft ask reply fresh verdict accepted idle = record {
+  told_draft ask reply fresh verdict accepted idle goes_on = record {
     replies = in_quota (Ok ask) (answer_of reply) fresh (accepted_reply ask (answer_of reply) verdict accepted);
-    makes = (fresh, idle);
+    makes = (fresh, idle, goes_on);
   }
 
   -- a program, or a text that is none, after tracing began
@@ -356,6 +372,12 @@ module _ (account : Account) (registry : Registry) (life : List Item) where
   truncated_by name a on is =
       ap (λ b. by_trunc name (b || is_none (known account registry life name))) on
       ∙ ap (λ o. by_trunc name (is_none o)) is
+
+  -- `close`
+  pub closed_by : (b : Bool) → is_stopped (phase account registry life) ≡ b
+      → set_up account registry (asked (Ok close) ∷ life)
+      ≡ cond b (set_up account registry life) (with_event (set_up account registry life) closed)
+  closed_by b e = ap (λ x. cond x now (with_event now closed)) e
 
   -- `describe`
   pub no_ecb : (epid : ℕ) → ecb_of account registry life epid ≡ None

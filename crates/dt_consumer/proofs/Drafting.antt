@@ -22,25 +22,26 @@ use Rattle.dt_ecb.specs.Forms.{form_of_ecb, shapes_of}
 use Rattle.dt_ecb.specs.Shapes.{ShapeForm, uses_of}
 use Rattle.dt_ecb.specs.declared.parts.Ecb.{Ecb}
 use Rattle.dt_ecb.specs.declared.shapes.Shapes.{Shapes}
-use Rattle.dt_consumer.specs.Answer.{done, enabled, snapped}
-use Rattle.dt_consumer.specs.Ask.{option, enable, go, stop, snap, reading_of, is_read}
+use Rattle.dt_consumer.specs.Answer.{answer_of, done, enabled}
+use Rattle.dt_consumer.specs.Ask.{option, enable, go, stop, snap, close, reading_of, is_read}
 use Rattle.dt_consumer.specs.Buffers.{past}
 use Rattle.dt_consumer.specs.Draft.{IsDraftOf}
 use Rattle.dt_consumer.specs.Keeps.{AreEcbs, IsTracing, Keeps, form_of_options}
 use Rattle.dt_consumer.specs.Life.{Item, SetUp, is_over, is_readable, set_up, phase, next_epid, has_room, happens, since_then, with_options, shapes_in}
 use Rattle.dt_consumer.specs.Options.{Setting, with_setting}
 use Rattle.dt_consumer.specs.Refusal.{refused_as}
-use Rattle.dt_consumer.specs.Reply.{IsVerdictOnCommand, refusal_of}
+use Rattle.dt_consumer.specs.Reply.{Accepted, IsVerdictOnCommand, refusal_of}
 use Rattle.dt_consumer.specs.Takings.{began}
 use Rattle.dt_consumer.specs.declared.consumer.Consumer.{Consumer}
-use Rattle.dt_consumer.specs.declared.draft.Change.TheVariants.{Nothing, Set, Enable, Go, Stop, Snap}
+use Rattle.dt_consumer.specs.declared.draft.Change.TheVariants.{Nothing, Set, Enable, Go, Stop, Snap, Close}
 use Rattle.dt_consumer.specs.declared.draft.Draft.{Draft}
 use Rattle.dt_consumer.specs.declared.options.Options.{Options}
 use Rattle.dt_consumer.specs.declared.phase.Phase.TheVariants.{Inactive, Active}
 use Rattle.dt_consumer.specs.declared.refusal.Refusal.{Refusal}
 use Rattle.dt_consumer.specs.declared.refusal.Refusal.TheVariants as refusals
 use Rattle.dt_consumer.specs.declared.refusal.Refusal.TheVariants.{Program}
-use Rattle.dt_consumer.specs.declared.reply.Reply.TheVariants.{Done, Enabled, Snapped, Refused}
+use Rattle.dt_consumer.specs.declared.reply.Reply.{Reply}
+use Rattle.dt_consumer.specs.declared.reply.Reply.TheVariants.{Done, Enabled, Refused}
 use Rattle.dt_consumer.specs.declared.tracing.Tracing.{Tracing}
 use Rattle.dt_consumer.proofs.DraftLemmas.{in_quota, accepted_reply, refused_by, fault_refused, destructive_refused, program_verdict, idle_program, go_taken, snap_taken, option_taken, set_by, stop_taken}
 
@@ -61,17 +62,26 @@ module _ (account : Account) (registry : Registry) (life : List Item) where
   now = set_up account registry life
 
   -- an accepted reading
-  pub snap_draft : (cpu drops : ℕ) (filled : Bool) (data' : Vec ℕ) → is_over life ≡ false
+  pub snap_draft : (cpu : ℕ) (reply : Reply) → is_over life ≡ false
       → cpu < registry.cpus → is_readable (set_up account registry life) (phase account registry life) ≡ true
-      → Shows (past account registry life cpu) data'.items drops filled
-      → IsDraftOf account registry life (Ok (snap cpu))
-      (record { reply = Snapped cpu data' drops filled; change = Snap cpu })
-  snap_draft cpu drops filled data' fresh inside on shows = record {
+      → Accepted account registry life (snap cpu) (answer_of reply)
+      → IsDraftOf account registry life (Ok (snap cpu)) (record { reply = reply; change = Snap cpu })
+  snap_draft cpu reply fresh inside on accepted = record {
     replies =
-        in_quota account registry life (Ok (snap cpu)) (snapped cpu data'.items drops filled) fresh
-        (accepted_reply account registry life (snap cpu) (snapped cpu data'.items drops filled)
-        (snap_taken account registry life cpu inside on) (data'.items, drops, filled, shows, refl));
+        in_quota account registry life (Ok (snap cpu)) (answer_of reply) fresh
+        (accepted_reply account registry life (snap cpu) (answer_of reply)
+        (snap_taken account registry life cpu inside on) accepted);
     makes = (fresh, on, refl, inside);
+  }
+
+  -- a `close`, which is always accepted
+  pub close_draft : is_over life ≡ false
+      → IsDraftOf account registry life (Ok close) (record { reply = Done; change = Close })
+  close_draft fresh = record {
+    replies =
+        in_quota account registry life (Ok close) done fresh
+        (accepted_reply account registry life close done refl refl);
+    makes = (fresh, refl);
   }
 
   -- an option that is set
@@ -87,7 +97,7 @@ module _ (account : Account) (registry : Registry) (life : List Item) where
             in_quota account registry life (Ok (option (Some one))) done fresh
             (accepted_reply account registry life (option (Some one)) done
             (option_taken account registry life one off) refl);
-        makes = (fresh, off, set_by account registry life one off ∙ ap (with_options now) (sym is));
+        makes = (fresh, off, set_by account registry life one off ∙ ap (with_options now) (sym is), refl);
       })
 
   -- a `stop` while it traces
@@ -158,6 +168,7 @@ module _ (account : Account) (registry : Registry) (life : List Item) where
       enabling.enabled is holds) e))
       (λ fails. fails)
       (cases_Bool (is_enabled account registry (shapes_in now) (next_epid account registry now) clauses))))
+      refl
     where
       never : (v : Verdict) → v ≡ enabling.enabled → Some refusal ≡ refusal_of v → ⊥
       never v same r = let no : Some refusal ≡ None = r ∙ ap refusal_of same in cc
@@ -177,14 +188,14 @@ module _ (account : Account) (registry : Registry) (life : List Item) where
       let its : refusal ≡ Program at why = cc in
       subst (λ r. IsDraftOf account registry life (Ok (enable r)) draft) (sym same)
       (refused_by account registry life (enable (fault at why)) (Program at why) draft (reply ∙ ap Refused its) change
-      fresh (fault_refused account registry life at why off) refl)
+      fresh (fault_refused account registry life at why off) refl refl)
   text_refused text (faults.Destructive at what) refusal draft one read found e reply change fresh off =
       let same : reading_of text ≡ destructive at what =
       one text (reading_of text) (destructive at what) (is_read text) (found at what refl) in
       let its : refusal ≡ refusals.Destructive at what = cc in
       subst (λ r. IsDraftOf account registry life (Ok (enable r)) draft) (sym same)
       (refused_by account registry life (enable (destructive at what)) (refusals.Destructive at what) draft
-      (reply ∙ ap Refused its) change fresh (destructive_refused account registry life at what off) refl)
+      (reply ∙ ap Refused its) change fresh (destructive_refused account registry life at what off) refl refl)
   text_refused text faults.Memory refusal draft one read found e reply change fresh off = cc
 
   -- an accepted `go`

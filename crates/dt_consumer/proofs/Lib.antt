@@ -15,5 +15,7 @@ pub mod Happening
 pub mod Telling
 pub mod Names
 pub mod StoresTold
+pub mod Quiet
+pub mod Closing
 pub mod Drafting
 pub mod ReplyLaws

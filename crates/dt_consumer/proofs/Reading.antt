@@ -1,5 +1,5 @@
 -- What a consumer has from `go` on, after a reading and after a truncation.
-use Rattle.std.proofs.Common.{◌≡◌, ◌≢◌, ℕ, ◌<◌, ◌≤◌, ◌==◌, Bool, true, false, cond, List, [], ◌∷◌, ◌++◌, Some, length, get_or, refl, sym, ap, ◌∙◌, subst, ⊎_elim, arith}
+use Rattle.std.proofs.Common.{◌≡◌, ◌≢◌, ℕ, ◌<◌, ◌≤◌, ◌==◌, Bool, true, false, cond, List, [], ◌∷◌, ◌++◌, Some, length, get_or, None, refl, sym, ap, ◌∙◌, subst, ⊎_elim, arith}
 use Rattle.std.specs.Global.{Vec}
 use Rattle.std.specs.List.{slice_get}
 use Rattle.std.specs.Option.{IfSome}
@@ -20,15 +20,17 @@ use Rattle.dt_consumer.specs.Buffers.{errors_in, past_in, reserve_on}
 use Rattle.dt_consumer.specs.Keeps.{AreEcbs, AreTaken, HasTaken, IsTracing, followed_by, phase_by}
 use Rattle.dt_consumer.specs.Life.{SetUp, ecbs_in, shapes_in, with_event}
 use Rattle.dt_consumer.specs.Stores.{given_in}
-use Rattle.dt_consumer.specs.Takings.{read, truncated, faults, taken_since}
+use Rattle.dt_consumer.specs.Takings.{closed, read, truncated, faults, taken_since}
 use Rattle.dt_consumer.specs.Uses.{AreGiven, AreUses}
+use Rattle.dt_consumer.specs.declared.phase.Course.TheVariants.{Running, Over}
 use Rattle.dt_consumer.specs.declared.processor.Processor.{Processor}
+use Rattle.dt_consumer.specs.declared.processors.Processors.{Processors}
 use Rattle.dt_consumer.specs.declared.rows.Row.{Row}
 use Rattle.dt_consumer.specs.declared.tracing.Tracing.{Tracing}
 use Rattle.dt_consumer.specs.declared.uses.Uses.{Uses}
 use Rattle.dt_consumer.proofs.Buffers.{of_end-append, same_has}
 use Rattle.dt_consumer.proofs.Lists.{found_at, nothing_past, replaced}
-use Rattle.dt_consumer.proofs.Stores.{read_given, trunc_given}
+use Rattle.dt_consumer.proofs.Stores.{close_given, read_given, trunc_given}
 use Rattle.dt_consumer.proofs.Taken.{if_some_map}
 
 -- a reading takes nothing, and is a swap on its processor alone
@@ -75,7 +77,7 @@ module _ (account : Account) (registry : Registry) (s : SetUp) (old : Tracing)
       → ((past : Past) (errors : ℕ) → HasTaken past errors p → HasTaken (after past swap) errors q)
       → (new : Tracing) → new.rows ≡ old.rows → new.uses ≡ old.uses
       → new.processors.stores ≡ old.processors.stores → new.processors.all ≡ with_item old.processors.all cpu q
-      → new.history ≡ old.history → new.seen ≡ old.seen → new.ended ≡ old.ended
+      → new.history ≡ old.history → new.seen ≡ old.seen → new.course ≡ old.course
       → IsTracing account registry after_read new
   tracing_read p q inside at swapped new rows uses stores all history seen' ended' = record {
     rows = subst
@@ -151,7 +153,7 @@ module _ (account : Account) (registry : Registry) (s : SetUp) (old : Tracing)
   pub tracing_trunc : (aggregation : Aggregation) (new : Tracing)
       → aggregation_of (shapes_in s) name ≡ Some aggregation
       → new.rows ≡ old.rows → new.uses ≡ old.uses → new.processors.all ≡ old.processors.all
-      → new.history ≡ old.history → new.seen ≡ old.seen → new.ended ≡ old.ended
+      → new.history ≡ old.history → new.seen ≡ old.seen → new.course ≡ old.course
       → AreGiven (λ cpu. store.after (given_in account registry s cpu) (store.truncated aggregation))
       new.processors.stores.items
       → IsTracing account registry after_trunc new
@@ -174,3 +176,52 @@ module _ (account : Account) (registry : Registry) (s : SetUp) (old : Tracing)
     end_last = λ e j. ap of_end (append-nil (past_in account registry s j).events)
         ∙ t.end_last (sym ended' ∙ e) j;
   }
+
+-- a close takes nothing
+module _ (account : Account) (registry : Registry) (s : SetUp) (old : Tracing)
+    (t : IsTracing account registry s old) where
+  abbrev after_close : SetUp
+  after_close = with_event s closed
+
+  unmoved : (cpu : ℕ) → IfSome (slice_get old.processors.all.items cpu)
+      (HasTaken (past_in account registry after_close cpu) (errors_in account registry after_close cpu))
+  unmoved cpu =
+      if_some_map _ _ (slice_get old.processors.all.items cpu)
+      (λ p h. same_has _ _ _ _ p
+      (ap
+      (λ es. record {
+        policy = s.options.bufpolicy;
+        size = s.options.bufsize;
+        reserve = reserve_on account registry s cpu;
+        events = es;
+      })
+      (sym (append-nil (past_in account registry s cpu).events)))
+      (ap faults (sym (append-nil (taken_since account registry (ecbs_in account registry s) cpu s.since))))
+      h)
+      (t.processors cpu)
+
+  pub tracing_close : (new : Tracing) → new.rows ≡ old.rows → new.uses ≡ old.uses → new.processors ≡ old.processors
+      → new.history ≡ old.history → new.seen ≡ old.seen → new.course ≡ Over None
+      → IsTracing account registry after_close new
+  tracing_close new rows uses all history seen' over = record {
+    rows = subst
+        (λ (r : Vec Row). (probe : ℕ) → IfSome (slice_get r.items probe)
+        (λ row. AreEcbs s.clauses (of_probe probe (ecbs_in account registry s)) row.ecbs.items))
+        (sym rows) t.rows;
+    all_rows = ap (λ (r : Vec Row). length r.items) rows ∙ t.all_rows;
+    processors = subst
+        (λ (ps : Processors). AreTaken (past_in account registry after_close)
+        (errors_in account registry after_close) ps.all.items)
+        (sym all) unmoved;
+    all_processors = ap (λ (ps : Processors). length ps.all.items) all ∙ t.all_processors;
+    uses = subst (λ (v : Vec Uses). AreUses (shapes_in s) s.clauses v.items) (sym uses) t.uses;
+    stores = subst (λ (ps : Processors). AreGiven (given_in account registry after_close) ps.stores.items) (sym all)
+        (close_given account registry s old.processors.stores.items t.stores);
+    history = history ∙ t.history;
+    seen = seen' ∙ t.seen;
+    standing = sym (ap phase_by over);
+    end_last = λ e j. absurd (ends (sym over ∙ e));
+  }
+    where
+      ends : Over None ≡ Running → ⊥
+      ends e = cc

@@ -6,18 +6,16 @@ use Rattle.std.specs.Bool.{MatchBool}
 use Rattle.std.specs.Option.{MatchOption, option_map_or}
 use Rattle.dt_cred.specs.declared.account.Account.{Account}
 use Rattle.dt_machine.specs.Registry.{Registry}
-use Rattle.dt_cred.specs.declared.probe.Probe.{Probe}
 use Rattle.dt_lang.specs.Program.{ClauseForm}
 use Rattle.dt_lang.specs.Reads.{program, fault, destructive}
 use Rattle.dt_record.specs.Layout.{layout_of}
-use Rattle.dt_ecb.specs.Ecbs.{EcbForm}
 use Rattle.dt_ecb.specs.Enable.{Verdict, IsVerdict}
 use Rattle.dt_ecb.specs.Shapes.{ShapeForm}
 use Rattle.dt_consumer.specs.Answer.{Answer, done, enabled, snapped, listed, described, refused, aggregated}
 use Rattle.dt_consumer.specs.Answer as answers
 use Rattle.dt_buffer.specs.History.{Past}
 use Rattle.dt_buffer.specs.Shows.{Shows}
-use Rattle.dt_consumer.specs.Ask.{Ask, option, enable, go, stop, snap, status, list, describe, agg, trunc}
+use Rattle.dt_consumer.specs.Ask.{Ask, option, enable, go, stop, snap, status, list, describe, agg, trunc, close}
 use Rattle.dt_consumer.specs.Buffers.{past}
 use Rattle.dt_consumer.specs.Life.{Item, SetUp, is_over, set_up, next_epid, shapes_in}
 use Rattle.dt_consumer.specs.Reply.{Replies, RepliesInQuota, IsVerdictOnCommand, Accepted, is_asked_late, ecb_of, refusal_of, known}
@@ -99,6 +97,7 @@ module _ (one_verdict : (account : Account) (registry : Registry) (accepted : Li
   same_verdict (list None) v w hv hw = hv ∙ sym hw
   same_verdict (list (Some desc)) v w hv hw = hv ∙ sym hw
   same_verdict (describe epid) v w hv hw = hv ∙ sym hw
+  same_verdict close v w hv hw = hv ∙ sym hw
 
   one_accepted : (ask : Ask) (a b : Answer) → Accepted account registry life ask a
       → Accepted account registry life ask b → a ≡ b
@@ -108,6 +107,7 @@ module _ (one_verdict : (account : Account) (registry : Registry) (accepted : Li
   one_accepted (option setting) a b ha hb = ha ∙ sym hb
   one_accepted go a b ha hb = ha ∙ sym hb
   one_accepted stop a b ha hb = ha ∙ sym hb
+  one_accepted close a b ha hb = ha ∙ sym hb
   one_accepted status a b ha hb = ha ∙ sym hb
   one_accepted (list None) a b ha hb = absurd ha
   one_accepted (list (Some desc)) a b ha hb = ha ∙ sym hb
@@ -163,6 +163,7 @@ module _ (some_verdict : (account : Account) (registry : Registry) (accepted : L
   verdict_of (list None) = (_, refl)
   verdict_of (list (Some desc)) = (_, refl)
   verdict_of (describe epid) = (_, refl)
+  verdict_of close = (_, refl)
 
   some_accepted : (ask : Ask) → IsVerdictOnCommand account registry life ask None
       → (a : Answer) × Accepted account registry life ask a
@@ -174,6 +175,7 @@ module _ (some_verdict : (account : Account) (registry : Registry) (accepted : L
   some_accepted (option setting) v = (done, refl)
   some_accepted go v = (done, refl)
   some_accepted stop v = (done, refl)
+  some_accepted close v = (done, refl)
   some_accepted status v = (answers.status _ _ _ _, refl)
   some_accepted (list None) v = cc
   some_accepted (list (Some desc)) v = (listed _, refl)

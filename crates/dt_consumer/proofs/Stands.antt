@@ -1,7 +1,7 @@
 -- A consumer after a line of its own, and after a firing.
 use Rattle.std.proofs.Common.{◌≡◌, ℕ, zero, suc, ◌+◌, ◌-◌, ◌<◌, ◌≤◌, ◌&&◌, ◌||◌, not, Bool, true, false, cond, List, [], ◌∷◌, ◌++◌, Option, Some, None, Result, length, get_or, map, refl, sym, ap, ◌∙◌, subst, arith}
-use Rattle.std.specs.List.{All, AllByRecursion, slice_get, list_any, enumerate_from}
-use Rattle.std.specs.Option.{IfSome, MatchOption, is_some, option_and_then}
+use Rattle.std.specs.List.{All, AllByRecursion, list_any, enumerate_from}
+use Rattle.std.specs.Option.{MatchOption}
 use Rattle.std.proofs.lemmas.List.{length-append, length-map, map-append}
 use Rattle.std.proofs.lemmas.List.Elements.{All-from_recursion, recursion_from_All}
 use Rattle.std.proofs.lemmas.List.FromFn.{length-enumerate_from}
@@ -20,17 +20,17 @@ use Rattle.dt_ecb.specs.declared.limits.TheConstants.{ECBS_MAX}
 use Rattle.dt_ecb.specs.declared.parts.Ecb.{Ecb}
 use Rattle.dt_consumer.specs.Ask.{Ask}
 use Rattle.dt_consumer.specs.Draft.{after_line}
-use Rattle.dt_consumer.specs.Keeps.{AreEcbs, HasTaken, IsTracing, Keeps, form_of_options, phase_by, placed_after}
-use Rattle.dt_consumer.specs.Life.{Item, asked, SetUp, lines, is_inactive, is_over, set_up, ecbs_in, next_epid, phase_of, with_options, with_program, shapes_in}
+use Rattle.dt_consumer.specs.Keeps.{AreEcbs, IsTracing, IsUntraced, Keeps, form_of_options, is_quiet, phase_by, phase_untraced, placed_after}
+use Rattle.dt_consumer.specs.Life.{Item, asked, SetUp, lines, is_inactive, is_over, set_up, ecbs_in, next_epid, phase_of, with_event, with_options, with_program, is_active, shapes_in}
 use Rattle.dt_consumer.specs.StandsFor.{StandsFor}
+use Rattle.dt_consumer.specs.Takings.{Event}
 use Rattle.dt_consumer.specs.declared.consumer.Consumer.{Consumer}
 use Rattle.dt_consumer.specs.declared.limits.TheConstants.{LINES_MAX}
 use Rattle.dt_consumer.specs.declared.options.Options.{Options}
-use Rattle.dt_consumer.specs.declared.phase.End.{End}
+use Rattle.dt_consumer.specs.declared.phase.Course.{Course}
+use Rattle.dt_consumer.specs.declared.phase.Course.TheVariants.{Running, Over}
 use Rattle.dt_consumer.specs.declared.phase.Phase.{Phase}
-use Rattle.dt_consumer.specs.declared.phase.Phase.TheVariants.{Inactive}
-use Rattle.dt_consumer.specs.Buffers.{errors_in, past_in}
-use Rattle.dt_consumer.specs.declared.processor.Processor.{Processor}
+use Rattle.dt_consumer.specs.declared.phase.Phase.TheVariants.{Inactive, Active}
 use Rattle.dt_consumer.specs.declared.programs.Programs.{Programs}
 use Rattle.dt_consumer.specs.declared.refusal.Refusal.{Refusal}
 use Rattle.dt_consumer.specs.declared.tracing.Tracing.{Tracing}
@@ -190,19 +190,24 @@ module _ (account : Account) (registry : Registry) where
         (both (not (list_any (is_unmatched account registry) clauses)) _ after_clash).1)).0
 
 -- what traces, or has traced, is not inactive
-pub begun_phase : (phase : Phase) (o : Option End) → phase ≡ phase_by o → is_inactive phase ≡ false
-begun_phase phase None e = ap is_inactive e
-begun_phase phase (Some end) e = ap is_inactive e
+pub begun_phase : (phase : Phase) (course : Course) → phase ≡ phase_by course → is_inactive phase ≡ false
+begun_phase phase Running e = ap is_inactive e
+begun_phase phase (Over cause) e = ap is_inactive e
 
 clashing : (phase : Phase) → phase ≡ Inactive → is_inactive phase ≡ false → ⊥
 clashing phase e f = let no : true ≡ false = sym (ap is_inactive e) ∙ f in cc
 
 -- a consumer that was not tracing keeps so
-still_idle : (o : Option Tracing) (phase : Phase) (P Q : Tracing → Type 0) → phase ≡ Inactive
-    → ((t : Tracing) → P t → phase ≡ phase_by t.ended) → MatchOption o (phase ≡ Inactive) P
-    → MatchOption o (phase ≡ Inactive) Q
-still_idle None phase P Q off f h = h
-still_idle (Some t) phase P Q off f h = absurd (clashing phase off (begun_phase phase t.ended (f t h)))
+still_idle : (o : Option Tracing) (phase : Phase) (A B : Type 0) (P Q : Tracing → Type 0) → phase ≡ Inactive
+    → ((t : Tracing) → P t → phase ≡ phase_by t.course) → (A → B) → MatchOption o A P → MatchOption o B Q
+still_idle None phase A B P Q off f g h = g h
+still_idle (Some t) phase A B P Q off f g h =
+    absurd (clashing phase off (begun_phase phase t.course (f t h)))
+
+-- one that never traced isn't active
+pub not_active : (is_closed : Bool) (phase : Phase) → phase ≡ phase_untraced is_closed → phase ≡ Active → ⊥
+not_active true phase e on = let no : true ≡ false = sym (ap is_active on) ∙ ap is_active e in cc
+not_active false phase e on = let no : true ≡ false = sym (ap is_active on) ∙ ap is_active e in cc
 
 module _ (account : Account) (registry : Registry) (consumer : Consumer) where
   -- a count more changes nothing that is kept
@@ -250,8 +255,9 @@ module _ (account : Account) (registry : Registry) (consumer : Consumer) where
     clauses = k.clauses;
     ecbs = k.ecbs;
     shapes = k.shapes;
-    tracing = still_idle consumer.tracing (phase_of s) (IsTracing account registry s) _ off
-        (λ t is. is.standing) k.tracing;
+    tracing = still_idle consumer.tracing (phase_of s) (IsUntraced account registry s consumer.closed) _
+        (IsTracing account registry s) _ off (λ t is. is.standing)
+        (λ u. record { quiet = u.quiet; standing = u.standing }) k.tracing;
   }
 
   -- an accepted program
@@ -313,8 +319,9 @@ module _ (account : Account) (registry : Registry) (consumer : Consumer) where
           ++ added account registry (length (ecbs_of account registry s.clauses) + 1) forms) xs in
           subst P (sym (go_on s.clauses forms)) (subst Q (sym grown_ecbs) both);
       shapes = shaped ∙ sym (uses_both s.clauses forms);
-      tracing = still_idle consumer.tracing (phase_of s) (IsTracing account registry s) _ off
-          (λ t is. is.standing) k.tracing;
+      tracing = still_idle consumer.tracing (phase_of s) (IsUntraced account registry s consumer.closed) _
+          (IsTracing account registry s) _ off (λ t is. is.standing)
+          (λ u. record { quiet = u.quiet; standing = u.standing }) k.tracing;
     }
 
   -- an accepted `go`, and what happens later: what there is from then on, and the set-up by an event
@@ -341,58 +348,33 @@ module _ (account : Account) (registry : Registry) (s : SetUp) (consumer : Consu
     pub traced : (t : Tracing) → consumer.tracing ≡ Some t → IsTracing account registry s t
     traced t e =
         let P : Option Tracing → Type 0 = λ o.
-        MatchOption o (phase_of s ≡ Inactive) (IsTracing account registry s) in
+        MatchOption o (IsUntraced account registry s consumer.closed) (IsTracing account registry s) in
         subst P e k.tracing
 
-    pub untraced : consumer.tracing ≡ None → phase_of s ≡ Inactive
+    pub untraced : consumer.tracing ≡ None → IsUntraced account registry s consumer.closed
     untraced e =
         let P : Option Tracing → Type 0 = λ o.
-        MatchOption o (phase_of s ≡ Inactive) (IsTracing account registry s) in
+        MatchOption o (IsUntraced account registry s consumer.closed) (IsTracing account registry s) in
         subst P e k.tracing
 
-    is_begun : (o : Option Tracing) → MatchOption o (phase_of s ≡ Inactive) (IsTracing account registry s)
-        → is_some o ≡ not (is_inactive (phase_of s))
-    is_begun None h = sym (ap (λ p. not (is_inactive p)) h)
-    is_begun (Some t) h = sym (ap not (begun_phase (phase_of s) t.ended h.standing))
-
-    pub traces : is_some consumer.tracing ≡ not (is_inactive (phase_of s))
-    traces = is_begun consumer.tracing k.tracing
-
-    idle_phase : (o : Option Tracing) → MatchOption o (phase_of s ≡ Inactive) (IsTracing account registry s)
-        → is_some o ≡ false → phase_of s ≡ Inactive
-    idle_phase None h e = h
-    idle_phase (Some t) h e = cc
-
-    pub idle : is_some consumer.tracing ≡ false → phase_of s ≡ Inactive
-    idle e = idle_phase consumer.tracing k.tracing e
+    -- an event by which nothing is taken, where it never traced
+    pub keeps_quiet : (event : Event) (is_closed : Bool) (n : ℕ) → consumer.tracing ≡ None
+        → is_quiet (event ∷ s.since) ≡ true → phase_of (with_event s event) ≡ phase_untraced is_closed
+        → Keeps account registry (with_event s event) (record consumer { closed = is_closed; lines = n })
+    keeps_quiet event is_closed n none quiet standing = record {
+      same_account = k.same_account;
+      options = k.options;
+      clauses = k.clauses;
+      ecbs = k.ecbs;
+      shapes = k.shapes;
+      tracing =
+          let P : Option Tracing → Type 0 = λ o. MatchOption o
+          (IsUntraced account registry (with_event s event) is_closed)
+          (IsTracing account registry (with_event s event)) in
+          subst P (sym none) (record { quiet = quiet; standing = standing });
+    }
 
 -- the same set-up, written in another way
 pub keeps_same : (account : Account) (registry : Registry) (s s' : SetUp) (consumer : Consumer) → s' ≡ s
     → Keeps account registry s consumer → Keeps account registry s' consumer
 keeps_same account registry s s' consumer e k = subst (λ x. Keeps account registry x consumer) (sym e) k
-
--- what a processor of a consumer has taken
-pub taken_by_one : (account : Account) (registry : Registry) (s : SetUp) (consumer : Consumer)
-    → Keeps account registry s consumer → (cpu : ℕ) (p : Processor)
-    → Some p ≡ option_and_then (λ (t : Tracing). slice_get t.processors.all.items cpu) consumer.tracing
-    → HasTaken (past_in account registry s cpu) (errors_in account registry s cpu) p
-taken_by_one account registry s consumer k cpu p e = step consumer.tracing k.tracing e
-  where
-    inner : (o : Option Processor)
-        → IfSome o (HasTaken (past_in account registry s cpu) (errors_in account registry s cpu))
-        → Some p ≡ o → HasTaken (past_in account registry s cpu) (errors_in account registry s cpu) p
-    inner None h e = cc
-    inner (Some q) h e = let same : p ≡ q = cc in
-        subst (HasTaken (past_in account registry s cpu) (errors_in account registry s cpu)) (sym same) h
-
-    step : (o : Option Tracing) → MatchOption o (phase_of s ≡ Inactive) (IsTracing account registry s)
-        → Some p ≡ option_and_then (λ (t : Tracing). slice_get t.processors.all.items cpu) o
-        → HasTaken (past_in account registry s cpu) (errors_in account registry s cpu) p
-    step None h e = cc
-    step (Some t) h e = inner (slice_get t.processors.all.items cpu) (h.processors cpu) e
-
--- what is found only where a test holds
-pub found_readable : {X : Type 0} (b : Bool) (o : Option X) (x : X) → Some x ≡ cond b o None
-    → (b ≡ true) × (Some x ≡ o)
-found_readable true o x e = (refl, e)
-found_readable false o x e = cc

@@ -20,7 +20,7 @@ use Rattle.dt_consumer.specs.Aggregations.{aggregation_of, contributions}
 use Rattle.dt_consumer.specs.Keeps.{taking_by, where_taken}
 use Rattle.dt_consumer.specs.Life.{SetUp, ecbs_in, shapes_in, since_then, with_event}
 use Rattle.dt_consumer.specs.Stores.{given_in, given_on}
-use Rattle.dt_consumer.specs.Takings.{Event, began, seen, read, truncated, ended, is_end, Taking, MomentForm, moment_at, own_moment, taken_at, taken_on, through_exit}
+use Rattle.dt_consumer.specs.Takings.{Event, began, seen, read, truncated, ended, is_end, Taking, MomentForm, moment_at, own_moment, taken_at, taken_on, through_exit, closed}
 use Rattle.dt_consumer.specs.Uses.{AreGiven, AreUses, given_and, given_then}
 use Rattle.dt_consumer.specs.declared.limits.TheConstants.{END}
 use Rattle.dt_consumer.specs.declared.phase.End.{End}
@@ -73,6 +73,7 @@ given_firing account registry shapes ecbs cpu (seen firing) is = refl
 given_firing account registry shapes ecbs cpu (read n) is = absurd is
 given_firing account registry shapes ecbs cpu (truncated name) is = absurd is
 given_firing account registry shapes ecbs cpu (ended end) is = refl
+given_firing account registry shapes ecbs cpu closed is = refl
 
 -- what is given at an event is what the set-up with it says
 grown : (account : Account) (registry : Registry) (s : SetUp) (event : Event) (m : MomentForm) → IsFiring event
@@ -132,6 +133,14 @@ end_gave account registry s end row uses clauses old new own are r gave was =
     grown account registry s (ended end) _ tt found.is new _
     (row_taken account registry s END row r clauses own true _)
     found.holds
+
+-- a close gives nothing
+pub close_given : (account : Account) (registry : Registry) (s : SetUp) (stores : List AggStore)
+    → AreGiven (given_in account registry s) stores → AreGiven (given_in account registry (with_event s closed)) stores
+close_given account registry s stores h = λ cpu.
+    if_some_map _ _ (slice_get stores cpu)
+    (λ st. given_none (given_in account registry s cpu) st)
+    (h cpu)
 
 -- a reading gives nothing
 pub read_given : (account : Account) (registry : Registry) (s : SetUp) (n : ℕ) (stores : List AggStore)

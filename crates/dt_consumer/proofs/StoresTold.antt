@@ -1,10 +1,14 @@
 -- What `agg` and `status` tell of the stores.
-use Rattle.std.proofs.Common.{◌≡◌, ℕ, cond, List, [], ◌∷◌, ◌++◌, length, Option, Some, None, map, replicate, sym, ap, ◌∙◌, subst, arith}
-use Rattle.std.specs.List.{AllZip, range_with_len}
+use Rattle.std.proofs.Common.{◌≡◌, ℕ, Bool, true, false, List, [], ◌∷◌, ◌++◌, length, Option, Some, None, map, replicate, refl, sym, ap, ◌∙◌, arith}
+use Rattle.std.specs.List.{AllByRecursion, AllZip, flat_map, range_with_len}
 use Rattle.std.specs.Option.{option_map, option_to_list}
 use Rattle.std.specs.Vec.{vec_len}
 use Rattle.std.proofs.lemmas.List.{append-nil}
-use Rattle.dt_aggstore.specs.Chosen.{drops}
+use Rattle.dt_aggfn.specs.Answers.{answer_of}
+use Rattle.dt_aggstore.specs.Chosen.{choice_of, drops, gives_value}
+use Rattle.dt_aggstore.specs.Held.{Contribution, counted, distinct, held}
+use Rattle.dt_aggstore.specs.Table.{joined}
+use Rattle.dt_aggstore.specs.TableOf.{rising_keys, table_of}
 use Rattle.dt_aggstore.specs.History as store
 use Rattle.dt_aggstore.specs.IsAt.{IsAt}
 use Rattle.dt_aggstore.specs.declared.key.Aggregation.{Aggregation}
@@ -13,14 +17,12 @@ use Rattle.dt_ecb.specs.Ecbs.{EcbForm}
 use Rattle.dt_ecb.specs.Shapes.{ShapeForm}
 use Rattle.dt_machine.specs.Registry.{Registry}
 use Rattle.dt_consumer.specs.Aggregations.{aggregation_of}
-use Rattle.dt_consumer.specs.Keeps.{IsTracing}
-use Rattle.dt_consumer.specs.Life.{Item, SetUp, ecbs_in, phase, phase_after, phase_of, set_up, shapes_in}
+use Rattle.dt_consumer.specs.Keeps.{IsTracing, is_quiet}
+use Rattle.dt_consumer.specs.Life.{Item, SetUp, ecbs_in, set_up, shapes_in}
 use Rattle.dt_consumer.specs.Reply.{all_aggdrops}
 use Rattle.dt_consumer.specs.Stores.{aggdrops_in, given_in, given_since, stores_in}
-use Rattle.dt_consumer.specs.Takings.{Event, began, seen, read, truncated, ended}
-use Rattle.dt_consumer.specs.declared.phase.Phase.TheVariants.{Inactive}
+use Rattle.dt_consumer.specs.Takings.{Event, began, seen, read, truncated, ended, closed}
 use Rattle.dt_consumer.specs.declared.tracing.Tracing.{Tracing}
-use Rattle.dt_consumer.proofs.Stands.{begun_phase}
 use Rattle.dt_consumer.proofs.Stores.{are_zipped}
 use Rattle.dt_consumer.proofs.Telling.{all_zero}
 
@@ -37,12 +39,8 @@ as_many account registry s t is = omega (arith, t.processors.each, is.all_proces
 pub stores_told : (account : Account) (registry : Registry) (s : SetUp) (t : Tracing) → IsTracing account registry s t
     → AllZip IsAt (stores_in account registry s) t.processors.stores.items
 stores_told account registry s t is =
-    subst
-    (λ b. AllZip IsAt (cond b [] (map (given_in account registry s) (range_with_len 0 registry.cpus)))
-    t.processors.stores.items)
-    (sym (begun_phase (phase_of s) t.ended is.standing))
-    (are_zipped (given_in account registry s) t.processors.stores.items registry.cpus
-    (all_stores account registry s t is) is.stores)
+    are_zipped (given_in account registry s) t.processors.stores.items registry.cpus
+    (all_stores account registry s t is) is.stores
 
 pub aggdrops_told : (account : Account) (registry : Registry) (life : List Item) (t : Tracing)
     → IsTracing account registry (set_up account registry life) t
@@ -52,7 +50,7 @@ aggdrops_told account registry life t is =
     ap (λ n. map (aggdrops_in account registry (set_up account registry life)) (range_with_len 0 n))
     (as_many account registry (set_up account registry life) t is)
 
--- before tracing begins nothing was given
+-- where a consumer never traced, nothing was given
 module _ (fresh : (size : ℕ) → drops (store.new_past size) ≡ 0)
     (cut : (past : store.Past) (a : Aggregation) → drops (store.after past (store.truncated a)) ≡ drops past) where
   one_cut : (size : ℕ) (events : List store.Event) (o : Option Aggregation)
@@ -62,7 +60,7 @@ module _ (fresh : (size : ℕ) → drops (store.new_past size) ≡ 0)
   one_cut size events (Some a) = cut (record { size = size; events = events }) a
 
   none_given : (account : Account) (registry : Registry) (shapes : List ShapeForm) (ecbs : List EcbForm) (cpu size : ℕ)
-      (events : List Event) → phase_after events ≡ Inactive
+      (events : List Event) → is_quiet events ≡ true
       → drops (record { size = size; events = given_since account registry shapes ecbs cpu events }) ≡ 0
   none_given account registry shapes ecbs cpu size [] e = fresh size
   none_given account registry shapes ecbs cpu size (began ∷ events) e = cc
@@ -75,10 +73,70 @@ module _ (fresh : (size : ℕ) → drops (store.new_past size) ≡ 0)
       one_cut size (given_since account registry shapes ecbs cpu events) (aggregation_of shapes name)
       ∙ none_given account registry shapes ecbs cpu size events e
   none_given account registry shapes ecbs cpu size (ended end ∷ events) e = cc
+  none_given account registry shapes ecbs cpu size (closed ∷ events) e =
+      ap (λ es. drops (record { size = size; events = es }))
+      (append-nil (given_since account registry shapes ecbs cpu events))
+      ∙ none_given account registry shapes ecbs cpu size events e
 
   pub no_aggdrops : (account : Account) (registry : Registry) (life : List Item)
-      → phase account registry life ≡ Inactive → replicate registry.cpus 0 ≡ all_aggdrops account registry life
-  no_aggdrops account registry life off =
+      → is_quiet (set_up account registry life).since ≡ true
+      → replicate registry.cpus 0 ≡ all_aggdrops account registry life
+  no_aggdrops account registry life quiet =
       let s = set_up account registry life in
       sym (all_zero (aggdrops_in account registry s) registry.cpus 0
-      (λ cpu. none_given account registry (shapes_in s) (ecbs_in account registry s) cpu s.options.aggsize s.since off))
+      (λ cpu. none_given account registry (shapes_in s) (ecbs_in account registry s) cpu s.options.aggsize s.since quiet))
+
+-- nothing is held where nothing was given
+abbrev gives_none : List store.Event → Type 0
+gives_none = AllByRecursion (λ event. gives_value event ≡ false)
+
+none_counted : (events : List store.Event) (chosen : List Bool) → gives_none events → counted events chosen ≡ []
+none_counted [] chosen none = refl
+none_counted (store.given aggregation key value ∷ later) chosen none = cc
+none_counted (store.truncated aggregation ∷ later) [] none = refl
+none_counted (store.truncated aggregation ∷ later) (c ∷ chosen) none = none_counted later chosen none.1
+
+none_held : (events : List store.Event) (chosen : List Bool) → gives_none events → held events chosen ≡ []
+none_held events chosen none = ap (λ cs. distinct (map (λ (c : Contribution). c.entry) cs)) (none_counted events chosen none)
+
+append_none : (a b : List store.Event) → gives_none a → gives_none b → gives_none (a ++ b)
+append_none [] b h k = k
+append_none (x ∷ a) b h k = (h.0, append_none a b h.1 k)
+
+module _ (account : Account) (registry : Registry) (shapes : List ShapeForm) (ecbs : List EcbForm) (cpu : ℕ) where
+  quiet_gives : (events : List Event) → is_quiet events ≡ true
+      → gives_none (given_since account registry shapes ecbs cpu events)
+  quiet_gives [] e = tt
+  quiet_gives (began ∷ events) e = cc
+  quiet_gives (seen firing ∷ events) e = cc
+  quiet_gives (read n ∷ events) e = append_none _ [] (quiet_gives events e) tt
+  quiet_gives (truncated name ∷ events) e =
+      append_none _ _ (quiet_gives events e) (cut (aggregation_of shapes name))
+    where
+      cut : (o : Option Aggregation) → gives_none (option_to_list (option_map store.truncated o))
+      cut None = tt
+      cut (Some a) = (refl, tt)
+  quiet_gives (ended end ∷ events) e = cc
+  quiet_gives (closed ∷ events) e = append_none _ [] (quiet_gives events e) tt
+
+-- the table of stores to which nothing was given
+all_held : (f : ℕ → store.Past) (cpus : List ℕ) → ((cpu : ℕ) → gives_none (f cpu).events)
+    → flat_map (λ (past : store.Past). held past.events (choice_of past)) (map f cpus) ≡ []
+all_held f [] none = refl
+all_held f (cpu ∷ cpus) none =
+    ap (λ es. es ++ flat_map (λ (past : store.Past). held past.events (choice_of past)) (map f cpus))
+    (none_held (f cpu).events (choice_of (f cpu)) (none cpu))
+    ∙ all_held f cpus none
+
+pub empty_table : (account : Account) (registry : Registry) (s : SetUp) (a : Aggregation)
+    → is_quiet s.since ≡ true → [] ≡ table_of (stores_in account registry s) a
+unfolding table_of
+empty_table account registry s a quiet =
+    let pasts = stores_in account registry s in
+    sym (ap
+    (λ es. map (λ key. record {
+      key = key;
+      value = answer_of a.function (joined a key pasts (map choice_of pasts));
+    }) (rising_keys a es))
+    (all_held (given_in account registry s) (range_with_len 0 registry.cpus)
+    (λ cpu. quiet_gives account registry (shapes_in s) (ecbs_in account registry s) cpu s.since quiet)))

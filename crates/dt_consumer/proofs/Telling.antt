@@ -14,11 +14,10 @@ use Rattle.dt_ecb.specs.Ecbs.{EcbForm}
 use Rattle.dt_ecb.specs.Forms.{form_of_ecb}
 use Rattle.dt_ecb.specs.declared.parts.Ecb.{Ecb}
 use Rattle.dt_consumer.specs.Buffers.{errors}
-use Rattle.dt_consumer.specs.Keeps.{IsTracing, Keeps}
-use Rattle.dt_consumer.specs.Life.{Item, SetUp, seen_in, phase_after, set_up, ecbs_in, phase}
+use Rattle.dt_consumer.specs.Keeps.{IsTracing, Keeps, is_quiet}
+use Rattle.dt_consumer.specs.Life.{Item, SetUp, seen_in, set_up, ecbs_in}
 use Rattle.dt_consumer.specs.Reply.{all_errors, ecb_of}
-use Rattle.dt_consumer.specs.Takings.{Event, began, seen, read, truncated, ended, faults, taken_since}
-use Rattle.dt_consumer.specs.declared.phase.Phase.TheVariants.{Inactive}
+use Rattle.dt_consumer.specs.Takings.{Event, began, seen, read, truncated, ended, closed, faults, taken_since}
 use Rattle.dt_consumer.specs.declared.consumer.Consumer.{Consumer}
 use Rattle.dt_consumer.specs.declared.processor.Processor.{Processor}
 use Rattle.dt_consumer.specs.declared.tracing.Tracing.{Tracing}
@@ -28,6 +27,12 @@ use Rattle.dt_consumer.proofs.Taken.{if_some_map}
 pub if_ok_map : {T E : Type 0} (P Q : T → Type 0) (r : Result T E) → ((x : T) → P x → Q x) → IfOk r P → IfOk r Q
 if_ok_map P Q (Ok x) f h = f x h
 if_ok_map P Q (Err e) f h = h
+
+-- what holds of a result that is right, where the premise stands inside
+pub if_ok_each : {A T E : Type 0} {P : A → T → Type 0} {R : A → Type 0} {Q : T → Type 0} (r : Result T E)
+    → ((x : T) → ((a : A) → R a → P a x) → Q x) → ((a : A) → R a → IfOk r (P a)) → IfOk r Q
+if_ok_each (Ok x) f h = f x h
+if_ok_each (Err e) f h = tt
 
 each_error : (f : ℕ → ℕ) (base : ℕ) (xs : List Processor)
     → ((i : ℕ) → IfSome (slice_get xs i) (λ p. p.errors ≡ f (base + i)))
@@ -47,9 +52,9 @@ all_zero f zero base none = refl
 all_zero f (suc n) base none =
     ap (λ k. k ∷ map f (range_with_len (base + 1) n)) (none base) ∙ ap (λ ns. 0 ∷ ns) (all_zero f n (base + 1) none)
 
--- before tracing begins nothing was taken, and nothing seen
+-- where a consumer never traced, nothing was taken, and nothing seen
 none_taken : (account : Account) (registry : Registry) (ecbs : List EcbForm) (cpu : ℕ) (events : List Event)
-    → phase_after events ≡ Inactive → taken_since account registry ecbs cpu events ≡ []
+    → is_quiet events ≡ true → taken_since account registry ecbs cpu events ≡ []
 none_taken account registry ecbs cpu [] e = refl
 none_taken account registry ecbs cpu (began ∷ events) e = cc
 none_taken account registry ecbs cpu (seen firing ∷ events) e = cc
@@ -58,14 +63,17 @@ none_taken account registry ecbs cpu (read n ∷ events) e =
 none_taken account registry ecbs cpu (truncated name ∷ events) e =
     append-nil (taken_since account registry ecbs cpu events) ∙ none_taken account registry ecbs cpu events e
 none_taken account registry ecbs cpu (ended end ∷ events) e = cc
+none_taken account registry ecbs cpu (closed ∷ events) e =
+    append-nil (taken_since account registry ecbs cpu events) ∙ none_taken account registry ecbs cpu events e
 
-pub none_seen : (events : List Event) → phase_after events ≡ Inactive → seen_in events ≡ 0
+pub none_seen : (events : List Event) → is_quiet events ≡ true → seen_in events ≡ 0
 none_seen [] e = refl
 none_seen (began ∷ events) e = cc
 none_seen (seen firing ∷ events) e = cc
 none_seen (read n ∷ events) e = none_seen events e
 none_seen (truncated name ∷ events) e = none_seen events e
 none_seen (ended end ∷ events) e = cc
+none_seen (closed ∷ events) e = none_seen events e
 
 module _ (account : Account) (registry : Registry) (life : List Item) where
   -- the errors of the processors, from `go` on
@@ -80,13 +88,14 @@ module _ (account : Account) (registry : Registry) (life : List Item) where
       (if_some_map _ _ (slice_get t.processors.all.items i) (λ p h. h.counted) (is.processors i)))
       ∙ ap (λ n. map (errors account registry life) (range_with_len 0 n)) is.all_processors
 
-  -- and before
-  pub no_errors : phase account registry life ≡ Inactive → replicate registry.cpus 0 ≡ all_errors account registry life
-  no_errors off =
+  -- and where it never traced
+  pub no_errors : is_quiet (set_up account registry life).since ≡ true
+      → replicate registry.cpus 0 ≡ all_errors account registry life
+  no_errors quiet =
       sym (all_zero (errors account registry life) registry.cpus 0
       (λ cpu. ap faults
       (none_taken account registry (ecbs_in account registry (set_up account registry life)) cpu
-      (set_up account registry life).since off)))
+      (set_up account registry life).since quiet)))
 
 -- the test that a search found holds of what it found, and so does what holds of each
 found_here : {X : Type 0} (P : X → Type 0) (b : Bool) (x : X) (later : Option X) (y : X)

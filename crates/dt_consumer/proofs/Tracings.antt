@@ -18,7 +18,7 @@ use Rattle.dt_consumer.specs.Buffers.{attempts_of, comes_by, errors_in, past_in,
 use Rattle.dt_consumer.specs.Keeps.{AreEcbs, AreTaken, HasTaken, IsTracing, errors_and, followed_by, pasts_and, taking_by, where_taken}
 use Rattle.dt_consumer.specs.Life.{SetUp, ecbs_in, end_by, end_size, happens, seen_in, since_then, with_event}
 use Rattle.dt_consumer.specs.Options.{OptionsForm, is_fill}
-use Rattle.dt_consumer.specs.Takings.{Event, began, seen, read, truncated, ended, is_end, Taking, MomentForm, exit_of, faults, first_exit, moment_at, own_firing, own_moment, own_process, record_of, taken_at, taken_by, taken_on, taken_since, taking_of, through_exit}
+use Rattle.dt_consumer.specs.Takings.{Event, began, seen, read, truncated, ended, closed, is_end, Taking, MomentForm, exit_of, faults, first_exit, moment_at, own_firing, own_moment, own_process, record_of, taken_at, taken_by, taken_on, taken_since, taking_of, through_exit}
 use Rattle.dt_consumer.specs.declared.limits.TheConstants.{END}
 use Rattle.dt_consumer.specs.declared.phase.End.{End}
 use Rattle.dt_consumer.specs.declared.phase.End.TheVariants.{Exit, History}
@@ -48,6 +48,7 @@ module _ (account : Account) (registry : Registry) (s : SetUp) where
   comes_firing cpu (read n) is = absurd is
   comes_firing cpu (truncated name) is = absurd is
   comes_firing cpu (ended end) is = refl
+  comes_firing cpu closed is = refl
 
   module _ (event : Event) (m : MomentForm) (fires : IsFiring event)
       (at : moment_at account registry event ≡ Some m) where

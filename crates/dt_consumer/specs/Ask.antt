@@ -6,7 +6,7 @@ use Rattle.dt_lang.proofs.SomeDescription.{some_description}
 use Rattle.dt_lang.specs.Reads.{Reading, Reads}
 use Rattle.dt_lang.proofs.SomeReading.{some_reading}
 use Rattle.dt_consumer.specs.declared.command.Command.{Command}
-use Rattle.dt_consumer.specs.declared.command.Command.TheVariants.{Option as SetOption, Enable, Go, Stop, Snap, Agg, Trunc, Status, List as ListOf, Describe}
+use Rattle.dt_consumer.specs.declared.command.Command.TheVariants.{Option as SetOption, Enable, Go, Stop, Snap, Agg, Trunc, Status, List as ListOf, Describe, Close}
 use Rattle.dt_consumer.specs.declared.refusal.Refusal.{Refusal}
 use Rattle.dt_consumer.specs.Options.{Setting, setting_of}
 
@@ -38,6 +38,7 @@ pub data Ask : Type 0 where
   status : Ask
   list : Option DescForm → Ask
   describe : (epid : ℕ) → Ask
+  close : Ask
 
 -- what a command asks for
 abbrev pub ask_of : Command → Ask
@@ -51,6 +52,7 @@ ask_of (Trunc name) = trunc (string_bytes name)
 ask_of Status = status
 ask_of (ListOf probe) = list (description_of (string_bytes probe))
 ask_of (Describe epid) = describe epid
+ask_of Close = close
 
 -- what a line asks for: a command for what it asks, and one that is no command for its refusal
 abbrev pub line_asks : Result Command Refusal → Result Ask Refusal

@@ -1,5 +1,5 @@
 -- How a consumer keeps its set-up, and what happened on each processor. Only proofs need these definitions.
-use Rattle.std.specs.Prelude.{◌≡◌, ℕ, ◌+◌, ◌<◌, ◌==◌, Bool, List, [], ◌++◌, Option, Some, None, IfSome, if◌then◌else◌, MatchOption, All, length, map, slice_get}
+use Rattle.std.specs.Prelude.{◌≡◌, ℕ, ◌+◌, ◌<◌, ◌==◌, Bool, true, false, List, [], ◌∷◌, ◌++◌, None, IfSome, if◌then◌else◌, MatchOption, All, length, map, slice_get}
 use Rattle.dt_buffer.specs.History.{Past, of_end}
 use Rattle.dt_buffer.specs.History as buffer
 use Rattle.dt_buffer.specs.IsAt.{IsAt}
@@ -13,12 +13,13 @@ use Rattle.dt_consumer.specs.Buffers.{attempts_of, errors_in, past_in}
 use Rattle.dt_consumer.specs.Life.{SetUp, ecbs_in, phase_of, seen_in, shapes_in}
 use Rattle.dt_consumer.specs.Options.{OptionsForm}
 use Rattle.dt_consumer.specs.Stores.{given_in}
-use Rattle.dt_consumer.specs.Takings.{Taking, MomentForm, faults, taking_of}
+use Rattle.dt_consumer.specs.Takings.{Event, read, truncated, closed, Taking, MomentForm, faults, taking_of}
 use Rattle.dt_consumer.specs.Uses.{AreGiven, AreUses}
 use Rattle.dt_consumer.specs.declared.consumer.Consumer.{Consumer}
 use Rattle.dt_consumer.specs.declared.moment.Moment.{Moment}
 use Rattle.dt_consumer.specs.declared.options.Options.{Options}
-use Rattle.dt_consumer.specs.declared.phase.End.{End}
+use Rattle.dt_consumer.specs.declared.phase.Course.{Course}
+use Rattle.dt_consumer.specs.declared.phase.Course.TheVariants.{Running, Over}
 use Rattle.dt_consumer.specs.declared.phase.Phase.{Phase}
 use Rattle.dt_consumer.specs.declared.phase.Phase.TheVariants.{Inactive, Active, Stopped}
 use Rattle.dt_consumer.specs.declared.processor.Processor.{Processor}
@@ -80,9 +81,21 @@ abbrev pub errors_and : (ℕ → ℕ) → (ℕ → List Taking) → ℕ → ℕ
 errors_and errors new cpu = errors cpu + faults (new cpu)
 
 -- the phase of a consumer that traces or has traced
-abbrev pub phase_by : Option End → Phase
-phase_by None = Active
-phase_by (Some end) = Stopped end
+abbrev pub phase_by : Course → Phase
+phase_by Running = Active
+phase_by (Over cause) = Stopped cause
+
+-- the phase of a consumer that never traced: it may be closed
+abbrev pub phase_untraced : Bool → Phase
+phase_untraced is_closed = if is_closed then Stopped None else Inactive
+
+-- Nothing was taken: buffers may have been read and aggregations truncated after a close, and that is all.
+abbrev pub is_quiet : List Event → Bool
+is_quiet [] = true
+is_quiet (read cpu ∷ events) = is_quiet events
+is_quiet (truncated name ∷ events) = is_quiet events
+is_quiet (closed ∷ events) = is_quiet events
+is_quiet _ = false
 
 module _ (account : Account) (registry : Registry) (s : SetUp) where
   -- What is there from `go` on: a row of ECBs for each probe, and each processor with what was taken there.
@@ -96,8 +109,13 @@ module _ (account : Account) (registry : Registry) (s : SetUp) where
     pub stores : AreGiven (given_in account registry s) tracing.processors.stores.items
     pub history : tracing.history ≡ s.options.histsize
     pub seen : tracing.seen ≡ seen_in s.since
-    pub standing : phase_of s ≡ phase_by tracing.ended
-    pub end_last : tracing.ended ≡ None → (cpu : ℕ) → of_end (past_in account registry s cpu).events ≡ []
+    pub standing : phase_of s ≡ phase_by tracing.course
+    pub end_last : tracing.course ≡ Running → (cpu : ℕ) → of_end (past_in account registry s cpu).events ≡ []
+
+  -- A consumer that never traced: nothing was taken.
+  pub record IsUntraced (is_closed : Bool) : Type 0 where
+    pub quiet : is_quiet s.since ≡ true
+    pub standing : phase_of s ≡ phase_untraced is_closed
 
   -- A consumer keeps its set-up.
   pub record Keeps (consumer : Consumer) : Type 0 where
@@ -106,4 +124,4 @@ module _ (account : Account) (registry : Registry) (s : SetUp) where
     pub clauses : map form_of_clause consumer.programs.clauses.items ≡ s.clauses
     pub ecbs : AreEcbs s.clauses (ecbs_in account registry s) consumer.programs.ecbs.items
     pub shapes : shapes_of consumer.programs.shapes ≡ shapes_in s
-    pub tracing : MatchOption consumer.tracing (phase_of s ≡ Inactive) IsTracing
+    pub tracing : MatchOption consumer.tracing (IsUntraced consumer.closed) IsTracing

@@ -11,9 +11,9 @@ use Rattle.dt_ecb.specs.Ecbs.{EcbForm, ecbs_of, of_probe}
 use Rattle.dt_ecb.specs.Enable.{is_enabled}
 use Rattle.dt_ecb.specs.Shapes.{ShapeForm, uses_of}
 use Rattle.dt_consumer.specs.Aggregations.{aggregation_of}
-use Rattle.dt_consumer.specs.Ask.{Ask, option, enable, go, stop, snap, trunc}
+use Rattle.dt_consumer.specs.Ask.{Ask, option, enable, go, stop, snap, trunc, close}
 use Rattle.dt_consumer.specs.Options.{OptionsForm, default_options, with_setting, is_fill, is_ring}
-use Rattle.dt_consumer.specs.Takings.{Event, began, seen, read, truncated, ended, first_exit, taken_by}
+use Rattle.dt_consumer.specs.Takings.{Event, began, seen, read, truncated, ended, closed, first_exit, taken_by}
 use Rattle.dt_consumer.specs.declared.limits.TheConstants.{LINES_MAX, END}
 use Rattle.dt_consumer.specs.declared.phase.End.{End}
 use Rattle.dt_consumer.specs.declared.phase.End.TheVariants.{Stop, Exit, History}
@@ -49,8 +49,12 @@ abbrev pub is_active : Phase → Bool
 is_active Active = true
 is_active _ = false
 
+abbrev pub is_stopped : Phase → Bool
+is_stopped (Stopped cause) = true
+is_stopped _ = false
+
 -- What a life has made of a consumer: its options; the clauses of its accepted programs, in order of acceptance; and
--- what happened from its accepted `go` on, the newest first.
+-- what happened, the newest first.
 pub record SetUp : Type 0 where
   pub options : OptionsForm
   pub clauses : List ClauseForm
@@ -75,14 +79,16 @@ with_event s event = since_then s (event ∷ s.since)
 abbrev pub shapes_in : SetUp → List ShapeForm
 shapes_in s = uses_of s.clauses
 
--- Tracing begins as BEGIN fires, and ends, for good, as END fires.
+-- Tracing begins as BEGIN fires, and ends, for good, as END fires, or as the session is closed: then END doesn't fire, and
+-- there is no cause.
 abbrev pub phase_after : List Event → Phase
 phase_after [] = Inactive
 phase_after (began ∷ events) = Active
 phase_after (seen firing ∷ events) = Active
 phase_after (read cpu ∷ events) = phase_after events
 phase_after (truncated name ∷ events) = phase_after events
-phase_after (ended end ∷ events) = Stopped end
+phase_after (ended end ∷ events) = Stopped (Some end)
+phase_after (closed ∷ events) = Stopped None
 
 abbrev pub phase_of : SetUp → Phase
 phase_of s = phase_after s.since
@@ -95,12 +101,13 @@ seen_in (began ∷ events) = seen_in events
 seen_in (read cpu ∷ events) = seen_in events
 seen_in (truncated name ∷ events) = seen_in events
 seen_in (ended end ∷ events) = seen_in events
+seen_in (closed ∷ events) = seen_in events
 
 -- A processor's buffer can be read from `go` on, under ring only after tracing ended.
 abbrev pub is_readable : SetUp → Phase → Bool
 is_readable s Inactive = false
 is_readable s Active = not (is_ring s.options.bufpolicy)
-is_readable s (Stopped end) = true
+is_readable s (Stopped cause) = true
 
 module _ (account : Account) (registry : Registry) where
   -- a consumer's ECBs, and the EPID of its next one
@@ -134,7 +141,7 @@ module _ (account : Account) (registry : Registry) where
       (λ end. with_event (with_event s event) (ended end)) (end_by (with_event s event) event) (with_event s event)
 
   -- Only what has an effect changes the set-up: options and programs before tracing begins, the first `go`, and then
-  -- readings that are answered, truncations of aggregations, firings, and one `stop`.
+  -- readings that are answered, truncations of aggregations, firings, one `stop`, and a `close` where it hasn't stopped.
   abbrev pub after_item : SetUp → Item → SetUp
   after_item s (asked (Ok (option (Some setting)))) =
       if is_inactive (phase_of s) then with_options s (with_setting s.options setting) else s
@@ -147,6 +154,7 @@ module _ (account : Account) (registry : Registry) where
   after_item s (asked (Ok (trunc name))) =
       if is_inactive (phase_of s) || is_none (aggregation_of (shapes_in s) name) then s else
       with_event s (truncated name)
+  after_item s (asked (Ok close)) = if is_stopped (phase_of s) then s else with_event s closed
   after_item s (fired firing) = if is_active (phase_of s) then happens s (seen firing) else s
   after_item s _ = s
 

@@ -9,7 +9,7 @@ use Rattle.dt_consumer.specs.declared.phase.Phase.TheVariants.{Inactive, Active,
 abbrev pub phase_word : Phase → List ℕ
 phase_word Inactive = codes "inactive"
 phase_word Active = codes "active"
-phase_word (Stopped end) = codes "stopped"
+phase_word (Stopped cause) = codes "stopped"
 
 -- the word for why tracing ended
 abbrev pub cause_word : End → List ℕ

@@ -19,7 +19,7 @@ use Rattle.dt_ecb.specs.declared.fault.RestrictedAction.TheVariants.{Stack}
 use Rattle.dt_consumer.specs.Answer as answers
 use Rattle.dt_consumer.specs.Answer.{Answer, done, enabled, snapped, aggregated, listed, described, refused}
 use Rattle.dt_consumer.specs.Aggregations.{aggregation_of}
-use Rattle.dt_consumer.specs.Ask.{Ask, option, enable, go, stop, snap, agg, trunc, status, list, describe}
+use Rattle.dt_consumer.specs.Ask.{Ask, option, enable, go, stop, snap, agg, trunc, status, list, describe, close}
 use Rattle.dt_consumer.specs.Buffers.{errors, past}
 use Rattle.dt_consumer.specs.Life.{Item, SetUp, seen_in, is_over, set_up, next_epid, phase, is_active, is_inactive, is_readable, has_room, ecbs, shapes_in}
 use Rattle.dt_consumer.specs.Stores.{aggdrops_in, stores_in}
@@ -89,6 +89,7 @@ module _ (account : Account) (registry : Registry) (life : List Item) where
   IsVerdictOnCommand (list None) verdict = verdict ≡ Some (Program 0 Probe)
   IsVerdictOnCommand (list (Some desc)) verdict = verdict ≡ None
   IsVerdictOnCommand (describe epid) verdict = verdict ≡ option_map_or (λ _. None) (ecb_of epid) (Some NoEpid)
+  IsVerdictOnCommand close verdict = verdict ≡ None
 
   -- the answer to an accepted command
   abbrev pub Accepted : Ask → Answer → Type 0
@@ -112,6 +113,7 @@ module _ (account : Account) (registry : Registry) (life : List Item) where
   Accepted (list (Some desc)) answer = answer ≡ listed (matching.listed account registry desc)
   Accepted (describe epid) answer = MatchOption (ecb_of epid) ⊥
       (λ found. answer ≡ described epid found.0 (layout_of found.1.clause))
+  Accepted close answer = answer ≡ done
 
   abbrev pub RepliesInQuota : Result Ask Refusal → Answer → Type 0
   RepliesInQuota (Err refusal) answer = answer ≡ refused refusal

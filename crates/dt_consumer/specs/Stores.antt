@@ -1,5 +1,5 @@
 -- What comes to the stores of a consumer's aggregations, one on each processor. Guide, Aggregations.
-use Rattle.std.specs.Prelude.{ℕ, List, [], ◌∷◌, ◌++◌, map, if◌then◌else◌}
+use Rattle.std.specs.Prelude.{ℕ, List, [], ◌∷◌, ◌++◌, map}
 use Rattle.std.specs.List.{range_with_len}
 use Rattle.std.specs.Option.{option_map, option_to_list}
 use Rattle.dt_aggstore.specs.Chosen.{drops}
@@ -9,7 +9,7 @@ use Rattle.dt_ecb.specs.Ecbs.{EcbForm}
 use Rattle.dt_ecb.specs.Shapes.{ShapeForm}
 use Rattle.dt_machine.specs.Registry.{Registry}
 use Rattle.dt_consumer.specs.Aggregations.{aggregation_of, contributions}
-use Rattle.dt_consumer.specs.Life.{SetUp, ecbs_in, shapes_in, is_inactive, phase_of}
+use Rattle.dt_consumer.specs.Life.{SetUp, ecbs_in, shapes_in}
 use Rattle.dt_consumer.specs.Takings.{Event, truncated, taken_on}
 
 module _ (account : Account) (registry : Registry) where
@@ -35,6 +35,6 @@ module _ (account : Account) (registry : Registry) where
   abbrev pub aggdrops_in : SetUp → ℕ → ℕ
   aggdrops_in s cpu = drops (given_in s cpu)
 
-  -- the pasts of all stores; there are none before tracing begins
+  -- the pasts of all stores
   abbrev pub stores_in : SetUp → List store.Past
-  stores_in s = if is_inactive (phase_of s) then [] else map (given_in s) (range_with_len 0 registry.cpus)
+  stores_in s = map (given_in s) (range_with_len 0 registry.cpus)

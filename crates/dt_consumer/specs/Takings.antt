@@ -15,14 +15,15 @@ use Rattle.dt_record.specs.Taking.{TakenForm, taking}
 use Rattle.dt_consumer.specs.declared.limits.TheConstants.{BEGIN, END}
 use Rattle.dt_consumer.specs.declared.phase.End.{End}
 
--- what happens from the accepted `go` on: tracing begins, a firing is seen, the buffer of a processor is read, the
--- aggregation of a name is truncated, and tracing ends
+-- what happens to a consumer's tracing: it begins, a firing is seen, the buffer of a processor is read, the aggregation of
+-- a name is truncated, it ends, or the session is closed
 pub data Event : Type 0 where
   began : Event
   seen : Firing → Event
   read : (cpu : ℕ) → Event
   truncated : (name : List ℕ) → Event
   ended : End → Event
+  closed : Event
 
 abbrev pub is_end : Event → Bool
 is_end (ended end) = true
@@ -126,6 +127,7 @@ module _ (account : Account) (registry : Registry) where
   moment_at (read cpu) = None
   moment_at (truncated name) = None
   moment_at (ended end) = own_moment account registry END
+  moment_at closed = None
 
   module _ (ecbs : List EcbForm) where
     -- what is taken by an event

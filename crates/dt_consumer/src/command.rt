@@ -23,6 +23,8 @@ pub enum Command {
     List { probe: String },
     /// Tell of what the records of an ECB are made.
     Describe { epid: u64 },
+    /// End the session: tracing ends without a cause, and END doesn't fire.
+    Close,
 }
 
 /// A value that a line gives for an option.

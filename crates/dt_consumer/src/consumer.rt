@@ -19,6 +19,8 @@ pub struct Consumer {
     pub(crate) options: Options,
     pub(crate) programs: Programs,
     pub(crate) tracing: Option<Tracing>,
+    /// Whether the session was closed before tracing began.
+    pub(crate) closed: bool,
     pub(crate) lines: u32,
 }
 
@@ -43,18 +45,21 @@ impl Consumer {
             options: Options::new(),
             programs: Programs::new(alloc)?,
             tracing: None,
+            closed: false,
             lines: 0,
         })
     }
 
-    /// How far the consumer has come: active from its accepted `go` on, until a `stop` is accepted, a clause exits, or
-    /// the last firing of its history is seen; then it has stopped for good.
+    /// How far the consumer has come: active from its accepted `go` on, until a `stop` is accepted, a clause exits, the
+    /// last firing of its history is seen, or a `close` is accepted; then it has stopped for good. A `close` before the
+    /// `go` stops it too.
     pub fn phase(&self) -> Phase
         ensures { (account : Account) (registry : Registry) (life : List Item)
             → StandsFor account registry self.now life → result ≡ phase account registry life }
     {
         match &self.tracing {
             Some(tracing) => tracing.phase(),
+            None if self.closed => Phase::Stopped(None),
             None => Phase::Inactive,
         }
     }
@@ -108,6 +113,7 @@ impl Consumer {
             Change::Stop => self.stop(machine),
             Change::Snap { cpu } => self.swap(cpu),
             Change::Trunc { aggregation } => self.trunc(aggregation),
+            Change::Close => self.close(),
         }
     }
 
@@ -177,6 +183,7 @@ impl Consumer {
         }
         self.lines = self.lines.saturating_add(1);
     }
+
     /// Goes on after an aggregation was truncated.
     fn trunc(&mut self, aggregation: Aggregation)
         ensures { (account : Account) (registry : Registry) (life : List Item) (line : Result Ask Refusal)
@@ -185,6 +192,19 @@ impl Consumer {
     {
         if let Some(tracing) = &mut self.tracing {
             tracing.trunc(aggregation);
+        }
+        self.lines = self.lines.saturating_add(1);
+    }
+
+    /// Ends tracing without a cause, as the session is closed.
+    fn close(&mut self)
+        ensures { (account : Account) (registry : Registry) (life : List Item) (line : Result Ask Refusal)
+            → StandsFor account registry self.old life → Drafted account registry life line Change.Close
+            → StandsFor account registry self.new (after_line life line) }
+    {
+        match &mut self.tracing {
+            Some(tracing) => tracing.close(),
+            None => self.closed = true,
         }
         self.lines = self.lines.saturating_add(1);
     }

@@ -38,6 +38,8 @@ pub(crate) enum Change {
     Trunc {
         aggregation: Aggregation,
     },
+    /// The session is closed.
+    Close,
     /// The line isn't even counted.
     Refuse,
 }
@@ -54,7 +56,7 @@ impl Draft {
     ghost use Rattle.dt_cred.specs.declared.account.Account.{Account};
     ghost use Rattle.dt_machine.specs.Registry.{Registry};
     ghost use Rattle.dt_consumer.specs.Ask.{Ask};
-    ghost use Rattle.dt_consumer.specs.Draft.{IsAcceptedGo, IsDraftOf};
+    ghost use Rattle.dt_consumer.specs.Draft.{IsAcceptedClose, IsAcceptedGo, IsDraftOf};
     ghost use Rattle.dt_consumer.specs.Answer.{answer_of};
     ghost use Rattle.dt_consumer.specs.Life.{Item};
     ghost use Rattle.dt_consumer.specs.Reply.{Replies};
@@ -99,6 +101,15 @@ impl Draft {
             → (IsTrue result ↔ IsAcceptedGo account registry life line) }
     {
         matches!(&self.change, Change::Go { .. })
+    }
+
+    /// Whether the line is a `close` that is accepted, so that the session is to end. A line over the quota is none.
+    pub fn closes(&self) -> bool
+        ensures { (account : Account) (registry : Registry) (life : List Item) (line : Result Ask Refusal)
+            → IsDraftOf account registry life line self.now
+            → (IsTrue result ↔ IsAcceptedClose account registry life line) }
+    {
+        matches!(&self.change, Change::Close)
     }
 
     /// The change alone.

@@ -1,8 +1,7 @@
 //! The drafts of a consumer's lines.
 ghost use Rattle.std.specs.Prelude.{◌≡◌, ◌≤◌, ◌+◌, ◌<◌, ℕ, List, Option, Result, Ok, Err, Some, None, true, false, length, map, All, IsTrue, IfOk, IfErr, IfSome, MatchOption, is_some, option_and_then, slice_get, if◌then◌else◌};
-ghost use Rattle.std.specs.List.{AllZip};
-ghost use Rattle.dt_aggstore.specs.IsAt.{IsAt};
-ghost use Rattle.dt_aggstore.specs.declared.limits.TheConstants.{STORES_MAX};
+ghost use Rattle.dt_aggstore.specs.Entries.{form_of_row};
+ghost use Rattle.dt_aggstore.specs.TableOf.{table_of};
 ghost use Rattle.dt_cred.specs.declared.account.Account.{Account};
 ghost use Rattle.dt_machine.specs.Registry.{Registry};
 ghost use Rattle.dt_lang.specs.Description.{DescForm, ReadsDescription};
@@ -14,17 +13,17 @@ ghost use Rattle.dt_ecb.specs.Enable.{IsVerdict};
 ghost use Rattle.dt_ecb.specs.Forms.{form_of_ecb, shapes_of, verdict_of};
 ghost use Rattle.dt_ecb.specs.declared.limits.TheConstants.{ECBS_MAX};
 ghost use Rattle.dt_consumer.specs.Answer.{answer_of, described};
-ghost use Rattle.dt_consumer.specs.Ask.{Ask, ask_of, line_asks, reading_of, description_of, agg, enable, go, snap, status, list, describe, option, stop, trunc};
-ghost use Rattle.dt_consumer.specs.Buffers.{reserve_on};
+ghost use Rattle.dt_consumer.specs.Ask.{Ask, ask_of, line_asks, reading_of, description_of, agg, enable, go, snap, status, list, describe, option, stop, trunc, close};
+ghost use Rattle.dt_consumer.specs.Buffers.{errors, past, reserve_on};
 ghost use Rattle.dt_consumer.specs.Options.{setting_of};
-ghost use Rattle.dt_consumer.specs.Keeps.{Keeps};
+ghost use Rattle.dt_consumer.specs.Keeps.{HasTaken, Keeps, is_quiet};
 ghost use Rattle.dt_consumer.specs.declared.phase.Phase.TheVariants.{Inactive};
 ghost use Rattle.std.specs.String.{string_bytes};
 ghost use Rattle.std.specs.Option.{option_copied};
 ghost use Rattle.dt_consumer.specs.Draft.{IsDraftOf};
-ghost use Rattle.dt_consumer.specs.Life.{Item, SetUp, set_up, phase, phase_of, next_epid, has_room, is_readable};
+ghost use Rattle.dt_consumer.specs.Life.{Item, SetUp, set_up, phase, phase_of, next_epid, has_room, is_inactive, is_readable};
 ghost use Rattle.dt_consumer.specs.Refusal.{IsNoCommand, refused_as};
-ghost use Rattle.dt_consumer.specs.Reply.{ecb_of, all_aggdrops, all_errors, refusal_of, seen_firings};
+ghost use Rattle.dt_consumer.specs.Reply.{Accepted, ecb_of, all_aggdrops, all_errors, refusal_of, seen_firings};
 ghost use Rattle.dt_consumer.specs.Stores.{stores_in};
 ghost use Rattle.dt_consumer.specs.StandsFor.{StandsFor, MayAsk};
 ghost use Rattle.dt_consumer.specs.declared.reply.Reply.{Reply};
@@ -42,7 +41,7 @@ use crate::processor::Processor;
 use crate::refusal::Refusal;
 use crate::reply::Reply;
 use crate::tracing::Tracing;
-use dt_aggstore::{AggStore, drops_go_on};
+use dt_aggstore::{AggStore, Aggregation, Row, drops_go_on};
 use dt_buffer::{Policy, one_shown};
 use dt_ecb::{Ecb, EnableFault, enable, listed, one_verdict};
 use dt_lang::{Description, LangFault, Program, Why, one_description, one_reading};
@@ -51,11 +50,15 @@ use dt_record::Layout;
 use std::alloc::{AllocError, Global};
 
 impl Consumer {
-    /// Whether tracing began, so that nothing more is enabled.
-    fn has_begun(&self) -> bool
-        ensures { result ≡ is_some self.now.tracing }
+    /// Whether tracing began, or the session was closed, so that nothing more is enabled.
+    fn is_late(&self) -> bool
+        ensures late { (account : Account) (registry : Registry) (life : List Item)
+            → StandsFor account registry self.now life → result ≡ true
+            → is_inactive (phase account registry life) ≡ false }
+        ensures early { (account : Account) (registry : Registry) (life : List Item)
+            → StandsFor account registry self.now life → result ≡ false → phase account registry life ≡ Inactive }
     {
-        self.tracing.is_some()
+        !matches!(self.phase(), Phase::Inactive)
     }
 
     /// The reply to a line and all that the line will change. The call itself changes nothing, and takes all the
@@ -106,6 +109,7 @@ impl Consumer {
             Command::Status => self.draft_status(alloc, machine),
             Command::List { probe } => self.draft_list(alloc, machine, probe.as_bytes()),
             Command::Describe { epid } => Ok(self.draft_describe(machine, *epid)),
+            Command::Close => Ok(self.draft_close(machine)),
         }
     }
 
@@ -116,7 +120,7 @@ impl Consumer {
             (Ok (option (setting_of (string_bytes name.now) value.now))) result }
     {
         // options hold for the whole of tracing
-        if self.has_begun() {
+        if self.is_late() {
             return Draft::refused(Refusal::Busy);
         }
         match self.options.set(name.as_str(), value) {
@@ -140,7 +144,7 @@ impl Consumer {
             → IsDraftOf account machine.now.registry life (Ok (enable (reading_of text.now))) draft) }
     {
         // after tracing began nothing more is enabled, and the text isn't even read
-        if self.has_begun() {
+        if self.is_late() {
             return Ok(Draft::refused(Refusal::Busy));
         }
         one_reading();
@@ -224,7 +228,7 @@ impl Consumer {
             → IsDraftOf account machine.now.registry life (Ok go) draft) }
     {
         // tracing begins once
-        if self.has_begun() {
+        if self.is_late() {
             return Ok(Draft::refused(Refusal::Busy));
         }
         let Some(reserve) = self.reserve() else {
@@ -282,41 +286,68 @@ impl Consumer {
             return Ok(Draft::refused(Refusal::NoCpu));
         }
         let cpu = cpu as u32;
-        let Some(processor) = self.readable(cpu) else {
+        if !self.is_readable() {
             return Ok(Draft::refused(Refusal::Busy));
-        };
-        one_shown();
-        let reply = Reply::Snapped {
-            cpu,
-            data: processor.buffer.content(alloc)?,
-            drops: processor.buffer.drops(),
-            filled: processor.buffer.filled(),
-        };
+        }
         Ok(Draft {
-            reply,
+            reply: self.shown(alloc, machine, cpu)?,
             change: Change::Snap { cpu: cpu as usize },
         })
     }
 
-    /// A processor whose buffer can be read: from `go` on, under ring only after tracing ended.
-    fn readable(&self, cpu: u32) -> Option<&Processor>
+    /// Whether buffers can be read: from `go` on, under ring only after tracing ended.
+    fn is_readable(&self) -> bool
         ensures { (account : Account) (registry : Registry) (life : List Item)
             → StandsFor account registry self.now life
-            → option_copied result ≡ (if is_readable (set_up account registry life) (phase account registry life)
-            then option_and_then (λ tracing. slice_get tracing.processors.all.items cpu) self.now.tracing else None) }
+            → result ≡ is_readable (set_up account registry life) (phase account registry life) }
     {
-        let tracing = self.tracing.as_ref()?;
-        if tracing.ended.is_none() && matches!(self.options.bufpolicy, Policy::Ring) {
-            return None;
+        match self.phase() {
+            Phase::Inactive => false,
+            Phase::Active => !matches!(self.options.bufpolicy, Policy::Ring),
+            Phase::Stopped(_) => true,
         }
-        tracing.processors.all.get(cpu as usize)
+    }
+
+    /// What the buffer of a processor shows: nothing where the session was closed before tracing began.
+    fn shown(&self, alloc: Global, machine: &Machine, cpu: u32) -> Result<Reply, AllocError>
+        requires { cpu < machine.now.registry.cpus }
+        ensures { IfOk result (λ reply. (account : Account) (life : List Item)
+            → StandsFor account machine.now.registry self.now life
+            → Accepted account machine.now.registry life (snap cpu) (answer_of reply)) }
+    {
+        let Some(processor) = self.processor(machine, cpu) else {
+            return Ok(Reply::Snapped {
+                cpu,
+                data: Vec::new(alloc),
+                drops: 0,
+                filled: false,
+            });
+        };
+        one_shown();
+        Ok(Reply::Snapped {
+            cpu,
+            data: processor.buffer.content(alloc)?,
+            drops: processor.buffer.drops(),
+            filled: processor.buffer.filled(),
+        })
+    }
+
+    /// What the consumer has of a processor, where tracing began.
+    fn processor(&self, _machine: &Machine, cpu: u32) -> Option<&Processor>
+        requires { cpu < _machine.now.registry.cpus }
+        ensures { (account : Account) (life : List Item)
+            → StandsFor account _machine.now.registry self.now life
+            → MatchOption (option_copied result) (is_quiet (set_up account _machine.now.registry life).since ≡ true)
+            (HasTaken (past account _machine.now.registry life cpu) (errors account _machine.now.registry life cpu)) }
+    {
+        self.tracing.as_ref()?.processors.all.get(cpu as usize)
     }
 
     /// The draft of an `agg`.
-    fn draft_agg(&self, alloc: Global, _machine: &Machine, name: &[u8]) -> Result<Draft, AllocError>
+    fn draft_agg(&self, alloc: Global, machine: &Machine, name: &[u8]) -> Result<Draft, AllocError>
         ensures { IfOk result (λ draft. (account : Account) (life : List Item)
-            → MayAsk account _machine.now.registry self.now life
-            → IsDraftOf account _machine.now.registry life (Ok (agg name.now)) draft) }
+            → MayAsk account machine.now.registry self.now life
+            → IsDraftOf account machine.now.registry life (Ok (agg name.now)) draft) }
     {
         let Some(known) = Known::of(&self.programs.shapes, name) else {
             return Ok(Draft::refused(Refusal::NoAgg));
@@ -324,7 +355,7 @@ impl Consumer {
         let reply = Reply::Aggregated {
             name: known.name,
             function: known.aggregation.function,
-            rows: AggStore::merge_all(alloc, self.stores(), known.aggregation)?,
+            rows: self.table(alloc, machine, known.aggregation)?,
         };
         Ok(Draft {
             reply,
@@ -332,16 +363,21 @@ impl Consumer {
         })
     }
 
-    /// The stores of all processors: none before tracing begins.
-    fn stores(&self) -> &[AggStore]
-        ensures few { length result.now ≤ STORES_MAX }
-        ensures stand { (account : Account) (registry : Registry) (life : List Item)
-            → StandsFor account registry self.now life
-            → AllZip IsAt (stores_in account registry (set_up account registry life)) result.now }
+    /// The table of an aggregation: without rows where the consumer never traced.
+    fn table(
+        &self,
+        alloc: Global,
+        _machine: &Machine,
+        aggregation: Aggregation,
+    ) -> Result<Vec<Row>, AllocError>
+        ensures { IfOk result (λ rows. (account : Account) (life : List Item)
+            → StandsFor account _machine.now.registry self.now life
+            → map form_of_row rows.items ≡ table_of (stores_in account _machine.now.registry
+            (set_up account _machine.now.registry life)) aggregation) }
     {
         match &self.tracing {
-            Some(tracing) => &tracing.processors.stores,
-            None => &[],
+            Some(tracing) => AggStore::merge_all(alloc, &tracing.processors.stores, aggregation),
+            None => Ok(Vec::new(alloc)),
         }
     }
 
@@ -354,7 +390,7 @@ impl Consumer {
             return Draft::refused(Refusal::NoAgg);
         };
         // before tracing begins nothing was given
-        if !self.has_begun() {
+        if self.phase() == Phase::Inactive {
             return Draft {
                 reply: Reply::Done,
                 change: Change::Nothing,
@@ -473,6 +509,17 @@ impl Consumer {
             probe: *probe,
             layout: Layout::of(clause),
         })
+    }
+
+    /// The draft of a `close`: it is accepted in every phase.
+    fn draft_close(&self, _machine: &Machine) -> Draft
+        ensures { (account : Account) (life : List Item) → MayAsk account _machine.now.registry self.now life
+            → IsDraftOf account _machine.now.registry life (Ok close) result }
+    {
+        Draft {
+            reply: Reply::Done,
+            change: Change::Close,
+        }
     }
 }
 

@@ -6,8 +6,8 @@ pub enum Phase {
     Inactive,
     /// It traces.
     Active,
-    /// It traces no more, for good.
-    Stopped(End),
+    /// It traces no more, for good: by this cause, or by none where the session was closed first.
+    Stopped(Option<End>),
 }
 
 /// Why tracing ended: the first cause that came.
@@ -19,6 +19,15 @@ pub enum End {
     Exit(i64),
     /// As many firings were seen as `histsize` says.
     History,
+}
+
+/// How the tracing of a consumer goes, once it has begun.
+#[derive(Clone, Copy)]
+pub(crate) enum Course {
+    /// It goes on.
+    Running,
+    /// It is over, by this cause, or by none where the session was closed.
+    Over(Option<End>),
 }
 
 impl Phase {

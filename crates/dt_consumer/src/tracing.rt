@@ -9,7 +9,7 @@ use crate::limits::{BEGIN, END, HISTORY_MAX};
 use crate::moment::Moment;
 use crate::options::Options;
 use crate::own::{own_firing, own_process};
-use crate::phase::{End, Phase};
+use crate::phase::{Course, End, Phase};
 use crate::processors::Processors;
 use crate::programs::Programs;
 use crate::rows::Row;
@@ -30,16 +30,16 @@ pub(crate) struct Tracing {
     pub(crate) processors: Processors,
     pub(crate) history: u32,
     pub(crate) seen: u32,
-    pub(crate) ended: Option<End>,
+    pub(crate) course: Course,
     ghost own_rows: { END < vec_len rows },
     ghost few: { history ≤ HISTORY_MAX },
-    ghost in_history: { seen + must_be_left ended ≤ history },
-    ghost counted: { All (AtMost (ECBS_MAX * (seen + own_firings ended))) processors.all.items },
-    ghost given: { All (GivenAtMost (GIVES_MAX * (seen + own_firings ended))) processors.stores.items },
+    ghost in_history: { seen + must_be_left course ≤ history },
+    ghost counted: { All (AtMost (ECBS_MAX * (seen + own_firings course))) processors.all.items },
+    ghost given: { All (GivenAtMost (GIVES_MAX * (seen + own_firings course))) processors.stores.items },
 }
 
 impl Tracing {
-    ghost use Rattle.std.specs.Prelude.{◌≡◌, ◌≢◌, ◌==◌, ◌&&◌, ℕ, [], List, Option, Some, None, IsTrue, IfOk, IfSome, length, slice_get, filter, map, true, false, if◌then◌else◌};
+    ghost use Rattle.std.specs.Prelude.{◌≡◌, ◌≢◌, ◌↔◌, ◌==◌, ◌&&◌, ℕ, [], List, Option, Some, None, IsTrue, IfOk, IfSome, length, slice_get, filter, map, true, false, if◌then◌else◌};
     ghost use Rattle.dt_cred.specs.declared.account.Account.{Account};
     ghost use Rattle.dt_machine.specs.Registry.{Registry};
     ghost use Rattle.dt_machine.specs.declared.firing.Firing.{Firing};
@@ -50,9 +50,9 @@ impl Tracing {
     ghost use Rattle.dt_aggstore.specs.declared.key.Aggregation.{Aggregation};
     ghost use Rattle.dt_consumer.specs.Aggregations.{aggregation_of};
     ghost use Rattle.dt_consumer.specs.Buffers.{reserve_on};
-    ghost use Rattle.dt_consumer.specs.Life.{SetUp, ecbs_in, shapes_in, phase_of, with_event, since_then, happens};
+    ghost use Rattle.dt_consumer.specs.Life.{SetUp, ecbs_in, shapes_in, phase_of, with_event, since_then, happens, is_stopped};
     ghost use Rattle.dt_consumer.specs.declared.phase.Phase.TheVariants.{Active};
-    ghost use Rattle.dt_consumer.specs.Takings.{began, seen as sees, read, truncated, ended as ends, moment_of};
+    ghost use Rattle.dt_consumer.specs.Takings.{began, seen as sees, read, truncated, ended as ends, closed, moment_of};
 
     /// Begins to trace: makes all the room that tracing needs, and fires BEGIN. The reserve is that of the first
     /// processor's buffer.
@@ -89,7 +89,7 @@ impl Tracing {
             processors,
             history: options.histsize,
             seen: 0,
-            ended: None,
+            course: Course::Running,
         };
         let Some(end) = end_after(exit, 0, options.histsize) else {
             return Ok(tracing);
@@ -100,25 +100,32 @@ impl Tracing {
 
     /// How far tracing has come.
     pub(crate) fn phase(&self) -> Phase
-        ensures { result ≡ phase_by self.now.ended }
+        ensures { result ≡ phase_by self.now.course }
     {
-        match self.ended {
-            None => Phase::Active,
-            Some(end) => Phase::Stopped(end),
+        match self.course {
+            Course::Running => Phase::Active,
+            Course::Over(cause) => Phase::Stopped(cause),
         }
+    }
+
+    /// Whether it goes on.
+    pub(crate) fn is_running(&self) -> bool
+        ensures { IsTrue result ↔ (self.now.course ≡ Course.Running) }
+    {
+        matches!(self.course, Course::Running)
     }
 
     /// Whether it goes on, and any ECB names the probe.
     pub(crate) fn wants(&self, probe: u32) -> bool
-        ensures going { IsTrue result → (self.now.ended ≡ None) × (probe < vec_len self.now.rows) }
+        ensures going { IsTrue result → (self.now.course ≡ Course.Running) × (probe < vec_len self.now.rows) }
         ensures named { (account : Account) (registry : Registry) (s : SetUp) → IsTracing account registry s self.now
             → IsTrue result → of_probe probe (ecbs_in account registry s) ≢ [] }
         ensures unnamed { (account : Account) (registry : Registry) (s : SetUp)
-            → IsTracing account registry s self.now → result ≡ false → self.now.ended ≡ None
+            → IsTracing account registry s self.now → result ≡ false → self.now.course ≡ Course.Running
             → probe < vec_len self.now.rows → of_probe probe (ecbs_in account registry s) ≡ [] }
     {
         match self.rows.get(probe as usize) {
-            Some(row) => self.ended.is_none() && !row.ecbs.is_empty(),
+            Some(row) => self.is_running() && !row.ecbs.is_empty(),
             None => false,
         }
     }
@@ -132,7 +139,7 @@ impl Tracing {
         clauses: &[Clause],
         moment: &Moment,
     )
-        requires going { self.old.ended ≡ None }
+        requires going { self.old.course ≡ Course.Running }
         requires known { moment.now.firing.now.probe < vec_len self.old.rows }
         ensures { (s : SetUp) (firing : Firing) → IsTracing account.now machine.now.registry s self.old
             → map form_of_clause clauses.now ≡ s.clauses
@@ -145,7 +152,7 @@ impl Tracing {
         let exit = self.processors.take(clauses, &self.uses, row, moment);
         self.seen += 1;
         if let Some(end) = end_after(exit, self.seen, self.history) {
-            self.ended = Some(end);
+            self.course = Course::Over(Some(end));
             let row = &self.rows[END as usize];
             self.processors
                 .fire_end(account, machine, clauses, &self.uses, row);
@@ -160,12 +167,12 @@ impl Tracing {
         machine: &Machine,
         clauses: &[Clause],
     )
-        requires { self.old.ended ≡ None }
+        requires { self.old.course ≡ Course.Running }
         ensures { (s : SetUp) → IsTracing account.now machine.now.registry s self.old
             → map form_of_clause clauses.now ≡ s.clauses
             → IsTracing account.now machine.now.registry (with_event s (ends end)) self.new }
     {
-        self.ended = Some(end);
+        self.course = Course::Over(Some(end));
         let row = &self.rows[END as usize];
         self.processors
             .fire_end(account, machine, clauses, &self.uses, row);
@@ -177,8 +184,20 @@ impl Tracing {
             → map form_of_clause clauses.now ≡ s.clauses → phase_of s ≡ Active
             → IsTracing account.now machine.now.registry (with_event s (ends End.Stop)) self.new }
     {
-        if self.ended.is_none() {
+        if self.is_running() {
             self.finish(End::Stop, account, machine, clauses);
+        }
+    }
+
+    /// Ends where it goes on, without a cause, as the session is closed. END doesn't fire.
+    pub(crate) fn close(&mut self)
+        ensures running { (account : Account) (registry : Registry) (s : SetUp) → IsTracing account registry s self.old
+            → is_stopped (phase_of s) ≡ false → IsTracing account registry (with_event s closed) self.new }
+        ensures over { (account : Account) (registry : Registry) (s : SetUp) → IsTracing account registry s self.old
+            → is_stopped (phase_of s) ≡ true → IsTracing account registry s self.new }
+    {
+        if self.is_running() {
+            self.course = Course::Over(None);
         }
     }
 

@@ -80,7 +80,7 @@ snap 0 = 0: [0, 0, 0, 1, 0, 0, 0, 1, 0, 0, 0, 1] 0
 fire 0 0 = seen
 stop = done
 snap 0 = 0: [0, 0, 0, 1, 0, 0, 0, 1, 0, 0, 0, 1, 0, 0, 0, 2] 0 filled
-status = Stopped(Stop) 4 0 0
+status = Stopped(Some(Stop)) 4 0 0
 stop = refused 10 Busy
 fire 0 0 = unseen
 account root
@@ -93,12 +93,12 @@ fire 0 1 = seen
 fire 0 1 = seen
 snap 0 = refused 10 Busy
 fire 0 1 = seen
-status = Stopped(History) 3 0 0
+status = Stopped(Some(History)) 3 0 0
 snap 0 = 0: [0, 0, 0, 1, 0, 0, 0, 1] 3
 account root
 program BEGIN exit / END = 2 from 1
 go = done, publishes
-status = Stopped(Exit(0)) 0 0 0
+status = Stopped(Some(Exit(0))) 0 0 0
 snap 0 = 0: [0, 0, 0, 2] 0
 go = refused 10 Busy
 account root
@@ -106,7 +106,7 @@ option histsize 1 = done
 program read:entry exit / read:entry / END exit = 3 from 1
 go = done, publishes
 fire 0 1 = seen
-status = Stopped(Exit(4)) 1 0 0
+status = Stopped(Some(Exit(4))) 1 0 0
 snap 0 = 0: [] 0
 account root
 option aggsize 7 = refused 11 Option
@@ -133,9 +133,35 @@ agg total = Sum
 fire 1 2 = seen
 stop = done
 agg total = Sum 1=6
-status = Stopped(Stop) 7 1 0, dropped 0 1
+status = Stopped(Some(Stop)) 7 1 0, dropped 0 1
 trunc total = done
 agg total = Sum
+account root
+program read:entry / END = 2 from 1
+go = done, publishes
+fire 0 0 = seen
+close = done, closes
+fire 0 0 = unseen
+snap 0 = 0: [0, 0, 0, 1] 0
+stop = refused 10 Busy
+status = Stopped(None) 1 0 0
+close = done, closes
+account root
+option bufpolicy fill = done
+option bufsize 3 = done
+program END / read:entry total = 2 from 1
+close = done, closes
+go = refused 10 Busy
+snap 0 = 0: [] 0
+snap 2 = refused 12 NoCpu
+agg total = Sum
+trunc total = done
+status = Stopped(None) 0 0 0
+account root
+program BEGIN exit = 1 from 1
+go = done, publishes
+close = done, closes
+status = Stopped(Some(Exit(0))) 0 0 0
 ";
 
 /// `arg0 / arg1`
@@ -277,6 +303,7 @@ fn drafted(
         "go" => Command::Go,
         "stop" => Command::Stop,
         "status" => Command::Status,
+        "close" => Command::Close,
         "snap" => Command::Snap {
             cpu: rest.parse::<u64>().ok().ok_or("no number")?,
         },
@@ -316,6 +343,9 @@ fn answered(
     let mut told = spelled(alloc, draft.reply())?;
     if draft.publishes() {
         told.push_str(", publishes")?;
+    }
+    if draft.closes() {
+        told.push_str(", closes")?;
     }
     consumer.apply(machine, draft);
     Ok(told)

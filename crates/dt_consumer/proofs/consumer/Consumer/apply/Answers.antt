@@ -32,3 +32,9 @@ returns-in-Trunc c = λ account life line s drafted.
     let registry = c.args.machine.now.registry in
     c.trunc.ensures account registry life line s
     (subst (Drafted account registry life line) (sym c.into_change.ensures ∙ c.in-Trunc.is) drafted.makes)
+
+pub returns-in-Close : goal.returns-in-Close
+returns-in-Close c = λ account life line s drafted.
+    let registry = c.args.machine.now.registry in
+    c.close.ensures account registry life line s
+    (subst (Drafted account registry life line) (sym c.into_change.ensures ∙ c.in-Close.is) drafted.makes)

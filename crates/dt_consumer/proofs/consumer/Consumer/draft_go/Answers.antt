@@ -1,12 +1,11 @@
 -- The room for tracing, and what is taken at BEGIN.
-use Rattle.std.proofs.Common.{◌≡◌, [], sym, ◌∙◌, subst}
+use Rattle.std.proofs.Common.{◌≡◌, [], subst}
 use Rattle.dt_cred.specs.declared.account.Account.{Account}
 use Rattle.dt_consumer.specs.Buffers.{reserve_on}
 use Rattle.dt_consumer.specs.Keeps.{AreEcbs, IsTracing}
 use Rattle.dt_consumer.specs.Life.{ecbs_in, set_up, since_then, happens}
 use Rattle.dt_consumer.specs.Takings.{began}
 use Rattle.dt_consumer.proofs.Drafting.{go_draft}
-use Rattle.dt_consumer.proofs.Stands.{idle}
 use Rattle.dt_consumer.proofs.consumer.Consumer.draft_go.Goals as goal
 
 pub returns : goal.returns
@@ -15,7 +14,7 @@ returns c = λ account life m.
     let consumer = c.args.self.now in
     let s = set_up account registry life in
     let k = m.stands.keeps in
-    let off = idle account registry s consumer k (sym c.has_begun.ensures ∙ c.if-has_begun.false) in
+    let off = c.is_late.ensures.early account registry life m.stands c.if-is_late.false in
     let room = c.in-Some.ensures.reserve account registry s k in
     let own = k.same_account in
     let begun = subst

@@ -14,7 +14,7 @@ returns-in_default c = λ account life m.
     let text = c.args.text.now in
     rw (c.one_description.ensures text (description_of text) None (is_described text) c.in_default.ensures.none)
     (refused_by account c.args.machine.now.registry life (list None) (Program 0 Probe) _
-    c.refused.ensures.reply c.refused.ensures.change m.in_quota refl refl)
+    c.refused.ensures.reply c.refused.ensures.change m.in_quota refl refl refl)
 
 pub returns : goal.returns
 returns c = λ account life m.
@@ -24,4 +24,4 @@ returns c = λ account life m.
     (told_draft account c.args.machine.now.registry life (list (Some form)) _ m.in_quota refl
     (ap listed (c.in_ok-probes.ensures
     ∙ ap (λ a. matching.listed a c.args.machine.now.registry (form_of_description c.in-Some.description))
-    m.stands.keeps.same_account)) refl)
+    m.stands.keeps.same_account)) refl refl)

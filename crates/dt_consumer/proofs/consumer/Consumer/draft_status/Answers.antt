@@ -20,4 +20,4 @@ returns c = λ account life m.
     (c.seen.ensures account registry life m.stands)
     ∙ ap (λ errors. answers.status on seen errors drops) (c.in_ok-errors.ensures account life m)
     ∙ ap (answers.status on seen (all_errors account registry life)) (c.in_ok-aggdrops.ensures account life m))
-    refl
+    refl refl

@@ -8,4 +8,4 @@ use Rattle.dt_consumer.proofs.consumer.Consumer.seen.Goals as goal
 pub returns-in-None : goal.returns-in-None
 returns-in-None c = λ account registry life s.
     sym (none_seen (set_up account registry life).since
-    (untraced account registry (set_up account registry life) c.args.self.now s.keeps c.in-None.is))
+    (untraced account registry (set_up account registry life) c.args.self.now s.keeps c.in-None.is).quiet)

@@ -1,14 +1,14 @@
 -- Tracing ends by a `stop`.
-use Rattle.std.proofs.Common.{◌≡◌, true, false, map, refl, sym, ap, ◌∙◌, subst, arith}
+use Rattle.std.proofs.Common.{◌≡◌, map, refl, ap, ◌∙◌, subst, arith}
 use Rattle.dt_cred.specs.declared.account.Account.{Account}
 use Rattle.dt_lang.specs.Program.{form_of_clause}
 use Rattle.dt_consumer.specs.Keeps.{IsTracing}
-use Rattle.dt_consumer.specs.Life.{set_up, with_event, is_active}
+use Rattle.dt_consumer.specs.Life.{phase, set_up, with_event}
 use Rattle.dt_consumer.specs.Takings.{ended}
 use Rattle.dt_consumer.specs.declared.consumer.Consumer.{Consumer}
 use Rattle.dt_consumer.specs.declared.phase.End.TheVariants.{Stop}
 use Rattle.dt_consumer.proofs.DraftLemmas.{stopped_by}
-use Rattle.dt_consumer.proofs.Stands.{after_counted, quota_left, stands_changed, keeps_traced, traced, untraced}
+use Rattle.dt_consumer.proofs.Stands.{after_counted, quota_left, stands_changed, keeps_traced, not_active, traced, untraced}
 use Rattle.dt_consumer.proofs.consumer.Consumer.stop.Goals as goal
 use Rattle.dt_consumer.proofs.consumer.Consumer.stop.Goals.{in-Some, in_default}
 
@@ -34,7 +34,6 @@ returns c = λ account life line s drafted.
           (keeps_traced account registry old own (with_event own (ended Stop)) _ w.stop.new.self s.keeps
           refl refl (stopped t)))
       | in_default w ↦
-          let off = untraced account registry own old s.keeps w.in_default.is in
-          let no : true ≡ false = sym (ap is_active drafted.1) ∙ ap is_active off in
-          cc
+          let never = untraced account registry own old s.keeps w.in_default.is in
+          absurd (not_active old.closed (phase account registry life) never.standing drafted.1)
     ])

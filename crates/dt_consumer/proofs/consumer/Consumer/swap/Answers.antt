@@ -1,10 +1,10 @@
 -- The buffer of a processor was read.
-use Rattle.std.proofs.Common.{◌≡◌, true, false, refl, sym, ap, ◌∙◌, arith}
-use Rattle.dt_consumer.specs.Life.{set_up, with_event, is_readable}
+use Rattle.std.proofs.Common.{◌≡◌, refl, ap, arith}
+use Rattle.dt_consumer.specs.Life.{set_up, with_event}
 use Rattle.dt_consumer.specs.Takings.{read}
 use Rattle.dt_consumer.specs.declared.consumer.Consumer.{Consumer}
 use Rattle.dt_consumer.proofs.DraftLemmas.{read_by_snap}
-use Rattle.dt_consumer.proofs.Stands.{after_counted, quota_left, stands_changed, keeps_traced, traced, untraced}
+use Rattle.dt_consumer.proofs.Stands.{after_counted, quota_left, stands_changed, keeps_quiet, keeps_traced, traced, untraced}
 use Rattle.dt_consumer.proofs.consumer.Consumer.swap.Goals as goal
 use Rattle.dt_consumer.proofs.consumer.Consumer.swap.Goals.{in-Some, in_default}
 
@@ -24,7 +24,12 @@ returns c = λ account registry life line s drafted.
           (keeps_traced account registry old own (with_event own (read c.args.cpu)) _ w.swap.new.self s.keeps
           refl refl (w.swap.ensures account registry own t)))
       | in_default w ↦
-          let off = untraced account registry own old s.keeps w.in_default.is in
-          let no : true ≡ false = sym drafted.1 ∙ ap (is_readable own) off in
-          cc
+          let never = untraced account registry own old s.keeps w.in_default.is in
+          let lines : c.match-self.self.lines ≡ c.args.self.now.lines = ap (λ (x : Consumer). x.lines) w.self-is in
+          rw w.self-is
+          (stands_changed account registry old life s _ _ (with_event own (read c.args.cpu))
+          (read_by_snap account registry life c.args.cpu drafted.3 drafted.1)
+          (omega (arith, quota_left life drafted.0, s.counted, c.saturating_add-self.ensures, lines))
+          (keeps_quiet account registry own old s.keeps (read c.args.cpu) old.closed _ w.in_default.is never.quiet
+          never.standing))
     ])

@@ -1,10 +1,10 @@
 -- An aggregation was truncated.
-use Rattle.std.proofs.Common.{◌≡◌, true, false, refl, sym, ap, ◌∙◌, arith}
-use Rattle.dt_consumer.specs.Life.{set_up, with_event, is_inactive}
+use Rattle.std.proofs.Common.{◌≡◌, refl, ap, arith}
+use Rattle.dt_consumer.specs.Life.{set_up, with_event}
 use Rattle.dt_consumer.specs.Takings.{truncated}
 use Rattle.dt_consumer.specs.declared.consumer.Consumer.{Consumer}
 use Rattle.dt_consumer.proofs.DraftLemmas.{truncated_by}
-use Rattle.dt_consumer.proofs.Stands.{after_counted, quota_left, stands_changed, keeps_traced, traced, untraced}
+use Rattle.dt_consumer.proofs.Stands.{after_counted, quota_left, stands_changed, keeps_quiet, keeps_traced, traced, untraced}
 use Rattle.dt_consumer.proofs.consumer.Consumer.trunc.Goals as goal
 use Rattle.dt_consumer.proofs.consumer.Consumer.trunc.Goals.{in-Some, in_default}
 
@@ -25,7 +25,12 @@ returns c = λ account registry life line s drafted.
           (keeps_traced account registry old own (with_event own (truncated name)) _ w.trunc.new.self s.keeps
           refl refl (w.trunc.ensures account registry own name t drafted.4)))
       | in_default w ↦
-          let off = untraced account registry own old s.keeps w.in_default.is in
-          let no : true ≡ false = sym (ap is_inactive off) ∙ drafted.2 in
-          cc
+          let never = untraced account registry own old s.keeps w.in_default.is in
+          let lines : c.match-self.self.lines ≡ c.args.self.now.lines = ap (λ (x : Consumer). x.lines) w.self-is in
+          rw w.self-is
+          (stands_changed account registry old life s _ _ (with_event own (truncated name))
+          (truncated_by account registry life name c.args.aggregation drafted.2 drafted.4)
+          (omega (arith, quota_left life drafted.1, s.counted, c.saturating_add-self.ensures, lines))
+          (keeps_quiet account registry own old s.keeps (truncated name) old.closed _ w.in_default.is never.quiet
+          never.standing))
     ])

@@ -23,7 +23,7 @@ pub invariant_of-self-clause-given : goal.invariant_of-self-clause-given
 invariant_of-self-clause-given c =
     let own = c.args.self.now in
     given_more own.seen c.fire_end.new.self.stores.items
-    (c.fire_end.ensures.gives _ (given_on own.seen own.ended own.processors.stores.items c.requires own.given))
+    (c.fire_end.ensures.gives _ (given_on own.seen own.course own.processors.stores.items c.requires own.given))
 
 pub returns : goal.returns
 returns c = λ s t own.

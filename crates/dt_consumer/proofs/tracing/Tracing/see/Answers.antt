@@ -101,10 +101,10 @@ pub fire_end-requires-clause-counts : goal.fire_end-requires-clause-counts
 fire_end-requires-clause-counts c =
     let own = c.args.self.now in
     below_limit own.seen own.history c.take-exit.new.self.all.items
-    (left_on own.seen own.history own.ended c.requires.going own.in_history) own.few
+    (left_on own.seen own.history own.course c.requires.going own.in_history) own.few
     (one_more own.seen c.take-exit.new.self.all.items
     (c.take-exit.ensures.counts _
-    (counted_on own.seen own.ended own.processors.all.items c.requires.going own.counted)))
+    (counted_on own.seen own.course own.processors.all.items c.requires.going own.counted)))
 
 pub invariant_of-self-clause-counted : goal.invariant_of-self-clause-counted
 invariant_of-self-clause-counted c =
@@ -113,19 +113,19 @@ invariant_of-self-clause-counted c =
     (c.fire_end.ensures.counts _
     (one_more own.seen c.take-exit.new.self.all.items
     (c.take-exit.ensures.counts _
-    (counted_on own.seen own.ended own.processors.all.items c.requires.going own.counted))))
+    (counted_on own.seen own.course own.processors.all.items c.requires.going own.counted))))
 
 pub invariant_of-self-clause-in_history : goal.invariant_of-self-clause-in_history
 invariant_of-self-clause-in_history c =
     let own = c.args.self.now in
-    omega (arith, left_on own.seen own.history own.ended c.requires.going own.in_history)
+    omega (arith, left_on own.seen own.history own.course c.requires.going own.in_history)
 
 pub invariant_of-self-in_default-clause-counted : goal.invariant_of-self-in_default-clause-counted
 invariant_of-self-in_default-clause-counted c =
     let own = c.args.self.now in
     let now' = one_more own.seen c.take-exit.new.self.all.items
     (c.take-exit.ensures.counts _
-    (counted_on own.seen own.ended own.processors.all.items c.requires.going own.counted)) in
+    (counted_on own.seen own.course own.processors.all.items c.requires.going own.counted)) in
     subst (λ e. All (AtMost (ECBS_MAX * (own.seen + 1 + own_firings e))) c.take-exit.new.self.all.items)
     (sym c.requires.going)
     (no_more _ (ECBS_MAX * (own.seen + 1 + 1)) c.take-exit.new.self.all.items (omega arith) now')
@@ -135,17 +135,17 @@ invariant_of-self-in_default-clause-in_history c =
     let own = c.args.self.now in
     subst (λ e. (own.seen + 1) + must_be_left e ≤ own.history) (sym c.requires.going)
     (one_left c.take-exit.result own.seen own.history
-    (left_on own.seen own.history own.ended c.requires.going own.in_history)
+    (left_on own.seen own.history own.course c.requires.going own.in_history)
     (sym c.in_default.is ∙ c.end_after.ensures))
 
 pub fire_end-requires-clause-gives : goal.fire_end-requires-clause-gives
 fire_end-requires-clause-gives c =
     let own = c.args.self.now in
     given_below own.seen own.history c.take-exit.new.self.stores.items
-    (left_on own.seen own.history own.ended c.requires.going own.in_history) own.few
+    (left_on own.seen own.history own.course c.requires.going own.in_history) own.few
     (given_more own.seen c.take-exit.new.self.stores.items
     (c.take-exit.ensures.gives _
-    (given_on own.seen own.ended own.processors.stores.items c.requires.going own.given)))
+    (given_on own.seen own.course own.processors.stores.items c.requires.going own.given)))
 
 pub invariant_of-self-clause-given : goal.invariant_of-self-clause-given
 invariant_of-self-clause-given c =
@@ -154,14 +154,14 @@ invariant_of-self-clause-given c =
     (c.fire_end.ensures.gives _
     (given_more own.seen c.take-exit.new.self.stores.items
     (c.take-exit.ensures.gives _
-    (given_on own.seen own.ended own.processors.stores.items c.requires.going own.given))))
+    (given_on own.seen own.course own.processors.stores.items c.requires.going own.given))))
 
 pub invariant_of-self-in_default-clause-given : goal.invariant_of-self-in_default-clause-given
 invariant_of-self-in_default-clause-given c =
     let own = c.args.self.now in
     let now' = given_more own.seen c.take-exit.new.self.stores.items
     (c.take-exit.ensures.gives _
-    (given_on own.seen own.ended own.processors.stores.items c.requires.going own.given)) in
+    (given_on own.seen own.course own.processors.stores.items c.requires.going own.given)) in
     subst (λ e. All (GivenAtMost (GIVES_MAX * (own.seen + 1 + own_firings e))) c.take-exit.new.self.stores.items)
     (sym c.requires.going)
     (none_more _ (GIVES_MAX * (own.seen + 1 + 1)) c.take-exit.new.self.stores.items (omega arith) now')

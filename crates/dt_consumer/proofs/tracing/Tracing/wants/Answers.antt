@@ -6,8 +6,8 @@ use Rattle.dt_consumer.proofs.Lists.{empty-from_length, held}
 use Rattle.dt_consumer.proofs.Tracings.{row_at}
 use Rattle.dt_consumer.proofs.tracing.Tracing.wants.Goals as goal
 
-pub returns-then-is_none-clause-unnamed : goal.returns-then-is_none-clause-unnamed
-returns-then-is_none-clause-unnamed c = λ account registry s t no going known.
+pub returns-then-is_running-clause-unnamed : goal.returns-then-is_running-clause-unnamed
+returns-then-is_running-clause-unnamed c = λ account registry s t no going known.
     let row = c.in-Some.row.now in
     let its = row_at account registry s c.args.self.now.rows.items c.args.probe row t.rows (omega arith)
     (c.in-Some.ensures.lookup.3.1 row

@@ -1,0 +1,33 @@
+-- A buffer shows its past; where the consumer never traced, nothing.
+use Rattle.std.proofs.Common.{false, [], refl, ap}
+use Rattle.dt_consumer.specs.Answer.{snapped}
+use Rattle.dt_consumer.specs.Buffers.{past}
+use Rattle.dt_consumer.specs.Life.{set_up}
+use Rattle.dt_consumer.proofs.Drafting.{shown_all}
+use Rattle.dt_consumer.proofs.Quiet.{nothing_shown}
+use Rattle.dt_consumer.proofs.consumer.Consumer.shown.Goals as goal
+
+pub returns : goal.returns
+returns c = λ account life s.
+    let registry = c.args.machine.now.registry in
+    let tried = past account registry life c.args.cpu in
+    let has = c.in-Some.ensures account life s in (
+      c.in_ok-content.field-0.items,
+      c.drops.result,
+      c.filled.result,
+      shown_all c.one_shown.ensures tried c.in_ok-content.field-0.items c.drops.result
+          c.filled.result (c.in_ok-content.ensures tried has.stands) (c.drops.ensures.shows tried has.stands)
+          (c.filled.ensures tried has.stands),
+      refl,
+    )
+
+pub returns-in_default : goal.returns-in_default
+returns-in_default c = λ account life s.
+    let registry = c.args.machine.now.registry in (
+      [],
+      0,
+      false,
+      nothing_shown account registry (set_up account registry life) c.args.cpu
+          (c.in_default.ensures account life s),
+      ap (λ bytes. snapped c.args.cpu bytes 0 false) c.new.ensures.items,
+    )
