@@ -54,7 +54,8 @@ refusal_plain Memory = refl
 cause_plain : (phase : Phase) → has_float (cause_data phase) ≡ false
 cause_plain Inactive = refl
 cause_plain Active = refl
-cause_plain (Stopped end) = refl
+cause_plain (Stopped None) = refl
+cause_plain (Stopped (Some end)) = refl
 
 integer_plain : (n : ℤ) → is_float (of_integer n) ≡ false
 integer_plain (pos n) = refl
@@ -84,9 +85,10 @@ rows_plain (row ∷ table) = rw (key_plain row.key, value_plain row.value) (rows
 exit_plain : (phase : Phase) → has_float (exit_data phase) ≡ false
 exit_plain Inactive = refl
 exit_plain Active = refl
-exit_plain (Stopped (Exit code)) = integer_plain code
-exit_plain (Stopped Stop) = refl
-exit_plain (Stopped History) = refl
+exit_plain (Stopped None) = refl
+exit_plain (Stopped (Some (Exit code))) = integer_plain code
+exit_plain (Stopped (Some Stop)) = refl
+exit_plain (Stopped (Some History)) = refl
 
 pub no_float : (answer : Answer) → has_float (object (reply_members answer)) ≡ false
 no_float done = refl

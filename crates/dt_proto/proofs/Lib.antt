@@ -4,8 +4,9 @@ pub mod Splitting
 pub mod Feeding
 pub mod Giving
 pub mod Requests
+pub mod Entries
+pub mod Quota
 pub mod Texts
-pub mod Asks
 pub mod Floats
 pub mod ItemTexts
 pub mod ListedTexts

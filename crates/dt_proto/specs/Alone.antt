@@ -1,20 +1,19 @@
 -- What a consumer that traces alone is answered.
-use Rattle.std.specs.Prelude.{◌≡◌, ◌⊎◌, ℕ, List, [], ◌∷◌, ◌++◌, Result}
+use Rattle.std.specs.Prelude.{◌≡◌, ◌⊎◌, List, [], ◌∷◌, ◌++◌}
 use Rattle.dt_cred.specs.declared.account.Account.{Account}
 use Rattle.dt_machine.specs.Registry.{Registry}
 use Rattle.dt_machine.specs.declared.firing.Firing.{Firing}
 use Rattle.dt_consumer.specs.Answer.{Answer}
-use Rattle.dt_consumer.specs.Ask.{Ask}
 use Rattle.dt_consumer.specs.Draft.{after_line}
 use Rattle.dt_consumer.specs.Life.{Item, fired}
 use Rattle.dt_consumer.specs.Reply.{Replies}
 use Rattle.dt_consumer.specs.Sees.{Sees}
-use Rattle.dt_consumer.specs.declared.refusal.Refusal.{Refusal}
-use Rattle.dt_proto.specs.Line.{BytesAsk}
+use Rattle.dt_proto.specs.Line.{ask_in}
+use Rattle.dt_proto.specs.Lines.{LineForm}
 
--- What reaches a consumer: the bytes of an own line, or a firing.
+-- What reaches a consumer: an own line, or a firing.
 pub data Reached : Type 0 where
-  own_line : List ℕ → Reached
+  own_line : LineForm → Reached
   firing_made : Firing → Reached
 
 -- A view is what reached a consumer, the newest first.
@@ -29,16 +28,14 @@ module _ (account : Account) (registry : Registry) where
   abbrev pub IsLifeOf : List Reached → List Item → Type 0
   IsLifeOf [] life = life ≡ []
   IsLifeOf (own_line line ∷ view) life =
-      (before : List Item) × (ask : Result Ask Refusal) × IsLifeOf view before × BytesAsk line ask
-      × (life ≡ after_line before ask)
+      (before : List Item) × IsLifeOf view before × (life ≡ after_line before (ask_in line))
   IsLifeOf (firing_made firing ∷ view) life = (before : List Item) × IsLifeOf view before
       × IsAfterFiring before firing life
 
   -- the reply to a line after a view
-  abbrev pub IsReplyTo : List Reached → List ℕ → Answer → Type 0
+  abbrev pub IsReplyTo : List Reached → LineForm → Answer → Type 0
   IsReplyTo view line answer =
-      (life : List Item) × (ask : Result Ask Refusal) × IsLifeOf view life × BytesAsk line ask
-      × Replies account registry life ask answer
+      (life : List Item) × IsLifeOf view life × Replies account registry life (ask_in line) answer
 
   -- The replies to the lines of a view, the oldest first: each is the one after what reached the consumer before.
   abbrev pub Alone : List Reached → List Answer → Type 0

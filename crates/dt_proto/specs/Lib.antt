@@ -8,3 +8,5 @@ pub mod Scalars
 pub mod Rows
 pub mod Reply
 pub mod Alone
+pub mod Session
+pub mod Trail

@@ -1,15 +1,15 @@
 -- What a consumer asks for by a line.
-use Rattle.std.specs.Prelude.{◌≡◌, ℕ, List, length, codes, bytes_eq, nat_lt, if◌then◌else◌, Option, Some, None, option_map, option_and_then, ok_or, Result, Ok, Err}
+use Rattle.std.specs.Prelude.{ℕ, List, codes, bytes_eq, if◌then◌else◌, Option, Some, None, option_map, option_and_then, ok_or, Result, Ok, Err}
 use Rattle.std.specs.Str.{is_utf8}
 use Rattle.std.specs.String.{string_bytes}
 use Rattle.serde_json.specs.Data.{Data, number, unsigned, string}
 use Rattle.serde_json.specs.Read.{read}
 use Rattle.serde_json.specs.Find.{get, as_str, as_number, as_u64}
-use Rattle.dt_consumer.specs.Ask.{Ask, option, enable, go, stop, snap, agg, trunc, status, list, describe, reading_of, description_of}
+use Rattle.dt_consumer.specs.Ask.{Ask, option, enable, go, stop, snap, agg, trunc, status, list, describe, close, reading_of, description_of}
 use Rattle.dt_consumer.specs.Options.{Setting, policy, number_set, policy_of}
-use Rattle.dt_proto.specs.declared.limits.TheConstants.{LINE_MAX}
+use Rattle.dt_proto.specs.Lines.{LineForm, short_line, long_line}
 use Rattle.dt_consumer.specs.declared.command.Command.{Command}
-use Rattle.dt_consumer.specs.declared.command.Command.TheVariants.{Option as SetOption, Enable, Go, Stop, Snap, Agg, Trunc, Status, List as ListOf, Describe}
+use Rattle.dt_consumer.specs.declared.command.Command.TheVariants.{Option as SetOption, Enable, Go, Stop, Snap, Agg, Trunc, Status, List as ListOf, Describe, Close}
 use Rattle.dt_consumer.specs.declared.command.OptionValue.{OptionValue}
 use Rattle.dt_consumer.specs.declared.command.OptionValue.TheVariants.{Number, Text, Other}
 use Rattle.dt_consumer.specs.declared.refusal.Refusal.{Refusal}
@@ -33,6 +33,7 @@ pub data Request : Type 0 where
   to_status : Request
   to_list : (probe : List ℕ) → Request
   to_describe : (epid : ℕ) → Request
+  to_close : Request
 
 -- a value without where its text lies in memory
 abbrev pub value_of : OptionValue → Value
@@ -52,6 +53,7 @@ request_of (Trunc name) = to_trunc (string_bytes name)
 request_of Status = to_status
 request_of (ListOf probe) = to_list (string_bytes probe)
 request_of (Describe epid) = to_describe epid
+request_of Close = to_close
 
 -- the text of an object's field, where it is one
 abbrev pub field_text : List ℕ → Data → Option (List ℕ)
@@ -87,6 +89,7 @@ named_request name d =
     else if bytes_eq name (codes "status") then Some to_status
     else if bytes_eq name (codes "list") then option_map to_list (field_text (codes "probe") d)
     else if bytes_eq name (codes "describe") then option_map to_describe (field_number (codes "epid") d)
+    else if bytes_eq name (codes "close") then Some to_close
     else None
 
 -- what a JSON value asks for: its field `cmd` names the command
@@ -100,10 +103,6 @@ requested_or_no_json (Some d) = requested_by d
 -- what the bytes of a line say, or why they are refused
 abbrev pub requested : List ℕ → Result Request Refusal
 requested line = requested_or_no_json (if is_utf8 line then read line else None)
-
--- the same of a line of any length
-abbrev pub requested_by_line : List ℕ → Result Request Refusal
-requested_by_line line = if nat_lt LINE_MAX (length line) then Err LineLong else requested line
 
 -- what a name and a value set, as a consumer says of a command's: nothing where there is no such option, or the value
 -- isn't one of it
@@ -125,12 +124,14 @@ asked_by (to_trunc name) = trunc name
 asked_by to_status = status
 asked_by (to_list probe) = list (description_of probe)
 asked_by (to_describe epid) = describe epid
+asked_by to_close = close
 
 -- the same of what a line says, or why it is refused
 abbrev pub asked_or_refused : Result Request Refusal → Result Ask Refusal
 asked_or_refused (Ok request) = Ok (asked_by request)
 asked_or_refused (Err refusal) = Err refusal
 
--- A line asks this of a consumer.
-abbrev pub BytesAsk : List ℕ → Result Ask Refusal → Type 0
-BytesAsk line ask = ask ≡ asked_or_refused (requested_by_line line)
+-- What a line asks of a consumer, or why it is refused: a long one is refused as such, whatever its bytes.
+abbrev pub ask_in : LineForm → Result Ask Refusal
+ask_in (short_line bytes) = asked_or_refused (requested bytes)
+ask_in long_line = Err LineLong

@@ -1,5 +1,5 @@
 -- The line that a consumer is answered: JSON with the keys in the order of their bytes and no blanks.
-use Rattle.std.specs.Prelude.{ℕ, List, [], ◌∷◌, ◌++◌, Option, unwrap_or, true, codes, decimal, map}
+use Rattle.std.specs.Prelude.{ℕ, List, [], ◌∷◌, ◌++◌, Option, Some, unwrap_or, true, codes, decimal, map}
 use Rattle.std.specs.List.{join_with_byte}
 use Rattle.hex.specs.Hex.{encode_lower}
 use Rattle.serde_json.specs.Data.{Data, null, boolean, string, array, object, Members, no_members, member}
@@ -68,14 +68,14 @@ field_data field = string (field_word field)
 abbrev pub fields_in : Option (List FieldForm) → List FieldForm
 fields_in layout = unwrap_or layout []
 
--- why tracing ended; null where it didn't
+-- why tracing ended; null where it didn't, or where the session was closed first
 abbrev pub cause_data : Phase → Data
-cause_data (Stopped end) = string (cause_word end)
+cause_data (Stopped (Some end)) = string (cause_word end)
 cause_data _ = null
 
 -- the status with which a clause exited; null where tracing didn't end by it
 abbrev pub exit_data : Phase → Data
-exit_data (Stopped (Exit code)) = of_signed code
+exit_data (Stopped (Some (Exit code))) = of_signed code
 exit_data _ = null
 
 abbrev pub reply_members : Answer → Members

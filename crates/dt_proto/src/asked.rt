@@ -13,6 +13,18 @@ pub enum Asked {
     Long,
 }
 
+impl Asked {
+    /// The line, lent, to be read by [`read_line`](crate::read_line).
+    pub fn lent(&self) -> WholeLine<'_>
+        ensures { form_lent result ≡ form_asked self.now }
+    {
+        match self {
+            Asked::Line(bytes) => WholeLine::Bytes(bytes),
+            Asked::Long => WholeLine::Long,
+        }
+    }
+}
+
 /// A whole line, lent by the [`Lines`](crate::Lines) that hold it.
 #[derive(Clone, Copy, Debug, PartialEq, Eq)]
 pub enum WholeLine<'a> {

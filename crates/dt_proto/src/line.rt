@@ -4,41 +4,41 @@ ghost use Rattle.std.specs.String.{string_bytes};
 ghost use Rattle.serde_json.specs.View.{view};
 ghost use Rattle.dt_consumer.specs.Ask.{line_asks};
 ghost use Rattle.dt_consumer.specs.Refusal.{IsNoCommand};
-ghost use Rattle.dt_proto.specs.Line.{field_text, field_number, option_request, request_of, requested_by, requested, requested_by_line, value_in, value_of, BytesAsk};
+ghost use Rattle.dt_proto.specs.Line.{field_text, field_number, option_request, request_of, requested_by, requested, value_in, value_of, ask_in};
+ghost use Rattle.dt_proto.specs.Asked.{form_lent};
 
+use crate::asked::WholeLine;
 use crate::limits::LINE_MAX;
 use dt_consumer::{Command, OptionValue, Refusal};
 use serde_json::Value;
 use std::alloc::{AllocError, Global};
 
-/// What a consumer asks for by a line, or why the line is refused, given without its newline.
-pub fn read_line(alloc: Global, line: &[u8]) -> Result<Result<Command, Refusal>, AllocError>
-    ensures asks { IfOk result (λ asked. BytesAsk line.now (line_asks asked)) }
+/// What a consumer asks for by a line, or why the line is refused. `Err`: memory ran out; the line may be read again.
+///
+/// A line of more than [`LINE_MAX`] bytes is refused `LineLong`, whatever stands in it; any other is read by
+/// [`command_of`].
+pub fn read_line(alloc: Global, line: WholeLine<'_>) -> Result<Result<Command, Refusal>, AllocError>
+    ensures asks { IfOk result (λ asked. line_asks asked ≡ ask_in (form_lent line.entry)) }
     ensures no_command { IfOk result (λ asked. IfErr asked IsNoCommand) }
 {
     match ask_line(alloc, line) {
         Ok(command) => Ok(Ok(command)),
-        Err(refusal) => {
-            if refusal == Refusal::Memory {
-                return Err(AllocError);
-            }
-            Ok(Err(refusal))
-        }
+        Err(Refusal::Memory) => Err(AllocError),
+        Err(refusal) => Ok(Err(refusal)),
     }
 }
 
-/// What a consumer asks for by a line of any length, given without its newline.
-///
-/// A line of more than 65,536 bytes is refused as such, whatever stands in it; any other is read by [`command_of`].
-fn ask_line(alloc: Global, line: &[u8]) -> Result<Command, Refusal>
-    ensures ok { IfOk result (λ command. requested_by_line line.now ≡ Ok (request_of command)) }
-    ensures err { IfErr result (λ refusal. refusal ≢ Refusal.Memory → requested_by_line line.now ≡ Err refusal) }
+/// What a consumer asks for by a line; refused `Memory` where memory ran out.
+fn ask_line(alloc: Global, line: WholeLine<'_>) -> Result<Command, Refusal>
+    ensures ok { IfOk result (λ command. line_asks (Ok command) ≡ ask_in (form_lent line.entry)) }
+    ensures err { IfErr result (λ refusal. refusal ≢ Refusal.Memory
+        → line_asks (Err refusal) ≡ ask_in (form_lent line.entry)) }
     ensures no_command { IfErr result (λ refusal. refusal ≢ Refusal.Memory → IsNoCommand refusal) }
 {
-    if line.len() > LINE_MAX {
-        return Err(Refusal::LineLong);
+    match line {
+        WholeLine::Bytes(bytes) if bytes.len() <= LINE_MAX => command_of(alloc, bytes),
+        WholeLine::Bytes(_) | WholeLine::Long => Err(Refusal::LineLong),
     }
-    command_of(alloc, line)
 }
 
 /// What a consumer asks for by the bytes of a line, given without its newline.
@@ -93,6 +93,7 @@ fn requested_command(alloc: Global, request: &Value) -> Result<Command, Refusal>
             let epid = number_field(request, "epid").ok_or(Refusal::Request)?;
             Ok(Command::Describe { epid })
         }
+        "close" => Ok(Command::Close),
         _ => Err(Refusal::Request),
     }
 }

@@ -132,12 +132,12 @@ fn status_value(
         "phase": phase.word(), "seen": seen})
 }
 
-/// Why tracing ended; null where it didn't.
+/// Why tracing ended; null where it didn't, or where the session was closed first.
 fn cause_value(alloc: Global, phase: Phase) -> Result<Value, AllocError>
     ensures { IfOk result (λ value. view value ≡ cause_data phase) }
 {
     match phase {
-        Phase::Stopped(end) => Value::try_from_str(alloc, end.word()),
+        Phase::Stopped(Some(end)) => Value::try_from_str(alloc, end.word()),
         _ => Ok(Value::Null),
     }
 }
@@ -147,7 +147,7 @@ fn exit_value(phase: Phase) -> Value
     ensures { view result ≡ exit_data phase }
 {
     match phase {
-        Phase::Stopped(End::Exit(status)) => Value::from(status),
+        Phase::Stopped(Some(End::Exit(status))) => Value::from(status),
         _ => Value::Null,
     }
 }
@@ -258,14 +258,17 @@ pub fn reply_texts()
     ensures active { (seen : ℕ) (errors aggdrops : List ℕ) → reply_text (status Phase.Active seen errors aggdrops)
         ≡ status_text (codes "null") (codes "null") (codes "active") seen errors aggdrops }
     ensures stopped { (seen : ℕ) (errors aggdrops : List ℕ)
-        → reply_text (status (Phase.Stopped Stop) seen errors aggdrops)
+        → reply_text (status (Phase.Stopped (Some Stop)) seen errors aggdrops)
         ≡ status_text (codes "\"stop\"") (codes "null") (codes "stopped") seen errors aggdrops }
     ensures exited { (code : ℤ) (seen : ℕ) (errors aggdrops : List ℕ)
-        → reply_text (status (Phase.Stopped (Exit code)) seen errors aggdrops)
+        → reply_text (status (Phase.Stopped (Some (Exit code))) seen errors aggdrops)
         ≡ status_text (codes "\"exit\"") (signed_decimal code) (codes "stopped") seen errors aggdrops }
     ensures history { (seen : ℕ) (errors aggdrops : List ℕ)
-        → reply_text (status (Phase.Stopped History) seen errors aggdrops)
+        → reply_text (status (Phase.Stopped (Some History)) seen errors aggdrops)
         ≡ status_text (codes "\"history\"") (codes "null") (codes "stopped") seen errors aggdrops }
+    ensures closed { (seen : ℕ) (errors aggdrops : List ℕ)
+        → reply_text (status (Phase.Stopped None) seen errors aggdrops)
+        ≡ status_text (codes "null") (codes "null") (codes "stopped") seen errors aggdrops }
     ensures described { (epid : ℕ) (probe : Probe) (fields : List FieldForm)
         → reply_text (described epid probe (Some fields))
         ≡ describe_text epid probe (join_with_byte 44 (map field_text fields)) (decimal (size_of (Some fields))) }

@@ -53,6 +53,42 @@ fn shown(alloc: Global, asked: &[Asked]) -> Result<Vec<u8>, Fail> {
     Ok(text)
 }
 
+/// What the lines in these pieces ask, or their refusals, each with a blank after it.
+fn told(alloc: Global, pieces: &[&[u8]]) -> Result<String, Fail> {
+    let mut text = String::new(alloc);
+    for asked in asked_in(alloc, pieces)?.iter() {
+        match read_line(alloc, asked.lent())? {
+            Ok(command) => text.push_str(&format!(in alloc; "{command:?} ")?)?,
+            Err(refusal) => text.push_str(&format!(in alloc; "{refusal:?} ")?)?,
+        }
+    }
+    Ok(text)
+}
+
+#[test]
+fn lines_ask_the_same_however_they_are_cut(rt: HostRuntime) -> Result<(), Fail> {
+    let alloc = rt.alloc();
+    let input: &[u8] = b"{\"cmd\":\"status\"}\n\n{\"cmd\":\"go\"}";
+    for cut in 0..input.len() + 1 {
+        let text = told(alloc, &[&input[..cut], &input[cut..]])?;
+        assert_eq!(rt; text.as_str(), "Status Json ", "cut at {cut}");
+    }
+    Ok(())
+}
+
+#[test]
+fn status_with_blanks_is_read_up_to_the_limit(rt: HostRuntime) -> Result<(), Fail> {
+    let alloc = rt.alloc();
+    for (length, wanted) in [(65_536, "Status "), (65_537, "LineLong ")] {
+        let mut line = Vec::from_slice(alloc, b"{\"cmd\":\"status\"}")?;
+        line.resize(length, b' ')?;
+        line.push(b'\n')?;
+        let text = told(alloc, &[&line])?;
+        assert_eq!(rt; text.as_str(), wanted, "{length} bytes");
+    }
+    Ok(())
+}
+
 #[test]
 fn lines_are_long_from_65537_bytes_on(rt: HostRuntime) -> Result<(), Fail> {
     let alloc = rt.alloc();

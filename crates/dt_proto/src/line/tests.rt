@@ -4,7 +4,7 @@ use std::test::Fail;
 
 /// How a line is answered, as the names of the variants print.
 fn told(alloc: Global, line: &[u8]) -> Result<String, Fail> {
-    let text = match ask_line(alloc, line) {
+    let text = match ask_line(alloc, WholeLine::Bytes(line)) {
         Ok(command) => format!(in alloc; "{command:?}")?,
         Err(refusal) => format!(in alloc; "{refusal:?}")?,
     };
@@ -13,7 +13,7 @@ fn told(alloc: Global, line: &[u8]) -> Result<String, Fail> {
 
 #[test]
 fn answers_each_line(rt: HostRuntime) -> Result<(), Fail> {
-    let rows: [(&[u8], &str); 40] = [
+    let rows: [(&[u8], &str); 41] = [
         (b"{\"cmd\":\"go\"}", "Go"),
         (
             b"{\"cmd\": \"enable\", \"text\": \"x{}\"}",
@@ -45,7 +45,8 @@ fn answers_each_line(rt: HostRuntime) -> Result<(), Fail> {
         (b"{}", "Request"),
         (b"{\"cmd\":1}", "Request"),
         (b"{\"cmd\":\"stop\"}", "Stop"),
-        (b"{\"cmd\":\"close\"}", "Request"),
+        (b"{\"cmd\":\"close\"}", "Close"),
+        (b"{\"cmd\":\"Close\"}", "Request"),
         (
             b"{\"cmd\":\"option\",\"name\":\"bufsize\",\"value\":28}",
             "Option { name: \"bufsize\", value: Number(28) }",

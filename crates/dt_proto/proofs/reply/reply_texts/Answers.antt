@@ -12,7 +12,7 @@ use Rattle.dt_proto.specs.Reply.{reply_text}
 use Rattle.serde_json.proofs.OnLiterals.{serde_json_on_literals}
 use Rattle.dt_proto.proofs.ListedTexts.{text-listed}
 use Rattle.dt_proto.proofs.DescribedTexts.{text-described, text-unrecorded}
-use Rattle.dt_proto.proofs.StatusTexts.{text-inactive, text-active, text-stopped, text-exited, text-history}
+use Rattle.dt_proto.proofs.StatusTexts.{text-inactive, text-active, text-stopped, text-exited, text-history, text-closed}
 use Rattle.dt_proto.proofs.TableTexts.{text-aggregated}
 use Rattle.dt_proto.proofs.Texts.{text-snapped}
 use Rattle.dt_proto.proofs.reply.reply_texts.Goals as goal
@@ -153,6 +153,9 @@ returns-clause-exited c = text-exited
 
 pub returns-clause-history : goal.returns-clause-history
 returns-clause-history c = text-history
+
+pub returns-clause-closed : goal.returns-clause-closed
+returns-clause-closed c = text-closed
 
 pub returns-clause-described : goal.returns-clause-described
 returns-clause-described c = text-described
