@@ -1,0 +1,173 @@
+-- What a clause that is taken leaves.
+use Rattle.std.proofs.Common.{◌≡◌, ℕ, ℤ, pos, ◌+◌, ◌<◌, Bool, true, false, cond, List, [], ◌∷◌, ◌++◌, length, get_or, map, take, drop, Option, Some, None, refl, sym, ap, ◌∙◌}
+use Rattle.std.specs.List.{flat_map}
+use Rattle.std.specs.Option.{is_some, option_and_then, option_map, option_to_list}
+use Rattle.std.proofs.lemmas.List.{append-nil, get_or-drop, length-map, map-append, take_more}
+use Rattle.dt_aggstore.specs.History as store
+use Rattle.dt_aggstore.specs.declared.key.Aggregation.{Aggregation}
+use Rattle.dt_aggstore.specs.declared.key.KeyPart.{KeyPart}
+use Rattle.dt_ecb.specs.Shapes.{ShapeForm}
+use Rattle.dt_ecb.specs.declared.parts.Ecb.{Ecb}
+use Rattle.dt_expr.specs.Operators.{holds}
+use Rattle.dt_expr.specs.Scene.{SceneForm}
+use Rattle.dt_expr.specs.declared.text.Value.{Value}
+use Rattle.dt_expr.specs.declared.text.Value.TheVariants as val
+use Rattle.dt_lang.specs.Program.{ClauseForm, form_of_argument, form_of_clause, form_of_statement}
+use Rattle.dt_lang.specs.declared.program.Clause.{Clause}
+use Rattle.dt_lang.specs.declared.program.Aggregation as program
+use Rattle.dt_lang.specs.declared.program.Statement.{Statement}
+use Rattle.dt_lang.specs.declared.program.Statement.TheVariants.{Aggregate, Exit, Stack, Trace, Ustack}
+use Rattle.dt_record.specs.Taking.{Effect, contributed, each, effect, predicate_value, taken_of, TakenForm, taking}
+use Rattle.dt_consumer.specs.Aggregations.{aggregation_of, contributions_of, given_by, number_of}
+use Rattle.dt_consumer.specs.Keeps.{taking_by}
+use Rattle.dt_consumer.specs.Takings.{Taking, MomentForm, scene_at, taking_of}
+use Rattle.dt_consumer.specs.Uses.{UseForm, contribution_at, key_at, number_at, split_by, use_by, uses_by}
+use Rattle.dt_consumer.proofs.Giving.{span, span_more, split_given, split_more, uses_more}
+use Rattle.dt_consumer.proofs.Takings.{clause_found}
+
+-- what a clause leaves that is taken whole
+record Left (scene : SceneForm) (clause : ClauseForm) (form : TakenForm) : Type 0 where
+  effects : List Effect
+  are : each (effect scene) clause.statements ≡ Some effects
+  values : form.values ≡ flat_map contributed effects
+
+left_when : (epid : ℕ) (scene : SceneForm) (clause : ClauseForm) (form : TakenForm) (b : Bool)
+    (p : Option (List Effect)) → each (effect scene) clause.statements ≡ p
+    → cond b (option_map (λ effects. Some (taken_of epid clause.statements effects)) p) (Some None)
+    ≡ Some (Some form) → Left scene clause form
+left_when epid scene clause form false p e h = cc
+left_when epid scene clause form true None e h = cc
+left_when epid scene clause form true (Some effects) e h = record {
+  effects = effects;
+  are = e;
+  values = sym (ap (λ (f : TakenForm). f.values) (some_is (some_is h)));
+}
+  where
+    some_is : {X : Type 0} {a b : X} → Some a ≡ Some b → a ≡ b
+    some_is h = cc
+
+left_by_predicate : (epid : ℕ) (scene : SceneForm) (clause : ClauseForm) (form : TakenForm) (o : Option ℤ)
+    → option_and_then
+    (λ z. cond (holds z) (option_map (λ effects. Some (taken_of epid clause.statements effects))
+    (each (effect scene) clause.statements)) (Some None)) o ≡ Some (Some form) → Left scene clause form
+left_by_predicate epid scene clause form None h = cc
+left_by_predicate epid scene clause form (Some z) h =
+    left_when epid scene clause form (holds z) (each (effect scene) clause.statements) refl h
+
+left_of : (epid : ℕ) (scene : SceneForm) (clause : ClauseForm) (form : TakenForm)
+    → taking epid scene clause ≡ Some (Some form) → Left scene clause form
+left_of epid scene clause form h =
+    left_by_predicate epid scene clause form (predicate_value scene clause.predicate) h
+
+module _ (shapes : List ShapeForm) (in_end : Bool) (m : MomentForm) (clauses : List Clause) (ecb : Ecb)
+    (clause : Clause) (inside : ecb.clause < length clauses) (at : clause ≡ get_or clauses ecb.clause clause) where
+  abbrev taking_with : ClauseForm → Taking
+  taking_with c = taking_of in_end m (record { epid = ecb.epid; probe = ecb.probe; clause = c })
+
+  -- what came of it
+  pub came_is : (came : Option (Option TakenForm))
+      → taking ecb.epid (scene_at m ecb.epid) (form_of_clause clause) ≡ came
+      → (taking_by in_end m (map form_of_clause clauses) ecb).came ≡ came
+  came_is came e =
+      ap (λ (c : ClauseForm). taking ecb.epid (scene_at m ecb.epid) c)
+      (clause_found clauses ecb.clause clause inside at) ∙ e
+
+  abbrev of_came : Option (Option TakenForm) → List store.Event
+  of_came came = cond (is_some (option_and_then (λ left. left) came))
+      (flat_map (λ s. option_to_list (given_by shapes (scene_at m ecb.epid) s)) (form_of_clause clause).statements) []
+
+  gives_as : contributions_of shapes (taking_by in_end m (map form_of_clause clauses) ecb)
+      ≡ of_came (taking ecb.epid (scene_at m ecb.epid) (form_of_clause clause))
+  gives_as =
+      ap (λ (c : ClauseForm). contributions_of shapes (taking_with c))
+      (clause_found clauses ecb.clause clause inside at)
+
+  -- what it gave
+  pub left_given : (form : TakenForm) → taking ecb.epid (scene_at m ecb.epid) (form_of_clause clause) ≡ Some (Some form)
+      → split_by (uses_by shapes (form_of_clause clause).statements) form.values
+      ≡ contributions_of shapes (taking_by in_end m (map form_of_clause clauses) ecb)
+  left_given form came =
+      let l = left_of ecb.epid (scene_at m ecb.epid) (form_of_clause clause) form came in
+      ap (split_by (uses_by shapes (form_of_clause clause).statements)) l.values
+      ∙ split_given shapes (scene_at m ecb.epid) (form_of_clause clause).statements l.effects l.are
+      ∙ sym (gives_as ∙ ap of_came came)
+
+-- the uses of the first statements, and of one more
+module _ (shapes : List ShapeForm) (statements : List Statement) (i : ℕ) (s : Statement)
+    (inside : i < length statements) (at : s ≡ get_or statements i s) (values : List Value) where
+  abbrev uses_to : ℕ → List UseForm
+  uses_to n = uses_by shapes (map form_of_statement (take n statements))
+
+  uses_step : uses_to (i + 1) ≡ uses_to i ++ use_by shapes (form_of_statement s)
+  uses_step =
+      ap (λ xs. uses_by shapes (map form_of_statement xs))
+      (take_more statements i s inside ∙ ap (λ x. take i statements ++ x ∷ []) (sym at))
+      ∙ ap (uses_by shapes) (map-append form_of_statement (take i statements) (s ∷ []))
+      ∙ uses_more shapes (map form_of_statement (take i statements)) (form_of_statement s)
+
+  -- a statement that gives nothing
+  pub split_same : use_by shapes (form_of_statement s) ≡ []
+      → split_by (uses_to (i + 1)) values ≡ split_by (uses_to i) values
+  split_same none =
+      ap (λ us. split_by us values) (uses_step ∙ ap (λ us. uses_to i ++ us) none ∙ append-nil (uses_to i))
+
+  pub span_same : use_by shapes (form_of_statement s) ≡ [] → span (uses_to (i + 1)) ≡ span (uses_to i)
+  span_same none = ap span (uses_step ∙ ap (λ us. uses_to i ++ us) none ∙ append-nil (uses_to i))
+
+  -- one that gives, or would
+  pub split_one : (one : UseForm) → use_by shapes (form_of_statement s) ≡ one ∷ []
+      → split_by (uses_to (i + 1)) values
+      ≡ split_by (uses_to i) values ++ contribution_at one (drop (span (uses_to i)) values)
+  split_one one is =
+      ap (λ us. split_by us values) (uses_step ∙ ap (λ us. uses_to i ++ us) is) ∙ split_more (uses_to i) one values
+
+  pub span_one : (one : UseForm) → use_by shapes (form_of_statement s) ≡ one ∷ []
+      → span (uses_to (i + 1)) ≡ span (uses_to i) + (one.1 + 1)
+  span_one one is = ap span (uses_step ∙ ap (λ us. uses_to i ++ us) is) ∙ span_more (uses_to i) one
+
+-- what one use gives, with the keys and the number that lie there
+pub given_one : (a : Aggregation) (o : Option Aggregation) (keys place : ℕ) (values : List Value)
+    (parts : List KeyPart) (z : ℤ) → o ≡ Some a → parts ≡ key_at keys (drop place values)
+    → z ≡ number_at values (place + keys)
+    → contribution_at (o, keys) (drop place values) ≡ store.given a parts z ∷ []
+given_one a o keys place values parts z is own number =
+    ap (λ x. contribution_at (x, keys) (drop place values)) is
+    ∙ ap (λ ks. store.given a ks (number_at (drop place values) keys) ∷ []) (sym own)
+    ∙ ap (λ n. store.given a parts n ∷ [])
+    (ap number_of (get_or-drop place values keys (val.Number (pos 0))) ∙ sym number)
+
+pub given_none : (o : Option Aggregation) (keys : ℕ) (values : List Value) → o ≡ None
+    → contribution_at (o, keys) values ≡ []
+given_none o keys values is = ap (λ x. contribution_at (x, keys) values) is
+
+-- a statement that aggregates
+module _ (shapes : List ShapeForm) (statements : List Statement) (i : ℕ) (s : Statement)
+    (inside : i < length statements) (at : s ≡ get_or statements i s) (values : List Value) (a : program.Aggregation)
+    (is : s ≡ Aggregate a) (place : ℕ)
+    (there : place ≡ span (uses_by shapes (map form_of_statement (take i statements)))) where
+  use_is : use_by shapes (form_of_statement s) ≡ (aggregation_of shapes a.name, length a.keys.items) ∷ []
+  use_is =
+      ap (λ x. use_by shapes (form_of_statement x)) is
+      ∙ ap (λ n. (aggregation_of shapes a.name, n) ∷ []) (length-map a.keys.items form_of_argument)
+
+  pub split_step : split_by (uses_by shapes (map form_of_statement (take (i + 1) statements))) values
+      ≡ split_by (uses_by shapes (map form_of_statement (take i statements))) values
+      ++ contribution_at (aggregation_of shapes a.name, length a.keys.items) (drop place values)
+  split_step =
+      split_one shapes statements i s inside at values _ use_is
+      ∙ ap (λ n. split_by (uses_by shapes (map form_of_statement (take i statements))) values
+      ++ contribution_at (aggregation_of shapes a.name, length a.keys.items) (drop n values)) (sym there)
+
+  pub span_step : place + (length a.keys.items + 1)
+      ≡ span (uses_by shapes (map form_of_statement (take (i + 1) statements)))
+  span_step =
+      ap (λ n. n + (length a.keys.items + 1)) there ∙ sym (span_one shapes statements i s inside at values _ use_is)
+
+-- one that does not
+pub other_use : (shapes : List ShapeForm) (s : Statement) → ((a : program.Aggregation) → s ≡ Aggregate a → ⊥)
+    → use_by shapes (form_of_statement s) ≡ []
+other_use shapes (Trace a) none = refl
+other_use shapes (Stack n) none = refl
+other_use shapes (Ustack n) none = refl
+other_use shapes (Exit e) none = refl
+other_use shapes (Aggregate a) none = absurd (none a refl)

@@ -1,0 +1,17 @@
+-- What the prover was told: of the runner, and then of trails.
+pub mod Bringing
+pub mod Firing
+pub mod Leaving
+pub mod Running
+pub mod Showing
+pub mod Placing
+pub mod Replying
+pub mod Recounting
+pub mod Cuts
+pub mod Decimals
+pub mod Entries
+pub mod Trails
+pub mod Verdicts
+pub mod Lives
+pub mod Judging
+pub mod SoFar

@@ -1,0 +1,523 @@
+-- A runner after a command.
+use Rattle.std.proofs.Common.{◌≡◌, ℕ, ◌+◌, ◌-◌, ◌<◌, ◌==◌, ◌&&◌, Bool, true, false, not, cond, List, [], ◌∷◌, ◌++◌, length, map, Option, Some, None, Ok, refl, sym, ap, ◌∙◌, subst, ⊎_elim, arith}
+use Rattle.std.specs.List.{All, find}
+use Rattle.std.specs.Option.{IfSome, MatchOption, is_some, option_and_then, option_map}
+use Rattle.std.proofs.lemmas.Bool.{cases_Bool, ne_eqb}
+use Rattle.std.proofs.lemmas.List.{length-map, map-append}
+use Rattle.std.proofs.lemmas.List.Elements.{recursion_from_All}
+use Rattle.dt_cred.specs.declared.account.Account.{Account}
+use Rattle.dt_cred.specs.declared.probe.Probe.{Probe}
+use Rattle.dt_machine.specs.Registry.{Registry, probe_of}
+use Rattle.dt_lang.specs.Program.{ClauseForm, form_of_clause}
+use Rattle.dt_lang.specs.Reads.{Reading, Reads, program, fault, destructive}
+use Rattle.dt_lang.specs.declared.fault.LangFault.{LangFault}
+use Rattle.dt_lang.specs.declared.fault.LangFault.TheVariants as faults
+use Rattle.dt_lang.specs.declared.fault.Why.{Why}
+use Rattle.dt_lang.specs.declared.word.Destructive.{Destructive}
+use Rattle.dt_lang.specs.declared.program.Clause.{Clause}
+use Rattle.dt_ecb.specs.Ecbs.{EcbForm, added, ecbs_of}
+use Rattle.dt_ecb.specs.Enable.{Verdict, IsVerdict, is_enabled}
+use Rattle.dt_ecb.specs.Enable as enabling
+use Rattle.dt_ecb.specs.Forms.{form_of_ecb, shapes_of}
+use Rattle.dt_ecb.specs.Shapes.{ShapeForm, uses_of}
+use Rattle.dt_ecb.specs.declared.parts.Ecb.{Ecb}
+use Rattle.dt_alone.specs.Forms.{form_of_options}
+use Rattle.dt_alone.specs.Happened.{Brings, all_to}
+use Rattle.dt_alone.specs.Runs.{Answers, Has, HasIn, IsAsked}
+use Rattle.dt_aggstore.specs.declared.key.Aggregation.{Aggregation}
+use Rattle.dt_buffer.specs.Shows.{Shows}
+use Rattle.std.specs.Global.{Vec}
+use Rattle.dt_alone.specs.declared.happened.Happened.{Happened}
+use Rattle.dt_alone.specs.declared.happened.Happened.TheVariants.{Read, Truncated}
+use Rattle.dt_alone.specs.declared.options.Options.{Options}
+use Rattle.dt_alone.specs.declared.programs.Programs.{Programs}
+use Rattle.dt_alone.specs.declared.runner.Runner.{Runner}
+use Rattle.dt_consumer.specs.Answer.{answer_of, enabled}
+use Rattle.dt_consumer.specs.Ask.{Ask, enable, go, option, snap, stop, trunc, reading_of, is_read}
+use Rattle.dt_consumer.specs.Buffers.{comes_since, past, reserve_on}
+use Rattle.dt_consumer.specs.Keeps.{AreEcbs, placed_after}
+use Rattle.dt_consumer.specs.Life.{Item, asked, SetUp, ecbs_in, end_size, happens, has_room, is_inactive, is_readable, lines, next_epid, phase, phase_of, set_up, shapes_in, since_then, with_event, with_options, with_program}
+use Rattle.dt_consumer.specs.Options.{OptionsForm, Setting, is_fill, with_setting}
+use Rattle.dt_consumer.specs.Refusal.{refused_as}
+use Rattle.dt_consumer.specs.Reply.{Accepted, known, IsVerdictOnCommand, ecb_of, refusal_of}
+use Rattle.dt_consumer.specs.Stores.{given_since}
+use Rattle.dt_consumer.specs.Takings.{Event, began, ended, read, truncated, faults as failures, taken_since}
+use Rattle.dt_consumer.specs.declared.phase.End.TheVariants as ends
+use Rattle.dt_consumer.specs.declared.phase.Phase.{Phase}
+use Rattle.dt_consumer.specs.declared.phase.Phase.TheVariants.{Inactive, Active, Stopped}
+use Rattle.dt_consumer.specs.declared.refusal.Refusal.{Refusal}
+use Rattle.dt_consumer.specs.declared.refusal.Refusal.TheVariants as refusals
+use Rattle.dt_consumer.specs.declared.refusal.Refusal.TheVariants.{Program}
+use Rattle.dt_consumer.specs.declared.reply.Reply.{Reply}
+use Rattle.dt_consumer.specs.declared.reply.Reply.TheVariants.{Done, Enabled, Refused, Snapped}
+use Rattle.dt_consumer.proofs.DraftLemmas.{begun_by_go, destructive_refused, fault_refused, go_taken, read_by_snap, snap_taken, some_trunc, stop_taken, stopped_by, truncated_by, idle_program, idle_unset, option_refused, option_taken, program_added, program_verdict, set_by}
+use Rattle.dt_consumer.proofs.Lists.{find-map}
+use Rattle.dt_consumer.proofs.Stands.{are_placed}
+use Rattle.dt_alone.proofs.Placing.{are_both}
+use Rattle.dt_alone.proofs.Running.{Told, has_since, told_read, told_truncated}
+use Rattle.dt_consumer.proofs.Telling.{find_all}
+
+pub idle_phase : (phase : Phase) → is_inactive phase ≡ true → phase ≡ Inactive
+idle_phase Inactive e = refl
+idle_phase Active e = cc
+idle_phase (Stopped end) e = cc
+
+readable_begun : (s : SetUp) (p : Phase) → is_readable s p ≡ true → is_inactive p ≡ false
+readable_begun s Inactive e = cc
+readable_begun s Active e = refl
+readable_begun s (Stopped cause) e = refl
+
+-- whether there is room for END's records
+pub no_room : (o : Option ℕ) (x b : Bool) (P : ℕ → Type 0) → MatchOption o (x ≡ false) (λ n. (x ≡ true) × P n)
+    → is_some o ≡ not b → b ≡ true → x ≡ false
+no_room None x b P m e f = m
+no_room (Some n) x true P m e f = cc
+no_room (Some n) x false P m e f = cc
+
+pub some_room : (o : Option ℕ) (x b : Bool) (P : ℕ → Type 0) → MatchOption o (x ≡ false) (λ n. (x ≡ true) × P n)
+    → is_some o ≡ not b → b ≡ false → x ≡ true
+some_room None x true P m e f = cc
+some_room None x false P m e f = cc
+some_room (Some n) x b P m e f = m.0
+
+-- The second runner has the account, the counts and the list of the first.
+pub record Alike (old new : Runner) : Type 0 where
+  pub account : new.account ≡ old.account
+  pub seen : new.seen ≡ old.seen
+  pub since : new.since ≡ old.since
+
+-- the same set-up, with options, programs and a phase that are given
+pub has_alike : (account : Account) (registry : Registry) (s : SetUp) (p : Phase) (old new : Runner)
+    → HasIn account registry s p old → Alike old new → new.options ≡ old.options → new.programs ≡ old.programs
+    → (q : Phase) → new.phase ≡ q → (q ≡ Inactive → p ≡ Inactive) → HasIn account registry s q new
+has_alike account registry s p old new h a options programs q standing idle = record {
+  same_account = a.account ∙ h.same_account;
+  options = ap form_of_options options ∙ h.options;
+  clauses = ap (λ (x : Programs). map form_of_clause x.clauses.items) programs ∙ h.clauses;
+  ecbs = subst (λ (x : Programs). AreEcbs s.clauses (ecbs_in account registry s) x.ecbs.items) (sym programs) h.ecbs;
+  shapes = ap (λ (x : Programs). shapes_of x.shapes) programs ∙ h.shapes;
+  standing = standing;
+  idle = λ e. h.idle (idle e);
+  seen = a.seen ∙ h.seen;
+  brings = subst (λ (v : Vec Happened). Told account registry s v.items) (sym a.since) h.brings;
+}
+
+module _ (account : Account) (registry : Registry) (life : List Item) (r : Runner)
+    (k : IsAsked account registry r life) where
+  abbrev now : SetUp
+  now = set_up account registry life
+
+  -- how far the life has come
+  pub stands : r.phase ≡ phase account registry life
+  stands = k.has.standing
+
+  pub begun : is_inactive r.phase ≡ false → is_inactive (phase account registry life) ≡ false
+  begun e = sym (ap is_inactive stands) ∙ e
+
+  -- a command that is refused
+  pub refuses : (ask : Ask) (refusal : Refusal) → IsVerdictOnCommand account registry life ask (Some refusal)
+      → set_up account registry (asked (Ok ask) ∷ life) ≡ set_up account registry life
+      → Answers account registry life ask (Refused refusal) r
+  refuses ask refusal verdict idle = (
+    (Some refusal, verdict, refl),
+    record { has = subst (λ s. Has account registry s r) (sym idle) k.has; counted = k.counted },
+  )
+
+  -- one that is accepted
+  pub accepts_as : (ask : Ask) (reply : Reply) (new : Runner) (s : SetUp)
+      → IsVerdictOnCommand account registry life ask None → Accepted account registry life ask (answer_of reply)
+      → set_up account registry (asked (Ok ask) ∷ life) ≡ s → Has account registry s new → new.lines ≡ r.lines
+      → Answers account registry life ask reply new
+  accepts_as ask reply new s verdict accepted is has same = (
+    (None, verdict, accepted),
+    record { has = subst (λ x. Has account registry x new) (sym is) has; counted = same ∙ k.counted },
+  )
+
+  -- it was asked in time
+  pub early : is_inactive r.phase ≡ true → phase account registry life ≡ Inactive
+  early e = idle_phase (phase account registry life) (sym (ap is_inactive stands) ∙ e)
+
+  -- other options
+  pub has_options : (options : Options) (new : Runner) → Alike r new → new.options ≡ options
+      → new.programs ≡ r.programs → new.phase ≡ r.phase
+      → Has account registry (with_options (set_up account registry life) (form_of_options options)) new
+  has_options options new a set programs same = record {
+    same_account = a.account ∙ k.has.same_account;
+    options = ap form_of_options set;
+    clauses = ap (λ (x : Programs). map form_of_clause x.clauses.items) programs ∙ k.has.clauses;
+    ecbs = subst (λ (x : Programs). AreEcbs now.clauses (ecbs_in account registry now) x.ecbs.items) (sym programs)
+        k.has.ecbs;
+    shapes = ap (λ (x : Programs). shapes_of x.shapes) programs ∙ k.has.shapes;
+    standing = same ∙ k.has.standing;
+    idle = k.has.idle;
+    seen = a.seen ∙ k.has.seen;
+    brings = subst (λ (v : Vec Happened). Told account registry now v.items) (sym a.since) k.has.brings;
+  }
+
+  -- an option that is set, or is none
+  pub option_set : (o : Option Setting) (options : Options) (new : Runner) → phase account registry life ≡ Inactive
+      → Some (form_of_options options) ≡ option_map (with_setting (form_of_options r.options)) o
+      → Alike r new → new.options ≡ options → new.programs ≡ r.programs → new.phase ≡ r.phase → new.lines ≡ r.lines
+      → Answers account registry life (option o) Done new
+  option_set None options new off e a is programs same lines = cc
+  option_set (Some one) options new off e a is programs same lines =
+      let set : form_of_options options ≡ with_setting (form_of_options r.options) one = cc in
+      accepts_as (option (Some one)) Done new _ (option_taken account registry life one off) refl
+      (set_by account registry life one off
+      ∙ ap (λ (o : OptionsForm). with_options now (with_setting o one)) (sym k.has.options)
+      ∙ ap (with_options now) (sym set))
+      (has_options options new a is programs same) lines
+
+  pub option_unset : (o : Option Setting) → phase account registry life ≡ Inactive
+      → None ≡ option_map (with_setting (form_of_options r.options)) o
+      → Answers account registry life (option o) (Refused refusals.Option) r
+  option_unset (Some one) off e = cc
+  option_unset None off e =
+      refuses (option None) refusals.Option (option_refused account registry life None refl off)
+      (idle_unset account registry life None refl)
+
+  -- tracing began
+  pub go_done : (new : Runner) → phase account registry life ≡ Inactive
+      → has_room account registry (set_up account registry life) ≡ true
+      → Has account registry (happens account registry (set_up account registry life) began) new
+      → new.lines ≡ r.lines → Answers account registry life go Done new
+  go_done new off room has same =
+      accepts_as go Done new (happens account registry (since_then now []) began)
+      (go_taken account registry life off room)
+      refl (begun_by_go account registry life off room)
+      (subst (λ (s : SetUp). Has account registry (happens account registry s began) new)
+      (ap (since_then now) (k.has.idle off)) has)
+      same
+
+  -- it ended
+  pub stop_done : (new : Runner) → phase account registry life ≡ Active
+      → Has account registry (with_event (set_up account registry life) (ended ends.Stop)) new
+      → new.lines ≡ r.lines → Answers account registry life stop Done new
+  stop_done new on has same =
+      accepts_as stop Done new _ (stop_taken account registry life on) refl
+      (stopped_by account registry life on) has same
+
+  -- the room for ordinary records
+  room_by : (b : Bool) (cpu : ℕ) → (cpu == 0) ≡ b
+      → reserve_on account registry (set_up account registry life) cpu
+      ≡ cond (is_fill now.options.bufpolicy && b) (end_size account registry now) 0
+  room_by b cpu e =
+      ap (λ x. cond (is_fill now.options.bufpolicy && x) (end_size account registry now) 0) e
+
+  own_size : r.options.bufsize ≡ now.options.bufsize
+  own_size = ap (λ (o : OptionsForm). o.bufsize) k.has.options
+
+  pub room_on : (cpu room : ℕ) → cpu ≡ 0
+      → room ≡ (set_up account registry life).options.bufsize - reserve_on account registry (set_up account registry life) 0
+      → room ≡ r.options.bufsize - reserve_on account registry (set_up account registry life) cpu
+  room_on cpu room e is =
+      is ∙ ap (λ n. n - reserve_on account registry now 0) (sym own_size)
+      ∙ ap (λ n. r.options.bufsize - reserve_on account registry now n) (sym e)
+
+  pub room_other : (cpu room : ℕ) → (cpu ≡ 0 → ⊥) → room ≡ r.options.bufsize
+      → room ≡ r.options.bufsize - reserve_on account registry (set_up account registry life) cpu
+  room_other cpu room ne is =
+      is ∙ omega (arith, room_by false cpu (ne_eqb cpu 0 ne), neither (is_fill now.options.bufpolicy))
+    where
+      neither : (b : Bool) → cond (b && false) (end_size account registry now) 0 ≡ 0
+      neither true = refl
+      neither false = refl
+
+  -- what is shown of all that happened is shown of the past
+  pub shows_past : (cpu : ℕ) (bytes : List ℕ) (drops : ℕ) (filled : Bool) (hs : List Happened) → hs ≡ r.since.items
+      → Shows (record {
+        policy = r.options.bufpolicy;
+        size = r.options.bufsize;
+        reserve = reserve_on account registry (set_up account registry life) cpu;
+        events = all_to cpu hs;
+      }) bytes drops filled → Shows (past account registry life cpu) bytes drops filled
+  shows_past cpu bytes drops filled hs same h =
+      subst (λ (o : OptionsForm). Shows (record {
+        policy = o.bufpolicy;
+        size = o.bufsize;
+        reserve = reserve_on account registry (set_up account registry life) cpu;
+        events = comes_since account registry (ecbs_in account registry now) cpu now.since;
+      }) bytes drops filled) k.has.options
+      (subst (λ es. Shows (record {
+        policy = r.options.bufpolicy;
+        size = r.options.bufsize;
+        reserve = reserve_on account registry (set_up account registry life) cpu;
+        events = es;
+      }) bytes drops filled) (ap (all_to cpu) same ∙ (k.has.brings cpu).buffer) h)
+
+  -- a buffer was read
+  pub snap_done : (cpu drops : ℕ) (filled : Bool) (bytes : Vec ℕ) (new : Runner) → cpu < registry.cpus
+      → is_readable (set_up account registry life) (phase account registry life) ≡ true
+      → Shows (past account registry life cpu) bytes.items drops filled
+      → new.account ≡ r.account → new.options ≡ r.options → new.programs ≡ r.programs → new.phase ≡ r.phase
+      → new.seen ≡ r.seen → new.since.items ≡ r.since.items ++ Read cpu ∷ [] → new.lines ≡ r.lines
+      → Answers account registry life (snap cpu) (Snapped cpu bytes drops filled) new
+  snap_done cpu drops filled bytes new inside on shows same_account same_options same_programs same_phase same_seen
+      grown same =
+      accepts_as (snap cpu) (Snapped cpu bytes drops filled) new _ (snap_taken account registry life cpu inside on)
+      (bytes.items, drops, filled, shows, refl) (read_by_snap account registry life cpu inside on)
+      (has_since account registry now (read cpu ∷ now.since) (phase_of now) (phase_of now) r new k.has same_account
+      same_options same_programs (same_phase ∙ stands) (readable_begun now (phase account registry life) on)
+      (same_seen ∙ k.has.seen)
+      (subst (λ hs. Told account registry (with_event now (read cpu)) hs) (sym grown)
+      (told_read account registry now cpu r.since.items k.has.brings)))
+      same
+
+  -- an aggregation was truncated
+  pub trunc_done : (name : List ℕ) (a : Aggregation) (new : Runner)
+      → is_inactive (phase account registry life) ≡ false → known account registry life name ≡ Some a
+      → new.account ≡ r.account → new.options ≡ r.options → new.programs ≡ r.programs → new.phase ≡ r.phase
+      → new.seen ≡ r.seen → new.since.items ≡ r.since.items ++ Truncated a ∷ [] → new.lines ≡ r.lines
+      → Answers account registry life (trunc name) Done new
+  trunc_done name a new on is same_account same_options same_programs same_phase same_seen grown same =
+      accepts_as (trunc name) Done new _ (some_trunc account registry life name a is) refl
+      (truncated_by account registry life name a on is)
+      (has_since account registry now (truncated name ∷ now.since) (phase_of now)
+      (phase_of now) r new k.has same_account
+      same_options same_programs (same_phase ∙ stands) on (same_seen ∙ k.has.seen)
+      (subst (λ hs. Told account registry (with_event now (truncated name)) hs) (sym grown)
+      (told_truncated account registry now name a r.since.items is k.has.brings)))
+      same
+
+  -- nothing was taken before tracing begins, whatever is enabled
+  brings_still : (ecbs : List EcbForm) (shapes : List ShapeForm) → phase account registry life ≡ Inactive → (cpu : ℕ)
+      → Brings cpu r.since.items (comes_since account registry ecbs cpu now.since)
+      (failures (taken_since account registry ecbs cpu now.since))
+      (given_since account registry shapes ecbs cpu now.since)
+  brings_still ecbs shapes off cpu =
+      let none : (set_up account registry life).since ≡ [] = k.has.idle off in
+      let own = ecbs_in account registry (set_up account registry life) in
+      let P : List Event → Type 0 = λ events. Brings cpu r.since.items
+      (comes_since account registry (ecbs_in account registry (set_up account registry life)) cpu events)
+      (failures (taken_since account registry (ecbs_in account registry (set_up account registry life)) cpu events))
+      (given_since account registry (shapes_in (set_up account registry life))
+      (ecbs_in account registry (set_up account registry life)) cpu events) in
+      let Q : List Event → Type 0 = λ events. Brings cpu r.since.items
+      (comes_since account registry ecbs cpu events) (failures (taken_since account registry ecbs cpu events))
+      (given_since account registry shapes ecbs cpu events) in
+      subst Q (sym none) (subst P none (k.has.brings cpu))
+
+  -- an accepted program
+  module _ (clauses : List Clause) (ecbs : List Ecb) (off : phase account registry life ≡ Inactive) where
+    abbrev forms : List ClauseForm
+    forms = map form_of_clause clauses
+
+    pub has_program : ((before more : List ClauseForm) → ecbs_of account registry (before ++ more)
+        ≡ ecbs_of account registry before
+        ++ added account registry (length (ecbs_of account registry before) + 1) more)
+        → ((a b : List ClauseForm) → uses_of (a ++ b) ≡ uses_of a ++ uses_of b) → (programs : Programs)
+        → (new : Runner) → map (form_of_ecb forms) ecbs ≡ added account registry (next_epid account registry now) forms
+        → All (λ ecb. ecb.clause < length clauses) ecbs
+        → programs.clauses.items ≡ r.programs.clauses.items ++ clauses
+        → programs.ecbs.items ≡ r.programs.ecbs.items ++ map (placed_after (length r.programs.clauses.items)) ecbs
+        → shapes_of programs.shapes ≡ shapes_of r.programs.shapes ++ uses_of forms
+        → Alike r new → new.options ≡ r.options → new.programs ≡ programs → new.phase ≡ r.phase
+        → Has account registry (with_program (set_up account registry life) (map form_of_clause clauses)) new
+    has_program go_on uses_both programs new are placed grown grown_ecbs shaped a same_options own same_phase =
+        let s = set_up account registry life in
+        let long : length clauses ≡ length forms = sym (length-map clauses form_of_clause) in
+        let here : AreEcbs forms (added account registry (next_epid account registry now) forms) ecbs =
+        record { forms = are; placed = subst (λ n. All (λ ecb. ecb.clause < n) ecbs) long placed } in
+        let after : AreEcbs (now.clauses ++ forms) (added account registry (next_epid account registry now) forms)
+        (map (placed_after (length r.programs.clauses.items)) ecbs) =
+        are_placed now.clauses forms _ (length r.programs.clauses.items) ecbs _
+        (sym (length-map r.programs.clauses.items form_of_clause) ∙ ap length k.has.clauses) here refl in
+        let both = are_both now.clauses forms _ _ r.programs.ecbs.items _ k.has.ecbs after in
+        record {
+          same_account = a.account ∙ k.has.same_account;
+          options = ap form_of_options same_options ∙ k.has.options;
+          clauses =
+              ap (λ (x : Programs). map form_of_clause x.clauses.items) own
+              ∙ ap (map form_of_clause) grown ∙ map-append form_of_clause r.programs.clauses.items clauses
+              ∙ ap (λ cs. cs ++ forms) k.has.clauses;
+          ecbs =
+              subst (λ (x : Programs). AreEcbs (now.clauses ++ forms)
+              (ecbs_in account registry (with_program now forms)) x.ecbs.items) (sym own)
+              (subst (λ es. AreEcbs (now.clauses ++ forms) es programs.ecbs.items) (sym (go_on now.clauses forms))
+              (subst (λ xs. AreEcbs (now.clauses ++ forms)
+              (ecbs_of account registry now.clauses
+              ++ added account registry (length (ecbs_of account registry now.clauses) + 1) forms) xs)
+              (sym grown_ecbs) both));
+          shapes =
+              ap (λ (x : Programs). shapes_of x.shapes) own ∙ shaped
+              ∙ ap (λ shapes. shapes ++ uses_of forms) k.has.shapes ∙ sym (uses_both now.clauses forms);
+          standing = same_phase ∙ k.has.standing;
+          idle = k.has.idle;
+          seen = a.seen ∙ k.has.seen;
+          brings = λ cpu. subst (λ (v : Vec Happened). Brings cpu v.items
+              (comes_since account registry (ecbs_in account registry (with_program now forms)) cpu now.since)
+              (failures (taken_since account registry (ecbs_in account registry
+              (with_program now forms)) cpu now.since))
+              (given_since account registry (shapes_in (with_program now forms))
+              (ecbs_in account registry (with_program now forms)) cpu now.since))
+              (sym a.since) (brings_still _ _ off cpu);
+        }
+
+    -- how many ECBs a program added
+    pub count_is : (n : ℕ) → n ≡ length ecbs
+        → map (form_of_ecb forms) ecbs ≡ added account registry (next_epid account registry now) forms
+        → n ≡ length (added account registry (next_epid account registry now) forms)
+    count_is n e are = e ∙ sym (length-map ecbs (form_of_ecb forms)) ∙ ap length are
+
+  pub next_is : (first : ℕ) → first ≡ length r.programs.ecbs.items + 1
+      → first ≡ next_epid account registry (set_up account registry life)
+  next_is first e = omega (
+    arith,
+    e,
+    length-map r.programs.ecbs.items (form_of_ecb (set_up account registry life).clauses),
+    ap length k.has.ecbs.forms,
+  )
+
+  -- what is said of a program by the runner's parts is said by its set-up
+  pub program_asked : (clauses : List ClauseForm) (first : ℕ) (o : Option Verdict)
+      → first ≡ next_epid account registry (set_up account registry life)
+      → IfSome o (IsVerdict r.account registry (shapes_of r.programs.shapes) first clauses)
+      → IfSome o (IsVerdict account registry (shapes_in (set_up account registry life))
+      (next_epid account registry (set_up account registry life)) clauses)
+  program_asked clauses first o e is =
+      subst
+      (λ n. IfSome o (IsVerdict account registry (shapes_in (set_up account registry life)) n clauses)) e
+      (subst (λ shapes. IfSome o (IsVerdict account registry shapes first clauses)) k.has.shapes
+      (subst (λ a. IfSome o (IsVerdict a registry (shapes_of r.programs.shapes) first clauses)) k.has.same_account is))
+
+  pub enabled_asked : (clauses : List ClauseForm) (first : ℕ) (ecbs : List Ecb)
+      → first ≡ next_epid account registry (set_up account registry life)
+      → IsVerdict r.account registry (shapes_of r.programs.shapes) first clauses enabling.enabled
+      × (map (form_of_ecb clauses) ecbs ≡ added r.account registry first clauses)
+      → IsVerdict account registry (shapes_in (set_up account registry life))
+      (next_epid account registry (set_up account registry life)) clauses enabling.enabled
+      × (map (form_of_ecb clauses) ecbs
+      ≡ added account registry (next_epid account registry (set_up account registry life)) clauses)
+  enabled_asked clauses first ecbs e is =
+      subst
+      (λ n. IsVerdict account registry (shapes_in (set_up account registry life)) n clauses enabling.enabled
+      × (map (form_of_ecb clauses) ecbs ≡ added account registry n clauses)) e
+      (subst
+      (λ shapes. IsVerdict account registry shapes first clauses enabling.enabled
+      × (map (form_of_ecb clauses) ecbs ≡ added account registry first clauses)) k.has.shapes
+      (subst
+      (λ a. IsVerdict a registry (shapes_of r.programs.shapes) first clauses enabling.enabled
+      × (map (form_of_ecb clauses) ecbs ≡ added a registry first clauses)) k.has.same_account is))
+
+  -- a program that is accepted
+  pub program_done : ((before more : List ClauseForm) → ecbs_of account registry (before ++ more)
+      ≡ ecbs_of account registry before
+      ++ added account registry (length (ecbs_of account registry before) + 1) more)
+      → ((a b : List ClauseForm) → uses_of (a ++ b) ≡ uses_of a ++ uses_of b)
+      → (clauses : List Clause) (ecbs : List Ecb) (programs : Programs) (new : Runner) (count first : ℕ)
+      → phase account registry life ≡ Inactive
+      → first ≡ next_epid account registry (set_up account registry life)
+      → IsVerdict r.account registry (shapes_of r.programs.shapes) first (map form_of_clause clauses) enabling.enabled
+      × (map (form_of_ecb (map form_of_clause clauses)) ecbs
+      ≡ added r.account registry first (map form_of_clause clauses))
+      → All (λ ecb. ecb.clause < length clauses) ecbs → count ≡ length ecbs
+      → programs.clauses.items ≡ r.programs.clauses.items ++ clauses
+      → programs.ecbs.items ≡ r.programs.ecbs.items ++ map (placed_after (length r.programs.clauses.items)) ecbs
+      → shapes_of programs.shapes ≡ shapes_of r.programs.shapes ++ uses_of (map form_of_clause clauses)
+      → Alike r new → new.options ≡ r.options → new.programs ≡ programs → new.phase ≡ r.phase → new.lines ≡ r.lines
+      → Answers account registry life (enable (program (map form_of_clause clauses))) (Enabled count first) new
+  program_done go_on uses_both clauses ecbs programs new count first off e is placed counts grown grown_ecbs shaped
+      a same_options own same_phase same =
+      let forms = map form_of_clause clauses in
+      let both = enabled_asked forms first ecbs e is in
+      accepts_as (enable (program forms)) (Enabled count first) new
+      (with_program (set_up account registry life) (map form_of_clause clauses))
+      (program_verdict account registry life forms enabling.enabled off both.0)
+      (ap (λ n. enabled n first) (count_is clauses ecbs off count counts both.1)
+      ∙ ap (enabled (length (added account registry (next_epid account registry now) forms))) e)
+      (program_added account registry life forms off both.0)
+      (has_program clauses ecbs off go_on uses_both programs new both.1 placed grown grown_ecbs shaped a
+      same_options own
+      same_phase)
+      same
+
+  -- a program that is refused
+  pub program_refused : ((account : Account) (registry : Registry) (accepted : List ShapeForm) (epid : ℕ)
+      (clauses : List ClauseForm) (a b : Verdict) → IsVerdict account registry accepted epid clauses a
+      → IsVerdict account registry accepted epid clauses b → a ≡ b)
+      → (clauses : List ClauseForm) (o : Option Verdict) (refusal : Refusal)
+      → phase account registry life ≡ Inactive
+      → IfSome o (IsVerdict account registry (shapes_in (set_up account registry life))
+      (next_epid account registry (set_up account registry life)) clauses)
+      → Some refusal ≡ option_and_then refusal_of o
+      → Answers account registry life (enable (program clauses)) (Refused refusal) r
+  program_refused one clauses None refusal off is e = cc
+  program_refused one clauses (Some v) refusal off is e =
+      refuses (enable (program clauses)) refusal
+      (subst (λ o. IsVerdictOnCommand account registry life (enable (program clauses)) o) (sym e)
+      (program_verdict account registry life clauses v off is))
+      (idle_program account registry life clauses
+      (⊎_elim
+      (λ holds. absurd (never v (one account registry (shapes_in now) (next_epid account registry now) clauses v
+      enabling.enabled is holds) e))
+      (λ fails. fails)
+      (cases_Bool (is_enabled account registry (shapes_in now) (next_epid account registry now) clauses))))
+    where
+      never : (v : Verdict) → v ≡ enabling.enabled → Some refusal ≡ refusal_of v → ⊥
+      never v same x = let no : Some refusal ≡ None = x ∙ ap refusal_of same in cc
+
+  -- a text that is no program
+  pub text_refused : (text : List ℕ) (f : LangFault) (refusal : Refusal)
+      → ((text : List ℕ) (a b : Reading) → Reads text a → Reads text b → a ≡ b)
+      → ((at : ℕ) (why : Why) → f ≡ faults.Program at why → Reads text (fault at why))
+      → ((at : ℕ) (what : Destructive) → f ≡ faults.Destructive at what → Reads text (destructive at what))
+      → Some refusal ≡ refused_as f → phase account registry life ≡ Inactive
+      → Answers account registry life (enable (reading_of text)) (Refused refusal) r
+  text_refused text (faults.Program at why) refusal one reads found e off =
+      let same : reading_of text ≡ fault at why =
+      one text (reading_of text) (fault at why) (is_read text) (reads at why refl) in
+      let its : Program at why ≡ refusal = cc in
+      subst (λ x. Answers account registry life (enable x) (Refused refusal) r) (sym same)
+      (subst (λ x. Answers account registry life (enable (fault at why)) (Refused x) r) its
+      (refuses (enable (fault at why)) (Program at why) (fault_refused account registry life at why off) refl))
+  text_refused text (faults.Destructive at what) refusal one reads found e off =
+      let same : reading_of text ≡ destructive at what =
+      one text (reading_of text) (destructive at what) (is_read text) (found at what refl) in
+      let its : refusals.Destructive at what ≡ refusal = cc in
+      subst (λ x. Answers account registry life (enable x) (Refused refusal) r) (sym same)
+      (subst (λ x. Answers account registry life (enable (destructive at what)) (Refused x) r) its
+      (refuses (enable (destructive at what)) (refusals.Destructive at what)
+      (destructive_refused account registry life at what off) refl))
+  text_refused text faults.Memory refusal one reads found e off = cc
+
+-- the ECB of a number
+module _ (account : Account) (registry : Registry) (r : Runner) (life : List Item)
+    (k : Has account registry (set_up account registry life) r) (epid : ℕ) where
+  abbrev own : SetUp
+  own = set_up account registry life
+
+  abbrev with_probe : EcbForm → Option (Probe × EcbForm)
+  with_probe ecb = option_map (λ probe. (probe, ecb)) (probe_of registry ecb.probe)
+
+  ecb_found : (o : Option Ecb) → o ≡ find (λ (ecb : Ecb). ecb.epid == epid) r.programs.ecbs.items
+      → ecb_of account registry life epid ≡ option_and_then with_probe (option_map (form_of_ecb own.clauses) o)
+  ecb_found o e =
+      ap (λ es. option_and_then with_probe (find (λ (ecb : EcbForm). ecb.epid == epid) es)) (sym k.ecbs.forms)
+      ∙ ap
+      (option_and_then with_probe)
+      (find-map (form_of_ecb own.clauses) (λ (ecb : EcbForm). ecb.epid == epid) r.programs.ecbs.items
+      ∙ ap (option_map (form_of_ecb own.clauses)) (sym e))
+
+  pub ecb_none : None ≡ find (λ (ecb : Ecb). ecb.epid == epid) r.programs.ecbs.items
+      → ecb_of account registry life epid ≡ None
+  ecb_none e = ecb_found None e
+
+  module _ (ecb : Ecb) (is : Some ecb ≡ find (λ (ecb : Ecb). ecb.epid == epid) r.programs.ecbs.items) where
+    pub probe_none : None ≡ probe_of registry ecb.probe → ecb_of account registry life epid ≡ None
+    probe_none e =
+        ecb_found (Some ecb) is
+        ∙ ap (λ o. option_map (λ (probe : Probe). (probe, form_of_ecb own.clauses ecb)) o) (sym e)
+
+    pub ecb_some : (probe : Probe) → Some probe ≡ probe_of registry ecb.probe
+        → ecb_of account registry life epid ≡ Some (probe, form_of_ecb own.clauses ecb)
+    ecb_some probe e =
+        ecb_found (Some ecb) is
+        ∙ ap (λ o. option_map (λ (probe : Probe). (probe, form_of_ecb own.clauses ecb)) o) (sym e)
+
+    -- its clause is there
+    pub clause_known : ecb.clause < length r.programs.clauses.items
+    clause_known =
+        let there : ecb.clause < length (set_up account registry life).clauses =
+        find_all (λ (e : Ecb). e.clause < length (set_up account registry life).clauses) _ r.programs.ecbs.items
+        ecb (recursion_from_All _ r.programs.ecbs.items k.ecbs.placed) (sym is) in
+        omega (arith, there, ap length k.clauses, length-map r.programs.clauses.items form_of_clause)

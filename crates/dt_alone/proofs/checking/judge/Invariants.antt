@@ -1,0 +1,12 @@
+use Rattle.std.proofs.Common.{take, reverse}
+use Rattle.dt_alone.specs.Judging.{IsAfter}
+use Rattle.dt_alone.specs.Legal.{Agrees}
+use Rattle.dt_alone.specs.Lent.{entries_of}
+use Rattle.dt_alone.proofs.checking.judge.Given as goal
+
+-- the entries so far agree, and the judge is after them
+abbrev pub invariant-loop-index : goal.invariant-loop-index
+invariant-loop-index l = record {
+  agreed : Agrees l.account l.machine (reverse (entries_of (take l.index l.entries)));
+  after : IsAfter l.account l.machine (reverse (entries_of (take l.index l.entries))) l.judge;
+}

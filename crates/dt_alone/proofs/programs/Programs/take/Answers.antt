@@ -1,0 +1,130 @@
+-- One ECB more was taken, or passed.
+use Rattle.std.proofs.Common.{◌≡◌, ◌<◌, ◌+◌, ◌==◌, ◌∷◌, [], true, cond, List, None, length, map, take, get_or, sym, ap, ◌∙◌, subst, arith}
+use Rattle.std.specs.Global.{Vec}
+use Rattle.std.specs.List.{All}
+use Rattle.std.proofs.lemmas.Bool.{eq-eqb, ne_eqb}
+use Rattle.std.proofs.lemmas.List.{take_all}
+use Rattle.dt_ecb.specs.Forms.{shapes_of}
+use Rattle.dt_ecb.specs.declared.parts.Ecb.{Ecb}
+use Rattle.dt_lang.specs.Program.{form_of_clause}
+use Rattle.dt_alone.specs.Forms.{form_of_moment}
+use Rattle.dt_alone.specs.Happened.{Adds}
+use Rattle.dt_alone.specs.declared.happened.Happened.{Happened}
+use Rattle.dt_alone.proofs.Bringing.{adds_both}
+use Rattle.dt_alone.proofs.Firing.{exit_all, exited, exited_here, exited_other, exited_past, none_is, some_exit, some_is, taken, taken_here, taken_other, taken_past}
+use Rattle.dt_consumer.specs.Keeps.{taking_by}
+use Rattle.dt_consumer.specs.Takings.{exit_of, first_exit}
+use Rattle.dt_alone.proofs.programs.Programs.take.Goals as goal
+use Rattle.dt_alone.proofs.programs.Programs.take.Goals.{then-ecb-moment+then-is_none+in_ok-status+then-in_end, then-ecb-moment+then-is_none+in_ok-status+else-in_end, else-ecb-moment, else-ecb-moment-via-then-ecb-moment+else-is_none, else-ecb-moment-via-else-ecb-moment}
+
+pub loop-ecb-preserved : goal.loop-ecb-preserved
+loop-ecb-preserved c =
+    let m = form_of_moment c.args.moment.now in
+    let cs = map form_of_clause c.args.self.now.clauses.items in
+    let shapes = shapes_of c.args.self.now.shapes in
+    let all = c.deref-ecb-items.result.now in
+    let i = c.loop-ecb.ecb-index in
+    let d : Ecb = record { epid = 0; probe = 0; clause = 0 } in
+    let ecb = get_or all i d in
+    let inside = c.loop-ecb-test.true in
+    let old = c.args.happened.now.items in
+    let here : All (λ e. e.clause < length c.args.self.now.clauses.items) c.args.self.now.ecbs.items
+    → ecb.clause < length c.args.self.now.clauses.items =
+    λ placed.
+    subst (λ es. All (λ e. e.clause < length c.args.self.now.clauses.items) es)
+    (sym c.deref-ecb-items.ensures.value) placed i d inside in
+    let stays : (l : List Happened)
+    → (taken c.args.in_end m cs (take (i + 1) all) ≡ taken c.args.in_end m cs (take i all))
+    → l ≡ c.loop-ecb.happened.items
+    → (All (λ e. e.clause < length c.args.self.now.clauses.items) c.args.self.now.ecbs.items
+    → Adds shapes m.firing.cpu (taken c.args.in_end m cs (take (i + 1) all)) old l) =
+    λ l same is placed.
+    subst (λ ts. Adds shapes m.firing.cpu ts old l) (sym same)
+    (subst (λ x. Adds shapes m.firing.cpu (taken c.args.in_end m cs (take i all)) old x) (sym is)
+    (c.loop-ecb.invariant.adds placed)) in
+    let grows : (l : List Happened) → (ecb.probe == m.firing.probe) ≡ true → c.loop-ecb.exit ≡ None
+    → (ecb.clause < length c.args.self.now.clauses.items
+    → Adds shapes m.firing.cpu (taking_by c.args.in_end m cs ecb ∷ []) c.loop-ecb.happened.items l)
+    → (All (λ e. e.clause < length c.args.self.now.clauses.items) c.args.self.now.ecbs.items
+    → Adds shapes m.firing.cpu (taken c.args.in_end m cs (take (i + 1) all)) old l) =
+    λ l its none one placed.
+    subst (λ ts. Adds shapes m.firing.cpu ts old l)
+    (sym (taken_here c.args.in_end m cs all i d inside its (sym (c.loop-ecb.invariant.exit placed) ∙ none)))
+    (adds_both shapes m.firing.cpu (taken c.args.in_end m cs (take i all)) (taking_by c.args.in_end m cs ecb ∷ [])
+    old c.loop-ecb.happened.items l (c.loop-ecb.invariant.adds placed) (one (here placed))) in
+    let held = c.loop-ecb.invariant in
+    elim c.if-ecb-moment.branch [
+      | then-ecb-moment+then-is_none+in_ok-status+then-in_end w ↦
+          let its = eq-eqb ecb.probe m.firing.probe w.if-ecb-moment.true in
+          let none = none_is c.loop-ecb.exit w.is_none.result w.is_none.ensures w.if-is_none.true in
+          let is = ap (λ (v : Vec Happened). v.items) w.happened-is in
+          record {
+            adds = λ placed.
+                subst (λ l. Adds shapes m.firing.cpu (taken c.args.in_end m cs (take (i + 1) all)) old l) (sym is)
+                (grows w.take_one.new.happened.items its none w.in_ok-status.ensures.taken placed);
+            exit = λ placed.
+                w.exit-is
+                ∙ sym (exited_here c.args.in_end m cs all i d inside its (sym (held.exit placed) ∙ none)
+                ∙ ap (λ b. cond b None (exit_of (taking_by c.args.in_end m cs ecb))) w.if-in_end.true);
+            few = omega (arith, ap length is, held.few, w.take_one.ensures.few);
+          }
+      | then-ecb-moment+then-is_none+in_ok-status+else-in_end w ↦
+          let its = eq-eqb ecb.probe m.firing.probe w.if-ecb-moment.true in
+          let none = none_is c.loop-ecb.exit w.is_none.result w.is_none.ensures w.if-is_none.true in
+          let is = ap (λ (v : Vec Happened). v.items) w.happened-is in
+          record {
+            adds = λ placed.
+                subst (λ l. Adds shapes m.firing.cpu (taken c.args.in_end m cs (take (i + 1) all)) old l) (sym is)
+                (grows w.take_one.new.happened.items its none w.in_ok-status.ensures.taken placed);
+            exit = λ placed.
+                w.exit-is ∙ w.in_ok-status.ensures.exit (here placed)
+                ∙ sym (exited_here c.args.in_end m cs all i d inside its (sym (held.exit placed) ∙ none)
+                ∙ ap (λ b. cond b None (exit_of (taking_by c.args.in_end m cs ecb))) w.if-in_end.false);
+            few = omega (arith, ap length is, held.few, w.take_one.ensures.few);
+          }
+      | else-ecb-moment w ↦
+          let is = ap (λ (v : Vec Happened). v.items) w.happened-is in
+          elim w.else-ecb-moment.branch [
+            | else-ecb-moment-via-then-ecb-moment+else-is_none w' ↦
+                let some = some_is c.loop-ecb.exit w'.is_none.result w'.is_none.ensures w'.if-is_none.false in
+                record {
+                  adds = λ placed. some_exit c.loop-ecb.exit _ some
+                      (λ z e. stays c.if-ecb-moment.happened.items
+                      (taken_past c.args.in_end m cs all i d inside z (sym (held.exit placed) ∙ e)) is placed);
+                  exit = λ placed. w.exit-is ∙ held.exit placed ∙ some_exit c.loop-ecb.exit _ some
+                      (λ z e. sym (exited_past c.args.in_end m cs all i d inside z (sym (held.exit placed) ∙ e)));
+                  few = omega (arith, ap length is, held.few);
+                }
+            | else-ecb-moment-via-else-ecb-moment w' ↦
+                let other = ne_eqb ecb.probe m.firing.probe w'.if-ecb-moment.false in
+                record {
+                  adds = λ placed. stays c.if-ecb-moment.happened.items
+                      (taken_other c.args.in_end m cs all i d inside other) is placed;
+                  exit = λ placed. w.exit-is ∙ held.exit placed
+                      ∙ sym (exited_other c.args.in_end m cs all i d inside other);
+                  few = omega (arith, ap length is, held.few);
+                }
+          ]
+    ]
+
+pub returns-clause-taken : goal.returns-clause-taken
+returns-clause-taken c = λ placed.
+    let m = form_of_moment c.args.moment.now in
+    let cs = map form_of_clause c.args.self.now.clauses.items in
+    let all : take c.loop-ecb.ecb-index c.deref-ecb-items.result.now ≡ c.args.self.now.ecbs.items =
+    take_all c.loop-ecb.ecb-index c.deref-ecb-items.result.now (omega (arith, c.loop-ecb-test.false))
+    ∙ c.deref-ecb-items.ensures.value in
+    subst
+    (λ es. Adds (shapes_of c.args.self.now.shapes) m.firing.cpu (taken c.args.in_end m cs es)
+    c.args.happened.now.items c.loop-ecb.happened.items) all (c.loop-ecb.invariant.adds placed)
+
+pub returns-clause-exit : goal.returns-clause-exit
+returns-clause-exit c = λ placed ordinary.
+    let m = form_of_moment c.args.moment.now in
+    let cs = map form_of_clause c.args.self.now.clauses.items in
+    let all : take c.loop-ecb.ecb-index c.deref-ecb-items.result.now ≡ c.args.self.now.ecbs.items =
+    take_all c.loop-ecb.ecb-index c.deref-ecb-items.result.now (omega (arith, c.loop-ecb-test.false))
+    ∙ c.deref-ecb-items.ensures.value in
+    c.loop-ecb.invariant.exit placed ∙ ap (exited c.args.in_end m cs) all
+    ∙ exit_all c.args.in_end m cs c.args.self.now.ecbs.items ordinary
+    ∙ ap (λ b. first_exit (taken b m cs c.args.self.now.ecbs.items)) ordinary

@@ -1,0 +1,35 @@
+-- A line is answered, and then part of the life.
+use Rattle.std.proofs.Common.{Ok, refl, sym, ap, ◌∙◌, subst, arith}
+use Rattle.dt_alone.specs.Runs.{Runs}
+use Rattle.dt_alone.proofs.Replying.{has_alike}
+use Rattle.dt_consumer.specs.Answer.{answer_of}
+use Rattle.dt_consumer.specs.Ask.{ask_of, line_asks}
+use Rattle.dt_consumer.specs.Draft.{after_line}
+use Rattle.dt_consumer.specs.Reply.{Replies}
+use Rattle.dt_consumer.specs.Life.{phase_of, set_up}
+use Rattle.dt_consumer.proofs.DraftLemmas.{in_quota}
+use Rattle.dt_consumer.proofs.Stands.{after_counted}
+use Rattle.dt_consumer.proofs.Telling.{if_ok_map}
+use Rattle.dt_alone.proofs.runner.Runner.ask.Goals as goal
+
+pub returns-in-Ok : goal.returns-in-Ok
+returns-in-Ok c =
+    if_ok_map _ _ c.answer.result
+    (λ reply h. λ account life r.
+    let registry = c.args.machine.now.registry in
+    let s = set_up account registry life in
+    let fresh = sym (c.has_asked_all.ensures.over account registry life r) ∙ c.if-has_asked_all.false in
+    let two = h account life (record {
+      has = has_alike account registry s (phase_of s) c.args.self.now _ r.has
+          (record { account = refl; seen = refl; since = refl }) refl refl (phase_of s) r.has.standing (λ e. e);
+      counted = omega (arith, r.counted);
+    }) in
+    subst
+    (λ l. Replies account c.args.machine.now.registry life l (answer_of reply)
+    × Runs account c.args.machine.now.registry c.answer.new.self (after_line life l))
+    (sym (ap line_asks c.in-Ok.is)) (
+      in_quota account registry life (Ok (ask_of c.in-Ok.command)) (answer_of reply) fresh two.0,
+      subst (λ l. Runs account c.args.machine.now.registry c.answer.new.self l) (sym (after_counted life (Ok
+          (ask_of c.in-Ok.command)) fresh)) two.1,
+    ))
+    c.answer.ensures

@@ -1,0 +1,23 @@
+-- Tracing begins.
+use Rattle.std.proofs.Common.{refl, sym, ap, ◌∙◌}
+use Rattle.std.specs.Option.{option_copied}
+use Rattle.dt_alone.proofs.Replying.{early, go_done, some_room}
+use Rattle.dt_alone.specs.declared.limits.TheConstants.{BEGIN}
+use Rattle.dt_consumer.specs.Life.{has_room, set_up}
+use Rattle.dt_consumer.specs.Takings.{began, own_process}
+use Rattle.dt_consumer.proofs.Taken.{own_is}
+use Rattle.dt_alone.proofs.runner.Runner.go.Goals as goal
+
+pub returns : goal.returns
+returns c = λ account life k.
+    let registry = c.args.machine.now.registry in
+    let s = set_up account registry life in
+    let off = early account registry life c.args.self.now k (sym c.is_inactive.ensures ∙ c.if-not-is_inactive.false) in
+    let room = some_room c.reserve.result (has_room account registry s) c.is_none.result _
+    (c.reserve.ensures.reserve account registry s k.has) c.is_none.ensures c.if-is_none.false in
+    let m = own_is account registry BEGIN c.unwrap.result.now c.own_process-process.result c.own_firing-firing.result
+    (sym (ap option_copied c.unwrap.ensures) ∙ c.probe.ensures.value)
+    (c.own_process-process.ensures ∙ ap own_process k.has.same_account) c.own_firing-firing.ensures in
+    go_done account registry life c.args.self.now k _ off room
+    (c.in_ok-happen.ensures.happens account s began k.has tt m refl k.has.seen)
+    c.in_ok-happen.ensures.lines

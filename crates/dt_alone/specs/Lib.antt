@@ -1,0 +1,13 @@
+-- The definitions of the crate, lowest first.
+pub mod Forms
+pub mod Happened
+pub mod Shown
+pub mod Runs
+pub mod Items
+pub mod Answered
+pub mod Parts
+pub mod Lent
+pub mod Legal
+pub mod Verdicts
+pub mod Compared
+pub mod Judging

@@ -1,0 +1,54 @@
+-- The verdict on a trail.
+use Rattle.std.specs.Prelude.{◌≡◌, ℕ, ◌+◌, List, [], ◌∷◌, ◌++◌, Some, length, reverse}
+use Rattle.std.specs.List.{flat_map}
+use Rattle.dt_cred.specs.declared.account.Account.{Account}
+use Rattle.dt_machine.specs.Registry.{Registry, Contents}
+use Rattle.dt_proto.specs.Alone.{Reached}
+use Rattle.dt_proto.specs.Session.{session_account}
+use Rattle.dt_proto.specs.Splits.{with_newline}
+use Rattle.dt_proto.specs.Trail.{Entry, line_asked, long_asked, fired_at, SpellsTrail}
+use Rattle.dt_alone.specs.Legal.{Agrees, MayStand, IsRight, reached_by}
+use Rattle.dt_alone.specs.declared.verdict.Verdict.{Verdict}
+use Rattle.dt_alone.specs.declared.verdict.Verdict.TheVariants.{Agree, Differs, Illegal}
+
+-- the lines of replies that an entry has
+abbrev pub replies_by : Entry → List (List ℕ)
+replies_by (line_asked line reply) = with_newline reply ∷ []
+replies_by (long_asked reply) = with_newline reply ∷ []
+replies_by (fired_at cpu place) = []
+
+-- the replies of entries, each with its newline
+abbrev pub replies_of : List Entry → List (List ℕ)
+replies_of entries = flat_map replies_by entries
+
+-- how many entries have replies
+abbrev pub replies_in : List Entry → ℕ
+replies_in entries = length (replies_of entries)
+
+-- the view that entries tell, the oldest first, of which the newest goes first
+abbrev pub view_by : Contents → List Entry → List Reached
+view_by contents entries = flat_map (reached_by contents) (reverse entries)
+
+module _ (account : Account) (contents : Contents) where
+  -- The verdict on entries, the oldest first: they agree; or the first that may not stand, or whose reply is not the
+  -- one that is due.
+  abbrev pub IsVerdict : List Entry → Verdict → Type 0
+  IsVerdict entries (Agree n) = Agrees account contents (reverse entries) × (n ≡ replies_in entries)
+  IsVerdict entries (Differs k) = (before later : List Entry) × (entry : Entry)
+      × (entries ≡ before ++ (entry ∷ later)) × Agrees account contents (reverse before)
+      × MayStand account contents (reverse before) entry × (IsRight account contents (reverse before) entry → ⊥)
+      × (k ≡ replies_in before + 1)
+  IsVerdict entries (Illegal k) = (before later : List Entry) × (entry : Entry)
+      × (entries ≡ before ++ (entry ∷ later)) × Agrees account contents (reverse before)
+      × (MayStand account contents (reverse before) entry → ⊥) × (k ≡ length before + 1)
+
+-- The verdict on a text: it is the trail of a session on the machine, and this is the verdict on its entries.
+abbrev pub IsVerdictOn : Contents → List ℕ → Verdict → Type 0
+IsVerdictOn contents text verdict = (name : List ℕ) × (account : Account) × (entries : List Entry)
+    × SpellsTrail text name entries × (session_account contents.registry name ≡ Some account)
+    × IsVerdict account contents entries verdict
+
+-- The text is the trail of a session on the machine.
+abbrev pub IsTrail : Registry → List ℕ → Type 0
+IsTrail registry text = (name : List ℕ) × (account : Account) × (entries : List Entry)
+    × SpellsTrail text name entries × (session_account registry name ≡ Some account)

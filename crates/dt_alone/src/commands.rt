@@ -1,0 +1,433 @@
+//! The replies to the commands, computed from all that happened.
+ghost use Rattle.std.specs.Prelude.{◌≡◌, ◌≤◌, ◌+◌, ◌-◌, ◌*◌, ◌<◌, ℕ, List, Option, Ok, Some, None, true, false, IfOk, IfSome, MatchOption, length, map, vec_len};
+ghost use Rattle.dt_cred.specs.declared.account.Account.{Account};
+ghost use Rattle.dt_machine.specs.Registry.{Registry};
+ghost use Rattle.dt_lang.specs.Program.{form_of_program};
+ghost use Rattle.dt_lang.specs.Reads as lang;
+ghost use Rattle.dt_ecb.specs.declared.limits.TheConstants.{ECBS_MAX};
+ghost use Rattle.dt_aggstore.specs.IsAt.{IsAt};
+ghost use Rattle.dt_aggstore.specs.declared.limits.TheConstants.{STORES_MAX};
+ghost use Rattle.std.specs.List.{AllZip};
+ghost use Rattle.dt_alone.specs.Runs.{Answers, Has, IsAsked};
+ghost use Rattle.dt_consumer.specs.Answer.{answer_of, described};
+ghost use Rattle.dt_consumer.specs.Ask.{Ask, ask_of, reading_of, description_of, agg, enable, go, snap, status, list, describe, option, stop, trunc, close};
+ghost use Rattle.dt_consumer.specs.Buffers.{past, reserve_on};
+ghost use Rattle.dt_consumer.specs.Life.{Item, SetUp, set_up, phase, phase_of, has_room, is_inactive, is_readable};
+ghost use Rattle.dt_consumer.specs.Options.{setting_of};
+ghost use Rattle.dt_consumer.specs.Refusal.{refused_as};
+ghost use Rattle.dt_consumer.specs.Reply.{RepliesInQuota, ecb_of, all_aggdrops, all_errors, refusal_of};
+ghost use Rattle.dt_consumer.specs.Stores.{stores_in};
+ghost use Rattle.dt_consumer.specs.declared.phase.Phase.TheVariants.{Inactive};
+ghost use Rattle.dt_ecb.specs.Forms.{verdict_of};
+ghost use Rattle.dt_record.specs.Layout.{layout_of};
+ghost use Rattle.std.specs.Option.{option_and_then};
+ghost use Rattle.std.specs.String.{string_bytes};
+
+use crate::happened::Happened;
+use crate::known::Known;
+use crate::limits::BEGIN;
+use crate::moment::Moment;
+use crate::own::{own_firing, own_process};
+use crate::runner::Runner;
+use crate::shown::shown_on;
+use crate::stores::{faults_on, store_on, stores_on};
+use dt_aggstore::AggStore;
+use dt_buffer::Policy;
+use dt_consumer::{Command, End, OptionValue, Phase, Refusal, Reply};
+use dt_ecb::{EnableFault, ecbs_go_on, enable, listed, one_verdict, uses_of_both};
+use dt_lang::{Description, LangFault, Program, Why, one_description, one_reading};
+use dt_machine::Machine;
+use dt_record::Layout;
+use std::alloc::{AllocError, Global};
+
+impl Runner {
+    /// The reply to a command within the quota, whose line is counted already.
+    pub(crate) fn answer(
+        &mut self,
+        alloc: Global,
+        machine: &Machine,
+        command: &Command,
+    ) -> Result<Reply, AllocError>
+        requires room { vec_len self.old.since + 2 * ECBS_MAX ≤ 2 * ECBS_MAX * (self.old.lines + self.old.seen) }
+        ensures { IfOk result (λ reply. (account : Account) (life : List Item)
+            → IsAsked account machine.now.registry self.old life
+            → Answers account machine.now.registry life (ask_of command.now) reply self.new) }
+    {
+        match command {
+            Command::Option { name, value } => Ok(self.set_option(machine, name, value)),
+            Command::Enable { text } => self.enable(alloc, machine, text.as_bytes()),
+            Command::Go => self.go(alloc, machine),
+            Command::Stop => self.stop(alloc, machine),
+            Command::Snap { cpu } => self.snap(alloc, machine, *cpu),
+            Command::Agg { name } => self.table(alloc, machine, name.as_bytes()),
+            Command::Trunc { name } => self.truncate(machine, name.as_bytes()),
+            Command::Status => self.status(alloc, machine),
+            Command::List { probe } => self.list(alloc, machine, probe.as_bytes()),
+            Command::Describe { epid } => Ok(self.describe(machine, *epid)),
+            Command::Close => Ok(self.close(machine)),
+        }
+    }
+
+    /// Whether tracing has not begun.
+    fn is_inactive(&self) -> bool
+        ensures { result ≡ is_inactive self.now.phase }
+    {
+        matches!(self.phase, Phase::Inactive)
+    }
+
+    /// Sets an option.
+    fn set_option(&mut self, _machine: &Machine, name: &String, value: &OptionValue) -> Reply
+        ensures { (account : Account) (life : List Item) → IsAsked account _machine.now.registry self.old life
+            → Answers account _machine.now.registry life (option (setting_of (string_bytes name.now) value.now)) result
+            self.new }
+    {
+        // options hold for the whole of tracing
+        if !self.is_inactive() {
+            return Reply::Refused(Refusal::Busy);
+        }
+        match self.options.set(name.as_str(), value) {
+            Some(options) => {
+                self.options = options;
+                Reply::Done
+            }
+            None => Reply::Refused(Refusal::Option),
+        }
+    }
+
+    /// Enables a text.
+    fn enable(&mut self, alloc: Global, machine: &Machine, text: &[u8]) -> Result<Reply, AllocError>
+        ensures { IfOk result (λ reply. (account : Account) (life : List Item)
+            → IsAsked account machine.now.registry self.old life
+            → Answers account machine.now.registry life (enable (reading_of text.now)) reply self.new) }
+    {
+        if !self.is_inactive() {
+            return Ok(Reply::Refused(Refusal::Busy));
+        }
+        one_reading();
+        match Program::parse(alloc, text) {
+            Ok(program) => self.enable_program(alloc, machine, program),
+            Err(fault) => match refusal_in(fault) {
+                Some(refusal) => Ok(Reply::Refused(refusal)),
+                None => Err(AllocError),
+            },
+        }
+    }
+
+    /// Enables a program, asked in time.
+    fn enable_program(
+        &mut self,
+        alloc: Global,
+        machine: &Machine,
+        program: Program,
+    ) -> Result<Reply, AllocError>
+        ensures { IfOk result (λ reply. (account : Account) (life : List Item)
+            → IsAsked account machine.now.registry self.old life → phase account machine.now.registry life ≡ Inactive
+            → Answers account machine.now.registry life (enable (lang.program (form_of_program program))) reply
+            self.new) }
+    {
+        one_verdict();
+        ecbs_go_on();
+        uses_of_both();
+        let programs = &self.programs;
+        let first = programs.ecbs.len() as u32 + 1;
+        match enable(
+            alloc,
+            &self.account,
+            machine,
+            &program,
+            &programs.shapes,
+            first,
+        ) {
+            Ok(ecbs) => {
+                let shapes = programs.shapes.after(alloc, &program)?;
+                let Program { clauses } = program;
+                self.programs.extend(alloc, clauses, &ecbs, shapes)?;
+                Ok(Reply::Enabled {
+                    count: ecbs.len() as u32,
+                    first,
+                })
+            }
+            Err(fault) => match refusal_for(fault) {
+                Some(refusal) => Ok(Reply::Refused(refusal)),
+                None => Err(AllocError),
+            },
+        }
+    }
+
+    /// Begins to trace, where there is room for END's records: BEGIN fires.
+    fn go(&mut self, alloc: Global, machine: &Machine) -> Result<Reply, AllocError>
+        requires room { vec_len self.old.since + 2 * ECBS_MAX ≤ 2 * ECBS_MAX * (self.old.lines + self.old.seen) }
+        ensures { IfOk result (λ reply. (account : Account) (life : List Item)
+            → IsAsked account machine.now.registry self.old life
+            → Answers account machine.now.registry life go reply self.new) }
+    {
+        if !self.is_inactive() {
+            return Ok(Reply::Refused(Refusal::Busy));
+        }
+        if self.reserve().is_none() {
+            return Ok(Reply::Refused(Refusal::Limit));
+        }
+        let process = own_process(&self.account);
+        let firing = own_firing(BEGIN);
+        let moment = Moment {
+            probe: machine.probe(BEGIN).unwrap(),
+            process: &process,
+            firing: &firing,
+        };
+        self.happen(alloc, machine, &moment, self.seen)?;
+        Ok(Reply::Done)
+    }
+
+    /// How many bytes of the first processor's buffer are kept for END's records, or `None` where it hasn't as many.
+    /// Under fill it is one record of each of END's ECBs, whatever their predicates.
+    fn reserve(&self) -> Option<usize>
+        ensures within { IfSome result (λ reserve. reserve ≤ self.now.options.bufsize) }
+        ensures reserve { (account : Account) (registry : Registry) (s : SetUp) → Has account registry s self.now
+            → MatchOption result (has_room account registry s ≡ false)
+            (λ reserve. (has_room account registry s ≡ true) × (reserve ≡ reserve_on account registry s 0)) }
+    {
+        let size = self.options.bufsize;
+        match self.options.bufpolicy {
+            Policy::Fill => Some(size - self.programs.left_by_end(size)?),
+            Policy::Switch | Policy::Ring => Some(0),
+        }
+    }
+
+    /// How many bytes ordinary records may take on the first processor.
+    fn room(&self) -> usize
+        ensures within { result ≤ self.now.options.bufsize }
+        ensures room { (account : Account) (registry : Registry) (s : SetUp) → Has account registry s self.now
+            → result ≡ s.options.bufsize - reserve_on account registry s 0 }
+    {
+        match self.reserve() {
+            Some(reserve) => self.options.bufsize - reserve,
+            None => 0,
+        }
+    }
+
+    /// Ends tracing.
+    fn stop(&mut self, alloc: Global, machine: &Machine) -> Result<Reply, AllocError>
+        requires room { vec_len self.old.since + 2 * ECBS_MAX ≤ 2 * ECBS_MAX * (self.old.lines + self.old.seen) }
+        ensures { IfOk result (λ reply. (account : Account) (life : List Item)
+            → IsAsked account machine.now.registry self.old life
+            → Answers account machine.now.registry life stop reply self.new) }
+    {
+        if !matches!(self.phase, Phase::Active) {
+            return Ok(Reply::Refused(Refusal::Busy));
+        }
+        self.phase = Phase::Stopped(Some(End::Stop));
+        self.fire_end(alloc, machine)?;
+        Ok(Reply::Done)
+    }
+
+    /// Reads the buffer of a processor.
+    fn snap(&mut self, alloc: Global, machine: &Machine, cpu: u64) -> Result<Reply, AllocError>
+        requires room { vec_len self.old.since + 2 * ECBS_MAX ≤ 2 * ECBS_MAX * (self.old.lines + self.old.seen) }
+        ensures { IfOk result (λ reply. (account : Account) (life : List Item)
+            → IsAsked account machine.now.registry self.old life
+            → Answers account machine.now.registry life (snap cpu) reply self.new) }
+    {
+        if cpu >= u64::from(machine.cpus()) {
+            return Ok(Reply::Refused(Refusal::NoCpu));
+        }
+        let cpu = cpu as u32;
+        if !self.is_readable() {
+            return Ok(Reply::Refused(Refusal::Busy));
+        }
+        let room = if cpu == 0 {
+            self.room()
+        } else {
+            self.options.bufsize
+        };
+        let shown = shown_on(alloc, &self.options, room, &self.since, cpu)?;
+        self.since.push(Happened::Read { cpu })?;
+        Ok(Reply::Snapped {
+            cpu,
+            data: shown.bytes,
+            drops: shown.drops,
+            filled: shown.filled,
+        })
+    }
+
+    /// Whether a buffer can be read: from `go` on, under ring only after tracing ended.
+    fn is_readable(&self) -> bool
+        ensures { (account : Account) (registry : Registry) (s : SetUp) → Has account registry s self.now
+            → result ≡ is_readable s (phase_of s) }
+    {
+        match self.phase {
+            Phase::Inactive => false,
+            Phase::Active => !matches!(self.options.bufpolicy, Policy::Ring),
+            Phase::Stopped(_) => true,
+        }
+    }
+
+    /// The table of an aggregation.
+    fn table(&self, alloc: Global, machine: &Machine, name: &[u8]) -> Result<Reply, AllocError>
+        ensures { IfOk result (λ reply. (account : Account) (life : List Item)
+            → Has account machine.now.registry (set_up account machine.now.registry life) self.now
+            → RepliesInQuota account machine.now.registry life (Ok (agg name.now)) (answer_of reply)) }
+    {
+        let Some(known) = Known::of(&self.programs.shapes, name) else {
+            return Ok(Reply::Refused(Refusal::NoAgg));
+        };
+        let stores = self.stores(alloc, machine)?;
+        Ok(Reply::Aggregated {
+            name: known.name,
+            function: known.aggregation.function,
+            rows: AggStore::merge_all(alloc, &stores, known.aggregation)?,
+        })
+    }
+
+    /// The stores of all processors, filled anew.
+    fn stores(&self, alloc: Global, machine: &Machine) -> Result<Vec<AggStore>, AllocError>
+        ensures few { IfOk result (λ stores. length stores.items ≤ STORES_MAX) }
+        ensures stand { IfOk result (λ stores. (account : Account) (s : SetUp)
+            → Has account machine.now.registry s self.now
+            → AllZip IsAt (stores_in account machine.now.registry s) stores.items) }
+    {
+        stores_on(alloc, self.options.aggsize, &self.since, machine.cpus())
+    }
+
+    /// Truncates an aggregation.
+    fn truncate(&mut self, _machine: &Machine, name: &[u8]) -> Result<Reply, AllocError>
+        requires room { vec_len self.old.since + 2 * ECBS_MAX ≤ 2 * ECBS_MAX * (self.old.lines + self.old.seen) }
+        ensures { IfOk result (λ reply. (account : Account) (life : List Item)
+            → IsAsked account _machine.now.registry self.old life
+            → Answers account _machine.now.registry life (trunc name.now) reply self.new) }
+    {
+        let Some(known) = Known::of(&self.programs.shapes, name) else {
+            return Ok(Reply::Refused(Refusal::NoAgg));
+        };
+        // before tracing begins nothing was given
+        if !self.is_inactive() {
+            self.since.push(Happened::Truncated {
+                aggregation: known.aggregation,
+            })?;
+        }
+        Ok(Reply::Done)
+    }
+
+    /// Tells the phase and the counts.
+    fn status(&self, alloc: Global, machine: &Machine) -> Result<Reply, AllocError>
+        ensures { IfOk result (λ reply. (account : Account) (life : List Item)
+            → Has account machine.now.registry (set_up account machine.now.registry life) self.now
+            → RepliesInQuota account machine.now.registry life (Ok status) (answer_of reply)) }
+    {
+        Ok(Reply::Status {
+            phase: self.phase,
+            seen: u64::from(self.seen),
+            errors: self.errors(alloc, machine)?,
+            aggdrops: self.aggdrops(alloc, machine)?,
+        })
+    }
+
+    /// How many clauses a division by zero ended on each processor.
+    fn errors(&self, alloc: Global, machine: &Machine) -> Result<Vec<u64>, AllocError>
+        ensures { IfOk result (λ errors. (account : Account) (life : List Item)
+            → Has account machine.now.registry (set_up account machine.now.registry life) self.now
+            → errors.items ≡ all_errors account machine.now.registry life) }
+    {
+        let mut errors = Vec::new(alloc);
+        for cpu in 0..machine.cpus() {
+            errors.push(faults_on(&self.since, cpu))?;
+        }
+        Ok(errors)
+    }
+
+    /// How many values a store of each processor would not keep.
+    fn aggdrops(&self, alloc: Global, machine: &Machine) -> Result<Vec<u64>, AllocError>
+        ensures { IfOk result (λ aggdrops. (account : Account) (life : List Item)
+            → Has account machine.now.registry (set_up account machine.now.registry life) self.now
+            → aggdrops.items ≡ all_aggdrops account machine.now.registry life) }
+    {
+        let mut aggdrops = Vec::new(alloc);
+        for cpu in 0..machine.cpus() {
+            let store = store_on(alloc, self.options.aggsize, &self.since, cpu)?;
+            aggdrops.push(store.dropped())?;
+        }
+        Ok(aggdrops)
+    }
+
+    /// Closes the session: tracing stops without END, where it has not stopped.
+    fn close(&mut self, _machine: &Machine) -> Reply
+        ensures { (account : Account) (life : List Item) → IsAsked account _machine.now.registry self.old life
+            → Answers account _machine.now.registry life close result self.new }
+    {
+        if !matches!(self.phase, Phase::Stopped(_)) {
+            self.phase = Phase::Stopped(None);
+        }
+        Reply::Done
+    }
+
+    /// Lists the probes of a description.
+    fn list(&self, alloc: Global, machine: &Machine, text: &[u8]) -> Result<Reply, AllocError>
+        ensures { IfOk result (λ reply. (account : Account) (life : List Item)
+            → Has account machine.now.registry (set_up account machine.now.registry life) self.now
+            → RepliesInQuota account machine.now.registry life (Ok (list (description_of text.now)))
+            (answer_of reply)) }
+    {
+        one_description();
+        let Some(description) = Description::parse(text) else {
+            return Ok(Reply::Refused(Refusal::Program {
+                at: 0,
+                why: Why::Probe,
+            }));
+        };
+        let probes = listed(alloc, &self.account, machine, &description)?;
+        Ok(Reply::Listed { probes })
+    }
+
+    /// Tells of what the records of an ECB are made.
+    fn describe(&self, machine: &Machine, epid: u64) -> Reply
+        ensures { (account : Account) (life : List Item)
+            → Has account machine.now.registry (set_up account machine.now.registry life) self.now
+            → RepliesInQuota account machine.now.registry life (Ok (describe epid)) (answer_of result) }
+    {
+        match self.description(machine, epid) {
+            Some(reply) => reply,
+            None => Reply::Refused(Refusal::NoEpid),
+        }
+    }
+
+    /// What is told of the ECB of a number, if there is one.
+    fn description(&self, machine: &Machine, epid: u64) -> Option<Reply>
+        ensures { (account : Account) (life : List Item)
+            → Has account machine.now.registry (set_up account machine.now.registry life) self.now
+            → MatchOption (ecb_of account machine.now.registry life epid) (result ≡ None)
+            (λ found. (reply : Reply) × (result ≡ Some reply)
+            × (answer_of reply ≡ described epid found.0 (layout_of found.1.clause))) }
+    {
+        let ecb = self.programs.ecb(epid)?;
+        let probe = machine.probe(ecb.probe)?;
+        let clause = self.programs.clauses.get(ecb.clause)?;
+        Some(Reply::Described {
+            epid: ecb.epid,
+            probe: *probe,
+            layout: Layout::of(clause),
+        })
+    }
+}
+
+/// For what a program with this fault is refused. That memory ran out is no fault of the program.
+fn refusal_for(fault: EnableFault) -> Option<Refusal>
+    ensures { result ≡ option_and_then refusal_of (verdict_of fault) }
+{
+    match fault {
+        EnableFault::Privilege { clause, what } => Some(Refusal::Privilege { clause, what }),
+        EnableFault::AggClash { what } => Some(Refusal::AggClash { what }),
+        EnableFault::NoMatch { clause } => Some(Refusal::NoMatch { clause }),
+        EnableFault::Limit => Some(Refusal::Limit),
+        EnableFault::Memory => None,
+    }
+}
+
+/// For what a text with this fault is refused. That memory ran out is no fault of the text.
+fn refusal_in(fault: LangFault) -> Option<Refusal>
+    ensures { result ≡ refused_as fault }
+{
+    match fault {
+        LangFault::Program { at, why } => Some(Refusal::Program { at, why }),
+        LangFault::Destructive { at, what } => Some(Refusal::Destructive { at, what }),
+        LangFault::Memory => None,
+    }
+}

@@ -1,0 +1,70 @@
+//! The entries of a trail's text.
+ghost use Rattle.std.specs.Prelude.{◌≡◌, ℕ, ◌^◌, ◌<◌, List, ◌++◌, codes, decimal, IfSome, IfNone, IsTrue};
+ghost use Rattle.dt_proto.specs.Splits.{HasNoNewline};
+ghost use Rattle.dt_proto.specs.Trail as trail;
+ghost use Rattle.dt_proto.specs.Trail.{IsWritable, entry_text, reply_line};
+ghost use Rattle.dt_alone.specs.Lent.{entry_of, has_reply};
+
+use crate::parts::{cut_at, number_of};
+
+/// An entry of a trail, lent by its text.
+#[derive(Clone, Copy, Debug, PartialEq, Eq)]
+pub(crate) enum Entry<'a> {
+    /// A line and its reply, both without the newline.
+    Line { line: &'a [u8], reply: &'a [u8] },
+    /// A long line, whose bytes aren't told, and its reply without the newline.
+    Long { reply: &'a [u8] },
+    /// A firing, by its processor and its place in that processor's script, both from 0 on.
+    Fired { cpu: u32, place: u32 },
+}
+
+impl<'a> Entry<'a> {
+    /// The entry that a text begins with, and what stands after it. `None`: it begins with no entry.
+    pub(crate) fn read(text: &'a [u8]) -> Option<(Self, &'a [u8])>
+        ensures found { IfSome result (λ parts. IsWritable (entry_of parts.0)
+            × (text.now ≡ entry_text (entry_of parts.0) ++ parts.1.now)) }
+        ensures none { IfNone result ((entry : trail.Entry) (rest : List ℕ)
+            → IsWritable entry → text.now ≡ entry_text entry ++ rest → ⊥) }
+    {
+        let (first, rest) = cut_at(b'\n', text)?;
+        if let Some(line) = first.strip_prefix(b"line ") {
+            let (reply, rest) = read_reply(rest)?;
+            Some((Entry::Line { line, reply }, rest))
+        } else if first == b"long".as_slice() {
+            let (reply, rest) = read_reply(rest)?;
+            Some((Entry::Long { reply }, rest))
+        } else {
+            let (cpu, place) = read_place(first.strip_prefix(b"fired ")?)?;
+            Some((Entry::Fired { cpu, place }, rest))
+        }
+    }
+
+    /// Whether the entry has a reply.
+    pub(crate) fn has_reply(&self) -> bool
+        ensures { result ≡ has_reply (entry_of self.now) }
+    {
+        !matches!(self, Entry::Fired { .. })
+    }
+}
+
+/// The reply that a text begins with, and what stands after its line. `None`: its first line is no reply.
+fn read_reply(text: &[u8]) -> Option<(&[u8], &[u8])>
+    ensures found { IfSome result (λ parts. HasNoNewline parts.0.now
+        × (text.now ≡ reply_line parts.0.now ++ parts.1.now)) }
+    ensures none { IfNone result ((reply rest : List ℕ)
+        → HasNoNewline reply → text.now ≡ reply_line reply ++ rest → ⊥) }
+{
+    let (first, rest) = cut_at(b'\n', text)?;
+    Some((first.strip_prefix(b"reply ")?, rest))
+}
+
+/// The processor and the place that a text is, one blank apart. `None`: it is no such two numbers.
+fn read_place(text: &[u8]) -> Option<(u32, u32)>
+    ensures found { IfSome result (λ found. (found.0 < 2 ^ 32) × (found.1 < 2 ^ 32)
+        × (text.now ≡ decimal found.0 ++ (codes " " ++ decimal found.1))) }
+    ensures none { IfNone result ((cpu place : ℕ) → cpu < 2 ^ 32 → place < 2 ^ 32
+        → text.now ≡ decimal cpu ++ (codes " " ++ decimal place) → ⊥) }
+{
+    let (cpu, place) = cut_at(b' ', text)?;
+    Some((number_of(cpu)?, number_of(place)?))
+}

@@ -1,0 +1,134 @@
+//! What happened in a life, as far as a reply can tell.
+ghost use Rattle.std.specs.Prelude.{◌≤◌, vec_len};
+ghost use Rattle.dt_lang.specs.declared.program.TheConstants.{STATEMENTS_MAX};
+
+use crate::known::Known;
+use crate::values::{number_in, parts_at};
+use dt_aggstore::{AggStore, Aggregation, Key};
+use dt_ecb::Shapes;
+use dt_expr::Value;
+use dt_lang::{STATEMENTS_MAX, Statement};
+use std::alloc::{AllocError, Global};
+
+/// One thing that happened.
+#[derive(Drop)]
+pub(crate) enum Happened {
+    /// A division by zero ended a clause on a processor.
+    Failed { cpu: u32 },
+    /// A clause left something on a processor; `in_end` says that it was taken as END fired.
+    Left { cpu: u32, in_end: bool, left: Left },
+    /// The buffer of a processor was read.
+    Read { cpu: u32 },
+    /// An aggregation was truncated.
+    Truncated { aggregation: Aggregation },
+}
+
+/// What a clause left: the bytes of its record, where it makes one, and what it gave to aggregations, in order.
+#[derive(Drop)]
+pub(crate) struct Left {
+    pub(crate) bytes: Option<Vec<u8>>,
+    pub(crate) given: Vec<Contribution>,
+    ghost few: { vec_len given ≤ STATEMENTS_MAX },
+}
+
+/// A number that is given to a key of an aggregation.
+#[derive(Drop)]
+pub(crate) struct Contribution {
+    pub(crate) aggregation: Aggregation,
+    pub(crate) key: Key,
+    pub(crate) number: i64,
+}
+
+impl Contribution {
+    ghost use Rattle.std.specs.Prelude.{◌≡◌, ◌*◌, ◌+◌, map, length, IfOk};
+    ghost use Rattle.dt_alone.specs.Happened.{given_as};
+    ghost use Rattle.dt_consumer.specs.Uses.{split_by, uses_by};
+    ghost use Rattle.dt_ecb.specs.Forms.{shapes_of};
+    ghost use Rattle.dt_lang.specs.Program.{form_of_statement};
+    ghost use Rattle.dt_lang.specs.declared.program.TheConstants.{KEYS_MAX};
+
+    /// What a clause's statements give of the values that it left: keys and numbers, one after another.
+    pub(crate) fn all(
+        alloc: Global,
+        shapes: &Shapes,
+        statements: &[Statement],
+        values: &[Value],
+    ) -> Result<Vec<Self>, AllocError>
+        requires { length statements.now ≤ STATEMENTS_MAX }
+        ensures given { IfOk result (λ given. map given_as given.items
+            ≡ split_by (uses_by (shapes_of shapes.now) (map form_of_statement statements.now)) values.now) }
+        ensures few { IfOk result (λ given. vec_len given ≤ STATEMENTS_MAX) }
+    {
+        let mut given = Vec::new(alloc);
+        let mut place = 0;
+        for statement in statements {
+            if let Statement::Aggregate(aggregation) = statement {
+                let keys = aggregation.keys.len();
+                if let Some(known) = Known::of(shapes, aggregation.name.as_bytes()) {
+                    given.push(Contribution {
+                        aggregation: known.aggregation,
+                        key: Key {
+                            parts: parts_at(values, place, keys),
+                        },
+                        number: number_in(values, place + keys),
+                    })?;
+                }
+                place += keys + 1;
+            }
+        }
+        Ok(given)
+    }
+}
+
+impl Happened {
+    ghost use Rattle.std.specs.Prelude.{◌≡◌, ◌+◌};
+    ghost use Rattle.dt_aggstore.specs.History.{Past};
+    ghost use Rattle.dt_aggstore.specs.IsAt.{IsAt, added_of};
+    ghost use Rattle.dt_aggstore.specs.declared.limits.TheConstants.{ADDED_LIMIT};
+    ghost use Rattle.dt_alone.specs.Happened.{gives_to, is_fault_on};
+    ghost use Rattle.dt_consumer.specs.Uses.{given_then};
+
+    /// Whether it is a division by zero on this processor.
+    pub(crate) fn is_fault_on(&self, on: u32) -> bool
+        ensures { result ≡ is_fault_on on self.now }
+    {
+        match self {
+            Happened::Failed { cpu } => *cpu == on,
+            _ => false,
+        }
+    }
+
+    /// Gives what it gives to the store of a processor.
+    pub(crate) fn give(&self, on: u32, store: &mut AggStore)
+        requires { added_of store.old + STATEMENTS_MAX ≤ ADDED_LIMIT }
+        ensures stands { (past : Past) → IsAt past store.old → IsAt (given_then past (gives_to on self.now)) store.new }
+        ensures counts { added_of store.new ≤ added_of store.old + STATEMENTS_MAX }
+    {
+        match self {
+            Happened::Left { cpu, left, .. } if *cpu == on => left.give(store),
+            Happened::Truncated { aggregation } => store.trunc(*aggregation),
+            _ => {}
+        }
+    }
+}
+
+impl Left {
+    ghost use Rattle.std.specs.Prelude.{◌+◌, map};
+    ghost use Rattle.dt_aggstore.specs.History.{Past};
+    ghost use Rattle.dt_aggstore.specs.IsAt.{IsAt, added_of};
+    ghost use Rattle.dt_aggstore.specs.declared.limits.TheConstants.{ADDED_LIMIT};
+    ghost use Rattle.dt_alone.specs.Happened.{given_as};
+    ghost use Rattle.dt_consumer.specs.Uses.{given_then};
+
+    /// Gives the contributions to a store, in order.
+    fn give(&self, store: &mut AggStore)
+        requires { added_of store.old + STATEMENTS_MAX ≤ ADDED_LIMIT }
+        ensures stands { (past : Past) → IsAt past store.old
+            → IsAt (given_then past (map given_as self.now.given.items)) store.new }
+        ensures counts { added_of store.new ≤ added_of store.old + STATEMENTS_MAX }
+    {
+        for one in &self.given {
+            let _kept = store.add(one.aggregation, &one.key, one.number);
+        }
+    }
+}

@@ -1,0 +1,41 @@
+//! What a consumer that traces alone is answered, and whether the trail of a session says just this.
+//!
+//! [`alone`] gives the replies to a list of own lines and firings, as `Alone` of dt_proto defines them, and [`check`]
+//! reads the text of a trail and judges it: it agrees; or it has a first entry that may not stand there, or whose reply
+//! is not the one that is due (`specs/Verdicts.antt`, over `specs/Legal.antt`). Both run the lines and the firings on
+//! a `Runner`, which keeps all that happened and computes each reply from the whole list (`specs/Runs.antt`). The laws
+//! `one_verdict` and `agreement` say that a text has one verdict, and that the replies of a trail that agrees are those
+//! that a consumer is answered which traces alone.
+#![tactic(auto)]
+
+mod answering;
+mod checking;
+mod commands;
+mod entry;
+mod happened;
+mod item;
+mod judge;
+mod known;
+mod laws;
+mod limits;
+mod moment;
+mod options;
+mod own;
+mod parts;
+mod programs;
+mod replies;
+mod runner;
+mod shown;
+mod stores;
+#[cfg(test)]
+mod tests;
+mod trail;
+mod values;
+mod verdict;
+mod visibility;
+
+pub use checking::{CheckFault, check};
+pub use item::Item;
+pub use laws::{agreement, one_verdict};
+pub use replies::alone;
+pub use verdict::Verdict;

@@ -1,0 +1,204 @@
+//! What the accepted programs come to, and what is taken where a probe fires.
+ghost use Rattle.std.specs.Prelude.{◌≡◌, ◌+◌, ◌≤◌, ◌<◌, ◌++◌, ◌==◌, ◌^◌, ◌∷◌, [], List, All, IfOk, IfSome, MatchOption, false, find, length, map, sum, vec_len};
+ghost use Rattle.std.specs.List.{list_any};
+ghost use Rattle.std.specs.Option.{option_copied};
+ghost use Rattle.dt_lang.specs.Program.{ClauseForm, form_of_clause};
+ghost use Rattle.dt_record.specs.Layout.{layout_of, size_of};
+ghost use Rattle.dt_ecb.specs.Ecbs.{of_probe};
+ghost use Rattle.dt_ecb.specs.Forms.{form_of_ecb, shapes_of};
+ghost use Rattle.dt_ecb.specs.declared.limits.TheConstants.{ECBS_MAX};
+ghost use Rattle.dt_consumer.specs.Keeps.{placed_after as at_place};
+ghost use Rattle.dt_alone.specs.declared.limits.TheConstants.{END};
+
+use crate::happened::{Contribution, Happened, Left};
+use crate::limits::END;
+use crate::moment::Moment;
+use dt_ecb::{ECBS_MAX, Ecb, Shapes};
+use dt_expr::EvalFault;
+use dt_lang::Clause;
+use dt_record::{Layout, Taken, taken};
+use std::alloc::{AllocError, Global};
+
+/// The clauses of the accepted programs, their ECBs, and the aggregations that they use. An ECB has the place of its
+/// clause among all of them.
+#[derive(Drop)]
+pub(crate) struct Programs {
+    pub(crate) clauses: Vec<Clause>,
+    pub(crate) ecbs: Vec<Ecb>,
+    pub(crate) shapes: Shapes,
+    ghost few: { vec_len ecbs ≤ ECBS_MAX },
+}
+
+impl Programs {
+    ghost use Rattle.dt_alone.specs.Happened.{Adds, given_as};
+    ghost use Rattle.std.specs.Option.{option_map};
+    ghost use Rattle.dt_consumer.specs.Uses.{split_by, uses_by};
+    ghost use Rattle.dt_alone.specs.Forms.{form_of_moment};
+    ghost use Rattle.dt_consumer.specs.Keeps.{taking_by};
+    ghost use Rattle.dt_consumer.specs.Takings.{exit_of, first_exit, taken_at};
+
+    /// None yet.
+    pub(crate) fn new(alloc: Global) -> Self
+        ensures clauses { result.clauses.items ≡ [] }
+        ensures ecbs { result.ecbs.items ≡ [] }
+        ensures shapes { shapes_of result.shapes ≡ [] }
+    {
+        Programs {
+            clauses: Vec::new(alloc),
+            ecbs: Vec::new(alloc),
+            shapes: Shapes::new(alloc),
+        }
+    }
+
+    /// Whether an ECB names the probe.
+    pub(crate) fn has(&self, probe: u32) -> bool
+        ensures { result ≡ list_any (λ ecb. ecb.probe == probe) self.now.ecbs.items }
+    {
+        self.ecbs.iter().any(|ecb| ecb.probe == probe)
+    }
+
+    /// The ECB of a number, if there is one.
+    pub(crate) fn ecb(&self, epid: u64) -> Option<&Ecb>
+        ensures { option_copied result ≡ find (λ ecb. ecb.epid == epid) self.now.ecbs.items }
+    {
+        self.ecbs.iter().find(|ecb| u64::from(ecb.epid) == epid)
+    }
+
+    /// What is left of so many bytes after one record of each of END's ECBs, or `None` where they don't suffice.
+    pub(crate) fn left_by_end(&self, size: usize) -> Option<usize>
+        ensures within { IfSome result (λ left. left ≤ size) }
+        ensures left { (clauses : List ClauseForm) → map form_of_clause self.now.clauses.items ≡ clauses
+            → All (λ ecb. ecb.clause < length clauses) self.now.ecbs.items
+            → (let sizes = sum (map (λ ecb. size_of (layout_of ecb.clause))
+            (of_probe END (map (form_of_ecb clauses) self.now.ecbs.items))) in
+            MatchOption result (size < sizes) (λ left. left + sizes ≡ size)) }
+    {
+        let mut left = size;
+        for ecb in &self.ecbs {
+            if ecb.probe == END {
+                let clause = self.clauses.get(ecb.clause)?;
+                left = left.checked_sub(Layout::of(clause).size())?;
+            }
+        }
+        Some(left)
+    }
+
+    /// Adds the clauses of a program and its ECBs, which name places among its own clauses. The aggregations are all
+    /// that are used then.
+    pub(crate) fn extend(
+        &mut self,
+        alloc: Global,
+        mut clauses: Vec<Clause>,
+        ecbs: &[Ecb],
+        shapes: Shapes,
+    ) -> Result<(), AllocError>
+        requires few { vec_len self.old.ecbs + length ecbs.now ≤ ECBS_MAX }
+        requires placed { All (λ ecb. ecb.clause < length clauses.items) ecbs.now }
+        ensures clauses { IfOk result (λ _. self.new.clauses.items ≡ self.old.clauses.items ++ clauses.items) }
+        ensures ecbs { IfOk result (λ _. self.new.ecbs.items
+            ≡ self.old.ecbs.items ++ map (at_place (length self.old.clauses.items)) ecbs.now) }
+        ensures shapes { IfOk result (λ _. self.new.shapes ≡ shapes) }
+    {
+        let mut placed = placed_after(alloc, self.clauses.len(), ecbs)?;
+        self.clauses.append(&mut clauses)?;
+        self.ecbs.append(&mut placed)?;
+        self.shapes = shapes;
+        Ok(())
+    }
+
+    /// Takes the ECBs of the probe that fires, in order of EPID, and lists what happens. After an exit the later ones
+    /// aren't taken, and its status is answered; in END an exit is passed over.
+    pub(crate) fn take(
+        &self,
+        alloc: Global,
+        happened: &mut Vec<Happened>,
+        moment: &Moment,
+        in_end: bool,
+    ) -> Result<Option<i64>, AllocError>
+        ensures taken { All (λ ecb. ecb.clause < length self.now.clauses.items) self.now.ecbs.items
+            → (let m = form_of_moment moment.now in
+            IfOk result (λ _. Adds (shapes_of self.now.shapes) m.firing.cpu (taken_at in_end
+            (map (form_of_ecb (map form_of_clause self.now.clauses.items)) self.now.ecbs.items) m)
+            happened.old.items happened.new.items)) }
+        ensures exit { All (λ ecb. ecb.clause < length self.now.clauses.items) self.now.ecbs.items → in_end ≡ false
+            → IfOk result (λ exit. exit ≡ first_exit (taken_at false
+            (map (form_of_ecb (map form_of_clause self.now.clauses.items)) self.now.ecbs.items)
+            (form_of_moment moment.now))) }
+        ensures few { vec_len happened.new ≤ vec_len happened.old + ECBS_MAX }
+    {
+        let mut exit = None;
+        for ecb in &self.ecbs {
+            if ecb.probe == moment.firing.probe && exit.is_none() {
+                let status = self.take_one(alloc, happened, *ecb, moment, in_end)?;
+                exit = if in_end { None } else { status };
+            }
+        }
+        Ok(exit)
+    }
+
+    /// Takes one ECB, and answers the status that it exits with, if it exits. What it leaves is listed.
+    fn take_one(
+        &self,
+        alloc: Global,
+        happened: &mut Vec<Happened>,
+        ecb: Ecb,
+        moment: &Moment,
+        in_end: bool,
+    ) -> Result<Option<i64>, AllocError>
+        ensures taken { ecb.clause < length self.now.clauses.items → (let m = form_of_moment moment.now in
+            IfOk result (λ _. Adds (shapes_of self.now.shapes) m.firing.cpu
+            (taking_by in_end m (map form_of_clause self.now.clauses.items) ecb ∷ [])
+            happened.old.items happened.new.items)) }
+        ensures exit { ecb.clause < length self.now.clauses.items → IfOk result (λ exit. exit
+            ≡ exit_of (taking_by in_end (form_of_moment moment.now) (map form_of_clause self.now.clauses.items) ecb)) }
+        ensures few { vec_len happened.new ≤ vec_len happened.old + 1 }
+    {
+        let cpu = moment.firing.cpu;
+        let Some(clause) = self.clauses.get(ecb.clause) else {
+            return Ok(None);
+        };
+        match taken(ecb.epid, clause, &moment.scene(ecb.epid)) {
+            Ok(Some(taken)) => {
+                let left = self.left(alloc, clause, &taken)?;
+                happened.push(Happened::Left { cpu, in_end, left })?;
+                Ok(taken.exit)
+            }
+            Ok(None) => Ok(None),
+            Err(EvalFault::DivZero) => {
+                happened.push(Happened::Failed { cpu })?;
+                Ok(None)
+            }
+        }
+    }
+
+    /// What a clause left, to be listed.
+    fn left(&self, alloc: Global, clause: &Clause, taken: &Taken) -> Result<Left, AllocError>
+        ensures bytes { IfOk result (λ left. option_map (λ bytes. bytes.items) left.bytes
+            ≡ option_map (λ bytes. bytes.items) taken.now.bytes) }
+        ensures given { IfOk result (λ left. map given_as left.given.items
+            ≡ split_by (uses_by (shapes_of self.now.shapes) (form_of_clause clause.now).statements)
+            taken.now.values.items) }
+    {
+        let bytes = match &taken.bytes {
+            Some(bytes) => Some(Vec::from_slice(alloc, bytes)?),
+            None => None,
+        };
+        let given = Contribution::all(alloc, &self.shapes, &clause.statements, &taken.values)?;
+        Ok(Left { bytes, given })
+    }
+}
+
+/// The ECBs of a program, each with the place of its clause after so many others.
+fn placed_after(alloc: Global, before: usize, ecbs: &[Ecb]) -> Result<Vec<Ecb>, AllocError>
+    requires { All (λ ecb. before + ecb.clause < 2 ^ 64) ecbs.now }
+    ensures { IfOk result (λ placed. placed.items ≡ map (at_place before) ecbs.now) }
+{
+    let mut placed = Vec::new(alloc);
+    for ecb in ecbs {
+        placed.push(Ecb {
+            clause: before + ecb.clause,
+            ..*ecb
+        })?;
+    }
+    Ok(placed)
+}

@@ -1,0 +1,208 @@
+//! The plain runner of one life: it has all that happened in it.
+ghost use Rattle.std.specs.Prelude.{◌≡◌, ◌≤◌, ◌<◌, ◌+◌, ◌*◌, ◌==◌, None, Some, if◌then◌else◌, vec_len};
+ghost use Rattle.std.specs.Option.{option_map, option_or};
+ghost use Rattle.dt_consumer.specs.declared.limits.TheConstants.{HISTORY_MAX, LINES_MAX};
+ghost use Rattle.dt_consumer.specs.declared.phase.Phase.TheVariants as phases;
+ghost use Rattle.dt_ecb.specs.declared.limits.TheConstants.{ECBS_MAX};
+
+use crate::happened::Happened;
+use crate::limits::{BEGIN, END};
+use crate::moment::Moment;
+use crate::options::Options;
+use crate::own::{own_firing, own_process};
+use crate::programs::Programs;
+use crate::visibility::shown;
+use dt_consumer::{Command, End, LINES_MAX, Phase, Refusal, Reply};
+use dt_cred::Account;
+use dt_machine::{Firing, Machine};
+use std::alloc::{AllocError, Global};
+
+/// What a plain runner has of a life: its options and programs, how many lines were asked and how many firings were
+/// seen, how far it has come, and all that happened in it, the oldest first.
+#[derive(Drop)]
+pub(crate) struct Runner {
+    pub(crate) account: Account,
+    pub(crate) options: Options,
+    pub(crate) programs: Programs,
+    pub(crate) lines: u32,
+    pub(crate) seen: u32,
+    pub(crate) phase: Phase,
+    pub(crate) since: Vec<Happened>,
+    ghost few_lines: { lines ≤ LINES_MAX },
+    ghost few_seen: { seen ≤ HISTORY_MAX },
+    ghost unseen: { phase ≡ phases.Inactive → seen ≡ 0 },
+    ghost going: { phase ≡ phases.Active → seen < options.histsize },
+    ghost few: { vec_len since ≤ 2 * ECBS_MAX * (lines + seen) },
+}
+
+impl Runner {
+    ghost use Rattle.std.specs.Prelude.{◌↔◌, ◌∷◌, ℕ, List, [], Option, Result, Ok, Some, None, IsTrue, IfOk, nat_le, false, length, if◌then◌else◌, ◌==◌};
+    ghost use Rattle.dt_cred.specs.declared.account.Account.{Account};
+    ghost use Rattle.dt_machine.specs.Registry.{Registry};
+    ghost use Rattle.dt_alone.specs.Forms.{form_of_moment};
+    ghost use Rattle.dt_alone.specs.Runs.{Answers, Has, HasIn, IsAsked, IsFiring, Runs};
+    ghost use Rattle.dt_consumer.specs.Answer.{answer_of};
+    ghost use Rattle.dt_consumer.specs.Ask.{line_asks, ask_of};
+    ghost use Rattle.dt_consumer.specs.Draft.{after_line};
+    ghost use Rattle.dt_consumer.specs.Life.{Item, SetUp, asked, fired, happens, phase_after, seen_in, set_up, with_event, is_over as over};
+    ghost use Rattle.dt_consumer.specs.Reply.{Replies, RepliesInQuota};
+    ghost use Rattle.dt_consumer.specs.Sees.{Sees};
+    ghost use Rattle.dt_consumer.specs.Takings.{Event, ended, is_end, moment_at};
+    ghost use Rattle.dt_consumer.specs.declared.phase.End.{End};
+
+    /// A runner of the empty life.
+    pub(crate) fn new(
+        alloc: Global,
+        account: Account,
+        _machine: &Machine,
+    ) -> Result<Self, AllocError>
+        ensures { IfOk result (λ runner. Runs account _machine.now.registry runner []) }
+    {
+        Ok(Runner {
+            account,
+            options: Options::new(),
+            programs: Programs::new(alloc),
+            lines: 0,
+            seen: 0,
+            phase: Phase::Inactive,
+            since: Vec::new(alloc),
+        })
+    }
+
+    /// Whether all lines were asked that one consumer may ask.
+    pub(crate) fn is_over(&self) -> bool
+        ensures { (account : Account) (registry : Registry) (life : List Item) → Runs account registry self.now life
+            → result ≡ over life }
+    {
+        self.has_asked_all()
+    }
+
+    /// The same, and what it says of the count.
+    fn has_asked_all(&self) -> bool
+        ensures over { (account : Account) (registry : Registry) (life : List Item)
+            → Runs account registry self.now life → result ≡ over life }
+        ensures counted { result ≡ nat_le LINES_MAX self.now.lines }
+    {
+        LINES_MAX <= self.lines
+    }
+
+    /// The reply to a line, which is then part of the life unless it is over the quota. `Err`: memory ran out, and
+    /// nothing is promised of the runner any more.
+    pub(crate) fn ask(
+        &mut self,
+        alloc: Global,
+        machine: &Machine,
+        line: &Result<Command, Refusal>,
+    ) -> Result<Reply, AllocError>
+        ensures { IfOk result (λ reply. (account : Account) (life : List Item)
+            → Runs account machine.now.registry self.old life
+            → Replies account machine.now.registry life (line_asks line.now) (answer_of reply)
+            × Runs account machine.now.registry self.new (after_line life (line_asks line.now))) }
+    {
+        if self.has_asked_all() {
+            return Ok(Reply::Refused(Refusal::Quota));
+        }
+        self.lines += 1;
+        match line {
+            Err(refusal) => Ok(Reply::Refused(*refusal)),
+            Ok(command) => self.answer(alloc, machine, command),
+        }
+    }
+
+    /// Takes a firing, and answers whether it is seen; an unseen one is no part of the life. `Err`: memory ran out, and
+    /// nothing is promised of the runner any more.
+    pub(crate) fn offer(
+        &mut self,
+        alloc: Global,
+        machine: &Machine,
+        firing: &Firing,
+    ) -> Result<bool, AllocError>
+        ensures sees { IfOk result (λ seen. (account : Account) (life : List Item)
+            → Runs account machine.now.registry self.old life
+            → (IsTrue seen ↔ Sees account machine.now.registry life firing.now)) }
+        ensures after { IfOk result (λ seen. (account : Account) (life : List Item)
+            → Runs account machine.now.registry self.old life
+            → Runs account machine.now.registry self.new (if seen then fired firing.now ∷ life else life)) }
+    {
+        if !matches!(self.phase, Phase::Active) {
+            return Ok(false);
+        }
+        if !self.programs.has(firing.probe) {
+            return Ok(false);
+        }
+        let account = self.account;
+        let Some(moment) = shown(&account, machine, firing) else {
+            return Ok(false);
+        };
+        self.happen(alloc, machine, &moment, self.seen + 1)?;
+        Ok(true)
+    }
+
+    /// A probe other than END fires, and then so many firings were seen. Where a clause exits, or the firing is the
+    /// last of the history, tracing ends, and END fires too.
+    pub(crate) fn happen(
+        &mut self,
+        alloc: Global,
+        machine: &Machine,
+        moment: &Moment,
+        seen: u32,
+    ) -> Result<(), AllocError>
+        requires in_history { seen ≤ self.old.options.histsize }
+        requires room { vec_len self.old.since + 2 * ECBS_MAX ≤ 2 * ECBS_MAX * (self.old.lines + seen) }
+        requires forward { self.old.seen ≤ seen }
+        ensures happens { IfOk result (λ _. (account : Account) (s : SetUp) (event : Event)
+            → Has account machine.now.registry s self.old → IsFiring event
+            → moment_at account machine.now.registry event ≡ Some (form_of_moment moment.now)
+            → phase_after (event ∷ s.since) ≡ phases.Active → seen ≡ seen_in (event ∷ s.since)
+            → Has account machine.now.registry (happens account machine.now.registry s event) self.new) }
+        ensures lines { self.new.lines ≡ self.old.lines }
+    {
+        let history = self.options.histsize;
+        self.seen = seen;
+        self.phase = if seen < history {
+            Phase::Active
+        } else {
+            Phase::Stopped(Some(End::History))
+        };
+        let exit = self.programs.take(alloc, &mut self.since, moment, false)?;
+        let end = end_after(exit, seen, history);
+        self.phase = match end {
+            Some(end) => Phase::Stopped(Some(end)),
+            None => Phase::Active,
+        };
+        if end.is_some() {
+            self.fire_end(alloc, machine)?;
+        }
+        Ok(())
+    }
+
+    /// END fires, after the phase tells that tracing has ended.
+    pub(crate) fn fire_end(&mut self, alloc: Global, machine: &Machine) -> Result<(), AllocError>
+        requires room { vec_len self.old.since + ECBS_MAX ≤ 2 * ECBS_MAX * (self.old.lines + self.old.seen) }
+        ensures ends { IfOk result (λ _. (account : Account) (s : SetUp) (end : End)
+            → HasIn account machine.now.registry s (phases.Stopped (Some end)) self.old
+            → Has account machine.now.registry (with_event s (ended end)) self.new) }
+        ensures lines { self.new.lines ≡ self.old.lines }
+    {
+        let process = own_process(&self.account);
+        let firing = own_firing(END);
+        let moment = Moment {
+            probe: machine.probe(END).unwrap(),
+            process: &process,
+            firing: &firing,
+        };
+        let _exit = self.programs.take(alloc, &mut self.since, &moment, true)?;
+        Ok(())
+    }
+}
+
+/// Why tracing ends after a firing, if it does: one of its clauses exited, or it is the last of the history.
+fn end_after(exit: Option<i64>, seen: u32, history: u32) -> Option<End>
+    ensures { result ≡ option_or (option_map End.Exit exit) (if seen == history then Some End.History else None) }
+{
+    match exit {
+        Some(status) => Some(End::Exit(status)),
+        None if seen == history => Some(End::History),
+        None => None,
+    }
+}
