@@ -1,7 +1,7 @@
 -- The digits of a number, and the number that `parse` reads of them.
 use Rattle.std.proofs.Common.{◌≡◌, ◌≢◌, ℕ, ◌+◌, ◌^◌, ◌<◌, List, [], ◌∷◌, length, get_or, decimal, Result, Ok, Err, Some, None, IfSome, IfNone, IsUtf8, ◌⊎◌, ⊎_elim, inl, inr, refl, sym, ap, subst, ◌∙◌, arith}
 use Rattle.std.proofs.lemmas.Bool.{cases_eq, ne_eqb}
-use Rattle.std.proofs.lemmas.Fmt.{decimal_digit, first_decimal, decimal-digits_value, parse-decimal, IsAscii-decimal}
+use Rattle.std.proofs.lemmas.Fmt.{decimal_injective, decimal_digit, first_decimal, decimal-digits_value, parse-decimal, IsAscii-decimal}
 use Rattle.std.proofs.lemmas.Str.{IsUtf8-from_ascii}
 use Rattle.std.proofs.lemmas.Str.Parse.{IsNumeralModel}
 use Rattle.std.specs.Result.{result_ok, MatchResult}
@@ -61,3 +61,7 @@ pub ok_none : {T E A : Type 0} (P : T → Type 0) (Q : E → Type 0) (r : Result
     → MatchResult r P (λ e. (A → ⊥) × Q e) → A → ⊥
 ok_none P Q (Ok y) is h = absurd (cc)
 ok_none P Q (Err e) is h = h.0
+
+-- digits are those of one number
+pub one_number : (a b : ℕ) → a < 2 ^ 32 → b < 2 ^ 32 → decimal a ≡ decimal b → a ≡ b
+one_number a b p q same = decimal_injective a b (omega arith) (omega arith) same

@@ -1,28 +1,13 @@
 -- Which steps an input is, or at which line it is refused.
-use Rattle.std.specs.Prelude.{◌≡◌, ◌≢◌, ℕ, ◌-◌, ◌<◌, ◌≤◌, ◌==◌, Bool, true, false, List, [], ◌∷◌, ◌++◌, All, length, take, map, filter, IsSome}
-use Rattle.std.specs.List.{slice_split, AllByRecursion}
+use Rattle.std.specs.Prelude.{◌≡◌, ℕ, ◌-◌, ◌<◌, ◌≤◌, Bool, true, false, List, [], ◌∷◌, length, take, map, filter, IsSome}
+use Rattle.std.specs.List.{AllByRecursion}
 use Rattle.dt_machine.specs.Registry.{Registry, account_of}
+use Rattle.dt_proto.specs.Lines.{all_but_last, parts_of}
 use Rattle.dtraced.specs.Step.{Act, opens, calls, fires, spelling, opens_session, IsWritable}
 
-abbrev pub is_newline : ℕ → Bool
-is_newline byte = byte == 10
-
--- all but the last
-abbrev pub all_but_last : List (List ℕ) → List (List ℕ)
-all_but_last pieces = take (length pieces - 1) pieces
-
--- the pieces in front of each newline; what stands behind the last one is no line
+-- what stands before each newline; what stands after the last one is no line
 abbrev pub lines_of : List ℕ → List (List ℕ)
-lines_of text = all_but_last (slice_split is_newline text)
-
--- no byte of the text is a newline
-abbrev pub HasNoNewline : List ℕ → Type 0
-HasNoNewline text = All (λ byte. byte ≢ 10) text
-
--- The text is cut at its first newline.
-pub record IsCut (text line rest : List ℕ) : Type 0 where
-  pub whole : text ≡ line ++ (10 ∷ rest)
-  pub first : HasNoNewline line
+lines_of text = all_but_last (parts_of text)
 
 abbrev pub is_written : List ℕ → Bool
 is_written [] = false

@@ -1,9 +1,8 @@
 -- How the steps of a replay are written.
-use Rattle.std.specs.Prelude.{◌≡◌, ℕ, ◌==◌, ◌^◌, ◌<◌, Bool, false, List, ◌++◌, codes, decimal}
+use Rattle.std.specs.Prelude.{◌≡◌, ℕ, ◌==◌, ◌^◌, ◌<◌, Bool, false, List, ◌++◌, codes, decimal, is_some}
 use Rattle.std.specs.List.{list_any}
-use Rattle.std.specs.Option.{option_map_or}
-use Rattle.dt_cred.specs.Rights.{has_dtrace}
-use Rattle.dt_machine.specs.Registry.{Registry, account_of}
+use Rattle.dt_machine.specs.Registry.{Registry}
+use Rattle.dt_proto.specs.Session.{session_account}
 use Rattle.dtraced.specs.declared.step.Step.{Step}
 use Rattle.dtraced.specs.declared.step.Step.TheVariants.{Open, Call, Fire}
 
@@ -41,9 +40,9 @@ is_fire_of cpu (fires n) = n == cpu
 is_fire_of cpu _ = false
 
 module _ (registry : Registry) where
-  -- the account of this name is the machine's, and has a dtrace privilege
+  -- the name is that of an account that may have a session
   abbrev pub may_open : List ℕ → Bool
-  may_open name = option_map_or (λ account. has_dtrace account.privs) (account_of registry name) false
+  may_open name = is_some (session_account registry name)
 
   -- the step opens a session
   abbrev pub opens_session : Act → Bool

@@ -2,6 +2,8 @@
 ghost use Rattle.std.specs.Prelude.{◌≡◌};
 
 use crate::replay::ReplayFault;
+use dt_alone::CheckFault;
+use dt_machine::MachineFault;
 use std::io;
 use thiserror::Error;
 
@@ -17,6 +19,12 @@ pub enum Fault {
     /// The machine file or the input is refused, a stream failed, or memory ran out: status 1.
     #[error("{0}")]
     Replay(ReplayFault),
+    /// The machine file of a check is refused: status 1.
+    #[error("{0}")]
+    Machine(MachineFault),
+    /// The trail text is refused, or memory ran out: status 1.
+    #[error("{0}")]
+    Check(CheckFault),
 }
 
 impl Fault {
@@ -28,7 +36,7 @@ impl Fault {
     {
         match self {
             Fault::Usage => 2,
-            Fault::Device | Fault::Replay(_) => 1,
+            Fault::Device | Fault::Replay(_) | Fault::Machine(_) | Fault::Check(_) => 1,
         }
     }
 

@@ -1,25 +1,33 @@
 //! `dtraced`, the tracing service. Its word `replay` takes a machine file, reads step lines from standard input, and
-//! writes the replies of one session to standard output.
+//! writes the replies of one session to standard output, or its trail. Its word `check` tells whether a trail says what its
+//! session was to be answered.
 //!
-//! What is written is defined in `specs/Replay.antt`, and [`replay::replay`] is proved to write it.
+//! What is written is defined in `specs/Replay.antt`, and [`replay::replay`] and [`replay::replay_trail`] are proved to
+//! write it.
 #![tactic(auto)]
 
 mod fault;
 pub mod laws;
 pub mod replay;
 mod run;
+pub mod seat;
 mod step;
+mod told;
 mod words;
 
+use dt_alone::{Verdict, check};
+use dt_machine::Machine;
 use fault::Fault;
-use replay::replay;
+use replay::{replay, replay_trail};
+use seat::Seat;
+use std::io::Write;
 use std::process::ExitCode;
 use std::{env, fs, io};
-use words::{WordsFault, machine_path};
+use words::{Words, WordsFault};
 
 fn main(rt: HostRuntime) -> ExitCode {
-    match replay_files(&rt) {
-        Ok(()) => ExitCode::SUCCESS,
+    match execute(&rt) {
+        Ok(status) => status,
         Err(fault) => {
             // Where standard error fails too, the status is all that tells.
             let _told = eprintln!(rt; "{fault}");
@@ -28,8 +36,8 @@ fn main(rt: HostRuntime) -> ExitCode {
     }
 }
 
-/// Replays the machine file that the words name on the real streams.
-fn replay_files(rt: &HostRuntime) -> Result<(), Fault> {
+/// Does what the program's words ask for, on the real files and streams, and gives the status where nothing failed.
+fn execute(rt: &HostRuntime) -> Result<ExitCode, Fault> {
     let args = env::args(rt).map_err(|error| Fault::of_words(&error))?;
     let Ok(args) = args.collect::<Vec<String>>(rt.alloc()) else {
         return Err(Fault::Device);
@@ -41,15 +49,38 @@ fn replay_files(rt: &HostRuntime) -> Result<(), Fault> {
     else {
         return Err(Fault::Device);
     };
-    let path = match machine_path(rt.alloc(), &words) {
-        Ok(path) => path,
-        Err(WordsFault::Usage) => return Err(Fault::Usage),
-        Err(WordsFault::Memory) => return Err(Fault::Device),
-    };
-    let Ok(machine) = fs::read(rt, path) else {
-        return Err(Fault::Device);
-    };
+    match Words::read(rt.alloc(), &words) {
+        Ok(Words::Replay { machine, trail }) => replay_file(rt, machine, trail),
+        Ok(Words::Check { machine, trail }) => check_file(rt, machine, trail),
+        Err(WordsFault::Usage) => Err(Fault::Usage),
+        Err(WordsFault::Memory) => Err(Fault::Device),
+    }
+}
+
+/// Replays the input on a machine file, and writes the replies, or the trail of a seat.
+fn replay_file(rt: &HostRuntime, machine: &str, trail: Option<Seat>) -> Result<ExitCode, Fault> {
+    let machine = fs::read(rt, machine).map_err(|_| Fault::Device)?;
     let mut reader = rt.reader();
     let mut writer = io::writer(rt);
-    replay(rt.alloc(), &machine, &mut reader, &mut writer).map_err(Fault::Replay)
+    let replayed = match trail {
+        Some(seat) => replay_trail(rt.alloc(), &machine, seat, &mut reader, &mut writer),
+        None => replay(rt.alloc(), &machine, &mut reader, &mut writer),
+    };
+    replayed.map_err(Fault::Replay)?;
+    Ok(ExitCode::SUCCESS)
+}
+
+/// Checks a trail file on a machine file, and tells what it found. Where the trail doesn't agree the status is 1.
+fn check_file(rt: &HostRuntime, machine: &str, trail: &str) -> Result<ExitCode, Fault> {
+    let machine = fs::read(rt, machine).map_err(|_| Fault::Device)?;
+    let machine = Machine::read(rt.alloc(), &machine).map_err(Fault::Machine)?;
+    let trail = fs::read(rt, trail).map_err(|_| Fault::Device)?;
+    let verdict = check(rt.alloc(), &machine, &trail).map_err(Fault::Check)?;
+    let mut writer = io::writer(rt);
+    writeln!(writer, "{verdict}").map_err(|_| Fault::Device)?;
+    writer.flush().map_err(|_| Fault::Device)?;
+    match verdict {
+        Verdict::Agree(_) => Ok(ExitCode::SUCCESS),
+        Verdict::Differs(_) | Verdict::Illegal(_) => Ok(ExitCode::from(1)),
+    }
 }

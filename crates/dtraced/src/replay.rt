@@ -5,11 +5,15 @@ ghost use Rattle.dt_machine.specs.Reading.{IsDescribed, IsFaultOf};
 ghost use Rattle.dt_machine.specs.Registry.{Contents};
 ghost use Rattle.dt_machine.specs.Sections.{NowhereIfMemory, UnlessMemory};
 ghost use Rattle.dt_machine.specs.declared.fault.MachineFault.{MachineFault};
+ghost use Rattle.dt_proto.specs.Splits.{HasNoNewline, IsCut};
 ghost use Rattle.dtraced.specs.Faults.{IsFaultOfReading, IsFaultOfSteps, IsOfMachine};
-ghost use Rattle.dtraced.specs.Input.{lines_of, IsCut, HasNoNewline, IsRefused};
-ghost use Rattle.dtraced.specs.Replay.{IsReplay};
+ghost use Rattle.dtraced.specs.Input.{lines_of, IsRefused};
+ghost use Rattle.dtraced.specs.Replay.{IsReplay, IsTrailReplay};
+ghost use Rattle.dtraced.specs.Told.{IsOutput};
 
 use crate::run::Run;
+use crate::seat::Seat;
+use crate::told::Wanted;
 use dt_machine::{Machine, MachineFault};
 use std::alloc::{AllocError, Global};
 use std::io::{ErrorKind, Read, Write};
@@ -75,12 +79,88 @@ pub fn replay<R: Read, W: Write>(
         (contents : Contents) × (output : List ℕ) × (count : ℕ) × IsDescribed machine.now contents
         × IsReplay contents input output × Appends (W.contents writer.old) (W.contents writer.new) (take count output))) }
 {
+    replay_as(alloc, Wanted::Replies, machine, reader, writer)
+}
+
+/// Replays an input on a machine as [`replay`] does, and writes the trail of the session on a seat: the account's name,
+/// and then each line within the quota with its reply, and each firing that was seen. It writes nothing where no session
+/// was opened on the seat.
+pub fn replay_trail<R: Read, W: Write>(
+    alloc: Global,
+    machine: &[u8],
+    seat: Seat,
+    reader: &mut R,
+    writer: &mut W,
+) -> Result<(), ReplayFault>
+    // What is written is the trail that the definition gives to what was read.
+    ensures ok { OnOk result (IfSome (R.remaining reader.old) (λ input.
+        (contents : Contents) × (output : List ℕ) × IsDescribed machine.now contents × IsTrailReplay contents input seat.number output
+        × Appends (W.contents writer.old) (W.contents writer.new) output)) }
+
+    // The machine file is tested first: it is named where it is refused, and then nothing was read. Every other fault
+    // comes after it was read as a machine.
+    ensures machine { IfErr result (λ fault. (refused : MachineFault) → fault ≡ ReplayFault.Machine refused
+        → NowhereIfMemory refused × UnlessMemory refused (IsFaultOf machine.now refused)) }
+    ensures unread { IfErr result (λ fault. IsOfMachine fault → reader.new ≡ reader.old) }
+    ensures described { IfErr result (λ fault. (IsOfMachine fault → ⊥)
+        → (contents : Contents) × IsDescribed machine.now contents) }
+
+    // A line is named where it is the first that is refused.
+    ensures line { IfErr result (λ fault. (n : ℕ) → fault ≡ ReplayFault.Line n
+        → IfSome (R.remaining reader.old) (λ input.
+        (contents : Contents) × IsDescribed machine.now contents × IsRefused contents.registry (lines_of input) n)) }
+
+    // Only a write that fails leaves anything written: a beginning of what would have been.
+    ensures nothing_written { IfErr result (λ fault. fault ≢ ReplayFault.Write
+        → Keeps (W.contents writer.old) (W.contents writer.new)) }
+    ensures beginning_written { IfErr result (λ fault. fault ≡ ReplayFault.Write
+        → IfSome (R.remaining reader.old) (λ input.
+        (contents : Contents) × (output : List ℕ) × (count : ℕ) × IsDescribed machine.now contents
+        × IsTrailReplay contents input seat.number output × Appends (W.contents writer.old) (W.contents writer.new) (take count output))) }
+{
+    replay_as(alloc, Wanted::Trail(seat), machine, reader, writer)
+}
+
+/// Replays an input on a machine: reads both whole, takes the steps in order, and writes what is wanted.
+fn replay_as<R: Read, W: Write>(
+    alloc: Global,
+    wanted: Wanted,
+    machine: &[u8],
+    reader: &mut R,
+    writer: &mut W,
+) -> Result<(), ReplayFault>
+    // What is written is what the definition gives to what was read.
+    ensures ok { OnOk result (IfSome (R.remaining reader.old) (λ input.
+        (contents : Contents) × (output : List ℕ) × IsDescribed machine.now contents × IsOutput wanted contents input output
+        × Appends (W.contents writer.old) (W.contents writer.new) output)) }
+
+    // The machine file is tested first: it is named where it is refused, and then nothing was read. Every other fault
+    // comes after it was read as a machine.
+    ensures machine { IfErr result (λ fault. (refused : MachineFault) → fault ≡ ReplayFault.Machine refused
+        → NowhereIfMemory refused × UnlessMemory refused (IsFaultOf machine.now refused)) }
+    ensures unread { IfErr result (λ fault. IsOfMachine fault → reader.new ≡ reader.old) }
+    ensures described { IfErr result (λ fault. (IsOfMachine fault → ⊥)
+        → (contents : Contents) × IsDescribed machine.now contents) }
+
+    // A line is named where it is the first that is refused.
+    ensures line { IfErr result (λ fault. (n : ℕ) → fault ≡ ReplayFault.Line n
+        → IfSome (R.remaining reader.old) (λ input.
+        (contents : Contents) × IsDescribed machine.now contents × IsRefused contents.registry (lines_of input) n)) }
+
+    // Only a write that fails leaves anything written: a beginning of what would have been.
+    ensures nothing_written { IfErr result (λ fault. fault ≢ ReplayFault.Write
+        → Keeps (W.contents writer.old) (W.contents writer.new)) }
+    ensures beginning_written { IfErr result (λ fault. fault ≡ ReplayFault.Write
+        → IfSome (R.remaining reader.old) (λ input.
+        (contents : Contents) × (output : List ℕ) × (count : ℕ) × IsDescribed machine.now contents
+        × IsOutput wanted contents input output × Appends (W.contents writer.old) (W.contents writer.new) (take count output))) }
+{
     let machine = match Machine::read(alloc, machine) {
         Ok(machine) => machine,
         Err(fault) => return Err(ReplayFault::Machine(fault)),
     };
     let input = read_input(alloc, reader)?;
-    let output = output_of(alloc, &machine, &input)?;
+    let output = output_of(alloc, wanted, &machine, &input)?;
     write_output(writer, &output)
 }
 
@@ -106,11 +186,16 @@ fn read_input<R: Read>(alloc: Global, reader: &mut R) -> Result<Vec<u8>, ReplayF
 }
 
 /// What is written for an input.
-fn output_of(alloc: Global, machine: &Machine, input: &[u8]) -> Result<Vec<u8>, ReplayFault>
-    ensures ok { IfOk result (λ output. IsReplay machine.now input.now output.items) }
+fn output_of(
+    alloc: Global,
+    wanted: Wanted,
+    machine: &Machine,
+    input: &[u8],
+) -> Result<Vec<u8>, ReplayFault>
+    ensures ok { IfOk result (λ output. IsOutput wanted machine.now input.now output.items) }
     ensures err { IfErr result (IsFaultOfSteps machine.now input.now) }
 {
-    let mut run = Run::new(alloc);
+    let mut run = Run::new(alloc, wanted);
     let mut rest = input;
     let mut number = 0;
     while let Some((line, more)) = next_line(rest) {
@@ -122,10 +207,14 @@ fn output_of(alloc: Global, machine: &Machine, input: &[u8]) -> Result<Vec<u8>, 
             Err(AllocError) => return Err(ReplayFault::Memory),
         }
     }
-    Ok(run.output)
+    if wanted.is_of_session() {
+        Ok(run.told.text)
+    } else {
+        Ok(Vec::new(alloc))
+    }
 }
 
-/// The text in front of the first newline, and what stands after it.
+/// The text before the first newline, and what stands after it.
 fn next_line(text: &[u8]) -> Option<(&[u8], &[u8])>
     ensures found { IfSome result (λ parts. IsCut text.now parts.0.now parts.1.now) }
     ensures none { IfNone result (HasNoNewline text.now) }

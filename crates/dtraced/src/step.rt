@@ -32,7 +32,7 @@ impl<'a> Step<'a> {
 }
 
 /// The number of 32 bits that decimal digits write, without a leading zero.
-fn number_of(digits: &[u8]) -> Option<u32>
+pub(crate) fn number_of(digits: &[u8]) -> Option<u32>
     ensures found { IfSome result (λ number. (number < 2 ^ 32) × (digits.now ≡ decimal number)) }
     ensures none { IfNone result ((number : ℕ) → number < 2 ^ 32 → digits.now ≢ decimal number) }
 {

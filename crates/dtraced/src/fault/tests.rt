@@ -28,6 +28,9 @@ fn lines_and_statuses(rt: HostRuntime) -> Result<(), Fail> {
         (Fault::Replay(ReplayFault::Line(7)), "line 7: refused 1"),
         (Fault::Replay(ReplayFault::Write), "fault 1"),
         (Fault::Replay(ReplayFault::Memory), "fault 1"),
+        (Fault::Machine(refused), "machine refused 9 at 1 20 1"),
+        (Fault::Check(CheckFault::Text), "trail refused 1"),
+        (Fault::Check(CheckFault::Memory), "fault 1"),
         (
             Fault::of_words(&io::Error::from(io::ErrorKind::InvalidData)),
             "usage 2",

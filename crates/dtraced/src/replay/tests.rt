@@ -4,6 +4,7 @@ use std::io;
 use std::test::Fail;
 
 mod aggregations;
+mod trails;
 
 /// Two processors, four accounts, two processes; the first processor fires a system call, and then the clock twice.
 const MACHINE: &str = r#"{"cpus":2,

@@ -1,9 +1,10 @@
-use Rattle.std.proofs.Common.{◌≡◌, ◌∷◌, ◌++◌, [], length, refl, arith, rules, ◌+◌}
+use Rattle.std.proofs.Common.{◌≡◌, ◌∷◌, ◌++◌, [], length, refl, sym, ◌∙◌, arith, rules, ◌+◌}
+use Rattle.std.proofs.lemmas.Bool.{true≢false}
 use Rattle.std.proofs.lemmas.List.{length-append}
 use Rattle.dtraced.specs.Input.{lines_of}
 use Rattle.dtraced.proofs.Cuts.{lines-one_more, length-cut, lines-all}
 use Rattle.dtraced.proofs.StepLists.{refused_here}
-use Rattle.dtraced.proofs.Sessions.{replay-finished}
+use Rattle.dtraced.proofs.Sessions.{finished, finished-empty}
 use Rattle.dtraced.proofs.replay.output_of.Goals as goal
 
 pub loop-line-init : goal.loop-line-init
@@ -21,7 +22,7 @@ loop-line-preserved c =
           cut,
       omega (arith, one_more, before.2),
       omega (arith, room, before.3),
-      c.take_line.ensures.taken (search rules) before.0 before.4,
+      c.take_line.ensures.taken (search rules) c.args.wanted before.0 before.4,
     )
 
 pub returns-in-Ok-false-clause-err : goal.returns-in-Ok-false-clause-err
@@ -32,10 +33,19 @@ returns-in-Ok-false-clause-err c =
     c.in-Some.line.now c.loop-line.number taken.acts
     (lines-one_more c.args.input.now c.loop-line.rest.now c.in-Some.line.now c.in-Some.more.now before.0
     before.1 c.in-Some.ensures.found) before.2 taken.steps
-    (c.take_line.ensures.refused (search rules) before.0 taken)
+    (c.take_line.ensures.refused (search rules) c.args.wanted before.0 taken)
 
-pub returns-clause-ok : goal.returns-clause-ok
-returns-clause-ok c =
+pub returns-then-is_of_session-clause-ok : goal.returns-then-is_of_session-clause-ok
+returns-then-is_of_session-clause-ok c =
     let before = c.loop-line.invariant in
-    replay-finished c.args.machine.now c.args.input.now before.0 c.loop-line.run
+    finished c.args.wanted c.args.machine.now c.args.input.now before.0 c.loop-line.run
+    (c.is_of_session.ensures.0 c.if-is_of_session.true)
+    (lines-all c.args.input.now c.loop-line.rest.now before.0 before.1 c.in_default.ensures.none) before.4
+
+pub returns-else-is_of_session-clause-ok : goal.returns-else-is_of_session-clause-ok
+returns-else-is_of_session-clause-ok c =
+    let before = c.loop-line.invariant in
+    finished-empty c.args.wanted c.args.machine.now c.args.input.now c.new.result.items before.0 c.loop-line.run
+    (λ of_session. true≢false (sym (c.is_of_session.ensures.1 of_session) ∙ c.if-is_of_session.false))
+    c.new.ensures.items
     (lines-all c.args.input.now c.loop-line.rest.now before.0 before.1 c.in_default.ensures.none) before.4

@@ -1,16 +1,27 @@
-use Rattle.std.proofs.Common.{◌≡◌, ◌∷◌, ◌++◌, codes, Some, sym, subst, rules}
-use Rattle.dtraced.specs.Run.{IsServed}
+use Rattle.std.proofs.Common.{◌≡◌, ◌∷◌, ◌++◌, sym, ◌∙◌, subst}
+use Rattle.std.proofs.lemmas.Result.{on_ok_weaker}
+use Rattle.dtraced.specs.Run.{IsSession}
 use Rattle.dtraced.specs.Step.{calls}
+use Rattle.dtraced.specs.Told.{calling}
 use Rattle.dtraced.proofs.Sessions.{session-called}
 use Rattle.dtraced.proofs.run.Run.call.Goals as goal
 
 pub returns : goal.returns
-returns c = λ past before.
-    let served = rw c.in-Some.is at before.served in
+returns c =
+    on_ok_weaker c.call.result
+    (λ tells wanted past before.
+    let contents = c.args.machine.now in
+    let line = c.args.line.now in
+    let answered = c.in_ok-answered.answered in
     let session =
-    session-called c.args.machine.now past c.in-Some.consumer c.answer.new.consumer c.args.self.now.output.items
-    c.args.line.now c.in_ok-reply.reply.items served c.in_ok-reply.ensures in
-    let output : c.extend_from_slice-2.new.self.items
-    ≡ (c.args.self.now.output.items ++ codes "0 ") ++ c.in_ok-reply.reply.items = search rules in
-    let after_call = IsServed c.args.machine.now (calls c.args.line.now ∷ past) (Some c.answer.new.consumer) in
-    record { counts = before.counts; served = subst after_call (sym output) session }
+    session-called wanted contents past c.in-Some.consumer c.answer.new.consumer c.args.self.now.told.text.items line
+    answered (rw c.in-Some.is at before.served) c.in_ok-answered.ensures in
+    let text : c.call.new.self.text.items
+    ≡ c.args.self.now.told.text.items ++ calling wanted line answered.text.items answered.is_over =
+    rw (← before.wants) tells.text in
+    record {
+      wants = tells.wanted ∙ before.wants;
+      counts = before.counts;
+      served = subst (IsSession wanted contents (calls line ∷ past) c.answer.new.consumer) (sym text) session;
+    })
+    c.call.ensures

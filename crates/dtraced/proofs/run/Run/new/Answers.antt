@@ -7,5 +7,5 @@ pub returns : goal.returns
 returns c = λ contents. record {
   acts = [];
   steps = no_steps contents.registry;
-  after = record { counts = λ cpu low. zeros 64 cpu; served = (refl, c.new-output.ensures.items) };
+  after = record { wants = refl; counts = λ cpu low. zeros 64 cpu; served = (refl, c.new.ensures.items) };
 }
