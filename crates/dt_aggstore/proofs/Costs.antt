@@ -17,7 +17,7 @@ cost-cons e entries =
     sum_by-append (λ e. entry_cost e.aggregation e.key) (e ∷ []) entries
     ∙ ap (λ n. n + cost_of entries) (zero-add (entry_cost e.aggregation e.key))
 
-words-cons : (e : Entry) (entries : List Entry) → words_of (e ∷ entries)
+pub words-cons : (e : Entry) (entries : List Entry) → words_of (e ∷ entries)
     ≡ cell_words e.aggregation.function + words_of entries
 words-cons e entries =
     sum_by-append (λ e. cell_words e.aggregation.function) (e ∷ []) entries

@@ -113,7 +113,7 @@ abbrev pub AreApart : List Entry → Type 0
 AreApart [] = Unit {0}
 AreApart (entry ∷ entries) = (has entry entries ≡ false) × AreApart entries
 
-has-filter_no : (p : Entry → Bool) (entries : List Entry) (entry : Entry) → has entry entries ≡ false
+pub has-filter_no : (p : Entry → Bool) (entries : List Entry) (entry : Entry) → has entry entries ≡ false
     → has entry (filter p entries) ≡ false
 has-filter_no p [] entry e = refl
 has-filter_no p (other ∷ entries) entry e = ⊎_elim

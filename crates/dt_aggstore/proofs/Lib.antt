@@ -15,3 +15,4 @@ pub mod Gathering
 pub mod Tables
 pub mod SomeTables
 pub mod Holding
+pub mod Indexing

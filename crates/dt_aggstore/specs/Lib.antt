@@ -7,5 +7,8 @@ pub mod Chosen
 pub mod Table
 pub mod TableOf
 pub mod Entries
+pub mod Fed
+pub mod Indexed
 pub mod IsAt
+pub mod Lent
 pub mod Joining

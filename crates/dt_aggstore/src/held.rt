@@ -1,22 +1,39 @@
 //! Entries as a store holds them.
-ghost use Rattle.std.specs.Prelude.{◌≡◌, ◌≤◌, vec_capacity};
+ghost use Rattle.std.specs.Prelude.{◌≡◌, ◌≤◌};
 ghost use Rattle.dt_aggstore.specs.Entries.{name_of, names_of};
 ghost use Rattle.dt_aggstore.specs.Held.{entry_of};
-ghost use Rattle.dt_aggstore.specs.Keys.{same_entry, entry_cost, cost_of, without};
+ghost use Rattle.dt_aggstore.specs.Keys.{same_entry, entry_cost, cost_of};
 ghost use Rattle.dt_aggstore.specs.declared.limits.TheConstants.{AGGSIZE_MAX, COST_MIN};
 
 use crate::key::{Aggregation, Key};
 use crate::limits::{AGGSIZE_MAX, COST_MIN};
+use arrayvec::ArrayVec;
 use dt_aggfn::cell_length;
 
-/// An entry of a store; its cell lies with the others.
-#[derive(Drop)]
-pub(crate) struct Held {
-    pub(crate) aggregation: Aggregation,
-    pub(crate) key: Key,
+/// An entry of a store, by which its cell is found.
+#[derive(PartialEq, Eq, Hash, Drop)]
+pub struct Held {
+    pub aggregation: Aggregation,
+    pub key: Key,
 }
 
 impl Held {
+    /// The entry of an aggregation and a key.
+    pub(crate) fn of(aggregation: Aggregation, key: &Key) -> Held
+        ensures { name_of result ≡ entry_of aggregation key.now.parts.items }
+    {
+        let mut held = Held {
+            aggregation,
+            key: Key {
+                parts: ArrayVec::new(),
+            },
+        };
+        for part in key.parts.as_slice() {
+            held.key.parts.push(*part);
+        }
+        held
+    }
+
     /// Whether it is the entry of this aggregation and key.
     pub(crate) fn is(&self, aggregation: Aggregation, key: &Key) -> bool
         ensures { result ≡ same_entry (entry_of aggregation key.now.parts.items) (name_of self.now) }
@@ -24,30 +41,22 @@ impl Held {
         aggregation.is(self.aggregation) && key.is(&self.key)
     }
 
-    /// How many bytes it costs.
-    pub(crate) fn cost(&self) -> usize
-        ensures { result ≡ entry_cost self.now.aggregation self.now.key.parts.items }
+    /// The same entry.
+    pub(crate) fn copy(&self) -> Held
+        ensures { name_of result ≡ name_of self.now }
     {
-        cost(self.aggregation, &self.key)
+        Held::of(self.aggregation, &self.key)
     }
-}
 
-/// How many bytes an entry costs: eight for each word of its head, its key and its cell.
-pub(crate) fn cost(aggregation: Aggregation, key: &Key) -> usize
-    ensures cost { result ≡ entry_cost aggregation key.now.parts.items }
-    ensures least { COST_MIN ≤ result }
-{
-    // A cell has one word at least.
-    cell_length();
-    8 * (1 + key.words() + aggregation.function.cell_words())
-}
-
-/// Lets the entries of an aggregation go.
-pub(crate) fn let_go(entries: &mut Vec<Held>, aggregation: Aggregation)
-    ensures names { names_of entries.new.items ≡ without aggregation (names_of entries.old.items) }
-    ensures capacity { vec_capacity entries.new ≡ vec_capacity entries.old }
-{
-    entries.retain(|held| !aggregation.is(held.aggregation));
+    /// How many bytes it costs: eight for each word of its head, its key and its cell.
+    pub(crate) fn cost(&self) -> usize
+        ensures cost { result ≡ entry_cost self.now.aggregation self.now.key.parts.items }
+        ensures least { COST_MIN ≤ result }
+    {
+        // A cell has one word at least.
+        cell_length();
+        8 * (1 + self.key.words() + self.aggregation.function.cell_words())
+    }
 }
 
 /// What entries cost together.

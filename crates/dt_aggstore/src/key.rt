@@ -5,6 +5,7 @@ use crate::limits::KEYS_MAX;
 use arrayvec::ArrayVec;
 use dt_aggfn::AggFn;
 use std::cmp::Ordering;
+use std::hash::{Hash, Hasher};
 
 /// An aggregation: its number in the consumer and its function. Two that differ in either are two.
 #[derive(Clone, Copy, Debug, PartialEq, Eq)]
@@ -22,7 +23,7 @@ pub enum KeyPart {
 }
 
 /// What an entry of an aggregation is found by: at most [`KEYS_MAX`] parts, or none.
-#[derive(Drop)]
+#[derive(PartialEq, Eq, Hash, Drop)]
 pub struct Key {
     pub parts: ArrayVec<KeyPart, KEYS_MAX>,
 }
@@ -36,6 +37,39 @@ impl Default for KeyPart {
     /// The number 0.
     fn default() -> Self {
         KeyPart::Number(0)
+    }
+}
+
+impl Hash for KeyPart {
+    ghost use Rattle.std.proofs.Common.{rules};
+    ghost use Rattle.std.specs.Cmp.Rules.{hashing};
+    ghost use Rattle.dt_aggstore.specs.Fed.{part_fed};
+
+    ghost hash_input = { part_fed };
+
+    ghost respects_eq = { Prim.search (hashing, rules) };
+
+    /// A text at once, and not byte by byte.
+    fn hash<H: Hasher>(&self, state: &mut H) {
+        match self {
+            KeyPart::Number(number) => number.hash(state),
+            KeyPart::Text(bytes) => state.write(bytes),
+        }
+    }
+}
+
+impl Hash for Aggregation {
+    ghost use Rattle.std.proofs.Common.{rules};
+    ghost use Rattle.std.specs.Hash as fed;
+    ghost use Rattle.std.specs.Cmp.Rules.{hashing};
+
+    ghost hash_input = { λ a. fed.usize a.number };
+
+    ghost respects_eq = { Prim.search (hashing, rules) };
+
+    /// By its number alone: in a consumer a number has one function.
+    fn hash<H: Hasher>(&self, state: &mut H) {
+        self.number.hash(state);
     }
 }
 

@@ -4,11 +4,13 @@
 //! it keeps, which entries it holds and with which values is defined over the list of all that came to it,
 //! contributions and truncations (`specs/History.antt`, `specs/Held.antt`, `specs/Choice.antt`), and not over
 //! how its entries lie. A new store has an empty past, and each `add` and `trunc` makes its past one event
-//! longer (`specs/IsAt.antt`). The table of an aggregation joins the stores of all processors
+//! longer (`specs/IsAt.antt`). The entries are found by an index, and their cells lie in a pool of words; a store
+//! lends both (`specs/Lent.antt`). The table of an aggregation joins the stores of all processors
 //! (`specs/Table.antt`).
 #![tactic(auto)]
 
 mod cells;
+mod entries;
 mod held;
 mod joining;
 mod key;
@@ -19,6 +21,7 @@ mod table;
 #[cfg(test)]
 mod tests;
 
+pub use held::Held;
 pub use key::{Aggregation, Key, KeyPart};
 pub use laws::{drops_go_on, held_entries, one_choice, one_table};
 pub use limits::{ADDED_LIMIT, AGGSIZE_MAX, KEYS_MAX, STORES_MAX};

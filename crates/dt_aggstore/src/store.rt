@@ -1,21 +1,23 @@
 //! The store of one processor.
 ghost use Rattle.std.specs.Prelude.{◌≡◌, ◌+◌, ◌*◌, ◌<◌, ◌≤◌, ◌↔◌, ℕ, ℤ, List, length, IfOk, IfSome, IfNone, IsTrue, Contains, if◌then◌else◌, vec_len, vec_capacity};
 ghost use Rattle.dt_aggstore.specs.Keys.{cost_of};
-ghost use Rattle.dt_aggstore.specs.Entries.{names_of, words_of, LiesAt};
-ghost use Rattle.dt_aggstore.specs.Held.{entry_of};
+ghost use Rattle.dt_aggstore.specs.Entries.{name_of, names_of, words_of, LiesAt};
+ghost use Rattle.dt_aggstore.specs.Indexed.{places_from};
 ghost use Rattle.dt_aggstore.specs.declared.limits.TheConstants.{ADDED_LIMIT, AGGSIZE_MAX, COST_MIN};
 
 use crate::cells::{add_at, close_up, push_first};
-use crate::held::{Held, cost, costs, let_go};
+use crate::entries::Entries;
+use crate::held::{Held, costs};
 use crate::key::{Aggregation, Key};
 use crate::limits::{ADDED_LIMIT, AGGSIZE_MAX, COST_MIN};
 use dt_aggfn::cell_length;
+use indexmap::IndexMap;
 use std::alloc::{AllocError, Global};
 
 /// What one processor keeps of a consumer's aggregations. All its room is made by `new`.
 #[derive(Drop)]
 pub struct AggStore {
-    pub(crate) entries: Vec<Held>,
+    pub(crate) entries: Entries,
     /// The cells of the entries, in their order.
     pub(crate) cells: Vec<u64>,
     pub(crate) size: usize,
@@ -24,10 +26,11 @@ pub struct AggStore {
     pub(crate) added: u64,
     /// How many of those that were added were not kept.
     pub(crate) dropped: u64,
-    ghost entry_room: { size < COST_MIN * (vec_capacity entries + 1) },
+    ghost entry_room: { size < COST_MIN * (entries.room + 1) },
     ghost cell_room: { size < 8 * (vec_capacity cells + 1) },
     ghost spent_is: { spent ≡ cost_of (names_of entries.items) },
     ghost cells_are: { length cells.items ≡ words_of (names_of entries.items) },
+    ghost places_are: { entries.places ≡ places_from 0 (names_of entries.items) },
     ghost within: { spent ≤ size },
     ghost small: { size ≤ AGGSIZE_MAX },
     ghost few: { added ≤ ADDED_LIMIT },
@@ -39,6 +42,7 @@ impl AggStore {
     ghost use Rattle.dt_aggstore.specs.Choice.{Keeps};
     ghost use Rattle.dt_aggstore.specs.Chosen.{drops};
     ghost use Rattle.dt_aggstore.specs.IsAt.{IsAt, Makes, added_of};
+    ghost use Rattle.dt_aggstore.specs.Lent.{LendsIndex, LendsPool, pool_of};
 
     /// An empty store whose entries may cost `aggsize` bytes, at most [`AGGSIZE_MAX`]. `Err`: there was no
     /// memory for its room.
@@ -48,7 +52,7 @@ impl AggStore {
         ensures added { IfOk result (λ store. added_of store ≡ 0) }
     {
         Ok(AggStore {
-            entries: Vec::with_capacity(alloc, aggsize / COST_MIN)?,
+            entries: Entries::new(alloc, aggsize / COST_MIN)?,
             cells: Vec::with_capacity(alloc, aggsize / 8)?,
             size: aggsize,
             spent: 0,
@@ -75,12 +79,12 @@ impl AggStore {
         // A cell has its function's words.
         cell_length();
         self.added += 1;
-        match self.find(aggregation, key) {
+        match self.entries.place_of(aggregation, key) {
             Some(place) => {
                 add_at(aggregation.function, &mut self.cells, place, value);
                 true
             }
-            None => self.insert(aggregation, key, value),
+            None => self.insert(Held::of(aggregation, key), value),
         }
     }
 
@@ -91,9 +95,9 @@ impl AggStore {
     {
         // A cell has its function's words.
         cell_length();
-        close_up(&mut self.cells, &self.entries, aggregation);
-        let_go(&mut self.entries, aggregation);
-        let spent = costs(&self.entries);
+        close_up(&mut self.cells, self.entries.held(), aggregation);
+        self.entries.let_go(aggregation);
+        let spent = costs(self.entries.held());
         self.spent = spent;
     }
 
@@ -112,42 +116,42 @@ impl AggStore {
         self.dropped
     }
 
-    /// Where the cell of an entry lies, if the entry is held.
-    fn find(&self, aggregation: Aggregation, key: &Key) -> Option<usize>
-        ensures found { IfSome result (LiesAt (names_of self.now.entries.items)
-            (entry_of aggregation key.now.parts.items)) }
-        ensures none { IfNone result (Contains (names_of self.now.entries.items)
-            (entry_of aggregation key.now.parts.items) → ⊥) }
+    /// The index of the entries that are held, in the order in which they came, each with the place of its cell in the
+    /// [`pool`](AggStore::pool). It takes no memory.
+    pub fn index(&self) -> &IndexMap<Held, usize>
+        ensures { (past : Past) → IsAt past self.now → LendsIndex past (pool_of self.now) result.now.entries }
     {
-        let mut place = 0;
-        for held in &self.entries {
-            if held.is(aggregation, key) {
-                return Some(place);
-            }
-            place += held.aggregation.function.cell_words();
-        }
-        None
+        // A cell has its function's words.
+        cell_length();
+        self.entries.index()
     }
 
-    /// Makes an entry with the cell of one value, if its cost fits, and says so. Otherwise counts a drop.
-    fn insert(&mut self, aggregation: Aggregation, key: &Key, value: i64) -> bool
-        requires { self.old.dropped < self.old.added }
-        ensures { Makes aggregation key.now.parts.items value self.old.size self.old.added self.old.dropped
+    /// The words of the cells, one cell after another. It takes no memory.
+    pub fn pool(&self) -> &[u64]
+        ensures pool { result.now ≡ pool_of self.now }
+        ensures shows { (past : Past) → IsAt past self.now → LendsPool past result.now }
+    {
+        &self.cells
+    }
+
+    /// Makes an entry that isn't held, with the cell of one value, if its cost fits, and says so. Otherwise counts a
+    /// drop.
+    fn insert(&mut self, held: Held, value: i64) -> bool
+        requires dropped { self.old.dropped < self.old.added }
+        requires new { Contains (names_of self.old.entries.items) (name_of held) → ⊥ }
+        ensures { Makes held.aggregation held.key.parts.items value self.old.size self.old.added self.old.dropped
             (names_of self.old.entries.items) self.old.cells.items self.new result }
     {
         // A cell has one word at least.
         cell_length();
-        let cost = cost(aggregation, key);
+        let cost = held.cost();
         if self.size - self.spent < cost {
             self.dropped += 1;
             return false;
         }
-        push_first(aggregation.function, &mut self.cells, value);
-        let held = Held {
-            aggregation,
-            key: key.copy(),
-        };
-        self.entries.push(held).unwrap();
+        let place = self.cells.len();
+        push_first(held.aggregation.function, &mut self.cells, value);
+        self.entries.push(held, place);
         self.spent += cost;
         true
     }

@@ -69,7 +69,7 @@ impl AggStore {
     {
         cell_length();
         let mut place = 0;
-        for held in &self.entries {
+        for held in self.entries.held() {
             let words = held.aggregation.function.cell_words();
             if aggregation.is(held.aggregation) {
                 let cell = cell_at(&self.cells, place, words);

@@ -11,7 +11,7 @@ use std::test::Fail;
 /// from there on, by its number and function; `lq100` is an `lquantize` of ten levels from 0 to 100.
 /// `0+KEY:VALUE` gives a value on store 0 and is kept, `1-KEY:VALUE` gives one on store 1 and is dropped. `0!`
 /// truncates on store 0. `0#3` says that store 0 counts three contributions, and `0~1` that one of them was
-/// dropped. `[KEY:VALUE;..]` is the table of both stores. A key has its parts between commas: numbers, and texts
+/// dropped. `0=KEY@PLACE;../WORD,..` is what its index and its pool show. `[KEY:VALUE;..]` is the table of both stores. A key has its parts between commas: numbers, and texts
 /// behind a `'`. A value of rows has `NAME=COUNT` for each, between `&`.
 const TABLE: &str = "
 56 @1:avg 0+'sh:1 0+'sh:2 1+'sh:9 1-'cron:9 ['sh:4] 0! 1! [] 1+'cron:5 ['cron:5]
@@ -38,6 +38,8 @@ const TABLE: &str = "
 1000 @1:sum 0+1:5 1+1:6 0! [1:6] 0+1:1 [1:7] 1! 1! [1:1]
 1000 @1:min 0+1:5 1+1:7 1+2:-3 [1:5;2:-3] 0#1 1#2
 1000 @1:max 0+1:-5 1+1:-7 0! 0#1 [1:-7]
+1000 0= @1:count 0+1:0 0+'sh:0 @2:avg 0+1:8 @3:sum 0+1,2:9 @2:avg 0+1:4 0=1@0;'sh@1;1@2;1,2@4/1,1,2,12,9
+1000 @1:count 0+1:0 0+2:0 @2:avg 0+1:8 @1:count 0+3:0 0! 0=1@0/1,8 @2:avg 0+1:4 @1:count 0+2:0 0=1@0;2@2/2,12,1
 ";
 
 #[test]
@@ -92,9 +94,9 @@ fn shows(rt: &impl Abort, alloc: Global, line: &str) -> Result<(), Fail> {
             let table = table_text(alloc, &AggStore::merge_all(alloc, &stores, aggregation)?)?;
             assert_eq!(rt; table.as_str(), word, "{line}");
         } else if let Some(step) = word.strip_prefix('0') {
-            take(rt, &mut stores[0], aggregation, step)?;
+            take(rt, alloc, &mut stores[0], aggregation, step)?;
         } else if let Some(step) = word.strip_prefix('1') {
-            take(rt, &mut stores[1], aggregation, step)?;
+            take(rt, alloc, &mut stores[1], aggregation, step)?;
         }
     }
     Ok(())
@@ -103,6 +105,7 @@ fn shows(rt: &impl Abort, alloc: Global, line: &str) -> Result<(), Fail> {
 /// Does one step on a store, and compares what it answers.
 fn take(
     rt: &impl Abort,
+    alloc: Global,
     store: &mut AggStore,
     aggregation: Aggregation,
     step: &str,
@@ -117,6 +120,10 @@ fn take(
     }
     if let Some(count) = step.strip_prefix('~') {
         assert_eq!(rt; store.dropped(), count.parse().unwrap_or(0), "{step}");
+        return Ok(());
+    }
+    if let Some(shown) = step.strip_prefix('=') {
+        assert_eq!(rt; index_text(alloc, store)?.as_str(), shown, "{step}");
         return Ok(());
     }
     let (key, value) = step.split_once(':').ok_or("value")?;
@@ -197,10 +204,27 @@ fn table_text(alloc: Global, rows: &[Row]) -> Result<String, AllocError> {
     Ok(text)
 }
 
-/// A row as a line writes it.
-fn row_text(alloc: Global, row: &Row) -> Result<String, AllocError> {
+/// What a store's index and pool show, as a line writes it.
+fn index_text(alloc: Global, store: &AggStore) -> Result<String, AllocError> {
     let mut text = String::new(alloc);
-    for part in row.key.parts.as_slice() {
+    for (held, place) in store.index() {
+        if !text.is_empty() {
+            text.push(';')?;
+        }
+        text.push_str(key_text(alloc, &held.key)?.as_str())?;
+        text.push_str(format!(in alloc; "@{place}")?.as_str())?;
+    }
+    for (place, word) in store.pool().iter().enumerate() {
+        text.push(if place == 0 { '/' } else { ',' })?;
+        text.push_str(format!(in alloc; "{word}")?.as_str())?;
+    }
+    Ok(text)
+}
+
+/// A key as a line writes it.
+fn key_text(alloc: Global, key: &Key) -> Result<String, AllocError> {
+    let mut text = String::new(alloc);
+    for part in key.parts.as_slice() {
         if !text.is_empty() {
             text.push(',')?;
         }
@@ -216,6 +240,12 @@ fn row_text(alloc: Global, row: &Row) -> Result<String, AllocError> {
             }
         }
     }
+    Ok(text)
+}
+
+/// A row as a line writes it.
+fn row_text(alloc: Global, row: &Row) -> Result<String, AllocError> {
+    let mut text = key_text(alloc, &row.key)?;
     text.push(':')?;
     match &row.value {
         Answer::Number(value) => text.push_str(format!(in alloc; "{value}")?.as_str())?,

@@ -89,15 +89,36 @@ fn shows(rt: &impl Abort, alloc: Global, line: &str) -> Result<(), Fail> {
         );
     }
     let mut expected = Vec::new(alloc);
+    let mut kept = Vec::new(alloc);
     for place in words.next().unwrap_or("-").split(',') {
         let place = digits(place);
         if 0 < place && place <= 16 {
-            expected.extend_from_slice(&[place as u8; 16][..lengths[place - 1].min(16)])?;
+            let length = lengths[place - 1].min(16);
+            expected.extend_from_slice(&[place as u8; 16][..length])?;
+            kept.push(length as u32)?;
         }
     }
     assert_eq!(rt; buffer.content(alloc)?, expected, "{line}");
+    assert_eq!(rt; buffer.ring().is_some(), policy == Policy::Ring, "{line}");
+    lends(rt, alloc, &buffer, &expected, &kept, line)?;
     assert_eq!(rt; buffer.drops() as usize, number(words.next()), "{line}");
     assert_eq!(rt; buffer.filled(), words.next() == Some("filled"), "{line}");
+    Ok(())
+}
+
+/// Compares the rings that a buffer lends, if it does, with the kept records' bytes and lengths.
+fn lends(
+    rt: &impl Abort,
+    alloc: Global,
+    buffer: &Principal,
+    kept: &Vec<u8>,
+    lengths: &Vec<u32>,
+    line: &str,
+) -> Result<(), Fail> {
+    if let Some(rings) = buffer.ring() {
+        assert_eq!(rt; rings.bytes.to_vec(alloc)?, *kept, "{line}");
+        assert_eq!(rt; rings.lengths.to_vec(alloc)?, *lengths, "{line}");
+    }
     Ok(())
 }
 

@@ -1,11 +1,13 @@
 -- A contribution goes to the entry that is held, or to a new one.
-use Rattle.std.proofs.Common.{◌≡◌, ◌+◌, ◌≤◌, ℤ, Bool, true, false, List, [], ◌∷◌, ◌++◌, length, take, drop, refl, ap, ◌∙◌, subst, arith}
+use Rattle.std.proofs.Common.{◌≡◌, ◌+◌, ◌≤◌, ◌↔◌, ℤ, Bool, true, false, List, [], ◌∷◌, ◌++◌, length, take, drop, refl, ap, ◌∙◌, subst, IsTrue, to_z, of_z, arith}
 use Rattle.std.specs.Prelude.{FitsSigned, slice_range, Contains}
 use Rattle.std.specs.Int.{w64}
 use Rattle.std.proofs.lemmas.Int.{to_z-of_z}
 use Rattle.std.proofs.lemmas.Bool.{false≢true}
 use Rattle.std.proofs.lemmas.List.{with_items_is}
 use Rattle.dt_aggfn.specs.Cells.{cell_words, cell_of}
+use Rattle.dt_aggstore.specs.Indexed.{Indexed}
+use Rattle.dt_aggstore.specs.Keys.{Entry, entry_cost, cost_of}
 use Rattle.dt_aggstore.specs.History.{Past, after, given, contributions}
 use Rattle.dt_aggstore.specs.Held.{entry_of, bag}
 use Rattle.dt_aggstore.specs.Entries.{names_of}
@@ -46,7 +48,7 @@ returns-in-Some-clause-stands c = λ past at.
     (ap (λ xs. slice_range xs c.in-Some.place (c.in-Some.place + words)) then
     ∙ cell_is past self at c.args.aggregation key c.args.value lengths c.in-Some.place lies) in
     after_added past self at c.args.aggregation key c.args.value lengths c.in-Some.place lies _ refl refl refl
-    c.ranges.value refl
+    c.ranges.value c.place_of.ensures.same
     (with_items_is self.cells c.add_at.new.cells (omega (arith, c.add_at.auto.cells, ap length then, self.cells.ok))
     ∙ added
     ∙ ap (λ z. take c.in-Some.place c.deref_mut.result.now ++ cell_of c.args.aggregation.function (bag ++ z ∷ [])
@@ -59,19 +61,34 @@ returns-in-Some-clause-keeps c = λ past at.
     keeps_added past c.args.self.now at c.args.aggregation c.args.key.now.parts.items c.args.value c.in-Some.place
     c.in-Some.ensures.found
 
+-- what is made of an entry beside the names that were there
+abbrev MakesOf : Entry → List Entry → ℤ → AggStore → AggStore → Bool → Type 0
+MakesOf entry names value old new made =
+    Makes entry.aggregation entry.key value old.size (old.added + 1) old.dropped names old.cells.items new made
+
 pub returns-in-None-clause-stands : goal.returns-in-None-clause-stands
 returns-in-None-clause-stands c = λ past at.
     let self = c.args.self.now in
-    made past self c.insert.new.self at c.args.aggregation c.args.key.now.parts.items c.args.value c.insert.result
-    c.ranges.value c.in-None.ensures.none
-    (subst (λ z. Makes c.args.aggregation c.args.key.now.parts.items z self.size (self.added + 1) self.dropped
-    (names_of self.entries.items) self.cells.items c.insert.new.self c.insert.result)
-    (to_z-of_z w64 c.args.value c.ranges.value) c.insert.ensures)
+    let key = c.args.key.now.parts.items in
+    let new = c.insert.new.self in
+    made past self new at c.args.aggregation key c.args.value c.insert.result c.ranges.value c.in-None.ensures.none
+    (subst (λ z. MakesOf (entry_of c.args.aggregation key) (names_of self.entries.items) z self new c.insert.result)
+    (to_z-of_z w64 c.args.value c.ranges.value)
+    (subst (λ (e : Indexed). MakesOf (entry_of c.args.aggregation key) (names_of e.items)
+    (to_z w64 (of_z w64 c.args.value)) self new c.insert.result) c.place_of.ensures.same
+    (subst (λ e. MakesOf e (names_of c.place_of.new.self.items) (to_z w64 (of_z w64 c.args.value)) self new
+    c.insert.result) c.of.ensures c.insert.ensures)))
 
 pub returns-in-None-clause-keeps : goal.returns-in-None-clause-keeps
 returns-in-None-clause-keeps c = λ past at.
     keeps_made past c.args.self.now at c.args.aggregation c.args.key.now.parts.items c.args.value
-    c.in-None.ensures.none c.insert.result c.insert.ensures.fits
+    c.in-None.ensures.none c.insert.result
+    (subst (λ (e : Indexed). IsTrue c.insert.result
+    ↔ (entry_cost c.args.aggregation c.args.key.now.parts.items + cost_of (names_of e.items) ≤ c.args.self.now.size))
+    c.place_of.ensures.same
+    (subst (λ (e : Entry). IsTrue c.insert.result
+    ↔ (entry_cost e.aggregation e.key + cost_of (names_of c.place_of.new.self.items) ≤ c.args.self.now.size))
+    c.of.ensures c.insert.ensures.fits))
 
 pub returns-in-Some-clause-drops : goal.returns-in-Some-clause-drops
 returns-in-Some-clause-drops c = λ past at.

@@ -26,9 +26,9 @@ cell_at-cell-requires c =
       c.loop-held.invariant.place_is,
       c.cell_words-words.ensures.words,
       ap length c.deref.ensures.value,
-      words_fit_at c.args.self.now.entries.items c.deref-held-items.result.now c.loop-held.held-index
+      words_fit_at c.args.self.now.entries.items c.held-held-items.result.now c.loop-held.held-index
           c.held-item.result
-          c.deref-held-items.ensures.value c.loop-held-test.true c.held-item.is,
+          c.held-held-items.ensures c.loop-held-test.true c.held-item.is,
     )
 
 pub join-requires : goal.join-requires
@@ -42,9 +42,9 @@ join-requires c =
       c.loop-held.invariant.place_is,
       c.cell_words-words.ensures.words,
       ap length c.deref.ensures.value,
-      words_fit_at c.args.self.now.entries.items c.deref-held-items.result.now c.loop-held.held-index
+      words_fit_at c.args.self.now.entries.items c.held-held-items.result.now c.loop-held.held-index
           c.held-item.result
-          c.deref-held-items.ensures.value c.loop-held-test.true c.held-item.is,
+          c.held-held-items.ensures c.loop-held-test.true c.held-item.is,
     ))
     ∙ c.cell_words-words.ensures.words
     ∙ ap (λ (a : Aggregation). cell_words a.function) (sym own)
@@ -58,18 +58,18 @@ overflow_add-place c =
       c.args.self.now.cells.small,
       c.loop-held.invariant.place_is,
       c.cell_words-words.ensures.words,
-      words_fit_at c.args.self.now.entries.items c.deref-held-items.result.now c.loop-held.held-index
+      words_fit_at c.args.self.now.entries.items c.held-held-items.result.now c.loop-held.held-index
           c.held-item.result
-          c.deref-held-items.ensures.value c.loop-held-test.true c.held-item.is,
+          c.held-held-items.ensures c.loop-held-test.true c.held-item.is,
     )
 
 pub loop-held-preserved : goal.loop-held-preserved
 loop-held-preserved c =
     let entries = c.args.self.now.entries.items in
-    let items = c.deref-held-items.result.now in
+    let items = c.held-held-items.result.now in
     let i = c.loop-held.held-index in
     let x = c.held-item.result in
-    let same = c.deref-held-items.ensures.value in
+    let same = c.held-held-items.ensures in
     let lt = c.loop-held-test.true in
     elim c.if-is.branch [
       | then-is+in_ok-join w ↦ (record {
@@ -123,7 +123,7 @@ returns-clause-joins c = λ past at bags j few.
     let self = c.args.self.now in
     let all : names_of (take c.loop-held.held-index self.entries.items) ≡ names_of self.entries.items =
     ap names_of (take_all c.loop-held.held-index self.entries.items
-    (omega (arith, ap length c.deref-held-items.ensures.value, c.loop-held-test.false))) in
+    (omega (arith, ap length c.held-held-items.ensures, c.loop-held-test.false))) in
     joined_alike c.args.aggregation.function _ _ c.loop-held.joining.rows.items
     (λ key. ap (λ xs. Gathered past self at c.args.aggregation bags xs key) (all ∙ at.names)
     ∙ gathered_all past self at c.args.aggregation bags key)

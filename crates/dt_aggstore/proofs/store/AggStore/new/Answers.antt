@@ -13,6 +13,6 @@ returns-clause-stands c = record {
   numbers = tt;
   chosen = [];
   choice = no_choice c.args.aggsize;
-  names = ap names_of c.in_ok-with_capacity.ensures.items;
-  cells = c.in_ok-with_capacity-2.ensures.items;
+  names = ap names_of c.in_ok-new.ensures.items;
+  cells = c.in_ok-with_capacity.ensures.items;
 }
