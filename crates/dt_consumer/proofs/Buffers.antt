@@ -80,16 +80,16 @@ pub in_end_last : (past : Past) → EndLast past true
 in_end_last past = λ fill e. cc
 
 -- one ECB of a row more was taken
-pub took_more : (f : Ecb → Taking) (row : List Ecb) (i : ℕ) (d : Ecb) (past : Past) (errors : ℕ) (p : Processor)
-    → i < length row
+pub took_more : (f : Ecb → Taking) (row : List Ecb) (i : ℕ) (ecb : Ecb) (past : Past) (errors : ℕ) (p : Processor)
+    → i < length row → ecb ≡ get_or row i ecb
     → HasTaken
-    (followed_by (followed_by past (attempts_of (map f (take i row)))) (attempts_of (f (get_or row i d) ∷ [])))
-    ((errors + faults (map f (take i row))) + faults (f (get_or row i d) ∷ [])) p
+    (followed_by (followed_by past (attempts_of (map f (take i row)))) (attempts_of (f ecb ∷ [])))
+    ((errors + faults (map f (take i row))) + faults (f ecb ∷ [])) p
     → HasTaken (followed_by past (attempts_of (map f (take (i + 1) row))))
     (errors + faults (map f (take (i + 1) row))) p
-took_more f row i d past errors p inside h =
-    subst (λ xs. HasTaken (followed_by past (attempts_of xs)) (errors + faults xs) p) (sym (row_more f row i d inside))
-    (has_more past errors (map f (take i row)) (f (get_or row i d) ∷ []) p h)
+took_more f row i ecb past errors p inside is h =
+    subst (λ xs. HasTaken (followed_by past (attempts_of xs)) (errors + faults xs) p) (sym (row_more f row i ecb inside is))
+    (has_more past errors (map f (take i row)) (f ecb ∷ []) p h)
 
 -- all were
 pub took_all : (f : Ecb → Taking) (row : List Ecb) (i : ℕ) (past : Past) (errors : ℕ) (p : Processor)
@@ -101,18 +101,18 @@ took_all f row i past errors p beyond h =
     (take_all i row beyond) h
 
 -- the last of the takings up to an exit
-pub took_exit : (f : Ecb → Taking) (row : List Ecb) (i : ℕ) (d : Ecb) (past : Past) (errors : ℕ) (p : Processor)
-    → i < length row → first_exit (map f (take i row)) ≡ None → is_some (exit_of (f (get_or row i d))) ≡ true
+pub took_exit : (f : Ecb → Taking) (row : List Ecb) (i : ℕ) (ecb : Ecb) (past : Past) (errors : ℕ) (p : Processor)
+    → i < length row → ecb ≡ get_or row i ecb → first_exit (map f (take i row)) ≡ None → is_some (exit_of (f ecb)) ≡ true
     → HasTaken
-    (followed_by (followed_by past (attempts_of (map f (take i row)))) (attempts_of (f (get_or row i d) ∷ [])))
-    ((errors + faults (map f (take i row))) + faults (f (get_or row i d) ∷ [])) p
+    (followed_by (followed_by past (attempts_of (map f (take i row)))) (attempts_of (f ecb ∷ [])))
+    ((errors + faults (map f (take i row))) + faults (f ecb ∷ [])) p
     → HasTaken (followed_by past (attempts_of (through_exit (map f row))))
     (errors + faults (through_exit (map f row))) p
-took_exit f row i d past errors p inside stays exits h =
+took_exit f row i ecb past errors p inside is stays exits h =
     subst (λ xs. HasTaken (followed_by past (attempts_of xs)) (errors + faults xs) p)
-    (sym (ap through_exit (row_split f row i d inside)
-    ∙ through_first (map f (take i row)) (f (get_or row i d)) (map f (drop (suc i) row)) stays exits))
-    (has_more past errors (map f (take i row)) (f (get_or row i d) ∷ []) p h)
+    (sym (ap through_exit (row_split f row i ecb inside is)
+    ∙ through_first (map f (take i row)) (f ecb) (map f (drop (suc i) row)) stays exits))
+    (has_more past errors (map f (take i row)) (f ecb ∷ []) p h)
 
 -- none exited
 pub took_through : (f : Ecb → Taking) (row : List Ecb) (i : ℕ) (past : Past) (errors : ℕ) (p : Processor)

@@ -246,14 +246,14 @@ module _ (shapes : List ShapeForm) where
       h
 
   -- one ECB of a row more was taken
-  pub gave_more : (f : Ecb → Taking) (row : List Ecb) (i : ℕ) (d : Ecb) (past : store.Past) (st : AggStore)
-      → i < length row
+  pub gave_more : (f : Ecb → Taking) (row : List Ecb) (i : ℕ) (ecb : Ecb) (past : store.Past) (st : AggStore)
+      → i < length row → ecb ≡ get_or row i ecb
       → IsAt (given_then (given_then past (contributions shapes (map f (take i row))))
-      (contributions_of shapes (f (get_or row i d)))) st
+      (contributions_of shapes (f ecb))) st
       → IsAt (given_then past (contributions shapes (map f (take (i + 1) row)))) st
-  gave_more f row i d past st inside h =
-      subst (λ xs. IsAt (given_then past (contributions shapes xs)) st) (sym (row_more f row i d inside))
-      (given_one past (map f (take i row)) (f (get_or row i d)) st h)
+  gave_more f row i ecb past st inside is h =
+      subst (λ xs. IsAt (given_then past (contributions shapes xs)) st) (sym (row_more f row i ecb inside is))
+      (given_one past (map f (take i row)) (f ecb) st h)
 
   -- all were
   pub gave_all : (f : Ecb → Taking) (row : List Ecb) (i : ℕ) (past : store.Past) (st : AggStore) → length row ≤ i
@@ -263,16 +263,16 @@ module _ (shapes : List ShapeForm) where
       subst (λ xs. IsAt (given_then past (contributions shapes (map f xs))) st) (take_all i row beyond) h
 
   -- the last of the takings up to an exit
-  pub gave_exit : (f : Ecb → Taking) (row : List Ecb) (i : ℕ) (d : Ecb) (past : store.Past) (st : AggStore)
-      → i < length row → first_exit (map f (take i row)) ≡ None → is_some (exit_of (f (get_or row i d))) ≡ true
+  pub gave_exit : (f : Ecb → Taking) (row : List Ecb) (i : ℕ) (ecb : Ecb) (past : store.Past) (st : AggStore)
+      → i < length row → ecb ≡ get_or row i ecb → first_exit (map f (take i row)) ≡ None → is_some (exit_of (f ecb)) ≡ true
       → IsAt (given_then (given_then past (contributions shapes (map f (take i row))))
-      (contributions_of shapes (f (get_or row i d)))) st
+      (contributions_of shapes (f ecb))) st
       → IsAt (given_then past (contributions shapes (through_exit (map f row)))) st
-  gave_exit f row i d past st inside stays here h =
+  gave_exit f row i ecb past st inside is stays here h =
       subst (λ xs. IsAt (given_then past (contributions shapes xs)) st)
-      (sym (ap through_exit (row_split f row i d inside)
-      ∙ through_first (map f (take i row)) (f (get_or row i d)) (map f (drop (suc i) row)) stays here))
-      (given_one past (map f (take i row)) (f (get_or row i d)) st h)
+      (sym (ap through_exit (row_split f row i ecb inside is)
+      ∙ through_first (map f (take i row)) (f ecb) (map f (drop (suc i) row)) stays here))
+      (given_one past (map f (take i row)) (f ecb) st h)
 
   -- none exited
   pub gave_through : (f : Ecb → Taking) (row : List Ecb) (i : ℕ) (past : store.Past) (st : AggStore) → length row ≤ i

@@ -12,6 +12,8 @@ pub mod Counted
 pub mod Stands
 pub mod DraftLemmas
 pub mod Happening
+pub mod Interests
+pub mod Placed
 pub mod Telling
 pub mod Names
 pub mod StoresTold

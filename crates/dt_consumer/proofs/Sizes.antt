@@ -31,17 +31,19 @@ sizes_first clauses ecb ecbs =
     picked_sum (ecb.probe == END) (form_of_ecb clauses ecb) (of_probe END (map (form_of_ecb clauses) ecbs))
 
 -- those of the first ECBs, and of one more
-pub sizes_more : (clauses : List ClauseForm) (ecbs : List Ecb) (i : ℕ) (d : Ecb) → i < length ecbs
-    → end_sizes clauses (take (i + 1) ecbs) ≡ end_sizes clauses (take i ecbs) + one_size clauses (get_or ecbs i d)
-sizes_more clauses [] i d inside = absurd (omega arith)
-sizes_more clauses (ecb ∷ ecbs) zero d inside = omega (arith, sizes_first clauses ecb [])
-sizes_more clauses (ecb ∷ ecbs) (suc i) d inside =
-    ap (λ k. end_sizes clauses (take k (ecb ∷ ecbs))) (shift i)
+pub sizes_more : (clauses : List ClauseForm) (ecbs : List Ecb) (i : ℕ) (ecb : Ecb) → i < length ecbs
+    → ecb ≡ get_or ecbs i ecb
+    → end_sizes clauses (take (i + 1) ecbs) ≡ end_sizes clauses (take i ecbs) + one_size clauses ecb
+sizes_more clauses [] i ecb inside is = absurd (omega arith)
+sizes_more clauses (first ∷ ecbs) zero ecb inside is =
+    omega (arith, sizes_first clauses first [], ap (one_size clauses) is)
+sizes_more clauses (first ∷ ecbs) (suc i) ecb inside is =
+    ap (λ k. end_sizes clauses (take k (first ∷ ecbs))) (shift i)
     ∙ omega (
       arith,
-      sizes_first clauses ecb (take (i + 1) ecbs),
-      sizes_first clauses ecb (take i ecbs),
-      sizes_more clauses ecbs i d (omega arith),
+      sizes_first clauses first (take (i + 1) ecbs),
+      sizes_first clauses first (take i ecbs),
+      sizes_more clauses ecbs i ecb (omega arith) is,
     )
   where
     shift : (i : ℕ) → suc i + 1 ≡ suc (i + 1)

@@ -1,5 +1,6 @@
 -- What takings add to faults, and where they exit.
-use Rattle.std.proofs.Common.{◌≡◌, ℕ, ℤ, zero, suc, ◌+◌, ◌<◌, get_or, take, drop, Bool, true, false, List, [], ◌∷◌, ◌++◌, length, filter, if◌then◌else◌, Option, Some, None, map, refl, sym, ap, ◌∙◌, arith}
+use Rattle.std.proofs.Common.{◌≡◌, ℕ, ℤ, zero, suc, ◌+◌, ◌<◌, get_or, take, drop, Bool, true, false, List, [], ◌∷◌, ◌++◌, length, filter, if◌then◌else◌, Option, Some, None, map, refl, sym, ap, subst, ◌∙◌, arith}
+use Rattle.std.specs.List.{All}
 use Rattle.std.specs.Option.{is_none, is_some, option_or}
 use Rattle.std.proofs.lemmas.List.{length-append, map-append, take_more}
 use Rattle.dt_lang.specs.Program.{form_of_clause}
@@ -24,10 +25,16 @@ faults-append xs ys =
     ∙ length-append (filter (λ (t : Taking). is_none t.came) xs) (filter (λ (t : Taking). is_none t.came) ys)
 
 -- the takings of a row, one ECB further
-pub row_more : (f : Ecb → Taking) (row : List Ecb) (i : ℕ) (d : Ecb) → i < length row
-    → map f (take (i + 1) row) ≡ map f (take i row) ++ f (get_or row i d) ∷ []
-row_more f row i d inside =
-    ap (map f) (take_more row i d inside) ∙ map-append f (take i row) (get_or row i d ∷ [])
+pub row_more : (f : Ecb → Taking) (row : List Ecb) (i : ℕ) (ecb : Ecb) → i < length row → ecb ≡ get_or row i ecb
+    → map f (take (i + 1) row) ≡ map f (take i row) ++ f ecb ∷ []
+row_more f row i ecb inside is =
+    ap (map f) (take_more row i ecb inside) ∙ map-append f (take i row) (get_or row i ecb ∷ [])
+    ∙ ap (λ e. map f (take i row) ++ f e ∷ []) (sym is)
+
+-- the clause of the ECB at a place is there
+pub there_at : (row : List Ecb) (i : ℕ) (ecb : Ecb) (count : ℕ) → All (λ (e : Ecb). e.clause < count) row
+    → i < length row → ecb ≡ get_or row i ecb → ecb.clause < count
+there_at row i ecb count all inside is = subst (λ (e : Ecb). e.clause < count) (sym is) (all i ecb inside)
 
 -- the form of a clause that is found at a place
 pub clause_found : (clauses : List Clause) (place : ℕ) (clause : Clause) → place < length clauses
@@ -90,22 +97,22 @@ pub none_more : (xs : List Taking) (y : Taking) → first_exit xs ≡ None → i
 none_more xs y e stays = first_exit-append xs (y ∷ []) e ∙ no_exit (exit_of y) None stays refl
 
 -- a row, cut at an ECB
-pub row_split : (f : Ecb → Taking) (row : List Ecb) (i : ℕ) (d : Ecb) → i < length row
-    → map f row ≡ map f (take i row) ++ f (get_or row i d) ∷ map f (drop (suc i) row)
-row_split f [] i d inside = absurd (omega arith)
-row_split f (ecb ∷ row) zero d inside = refl
-row_split f (ecb ∷ row) (suc i) d inside = ap (λ rest. f ecb ∷ rest) (row_split f row i d (omega arith))
+pub row_split : (f : Ecb → Taking) (row : List Ecb) (i : ℕ) (ecb : Ecb) → i < length row → ecb ≡ get_or row i ecb
+    → map f row ≡ map f (take i row) ++ f ecb ∷ map f (drop (suc i) row)
+row_split f [] i ecb inside is = absurd (omega arith)
+row_split f (first ∷ row) zero ecb inside is = ap (λ e. f e ∷ map f row) (sym is)
+row_split f (first ∷ row) (suc i) ecb inside is = ap (λ rest. f first ∷ rest) (row_split f row i ecb (omega arith) is)
 
 -- the first exit of a row
-pub exit_found : (f : Ecb → Taking) (row : List Ecb) (i : ℕ) (d : Ecb) → i < length row
-    → first_exit (map f (take i row)) ≡ None → is_some (exit_of (f (get_or row i d))) ≡ true
-    → exit_of (f (get_or row i d)) ≡ first_exit (map f row)
-exit_found f row i d inside stays exits =
-    sym (ap first_exit (row_split f row i d inside)
-    ∙ first_here (map f (take i row)) (f (get_or row i d)) (map f (drop (suc i) row)) stays exits)
+pub exit_found : (f : Ecb → Taking) (row : List Ecb) (i : ℕ) (ecb : Ecb) → i < length row → ecb ≡ get_or row i ecb
+    → first_exit (map f (take i row)) ≡ None → is_some (exit_of (f ecb)) ≡ true
+    → exit_of (f ecb) ≡ first_exit (map f row)
+exit_found f row i ecb inside is stays exits =
+    sym (ap first_exit (row_split f row i ecb inside is)
+    ∙ first_here (map f (take i row)) (f ecb) (map f (drop (suc i) row)) stays exits)
 
-pub stays_more : (f : Ecb → Taking) (row : List Ecb) (i : ℕ) (d : Ecb) → i < length row
-    → first_exit (map f (take i row)) ≡ None → is_some (exit_of (f (get_or row i d))) ≡ false
+pub stays_more : (f : Ecb → Taking) (row : List Ecb) (i : ℕ) (ecb : Ecb) → i < length row → ecb ≡ get_or row i ecb
+    → first_exit (map f (take i row)) ≡ None → is_some (exit_of (f ecb)) ≡ false
     → first_exit (map f (take (i + 1) row)) ≡ None
-stays_more f row i d inside stays one =
-    ap first_exit (row_more f row i d inside) ∙ none_more (map f (take i row)) (f (get_or row i d)) stays one
+stays_more f row i ecb inside is stays one =
+    ap first_exit (row_more f row i ecb inside is) ∙ none_more (map f (take i row)) (f ecb) stays one

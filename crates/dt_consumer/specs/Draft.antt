@@ -25,6 +25,7 @@ use Rattle.dt_consumer.specs.declared.refusal.Refusal.{Refusal}
 abbrev pub after_line : List Item → Result Ask Refusal → List Item
 after_line life line = if is_over life then life else asked line ∷ life
 
+-- the line asks to close the session
 abbrev pub is_close : Result Ask Refusal → Bool
 is_close (Ok close) = true
 is_close _ = false

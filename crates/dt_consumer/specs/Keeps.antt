@@ -49,7 +49,8 @@ taking_by in_end moment clauses ecb = taking_of in_end moment (form_of_ecb claus
 
 -- an ECB of a program, whose clause stands after so many others
 abbrev pub placed_after : ℕ → Ecb → Ecb
-placed_after before ecb = record { epid = ecb.epid; probe = ecb.probe; clause = before + ecb.clause }
+placed_after before ecb =
+    record { epid = ecb.epid; probe = ecb.probe; clause = before + ecb.clause; known = ecb.known }
 
 -- a past, and then these
 abbrev pub followed_by : Past → List buffer.Event → Past

@@ -9,7 +9,7 @@ use dt_aggstore::Aggregation;
 use dt_cred::Account;
 use dt_ecb::{Ecb, Shapes, ecbs_go_on, uses_of_both};
 use dt_lang::Clause;
-use dt_machine::{Firing, Machine};
+use dt_machine::{Firing, Interest, Machine};
 use std::alloc::{AllocError, Global};
 
 /// One consumer: its options, what it has enabled, and, from its `go` on, what it has of each processor.
@@ -25,9 +25,11 @@ pub struct Consumer {
 }
 
 impl Consumer {
-    ghost use Rattle.std.specs.Prelude.{◌≡◌, ◌↔◌, List, [], ◌∷◌, Result, false, IsTrue, IfOk};
+    ghost use Rattle.std.specs.Prelude.{◌≡◌, ◌≢◌, ◌↔◌, ℕ, List, [], ◌∷◌, Result, false, IsOk, IsTrue, IfOk};
     ghost use Rattle.dt_cred.specs.declared.account.Account.{Account};
-    ghost use Rattle.dt_consumer.specs.Life.{Item, fired, phase};
+    ghost use Rattle.dt_consumer.specs.Life.{Item, fired, phase, ecbs as ecbs_after};
+    ghost use Rattle.dt_ecb.specs.Ecbs.{of_probe};
+    ghost use Rattle.dt_machine.specs.Interest.{Names};
     ghost use Rattle.dt_machine.specs.Registry.{Registry};
     ghost use Rattle.dt_consumer.specs.Ask.{Ask};
     ghost use Rattle.dt_consumer.specs.Draft.{Drafted, IsDraftOf, after_line};
@@ -62,6 +64,17 @@ impl Consumer {
             None if self.closed => Phase::Stopped(None),
             None => Phase::Inactive,
         }
+    }
+
+    /// The probes that its ECBs name, and no other: a firing of any other probe is never seen. The set lies in the value
+    /// itself, so it takes no memory, and is there in any case.
+    pub fn interest(&self) -> Result<Interest, AllocError>
+        ensures named { IfOk result (λ interest. (account : Account) (registry : Registry) (life : List Item)
+            → StandsFor account registry self.now life
+            → (id : ℕ) → (Names interest id ↔ (of_probe id (ecbs_after account registry life) ≢ []))) }
+        ensures succeeds { IsOk result }
+    {
+        Ok(self.programs.interest())
     }
 
     /// Takes a firing, and answers whether the consumer saw it: it is active, the firing belongs to the machine, one

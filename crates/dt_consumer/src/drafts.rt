@@ -183,7 +183,7 @@ impl Consumer {
     }
 
     /// The draft of an `enable` that makes these ECBs. They are made beside the consumer's own, so a program that is
-    /// refused, also for want of memory, leaves nothing enabled.
+    /// refused, also where memory runs out, leaves nothing enabled.
     fn draft_enabled(
         &self,
         alloc: Global,
@@ -546,6 +546,3 @@ fn refusal_in(fault: LangFault) -> Option<Refusal>
         LangFault::Memory => None,
     }
 }
-
-#[cfg(test)]
-mod tests;

@@ -17,8 +17,9 @@ pub(crate) fn placed_after(
     let mut placed = Vec::new(alloc);
     for ecb in ecbs {
         placed.push(Ecb {
+            epid: ecb.epid,
+            probe: ecb.probe,
             clause: before + ecb.clause,
-            ..*ecb
         })?;
     }
     Ok(placed)

@@ -1,7 +1,8 @@
 //! What a consumer's accepted programs come to.
-ghost use Rattle.std.specs.Prelude.{◌≡◌, ◌+◌, ◌≤◌, ◌<◌, ◌++◌, List, [], length, ◌==◌, find, map, sum, All, IfOk, IfSome, MatchOption, vec_len, vec_capacity};
+ghost use Rattle.std.specs.Prelude.{◌≡◌, ◌≢◌, ◌↔◌, ℕ, ◌+◌, ◌≤◌, ◌<◌, ◌++◌, List, [], length, ◌==◌, filter, find, map, sum, All, IfOk, IfSome, MatchOption, vec_len, vec_capacity};
 ghost use Rattle.std.specs.Option.{option_copied};
 ghost use Rattle.dt_lang.specs.Program.{ClauseForm, form_of_clause};
+ghost use Rattle.dt_machine.specs.Interest.{Names};
 ghost use Rattle.dt_record.specs.Layout.{layout_of, size_of};
 ghost use Rattle.dt_ecb.specs.Ecbs.{of_probe};
 ghost use Rattle.dt_ecb.specs.Forms.{form_of_ecb, shapes_of};
@@ -11,6 +12,7 @@ ghost use Rattle.dt_consumer.specs.declared.limits.TheConstants.{END};
 use crate::limits::END;
 use dt_ecb::{ECBS_MAX, Ecb, Shapes};
 use dt_lang::Clause;
+use dt_machine::Interest;
 use dt_record::Layout;
 use std::alloc::{AllocError, Global};
 
@@ -62,6 +64,17 @@ impl Programs {
         ensures { option_copied result ≡ find (λ ecb. ecb.epid == epid) self.now.ecbs.items }
     {
         self.ecbs.iter().find(|ecb| u64::from(ecb.epid) == epid)
+    }
+
+    /// The probes that the ECBs name.
+    pub(crate) fn interest(&self) -> Interest
+        ensures { (id : ℕ) → (Names result id ↔ (filter (λ ecb. ecb.probe == id) self.now.ecbs.items ≢ [])) }
+    {
+        let mut interest = Interest::new();
+        for ecb in &self.ecbs {
+            interest.insert(ecb.probe);
+        }
+        interest
     }
 
     /// What is left of so many bytes after one record of each of END's ECBs, or `None` where they don't suffice.

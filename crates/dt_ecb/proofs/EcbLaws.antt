@@ -10,9 +10,10 @@ use Rattle.dt_cred.specs.declared.probe.Probe.{Probe}
 use Rattle.dt_machine.specs.Registry.{Registry}
 use Rattle.dt_lang.specs.Program.{ClauseForm}
 use Rattle.dt_ecb.specs.Matching.{matched}
-use Rattle.dt_ecb.specs.Ecbs.{numbered, pairs_of_clause, pairs_of, added, ecbs_of}
+use Rattle.dt_ecb.specs.Ecbs.{EcbForm, numbered, pairs_of_clause, pairs_of, added, ecbs_of}
 use Rattle.dt_ecb.specs.Forms.{form_of_ecb, no_clause}
-use Rattle.dt_ecb.specs.Places.{ecb_at, kept_from, keys_at, keys_from}
+use Rattle.dt_ecb.specs.Places.{kept_in, kept_from, keys_at, keys_from}
+use Rattle.dt_ecb.specs.declared.parts.Ecb.{Ecb}
 
 pub enumerate_from-append : {X : Type 0} (n : ℕ) (xs ys : List X)
     → enumerate_from n (xs ++ ys) ≡ enumerate_from n xs ++ enumerate_from (n + length xs) ys
@@ -29,11 +30,20 @@ enumerate_from-append n (x ∷ xs) ys =
 abbrev pair_at : List ClauseForm → ℕ × ℕ → ℕ × ClauseForm
 pair_at clauses key = (key.0, get_or clauses key.1 no_clause)
 
+-- an ECB of these clauses, by what it keeps
+abbrev form_at : List ClauseForm → ℕ × (ℕ × ℕ) → EcbForm
+form_at clauses kept = record { epid = kept.0; probe = kept.1.0; clause = get_or clauses kept.1.1 no_clause }
+
+forms_by_kept : (clauses : List ClauseForm) (ecbs : List Ecb)
+    → map (form_of_ecb clauses) ecbs ≡ map (form_at clauses) (map kept_in ecbs)
+forms_by_kept clauses [] = refl
+forms_by_kept clauses (ecb ∷ ecbs) = ap (λ rest. form_of_ecb clauses ecb ∷ rest) (forms_by_kept clauses ecbs)
+
 same_ecbs : (clauses : List ClauseForm) (n : ℕ) (keys : List (ℕ × ℕ))
-    → map (form_of_ecb clauses) (kept_from n keys) ≡ map numbered (enumerate_from n (map (pair_at clauses) keys))
+    → map (form_at clauses) (kept_from n keys) ≡ map numbered (enumerate_from n (map (pair_at clauses) keys))
 same_ecbs clauses n [] = refl
 same_ecbs clauses n (key ∷ keys) =
-    ap (λ rest. form_of_ecb clauses (ecb_at (n, key)) ∷ rest) (same_ecbs clauses (n + 1) keys)
+    ap (λ rest. form_at clauses (n, key) ∷ rest) (same_ecbs clauses (n + 1) keys)
 
 longer : (front : List ClauseForm) (clause : ClauseForm) → length (front ++ clause ∷ []) ≡ length front + 1
 longer front clause = omega (arith, length-append front (clause ∷ []))
@@ -73,10 +83,13 @@ module _ (account : Account) (registry : Registry) where
       ∙ sym (map-append pair here (keys (length front + 1) back))
 
   -- the ECBs that the walk makes are the definition's
-  pub added_by_keys : (epid : ℕ) (clauses : List ClauseForm)
-      → map (form_of_ecb clauses) (kept_from epid (keys 0 clauses)) ≡ added account registry epid clauses
-  added_by_keys epid clauses =
-      same_ecbs clauses epid (keys 0 clauses)
+  pub added_by_keys : (epid : ℕ) (clauses : List ClauseForm) (ecbs : List Ecb)
+      → map kept_in ecbs ≡ kept_from epid (keys 0 clauses)
+      → map (form_of_ecb clauses) ecbs ≡ added account registry epid clauses
+  added_by_keys epid clauses ecbs made =
+      forms_by_kept clauses ecbs
+      ∙ ap (map (form_at clauses)) made
+      ∙ same_ecbs clauses epid (keys 0 clauses)
       ∙ ap (λ pairs. map numbered (enumerate_from epid pairs)) (sym (pairs-from [] clauses))
 
   pub length-added : (epid : ℕ) (clauses : List ClauseForm)

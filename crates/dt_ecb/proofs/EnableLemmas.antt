@@ -1,6 +1,6 @@
 -- What the parts of `enable` come to.
-use Rattle.std.proofs.Common.{◌≡◌, ℕ, ◌+◌, ◌-◌, ◌<◌, ◌≤◌, ◌||◌, Bool, ltb, List, ◌++◌, Option, Some, None, length, map, refl, sym, ap, ◌∙◌, subst}
-use Rattle.std.specs.List.{All, AllByRecursion}
+use Rattle.std.proofs.Common.{◌≡◌, ℕ, ◌+◌, ◌-◌, ◌<◌, ◌≤◌, ◌||◌, Bool, ltb, List, ◌++◌, Option, Some, None, length, map, refl, sym, ap, ◌∙◌}
+use Rattle.std.specs.List.{All}
 use Rattle.std.specs.Option.{MatchOption}
 use Rattle.std.proofs.lemmas.List.{length-map}
 use Rattle.std.proofs.lemmas.List.Elements.{All-from_recursion}
@@ -10,7 +10,7 @@ use Rattle.dt_lang.specs.Program.{ClauseForm}
 use Rattle.dt_ecb.specs.Ecbs.{added}
 use Rattle.dt_ecb.specs.Enable.{is_too_much}
 use Rattle.dt_ecb.specs.Forms.{form_of_ecb}
-use Rattle.dt_ecb.specs.Places.{kept_from, keys_from}
+use Rattle.dt_ecb.specs.Places.{kept_in, kept_from, keys_from}
 use Rattle.dt_ecb.specs.Shapes.{ShapeForm, uses_of, names_count}
 use Rattle.dt_ecb.specs.declared.limits.TheConstants.{ECBS_MAX, AGGREGATIONS_MAX}
 use Rattle.dt_ecb.specs.declared.parts.Ecb.{Ecb}
@@ -28,9 +28,9 @@ abbrev pub much_by : ℕ → ℕ → List ShapeForm → Bool
 much_by epid count all = ltb ECBS_MAX (epid - 1 + count) || ltb AGGREGATIONS_MAX (names_count all)
 
 module _ (account : Account) (registry : Registry) (accepted : List ShapeForm) (epid : ℕ) (clauses : List ClauseForm)
-    (ecbs : List Ecb) (made : ecbs ≡ kept_from epid (keys_from account registry 0 clauses)) where
+    (ecbs : List Ecb) (made : map kept_in ecbs ≡ kept_from epid (keys_from account registry 0 clauses)) where
   pub forms_are : map (form_of_ecb clauses) ecbs ≡ added account registry epid clauses
-  forms_are = ap (map (form_of_ecb clauses)) made ∙ added_by_keys account registry epid clauses
+  forms_are = added_by_keys account registry epid clauses ecbs made
 
   pub much_is : (count : ℕ) (all : List ShapeForm) → count ≡ length ecbs → all ≡ accepted ++ uses_of clauses
       → much_by epid count all ≡ is_too_much account registry accepted epid clauses
@@ -41,6 +41,5 @@ module _ (account : Account) (registry : Registry) (accepted : List ShapeForm) (
 
   pub placed : (bound : ℕ) → length clauses ≤ bound → All (λ (ecb : Ecb). ecb.clause < bound) ecbs
   placed bound few =
-      let P : List Ecb → Type 0 = AllByRecursion (λ (ecb : Ecb). ecb.clause < bound) in
       All-from_recursion (λ (ecb : Ecb). ecb.clause < bound) ecbs
-      (subst P (sym made) (all_placed account registry epid bound clauses few))
+      (all_placed account registry epid bound clauses ecbs few made)

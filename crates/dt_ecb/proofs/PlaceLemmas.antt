@@ -1,33 +1,34 @@
 -- The ECBs that are made by the places of their clauses, one probe and one clause further.
-use Rattle.std.proofs.Common.{◌≡◌, ℕ, suc, ◌+◌, ◌<◌, ◌≤◌, Bool, true, false, cond, List, [], ◌∷◌, ◌++◌, length, get_or, take, map, filter, sym, ap, ◌∙◌, zero-add, arith}
-use Rattle.std.specs.List.{enumerate_from, AllByRecursion}
+use Rattle.std.proofs.Common.{◌≡◌, ℕ, suc, ◌+◌, ◌<◌, ◌≤◌, Bool, true, false, cond, List, [], ◌∷◌, ◌++◌, length, get_or, take, map, filter, Some, sym, ap, subst, ◌∙◌, zero-add, arith}
+use Rattle.std.specs.List.{AllByRecursion, slice_get}
+use Rattle.std.specs.Option.{IfSome}
 use Rattle.std.proofs.lemmas.List.{append_assoc, append-nil, length-append, length-map, length-take-le, take_more, map-append}
 use Rattle.std.proofs.lemmas.List.Elements.{filter_more}
 use Rattle.std.proofs.lemmas.List.FromFn.{length-enumerate_from}
+use Rattle.std.proofs.lemmas.Option.{slice_get-get_or}
 use Rattle.dt_cred.specs.declared.account.Account.{Account}
 use Rattle.dt_cred.specs.declared.probe.Probe.{Probe}
-use Rattle.dt_machine.specs.Registry.{Registry}
+use Rattle.dt_machine.specs.Registry.{Registry, Contents, IsSound, IsNumbered}
+use Rattle.dt_machine.specs.declared.limits.TheConstants.{PROBE_ID_MAX}
 use Rattle.dt_lang.specs.declared.program.Clause.{Clause}
 use Rattle.dt_lang.specs.Program.{ClauseForm, form_of_clause}
 use Rattle.dt_ecb.specs.Matching.{matched}
-use Rattle.dt_ecb.specs.Places.{ecb_at, kept_from, keys_at, keys_from}
+use Rattle.dt_ecb.specs.Places.{kept_in, kept_from, keys_at, keys_from}
 use Rattle.dt_ecb.specs.declared.parts.Ecb.{Ecb}
 use Rattle.dt_ecb.proofs.EcbLaws.{enumerate_from-append}
 
 pub kept-append : (n : ℕ) (front back : List (ℕ × ℕ))
     → kept_from n (front ++ back) ≡ kept_from n front ++ kept_from (n + length front) back
-kept-append n front back =
-    ap (map ecb_at) (enumerate_from-append n front back)
-    ∙ map-append ecb_at (enumerate_from n front) (enumerate_from (n + length front) back)
+kept-append n front back = enumerate_from-append n front back
 
 pub length-kept : (n : ℕ) (keys : List (ℕ × ℕ)) → length (kept_from n keys) ≡ length keys
-length-kept n keys = length-map (enumerate_from n keys) ecb_at ∙ length-enumerate_from n keys
+length-kept n keys = length-enumerate_from n keys
 
 abbrev pub key_at : ℕ → Probe → ℕ × ℕ
 key_at place probe = (probe.id, place)
 
--- the ECBs of the first probes that pass
-abbrev pub kept_of : ℕ → ℕ → (Probe → Bool) → List Probe → List Ecb
+-- what the ECBs of the probes that pass keep
+abbrev pub kept_of : ℕ → ℕ → (Probe → Bool) → List Probe → List (ℕ × (ℕ × ℕ))
 kept_of n place test probes = kept_from n (map (key_at place) (filter test probes))
 
 module _ (n place : ℕ) (test : Probe → Bool) (probes : List Probe) (i : ℕ) (probe : Probe)
@@ -46,7 +47,7 @@ module _ (n place : ℕ) (test : Probe → Bool) (probes : List Probe) (i : ℕ)
   pub kept_more : test probe ≡ true
       → kept_of n place test (take (i + 1) probes)
       ≡ kept_of n place test (take i probes)
-      ++ (record { epid = n + length (kept_of n place test (take i probes)); probe = probe.id; clause = place } ∷ [])
+      ++ ((n + length (kept_of n place test (take i probes)), key_at place probe) ∷ [])
   kept_more passes =
       let long : length (map (key_at place) before) ≡ length (kept_of n place test (take i probes)) =
       sym (length-kept n (map (key_at place) before)) in
@@ -102,13 +103,15 @@ module _ (account : Account) (registry : Registry) where
   -- the ECBs of one clause more
   pub clause_more : (n i : ℕ) (clauses : List Clause) (clause : Clause) (old new : List Ecb)
       → i < length clauses → clause ≡ get_or clauses i clause
-      → old ≡ kept_from n (keys 0 (map form_of_clause (take i clauses)))
-      → new ≡ old ++ kept_from (n + length old) (keys_at account registry i (form_of_clause clause))
-      → new ≡ kept_from n (keys 0 (map form_of_clause (take (i + 1) clauses)))
+      → map kept_in old ≡ kept_from n (keys 0 (map form_of_clause (take i clauses)))
+      → map kept_in new ≡ map kept_in old
+      ++ kept_from (n + length old) (keys_at account registry i (form_of_clause clause))
+      → map kept_in new ≡ kept_from n (keys 0 (map form_of_clause (take (i + 1) clauses)))
   clause_more n i clauses clause old new inside is olds news =
       let front = keys 0 (map form_of_clause (take i clauses)) in
       let back = keys_at account registry i (form_of_clause clause) in
-      let long : length old ≡ length front = ap length olds ∙ length-kept n front in
+      let long : length old ≡ length front =
+      sym (length-map old kept_in) ∙ ap length olds ∙ length-kept n front in
       news
       ∙ ap (λ xs. xs ++ kept_from (n + length old) back) olds
       ∙ ap (λ m. kept_from n front ++ kept_from (n + m) back) long
@@ -136,39 +139,82 @@ placed_keys account registry place bound (clause ∷ clauses) h =
     (placed_keys account registry (place + 1) bound clauses (omega arith))
 
 kept_placed : (n bound : ℕ) (keys : List (ℕ × ℕ)) → AllBelow bound keys
-    → AllByRecursion (λ (ecb : Ecb). ecb.clause < bound) (kept_from n keys)
+    → AllByRecursion (λ (kept : ℕ × (ℕ × ℕ)). kept.1.1 < bound) (kept_from n keys)
 kept_placed n bound [] h = tt
 kept_placed n bound (key ∷ keys) h = (h.0, kept_placed (n + 1) bound keys h.1)
 
-pub all_placed : (account : Account) (registry : Registry) (n bound : ℕ) (clauses : List ClauseForm)
-    → length clauses ≤ bound
-    → AllByRecursion (λ (ecb : Ecb). ecb.clause < bound) (kept_from n (keys_from account registry 0 clauses))
-all_placed account registry n bound clauses h =
-    kept_placed n bound (keys_from account registry 0 clauses)
-    (placed_keys account registry 0 bound clauses (omega arith))
+placed_by_kept : (bound : ℕ) (ecbs : List Ecb)
+    → AllByRecursion (λ (kept : ℕ × (ℕ × ℕ)). kept.1.1 < bound) (map kept_in ecbs)
+    → AllByRecursion (λ (ecb : Ecb). ecb.clause < bound) ecbs
+placed_by_kept bound [] h = tt
+placed_by_kept bound (ecb ∷ ecbs) h = (h.0, placed_by_kept bound ecbs h.1)
+
+pub all_placed : (account : Account) (registry : Registry) (n bound : ℕ) (clauses : List ClauseForm) (ecbs : List Ecb)
+    → length clauses ≤ bound → map kept_in ecbs ≡ kept_from n (keys_from account registry 0 clauses)
+    → AllByRecursion (λ (ecb : Ecb). ecb.clause < bound) ecbs
+all_placed account registry n bound clauses ecbs h made =
+    let P : List (ℕ × (ℕ × ℕ)) → Type 0 = AllByRecursion (λ (kept : ℕ × (ℕ × ℕ)). kept.1.1 < bound) in
+    placed_by_kept bound ecbs
+    (subst P (sym made)
+    (kept_placed n bound (keys_from account registry 0 clauses)
+    (placed_keys account registry 0 bound clauses (omega arith))))
+
+-- the identifier of a machine's probe is one that a machine can have
+pub small_id : (contents : Contents) → IsSound contents → (probes : List Probe) → probes ≡ contents.registry.probes
+    → (i : ℕ) (probe : Probe) → i < length probes → probe ≡ get_or probes i probe → probe.id ≤ PROBE_ID_MAX
+small_id contents sound probes all i probe inside is =
+    let there : slice_get contents.registry.probes i ≡ Some probe =
+    ap (λ xs. slice_get xs i) (sym all) ∙ slice_get-get_or probes i probe inside ∙ ap Some (sym is) in
+    let numbered : IsNumbered (suc i) probe =
+    subst (λ o. IfSome o (IsNumbered (suc i))) there (sound.numbered (suc i)) in
+    omega (arith, numbered.number, sound.few_probes, inside, ap length all)
+
+-- an ECB was pushed
+pub kept_push : (xs ys : List Ecb) (ecb : Ecb) → ys ≡ xs ++ ecb ∷ [] → map kept_in ys ≡ map kept_in xs ++ kept_in ecb ∷ []
+kept_push xs ys ecb grown = ap (map kept_in) grown ∙ map-append kept_in xs (ecb ∷ [])
+
+pub count_grown : (xs ys : List Ecb) (kept : ℕ × (ℕ × ℕ)) → map kept_in ys ≡ map kept_in xs ++ kept ∷ []
+    → length ys ≡ length xs + 1
+count_grown xs ys kept grown =
+    omega (
+      arith,
+      ap length grown,
+      length-append (map kept_in xs) (kept ∷ []),
+      length-map xs kept_in,
+      length-map ys kept_in,
+    )
 
 -- one turn of the walk over the probes
 module _ (first place : ℕ) (test : Probe → Bool) (probes : List Probe) (i : ℕ) (probe : Probe)
     (inside : i < length probes) (is : probe ≡ get_or probes i probe) (old ecbs new : List Ecb)
-    (done : ecbs ≡ old ++ kept_of (first + length old) place test (take i probes)) where
-  abbrev more : List Ecb
+    (done : map kept_in ecbs ≡ map kept_in old ++ kept_of (first + length old) place test (take i probes)) where
+  abbrev more : List (ℕ × (ℕ × ℕ))
   more = kept_of (first + length old) place test (take i probes)
 
   pub pushed : test probe ≡ true
-      → new ≡ ecbs ++ (record { epid = first + length ecbs; probe = probe.id; clause = place } ∷ [])
-      → new ≡ old ++ kept_of (first + length old) place test (take (i + 1) probes)
+      → map kept_in new ≡ map kept_in ecbs ++ ((first + length ecbs, key_at place probe) ∷ [])
+      → map kept_in new ≡ map kept_in old ++ kept_of (first + length old) place test (take (i + 1) probes)
   pushed passes grown =
       let number : first + length ecbs ≡ first + length old + length more =
-      omega (arith, ap length done, length-append old more) in
+      omega (
+        arith,
+        ap length done,
+        length-append (map kept_in old) more,
+        length-map ecbs kept_in,
+        length-map old kept_in,
+      ) in
       grown
-      ∙ ap (λ xs. xs ++ (record { epid = first + length ecbs; probe = probe.id; clause = place } ∷ [])) done
-      ∙ ap (λ n. (old ++ more) ++ (record { epid = n; probe = probe.id; clause = place } ∷ [])) number
-      ∙ append_assoc old more
-      (record { epid = first + length old + length more; probe = probe.id; clause = place } ∷ [])
-      ∙ ap (λ xs. old ++ xs) (sym (kept_more (first + length old) place test probes i probe inside is passes))
+      ∙ ap (λ xs. xs ++ ((first + length ecbs, key_at place probe) ∷ [])) done
+      ∙ ap (λ n. (map kept_in old ++ more) ++ ((n, key_at place probe) ∷ [])) number
+      ∙ append_assoc (map kept_in old) more ((first + length old + length more, key_at place probe) ∷ [])
+      ∙ ap
+      (λ xs. map kept_in old ++ xs)
+      (sym (kept_more (first + length old) place test probes i probe inside is passes))
 
   pub not_pushed : test probe ≡ false → new ≡ ecbs
-      → new ≡ old ++ kept_of (first + length old) place test (take (i + 1) probes)
+      → map kept_in new ≡ map kept_in old ++ kept_of (first + length old) place test (take (i + 1) probes)
   not_pushed fails same =
-      same ∙ done
-      ∙ ap (λ xs. old ++ xs) (sym (kept_less (first + length old) place test probes i probe inside is fails))
+      ap (map kept_in) same ∙ done
+      ∙ ap
+      (λ xs. map kept_in old ++ xs)
+      (sym (kept_less (first + length old) place test probes i probe inside is fails))

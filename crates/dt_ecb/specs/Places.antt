@@ -7,13 +7,13 @@ use Rattle.dt_lang.specs.Program.{ClauseForm}
 use Rattle.dt_ecb.specs.Matching.{matched}
 use Rattle.dt_ecb.specs.declared.parts.Ecb.{Ecb}
 
--- an ECB of its number, its probe and the place of its clause
-abbrev pub ecb_at : ℕ × (ℕ × ℕ) → Ecb
-ecb_at key = record { epid = key.0; probe = key.1.0; clause = key.1.1 }
+-- what an ECB keeps: its number, its probe and the place of its clause
+abbrev pub kept_in : Ecb → ℕ × (ℕ × ℕ)
+kept_in ecb = (ecb.epid, (ecb.probe, ecb.clause))
 
--- the ECBs of probes and places, numbered from an EPID on
-abbrev pub kept_from : ℕ → List (ℕ × ℕ) → List Ecb
-kept_from epid keys = map ecb_at (enumerate_from epid keys)
+-- what the ECBs of probes and places keep, numbered from an EPID on
+abbrev pub kept_from : ℕ → List (ℕ × ℕ) → List (ℕ × (ℕ × ℕ))
+kept_from epid keys = enumerate_from epid keys
 
 module _ (account : Account) (registry : Registry) where
   -- what a clause at a place takes effect on

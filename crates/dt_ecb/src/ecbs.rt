@@ -2,7 +2,7 @@
 ghost use Rattle.std.specs.Prelude.{◌≡◌, ◌+◌, ◌<◌, ◌≤◌, ◌^◌, ◌++◌, length, map, All, OnOk, IfOk, vec_len};
 ghost use Rattle.dt_machine.specs.declared.limits.TheConstants.{PROBE_ID_MAX};
 ghost use Rattle.dt_lang.specs.Program.{form_of_clause, form_of_program};
-ghost use Rattle.dt_ecb.specs.Places.{keys_at, keys_from, kept_from};
+ghost use Rattle.dt_ecb.specs.Places.{keys_at, keys_from, kept_from, kept_in};
 
 use crate::limits::ECBS_MAX;
 use crate::matches::is_matched;
@@ -21,7 +21,7 @@ pub(crate) fn ecbs_of(
     next_epid: u32,
 ) -> Result<Vec<Ecb>, AllocError>
     requires { next_epid ≤ ECBS_MAX + 1 }
-    ensures value { IfOk result (λ ecbs. ecbs.items
+    ensures value { IfOk result (λ ecbs. map kept_in ecbs.items
         ≡ kept_from next_epid (keys_from account.now machine.now.registry 0 (form_of_program program.now))) }
     ensures few { IfOk result (λ ecbs. vec_len ecbs < 2 ^ 31) }
 {
@@ -42,7 +42,8 @@ fn push_matched(
     first_epid: u32,
 ) -> Result<(), AllocError>
     requires { first_epid + vec_len ecbs.old + PROBE_ID_MAX < 2 ^ 32 }
-    ensures value { OnOk result (ecbs.new.items ≡ ecbs.old.items ++ kept_from (first_epid + length ecbs.old.items)
+    ensures value { OnOk result (map kept_in ecbs.new.items
+        ≡ map kept_in ecbs.old.items ++ kept_from (first_epid + length ecbs.old.items)
         (keys_at account.now machine.now.registry place (form_of_clause clause.now))) }
     ensures few { OnOk result (vec_len ecbs.new ≤ vec_len ecbs.old + PROBE_ID_MAX) }
 {

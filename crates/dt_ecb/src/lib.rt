@@ -26,6 +26,3 @@ pub use matches::listed;
 pub use parts::Ecb;
 pub use shape::Function;
 pub use shapes::{Named, Shapes};
-
-#[cfg(test)]
-mod tests;

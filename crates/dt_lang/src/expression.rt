@@ -336,6 +336,3 @@ impl ExpressionReader {
         }
     }
 }
-
-#[cfg(test)]
-mod tests;

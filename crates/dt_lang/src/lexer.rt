@@ -59,6 +59,3 @@ pub(crate) fn one_lexeme()
 {
     crate::description::one_description();
 }
-
-#[cfg(test)]
-mod tests;

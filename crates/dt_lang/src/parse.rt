@@ -84,6 +84,3 @@ pub fn some_reading()
     one_lexeme();
     some_lexeme();
 }
-
-#[cfg(test)]
-mod tests;

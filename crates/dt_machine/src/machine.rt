@@ -162,6 +162,3 @@ fn parse(alloc: Global, text: &[u8]) -> Result<Value, MachineFault>
         }
     }
 }
-
-#[cfg(test)]
-mod tests;

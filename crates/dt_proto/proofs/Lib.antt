@@ -6,6 +6,7 @@ pub mod Giving
 pub mod Requests
 pub mod Entries
 pub mod Quota
+pub mod Decimals
 pub mod Texts
 pub mod Floats
 pub mod ItemTexts

@@ -1,12 +1,12 @@
 -- Only a line over the quota is refused as one.
-use Rattle.std.proofs.Common.{◌≡◌, ℕ, Bool, true, false, List, Option, Some, None, Result, Ok, Err, IfErr, IsTrue, ◌↔◌, MatchOption, MatchBool, if◌then◌else◌, refl, sym, ap, ◌∙◌, subst}
+use Rattle.std.proofs.Common.{◌≡◌, Bool, true, false, List, Option, Some, None, Result, Ok, Err, IfErr, IsTrue, ◌↔◌, MatchOption, MatchBool, if◌then◌else◌, refl, sym, ap, ◌∙◌, subst}
 use Rattle.std.specs.Option.{option_map_or}
 use Rattle.dt_cred.specs.declared.account.Account.{Account}
 use Rattle.dt_machine.specs.Registry.{Registry}
 use Rattle.dt_lang.specs.Reads.{program, fault, destructive}
 use Rattle.dt_ecb.specs.Enable.{Verdict, privilege, clash, unmatched, limit}
 use Rattle.dt_ecb.specs.Enable as enabling
-use Rattle.dt_consumer.specs.Answer.{Answer, done, refused}
+use Rattle.dt_consumer.specs.Answer.{Answer, refused}
 use Rattle.dt_consumer.specs.Ask.{Ask, option, enable, go, stop, snap, agg, trunc, status, list, describe, close}
 use Rattle.dt_consumer.specs.Life.{Item, is_over}
 use Rattle.dt_consumer.specs.Refusal.{IsNoCommand}

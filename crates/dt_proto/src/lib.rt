@@ -11,6 +11,7 @@
 #![tactic(auto)]
 
 mod asked;
+mod decimal;
 mod laws;
 mod limits;
 mod line;
@@ -18,11 +19,10 @@ mod lines;
 mod pieces;
 mod reply;
 mod rows;
-#[cfg(test)]
-mod tests;
 mod text;
 
 pub use asked::{Asked, WholeLine};
+pub use decimal::number_of;
 pub use laws::{one_cutting, one_splitting};
 pub use limits::LINE_MAX;
 pub use line::{command_of, read_line};

@@ -148,6 +148,3 @@ fn number_field(request: &Value, key: &str) -> Option<u64>
 {
     request.get(key).and_then(Value::as_u64)
 }
-
-#[cfg(test)]
-mod tests;

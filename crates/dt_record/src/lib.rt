@@ -26,6 +26,3 @@ pub use parts::Taken;
 pub use recorded::{Record, Recorded};
 pub use splitting::split;
 pub use taking::taken;
-
-#[cfg(test)]
-mod tests;

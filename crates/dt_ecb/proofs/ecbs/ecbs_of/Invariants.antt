@@ -2,12 +2,12 @@
 use Rattle.std.proofs.Common.{◌≡◌, ◌*◌, ◌≤◌, length, map, take}
 use Rattle.dt_machine.specs.declared.limits.TheConstants.{PROBE_ID_MAX}
 use Rattle.dt_lang.specs.Program.{form_of_clause}
-use Rattle.dt_ecb.specs.Places.{keys_from, kept_from}
+use Rattle.dt_ecb.specs.Places.{keys_from, kept_from, kept_in}
 use Rattle.dt_ecb.proofs.ecbs.ecbs_of.Given as goal
 
 abbrev pub invariant-loop-place : goal.invariant-loop-place
 invariant-loop-place l = record {
-  value : l.ecbs.items
+  value : map kept_in l.ecbs.items
       ≡ kept_from l.next_epid
       (keys_from l.account l.machine.registry 0 (map form_of_clause (take l.place l.clause-items)));
   few : length l.ecbs.items ≤ l.place * PROBE_ID_MAX;

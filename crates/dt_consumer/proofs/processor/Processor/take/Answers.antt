@@ -12,7 +12,7 @@ use Rattle.dt_consumer.specs.Keeps.{form_of_moment, followed_by, HasTaken, takin
 use Rattle.dt_consumer.specs.Takings.{faults, first_exit, through_exit}
 use Rattle.dt_consumer.proofs.Buffers.{took_more, took_exit, took_through, still_last, none_of_end}
 use Rattle.dt_consumer.proofs.Giving.{gave_exit, gave_more, gave_through}
-use Rattle.dt_consumer.proofs.Takings.{exit_found, stays_more}
+use Rattle.dt_consumer.proofs.Takings.{exit_found, stays_more, there_at}
 use Rattle.dt_consumer.proofs.processor.Processor.take.Goals as goal
 
 pub returns-then-is_some-clause-taken : goal.returns-then-is_some-clause-taken
@@ -27,8 +27,8 @@ returns-then-is_some-clause-taken c = λ there past errors last h.
     c.take_one-exit.new.self in
     subst P c.deref-ecb-items.ensures.value
     (λ there.
-    let one = there i _ c.loop-ecb-test.true in
-    took_exit f row i _ past errors _ c.loop-ecb-test.true (c.loop-ecb.invariant.stays there)
+    let one = there_at row i c.ecb-item.result _ there c.loop-ecb-test.true c.ecb-item.is in
+    took_exit f row i c.ecb-item.result past errors _ c.loop-ecb-test.true c.ecb-item.is (c.loop-ecb.invariant.stays there)
     (subst (λ o. is_some o ≡ true) (c.take_one-exit.ensures.exit one) (sym c.if-is_some.ensures))
     (c.take_one-exit.ensures.taken one _ _ (still_last past _ (none_of_end m forms (take i row)) last)
     (c.loop-ecb.invariant.taken there past errors last h)))
@@ -42,9 +42,10 @@ returns-then-is_some-clause-exit c = λ there.
     → c.take_one-exit.result ≡ first_exit (map f es) in
     subst P c.deref-ecb-items.ensures.value
     (λ there.
-    let same = c.take_one-exit.ensures.exit (there c.loop-ecb.ecb-index _ c.loop-ecb-test.true) in
+    let same = c.take_one-exit.ensures.exit
+    (there_at row c.loop-ecb.ecb-index c.ecb-item.result _ there c.loop-ecb-test.true c.ecb-item.is) in
     same
-    ∙ exit_found f row c.loop-ecb.ecb-index _ c.loop-ecb-test.true (c.loop-ecb.invariant.stays there)
+    ∙ exit_found f row c.loop-ecb.ecb-index c.ecb-item.result c.loop-ecb-test.true c.ecb-item.is (c.loop-ecb.invariant.stays there)
     (subst (λ o. is_some o ≡ true) same (sym c.if-is_some.ensures)))
     there
 
@@ -54,23 +55,32 @@ loop-ecb-preserved c = record {
       let m = form_of_moment c.args.moment.now in
       let forms = map form_of_clause c.args.clauses.now in
       let row = c.deref-ecb-items.result.now in
-      took_more (taking_by false m forms) row c.loop-ecb.ecb-index _ past errors _ c.loop-ecb-test.true
-      (c.take_one-exit.ensures.taken (there c.loop-ecb.ecb-index _ c.loop-ecb-test.true) _ _
+      took_more (taking_by false m forms) row c.loop-ecb.ecb-index c.ecb-item.result past errors _
+      c.loop-ecb-test.true c.ecb-item.is
+      (c.take_one-exit.ensures.taken
+      (there_at row c.loop-ecb.ecb-index c.ecb-item.result _ there c.loop-ecb-test.true c.ecb-item.is) _ _
       (still_last past _ (none_of_end m forms (take c.loop-ecb.ecb-index row)) last)
       (c.loop-ecb.invariant.taken there past errors last h));
   stays = λ there.
       stays_more (taking_by false (form_of_moment c.args.moment.now) (map form_of_clause c.args.clauses.now))
-      c.deref-ecb-items.result.now c.loop-ecb.ecb-index _ c.loop-ecb-test.true (c.loop-ecb.invariant.stays there)
+      c.deref-ecb-items.result.now c.loop-ecb.ecb-index c.ecb-item.result c.loop-ecb-test.true c.ecb-item.is
+      (c.loop-ecb.invariant.stays there)
       (subst (λ o. is_some o ≡ false)
-      (c.take_one-exit.ensures.exit (there c.loop-ecb.ecb-index _ c.loop-ecb-test.true)) (sym c.if-is_some.ensures));
+      (c.take_one-exit.ensures.exit
+      (there_at c.deref-ecb-items.result.now c.loop-ecb.ecb-index c.ecb-item.result _ there c.loop-ecb-test.true
+      c.ecb-item.is))
+      (sym c.if-is_some.ensures));
   counts = (
     omega (arith, c.loop-ecb.invariant.counts.0, c.take_one-exit.ensures.counts.0),
     omega (arith, c.loop-ecb.invariant.counts.1, c.take_one-exit.ensures.counts.1),
   );
   given = λ shapes are there past h.
       gave_more shapes (taking_by false (form_of_moment c.args.moment.now) (map form_of_clause c.args.clauses.now))
-      c.deref-ecb-items.result.now c.loop-ecb.ecb-index _ past _ c.loop-ecb-test.true
-      (c.take_one-exit.ensures.given (there c.loop-ecb.ecb-index _ c.loop-ecb-test.true) shapes are _
+      c.deref-ecb-items.result.now c.loop-ecb.ecb-index c.ecb-item.result past _ c.loop-ecb-test.true c.ecb-item.is
+      (c.take_one-exit.ensures.given
+      (there_at c.deref-ecb-items.result.now c.loop-ecb.ecb-index c.ecb-item.result _ there c.loop-ecb-test.true
+      c.ecb-item.is)
+      shapes are _
       (c.loop-ecb.invariant.given shapes are there past h));
   gives = omega (arith, c.loop-ecb.invariant.gives, c.take_one-exit.ensures.gives);
 }
@@ -94,8 +104,9 @@ returns-then-is_some-clause-given c = λ shapes are there past h.
     → IsAt (given_then past (contributions shapes (through_exit (map f es)))) c.take_one-exit.new.store in
     subst P c.deref-ecb-items.ensures.value
     (λ there.
-    let one = there c.loop-ecb.ecb-index _ c.loop-ecb-test.true in
-    gave_exit shapes f row c.loop-ecb.ecb-index _ past _ c.loop-ecb-test.true (c.loop-ecb.invariant.stays there)
+    let one = there_at row c.loop-ecb.ecb-index c.ecb-item.result _ there c.loop-ecb-test.true c.ecb-item.is in
+    gave_exit shapes f row c.loop-ecb.ecb-index c.ecb-item.result past _ c.loop-ecb-test.true c.ecb-item.is
+    (c.loop-ecb.invariant.stays there)
     (subst (λ o. is_some o ≡ true) (c.take_one-exit.ensures.exit one) (sym c.if-is_some.ensures))
     (c.take_one-exit.ensures.given one shapes are _ (c.loop-ecb.invariant.given shapes are there past h)))
     there

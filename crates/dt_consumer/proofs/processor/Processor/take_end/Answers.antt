@@ -11,6 +11,7 @@ use Rattle.dt_consumer.specs.Keeps.{form_of_moment, followed_by, HasTaken, takin
 use Rattle.dt_consumer.specs.Takings.{faults}
 use Rattle.dt_consumer.proofs.Buffers.{took_more, took_all, in_end_last}
 use Rattle.dt_consumer.proofs.Giving.{gave_all, gave_more}
+use Rattle.dt_consumer.proofs.Takings.{there_at}
 use Rattle.dt_consumer.proofs.processor.Processor.take_end.Goals as goal
 
 pub loop-ecb-preserved : goal.loop-ecb-preserved
@@ -19,8 +20,9 @@ loop-ecb-preserved c = record {
       let f = taking_by true (form_of_moment c.args.moment.now) (map form_of_clause c.args.clauses.now) in
       let row = c.deref-ecb-items.result.now in
       let before = followed_by past (attempts_of (map f (take c.loop-ecb.ecb-index row))) in
-      took_more f row c.loop-ecb.ecb-index _ past errors _ c.loop-ecb-test.true
-      (c.take_one-exit.ensures.taken (there c.loop-ecb.ecb-index _ c.loop-ecb-test.true) before _
+      took_more f row c.loop-ecb.ecb-index c.ecb-item.result past errors _ c.loop-ecb-test.true c.ecb-item.is
+      (c.take_one-exit.ensures.taken
+      (there_at row c.loop-ecb.ecb-index c.ecb-item.result _ there c.loop-ecb-test.true c.ecb-item.is) before _
       (in_end_last before) (c.loop-ecb.invariant.taken there past errors h));
   counts = (
     omega (arith, c.loop-ecb.invariant.counts.0, c.take_one-exit.ensures.counts.0),
@@ -28,8 +30,11 @@ loop-ecb-preserved c = record {
   );
   given = λ shapes are there past h.
       gave_more shapes (taking_by true (form_of_moment c.args.moment.now) (map form_of_clause c.args.clauses.now))
-      c.deref-ecb-items.result.now c.loop-ecb.ecb-index _ past _ c.loop-ecb-test.true
-      (c.take_one-exit.ensures.given (there c.loop-ecb.ecb-index _ c.loop-ecb-test.true) shapes are _
+      c.deref-ecb-items.result.now c.loop-ecb.ecb-index c.ecb-item.result past _ c.loop-ecb-test.true c.ecb-item.is
+      (c.take_one-exit.ensures.given
+      (there_at c.deref-ecb-items.result.now c.loop-ecb.ecb-index c.ecb-item.result _ there c.loop-ecb-test.true
+      c.ecb-item.is)
+      shapes are _
       (c.loop-ecb.invariant.given shapes are there past h));
   gives = omega (arith, c.loop-ecb.invariant.gives, c.take_one-exit.ensures.gives);
 }

@@ -1,5 +1,5 @@
 //! Worked rows: which ECBs a program adds, or for what it is refused, and what is listed.
-use crate::{Ecb, EnableFault, Shapes, enable, listed};
+use dt_ecb::{Ecb, EnableFault, Shapes, enable, listed};
 use dt_expr::{Expr, Text};
 use dt_lang::{
     Aggregation, Argument, Bounds, CLAUSES_MAX, Call, Clause, DESCRIPTIONS_MAX, Description,

@@ -1,10 +1,10 @@
 //! What clauses leave, byte by byte, and records back from their bytes.
-use crate::{Layout, Taken, split, taken};
 use dt_cred::{Mode, Probe, Process};
 use dt_expr::{Scene, Value};
 use dt_lang::Program;
 use dt_machine::Firing;
 use dt_names::{ProbeTuple, ShortText};
+use dt_record::{Layout, Taken, split, taken};
 use std::alloc::Global;
 use std::test::Fail;
 

@@ -1,5 +1,5 @@
 //! Inputs with their lines, cut at each place, and lines about the limit.
-use super::*;
+use dt_proto::{Asked, Fed, LINE_MAX, Lines, WholeLine, asked_in, read_line};
 use std::alloc::Global;
 use std::process::Abort;
 use std::test::Fail;

@@ -1,7 +1,6 @@
 //! Machine files: what each is refused with, and what is found in one that is read.
-use super::*;
-use crate::interest::Interest;
-use crate::limits::PROBE_ID_MAX;
+use dt_machine::{Firing, Interest, Machine, PROBE_ID_MAX};
+use std::alloc::Global;
 use std::process::Abort;
 use std::test::Fail;
 

@@ -1,10 +1,11 @@
 //! Lines of bytes, and what they ask.
-use super::*;
+use dt_proto::{WholeLine, read_line};
+use std::alloc::Global;
 use std::test::Fail;
 
 /// How a line is answered, as the names of the variants print.
 fn told(alloc: Global, line: &[u8]) -> Result<String, Fail> {
-    let text = match ask_line(alloc, WholeLine::Bytes(line)) {
+    let text = match read_line(alloc, WholeLine::Bytes(line))? {
         Ok(command) => format!(in alloc; "{command:?}")?,
         Err(refusal) => format!(in alloc; "{refusal:?}")?,
     };

@@ -1,15 +1,8 @@
-//! Worked rows: what each line is answered, and which firings are seen, with programs that are made by hand.
-use crate::command::{Command, OptionValue};
-use crate::consumer::Consumer;
-use crate::draft::Draft;
-use crate::refusal::Refusal;
-use crate::reply::Reply;
+//! Consumers: what each line is answered, and which firings are seen.
 use dt_aggfn::{AggFn, Answer};
 use dt_aggstore::{KeyPart, Row};
-use dt_expr::{BinaryOp, Expr, NumberVariable};
-use dt_lang::{Aggregation, Argument, CLAUSES_MAX, Call, Clause, Description, Program, Statement};
-use dt_machine::Machine;
-use dt_names::ShortText;
+use dt_consumer::{Command, Consumer, Draft, OptionValue, Refusal, Reply};
+use dt_machine::{Machine, PROBE_ID_MAX};
 use std::alloc::Global;
 use std::test::Fail;
 
@@ -26,10 +19,13 @@ const MACHINE: &str = r#"{"cpus":2,
 /// `@total[arg1] = sum(arg0 / arg1)`, or `exit`, which exits with arg0, or nothing.
 const ROWS: &str = "
 account root
+interest = probes
 status = Inactive 0 0 0
 program BEGIN / read:entry quotient / tick-1sec = 3 from 1
+interest = probes 1 3 4
 program nothing = refused 5 NoMatch
 program fbt::: = 1 from 4
+interest = probes 1 3 4 5
 describe 2 = 2: 3 syscall::read:entry 12
 describe 4 = 4: 5 fbt:genunix:kmem_alloc:entry 4
 describe 0 = refused 14 NoEpid
@@ -164,52 +160,20 @@ close = done, closes
 status = Stopped(Some(Exit(0))) 0 0 0
 ";
 
-/// `arg0 / arg1`
-fn quotient(alloc: Global) -> Result<Expr, Fail> {
-    let left = Box::new(alloc, Expr::Variable(NumberVariable::Arg0))
-        .ok()
-        .ok_or("no room")?;
-    let right = Box::new(alloc, Expr::Variable(NumberVariable::Arg1))
-        .ok()
-        .ok_or("no room")?;
-    Ok(Expr::Binary(BinaryOp::Divide, left, right))
-}
-
-/// A clause of a description, which traces the quotient or nothing.
-fn clause(alloc: Global, text: &str) -> Result<Clause, Fail> {
-    let (head, body) = text.split_once(' ').unwrap_or((text, ""));
-    let mut descriptions = Vec::new(alloc);
-    descriptions.push(Description::parse(head.as_bytes()).ok_or("no description")?)?;
-    let mut statements = Vec::new(alloc);
-    if body == "quotient" {
-        statements.push(Statement::Trace(Argument::Number(quotient(alloc)?)))?;
+/// The text of a program whose clauses stand here with ` / ` between them.
+fn program(alloc: Global, clauses: &str) -> Result<String, Fail> {
+    let mut text = String::new(alloc);
+    for clause in clauses.split(" / ") {
+        let (head, body) = clause.split_once(' ').unwrap_or((clause, ""));
+        let statement = match body {
+            "quotient" => "trace(arg0/arg1)",
+            "total" => "@total[arg1]=sum(arg0/arg1)",
+            "exit" => "exit(arg0)",
+            _ => "",
+        };
+        text.push_str(format!(in alloc; "{head}{{{statement}}} ")?.as_str())?;
     }
-    if body == "total" {
-        let mut keys = Vec::new(alloc);
-        keys.push(Argument::Number(Expr::Variable(NumberVariable::Arg1)))?;
-        let name = ShortText::new(b"total").ok_or("no name")?;
-        let call = Call::Sum(quotient(alloc)?);
-        statements.push(Statement::Aggregate(Aggregation { name, keys, call }))?;
-    }
-    if body == "exit" {
-        statements.push(Statement::Exit(Expr::Variable(NumberVariable::Arg0)))?;
-    }
-    Ok(Clause {
-        descriptions,
-        predicate: None,
-        statements,
-    })
-}
-
-fn program(alloc: Global, text: &str) -> Result<Program, Fail> {
-    let mut clauses = Vec::new(alloc);
-    for part in text.split(" / ") {
-        clauses.push(clause(alloc, part)?)?;
-    }
-    if clauses.is_empty() || clauses.len() > CLAUSES_MAX {
-        return Err("no program".into());
-    }
-    Ok(Program { clauses })
+    Ok(text)
 }
 
 /// A table of sums as text: its function, and each key with its sum.
@@ -298,7 +262,9 @@ fn drafted(
 ) -> Result<Draft, Fail> {
     let (word, rest) = text.split_once(' ').unwrap_or((text, ""));
     let command = match word {
-        "program" => return Ok(consumer.draft_program(alloc, machine, program(alloc, rest)?)?),
+        "program" => Command::Enable {
+            text: program(alloc, rest)?,
+        },
         "option" => option(alloc, rest)?,
         "go" => Command::Go,
         "stop" => Command::Stop,
@@ -324,7 +290,19 @@ fn drafted(
     Ok(consumer.draft(alloc, machine, &line)?)
 }
 
-/// What a step is answered: `fire CPU PLACE`, or a line.
+/// The probes that a consumer is interested in, among all that a machine can have.
+fn interest(alloc: Global, consumer: &Consumer) -> Result<String, Fail> {
+    let interest = consumer.interest()?;
+    let mut text = String::from_str(alloc, "probes")?;
+    for id in 0..PROBE_ID_MAX + 1 {
+        if interest.contains(id) {
+            text.push_str(format!(in alloc; " {id}")?.as_str())?;
+        }
+    }
+    Ok(text)
+}
+
+/// What a step is answered: `fire CPU PLACE`, `interest`, or a line.
 fn answered(
     alloc: Global,
     machine: &Machine,
@@ -338,6 +316,9 @@ fn answered(
         let firing = *machine.firing(cpu, place).ok_or("no firing")?;
         let seen = consumer.offer(machine, &firing);
         return Ok(String::from_str(alloc, if seen { "seen" } else { "unseen" })?);
+    }
+    if text == "interest" {
+        return interest(alloc, consumer);
     }
     let draft = drafted(alloc, machine, consumer, text)?;
     let mut told = spelled(alloc, draft.reply())?;
@@ -358,7 +339,7 @@ fn consumer(alloc: Global, machine: &Machine, name: &str) -> Result<Consumer, Fa
 }
 
 #[test]
-fn worked_rows(rt: HostRuntime) -> Result<(), Fail> {
+fn consumers_answer_what_the_rows_say(rt: HostRuntime) -> Result<(), Fail> {
     let alloc = rt.alloc();
     let machine = Machine::read(alloc, MACHINE.as_bytes())
         .ok()

@@ -1,0 +1,71 @@
+-- The probes that ECBs name.
+use Rattle.std.proofs.Common.{◌≡◌, ◌≢◌, ◌↔◌, ℕ, ◌+◌, ◌<◌, ◌==◌, Bool, true, false, cond, List, [], ◌∷◌, ◌++◌, length, get_or, take, map, filter, refl, sym, ap, subst, ◌∙◌}
+use Rattle.std.proofs.lemmas.Bool.{eqb-true, eqb-false}
+use Rattle.std.proofs.lemmas.List.{append-nil}
+use Rattle.std.proofs.lemmas.List.Elements.{filter_more}
+use Rattle.dt_machine.specs.Interest.{Names}
+use Rattle.dt_lang.specs.Program.{ClauseForm}
+use Rattle.dt_ecb.specs.Ecbs.{EcbForm, of_probe}
+use Rattle.dt_ecb.specs.Forms.{form_of_ecb}
+use Rattle.dt_ecb.specs.declared.parts.Ecb.{Ecb}
+use Rattle.dt_consumer.specs.Keeps.{AreEcbs}
+use Rattle.dt_consumer.proofs.Lists.{filter-map}
+
+-- the ECBs of a probe
+abbrev pub naming : ℕ → List Ecb → List Ecb
+naming id ecbs = filter (λ (ecb : Ecb). ecb.probe == id) ecbs
+
+-- the set has the probes of these ECBs
+abbrev pub HasProbes : List Bool → List Ecb → Type 0
+HasProbes interest ecbs = (id : ℕ) → (Names interest id ↔ (naming id ecbs ≢ []))
+
+-- of no ECBs
+pub has_none : (interest : List Bool) → ((id : ℕ) → Names interest id → ⊥) → HasProbes interest []
+has_none interest none = λ id. (λ named. absurd (none id named), λ some. absurd (some refl))
+
+not_empty : {X : Type 0} (xs : List X) (x : X) → xs ++ x ∷ [] ≡ [] → ⊥
+not_empty [] x e = cc
+not_empty (y ∷ xs) x e = cc
+
+map_none : {X Y : Type 0} (f : X → Y) (xs : List X) → map f xs ≡ [] → xs ≡ []
+map_none f [] e = refl
+map_none f (x ∷ xs) e = cc
+
+-- of one ECB more, whose probe was taken in
+module _ (old new : List Bool) (ecbs : List Ecb) (i : ℕ) (ecb : Ecb) (inside : i < length ecbs)
+    (is : ecb ≡ get_or ecbs i ecb) (taken_in : Names new ecb.probe)
+    (others : (other : ℕ) → other ≢ ecb.probe → (Names new other ↔ Names old other))
+    (before : HasProbes old (take i ecbs)) where
+  grown : (id : ℕ) (b : Bool) → (ecb.probe == id) ≡ b
+      → naming id (take (i + 1) ecbs) ≡ naming id (take i ecbs) ++ cond b (ecb ∷ []) []
+  grown id b e =
+      filter_more (λ (one : Ecb). one.probe == id) ecbs i ecb inside
+      ∙ ap (λ (one : Ecb). naming id (take i ecbs) ++ cond (one.probe == id) (one ∷ []) []) (sym is)
+      ∙ ap (λ c. naming id (take i ecbs) ++ cond c (ecb ∷ []) []) e
+
+  more_at : (id : ℕ) (b : Bool) → (ecb.probe == id) ≡ b → (Names new id ↔ (naming id (take (i + 1) ecbs) ≢ []))
+  more_at id true e = (
+    λ named empty. not_empty (naming id (take i ecbs)) ecb (sym (grown id true e) ∙ empty),
+    λ some. subst (Names new) (eqb-true ecb.probe id e) taken_in,
+  )
+  more_at id false e =
+      let same = grown id false e ∙ append-nil (naming id (take i ecbs)) in
+      let other = others id (λ known. eqb-false ecb.probe id e (sym known)) in (
+        λ named empty. (before id).0 (other.0 named) (sym same ∙ empty),
+        λ some. other.1 ((before id).1 (λ empty. some (same ∙ empty))),
+      )
+
+  pub has_more : HasProbes new (take (i + 1) ecbs)
+  has_more = λ id. more_at id (ecb.probe == id) refl
+
+-- the ECBs are kept of these forms
+pub has_forms : (clauses : List ClauseForm) (wanted : List EcbForm) (kept : List Ecb) → AreEcbs clauses wanted kept
+    → (interest : List Bool) → HasProbes interest kept
+    → (id : ℕ) → (Names interest id ↔ (of_probe id wanted ≢ []))
+has_forms clauses wanted kept are interest has = λ id.
+    let is : of_probe id wanted ≡ map (form_of_ecb clauses) (naming id kept) =
+    ap (of_probe id) (sym are.forms)
+    ∙ filter-map (form_of_ecb clauses) (λ (one : EcbForm). one.probe == id) kept in (
+      λ named empty. (has id).0 named (map_none (form_of_ecb clauses) (naming id kept) (sym is ∙ empty)),
+      λ some. (has id).1 (λ empty. some (is ∙ ap (map (form_of_ecb clauses)) empty)),
+    )
