@@ -1,0 +1,50 @@
+-- A line is asked, and its reply told.
+use Rattle.std.proofs.Common.{◌≡◌, Some, None, option_map, is_some, rules, subst, sym, ap, ◌∙◌, refl}
+use Rattle.std.proofs.lemmas.Result.{on_ok_weaker}
+use Rattle.dt_proto.specs.Lines.{form_of}
+use Rattle.dt_world.specs.Stands.{IsAnswered, first_account}
+use Rattle.dt_world.specs.Steps.{asking}
+use Rattle.dt_world.specs.Told.{reply_told}
+use Rattle.dt_world.proofs.After.{after-told, after-untold}
+use Rattle.dt_world.proofs.Holding.{some_of}
+use Rattle.dt_world.proofs.Trails.{told-answered, asking-answers, told-unasked}
+use Rattle.dt_world.proofs.progress.Progress.ask.Goals as goal
+
+pub returns-in-Some : goal.returns-in-Some
+returns-in-Some c =
+    on_ok_weaker c.reply.result
+    (λ tells wanted now before.
+    let registry = c.args.machine.now.registry in
+    let seat = c.args.seat in
+    let line = form_of c.args.line.now in
+    let world = asking registry now.world seat line in
+    let answered = c.in-Some.answered in
+    let answers : IsAnswered registry now.world world seat (Some answered.text.items) =
+    subst (IsAnswered registry now.world world seat) (ap (option_map (λ one. one.text.items)) c.in-Some.is)
+    (c.in_ok-answered.ensures.answer now.world before.at) in
+    let a = asking-answers registry now.world seat line answered.text.items answers in
+    let known : c.is_some-is_first.result ≡ is_some c.first.result = search rules in
+    let first : c.is_some-is_first.result ≡ is_some (first_account (now.world.places seat)) =
+    known ∙ ap is_some (c.first.ensures registry now.world before.at) in
+    after-told wanted c.args.machine.now now world c.args.self.now
+    (record { engine = c.ask.new.self; taken = c.args.self.now.taken; told = c.reply.new.self })
+    before (c.in_ok-answered.ensures.at now.world before.at) refl
+    (λ w. reply_told w seat (is_some (first_account (now.world.places seat))) line answered.text.items answered.is_over)
+    (rw (← first, ← c.deref.ensures.value) tells)
+    (told-answered registry now.world wanted world seat line answered.text.items answered.is_over
+    c.args.self.now.told.text.items a (some_of _ answered _ c.in-Some.is c.in_ok-answered.ensures.over now.world a.session before.at a.present)))
+    c.reply.ensures
+
+pub returns-in-None : goal.returns-in-None
+returns-in-None c = λ wanted now before.
+    let registry = c.args.machine.now.registry in
+    let seat = c.args.seat in
+    let line = form_of c.args.line.now in
+    let world = asking registry now.world seat line in
+    let none : IsAnswered registry now.world world seat None =
+    subst (IsAnswered registry now.world world seat) (ap (option_map (λ one. one.text.items)) c.in-None.is)
+    (c.in_ok-answered.ensures.answer now.world before.at) in
+    after-untold wanted c.args.machine.now now world c.args.self.now
+    (record { engine = c.ask.new.self; taken = c.args.self.now.taken; told = c.args.self.now.told })
+    before (c.in_ok-answered.ensures.at now.world before.at) refl refl
+    (told-unasked registry now.world wanted seat line c.args.self.now.told.text.items none)

@@ -1,0 +1,41 @@
+-- How far a replay came, beside where it stands by its lines.
+use Rattle.std.specs.Prelude.{◌≡◌, ℕ, ◌<◌, List, Option, Some, None, is_some, slice_index}
+use Rattle.dt_chain.specs.Seats.{life_at}
+use Rattle.dt_chain.specs.declared.seat_mask.SeatMask.{SeatMask}
+use Rattle.dt_machine.specs.Registry.{Contents}
+use Rattle.dt_machine.specs.declared.firing.Firing.{Firing}
+use Rattle.dt_machine.specs.declared.limits.TheConstants.{CPUS_MAX}
+use Rattle.dt_world.specs.Input.{AreStepLines}
+use Rattle.dt_world.specs.Replay.{Replayed, replayed, next_of}
+use Rattle.dt_world.specs.Stands.{IsAt}
+use Rattle.dt_world.specs.StepLine.{StepLineForm}
+use Rattle.dt_world.specs.Steps.{looking}
+use Rattle.dt_world.specs.Told.{IsTold}
+use Rattle.dt_world.specs.World.{World}
+use Rattle.dt_world.specs.declared.progress.Progress.{Progress}
+use Rattle.dt_world.specs.declared.told.Wanted.{Wanted}
+
+-- What is kept is that of where the replay stands: the seats with their consumers, how many firings of each script
+-- were taken, and what is to be written, as it is wanted.
+pub record IsAfter (wanted : Wanted) (contents : Contents) (now : Replayed) (progress : Progress) : Type 0 where
+  pub at : IsAt contents.registry now.world progress.engine
+  pub taken : (cpu : ℕ) → cpu < CPUS_MAX → slice_index progress.taken cpu ≡ now.taken cpu
+  pub same : progress.told.wanted ≡ wanted
+  pub told : IsTold wanted contents.registry now.world progress.told.text.items
+
+-- a replay with another world
+abbrev pub with_world : Replayed → World → Replayed
+with_world now world = record { world = world; taken = now.taken }
+
+-- The lines so far are step lines, and this is how far a replay of them came.
+pub record HasTaken (wanted : Wanted) (contents : Contents) (lines : List (List ℕ)) (progress : Progress)
+    : Type 0 where
+  pub forms : List StepLineForm
+  pub steps : AreStepLines contents.registry lines forms
+  pub after : IsAfter wanted contents (replayed contents forms) progress
+
+-- A look took no firing; or it took one, and named the seats to which offers are due then.
+abbrev pub IsNamed : Contents → Replayed → (cpu : ℕ) → Option SeatMask → Type 0
+IsNamed contents now cpu None = next_of contents now cpu ≡ None
+IsNamed contents now cpu (Some mask) = (firing : Firing) × (next_of contents now cpu ≡ Some firing)
+    × ((seat : ℕ) → is_some (life_at mask seat) ≡ is_some ((looking contents.registry now.world cpu firing).due cpu seat))

@@ -1,0 +1,111 @@
+-- What a replay does, line by line, and what it writes.
+use Rattle.std.specs.Prelude.{◌≡◌, ℕ, ◌+◌, ◌==◌, ◌&&◌, Bool, false, List, [], ◌∷◌, ◌++◌, codes, decimal, Option, None, is_some, MatchOption, filter, fold, map, if◌then◌else◌}
+use Rattle.std.specs.List.{flat_map, list_any, range_with_len}
+use Rattle.std.specs.Option.{option_map_or}
+use Rattle.dt_chain.specs.declared.seat.TheConstants.{SEATS}
+use Rattle.dt_machine.specs.Registry.{Registry, Contents, firing_at}
+use Rattle.dt_machine.specs.declared.firing.Firing.{Firing}
+use Rattle.dt_proto.specs.Lines.{form_of}
+use Rattle.dt_proto.specs.Trail.{Entry, IsTrailOf, trail_text}
+use Rattle.dt_world.specs.Input.{AreStepLines, lines_of}
+use Rattle.dt_world.specs.Ran.{Told, AreReplies}
+use Rattle.dt_world.specs.StepLine.{StepLineForm, open_line, close_line, withdraw_line, ask_line, publish_line, finish_line, look_line, offer_line, call_line, fire_line}
+use Rattle.dt_world.specs.Steps.{Act, opens, asks, publishes, finishes, withdraws, looks, offers, closes, happens, asking, looking, is_done}
+use Rattle.dt_world.specs.World.{World, Session, Place, start, life_in, session_of, is_closing}
+
+-- Where a replay stands: the world, and how many firings of each processor's script were taken.
+pub record Replayed : Type 0 where
+  pub world : World
+  pub taken : (cpu : ℕ) → ℕ
+
+abbrev pub beginning : Replayed
+beginning = record { world = start; taken = λ cpu. 0 }
+
+-- a `go` of the session on a seat is pending
+abbrev pub waits : Place → Bool
+waits place = option_map_or (λ session. is_some session.go) place.present false
+
+-- a `close` of the session on a seat was accepted
+abbrev pub has_closed : Registry → Place → Bool
+has_closed registry place =
+    option_map_or (λ session. list_any is_closing (life_in registry session)) place.present false
+
+-- the seats to which a processor owes an offer, by rising seat
+unfoldable pub seats_due : World → (cpu : ℕ) → List ℕ
+seats_due world cpu = filter (λ seat. is_some (world.due cpu seat)) (range_with_len 0 SEATS)
+
+-- what a `call` does behind its ask: a pending `go` is published and finished; an accepted `close` ends the session
+abbrev pub behind_ask : Registry → World → (seat : ℕ) → List Act
+behind_ask registry world seat =
+    if waits (world.places seat) then publishes seat ∷ finishes seat ∷ []
+    else if has_closed registry (world.places seat) then withdraws seat ∷ closes seat ∷ [] else []
+
+-- what a `fire` does with the firing that it took: a look, and an offer to each seat that this named
+abbrev pub firing_acts : Registry → World → (cpu : ℕ) → Firing → List Act
+firing_acts registry world cpu firing =
+    looks cpu firing ∷ map (offers cpu) (seats_due (looking registry world cpu firing) cpu)
+
+module _ (contents : Contents) where
+  -- the firing that a processor takes now: the next of its script, where one is left and no offer of the processor is
+  abbrev pub next_of : Replayed → (cpu : ℕ) → Option Firing
+  next_of now cpu = if is_done (now.world.due cpu) then firing_at contents.scripts cpu (now.taken cpu) else None
+
+  -- the steps of the world that a line is, where the replay stands
+  abbrev pub acts_of : Replayed → StepLineForm → List Act
+  acts_of now (open_line seat account) = opens seat account ∷ []
+  acts_of now (close_line seat) = closes seat ∷ []
+  acts_of now (withdraw_line seat) = withdraws seat ∷ []
+  acts_of now (ask_line seat line) = asks seat (form_of line) ∷ []
+  acts_of now (publish_line seat) = publishes seat ∷ []
+  acts_of now (finish_line seat) = finishes seat ∷ []
+  acts_of now (look_line cpu) = option_map_or (λ firing. looks cpu firing ∷ []) (next_of now cpu) []
+  acts_of now (offer_line cpu seat) = offers cpu seat ∷ []
+  acts_of now (call_line seat line) = asks seat (form_of line)
+      ∷ behind_ask contents.registry (asking contents.registry now.world seat (form_of line)) seat
+  acts_of now (fire_line cpu) = option_map_or (firing_acts contents.registry now.world cpu) (next_of now cpu) []
+
+  -- the line takes a firing of this processor's script
+  abbrev pub takes : Replayed → StepLineForm → (cpu : ℕ) → Bool
+  takes now (look_line cpu) other = is_some (next_of now cpu) && other == cpu
+  takes now (fire_line cpu) other = is_some (next_of now cpu) && other == cpu
+  takes now _ other = false
+
+  -- where a replay stands after a line more
+  abbrev pub after_line : Replayed → StepLineForm → Replayed
+  after_line now line = record {
+    world = fold (happens contents.registry) now.world (acts_of now line);
+    taken = λ cpu. if takes now line cpu then now.taken cpu + 1 else now.taken cpu;
+  }
+
+  -- where a replay stands after these lines, the oldest first
+  abbrev pub replayed : List StepLineForm → Replayed
+  replayed forms = fold after_line beginning forms
+
+  -- all steps of these lines, from where the replay stands
+  abbrev pub acts_from : Replayed → List StepLineForm → List Act
+  acts_from now [] = []
+  acts_from now (line ∷ forms) = acts_of now line ++ acts_from (after_line now line) forms
+
+-- the line that is written for a reply: the seat, a blank, the reply
+abbrev pub told_line : Told → List ℕ
+told_line told = decimal told.0 ++ (codes " " ++ told.1)
+
+-- the trail of a session; without one there is nothing
+abbrev pub IsTrailText : Registry → Option Session → List ℕ → Type 0
+IsTrailText registry session output = MatchOption session (output ≡ [])
+    (λ s. (entries : List Entry) × IsTrailOf s.account registry s.view entries
+    × (output ≡ trail_text s.account.name entries))
+
+-- What is written for an input on a machine: the replies, each on a line of its own.
+pub record IsReplay (contents : Contents) (text output : List ℕ) : Type 0 where
+  pub forms : List StepLineForm
+  pub told : List Told
+  pub lines : AreStepLines contents.registry (lines_of text) forms
+  pub replies : AreReplies contents.registry (replayed contents forms).world.questions told
+  pub written : output ≡ flat_map told_line told
+
+-- What is written where the trail of a seat is wanted: that of the first session on it.
+pub record IsTrailReplay (contents : Contents) (text : List ℕ) (seat : ℕ) (output : List ℕ) : Type 0 where
+  pub forms : List StepLineForm
+  pub lines : AreStepLines contents.registry (lines_of text) forms
+  pub trail : IsTrailText contents.registry (session_of (replayed contents forms).world seat 0) output

@@ -1,0 +1,62 @@
+-- How the steps of a replay are written.
+use Rattle.std.specs.Prelude.{◌≡◌, ℕ, ◌^◌, ◌<◌, List, ◌++◌, codes, decimal}
+use Rattle.dt_chain.specs.declared.seat.TheConstants.{SEATS}
+use Rattle.dt_world.specs.declared.step_line.StepLine.{StepLine}
+use Rattle.dt_world.specs.declared.step_line.StepLine.TheVariants.{Open, Close, Withdraw, Ask, Publish, Finish, Look, Offer, Call, Fire}
+
+-- a step line without where it lies in memory
+pub data StepLineForm : Type 0 where
+  open_line : (seat : ℕ) (account : List ℕ) → StepLineForm
+  close_line : (seat : ℕ) → StepLineForm
+  withdraw_line : (seat : ℕ) → StepLineForm
+  ask_line : (seat : ℕ) (line : List ℕ) → StepLineForm
+  publish_line : (seat : ℕ) → StepLineForm
+  finish_line : (seat : ℕ) → StepLineForm
+  look_line : (cpu : ℕ) → StepLineForm
+  offer_line : (cpu seat : ℕ) → StepLineForm
+  call_line : (seat : ℕ) (line : List ℕ) → StepLineForm
+  fire_line : (cpu : ℕ) → StepLineForm
+
+abbrev pub form_of_step_line : StepLine → StepLineForm
+form_of_step_line (Open seat account) = open_line seat account.now
+form_of_step_line (Close seat) = close_line seat
+form_of_step_line (Withdraw seat) = withdraw_line seat
+form_of_step_line (Ask seat line) = ask_line seat line.now
+form_of_step_line (Publish seat) = publish_line seat
+form_of_step_line (Finish seat) = finish_line seat
+form_of_step_line (Look cpu) = look_line cpu
+form_of_step_line (Offer cpu seat) = offer_line cpu seat
+form_of_step_line (Call seat line) = call_line seat line.now
+form_of_step_line (Fire cpu) = fire_line cpu
+
+-- The words stand one blank apart. The account and the consumer's line are the rest, whatever its bytes; a number is
+-- decimal, without a leading zero.
+abbrev pub spelling : StepLineForm → List ℕ
+spelling (open_line seat account) = codes "open " ++ (decimal seat ++ (codes " " ++ account))
+spelling (close_line seat) = codes "close " ++ decimal seat
+spelling (withdraw_line seat) = codes "withdraw " ++ decimal seat
+spelling (ask_line seat line) = codes "ask " ++ (decimal seat ++ (codes " " ++ line))
+spelling (publish_line seat) = codes "publish " ++ decimal seat
+spelling (finish_line seat) = codes "finish " ++ decimal seat
+spelling (look_line cpu) = codes "look " ++ decimal cpu
+spelling (offer_line cpu seat) = codes "offer " ++ (decimal cpu ++ (codes " " ++ decimal seat))
+spelling (call_line seat line) = codes "call " ++ (decimal seat ++ (codes " " ++ line))
+spelling (fire_line cpu) = codes "fire " ++ decimal cpu
+
+-- a seat is one that there is, a processor has a number of 32 bits
+abbrev pub IsWritable : StepLineForm → Type 0
+IsWritable (open_line seat account) = seat < SEATS
+IsWritable (close_line seat) = seat < SEATS
+IsWritable (withdraw_line seat) = seat < SEATS
+IsWritable (ask_line seat line) = seat < SEATS
+IsWritable (publish_line seat) = seat < SEATS
+IsWritable (finish_line seat) = seat < SEATS
+IsWritable (look_line cpu) = cpu < 2 ^ 32
+IsWritable (offer_line cpu seat) = (cpu < 2 ^ 32) × (seat < SEATS)
+IsWritable (call_line seat line) = seat < SEATS
+IsWritable (fire_line cpu) = cpu < 2 ^ 32
+
+-- The text is the line of this step.
+pub record SpellsStepLine (text : List ℕ) (line : StepLineForm) : Type 0 where
+  pub writable : IsWritable line
+  pub spelled : text ≡ spelling line

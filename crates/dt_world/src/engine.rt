@@ -1,0 +1,221 @@
+//! The seats with their consumers, what is published, and the offers that are left: each step in turn.
+ghost use Rattle.std.specs.Prelude.{◌≡◌, vec_len};
+ghost use Rattle.dt_chain.specs.declared.seat.TheConstants.{SEATS};
+
+use crate::held::{Held, free_seats};
+use crate::looked::{Looked, idle_processors};
+use crate::outcome::Outcome;
+use crate::served::{Answered, Finished};
+use crate::step::Step;
+use dt_chain::{Entries, SEATS, Seat, SeatMask};
+use dt_machine::{Firing, Machine};
+use dt_proto::WholeLine;
+use std::alloc::{AllocError, Global};
+
+/// All seats, what is published, and what each processor looked for.
+#[derive(Drop)]
+pub(crate) struct Engine {
+    pub(crate) seats: Vec<Held>,
+    pub(crate) entries: Entries,
+    pub(crate) processors: Vec<Option<Looked>>,
+    ghost all: { vec_len seats ≡ SEATS },
+}
+
+impl Engine {
+    ghost use Rattle.std.specs.Prelude.{ℕ, ◌+◌, ◌<◌, ◌^◌, ◌&&◌, Some, IsTrue, IfOk, IfSome, OnOk, option_map, nat_lt};
+    ghost use Rattle.dt_machine.specs.Registry.{Registry};
+    ghost use Rattle.dt_consumer.specs.Life.{is_over};
+    ghost use Rattle.dt_proto.specs.Asked.{form_lent, form_asked};
+    ghost use Rattle.dt_world.specs.Stands.{IsAt, IsAnswered, IsLooked, seen_in};
+    ghost use Rattle.dt_world.specs.Steps as steps;
+    ghost use Rattle.dt_world.specs.Telling.{IsTelling};
+    ghost use Rattle.dt_world.specs.Steps.{act_of, happens, opening, asking, publishing, finishing, withdrawing, looking, offering, closing};
+    ghost use Rattle.dt_world.specs.World.{World, Session, Pending, number_on, life_in, start};
+
+    /// All seats are free, nothing is published, and no processor looked for anything.
+    pub(crate) fn new(alloc: Global, machine: &Machine) -> Result<Engine, AllocError>
+        ensures { IfOk result (IsAt machine.now.registry start) }
+    {
+        Ok(Engine {
+            seats: free_seats(alloc)?,
+            entries: Entries::new(alloc),
+            processors: idle_processors(alloc, machine.cpus())?,
+        })
+    }
+
+    /// Opens a session on a free seat for the machine's account of this name, if that has a dtrace privilege.
+    pub(crate) fn open(
+        &mut self,
+        alloc: Global,
+        machine: &Machine,
+        seat: Seat,
+        name: &[u8],
+    ) -> Result<(), AllocError>
+        ensures { OnOk result ((world : World) → IsAt machine.now.registry world self.old
+            → IsAt machine.now.registry (opening machine.now.registry world seat name.now) self.new) }
+    {
+        self.seats[seat.number() as usize].open(alloc, machine, name)
+    }
+
+    /// Asks a line of the session on a seat, and answers the reply's bytes.
+    pub(crate) fn ask(
+        &mut self,
+        alloc: Global,
+        machine: &Machine,
+        seat: Seat,
+        line: WholeLine<'_>,
+    ) -> Result<Option<Answered>, AllocError>
+        ensures at { OnOk result ((world : World) → IsAt machine.now.registry world self.old
+            → IsAt machine.now.registry (asking machine.now.registry world seat (form_lent line.entry)) self.new) }
+        ensures answer { IfOk result (λ reply. (world : World) → IsAt machine.now.registry world self.old
+            → IsAnswered machine.now.registry world (asking machine.now.registry world seat (form_lent line.entry)) seat
+            (option_map (λ answered. answered.text.items) reply)) }
+        ensures over { IfOk result (λ reply. IfSome reply (λ answered. (world : World) (session : Session)
+            → IsAt machine.now.registry world self.old → (world.places seat).present ≡ Some session
+            → answered.is_over ≡ is_over (life_in machine.now.registry session))) }
+    {
+        self.seats[seat.number() as usize].ask(alloc, machine, line)
+    }
+
+    /// Publishes the interest of the session on a seat.
+    pub(crate) fn publish(&mut self, machine: &Machine, seat: Seat) -> Result<(), AllocError>
+        ensures { OnOk result ((world : World) → IsAt machine.now.registry world self.old
+            → IsAt machine.now.registry (publishing machine.now.registry world seat) self.new) }
+    {
+        self.seats[seat.number() as usize].publish(&mut self.entries, seat)
+    }
+
+    /// Lets the published `go` of the session on a seat take effect, and answers the reply's bytes.
+    pub(crate) fn finish(
+        &mut self,
+        alloc: Global,
+        machine: &Machine,
+        seat: Seat,
+    ) -> Result<Option<Finished>, AllocError>
+        ensures at { OnOk result ((world : World) → IsAt machine.now.registry world self.old
+            → IsAt machine.now.registry (finishing world seat) self.new) }
+        ensures answer { IfOk result (λ reply. (world : World) → IsAt machine.now.registry world self.old
+            → IsAnswered machine.now.registry world (finishing world seat) seat (option_map (λ finished. finished.text.items) reply)) }
+        ensures line { IfOk result (λ reply. IfSome reply (λ finished. (world : World) (session : Session) (pending : Pending)
+            → IsAt machine.now.registry world self.old → (world.places seat).present ≡ Some session
+            → session.go ≡ Some pending → form_asked finished.line ≡ pending.line)) }
+    {
+        self.seats[seat.number() as usize].finish(alloc, machine)
+    }
+
+    /// Withdraws the entry of a seat.
+    pub(crate) fn withdraw(&mut self, machine: &Machine, seat: Seat)
+        ensures { (world : World) → IsAt machine.now.registry world self.old
+            → IsAt machine.now.registry (withdrawing machine.now.registry world seat) self.new }
+    {
+        if self.seats[seat.number() as usize].may_withdraw() {
+            self.entries.withdraw(seat);
+        }
+    }
+
+    /// Looks whom a firing of a processor is to be offered to. `None`: the look is not enabled.
+    pub(crate) fn look(&mut self, machine: &Machine, cpu: u32, firing: &Firing) -> Option<SeatMask>
+        ensures at { (world : World) → IsAt machine.now.registry world self.old
+            → IsAt machine.now.registry (looking machine.now.registry world cpu firing.now) self.new }
+        ensures answer { (world : World) → IsAt machine.now.registry world self.old
+            → IsLooked world (looking machine.now.registry world cpu firing.now) result }
+    {
+        if firing.cpu != cpu {
+            return None;
+        }
+        if !self.is_done(cpu) {
+            return None;
+        }
+        let mask = self.entries.look(machine, firing);
+        self.processors[cpu as usize] = Some(Looked {
+            firing: *firing,
+            left: mask,
+        });
+        Some(mask)
+    }
+
+    /// Whether there is such a processor, and none of its offers is left.
+    fn is_done(&self, cpu: u32) -> bool
+        ensures there { IsTrue result → cpu < vec_len self.now.processors }
+        ensures done { (registry : Registry) (world : World) → IsAt registry world self.now
+            → result ≡ (nat_lt cpu registry.cpus && steps.is_done (world.due cpu)) }
+    {
+        match self.processors.get(cpu as usize) {
+            Some(Some(looked)) => looked.left.is_empty(),
+            Some(None) => true,
+            None => false,
+        }
+    }
+
+    /// Offers the firing that a processor looked for to a seat. Answers the firing, where the session on the seat saw it.
+    pub(crate) fn offer(&mut self, machine: &Machine, cpu: u32, seat: Seat) -> Option<Firing>
+        ensures at { (world : World) → IsAt machine.now.registry world self.old
+            → IsAt machine.now.registry (offering world cpu seat) self.new }
+        ensures seen { (world : World) → IsAt machine.now.registry world self.old
+            → result ≡ seen_in machine.now.registry world cpu seat }
+    {
+        if (cpu as usize) < self.processors.len() {
+            if let Some(looked) = &mut self.processors[cpu as usize] {
+                if let Some((life, firing)) = looked.take(seat) {
+                    if self.seats[seat.number() as usize].deliver(machine, life, &firing) {
+                        return Some(firing);
+                    }
+                }
+            }
+        }
+        None
+    }
+
+    /// Ends the session on a seat.
+    pub(crate) fn close(&mut self, seat: Seat)
+        ensures { (registry : Registry) (world : World) → number_on world seat + 1 < 2 ^ 64
+            → IsAt registry world self.old → IsAt registry (closing world seat) self.new }
+    {
+        self.seats[seat.number() as usize].close();
+    }
+
+    /// Takes a step, and tells what it answers.
+    pub(crate) fn take(
+        &mut self,
+        alloc: Global,
+        machine: &Machine,
+        step: &Step,
+    ) -> Result<Outcome, AllocError>
+        ensures { IfOk result (λ outcome. (world : World) → ((seat : ℕ) → number_on world seat + 1 < 2 ^ 64)
+            → IsAt machine.now.registry world self.old
+            → IsAt machine.now.registry (happens machine.now.registry world (act_of step.now)) self.new
+            × IsTelling machine.now.registry world (happens machine.now.registry world (act_of step.now)) outcome) }
+    {
+        match step {
+            Step::Open(seat, name) => {
+                self.open(alloc, machine, *seat, name)?;
+                Ok(Outcome::Quiet)
+            }
+            Step::Ask(seat, line) => {
+                let reply = self.ask(alloc, machine, *seat, line.lent())?;
+                Ok(Outcome::replied(*seat, reply))
+            }
+            Step::Publish(seat) => {
+                self.publish(machine, *seat)?;
+                Ok(Outcome::Quiet)
+            }
+            Step::Finish(seat) => {
+                let reply = self.finish(alloc, machine, *seat)?;
+                Ok(Outcome::finished(*seat, reply))
+            }
+            Step::Withdraw(seat) => {
+                self.withdraw(machine, *seat);
+                Ok(Outcome::Quiet)
+            }
+            Step::Look(cpu, firing) => Ok(Outcome::looked(self.look(machine, *cpu, firing))),
+            Step::Offer(cpu, seat) => {
+                self.offer(machine, *cpu, *seat);
+                Ok(Outcome::Quiet)
+            }
+            Step::Close(seat) => {
+                self.close(*seat);
+                Ok(Outcome::Quiet)
+            }
+        }
+    }
+}

@@ -1,0 +1,261 @@
+//! The lines of a replay, taken one by one.
+ghost use Rattle.std.specs.Prelude.{◌≡◌, ◌+◌, ◌<◌, ◌^◌, ◌↔◌, ◌++◌, ◌∷◌, ℕ, List, [], Ok, true, false, IsTrue, IfOk, OnOk, length};
+ghost use Rattle.dt_proto.specs.Lines.{form_of};
+ghost use Rattle.dt_world.specs.Input.{AreStepLines, IsLineOn};
+ghost use Rattle.dt_world.specs.Progress.{IsAfter, HasTaken, IsNamed, with_world};
+ghost use Rattle.dt_world.specs.Replay.{Replayed, after_line};
+ghost use Rattle.dt_world.specs.StepLine.{StepLineForm, look_line, call_line, fire_line, form_of_step_line};
+ghost use Rattle.dt_world.specs.Steps.{opening, asking, finishing, offering};
+ghost use Rattle.dt_world.specs.World.{number_on};
+ghost use Rattle.dt_world.specs.declared.told.Wanted.{Wanted};
+
+use crate::engine::Engine;
+use crate::step_line::StepLine;
+use crate::told::{Told, Wanted};
+use dt_chain::{Seat, SeatMask};
+use dt_machine::{CPUS_MAX, Machine};
+use dt_proto::WholeLine;
+use std::alloc::{AllocError, Global};
+
+/// The seats with their consumers, how many firings of each processor's script were taken, and what is to be written.
+#[derive(Drop)]
+pub(crate) struct Progress {
+    pub(crate) engine: Engine,
+    pub(crate) taken: [u32; CPUS_MAX as usize],
+    pub(crate) told: Told,
+}
+
+impl Progress {
+    /// A replay of which no line was taken.
+    pub(crate) fn new(alloc: Global, wanted: Wanted, machine: &Machine) -> Result<Self, AllocError>
+        ensures { IfOk result (HasTaken wanted machine.now []) }
+    {
+        Ok(Progress {
+            engine: Engine::new(alloc, machine)?,
+            taken: [0; CPUS_MAX as usize],
+            told: Told {
+                wanted,
+                text: Vec::new(alloc),
+            },
+        })
+    }
+
+    /// Takes a line, and answers whether it is one that may stand here: a step line whose account and processor are the
+    /// machine's. An empty line is no step, and may stand anywhere.
+    pub(crate) fn take_line(
+        &mut self,
+        alloc: Global,
+        machine: &Machine,
+        line: &[u8],
+    ) -> Result<bool, AllocError>
+        ensures taken { result ≡ Ok true → (wanted : Wanted) (lines : List (List ℕ)) → length lines + 1 < 2 ^ 64
+            → HasTaken wanted machine.now lines self.old → HasTaken wanted machine.now (lines ++ line.now ∷ []) self.new }
+        ensures refused { result ≡ Ok false → (wanted : Wanted) (lines : List (List ℕ))
+            → HasTaken wanted machine.now lines self.old
+            → (forms : List StepLineForm) → AreStepLines machine.now.registry (lines ++ line.now ∷ []) forms → ⊥ }
+    {
+        if line.is_empty() {
+            return Ok(true);
+        }
+        let Some(step) = StepLine::parse(line) else {
+            return Ok(false);
+        };
+        if !is_known(machine, &step) {
+            return Ok(false);
+        }
+        self.take(alloc, machine, step)?;
+        Ok(true)
+    }
+
+    /// Takes a step line.
+    fn take(
+        &mut self,
+        alloc: Global,
+        machine: &Machine,
+        step: StepLine<'_>,
+    ) -> Result<(), AllocError>
+        ensures { OnOk result ((wanted : Wanted) (now : Replayed) → ((seat : ℕ) → number_on now.world seat + 1 < 2 ^ 64)
+            → IsLineOn machine.now.registry (form_of_step_line step.entry) → IsAfter wanted machine.now now self.old
+            → IsAfter wanted machine.now (after_line machine.now now (form_of_step_line step.entry)) self.new) }
+    {
+        match step {
+            StepLine::Open { seat, account } => self.open(alloc, machine, seat, account),
+            StepLine::Close { seat } => {
+                self.engine.close(seat);
+                Ok(())
+            }
+            StepLine::Withdraw { seat } => {
+                self.engine.withdraw(machine, seat);
+                Ok(())
+            }
+            StepLine::Ask { seat, line } => self.ask(alloc, machine, seat, line),
+            StepLine::Publish { seat } => self.engine.publish(machine, seat),
+            StepLine::Finish { seat } => self.finish(alloc, machine, seat),
+            StepLine::Look { cpu } => {
+                self.look(machine, cpu);
+                Ok(())
+            }
+            StepLine::Offer { cpu, seat } => self.offer(alloc, machine, cpu, seat),
+            StepLine::Call { seat, line } => self.call(alloc, machine, seat, line),
+            StepLine::Fire { cpu } => self.fire(alloc, machine, cpu),
+        }
+    }
+
+    /// Opens a session on a free seat, and tells that it begins, if it is the first there.
+    fn open(
+        &mut self,
+        alloc: Global,
+        machine: &Machine,
+        seat: Seat,
+        name: &[u8],
+    ) -> Result<(), AllocError>
+        ensures { OnOk result ((wanted : Wanted) (now : Replayed) → IsAfter wanted machine.now now self.old
+            → IsAfter wanted machine.now (with_world now (opening machine.now.registry now.world seat name.now)) self.new) }
+    {
+        let was_there = self.engine.first(seat).is_some();
+        self.engine.open(alloc, machine, seat, name)?;
+        if was_there {
+            return Ok(());
+        }
+        match self.engine.first(seat) {
+            Some(account) => self.told.open(seat, &account),
+            None => Ok(()),
+        }
+    }
+
+    /// Asks a line of the session on a seat, and tells the reply.
+    fn ask(
+        &mut self,
+        alloc: Global,
+        machine: &Machine,
+        seat: Seat,
+        line: &[u8],
+    ) -> Result<(), AllocError>
+        ensures { OnOk result ((wanted : Wanted) (now : Replayed) → IsAfter wanted machine.now now self.old
+            → IsAfter wanted machine.now (with_world now (asking machine.now.registry now.world seat (form_of line.now))) self.new) }
+    {
+        let is_first = self.engine.first(seat).is_some();
+        let line = WholeLine::Bytes(line);
+        match self.engine.ask(alloc, machine, seat, line)? {
+            Some(answered) => self.told.reply(
+                alloc,
+                seat,
+                is_first,
+                line,
+                &answered.text,
+                answered.is_over,
+            ),
+            None => Ok(()),
+        }
+    }
+
+    /// Lets a published `go` of the session on a seat take effect, and tells the reply.
+    fn finish(&mut self, alloc: Global, machine: &Machine, seat: Seat) -> Result<(), AllocError>
+        ensures { OnOk result ((wanted : Wanted) (now : Replayed) → IsAfter wanted machine.now now self.old
+            → IsAfter wanted machine.now (with_world now (finishing now.world seat)) self.new) }
+    {
+        let is_first = self.engine.first(seat).is_some();
+        match self.engine.finish(alloc, machine, seat)? {
+            Some(finished) => self.told.reply(
+                alloc,
+                seat,
+                is_first,
+                finished.line.lent(),
+                &finished.text,
+                false,
+            ),
+            None => Ok(()),
+        }
+    }
+
+    /// Asks a line of the session on a seat, with all steps that the line needs.
+    fn call(
+        &mut self,
+        alloc: Global,
+        machine: &Machine,
+        seat: Seat,
+        line: &[u8],
+    ) -> Result<(), AllocError>
+        ensures { OnOk result ((wanted : Wanted) (now : Replayed) → number_on now.world seat + 1 < 2 ^ 64
+            → IsAfter wanted machine.now now self.old
+            → IsAfter wanted machine.now (after_line machine.now now (call_line seat line.now)) self.new) }
+    {
+        self.ask(alloc, machine, seat, line)?;
+        if self.engine.waits(seat) {
+            self.engine.publish(machine, seat)?;
+            self.finish(alloc, machine, seat)
+        } else if self.engine.has_closed(seat) {
+            self.engine.withdraw(machine, seat);
+            self.engine.close(seat);
+            Ok(())
+        } else {
+            Ok(())
+        }
+    }
+
+    /// Takes the next firing of a processor's script, where one is left and no offer of the processor is, and looks whom
+    /// it is to be offered to.
+    fn look(&mut self, machine: &Machine, cpu: u32) -> Option<SeatMask>
+        ensures after { (wanted : Wanted) (now : Replayed) → cpu < machine.now.registry.cpus → IsAfter wanted machine.now now self.old
+            → IsAfter wanted machine.now (after_line machine.now now (look_line cpu)) self.new }
+        ensures answer { (wanted : Wanted) (now : Replayed) → cpu < machine.now.registry.cpus → IsAfter wanted machine.now now self.old
+            → IsNamed machine.now now cpu result }
+    {
+        if cpu >= machine.cpus() {
+            return None;
+        }
+        let place = self.taken[cpu as usize];
+        let firing = machine.firing(cpu, place)?;
+        let mask = self.engine.look(machine, cpu, firing)?;
+        self.taken[cpu as usize] = place.saturating_add(1);
+        Some(mask)
+    }
+
+    /// Takes the next firing of a processor's script, and offers it to each seat that it is for.
+    fn fire(&mut self, alloc: Global, machine: &Machine, cpu: u32) -> Result<(), AllocError>
+        ensures { OnOk result ((wanted : Wanted) (now : Replayed) → cpu < machine.now.registry.cpus
+            → IsAfter wanted machine.now now self.old
+            → IsAfter wanted machine.now (after_line machine.now now (fire_line cpu)) self.new) }
+    {
+        let Some(mask) = self.look(machine, cpu) else {
+            return Ok(());
+        };
+        let mut left = mask;
+        while let Some(first) = left.first() {
+            left.remove(first.0);
+            self.offer(alloc, machine, cpu, first.0)?;
+        }
+        Ok(())
+    }
+
+    /// Offers the firing that a processor looked for to a seat, and tells of it where it is seen.
+    fn offer(
+        &mut self,
+        alloc: Global,
+        machine: &Machine,
+        cpu: u32,
+        seat: Seat,
+    ) -> Result<(), AllocError>
+        ensures { OnOk result ((wanted : Wanted) (now : Replayed) → IsAfter wanted machine.now now self.old
+            → IsAfter wanted machine.now (with_world now (offering now.world cpu seat)) self.new) }
+    {
+        let is_first = self.engine.first(seat).is_some();
+        match self.engine.offer(machine, cpu, seat) {
+            Some(firing) => self.told.fire(alloc, seat, is_first, &firing),
+            None => Ok(()),
+        }
+    }
+}
+
+/// Whether the account or the processor of a step line is the machine's.
+fn is_known(machine: &Machine, step: &StepLine<'_>) -> bool
+    ensures { IsTrue result ↔ IsLineOn machine.now.registry (form_of_step_line step.now) }
+{
+    match step {
+        StepLine::Open { account, .. } => machine.account(account).is_some(),
+        StepLine::Look { cpu } | StepLine::Offer { cpu, .. } | StepLine::Fire { cpu } => {
+            *cpu < machine.cpus()
+        }
+        _ => true,
+    }
+}

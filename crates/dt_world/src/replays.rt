@@ -1,0 +1,245 @@
+//! A replay: a machine file and step lines, from bytes to bytes.
+ghost use Rattle.std.specs.Prelude.{◌≡◌, ◌≢◌, ◌<◌, ℕ, List, [], ◌∷◌, IfOk, IfErr, IfSome, IfNone, OnOk, length, take};
+ghost use Rattle.std.specs.Io.KnownBytes.{Appends, Keeps};
+ghost use Rattle.dt_machine.specs.Reading.{IsDescribed, IsFaultOf};
+ghost use Rattle.dt_machine.specs.Registry.{Contents};
+ghost use Rattle.dt_machine.specs.Sections.{NowhereIfMemory, UnlessMemory};
+ghost use Rattle.dt_machine.specs.declared.fault.MachineFault.{MachineFault};
+ghost use Rattle.dt_proto.specs.Splits.{HasNoNewline, IsCut};
+ghost use Rattle.dt_world.specs.Faults.{IsFaultOfReading, IsFaultOfLines, IsOfMachine};
+ghost use Rattle.dt_world.specs.Input.{lines_of, IsRefused};
+ghost use Rattle.dt_world.specs.Replay.{IsReplay, IsTrailReplay};
+ghost use Rattle.dt_world.specs.Told.{IsOutput};
+
+use crate::progress::Progress;
+use crate::told::Wanted;
+use dt_chain::Seat;
+use dt_machine::{Machine, MachineFault};
+use std::alloc::{AllocError, Global};
+use std::io::{ErrorKind, Read, Write};
+use thiserror::Error;
+
+/// The most reads of an input.
+const READS_MAX: u64 = 1 << 28;
+
+/// How many bytes are asked of an input at once.
+const CHUNK: usize = 8192;
+
+/// Why a replay wrote nothing, or not all. They are tested in this order; memory can run out at any point after
+/// the first and before the last.
+#[derive(Clone, Copy, Debug, PartialEq, Eq, Error)]
+pub enum ReplayFault {
+    /// The machine file is refused.
+    #[error("{0}")]
+    Machine(MachineFault),
+    /// A read failed, or the input hadn't ended after 2^28 reads.
+    #[error("fault")]
+    Read,
+    /// This line of the input, counted from 1, is no step line, or none on this machine.
+    #[error("line {0}: refused")]
+    Line(usize),
+    /// A write failed. A beginning of the output may have been written.
+    #[error("fault")]
+    Write,
+    /// Memory ran out.
+    #[error("fault")]
+    Memory,
+}
+
+/// Replays an input on a machine: reads both whole, takes the step lines in order, and writes the
+/// replies, each behind its seat.
+pub fn replay<R: Read, W: Write>(
+    alloc: Global,
+    machine: &[u8],
+    reader: &mut R,
+    writer: &mut W,
+) -> Result<(), ReplayFault>
+    // What is written are the replies that the definition gives to what was read.
+    ensures ok { OnOk result (IfSome (R.remaining reader.old) (λ input.
+        (contents : Contents) × (output : List ℕ) × IsDescribed machine.now contents × IsReplay contents input output
+        × Appends (W.contents writer.old) (W.contents writer.new) output)) }
+
+    // The machine file is tested first: it is named where it is refused, and then nothing was read. Every other fault
+    // comes after it was read as a machine.
+    ensures machine { IfErr result (λ fault. (refused : MachineFault) → fault ≡ ReplayFault.Machine refused
+        → NowhereIfMemory refused × UnlessMemory refused (IsFaultOf machine.now refused)) }
+    ensures unread { IfErr result (λ fault. IsOfMachine fault → reader.new ≡ reader.old) }
+    ensures described { IfErr result (λ fault. (IsOfMachine fault → ⊥)
+        → (contents : Contents) × IsDescribed machine.now contents) }
+
+    // A line is named where it is the first that is refused.
+    ensures line { IfErr result (λ fault. (n : ℕ) → fault ≡ ReplayFault.Line n
+        → IfSome (R.remaining reader.old) (λ input.
+        (contents : Contents) × IsDescribed machine.now contents × IsRefused contents.registry (lines_of input) n)) }
+
+    // Only a write that fails leaves anything written: a beginning of what would have been.
+    ensures nothing_written { IfErr result (λ fault. fault ≢ ReplayFault.Write
+        → Keeps (W.contents writer.old) (W.contents writer.new)) }
+    ensures beginning_written { IfErr result (λ fault. fault ≡ ReplayFault.Write
+        → IfSome (R.remaining reader.old) (λ input.
+        (contents : Contents) × (output : List ℕ) × (count : ℕ) × IsDescribed machine.now contents
+        × IsReplay contents input output × Appends (W.contents writer.old) (W.contents writer.new) (take count output))) }
+{
+    replay_as(alloc, Wanted::Replies, machine, reader, writer)
+}
+
+/// Replays an input on a machine as [`replay`] does, and writes the trail of the first session on a seat: the account's
+/// name, and then each line within the quota with its reply, and each firing that the session saw. A line stands at its
+/// reply. It writes nothing where the seat never had a session.
+pub fn replay_trail<R: Read, W: Write>(
+    alloc: Global,
+    machine: &[u8],
+    seat: Seat,
+    reader: &mut R,
+    writer: &mut W,
+) -> Result<(), ReplayFault>
+    // What is written is the trail that the definition gives to what was read.
+    ensures ok { OnOk result (IfSome (R.remaining reader.old) (λ input.
+        (contents : Contents) × (output : List ℕ) × IsDescribed machine.now contents × IsTrailReplay contents input seat output
+        × Appends (W.contents writer.old) (W.contents writer.new) output)) }
+
+    // The machine file is tested first: it is named where it is refused, and then nothing was read. Every other fault
+    // comes after it was read as a machine.
+    ensures machine { IfErr result (λ fault. (refused : MachineFault) → fault ≡ ReplayFault.Machine refused
+        → NowhereIfMemory refused × UnlessMemory refused (IsFaultOf machine.now refused)) }
+    ensures unread { IfErr result (λ fault. IsOfMachine fault → reader.new ≡ reader.old) }
+    ensures described { IfErr result (λ fault. (IsOfMachine fault → ⊥)
+        → (contents : Contents) × IsDescribed machine.now contents) }
+
+    // A line is named where it is the first that is refused.
+    ensures line { IfErr result (λ fault. (n : ℕ) → fault ≡ ReplayFault.Line n
+        → IfSome (R.remaining reader.old) (λ input.
+        (contents : Contents) × IsDescribed machine.now contents × IsRefused contents.registry (lines_of input) n)) }
+
+    // Only a write that fails leaves anything written: a beginning of what would have been.
+    ensures nothing_written { IfErr result (λ fault. fault ≢ ReplayFault.Write
+        → Keeps (W.contents writer.old) (W.contents writer.new)) }
+    ensures beginning_written { IfErr result (λ fault. fault ≡ ReplayFault.Write
+        → IfSome (R.remaining reader.old) (λ input.
+        (contents : Contents) × (output : List ℕ) × (count : ℕ) × IsDescribed machine.now contents
+        × IsTrailReplay contents input seat output × Appends (W.contents writer.old) (W.contents writer.new) (take count output))) }
+{
+    replay_as(alloc, Wanted::Trail(seat), machine, reader, writer)
+}
+
+/// Replays an input on a machine: reads both whole, takes the step lines in order, and writes what is wanted.
+fn replay_as<R: Read, W: Write>(
+    alloc: Global,
+    wanted: Wanted,
+    machine: &[u8],
+    reader: &mut R,
+    writer: &mut W,
+) -> Result<(), ReplayFault>
+    // What is written is what the definition gives to what was read.
+    ensures ok { OnOk result (IfSome (R.remaining reader.old) (λ input.
+        (contents : Contents) × (output : List ℕ) × IsDescribed machine.now contents × IsOutput wanted contents input output
+        × Appends (W.contents writer.old) (W.contents writer.new) output)) }
+
+    // The machine file is tested first: it is named where it is refused, and then nothing was read. Every other fault
+    // comes after it was read as a machine.
+    ensures machine { IfErr result (λ fault. (refused : MachineFault) → fault ≡ ReplayFault.Machine refused
+        → NowhereIfMemory refused × UnlessMemory refused (IsFaultOf machine.now refused)) }
+    ensures unread { IfErr result (λ fault. IsOfMachine fault → reader.new ≡ reader.old) }
+    ensures described { IfErr result (λ fault. (IsOfMachine fault → ⊥)
+        → (contents : Contents) × IsDescribed machine.now contents) }
+
+    // A line is named where it is the first that is refused.
+    ensures line { IfErr result (λ fault. (n : ℕ) → fault ≡ ReplayFault.Line n
+        → IfSome (R.remaining reader.old) (λ input.
+        (contents : Contents) × IsDescribed machine.now contents × IsRefused contents.registry (lines_of input) n)) }
+
+    // Only a write that fails leaves anything written: a beginning of what would have been.
+    ensures nothing_written { IfErr result (λ fault. fault ≢ ReplayFault.Write
+        → Keeps (W.contents writer.old) (W.contents writer.new)) }
+    ensures beginning_written { IfErr result (λ fault. fault ≡ ReplayFault.Write
+        → IfSome (R.remaining reader.old) (λ input.
+        (contents : Contents) × (output : List ℕ) × (count : ℕ) × IsDescribed machine.now contents
+        × IsOutput wanted contents input output × Appends (W.contents writer.old) (W.contents writer.new) (take count output))) }
+{
+    let machine = match Machine::read(alloc, machine) {
+        Ok(machine) => machine,
+        Err(fault) => return Err(ReplayFault::Machine(fault)),
+    };
+    let input = read_input(alloc, reader)?;
+    let output = output_of(alloc, wanted, &machine, &input)?;
+    write_output(writer, &output)
+}
+
+/// All bytes of a reader.
+fn read_input<R: Read>(alloc: Global, reader: &mut R) -> Result<Vec<u8>, ReplayFault>
+    ensures ok { IfOk result (λ input. IfSome (R.remaining reader.old) (λ bytes. input.items ≡ bytes)) }
+    ensures err { IfErr result IsFaultOfReading }
+{
+    let mut input = Vec::new(alloc);
+    let mut chunk = [0; CHUNK];
+    for _read in 0..READS_MAX {
+        match reader.read(&mut chunk) {
+            Ok(0) => return Ok(input),
+            Ok(count) => match input.extend_from_slice(&chunk[..count]) {
+                Ok(()) => {}
+                Err(_) => return Err(ReplayFault::Memory),
+            },
+            Err(fault) if fault.kind() == ErrorKind::Interrupted => {}
+            Err(_) => return Err(ReplayFault::Read),
+        }
+    }
+    Err(ReplayFault::Read)
+}
+
+/// What is written for an input.
+fn output_of(
+    alloc: Global,
+    wanted: Wanted,
+    machine: &Machine,
+    input: &[u8],
+) -> Result<Vec<u8>, ReplayFault>
+    ensures ok { IfOk result (λ output. IsOutput wanted machine.now input.now output.items) }
+    ensures err { IfErr result (IsFaultOfLines machine.now input.now) }
+{
+    let mut progress = match Progress::new(alloc, wanted, machine) {
+        Ok(progress) => progress,
+        Err(AllocError) => return Err(ReplayFault::Memory),
+    };
+    let mut rest = input;
+    let mut number = 0;
+    while let Some((line, more)) = next_line(rest) {
+        rest = more;
+        number += 1;
+        match progress.take_line(alloc, machine, line) {
+            Ok(true) => {}
+            Ok(false) => return Err(ReplayFault::Line(number)),
+            Err(AllocError) => return Err(ReplayFault::Memory),
+        }
+    }
+    Ok(progress.told.text)
+}
+
+/// The text before the first newline, and what stands after it.
+fn next_line(text: &[u8]) -> Option<(&[u8], &[u8])>
+    ensures found { IfSome result (λ parts. IsCut text.now parts.0.now parts.1.now) }
+    ensures none { IfNone result (HasNoNewline text.now) }
+{
+    let at = text.iter().position(|byte| *byte == b'\n')?;
+    Some((&text[..at], &text[at + 1..]))
+}
+
+/// Writes all bytes, and flushes.
+fn write_output<W: Write>(writer: &mut W, output: &[u8]) -> Result<(), ReplayFault>
+    ensures ok { OnOk result (Appends (W.contents writer.old) (W.contents writer.new) output.now) }
+    ensures err { IfErr result (λ fault. (count : ℕ) × (fault ≡ ReplayFault.Write)
+        × Appends (W.contents writer.old) (W.contents writer.new) (take count output.now)) }
+{
+    let mut rest = output;
+    for _write in 0..u64::MAX {
+        if rest.is_empty() {
+            return writer.flush().map_err(|_| ReplayFault::Write);
+        }
+        match writer.write(rest) {
+            Ok(0) => return Err(ReplayFault::Write),
+            Ok(count) => rest = &rest[count..],
+            Err(fault) if fault.kind() == ErrorKind::Interrupted => {}
+            Err(_) => return Err(ReplayFault::Write),
+        }
+    }
+    Err(ReplayFault::Write)
+}
