@@ -86,13 +86,11 @@ module _ (in_end : Bool) (m : MomentForm) (cs : List ClauseForm) where
       ∙ map-append (taking_of in_end m) (of_probe m.firing.probe (map (form_of_ecb cs) ecbs)) _
       ∙ ap (λ ts. row ecbs ++ ts) (picked (ecb.probe == m.firing.probe) (form_of_ecb cs ecb))
 
-  module _ (ecbs : List Ecb) (i : ℕ) (d : Ecb) (inside : i < length ecbs) where
-    abbrev pub ecb : Ecb
-    ecb = get_or ecbs i d
-
+  module _ (ecbs : List Ecb) (i : ℕ) (ecb : Ecb) (inside : i < length ecbs) (is : ecb ≡ get_or ecbs i ecb) where
     row_more : row (take (i + 1) ecbs) ≡ row (take i ecbs) ++ here ecb
     row_more =
-        ap row (take_more ecbs i d inside) ∙ row_push (take i ecbs) ecb
+        ap row (take_more ecbs i ecb inside) ∙ ap (λ (e : Ecb). row (take i ecbs ++ e ∷ [])) (sym is)
+        ∙ row_push (take i ecbs) ecb
 
     -- an ECB of another probe
     pub row_other : (ecb.probe == m.firing.probe) ≡ false → row (take (i + 1) ecbs) ≡ row (take i ecbs)

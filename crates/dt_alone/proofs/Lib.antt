@@ -7,11 +7,13 @@ pub mod Showing
 pub mod Placing
 pub mod Replying
 pub mod Recounting
+pub mod Storing
 pub mod Cuts
 pub mod Decimals
 pub mod Entries
 pub mod Trails
 pub mod Verdicts
 pub mod Lives
+pub mod Trailed
 pub mod Judging
 pub mod SoFar

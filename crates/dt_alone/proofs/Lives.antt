@@ -1,20 +1,39 @@
--- The life and the replies that entries tell are those of the view that they tell.
-use Rattle.std.proofs.Common.{◌≡◌, ℕ, false, List, [], ◌∷◌, ◌++◌, map, reverse, append_assoc, refl, sym, ap, ◌∙◌, inl}
+-- The life and the replies that entries tell are those of the view that they tell: entries agree where they are legal and
+-- have the replies of that view.
+use Rattle.std.proofs.Common.{◌≡◌, ℕ, ◌↔◌, List, [], ◌∷◌, ◌++◌, length, map, reverse, append_assoc, refl, sym, ap, ◌∙◌, subst, inl, ⊎_elim, arith, length-append}
 use Rattle.std.specs.List.{flat_map}
 use Rattle.std.proofs.lemmas.List.{append-nil, map-append, reverse-append}
 use Rattle.dt_cred.specs.declared.account.Account.{Account}
 use Rattle.dt_machine.specs.Registry.{Contents}
+use Rattle.dt_machine.specs.declared.firing.Firing.{Firing}
 use Rattle.dt_consumer.specs.Answer.{Answer}
-use Rattle.dt_consumer.specs.Life.{asked, is_over}
+use Rattle.dt_consumer.specs.Draft.{after_line}
+use Rattle.dt_consumer.specs.Life.{Item}
 use Rattle.dt_consumer.specs.Reply.{Replies}
-use Rattle.dt_proto.specs.Alone.{Reached, own_line, IsLifeOf, Alone}
+use Rattle.dt_proto.specs.Alone.{Reached, own_line, firing_made, IsAfterFiring, IsLifeOf, Alone}
 use Rattle.dt_proto.specs.Line.{ask_in}
 use Rattle.dt_proto.specs.Lines.{LineForm, form_of, long_line}
 use Rattle.dt_proto.specs.Reply.{reply_text}
 use Rattle.dt_proto.specs.Splits.{with_newline}
 use Rattle.dt_proto.specs.Trail.{Entry, line_asked, long_asked, fired_at}
-use Rattle.dt_alone.specs.Legal.{Agrees, life_in, reached_by}
-use Rattle.dt_alone.specs.Verdicts.{replies_by, replies_of, view_by}
+use Rattle.dt_alone.specs.Legal.{Agrees, IsLegal, life_in, reached_by}
+use Rattle.dt_alone.specs.Verdicts.{AreRepliesAlone, replies_by, replies_of}
+
+-- two lists that end alike
+not_longer : {A : Type 0} (xs : List A) (x y z : A) → x ∷ [] ≡ y ∷ (xs ++ z ∷ []) → ⊥
+not_longer xs x y z e = omega (arith, ap length e, length-append xs (z ∷ []))
+
+same_last : {A : Type 0} (xs ys : List A) (x y : A) → xs ++ x ∷ [] ≡ ys ++ y ∷ [] → (xs ≡ ys) × (x ≡ y)
+same_last [] [] x y e = let same : x ≡ y = cc in (refl, same)
+same_last [] (z ∷ ys) x y e = absurd (not_longer ys x z y e)
+same_last (z ∷ xs) [] x y e = absurd (not_longer xs y z x (sym e))
+same_last (w ∷ xs) (z ∷ ys) x y e =
+    let first : w ≡ z = cc in
+    let later : xs ++ x ∷ [] ≡ ys ++ y ∷ [] = cc in
+    let both = same_last xs ys x y later in
+    let front : xs ≡ ys = both.0 in
+    let whole : w ∷ xs ≡ z ∷ ys = cc in
+    (whole, both.1)
 
 -- what a past tells: the view, and the replies, the oldest first
 abbrev view_in : Contents → List Entry → List Reached
@@ -25,47 +44,111 @@ replies_told [] = []
 replies_told (entry ∷ past) = replies_told past ++ replies_by entry
 
 module _ (account : Account) (contents : Contents) where
-  -- The past is that of a consumer which traces alone.
-  pub record IsAlone (past : List Entry) : Type 0 where
-    pub lives : IsLifeOf account contents.registry (view_in contents past) (life_in account contents past)
-    pub answers : List Answer
-    pub alone : Alone account contents.registry (view_in contents past) answers
-    pub told : replies_told past ≡ map reply_text answers
+  abbrev lived : List Entry → List Item
+  lived past = life_in account contents past
 
-  line_alone : (past : List Entry) (form : LineForm) (reply : List ℕ) (answer : Answer) (h : IsAlone past)
-      → is_over (life_in account contents past) ≡ false
-      → Replies account contents.registry (life_in account contents past) (ask_in form) answer
-      → with_newline reply ≡ reply_text answer
-      → IsLifeOf account contents.registry (own_line form ∷ view_in contents past)
-      (asked (ask_in form) ∷ life_in account contents past)
-      × Alone account contents.registry (own_line form ∷ view_in contents past) (h.answers ++ answer ∷ [])
-      × (replies_told past ++ with_newline reply ∷ [] ≡ map reply_text (h.answers ++ answer ∷ []))
-  line_alone past form reply answer h quota replies text = (
-    (life_in account contents past, h.lives, rw quota refl),
-    (h.answers, answer, h.alone, (life_in account contents past, h.lives, replies), refl),
-    ap (λ told. told ++ with_newline reply ∷ []) h.told ∙ ap (λ last. map reply_text h.answers ++ last ∷ []) text
-        ∙ sym (map-append reply_text h.answers (answer ∷ [])),
+  -- a view has one life
+  after_same : (before : List Item) (firing : Firing) (a b : List Item)
+      → IsAfterFiring account contents.registry before firing a → IsAfterFiring account contents.registry before firing b
+      → a ≡ b
+  after_same before firing a b h k =
+      ⊎_elim
+      (λ seen. ⊎_elim (λ too. seen.1 ∙ sym too.1) (λ unseen. absurd (unseen.0 seen.0)) k)
+      (λ unseen. ⊎_elim (λ seen. absurd (unseen.0 seen.0)) (λ too. unseen.1 ∙ sym too.1) k)
+      h
+
+  pub same_life : (view : List Reached) (a b : List Item) → IsLifeOf account contents.registry view a
+      → IsLifeOf account contents.registry view b → a ≡ b
+  same_life [] a b h k = h ∙ sym k
+  same_life (own_line line ∷ view) a b h k =
+      let before : h.0 ≡ k.0 = same_life view h.0 k.0 h.1 k.1 in
+      h.2 ∙ ap (λ life. after_line life (ask_in line)) before ∙ sym k.2
+  same_life (firing_made firing ∷ view) a b h k =
+      let before : k.0 ≡ h.0 = same_life view k.0 h.0 k.1 h.1 in
+      after_same h.0 firing a b h.2
+      (subst (λ life. IsAfterFiring account contents.registry life firing b) before k.2)
+
+  -- the life that legal entries tell is that of the view that they tell
+  pub lives : (past : List Entry) → IsLegal account contents past
+      → IsLifeOf account contents.registry (view_in contents past) (lived past)
+  lives [] h = refl
+  lives (line_asked line reply ∷ past) h = (lived past, lives past h.0, rw h.1 refl)
+  lives (long_asked reply ∷ past) h = (lived past, lives past h.0, rw h.1 refl)
+  lives (fired_at cpu place ∷ past) h =
+      let firing = h.1.1 in
+      rw firing.1 (lived past, lives past h.0, inl (firing.2, refl))
+
+  legal : (past : List Entry) → Agrees account contents past → IsLegal account contents past
+  legal [] h = tt
+  legal (entry ∷ past) h = (legal past h.0, h.1)
+
+  -- The replies of a past are those of the view that it tells.
+  record IsAnswered (past : List Entry) : Type 0 where
+    answers : List Answer
+    alone : Alone account contents.registry (view_in contents past) answers
+    told : replies_told past ≡ map reply_text answers
+
+  -- what is said of a reply to a line
+  abbrev IsReply : List Entry → LineForm → List ℕ → Type 0
+  IsReply past form reply = (answer : Answer) × Replies account contents.registry (lived past) (ask_in form) answer
+      × (with_newline reply ≡ reply_text answer)
+
+  line_answered : (past : List Entry) (form : LineForm) (reply : List ℕ) (before : IsAnswered past)
+      → IsLegal account contents past → (here : IsReply past form reply)
+      → Alone account contents.registry (own_line form ∷ view_in contents past) (before.answers ++ here.0 ∷ [])
+      × (replies_told past ++ with_newline reply ∷ [] ≡ map reply_text (before.answers ++ here.0 ∷ []))
+  line_answered past form reply before h here = (
+    (before.answers, here.0, before.alone, (lived past, lives past h, here.1), refl),
+    ap (λ told. told ++ with_newline reply ∷ []) before.told
+        ∙ ap (λ last. map reply_text before.answers ++ last ∷ []) here.2
+        ∙ sym (map-append reply_text before.answers (here.0 ∷ [])),
   )
 
-  pub is_alone : (past : List Entry) → Agrees account contents past → IsAlone past
-  is_alone [] h = record { lives = refl; answers = []; alone = refl; told = refl }
-  is_alone (line_asked line reply ∷ past) h =
-      let before = is_alone past h.0 in
-      let more = line_alone past (form_of line) reply h.2.0 before h.1 h.2.1 h.2.2 in
-      record { lives = more.0; answers = before.answers ++ h.2.0 ∷ []; alone = more.1; told = more.2 }
-  is_alone (long_asked reply ∷ past) h =
-      let before = is_alone past h.0 in
-      let more = line_alone past long_line reply h.2.0 before h.1 h.2.1 h.2.2 in
-      record { lives = more.0; answers = before.answers ++ h.2.0 ∷ []; alone = more.1; told = more.2 }
-  is_alone (fired_at cpu place ∷ past) h =
-      let before = is_alone past h.0 in
+  answered : (past : List Entry) → Agrees account contents past → IsAnswered past
+  answered [] h = record { answers = []; alone = refl; told = refl }
+  answered (line_asked line reply ∷ past) h =
+      let before = answered past h.0 in
+      let more = line_answered past (form_of line) reply before (legal past h.0) h.2 in
+      record { answers = before.answers ++ h.2.0 ∷ []; alone = more.0; told = more.1 }
+  answered (long_asked reply ∷ past) h =
+      let before = answered past h.0 in
+      let more = line_answered past long_line reply before (legal past h.0) h.2 in
+      record { answers = before.answers ++ h.2.0 ∷ []; alone = more.0; told = more.1 }
+  answered (fired_at cpu place ∷ past) h =
+      let before = answered past h.0 in
       let firing = h.1.1 in
       record {
-        lives = rw firing.1 (life_in account contents past, before.lives, inl (firing.2, refl));
         answers = before.answers;
         alone = rw firing.1 before.alone;
         told = append-nil (replies_told past) ∙ before.told;
       }
+
+  -- the last reply is the one that is due, and those before it are those of the view before
+  line_right : (past : List Entry) (form : LineForm) (reply : List ℕ) (answers : List Answer)
+      → IsLegal account contents past
+      → (k : Alone account contents.registry (own_line form ∷ view_in contents past) answers)
+      → replies_told past ++ with_newline reply ∷ [] ≡ map reply_text answers
+      → (replies_told past ≡ map reply_text k.0) × IsReply past form reply
+  line_right past form reply answers h k e =
+      let last = same_last (replies_told past) (map reply_text k.0) (with_newline reply) (reply_text k.1)
+      (e ∙ ap (map reply_text) k.4 ∙ map-append reply_text k.0 (k.1 ∷ [])) in
+      let life : k.3.0 ≡ lived past = same_life (view_in contents past) k.3.0 (lived past) k.3.1 (lives past h) in
+      let due = subst (λ l. Replies account contents.registry l (ask_in form) k.1) life k.3.2 in
+      (last.0, (k.1, due, last.1))
+
+  agrees : (past : List Entry) (answers : List Answer) → IsLegal account contents past
+      → Alone account contents.registry (view_in contents past) answers → replies_told past ≡ map reply_text answers
+      → Agrees account contents past
+  agrees [] answers h k e = tt
+  agrees (line_asked line reply ∷ past) answers h k e =
+      let right = line_right past (form_of line) reply answers h.0 k e in
+      (agrees past k.0 h.0 k.2 right.0, h.1, right.1)
+  agrees (long_asked reply ∷ past) answers h k e =
+      let right = line_right past long_line reply answers h.0 k e in
+      (agrees past k.0 h.0 k.2 right.0, h.1, right.1)
+  agrees (fired_at cpu place ∷ past) answers h k e =
+      let firing = h.1.1 in
+      (agrees past answers h.0 (rw firing.1 at k) (sym (append-nil (replies_told past)) ∙ e), h.1, tt)
 
 -- the replies of entries, told from the newest
 told_first : (past : List Entry) (entry : Entry) → replies_told (past ++ entry ∷ [])
@@ -80,9 +163,11 @@ told_all (entry ∷ entries) = ap replies_told (reverse-append (entry ∷ []) en
     ∙ told_first (reverse entries) entry ∙ ap (λ told. replies_by entry ++ told) (told_all entries)
 
 pub agreement : (account : Account) (contents : Contents) (entries : List Entry)
-    → Agrees account contents (reverse entries) → (answers : List Answer)
-    × Alone account contents.registry (view_by contents entries) answers
-    × (replies_of entries ≡ map reply_text answers)
-agreement account contents entries h =
-    let all = is_alone account contents (reverse entries) h in
-    (all.answers, all.alone, sym (told_all entries) ∙ all.told)
+    → Agrees account contents (reverse entries)
+    ↔ (IsLegal account contents (reverse entries) × AreRepliesAlone account contents entries)
+agreement account contents entries = (
+  λ h.
+      let all = answered account contents (reverse entries) h in
+      (legal account contents (reverse entries) h, (all.answers, all.alone, sym (told_all entries) ∙ all.told)),
+  λ h. agrees account contents (reverse entries) h.1.0 h.0 h.1.1 (told_all entries ∙ h.1.2),
+)

@@ -1,8 +1,7 @@
 -- What is told of each processor.
-use Rattle.std.proofs.Common.{◌≡◌, ℕ, zero, suc, ◌+◌, List, [], ◌∷◌, ◌++◌, Result, Ok, Err, map, refl, sym, ap, ◌∙◌, arith}
+use Rattle.std.proofs.Common.{◌≡◌, ℕ, zero, suc, ◌+◌, List, ◌∷◌, Result, Ok, Err, map, refl, ap, ◌∙◌}
 use Rattle.std.specs.List.{range_with_len}
 use Rattle.std.specs.Result.{IfOk}
-use Rattle.std.proofs.lemmas.List.{map-append}
 use Rattle.dt_aggstore.specs.Chosen.{drops}
 use Rattle.dt_aggstore.specs.History as store
 use Rattle.dt_cred.specs.declared.account.Account.{Account}
@@ -20,34 +19,6 @@ pub if_ok_both : {T E : Type 0} (P Q R : T → Type 0) (r : Result T E) → ((x 
     → IfOk r P → IfOk r Q → IfOk r R
 if_ok_both P Q R (Ok x) f h k = f x h k
 if_ok_both P Q R (Err e) f h k = h
-
-range_more : (from n : ℕ) → range_with_len from (n + 1) ≡ range_with_len from n ++ (from + n) ∷ []
-range_more from zero = ap (λ n. n ∷ []) (none_more from)
-  where
-    none_more : (n : ℕ) → n ≡ n + 0
-    none_more n = omega arith
-range_more from (suc n) =
-    ap (range_with_len from) (later n)
-    ∙ ap (λ ns. from ∷ ns) (range_more (from + 1) n)
-    ∙ ap (λ k. from ∷ (range_with_len (from + 1) n ++ k ∷ [])) (place from n)
-  where
-    later : (n : ℕ) → suc n + 1 ≡ suc (n + 1)
-    later n = omega arith
-
-    place : (from n : ℕ) → from + 1 + n ≡ from + suc n
-    place from n = omega arith
-
--- one processor more
-pub mapped_more : (f : ℕ → ℕ) (done : List ℕ) (cpu n : ℕ) → done ≡ map f (range_with_len 0 cpu) → n ≡ f cpu
-    → done ++ n ∷ [] ≡ map f (range_with_len 0 (cpu + 1))
-mapped_more f done cpu n e h =
-    ap (λ ns. ns ++ n ∷ []) e ∙ ap (λ k. map f (range_with_len 0 cpu) ++ k ∷ []) h
-    ∙ sym (map-append f (range_with_len 0 cpu) (cpu ∷ []))
-    ∙ ap (λ k. map f (range_with_len 0 cpu ++ k ∷ [])) (from_none cpu)
-    ∙ ap (map f) (sym (range_more 0 cpu))
-  where
-    from_none : (n : ℕ) → n ≡ 0 + n
-    from_none n = omega arith
 
 mapped_same : (f g : ℕ → ℕ) (from n : ℕ) → ((cpu : ℕ) → f cpu ≡ g cpu)
     → map f (range_with_len from n) ≡ map g (range_with_len from n)

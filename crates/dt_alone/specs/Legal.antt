@@ -1,4 +1,4 @@
--- Legal trails with the right replies.
+-- Legal trails, and those with the right replies.
 use Rattle.std.specs.Prelude.{◌≡◌, ℕ, ◌<◌, false, List, [], ◌∷◌, Some, option_map}
 use Rattle.std.specs.List.{flat_map, AllByRecursion}
 use Rattle.std.specs.Option.{option_to_list}
@@ -45,6 +45,11 @@ module _ (account : Account) (contents : Contents) where
   MayStand past (fired_at cpu place) = IsAbove past cpu place
       × ((firing : Firing) × (firing_at contents.scripts cpu place ≡ Some firing)
       × Sees account contents.registry (life_in past) firing)
+
+  -- Entries tell a legal trail: each may stand after those before it, whatever its reply.
+  abbrev pub IsLegal : List Entry → Type 0
+  IsLegal [] = Unit {0}
+  IsLegal (entry ∷ past) = IsLegal past × MayStand past entry
 
   -- The reply of an entry is the one that is due.
   abbrev pub IsRight : List Entry → Entry → Type 0

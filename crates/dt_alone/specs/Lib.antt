@@ -8,6 +8,8 @@ pub mod Answered
 pub mod Parts
 pub mod Lent
 pub mod Legal
+pub mod Views
 pub mod Verdicts
+pub mod VerdictText
 pub mod Compared
 pub mod Judging

@@ -1,9 +1,11 @@
 -- The verdict on a trail.
-use Rattle.std.specs.Prelude.{◌≡◌, ℕ, ◌+◌, List, [], ◌∷◌, ◌++◌, Some, length, reverse}
+use Rattle.std.specs.Prelude.{◌≡◌, ℕ, ◌+◌, List, [], ◌∷◌, ◌++◌, Some, length, map, reverse}
 use Rattle.std.specs.List.{flat_map}
 use Rattle.dt_cred.specs.declared.account.Account.{Account}
 use Rattle.dt_machine.specs.Registry.{Registry, Contents}
-use Rattle.dt_proto.specs.Alone.{Reached}
+use Rattle.dt_consumer.specs.Answer.{Answer}
+use Rattle.dt_proto.specs.Alone.{Reached, Alone}
+use Rattle.dt_proto.specs.Reply.{reply_text}
 use Rattle.dt_proto.specs.Session.{session_account}
 use Rattle.dt_proto.specs.Splits.{with_newline}
 use Rattle.dt_proto.specs.Trail.{Entry, line_asked, long_asked, fired_at, SpellsTrail}
@@ -30,6 +32,12 @@ abbrev pub view_by : Contents → List Entry → List Reached
 view_by contents entries = flat_map (reached_by contents) (reverse entries)
 
 module _ (account : Account) (contents : Contents) where
+  -- The replies of entries, the oldest first, are those that a consumer is answered which traces alone, with just what
+  -- these entries tell.
+  abbrev pub AreRepliesAlone : List Entry → Type 0
+  AreRepliesAlone entries = (answers : List Answer) × Alone account contents.registry (view_by contents entries) answers
+      × (replies_of entries ≡ map reply_text answers)
+
   -- The verdict on entries, the oldest first: they agree; or the first that may not stand, or whose reply is not the
   -- one that is due.
   abbrev pub IsVerdict : List Entry → Verdict → Type 0

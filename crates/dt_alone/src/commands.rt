@@ -30,7 +30,7 @@ use crate::moment::Moment;
 use crate::own::{own_firing, own_process};
 use crate::runner::Runner;
 use crate::shown::shown_on;
-use crate::stores::{faults_on, store_on, stores_on};
+use crate::stores::{faults_on, stores_on};
 use dt_aggstore::AggStore;
 use dt_buffer::Policy;
 use dt_consumer::{Command, End, OptionValue, Phase, Refusal, Reply};
@@ -327,11 +327,7 @@ impl Runner {
             → Has account machine.now.registry (set_up account machine.now.registry life) self.now
             → errors.items ≡ all_errors account machine.now.registry life) }
     {
-        let mut errors = Vec::new(alloc);
-        for cpu in 0..machine.cpus() {
-            errors.push(faults_on(&self.since, cpu))?;
-        }
-        Ok(errors)
+        faults_on(alloc, &self.since, machine.cpus())
     }
 
     /// How many values a store of each processor would not keep.
@@ -341,8 +337,8 @@ impl Runner {
             → aggdrops.items ≡ all_aggdrops account machine.now.registry life) }
     {
         let mut aggdrops = Vec::new(alloc);
-        for cpu in 0..machine.cpus() {
-            let store = store_on(alloc, self.options.aggsize, &self.since, cpu)?;
+        let stores = stores_on(alloc, self.options.aggsize, &self.since, machine.cpus())?;
+        for store in &stores {
             aggdrops.push(store.dropped())?;
         }
         Ok(aggdrops)

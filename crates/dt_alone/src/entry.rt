@@ -5,7 +5,8 @@ ghost use Rattle.dt_proto.specs.Trail as trail;
 ghost use Rattle.dt_proto.specs.Trail.{IsWritable, entry_text, reply_line};
 ghost use Rattle.dt_alone.specs.Lent.{entry_of, has_reply};
 
-use crate::parts::{cut_at, number_of};
+use crate::parts::cut_at;
+use dt_proto::number_of;
 
 /// An entry of a trail, lent by its text.
 #[derive(Clone, Copy, Debug, PartialEq, Eq)]

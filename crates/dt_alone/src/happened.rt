@@ -1,5 +1,9 @@
 //! What happened in a life, as far as a reply can tell.
-ghost use Rattle.std.specs.Prelude.{◌≤◌, vec_len};
+ghost use Rattle.std.specs.Prelude.{◌≡◌, ◌≤◌, ◌-◌, ℕ, All, length, vec_len};
+ghost use Rattle.dt_aggstore.specs.History.{Past, after, truncated};
+ghost use Rattle.dt_aggstore.specs.declared.limits.TheConstants.{ADDED_LIMIT};
+ghost use Rattle.dt_consumer.specs.Counts.{GivenAtMost};
+ghost use Rattle.dt_consumer.specs.Uses.{AreGiven};
 ghost use Rattle.dt_lang.specs.declared.program.TheConstants.{STATEMENTS_MAX};
 
 use crate::known::Known;
@@ -81,34 +85,59 @@ impl Contribution {
 }
 
 impl Happened {
-    ghost use Rattle.std.specs.Prelude.{◌≡◌, ◌+◌};
+    ghost use Rattle.std.specs.Prelude.{◌≡◌, ◌+◌, ◌<◌, ◌^◌, ℕ, length, slice_index, if◌then◌else◌};
     ghost use Rattle.dt_aggstore.specs.History.{Past};
     ghost use Rattle.dt_aggstore.specs.IsAt.{IsAt, added_of};
     ghost use Rattle.dt_aggstore.specs.declared.limits.TheConstants.{ADDED_LIMIT};
     ghost use Rattle.dt_alone.specs.Happened.{gives_to, is_fault_on};
     ghost use Rattle.dt_consumer.specs.Uses.{given_then};
 
-    /// Whether it is a division by zero on this processor.
-    pub(crate) fn is_fault_on(&self, on: u32) -> bool
-        ensures { result ≡ is_fault_on on self.now }
+    /// Counts it for its processor, where it is a division by zero.
+    pub(crate) fn count_fault(&self, faults: &mut [u64])
+        requires { (cpu : ℕ) → cpu < length faults.old → slice_index faults.old cpu + 1 < 2 ^ 64 }
+        ensures counts { (cpu : ℕ) → cpu < length faults.old → slice_index faults.new cpu
+            ≡ slice_index faults.old cpu + (if is_fault_on cpu self.now then 1 else 0) }
+        ensures len { length faults.new ≡ length faults.old }
     {
-        match self {
-            Happened::Failed { cpu } => *cpu == on,
-            _ => false,
+        if let Happened::Failed { cpu } = self {
+            let cpu = *cpu as usize;
+            if cpu < faults.len() {
+                faults[cpu] += 1;
+            }
         }
     }
 
-    /// Gives what it gives to the store of a processor.
-    pub(crate) fn give(&self, on: u32, store: &mut AggStore)
-        requires { added_of store.old + STATEMENTS_MAX ≤ ADDED_LIMIT }
-        ensures stands { (past : Past) → IsAt past store.old → IsAt (given_then past (gives_to on self.now)) store.new }
-        ensures counts { added_of store.new ≤ added_of store.old + STATEMENTS_MAX }
+    /// Gives what it gives to the store of each processor.
+    pub(crate) fn give(&self, stores: &mut [AggStore])
+        requires { All (GivenAtMost (ADDED_LIMIT - STATEMENTS_MAX)) stores.old }
+        ensures stands { (pasts : ℕ → Past) → AreGiven pasts stores.old
+            → AreGiven (λ cpu. given_then (pasts cpu) (gives_to cpu self.now)) stores.new }
+        ensures counts { (n : ℕ) → All (GivenAtMost n) stores.old
+            → All (GivenAtMost (n + STATEMENTS_MAX)) stores.new }
+        ensures len { length stores.new ≡ length stores.old }
     {
         match self {
-            Happened::Left { cpu, left, .. } if *cpu == on => left.give(store),
-            Happened::Truncated { aggregation } => store.trunc(*aggregation),
+            Happened::Left { cpu, left, .. } => {
+                let cpu = *cpu as usize;
+                if cpu < stores.len() {
+                    left.give(&mut stores[cpu]);
+                }
+            }
+            Happened::Truncated { aggregation } => truncate(stores, *aggregation),
             _ => {}
         }
+    }
+}
+
+/// Truncates an aggregation in each store.
+fn truncate(stores: &mut [AggStore], aggregation: Aggregation)
+    ensures stands { (pasts : ℕ → Past) → AreGiven pasts stores.old
+        → AreGiven (λ cpu. after (pasts cpu) (truncated aggregation)) stores.new }
+    ensures counts { (n : ℕ) → All (GivenAtMost n) stores.old → All (GivenAtMost n) stores.new }
+    ensures len { length stores.new ≡ length stores.old }
+{
+    for cpu in 0..stores.len() {
+        stores[cpu].trunc(aggregation);
     }
 }
 

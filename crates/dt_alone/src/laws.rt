@@ -1,14 +1,16 @@
-//! What holds of the definitions alone: a text has one verdict, and a trail that agrees is that of a consumer alone.
-ghost use Rattle.std.specs.Prelude.{◌≡◌, ℕ, List, map, reverse};
+//! What holds of the definitions alone: a text has one verdict; a trail agrees exactly where it is legal and has the
+//! replies of a consumer alone; and the trail of a view that a machine can bring agrees.
+ghost use Rattle.std.specs.Prelude.{◌≡◌, ◌↔◌, ℕ, List, Some, reverse};
 ghost use Rattle.dt_cred.specs.declared.account.Account.{Account};
 ghost use Rattle.dt_machine.specs.Registry.{Contents};
-ghost use Rattle.dt_consumer.specs.Answer.{Answer};
-ghost use Rattle.dt_proto.specs.Alone.{Alone};
-ghost use Rattle.dt_proto.specs.Reply.{reply_text};
-ghost use Rattle.dt_proto.specs.Trail.{Entry};
-ghost use Rattle.dt_alone.specs.Legal.{Agrees};
-ghost use Rattle.dt_alone.specs.Verdicts.{IsVerdictOn, replies_of, view_by};
+ghost use Rattle.dt_proto.specs.Alone.{Reached};
+ghost use Rattle.dt_proto.specs.Session.{session_account};
+ghost use Rattle.dt_proto.specs.Trail.{Entry, IsTrailOf, SpellsTrail};
+ghost use Rattle.dt_alone.specs.Legal.{Agrees, IsLegal};
+ghost use Rattle.dt_alone.specs.Verdicts.{AreRepliesAlone, IsVerdictOn, replies_in};
+ghost use Rattle.dt_alone.specs.Views.{IsBrought};
 ghost use Rattle.dt_alone.specs.declared.verdict.Verdict.{Verdict};
+ghost use Rattle.dt_alone.specs.declared.verdict.Verdict.TheVariants.{Agree};
 
 /// Law: a text has one verdict at most.
 pub fn one_verdict()
@@ -16,11 +18,22 @@ pub fn one_verdict()
         → IsVerdictOn contents text a → IsVerdictOn contents text b → a ≡ b }
 {}
 
-/// Law: the replies of entries that agree are those that a consumer is given which traces alone, with just what these
-/// entries tell.
+/// Law: entries agree exactly where they tell a legal trail, and their replies are those that a consumer is answered
+/// which traces alone, with just what these entries tell.
 pub fn agreement()
     ensures { (account : Account) (contents : Contents) (entries : List Entry)
-        → Agrees account contents (reverse entries) → (answers : List Answer)
-        × Alone account contents.registry (view_by contents entries) answers
-        × (replies_of entries ≡ map reply_text answers) }
+        → Agrees account contents (reverse entries)
+        ↔ (IsLegal account contents (reverse entries) × AreRepliesAlone account contents entries) }
+{}
+
+/// Law: the trail of a view that a machine can bring agrees, and where its account may have a session, that is the verdict
+/// on the trail's text.
+pub fn trail_agrees()
+    ensures entries { (account : Account) (contents : Contents) (view : List Reached) (entries : List Entry)
+        → IsBrought contents view → IsTrailOf account contents.registry view entries
+        → Agrees account contents (reverse entries) }
+    ensures text { (contents : Contents) (name : List ℕ) (account : Account) (view : List Reached) (entries : List Entry)
+        (text : List ℕ) → session_account contents.registry name ≡ Some account → IsBrought contents view
+        → IsTrailOf account contents.registry view entries → SpellsTrail text name entries
+        → IsVerdictOn contents text (Agree (replies_in entries)) }
 {}

@@ -196,8 +196,9 @@ fn placed_after(alloc: Global, before: usize, ecbs: &[Ecb]) -> Result<Vec<Ecb>, 
     let mut placed = Vec::new(alloc);
     for ecb in ecbs {
         placed.push(Ecb {
+            epid: ecb.epid,
+            probe: ecb.probe,
             clause: before + ecb.clause,
-            ..*ecb
         })?;
     }
     Ok(placed)

@@ -71,14 +71,6 @@ impl Runner {
 
     /// Whether all lines were asked that one consumer may ask.
     pub(crate) fn is_over(&self) -> bool
-        ensures { (account : Account) (registry : Registry) (life : List Item) → Runs account registry self.now life
-            → result ≡ over life }
-    {
-        self.has_asked_all()
-    }
-
-    /// The same, and what it says of the count.
-    fn has_asked_all(&self) -> bool
         ensures over { (account : Account) (registry : Registry) (life : List Item)
             → Runs account registry self.now life → result ≡ over life }
         ensures counted { result ≡ nat_le LINES_MAX self.now.lines }
@@ -99,7 +91,7 @@ impl Runner {
             → Replies account machine.now.registry life (line_asks line.now) (answer_of reply)
             × Runs account machine.now.registry self.new (after_line life (line_asks line.now))) }
     {
-        if self.has_asked_all() {
+        if self.is_over() {
             return Ok(Reply::Refused(Refusal::Quota));
         }
         self.lines += 1;
@@ -159,6 +151,7 @@ impl Runner {
     {
         let history = self.options.histsize;
         self.seen = seen;
+        // where an exit is taken it isn't the last word, but it is one that the runner's bounds allow
         self.phase = if seen < history {
             Phase::Active
         } else {

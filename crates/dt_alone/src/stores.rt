@@ -1,36 +1,19 @@
 //! The stores of aggregations, filled anew from what happened, and the errors.
-ghost use Rattle.std.specs.Prelude.{◌≡◌, ◌≤◌, ◌*◌, ℕ, IfOk, length};
+ghost use Rattle.std.specs.Prelude.{◌≡◌, ◌≤◌, ◌*◌, ℕ, All, IfOk, length, map};
+ghost use Rattle.std.specs.List.{range_with_len};
 ghost use Rattle.dt_aggstore.specs.History as spec;
-ghost use Rattle.dt_aggstore.specs.IsAt.{IsAt};
 ghost use Rattle.dt_aggstore.specs.declared.limits.TheConstants.{AGGSIZE_MAX, ADDED_LIMIT};
 ghost use Rattle.dt_lang.specs.declared.program.TheConstants.{STATEMENTS_MAX};
 ghost use Rattle.dt_alone.specs.Happened as happenings;
 ghost use Rattle.dt_alone.specs.Happened.{given_to};
+ghost use Rattle.dt_consumer.specs.Counts.{GivenAtMost};
 ghost use Rattle.dt_consumer.specs.Uses.{AreGiven};
 
 use crate::happened::Happened;
 use dt_aggstore::AggStore;
 use std::alloc::{AllocError, Global};
 
-/// A store to which all is given that happened on a processor.
-pub(crate) fn store_on(
-    alloc: Global,
-    size: usize,
-    happened: &[Happened],
-    cpu: u32,
-) -> Result<AggStore, AllocError>
-    requires small { size ≤ AGGSIZE_MAX }
-    requires few { length happened.now * STATEMENTS_MAX ≤ ADDED_LIMIT }
-    ensures { IfOk result (IsAt (record { size = size; events = given_to cpu happened.now })) }
-{
-    let mut store = AggStore::new(alloc, size)?;
-    for one in happened {
-        one.give(cpu, &mut store);
-    }
-    Ok(store)
-}
-
-/// The stores of so many processors.
+/// The stores of so many processors, to each of which is given, in order, what happened there.
 pub(crate) fn stores_on(
     alloc: Global,
     size: usize,
@@ -43,22 +26,39 @@ pub(crate) fn stores_on(
         AreGiven (λ cpu. record { size = size; events = given_to cpu happened.now }) stores.items) }
     ensures len { IfOk result (λ stores. length stores.items ≡ cpus) }
 {
-    let mut stores = Vec::new(alloc);
-    for cpu in 0..cpus {
-        stores.push(store_on(alloc, size, happened, cpu)?)?;
+    let mut stores = empty_stores(alloc, size, cpus)?;
+    for one in happened {
+        one.give(stores.as_mut_slice());
     }
     Ok(stores)
 }
 
-/// How many clauses a division by zero ended on a processor.
-pub(crate) fn faults_on(happened: &[Happened], cpu: u32) -> u64
-    ensures { result ≡ happenings.faults_on cpu happened.now }
+/// Stores of so many processors, to which nothing was given.
+fn empty_stores(alloc: Global, size: usize, cpus: u32) -> Result<Vec<AggStore>, AllocError>
+    requires { size ≤ AGGSIZE_MAX }
+    ensures len { IfOk result (λ stores. length stores.items ≡ cpus) }
+    ensures fresh { IfOk result (λ stores. AreGiven (λ cpu. spec.new_past size) stores.items) }
+    ensures gives { IfOk result (λ stores. All (GivenAtMost 0) stores.items) }
 {
-    let mut count = 0;
-    for one in happened {
-        if one.is_fault_on(cpu) {
-            count += 1;
-        }
+    let mut stores = Vec::new(alloc);
+    for _cpu in 0..cpus {
+        stores.push(AggStore::new(alloc, size)?)?;
     }
-    count
+    Ok(stores)
+}
+
+/// How many clauses a division by zero ended on each of so many processors.
+pub(crate) fn faults_on(
+    alloc: Global,
+    happened: &[Happened],
+    cpus: u32,
+) -> Result<Vec<u64>, AllocError>
+    ensures { IfOk result (λ faults. faults.items
+        ≡ map (λ cpu. happenings.faults_on cpu happened.now) (range_with_len 0 cpus)) }
+{
+    let mut faults = vec![in alloc; 0; cpus as usize]?;
+    for one in happened {
+        one.count_fault(faults.as_mut_slice());
+    }
+    Ok(faults)
 }

@@ -15,6 +15,11 @@ pub enum Verdict {
 }
 
 impl fmt::Display for Verdict {
+    ghost use Rattle.std.specs.Prelude.{Some};
+    ghost use Rattle.dt_alone.specs.VerdictText.{verdict_text};
+
+    ghost output = { λ verdict. Some (verdict_text verdict) };
+
     fn fmt<W: fmt::Write>(&self, f: &mut fmt::Formatter<W>) -> fmt::Result {
         match self {
             Verdict::Agree(replies) => write!(f, "agree {replies}"),

@@ -1,9 +1,4 @@
--- What a replay is, from the lines of its input to the lines of its output.
-pub mod Step
+-- What the program's words mean, what a replay writes, and with which status the program ends.
 pub mod Seat
-pub mod Input
-pub mod Replay
-pub mod Told
-pub mod Run
-pub mod Faults
+pub mod Writing
 pub mod Status

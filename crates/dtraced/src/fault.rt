@@ -1,9 +1,9 @@
 //! How the program ends where not all is in good order: its line on standard error, and its status.
 ghost use Rattle.std.specs.Prelude.{◌≡◌};
 
-use crate::replay::ReplayFault;
 use dt_alone::CheckFault;
 use dt_machine::MachineFault;
+use dt_world::ReplayFault;
 use std::io;
 use thiserror::Error;
 

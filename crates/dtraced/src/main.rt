@@ -1,29 +1,26 @@
 //! `dtraced`, the tracing service. Its word `replay` takes a machine file, reads step lines from standard input, and
-//! writes the replies of one session to standard output, or its trail. Its word `check` tells whether a trail says what its
-//! session was to be answered.
+//! writes the replies of all sessions to standard output, or the trail of one seat. Its word `check` tells whether a trail
+//! says what its session was to be answered.
 //!
-//! What is written is defined in `specs/Replay.antt`, and [`replay::replay`] and [`replay::replay_trail`] are proved to
-//! write it.
+//! What stands here are words, files and streams. What is written is what [`writing::write_replay`] is proved to write.
 #![tactic(auto)]
 
 mod fault;
-pub mod laws;
-pub mod replay;
-mod run;
 pub mod seat;
-mod step;
-mod told;
+#[cfg(test)]
+mod tests;
 mod words;
+pub mod writing;
 
 use dt_alone::{Verdict, check};
+use dt_chain::Seat;
 use dt_machine::Machine;
 use fault::Fault;
-use replay::{replay, replay_trail};
-use seat::Seat;
 use std::io::Write;
 use std::process::ExitCode;
 use std::{env, fs, io};
 use words::{Words, WordsFault};
+use writing::write_replay;
 
 fn main(rt: HostRuntime) -> ExitCode {
     match execute(&rt) {
@@ -62,11 +59,7 @@ fn replay_file(rt: &HostRuntime, machine: &str, trail: Option<Seat>) -> Result<E
     let machine = fs::read(rt, machine).map_err(|_| Fault::Device)?;
     let mut reader = rt.reader();
     let mut writer = io::writer(rt);
-    let replayed = match trail {
-        Some(seat) => replay_trail(rt.alloc(), &machine, seat, &mut reader, &mut writer),
-        None => replay(rt.alloc(), &machine, &mut reader, &mut writer),
-    };
-    replayed.map_err(Fault::Replay)?;
+    write_replay(rt.alloc(), &machine, trail, &mut reader, &mut writer).map_err(Fault::Replay)?;
     Ok(ExitCode::SUCCESS)
 }
 

@@ -1,11 +1,12 @@
 //! The words that the program is called with.
-use crate::seat::Seat;
+use crate::seat::seat_of;
 use clap::error::ErrorKind;
 use clap::{Arg, ArgAction, ArgMatches, Command};
+use dt_chain::Seat;
 use std::alloc::{AllocError, Global};
 
 /// What the program is asked for.
-#[derive(Clone, Copy, Debug, PartialEq, Eq)]
+#[derive(Clone, Copy, PartialEq, Eq)]
 pub(crate) enum Words<'a> {
     /// `dtraced replay <machine> [--trail <seat>]`: a replay on this machine file. Its replies are written, or the trail
     /// of the session on the seat.
@@ -61,7 +62,7 @@ impl<'a> Words<'a> {
 /// The seat whose trail is asked for.
 fn seat_in(found: &ArgMatches<'_>) -> Result<Option<Seat>, WordsFault> {
     match found.get_str("trail") {
-        Some(word) => match Seat::parse(word) {
+        Some(word) => match seat_of(word) {
             Some(seat) => Ok(Some(seat)),
             None => Err(WordsFault::Usage),
         },

@@ -3,9 +3,9 @@ use super::*;
 
 #[test]
 fn reads_seats_and_nothing_else(rt: HostRuntime) {
-    for (text, wanted) in [("0", true), ("1", false), ("9", false), ("63", false)] {
-        let is_first = Seat::parse(text).map(Seat::is_first);
-        assert_eq!(rt; is_first, Some(wanted), "{text}");
+    for (text, wanted) in [("0", 0), ("1", 1), ("9", 9), ("10", 10), ("63", 63)] {
+        let number = seat_of(text).map(Seat::number);
+        assert_eq!(rt; number, Some(wanted), "{text}");
     }
     for text in [
         "",
@@ -19,6 +19,6 @@ fn reads_seats_and_nothing_else(rt: HostRuntime) {
         "0x0",
         "4294967296",
     ] {
-        assert_eq!(rt; Seat::parse(text), None, "{text}");
+        assert!(rt; seat_of(text).is_none(), "{text}");
     }
 }

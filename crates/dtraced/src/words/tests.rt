@@ -4,8 +4,8 @@ use std::test::Fail;
 
 #[test]
 fn reads_the_words_of_a_replay(rt: HostRuntime) -> Result<(), Fail> {
-    let first = Seat::parse("0").ok_or("no seat")?;
-    let last = Seat::parse("63").ok_or("no seat")?;
+    let first = seat_of("0").ok_or("no seat")?;
+    let last = seat_of("63").ok_or("no seat")?;
     let rows: [(&[&str], &str, Option<Seat>); 7] = [
         (&["dtraced", "replay", "m.json"], "m.json", None),
         (&["dtraced", "replay", "--", "-m"], "-m", None),

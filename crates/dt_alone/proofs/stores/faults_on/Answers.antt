@@ -1,37 +1,67 @@
 -- One thing more.
-use Rattle.std.proofs.Common.{◌+◌, cond, take, ap, ◌∙◌, arith}
-use Rattle.dt_alone.specs.Happened.{faults_on}
+use Rattle.std.proofs.Common.{◌≡◌, ℕ, ◌+◌, ◌<◌, ◌≤◌, Bool, true, false, cond, get_or, length, take, refl, sym, ap, ◌∙◌, arith}
+use Rattle.std.specs.Vec.{with_items}
+use Rattle.std.proofs.lemmas.List.{get_or-replicate, length-replicate, take_all, with_items_is}
+use Rattle.std.proofs.lemmas.List.FromFn.{fill_by_all}
+use Rattle.dt_alone.specs.Happened.{faults_on, is_fault_on}
 use Rattle.dt_alone.proofs.Bringing.{faults_more}
 use Rattle.dt_alone.proofs.stores.faults_on.Goals as goal
-use Rattle.dt_alone.proofs.stores.faults_on.Goals.{then-is_fault_on, else-is_fault_on}
+
+one_at_most : (b : Bool) → cond b 1 0 ≤ 1
+one_at_most true = omega arith
+one_at_most false = omega arith
+
+pub loop-one-init : goal.loop-one-init
+loop-one-init c =
+    let fresh = c.in_ok-faults.ensures.items_if_clones_equal (λ y h. h) in
+    let none : (cpu : ℕ) → cpu < c.args.cpus → get_or c.in_ok-faults.faults.items cpu 0 ≡ 0 =
+    λ cpu low. ap (λ faults. get_or faults cpu 0) fresh ∙ get_or-replicate c.args.cpus cpu 0 0 low in
+    record {
+      counted = none;
+      few = λ cpu low. let is = none cpu low in omega arith;
+      len = ap length fresh ∙ length-replicate c.args.cpus 0;
+    }
+
+pub count_fault-requires : goal.count_fault-requires
+count_fault-requires c = λ cpu low.
+    let same = c.as_mut_slice.ensures.value in
+    let before = c.loop-one.invariant in
+    let within : cpu < c.args.cpus = omega (arith, ap length same, before.len) in
+    let few = before.few cpu within in
+    let is = ap (λ faults. get_or faults cpu 0) same in
+    omega arith
 
 pub loop-one-preserved : goal.loop-one-preserved
 loop-one-preserved c =
     let hs = c.args.happened.now in
     let i = c.loop-one.one-index in
     let x = c.one-item.result in
-    let held = c.loop-one.invariant in
-    let more = faults_more c.args.cpu hs i x c.loop-one-test.true c.one-item.is c.is_fault_on.result
-    c.is_fault_on.ensures in
-    elim c.if-is_fault_on.branch [
-      | then-is_fault_on w ↦ record {
-        counted = omega (
-          arith,
-          w.count-is,
-          held.counted,
-          more
-              ∙ ap (λ b. faults_on c.args.cpu (take i hs) + cond b 1 0) w.if-is_fault_on.true,
-        );
-        few = omega (arith, w.count-is, held.few);
-      }
-      | else-is_fault_on w ↦ record {
-        counted = omega (
-          arith,
-          w.count-is,
-          held.counted,
-          more
-              ∙ ap (λ b. faults_on c.args.cpu (take i hs) + cond b 1 0) w.if-is_fault_on.false,
-        );
-        few = omega (arith, w.count-is, held.few);
-      }
-    ]
+    let before = c.loop-one.invariant in
+    let same = c.as_mut_slice.ensures.value in
+    let after : (with_items c.loop-one.faults c.count_fault.new.faults).items ≡ c.count_fault.new.faults =
+    with_items_is c.loop-one.faults c.count_fault.new.faults (omega (arith, c.count_fault.ensures.len, ap length same)) in
+    let now : (cpu : ℕ) → cpu < c.args.cpus → get_or (with_items c.loop-one.faults c.count_fault.new.faults).items cpu 0
+    ≡ get_or c.loop-one.faults.items cpu 0 + cond (is_fault_on cpu x) 1 0 =
+    λ cpu low.
+    ap (λ faults. get_or faults cpu 0) after
+    ∙ c.count_fault.ensures.counts cpu (omega (arith, ap length same, before.len))
+    ∙ ap (λ faults. get_or faults cpu 0 + cond (is_fault_on cpu x) 1 0) same in
+    record {
+      counted = λ cpu low.
+          now cpu low ∙ ap (λ n. n + cond (is_fault_on cpu x) 1 0) (before.counted cpu low)
+          ∙ sym (faults_more cpu hs i x c.loop-one-test.true c.one-item.is (is_fault_on cpu x) refl);
+      few = λ cpu low.
+          let is = now cpu low in
+          let most = one_at_most (is_fault_on cpu x) in
+          let was = before.few cpu low in
+          omega arith;
+      len = ap length after ∙ c.count_fault.ensures.len ∙ ap length same ∙ before.len;
+    }
+
+pub returns : goal.returns
+returns c =
+    let hs = c.args.happened.now in
+    let faults = c.loop-one.faults.items in
+    let whole : take c.loop-one.one-index hs ≡ hs = take_all c.loop-one.one-index hs c.loop-one-test.false in
+    fill_by_all (λ cpu. faults_on cpu hs) faults c.args.cpus 0 c.loop-one.invariant.len
+    (λ cpu low. c.loop-one.invariant.counted cpu low ∙ ap (faults_on cpu) whole)

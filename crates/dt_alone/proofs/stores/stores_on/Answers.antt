@@ -1,21 +1,42 @@
--- One more store.
-use Rattle.std.proofs.Common.{arith}
-use Rattle.std.proofs.lemmas.List.{length_push}
-use Rattle.dt_aggstore.specs.IsAt.{IsAt}
-use Rattle.dt_aggstore.specs.declared.store.AggStore.{AggStore}
-use Rattle.dt_alone.specs.Happened.{given_to}
-use Rattle.dt_consumer.proofs.Lists.{pushed}
+-- One thing more was given.
+use Rattle.std.proofs.Common.{◌≡◌, ℕ, ◌+◌, ◌*◌, ◌++◌, [], ◌∷◌, length, take, sym, ap, ◌∙◌, subst, arith}
+use Rattle.std.specs.List.{All, slice_get}
+use Rattle.std.proofs.lemmas.List.{append-nil, take_more, with_items_is}
+use Rattle.std.specs.Vec.{with_items}
+use Rattle.std.proofs.lemmas.Grind.{flat_map-append}
+use Rattle.dt_aggstore.specs.History.{Past}
+use Rattle.dt_lang.specs.declared.program.TheConstants.{STATEMENTS_MAX}
+use Rattle.dt_alone.specs.Happened.{given_to, gives_to}
+use Rattle.dt_consumer.specs.Counts.{GivenAtMost}
+use Rattle.dt_consumer.specs.Uses.{AreGiven, given_then}
+use Rattle.dt_consumer.proofs.Giving.{same_at}
+use Rattle.dt_consumer.proofs.Taken.{if_some_map}
 use Rattle.dt_alone.proofs.stores.stores_on.Goals as goal
 
-pub loop-cpu-preserved : goal.loop-cpu-preserved
-loop-cpu-preserved c =
-    let all = c.loop-cpu.stores.items in
-    let st = c.in_ok-store_on.field-0 in
-    rw c.in_ok-push.ensures.items record {
-      counted = omega (arith, length_push all st, c.loop-cpu.invariant.counted);
-      each =
-          pushed
-          (λ cpu (s : AggStore). IsAt (record { size = c.args.size; events = given_to cpu c.args.happened.now }) s)
-          all st c.loop-cpu.invariant.each
-          (rw c.loop-cpu.invariant.counted c.in_ok-store_on.ensures);
+pub loop-one-preserved : goal.loop-one-preserved
+loop-one-preserved c =
+    let hs = c.args.happened.now in
+    let i = c.loop-one.one-index in
+    let x = c.one-item.result in
+    let more : (cpu : ℕ) → given_to cpu (take i hs) ++ gives_to cpu x ≡ given_to cpu (take (i + 1) hs) =
+    λ cpu.
+    ap (λ given. given_to cpu (take i hs) ++ given) (sym (append-nil (gives_to cpu x)))
+    ∙ sym (flat_map-append (gives_to cpu) (take i hs) (x ∷ []))
+    ∙ ap (given_to cpu) (sym (take_more hs i x c.loop-one-test.true ∙ ap (λ e. take i hs ++ e ∷ []) (sym c.one-item.is))) in
+    let P : ℕ → Past = λ cpu. record { size = c.args.size; events = given_to cpu (take i hs) } in
+    let same : c.as_mut_slice.result.now ≡ c.loop-one.stores.items = c.as_mut_slice.ensures.value in
+    let after : (with_items c.loop-one.stores c.give.new.stores).items ≡ c.give.new.stores =
+    with_items_is c.loop-one.stores c.give.new.stores (omega (arith, c.give.ensures.len, ap length same)) in
+    let given : AreGiven (λ cpu. given_then (P cpu) (gives_to cpu x)) c.give.new.stores =
+    c.give.ensures.stands P (subst (AreGiven P) (sym same) c.loop-one.invariant.each) in
+    let counts = c.give.ensures.counts (i * STATEMENTS_MAX)
+    (subst (All (GivenAtMost (i * STATEMENTS_MAX))) (sym same) c.loop-one.invariant.gives) in
+    record {
+      each = subst (AreGiven (λ cpu. record { size = c.args.size; events = given_to cpu (take (i + 1) hs) })) (sym after)
+          (λ cpu. if_some_map _ _ (slice_get c.give.new.stores cpu)
+          (λ st at. same_at _ _ st (ap (λ events. record { size = c.args.size; events = events }) (more cpu)) at)
+          (given cpu));
+      len = ap length after ∙ c.give.ensures.len ∙ ap length same ∙ c.loop-one.invariant.len;
+      gives = subst (All (GivenAtMost ((i + 1) * STATEMENTS_MAX))) (sym after)
+          (subst (λ n. All (GivenAtMost n) c.give.new.stores) (omega arith) counts);
     }

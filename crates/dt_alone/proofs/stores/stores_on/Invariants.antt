@@ -1,11 +1,15 @@
--- The stores so far.
-use Rattle.std.proofs.Common.{◌≡◌, length}
+-- What was given to each store so far.
+use Rattle.std.proofs.Common.{◌≡◌, ◌*◌, length, take}
+use Rattle.std.specs.List.{All}
+use Rattle.dt_lang.specs.declared.program.TheConstants.{STATEMENTS_MAX}
 use Rattle.dt_alone.specs.Happened.{given_to}
+use Rattle.dt_consumer.specs.Counts.{GivenAtMost}
 use Rattle.dt_consumer.specs.Uses.{AreGiven}
 use Rattle.dt_alone.proofs.stores.stores_on.Given as goal
 
-abbrev pub invariant-loop-cpu : goal.invariant-loop-cpu
-invariant-loop-cpu l = record {
-  counted : length l.stores.items ≡ l.cpu;
-  each : AreGiven (λ cpu. record { size = l.size; events = given_to cpu l.happened }) l.stores.items;
+abbrev pub invariant-loop-one : goal.invariant-loop-one
+invariant-loop-one l = record {
+  each : AreGiven (λ cpu. record { size = l.size; events = given_to cpu (take l.one-index l.happened) }) l.stores.items;
+  len : length l.stores.items ≡ l.cpus;
+  gives : All (GivenAtMost (l.one-index * STATEMENTS_MAX)) l.stores.items;
 }

@@ -10,7 +10,7 @@ use Rattle.dt_lang.specs.Program.{ClauseForm, form_of_clause}
 use Rattle.dt_record.specs.Layout.{layout_of, size_of}
 use Rattle.dt_alone.specs.declared.limits.TheConstants.{END}
 use Rattle.dt_consumer.proofs.Sizes.{end_sizes, one_size, size_by, sizes_more, sizes_few}
-use Rattle.dt_consumer.proofs.Takings.{clause_found}
+use Rattle.dt_consumer.proofs.Takings.{clause_found, there_at}
 use Rattle.dt_alone.proofs.programs.Programs.left_by_end.Goals as goal
 
 too_few : (size left sizes more all one : ℕ) → left + sizes ≡ size → more ≡ sizes + one → more ≤ all → left < one
@@ -30,11 +30,12 @@ pub returns-in_err-left-clause-left : goal.returns-in_err-left-clause-left
 returns-in_err-left-clause-left c = λ clauses own placed.
     let row = c.deref-ecb-items.result.now in
     let i = c.loop-ecb.ecb-index in
-    let ecb = get_or row i (record { epid = 0; probe = 0; clause = 0 }) in
+    let ecb = c.ecb-item.result in
     let clause = c.in_ok-clause.clause.now in
     let inside : ecb.clause < length clauses =
-    subst (λ es. All (λ (e : Ecb). e.clause < length clauses) es) (sym c.deref-ecb-items.ensures.value) placed i _
-    c.loop-ecb-test.true in
+    there_at row i ecb (length clauses)
+    (subst (λ es. All (λ (e : Ecb). e.clause < length clauses) es) (sym c.deref-ecb-items.ensures.value) placed)
+    c.loop-ecb-test.true c.ecb-item.is in
     let found : c.size.result ≡ size_by (form_of_ecb clauses ecb) =
     c.size.ensures ∙ ap size_of c.of.ensures
     ∙ ap (λ f. size_of (layout_of f))
@@ -47,6 +48,6 @@ returns-in_err-left-clause-left c = λ clauses own placed.
     (subst (λ es. c.args.size < end_sizes clauses es) c.deref-ecb-items.ensures.value
     (too_few c.args.size c.loop-ecb.left (end_sizes clauses (take i row)) (end_sizes clauses (take (i + 1) row))
     (end_sizes clauses row) c.size.result (c.loop-ecb.invariant.left clauses own placed)
-    (sizes_more clauses row i _ c.loop-ecb-test.true
+    (sizes_more clauses row i ecb c.loop-ecb-test.true c.ecb-item.is
     ∙ ap (λ n. end_sizes clauses (take i row) + n) (sym (one_is clauses ecb c.size.result c.if-ecb-eq-END.true found)))
     (sizes_few clauses row (i + 1)) (omega (arith, c.in_err-left.ensures))))

@@ -1,5 +1,5 @@
 -- One ECB more was taken, or passed.
-use Rattle.std.proofs.Common.{◌≡◌, ◌<◌, ◌+◌, ◌==◌, ◌∷◌, [], true, cond, List, None, length, map, take, get_or, sym, ap, ◌∙◌, subst, arith}
+use Rattle.std.proofs.Common.{◌≡◌, ◌<◌, ◌+◌, ◌==◌, ◌∷◌, [], true, cond, List, None, length, map, take, sym, ap, ◌∙◌, subst, arith}
 use Rattle.std.specs.Global.{Vec}
 use Rattle.std.specs.List.{All}
 use Rattle.std.proofs.lemmas.Bool.{eq-eqb, ne_eqb}
@@ -12,6 +12,7 @@ use Rattle.dt_alone.specs.Happened.{Adds}
 use Rattle.dt_alone.specs.declared.happened.Happened.{Happened}
 use Rattle.dt_alone.proofs.Bringing.{adds_both}
 use Rattle.dt_alone.proofs.Firing.{exit_all, exited, exited_here, exited_other, exited_past, none_is, some_exit, some_is, taken, taken_here, taken_other, taken_past}
+use Rattle.dt_consumer.proofs.Takings.{there_at}
 use Rattle.dt_consumer.specs.Keeps.{taking_by}
 use Rattle.dt_consumer.specs.Takings.{exit_of, first_exit}
 use Rattle.dt_alone.proofs.programs.Programs.take.Goals as goal
@@ -24,15 +25,17 @@ loop-ecb-preserved c =
     let shapes = shapes_of c.args.self.now.shapes in
     let all = c.deref-ecb-items.result.now in
     let i = c.loop-ecb.ecb-index in
-    let d : Ecb = record { epid = 0; probe = 0; clause = 0 } in
-    let ecb = get_or all i d in
+    let ecb = c.ecb-item.result in
     let inside = c.loop-ecb-test.true in
+    let is_at = c.ecb-item.is in
     let old = c.args.happened.now.items in
     let here : All (λ e. e.clause < length c.args.self.now.clauses.items) c.args.self.now.ecbs.items
     → ecb.clause < length c.args.self.now.clauses.items =
     λ placed.
-    subst (λ es. All (λ e. e.clause < length c.args.self.now.clauses.items) es)
-    (sym c.deref-ecb-items.ensures.value) placed i d inside in
+    there_at all i ecb (length c.args.self.now.clauses.items)
+    (subst (λ es. All (λ (e : Ecb). e.clause < length c.args.self.now.clauses.items) es)
+    (sym c.deref-ecb-items.ensures.value) placed)
+    inside is_at in
     let stays : (l : List Happened)
     → (taken c.args.in_end m cs (take (i + 1) all) ≡ taken c.args.in_end m cs (take i all))
     → l ≡ c.loop-ecb.happened.items
@@ -49,7 +52,7 @@ loop-ecb-preserved c =
     → Adds shapes m.firing.cpu (taken c.args.in_end m cs (take (i + 1) all)) old l) =
     λ l its none one placed.
     subst (λ ts. Adds shapes m.firing.cpu ts old l)
-    (sym (taken_here c.args.in_end m cs all i d inside its (sym (c.loop-ecb.invariant.exit placed) ∙ none)))
+    (sym (taken_here c.args.in_end m cs all i ecb inside is_at its (sym (c.loop-ecb.invariant.exit placed) ∙ none)))
     (adds_both shapes m.firing.cpu (taken c.args.in_end m cs (take i all)) (taking_by c.args.in_end m cs ecb ∷ [])
     old c.loop-ecb.happened.items l (c.loop-ecb.invariant.adds placed) (one (here placed))) in
     let held = c.loop-ecb.invariant in
@@ -64,7 +67,7 @@ loop-ecb-preserved c =
                 (grows w.take_one.new.happened.items its none w.in_ok-status.ensures.taken placed);
             exit = λ placed.
                 w.exit-is
-                ∙ sym (exited_here c.args.in_end m cs all i d inside its (sym (held.exit placed) ∙ none)
+                ∙ sym (exited_here c.args.in_end m cs all i ecb inside is_at its (sym (held.exit placed) ∙ none)
                 ∙ ap (λ b. cond b None (exit_of (taking_by c.args.in_end m cs ecb))) w.if-in_end.true);
             few = omega (arith, ap length is, held.few, w.take_one.ensures.few);
           }
@@ -78,7 +81,7 @@ loop-ecb-preserved c =
                 (grows w.take_one.new.happened.items its none w.in_ok-status.ensures.taken placed);
             exit = λ placed.
                 w.exit-is ∙ w.in_ok-status.ensures.exit (here placed)
-                ∙ sym (exited_here c.args.in_end m cs all i d inside its (sym (held.exit placed) ∙ none)
+                ∙ sym (exited_here c.args.in_end m cs all i ecb inside is_at its (sym (held.exit placed) ∙ none)
                 ∙ ap (λ b. cond b None (exit_of (taking_by c.args.in_end m cs ecb))) w.if-in_end.false);
             few = omega (arith, ap length is, held.few, w.take_one.ensures.few);
           }
@@ -90,18 +93,18 @@ loop-ecb-preserved c =
                 record {
                   adds = λ placed. some_exit c.loop-ecb.exit _ some
                       (λ z e. stays c.if-ecb-moment.happened.items
-                      (taken_past c.args.in_end m cs all i d inside z (sym (held.exit placed) ∙ e)) is placed);
+                      (taken_past c.args.in_end m cs all i ecb inside is_at z (sym (held.exit placed) ∙ e)) is placed);
                   exit = λ placed. w.exit-is ∙ held.exit placed ∙ some_exit c.loop-ecb.exit _ some
-                      (λ z e. sym (exited_past c.args.in_end m cs all i d inside z (sym (held.exit placed) ∙ e)));
+                      (λ z e. sym (exited_past c.args.in_end m cs all i ecb inside is_at z (sym (held.exit placed) ∙ e)));
                   few = omega (arith, ap length is, held.few);
                 }
             | else-ecb-moment-via-else-ecb-moment w' ↦
                 let other = ne_eqb ecb.probe m.firing.probe w'.if-ecb-moment.false in
                 record {
                   adds = λ placed. stays c.if-ecb-moment.happened.items
-                      (taken_other c.args.in_end m cs all i d inside other) is placed;
+                      (taken_other c.args.in_end m cs all i ecb inside is_at other) is placed;
                   exit = λ placed. w.exit-is ∙ held.exit placed
-                      ∙ sym (exited_other c.args.in_end m cs all i d inside other);
+                      ∙ sym (exited_other c.args.in_end m cs all i ecb inside is_at other);
                   few = omega (arith, ap length is, held.few);
                 }
           ]

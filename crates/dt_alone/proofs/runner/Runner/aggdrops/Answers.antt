@@ -1,21 +1,26 @@
--- The drops of one processor more.
-use Rattle.std.proofs.Common.{ap, ◌∙◌}
-use Rattle.dt_aggstore.specs.Chosen.{drops}
+-- The drops of one store more.
+use Rattle.std.proofs.Common.{ℕ, ◌∙◌, sym, subst}
+use Rattle.dt_aggstore.specs.History.{Past}
+use Rattle.dt_aggstore.specs.IsAt.{IsAt}
 use Rattle.dt_alone.specs.Happened.{given_to}
-use Rattle.dt_alone.proofs.Recounting.{mapped_more}
+use Rattle.dt_consumer.specs.Uses.{AreGiven}
+use Rattle.dt_consumer.proofs.Lists.{found_at}
+use Rattle.dt_consumer.proofs.Stores.{dropped_more}
 use Rattle.dt_alone.proofs.runner.Runner.aggdrops.Goals as goal
 
-pub loop-cpu-preserved : goal.loop-cpu-preserved
-loop-cpu-preserved c =
+pub loop-store-preserved : goal.loop-store-preserved
+loop-store-preserved c =
+    let i = c.loop-store.store-index in
+    let stores = c.deref-store-items.result.now in
+    let pasts : ℕ → Past = λ cpu. record { size = c.args.self.now.options.aggsize; events = given_to cpu c.args.self.now.since.items } in
+    let given : AreGiven (λ cpu. record { size = c.args.self.now.options.aggsize; events = given_to cpu c.deref.result.now }) stores =
+    subst
+    (AreGiven (λ cpu. record { size = c.args.self.now.options.aggsize; events = given_to cpu c.deref.result.now }))
+    (sym c.deref-store-items.ensures.value) c.in_ok-stores.ensures.each in
+    let at : AreGiven pasts stores =
+    subst (λ hs. AreGiven (λ cpu. record { size = c.args.self.now.options.aggsize; events = given_to cpu hs }) stores)
+    c.deref.ensures.value given in
+    let here = found_at (IsAt (pasts i)) stores i c.store-item.result c.loop-store-test.true c.store-item.is (at i) in
     c.in_ok-push.ensures.items
-    ∙ mapped_more
-    (λ cpu. drops (record {
-      size = c.args.self.now.options.aggsize;
-      events = given_to cpu
-          c.args.self.now.since.items;
-    }))
-    c.loop-cpu.aggdrops.items c.loop-cpu.cpu _ c.loop-cpu.invariant
-    (c.dropped.ensures _ c.in_ok-store.ensures
-    ∙ ap
-    (λ hs. drops (record { size = c.args.self.now.options.aggsize; events = given_to c.loop-cpu.cpu hs }))
-    c.deref.ensures.value)
+    ∙ dropped_more pasts c.loop-store.aggdrops.items i c.dropped.result c.loop-store.invariant
+    (c.dropped.ensures (pasts i) here)

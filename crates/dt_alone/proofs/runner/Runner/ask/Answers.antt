@@ -18,7 +18,7 @@ returns-in-Ok c =
     (λ reply h. λ account life r.
     let registry = c.args.machine.now.registry in
     let s = set_up account registry life in
-    let fresh = sym (c.has_asked_all.ensures.over account registry life r) ∙ c.if-has_asked_all.false in
+    let fresh = sym (c.is_over.ensures.over account registry life r) ∙ c.if-is_over.false in
     let two = h account life (record {
       has = has_alike account registry s (phase_of s) c.args.self.now _ r.has
           (record { account = refl; seen = refl; since = refl }) refl refl (phase_of s) r.has.standing (λ e. e);

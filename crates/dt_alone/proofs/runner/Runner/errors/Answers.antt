@@ -1,12 +1,19 @@
--- The errors of one processor more, and of all.
-use Rattle.std.proofs.Common.{ap, ◌∙◌}
+-- The errors of all processors.
+use Rattle.std.proofs.Common.{map, ap, ◌∙◌}
+use Rattle.std.specs.List.{range_with_len}
 use Rattle.dt_alone.specs.Happened.{faults_on}
-use Rattle.dt_alone.proofs.Recounting.{mapped_more}
+use Rattle.dt_alone.proofs.Recounting.{all_faults}
+use Rattle.dt_consumer.specs.Life.{set_up}
+use Rattle.dt_consumer.proofs.Telling.{if_ok_map}
 use Rattle.dt_alone.proofs.runner.Runner.errors.Goals as goal
 
-pub loop-cpu-preserved : goal.loop-cpu-preserved
-loop-cpu-preserved c =
-    c.in_ok-push.ensures.items
-    ∙ mapped_more (λ cpu. faults_on cpu c.args.self.now.since.items) c.loop-cpu.errors.items c.loop-cpu.cpu _
-    c.loop-cpu.invariant
-    (c.faults_on.ensures ∙ ap (faults_on c.loop-cpu.cpu) c.deref.ensures.value)
+pub returns : goal.returns
+returns c =
+    if_ok_map _ _ c.faults_on.result
+    (λ errors counted. λ account life h.
+    let registry = c.args.machine.now.registry in
+    counted
+    ∙ ap (λ hs. map (λ cpu. faults_on cpu hs) (range_with_len 0 c.cpus.result)) c.deref.ensures.value
+    ∙ all_faults account registry (set_up account registry life) _ c.args.self.now h c.cpus.result registry.cpus
+    c.cpus.ensures.value)
+    c.faults_on.ensures

@@ -1,8 +1,0 @@
-use Rattle.std.proofs.Common.{◌≡◌, ◌≤◌, ℕ, length, take, drop}
-use Rattle.std.specs.Io.KnownBytes.{Appends}
-use Rattle.dtraced.proofs.replay.write_output.Given as goal
-
--- a beginning was written, and what is left is the rest
-abbrev pub invariant-loop-write : goal.invariant-loop-write
-invariant-loop-write g l = (count : ℕ) × (count ≤ length l.output) × (l.rest ≡ drop count l.output)
-    × Appends (g.W.Write.contents l.fn.writer) (g.W.Write.contents l.writer) (take count l.output)
