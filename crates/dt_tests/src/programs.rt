@@ -1,7 +1,7 @@
 //! Texts of programs: which are read and which are refused, with the place and the cause, and what their expressions come to.
 use dt_cred::{Mode, Probe, Process};
-use dt_expr::{Expr, Scene, eval};
-use dt_lang::{Argument, LangFault, Program, Statement};
+use dt_expr::{Expr, NumberVariable, Scene, TextVariable, eval};
+use dt_lang::{Action, Argument, Destructive, Function, LangFault, Program, Statement, Word};
 use dt_machine::Firing;
 use dt_names::{ProbeTuple, ShortText};
 use std::alloc::Global;
@@ -429,4 +429,19 @@ fn expressions_come_to_what_the_tables_say(rt: HostRuntime) -> Result<(), Fail> 
     let predicates = first_wrong(rt.alloc(), &scene, PREDICATES, "BEGIN/", "/{}")?;
     assert_eq!(rt; predicates, None);
     Ok(())
+}
+
+#[test]
+fn knows_the_words(rt: HostRuntime) {
+    let rows: [(&[u8], Word); 6] = [
+        (b"ustack", Word::Action(Action::Ustack)),
+        (b"lquantize", Word::Function(Function::Lquantize)),
+        (b"copyoutstr", Word::Destructive(Destructive::Copyoutstr)),
+        (b"arg9", Word::Number(NumberVariable::Arg9)),
+        (b"probemod", Word::Text(TextVariable::Probemod)),
+        (b"Trace", Word::Unknown),
+    ];
+    for (name, word) in rows {
+        assert!(rt; Word::of(name) == word, "{name:?}");
+    }
 }
