@@ -1,5 +1,6 @@
 -- What the code does to a cell when a value is added, for each function.
-use Rattle.std.proofs.Common.{◌≡◌, ℕ, ◌+◌, ◌%◌, ◌^◌, List, [], ◌∷◌, ◌++◌, length, get_or, set, sym, ap, ◌∙◌, arith, ℤ, FitsSigned, ◌≢◌}
+use Rattle.std.proofs.Common.{◌≡◌, ℕ, ◌+◌, ◌%◌, ◌^◌, List, [], ◌∷◌, ◌++◌, length, get_or, set, sym, ap, ◌∙◌, arith, ℤ}
+use Rattle.std.proofs.Common.{FitsSigned, ◌≢◌}
 use Rattle.std.specs.Int.{w64, int_min, int_max, cast_signed}
 use Rattle.std.proofs.lemmas.List.{length_push}
 use Rattle.std.proofs.lemmas.Int.{to_z-of_z}

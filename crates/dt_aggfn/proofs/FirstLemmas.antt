@@ -1,5 +1,6 @@
 -- What the code makes of a cell when a bag begins, for each function.
-use Rattle.std.proofs.Common.{◌≡◌, ℕ, ◌+◌, ◌%◌, ◌^◌, List, [], ◌∷◌, length, get_or, set, replicate, refl, sym, ap, ◌∙◌, arith, ℤ, FitsSigned}
+use Rattle.std.proofs.Common.{◌≡◌, ℕ, ◌+◌, ◌%◌, ◌^◌, List, [], ◌∷◌, length, get_or, set, replicate, refl, sym, ap, ◌∙◌}
+use Rattle.std.proofs.Common.{arith, ℤ, FitsSigned}
 use Rattle.std.specs.Int.{w64}
 use Rattle.dt_aggfn.specs.declared.levels.Bounds.{Bounds}
 use Rattle.dt_aggfn.specs.declared.function.AggFn.{AggFn}

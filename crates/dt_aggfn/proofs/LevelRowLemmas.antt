@@ -1,5 +1,7 @@
 -- Which row of an `lquantize` counts a value.
-use Rattle.std.proofs.Common.{◌≡◌, ℕ, zero, suc, ◌+◌, ◌-◌, ◌*◌, ◌/◌, ◌%◌, ◌^◌, ◌<◌, ◌≤◌, ◌≢◌, true, false, eqb, ltb, leb, ◌&&◌, List, [], ◌∷◌, ◌++◌, length, get_or, map, refl, sym, ap, subst, ◌∙◌, ⊎_elim, arith, ℤ, pos, negsuc, ◌+ℤ◌, ◌-ℤ◌, ◌*ℤ◌, Some, None}
+use Rattle.std.proofs.Common.{◌≡◌, ℕ, zero, suc, ◌+◌, ◌-◌, ◌*◌, ◌/◌, ◌%◌, ◌^◌, ◌<◌, ◌≤◌, ◌≢◌, true, false, eqb, ltb}
+use Rattle.std.proofs.Common.{leb, ◌&&◌, List, [], ◌∷◌, ◌++◌, length, get_or, map, refl, sym, ap, subst, ◌∙◌, ⊎_elim}
+use Rattle.std.proofs.Common.{arith, ℤ, pos, negsuc, ◌+ℤ◌, ◌-ℤ◌, ◌*ℤ◌, Some, None}
 use Rattle.std.proofs.Math.Nat.{mul-le-mul_right}
 use Rattle.std.specs.Prelude.{int_lt, int_le, int_div, int_rem, unsigned_abs, FitsSigned}
 use Rattle.std.specs.Int.{w64, cast_signed, cast_unsigned}
@@ -7,7 +9,8 @@ use Rattle.std.specs.List.{range_with_len}
 use Rattle.std.proofs.lemmas.Int.{ints, to_z-of_z}
 use Rattle.std.proofs.lemmas.Bool.{cases_lt, cases_eq, eq-eqb, ne_eqb, lt-ltb, le-ltb, le-leb, lt-leb}
 use Rattle.dt_aggfn.specs.declared.levels.Bounds.{Bounds}
-use Rattle.dt_aggfn.specs.Rows.{Row, name_at, level_from, level_row, below_row, upper_row, levels_of, lquantize_rows, IsRowOf}
+use Rattle.dt_aggfn.specs.Rows.{Row, name_at, level_from, level_row, below_row, upper_row, levels_of, lquantize_rows}
+use Rattle.dt_aggfn.specs.Rows.{IsRowOf}
 use Rattle.dt_aggfn.proofs.RowLemmas.{each_part, parted, named, length_parts, first_part, middle_part}
 
 -- what bounds say in natural numbers

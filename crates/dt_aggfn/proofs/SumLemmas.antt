@@ -1,9 +1,11 @@
 -- The wrapped sum of a bag, when a value is added and when two bags are joined.
-use Rattle.std.proofs.Common.{◌≡◌, ℕ, ◌+◌, ◌%◌, ◌^◌, ◌<◌, List, [], ◌∷◌, ◌++◌, sym, ap, ◌∙◌, arith, ℤ, pos, ◌+ℤ◌, FitsSigned}
+use Rattle.std.proofs.Common.{◌≡◌, ℕ, ◌+◌, ◌%◌, ◌^◌, ◌<◌, List, [], ◌∷◌, ◌++◌, sym, ap, ◌∙◌, arith, ℤ, pos, ◌+ℤ◌}
+use Rattle.std.proofs.Common.{FitsSigned}
 use Rattle.std.specs.Int.{w64, int_wrap, cast_signed, cast_unsigned}
 use Rattle.std.specs.List.{fold}
 use Rattle.std.proofs.Math.Facts.{Fits-of_z}
-use Rattle.std.proofs.lemmas.Int.{ints, to_z-of_z, of_z-to_z, int_wrap_fits, wrapping_add-bits, int_wrap-add_left, int_wrap-add_right, SFits-int_wrap}
+use Rattle.std.proofs.lemmas.Int.{ints, to_z-of_z, of_z-to_z, int_wrap_fits, wrapping_add-bits, int_wrap-add_left}
+use Rattle.std.proofs.lemmas.Int.{int_wrap-add_right, SFits-int_wrap}
 use Rattle.std.proofs.lemmas.List.Sums.{fold-append}
 use Rattle.dt_aggfn.specs.Cells.{sum_of, word_of}
 

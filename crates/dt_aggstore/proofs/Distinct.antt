@@ -1,5 +1,6 @@
 -- Each entry of a list once.
-use Rattle.std.proofs.Common.{◌≡◌, zero, suc, ⊎_elim, Bool, true, false, cond, ◌||◌, List, [], ◌∷◌, ◌++◌, refl, sym, ap, ◌∙◌, subst, arith}
+use Rattle.std.proofs.Common.{◌≡◌, zero, suc, ⊎_elim, Bool, true, false, cond, ◌||◌, List, [], ◌∷◌, ◌++◌, refl, sym}
+use Rattle.std.proofs.Common.{ap, ◌∙◌, subst, arith}
 use Rattle.std.specs.Prelude.{filter, not, Contains}
 use Rattle.std.specs.List.{list_any}
 use Rattle.std.proofs.lemmas.Bool.{false≢true}
@@ -8,7 +9,8 @@ use Rattle.std.proofs.lemmas.List.Elements.{filter-append}
 use Rattle.dt_aggstore.specs.Keys.{Entry, same_entry}
 use Rattle.dt_aggstore.specs.Held.{distinct}
 use Rattle.dt_aggstore.proofs.Same.{entry_is, own_entry, entry_back}
-use Rattle.dt_aggstore.proofs.Filters.{yes_or_no, not_true, not_false, filter_yes, filter_no, filter_under, filter_swap, any_filter}
+use Rattle.dt_aggstore.proofs.Filters.{yes_or_no, not_true, not_false, filter_yes, filter_no, filter_under}
+use Rattle.dt_aggstore.proofs.Filters.{filter_swap, any_filter}
 
 -- whether an entry is among some
 abbrev pub has : Entry → List Entry → Bool

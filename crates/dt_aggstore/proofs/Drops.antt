@@ -1,5 +1,6 @@
 -- What one more event does to the drops.
-use Rattle.std.proofs.Common.{◌≡◌, ℕ, ◌+◌, ◌↔◌, ℤ, Bool, true, false, cond, ◌&&◌, List, [], ◌∷◌, ◌++◌, length, refl, ap, ◌∙◌, IsTrue, arith}
+use Rattle.std.proofs.Common.{◌≡◌, ℕ, ◌+◌, ◌↔◌, ℤ, Bool, true, false, cond, ◌&&◌, List, [], ◌∷◌, ◌++◌, length, refl}
+use Rattle.std.proofs.Common.{ap, ◌∙◌, IsTrue, arith}
 use Rattle.std.specs.Prelude.{not, zip, count_by, if◌then◌else◌}
 use Rattle.std.proofs.lemmas.List.Sums.{sum_by-append}
 use Rattle.dt_aggstore.specs.History.{Event, given, truncated, Past, new_past, after}
@@ -48,7 +49,8 @@ drops-given past aggregation key value b kept =
     (kept_exactly past.size past.events chosen event)) kept in
     drops-after past event ∙ ap (λ t. drops past + cond (true && not t) 1 0) same ∙ told (drops past) b
 
-pub drops-truncated : (past : Past) (aggregation : Aggregation) → drops (after past (truncated aggregation)) ≡ drops past
+pub drops-truncated : (past : Past) (aggregation : Aggregation) → drops (after past (truncated aggregation))
+    ≡ drops past
 drops-truncated past aggregation = drops-after past (truncated aggregation) ∙ omega arith
 
 pub drops-new_past : (size : ℕ) → drops (new_past size) ≡ 0

@@ -1,10 +1,13 @@
 -- A bag joins the row of its key, or makes one.
-use Rattle.std.proofs.Common.{◌≡◌, ◌≢◌, ℕ, zero, suc, ◌+◌, ◌<◌, ◌≤◌, ◌⊎◌, ⊎_elim, inl, inr, ℤ, Bool, true, false, cond, List, [], ◌∷◌, ◌++◌, length, get_or, set, take, drop, refl, sym, ap, ◌∙◌, subst, add-one, arith}
+use Rattle.std.proofs.Common.{◌≡◌, ◌≢◌, ℕ, zero, suc, ◌+◌, ◌<◌, ◌≤◌, ◌⊎◌, ⊎_elim, inl, inr, ℤ, Bool, true, false, cond}
+use Rattle.std.proofs.Common.{List, [], ◌∷◌, ◌++◌, length, get_or, set, take, drop, refl, sym, ap, ◌∙◌, subst, add-one}
+use Rattle.std.proofs.Common.{arith}
 use Rattle.std.specs.Prelude.{FitsSigned, Contains}
 use Rattle.std.specs.Int.{w64}
 use Rattle.std.specs.List.{AllByRecursion, insert}
 use Rattle.std.proofs.lemmas.Bool.{cases_lt, false≢true}
-use Rattle.std.proofs.lemmas.List.{take-append-drop, drop_more, drop_all, map-append, length-map, set_split, take-map, drop-map}
+use Rattle.std.proofs.lemmas.List.{take-append-drop, drop_more, drop_all, map-append, length-map, set_split, take-map}
+use Rattle.std.proofs.lemmas.List.{drop-map}
 use Rattle.dt_aggfn.specs.declared.function.AggFn.{AggFn}
 use Rattle.dt_aggfn.specs.declared.limits.TheConstants.{BAG_LIMIT}
 use Rattle.dt_aggfn.specs.Cells.{cell_of, IsBag}
@@ -14,7 +17,9 @@ use Rattle.dt_aggstore.specs.Joining.{key_of, keys_of, AreJoined, joined_at, IsP
 use Rattle.dt_aggstore.specs.declared.joining.Joined.{Joined}
 use Rattle.dt_aggstore.proofs.Same.{key_decides}
 use Rattle.dt_aggstore.proofs.Filters.{yes_or_no}
-use Rattle.dt_aggstore.proofs.Rising.{Key, AllBelow, AllAbove, below_differs, above_differs, below_chain, one_or_above, all_weaker, all_front, all_back, all_append, rising_back, rising_before, rising_inserted, contains_new, contains_kept, contains_inserted}
+use Rattle.dt_aggstore.proofs.Rising.{Key, AllBelow, AllAbove, below_differs, above_differs, below_chain, one_or_above}
+use Rattle.dt_aggstore.proofs.Rising.{all_weaker, all_front, all_back, all_append, rising_back, rising_before}
+use Rattle.dt_aggstore.proofs.Rising.{rising_inserted, contains_new, contains_kept, contains_inserted}
 
 abbrev Bags-of : Type 0
 Bags-of = Key → List ℤ

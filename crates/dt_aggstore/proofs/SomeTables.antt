@@ -1,5 +1,6 @@
 -- Pasts have a table.
-use Rattle.std.proofs.Common.{◌≡◌, ◌⊎◌, ⊎_elim, inl, inr, Bool, cond, List, [], ◌∷◌, Ordering, Less, refl, sym, ap, ◌∙◌, subst, arith}
+use Rattle.std.proofs.Common.{◌≡◌, ◌⊎◌, ⊎_elim, inl, inr, Bool, cond, List, [], ◌∷◌, Ordering, Less, refl, sym, ap}
+use Rattle.std.proofs.Common.{◌∙◌, subst, arith}
 use Rattle.std.specs.Prelude.{map, filter, Contains}
 use Rattle.std.specs.List.{AllByRecursion, AllZip, fold, flat_map}
 use Rattle.std.specs.BTreeSet.{insert_key}
@@ -18,7 +19,8 @@ use Rattle.dt_aggstore.specs.declared.key.Aggregation.{Aggregation}
 use Rattle.dt_aggstore.proofs.Same.{aggregation_is, own_aggregation}
 use Rattle.dt_aggstore.proofs.Filters.{yes_or_no}
 use Rattle.dt_aggstore.proofs.Choices.{is_choice}
-use Rattle.dt_aggstore.proofs.Rising.{Key, keys_total, key_exact, below_chain, all_weaker, contains_cases, contains_here, contains_later}
+use Rattle.dt_aggstore.proofs.Rising.{Key, keys_total, key_exact, below_chain, all_weaker, contains_cases}
+use Rattle.dt_aggstore.proofs.Rising.{contains_here, contains_later}
 
 -- ---- a key is put among others in rising order
 
@@ -245,7 +247,8 @@ is_table pasts aggregation =
             (λ put. put)
             (has_put_all keys [] key (subst (λ xs. Contains xs key) same a))))),
         (λ h. subst (λ xs. Contains xs key) (sym same)
-            (put_all_has keys [] key (inr (entry_key aggregation entries key (all_held_has aggregation pasts key h))))),
+            (put_all_has keys [] key (inr (entry_key aggregation entries key
+            (all_held_has aggregation pasts key h))))),
       );
       answers = answers_are pasts aggregation choices (put_all keys []);
     }

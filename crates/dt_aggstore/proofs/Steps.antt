@@ -1,5 +1,6 @@
 -- A store after one more event.
-use Rattle.std.proofs.Common.{◌≡◌, ℕ, ◌+◌, ◌≤◌, ◌↔◌, ⊎_elim, inl, inr, ℤ, Bool, true, false, cond, ◌||◌, List, [], ◌∷◌, ◌++◌, take, drop, refl, sym, ap, ◌∙◌, subst, IsTrue, arith}
+use Rattle.std.proofs.Common.{◌≡◌, ℕ, ◌+◌, ◌≤◌, ◌↔◌, ⊎_elim, inl, inr, ℤ, Bool, true, false, cond, ◌||◌, List, [], ◌∷◌}
+use Rattle.std.proofs.Common.{◌++◌, take, drop, refl, sym, ap, ◌∙◌, subst, IsTrue, arith}
 use Rattle.std.specs.Prelude.{not, FitsSigned, slice_range, Contains}
 use Rattle.std.specs.Int.{w64}
 use Rattle.std.proofs.lemmas.Bool.{false≢true}
@@ -21,11 +22,14 @@ use Rattle.dt_aggstore.specs.declared.key.KeyPart.{KeyPart}
 use Rattle.dt_aggstore.specs.declared.store.AggStore.{AggStore}
 use Rattle.dt_aggstore.proofs.Same.{own_entry}
 use Rattle.dt_aggstore.proofs.Filters.{yes_or_no, filter_yes, filter_no}
-use Rattle.dt_aggstore.proofs.Distinct.{has, has-distinct, has_from_contains, contains_from_has, distinct-push, AreApart, distinct_apart}
-use Rattle.dt_aggstore.proofs.Counting.{contribution, names, names-push, counted-given, counted-truncated, others, held-others, values-others, values-push_same, values-push_other, values_none}
+use Rattle.dt_aggstore.proofs.Distinct.{has, has-distinct, has_from_contains, contains_from_has, distinct-push}
+use Rattle.dt_aggstore.proofs.Distinct.{AreApart, distinct_apart}
+use Rattle.dt_aggstore.proofs.Counting.{contribution, names, names-push, counted-given, counted-truncated, others}
+use Rattle.dt_aggstore.proofs.Counting.{held-others, values-others, values-push_same, values-push_other, values_none}
 use Rattle.dt_aggstore.proofs.Choices.{choice_more, keeps}
 use Rattle.dt_aggstore.proofs.Drops.{drops-given, drops-truncated}
-use Rattle.dt_aggstore.proofs.Standing.{held_bag, numbers-push, contributions-given, Bags, cells_from, cells_alike, Lengths, apart_before, apart_later, cells_before, cell_at, cells_later}
+use Rattle.dt_aggstore.proofs.Standing.{held_bag, numbers-push, contributions-given, Bags, cells_from, cells_alike}
+use Rattle.dt_aggstore.proofs.Standing.{Lengths, apart_before, apart_later, cells_before, cell_at, cells_later}
 
 -- ---- a contribution
 

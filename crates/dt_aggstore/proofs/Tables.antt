@@ -1,5 +1,6 @@
 -- The table of the pasts of all stores.
-use Rattle.std.proofs.Common.{◌≡◌, ◌≢◌, ℕ, zero, suc, ◌+◌, ◌*◌, ◌<◌, ◌≤◌, ◌⊎◌, ⊎_elim, inl, inr, ℤ, Bool, List, [], ◌∷◌, ◌++◌, length, get_or, take, refl, sym, ap, ◌∙◌, subst, arith}
+use Rattle.std.proofs.Common.{◌≡◌, ◌≢◌, ℕ, zero, suc, ◌+◌, ◌*◌, ◌<◌, ◌≤◌, ◌⊎◌, ⊎_elim, inl, inr, ℤ, Bool, List, []}
+use Rattle.std.proofs.Common.{◌∷◌, ◌++◌, length, get_or, take, refl, sym, ap, ◌∙◌, subst, arith}
 use Rattle.std.specs.Prelude.{map, FitsSigned, Contains}
 use Rattle.std.specs.Int.{w64}
 use Rattle.std.specs.List.{AllByRecursion, AllZip}
@@ -24,7 +25,8 @@ use Rattle.dt_aggstore.proofs.Choices.{one_choice}
 use Rattle.dt_aggstore.proofs.Standing.{few_values}
 use Rattle.dt_aggfn.specs.declared.limits.TheConstants.{BAG_LIMIT}
 use Rattle.dt_aggstore.proofs.Gathering.{joined_alike}
-use Rattle.dt_aggstore.proofs.Rising.{Key, below_chain, below_apart, all_contains, contains_here, contains_later, contains_cases}
+use Rattle.dt_aggstore.proofs.Rising.{Key, below_chain, below_apart, all_contains, contains_here, contains_later}
+use Rattle.dt_aggstore.proofs.Rising.{contains_cases}
 
 -- ---- choices
 

@@ -1,5 +1,6 @@
 -- What the next thing that happens brings.
-use Rattle.std.proofs.Common.{◌≡◌, ℕ, ◌+◌, ◌<◌, ◌==◌, get_or, take, Bool, true, false, cond, List, [], ◌∷◌, ◌++◌, length, filter, map, Option, Some, None, refl, sym, ap, ◌∙◌, subst, arith}
+use Rattle.std.proofs.Common.{◌≡◌, ℕ, ◌+◌, ◌<◌, ◌==◌, get_or, take, Bool, true, false, cond, List, [], ◌∷◌, ◌++◌}
+use Rattle.std.proofs.Common.{length, filter, map, Option, Some, None, refl, sym, ap, ◌∙◌, subst, arith}
 use Rattle.std.specs.Global.{Vec}
 use Rattle.std.specs.Option.{is_none, is_some, option_and_then, option_map, option_to_list}
 use Rattle.std.proofs.lemmas.List.{append-nil, append_assoc, take_more}
@@ -8,7 +9,8 @@ use Rattle.dt_aggstore.specs.History as store
 use Rattle.dt_buffer.specs.History as buffer
 use Rattle.dt_ecb.specs.Shapes.{ShapeForm}
 use Rattle.dt_record.specs.Taking.{TakenForm}
-use Rattle.dt_alone.specs.Happened.{Adds, Brings, all_to, comes_to, faults_on, given_as, given_to, gives_to, is_fault_on}
+use Rattle.dt_alone.specs.Happened.{Adds, Brings, all_to, comes_to, faults_on, given_as, given_to, gives_to}
+use Rattle.dt_alone.specs.Happened.{is_fault_on}
 use Rattle.dt_alone.specs.declared.happened.Happened.{Happened}
 use Rattle.dt_alone.specs.declared.happened.Happened.TheVariants.{Failed, Left}
 use Rattle.dt_alone.specs.declared.happened.Left as left
@@ -213,7 +215,8 @@ adds_left shapes there t in_end l form old e ends bytes given = λ cpu a n g b.
     twice (Some bytes) = refl
 
 -- the errors of one thing more
-pub faults_more : (cpu : ℕ) (hs : List Happened) (i : ℕ) (x : Happened) → i < length hs → x ≡ get_or hs i x → (b : Bool)
+pub faults_more : (cpu : ℕ) (hs : List Happened) (i : ℕ) (x : Happened) → i < length hs → x ≡ get_or hs i x
+    → (b : Bool)
     → b ≡ is_fault_on cpu x → faults_on cpu (take (i + 1) hs) ≡ faults_on cpu (take i hs) + cond b 1 0
 faults_more cpu hs i x inside at b e =
     ap (faults_on cpu) (take_more hs i x inside ∙ ap (λ y. take i hs ++ y ∷ []) (sym at))

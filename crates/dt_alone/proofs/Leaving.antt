@@ -1,5 +1,6 @@
 -- What a clause that is taken leaves.
-use Rattle.std.proofs.Common.{◌≡◌, ℕ, ℤ, pos, ◌+◌, ◌<◌, Bool, true, false, cond, List, [], ◌∷◌, ◌++◌, length, get_or, map, take, drop, Option, Some, None, refl, sym, ap, ◌∙◌}
+use Rattle.std.proofs.Common.{◌≡◌, ℕ, ℤ, pos, ◌+◌, ◌<◌, Bool, true, false, cond, List, [], ◌∷◌, ◌++◌, length, get_or}
+use Rattle.std.proofs.Common.{map, take, drop, Option, Some, None, refl, sym, ap, ◌∙◌}
 use Rattle.std.specs.List.{flat_map}
 use Rattle.std.specs.Option.{is_some, option_and_then, option_map, option_to_list}
 use Rattle.std.proofs.lemmas.List.{append-nil, get_or-drop, length-map, map-append, take_more}
@@ -83,7 +84,8 @@ module _ (shapes : List ShapeForm) (in_end : Bool) (m : MomentForm) (clauses : L
       (clause_found clauses ecb.clause clause inside at)
 
   -- what it gave
-  pub left_given : (form : TakenForm) → taking ecb.epid (scene_at m ecb.epid) (form_of_clause clause) ≡ Some (Some form)
+  pub left_given : (form : TakenForm) → taking ecb.epid (scene_at m ecb.epid) (form_of_clause clause)
+      ≡ Some (Some form)
       → split_by (uses_by shapes (form_of_clause clause).statements) form.values
       ≡ contributions_of shapes (taking_by in_end m (map form_of_clause clauses) ecb)
   left_given form came =

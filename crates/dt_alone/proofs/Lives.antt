@@ -1,6 +1,8 @@
--- The life and the replies that entries tell are those of the view that they tell: entries agree where they are legal and
+-- The life and the replies that entries tell are those of the view that they tell: entries agree where they are legal
+-- and
 -- have the replies of that view.
-use Rattle.std.proofs.Common.{◌≡◌, ℕ, ◌↔◌, List, [], ◌∷◌, ◌++◌, length, map, reverse, append_assoc, refl, sym, ap, ◌∙◌, subst, inl, ⊎_elim, arith, length-append}
+use Rattle.std.proofs.Common.{◌≡◌, ℕ, ◌↔◌, List, [], ◌∷◌, ◌++◌, length, map, reverse, append_assoc, refl, sym, ap, ◌∙◌}
+use Rattle.std.proofs.Common.{subst, inl, ⊎_elim, arith, length-append}
 use Rattle.std.specs.List.{flat_map}
 use Rattle.std.proofs.lemmas.List.{append-nil, map-append, reverse-append}
 use Rattle.dt_cred.specs.declared.account.Account.{Account}
@@ -49,7 +51,8 @@ module _ (account : Account) (contents : Contents) where
 
   -- a view has one life
   after_same : (before : List Item) (firing : Firing) (a b : List Item)
-      → IsAfterFiring account contents.registry before firing a → IsAfterFiring account contents.registry before firing b
+      → IsAfterFiring account contents.registry before firing a
+      → IsAfterFiring account contents.registry before firing b
       → a ≡ b
   after_same before firing a b h k =
       ⊎_elim

@@ -1,5 +1,6 @@
 -- A runner after a command.
-use Rattle.std.proofs.Common.{◌≡◌, ℕ, ◌+◌, ◌-◌, ◌<◌, ◌==◌, ◌&&◌, Bool, true, false, not, cond, List, [], ◌∷◌, ◌++◌, length, map, Option, Some, None, Ok, refl, sym, ap, ◌∙◌, subst, ⊎_elim, arith}
+use Rattle.std.proofs.Common.{◌≡◌, ℕ, ◌+◌, ◌-◌, ◌<◌, ◌==◌, ◌&&◌, Bool, true, false, not, cond, List, [], ◌∷◌, ◌++◌}
+use Rattle.std.proofs.Common.{length, map, Option, Some, None, Ok, refl, sym, ap, ◌∙◌, subst, ⊎_elim, arith}
 use Rattle.std.specs.List.{All, find}
 use Rattle.std.specs.Option.{IfSome, MatchOption, is_some, option_and_then, option_map}
 use Rattle.std.proofs.lemmas.Bool.{cases_Bool, ne_eqb}
@@ -36,7 +37,9 @@ use Rattle.dt_consumer.specs.Answer.{answer_of, enabled}
 use Rattle.dt_consumer.specs.Ask.{Ask, enable, go, option, snap, stop, trunc, reading_of, is_read}
 use Rattle.dt_consumer.specs.Buffers.{comes_since, past, reserve_on}
 use Rattle.dt_consumer.specs.Keeps.{AreEcbs, placed_after}
-use Rattle.dt_consumer.specs.Life.{Item, asked, SetUp, ecbs_in, end_size, happens, has_room, is_inactive, is_readable, lines, next_epid, phase, phase_of, set_up, shapes_in, since_then, with_event, with_options, with_program}
+use Rattle.dt_consumer.specs.Life.{Item, asked, SetUp, ecbs_in, end_size, happens, has_room, is_inactive, is_readable}
+use Rattle.dt_consumer.specs.Life.{lines, next_epid, phase, phase_of, set_up, shapes_in, since_then, with_event}
+use Rattle.dt_consumer.specs.Life.{with_options, with_program}
 use Rattle.dt_consumer.specs.Options.{OptionsForm, Setting, is_fill, with_setting}
 use Rattle.dt_consumer.specs.Refusal.{refused_as}
 use Rattle.dt_consumer.specs.Reply.{Accepted, known, IsVerdictOnCommand, ecb_of, refusal_of}
@@ -50,7 +53,10 @@ use Rattle.dt_consumer.specs.declared.refusal.Refusal.TheVariants as refusals
 use Rattle.dt_consumer.specs.declared.refusal.Refusal.TheVariants.{Program}
 use Rattle.dt_consumer.specs.declared.reply.Reply.{Reply}
 use Rattle.dt_consumer.specs.declared.reply.Reply.TheVariants.{Done, Enabled, Refused, Snapped}
-use Rattle.dt_consumer.proofs.DraftLemmas.{begun_by_go, destructive_refused, fault_refused, go_taken, read_by_snap, snap_taken, some_trunc, stop_taken, stopped_by, truncated_by, idle_program, idle_unset, option_refused, option_taken, program_added, program_verdict, set_by}
+use Rattle.dt_consumer.proofs.DraftLemmas.{begun_by_go, destructive_refused, fault_refused, go_taken, read_by_snap}
+use Rattle.dt_consumer.proofs.DraftLemmas.{snap_taken, some_trunc, stop_taken, stopped_by, truncated_by, idle_program}
+use Rattle.dt_consumer.proofs.DraftLemmas.{idle_unset, option_refused, option_taken, program_added, program_verdict}
+use Rattle.dt_consumer.proofs.DraftLemmas.{set_by}
 use Rattle.dt_consumer.proofs.Lists.{find-map}
 use Rattle.dt_consumer.proofs.Stands.{are_placed}
 use Rattle.dt_alone.proofs.Placing.{are_both}
@@ -208,7 +214,8 @@ module _ (account : Account) (registry : Registry) (life : List Item) (r : Runne
   own_size = ap (λ (o : OptionsForm). o.bufsize) k.has.options
 
   pub room_on : (cpu room : ℕ) → cpu ≡ 0
-      → room ≡ (set_up account registry life).options.bufsize - reserve_on account registry (set_up account registry life) 0
+      → room ≡ (set_up account registry life).options.bufsize - reserve_on account registry
+      (set_up account registry life) 0
       → room ≡ r.options.bufsize - reserve_on account registry (set_up account registry life) cpu
   room_on cpu room e is =
       is ∙ ap (λ n. n - reserve_on account registry now 0) (sym own_size)

@@ -1,5 +1,6 @@
 -- A runner, as more happens.
-use Rattle.std.proofs.Common.{◌≡◌, ℕ, ℤ, ◌+◌, ◌<◌, ◌==◌, ◌||◌, Bool, true, false, cond, List, [], ◌∷◌, ◌++◌, length, filter, map, Option, Some, None, refl, sym, ap, ◌∙◌, subst, arith}
+use Rattle.std.proofs.Common.{◌≡◌, ℕ, ℤ, ◌+◌, ◌<◌, ◌==◌, ◌||◌, Bool, true, false, cond, List, [], ◌∷◌, ◌++◌, length}
+use Rattle.std.proofs.Common.{filter, map, Option, Some, None, refl, sym, ap, ◌∙◌, subst, arith}
 use Rattle.std.specs.List.{All, list_any}
 use Rattle.std.specs.Option.{is_some, option_map, option_or, option_to_list}
 use Rattle.std.proofs.lemmas.List.{append-nil, length-map}
@@ -24,9 +25,11 @@ use Rattle.dt_alone.proofs.Bringing.{brings_one, same_brings}
 use Rattle.dt_consumer.specs.Aggregations.{aggregation_of, contributions}
 use Rattle.dt_consumer.specs.Buffers.{attempts_of, comes_by, comes_since, errors_in}
 use Rattle.dt_consumer.specs.Keeps.{AreEcbs, where_taken}
-use Rattle.dt_consumer.specs.Life.{SetUp, ecbs_in, end_by, happens, is_inactive, phase_of, seen_in, shapes_in, since_then, with_event}
+use Rattle.dt_consumer.specs.Life.{SetUp, ecbs_in, end_by, happens, is_inactive, phase_of, seen_in, shapes_in}
+use Rattle.dt_consumer.specs.Life.{since_then, with_event}
 use Rattle.dt_consumer.specs.Stores.{given_on, given_since}
-use Rattle.dt_consumer.specs.Takings.{Event, MomentForm, Taking, began, seen, read, truncated, ended, closed, faults, first_exit, is_end, moment_at, taken_at, taken_by, taken_on, taken_since}
+use Rattle.dt_consumer.specs.Takings.{Event, MomentForm, Taking, began, seen, read, truncated, ended, closed, faults}
+use Rattle.dt_consumer.specs.Takings.{first_exit, is_end, moment_at, taken_at, taken_by, taken_on, taken_since}
 use Rattle.dt_consumer.specs.declared.phase.End.{End}
 use Rattle.dt_consumer.specs.declared.phase.End.TheVariants.{Exit, History}
 use Rattle.dt_consumer.specs.declared.phase.Phase.{Phase}

@@ -1,5 +1,7 @@
 -- What a buffer shows, one record further.
-use Rattle.std.proofs.Common.{◌≡◌, ℕ, zero, suc, ◌+◌, ◌-◌, ◌<◌, ◌≤◌, ◌==◌, ◌⊎◌, ◌||◌, inl, inr, Bool, true, false, cond, List, [], ◌∷◌, ◌++◌, Option, Some, None, length, filter, take, drop, get_or, IsTrue, Bor, refl, sym, ap, ◌∙◌, subst, ⊎_elim, arith}
+use Rattle.std.proofs.Common.{◌≡◌, ℕ, zero, suc, ◌+◌, ◌-◌, ◌<◌, ◌≤◌, ◌==◌, ◌⊎◌, ◌||◌, inl, inr, Bool, true, false}
+use Rattle.std.proofs.Common.{cond, List, [], ◌∷◌, ◌++◌, Option, Some, None, length, filter, take, drop, get_or}
+use Rattle.std.proofs.Common.{IsTrue, Bor, refl, sym, ap, ◌∙◌, subst, ⊎_elim, arith}
 use Rattle.std.specs.Bool.{nat_le, nat_lt}
 use Rattle.std.proofs.Math.Bool.{beq}
 use Rattle.std.specs.Global.{Vec}
@@ -7,7 +9,8 @@ use Rattle.std.specs.List.{concat}
 use Rattle.std.specs.Option.{option_map, option_to_list}
 use Rattle.std.proofs.lemmas.Bool.{cases_lt, cases_Bool, false≢true}
 use Rattle.std.proofs.lemmas.Grind.{flat_map-append}
-use Rattle.std.proofs.lemmas.List.{append-nil, length-append, length-drop, length_push, take-append-le, take_all, take_more, drop-append-le, take-append-drop}
+use Rattle.std.proofs.lemmas.List.{append-nil, length-append, length-drop, length_push, take-append-le, take_all}
+use Rattle.std.proofs.lemmas.List.{take_more, drop-append-le, take-append-drop}
 use Rattle.dt_buffer.specs.Beginning.{IsLongestBeginning, ShowsFill, size_of}
 use Rattle.dt_buffer.specs.Choice.{ShowsSwitch, chosen_of}
 use Rattle.dt_buffer.specs.Ending.{IsLongestEnd, ShowsRing, fitting, too_long}

@@ -1,6 +1,8 @@
 -- The items or the entries so far, and one more.
-use Rattle.std.proofs.Common.{◌≡◌, ℕ, ◌+◌, ◌<◌, ◌↔◌, Bool, true, false, List, [], ◌∷◌, ◌++◌, cond, length, get_or, take, drop, map, reverse, IsTrue, refl, sym, ap, ◌∙◌, inl, inr, arith}
-use Rattle.std.proofs.lemmas.List.{drop_more, length-map, length-take-le, map-append, map_more, reverse-append, take-append-drop}
+use Rattle.std.proofs.Common.{◌≡◌, ℕ, ◌+◌, ◌<◌, ◌↔◌, Bool, true, false, List, [], ◌∷◌, ◌++◌, cond, length, get_or}
+use Rattle.std.proofs.Common.{take, drop, map, reverse, IsTrue, refl, sym, ap, ◌∙◌, inl, inr, arith}
+use Rattle.std.proofs.lemmas.List.{drop_more, length-map, length-take-le, map-append, map_more, reverse-append}
+use Rattle.std.proofs.lemmas.List.{take-append-drop}
 use Rattle.dt_cred.specs.declared.account.Account.{Account}
 use Rattle.dt_machine.specs.Registry.{Registry}
 use Rattle.dt_machine.specs.declared.firing.Firing.{Firing}

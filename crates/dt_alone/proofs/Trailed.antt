@@ -1,5 +1,6 @@
 -- The trail of a view that a machine can bring agrees.
-use Rattle.std.proofs.Common.{◌≡◌, ℕ, ◌≤◌, Bool, true, false, List, [], ◌∷◌, ◌++◌, Some, MatchBool, length, reverse, refl, sym, ap, ◌∙◌, subst, ⊎_elim}
+use Rattle.std.proofs.Common.{◌≡◌, ℕ, ◌≤◌, Bool, true, false, List, [], ◌∷◌, ◌++◌, Some, MatchBool, length, reverse}
+use Rattle.std.proofs.Common.{refl, sym, ap, ◌∙◌, subst, ⊎_elim}
 use Rattle.std.specs.List.{AllByRecursion}
 use Rattle.std.proofs.lemmas.Bool.{le-ltb}
 use Rattle.std.proofs.lemmas.List.{reverse-append}
@@ -147,7 +148,8 @@ module _ (account : Account) (contents : Contents) where
       → IsTrailOf account contents.registry view entries → Agrees account contents (reverse entries)
   trail_agrees view entries h k = let all = trailed view entries h k in all.agrees
 
-pub text_agrees : (contents : Contents) (name : List ℕ) (account : Account) (view : List Reached) (entries : List Entry)
+pub text_agrees : (contents : Contents) (name : List ℕ) (account : Account) (view : List Reached)
+    (entries : List Entry)
     (text : List ℕ) → session_account contents.registry name ≡ Some account → IsBrought contents view
     → IsTrailOf account contents.registry view entries → SpellsTrail text name entries
     → IsVerdictOn contents text (Agree (replies_in entries))

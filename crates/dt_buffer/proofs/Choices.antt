@@ -1,5 +1,6 @@
 -- Records that are attempted have one choice, and so a switch buffer shows one thing of them.
-use Rattle.std.proofs.Common.{◌≡◌, ℕ, zero, suc, ◌+◌, ◌<◌, ◌≤◌, ◌↔◌, Bool, true, false, List, [], ◌∷◌, ◌++◌, length, get_or, take, ◌-◌, refl, sym, ap, ◌∙◌, subst, ⊎_elim, IsTrue, arith}
+use Rattle.std.proofs.Common.{◌≡◌, ℕ, zero, suc, ◌+◌, ◌<◌, ◌≤◌, ◌↔◌, Bool, true, false, List, [], ◌∷◌, ◌++◌, length}
+use Rattle.std.proofs.Common.{get_or, take, ◌-◌, refl, sym, ap, ◌∙◌, subst, ⊎_elim, IsTrue, arith}
 use Rattle.std.proofs.Math.Seq.{take-suc}
 use Rattle.std.proofs.lemmas.Bool.{cases_lt, false≢true}
 use Rattle.std.proofs.lemmas.List.{append_assoc, append-nil, take_all}
@@ -82,7 +83,8 @@ some_switch size attempts =
 
 -- a record is kept exactly where it fits
 module _ (size : ℕ) (attempts : List (List ℕ)) (bytes : List ℕ) (drops : ℕ) (attempt : List ℕ)
-    (s : ShowsSwitch size attempts bytes drops) (b : Bool) (fits : IsTrue b ↔ (length bytes + length attempt ≤ size)) where
+    (s : ShowsSwitch size attempts bytes drops) (b : Bool)
+    (fits : IsTrue b ↔ (length bytes + length attempt ≤ size)) where
   more : IsChoice size (attempts ++ attempt ∷ []) (s.chosen ++ b ∷ [])
   more =
       let P : ℕ → Type 0 = λ n. IsTrue b ↔ (n + length attempt ≤ size) in

@@ -1,5 +1,6 @@
 -- The longest end of records that fits: that there is exactly one, and one more record after room is made for it.
-use Rattle.std.proofs.Common.{◌≡◌, ℕ, zero, suc, ◌+◌, ◌-◌, ◌<◌, ◌≤◌, List, [], ◌∷◌, ◌++◌, length, drop, refl, sym, ap, ◌∙◌, ⊎_elim, arith}
+use Rattle.std.proofs.Common.{◌≡◌, ℕ, zero, suc, ◌+◌, ◌-◌, ◌<◌, ◌≤◌, List, [], ◌∷◌, ◌++◌, length, drop, refl, sym, ap}
+use Rattle.std.proofs.Common.{◌∙◌, ⊎_elim, arith}
 use Rattle.std.specs.List.{concat}
 use Rattle.std.proofs.lemmas.Bool.{cases_lt}
 use Rattle.std.proofs.lemmas.List.{length-append, length-drop, length_push, drop-append-le, drop-drop, drop_at}
@@ -53,7 +54,8 @@ few_lengths ([] ∷ records) = few_lengths records
 few_lengths ((byte ∷ bytes) ∷ records) =
     omega (arith, few_lengths records, length-append bytes (concat records))
 
-pub lengths-append : (records more : List (List ℕ)) → lengths_of (records ++ more) ≡ lengths_of records ++ lengths_of more
+pub lengths-append : (records more : List (List ℕ)) → lengths_of (records ++ more) ≡ lengths_of records
+    ++ lengths_of more
 lengths-append [] more = refl
 lengths-append ([] ∷ records) more = lengths-append records more
 lengths-append ((byte ∷ bytes) ∷ records) more =

@@ -1,5 +1,6 @@
 -- One more record of a fill store, kept or not.
-use Rattle.std.proofs.Common.{◌≡◌, ℕ, ◌+◌, ◌-◌, ◌<◌, ◌≤◌, ◌⊎◌, ◌↔◌, ◌||◌, Bool, true, false, List, [], ◌∷◌, ◌++◌, length, take, refl, sym, ap, ◌∙◌, subst, inl, inr, ⊎_elim, IsTrue, arith}
+use Rattle.std.proofs.Common.{◌≡◌, ℕ, ◌+◌, ◌-◌, ◌<◌, ◌≤◌, ◌⊎◌, ◌↔◌, ◌||◌, Bool, true, false, List, [], ◌∷◌, ◌++◌}
+use Rattle.std.proofs.Common.{length, take, refl, sym, ap, ◌∙◌, subst, inl, inr, ⊎_elim, IsTrue, arith}
 use Rattle.std.specs.List.{concat}
 use Rattle.std.proofs.lemmas.Bool.{cases_lt, false≢true}
 use Rattle.std.proofs.lemmas.List.{append_assoc, append-nil, length-append, length_push, take-append-le, take_all}
@@ -69,7 +70,8 @@ module _ (size reserve : ℕ) (ordinary : List (List ℕ)) (bytes : List ℕ) (o
   ordinary_within = omega (arith, ap length kept_ordinary, h.ordinary_kept.fits)
 
   kept_all : o ≡ false → bytes ≡ concat ordinary
-  kept_all whole = kept_ordinary ∙ ap concat (take-whole ordinary h.first (all_ordinary size reserve ordinary [] bytes o e h whole))
+  kept_all whole = kept_ordinary ∙ ap concat
+      (take-whole ordinary h.first (all_ordinary size reserve ordinary [] bytes o e h whole))
 
   module _ (whole : o ≡ false) (fits : length bytes + length attempt ≤ size - reserve) where
     fits_all : size_of (ordinary ++ attempt ∷ []) ≤ size - reserve

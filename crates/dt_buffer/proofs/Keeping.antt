@@ -1,5 +1,6 @@
 -- One more attempted record under switch, kept or dropped.
-use Rattle.std.proofs.Common.{◌≡◌, ℕ, zero, suc, ◌+◌, ◌<◌, ◌≤◌, ◌↔◌, Bool, true, false, List, [], ◌∷◌, ◌++◌, length, get_or, take, refl, sym, ap, ◌∙◌, subst, ⊎_elim, IsTrue, arith}
+use Rattle.std.proofs.Common.{◌≡◌, ℕ, zero, suc, ◌+◌, ◌<◌, ◌≤◌, ◌↔◌, Bool, true, false, List, [], ◌∷◌, ◌++◌, length}
+use Rattle.std.proofs.Common.{get_or, take, refl, sym, ap, ◌∙◌, subst, ⊎_elim, IsTrue, arith}
 use Rattle.std.specs.List.{concat}
 use Rattle.std.proofs.lemmas.Bool.{cases_eq, false≢true}
 use Rattle.std.proofs.lemmas.List.{append_assoc, append-nil, take-append-le, take_all, length_push}
@@ -97,7 +98,8 @@ module _ (size : ℕ) (attempts : List (List ℕ)) (bytes : List ℕ) (drops : �
       → chosen_of (attempts ++ attempt ∷ []) (s.chosen ++ b ∷ []) ≡ chosen_of attempts s.chosen ++ one_of attempt b
   grown b = chosen_of-push attempts s.chosen attempt b s.choice.whole
 
-  pub switch_kept : length bytes + length attempt ≤ size → ShowsSwitch size (attempts ++ attempt ∷ []) (bytes ++ attempt) drops
+  pub switch_kept : length bytes + length attempt ≤ size
+      → ShowsSwitch size (attempts ++ attempt ∷ []) (bytes ++ attempt) drops
   switch_kept fits = record {
     chosen = s.chosen ++ true ∷ [];
     choice = choice_more size attempts s.chosen attempt true s.choice
@@ -113,7 +115,8 @@ module _ (size : ℕ) (attempts : List (List ℕ)) (bytes : List ℕ) (drops : �
     );
   }
 
-  pub switch_dropped : size < length bytes + length attempt → ShowsSwitch size (attempts ++ attempt ∷ []) bytes (drops + 1)
+  pub switch_dropped : size < length bytes + length attempt
+      → ShowsSwitch size (attempts ++ attempt ∷ []) bytes (drops + 1)
   switch_dropped over = record {
     chosen = s.chosen ++ false ∷ [];
     choice = choice_more size attempts s.chosen attempt false s.choice

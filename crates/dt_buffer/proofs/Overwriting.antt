@@ -1,11 +1,13 @@
 -- One more record of a ring store: room is made and the record kept, or it is too long.
-use Rattle.std.proofs.Common.{◌≡◌, ℕ, ◌+◌, ◌-◌, ◌<◌, ◌≤◌, Bool, true, false, List, [], ◌∷◌, ◌++◌, length, drop, filter, nat_le, nat_lt, slice_get, Some, None, refl, sym, ap, ◌∙◌, subst, ⊎_elim, arith}
+use Rattle.std.proofs.Common.{◌≡◌, ℕ, ◌+◌, ◌-◌, ◌<◌, ◌≤◌, Bool, true, false, List, [], ◌∷◌, ◌++◌, length, drop, filter}
+use Rattle.std.proofs.Common.{nat_le, nat_lt, slice_get, Some, None, refl, sym, ap, ◌∙◌, subst, ⊎_elim, arith}
 use Rattle.std.specs.List.{concat}
 use Rattle.std.proofs.lemmas.Bool.{cases_lt, le-leb, lt-leb, lt-ltb, le-ltb}
 use Rattle.std.proofs.lemmas.List.{append-nil, length-append, length_push, drop_all, drop_at}
 use Rattle.std.proofs.lemmas.List.Elements.{filter-append}
 use Rattle.circular_buffer.specs.Buffer.{Buffer, buffer, keep_last}
-use Rattle.dt_buffer.proofs.Endings.{ends_more, kept_more, lengths_more, some_ends, room_more, room_all, lengths_within}
+use Rattle.dt_buffer.proofs.Endings.{ends_more, kept_more, lengths_more, some_ends, room_more, room_all}
+use Rattle.dt_buffer.proofs.Endings.{lengths_within}
 use Rattle.dt_buffer.specs.Beginning.{size_of}
 use Rattle.dt_buffer.specs.Ending.{IsLongestEnd, KeepsRing, fitting, too_long, lengths_of}
 use Rattle.dt_buffer.specs.Stores.{MakesRoom, RingIsAt}
@@ -19,7 +21,8 @@ filter_no : (p : List ℕ → Bool) (bytes : List ℕ) → p bytes ≡ false →
 filter_no p bytes e = rw e refl
 
 module _ (size : ℕ) (attempts : List (List ℕ)) (attempt : List ℕ) where
-  fitting_more : length attempt ≤ size → fitting size (attempts ++ attempt ∷ []) ≡ fitting size attempts ++ attempt ∷ []
+  fitting_more : length attempt ≤ size → fitting size (attempts ++ attempt ∷ []) ≡ fitting size attempts
+      ++ attempt ∷ []
   fitting_more short =
       filter-append (λ bytes. nat_le (length bytes) size) attempts (attempt ∷ [])
       ∙ ap (λ xs. fitting size attempts ++ xs)
@@ -32,7 +35,8 @@ module _ (size : ℕ) (attempts : List (List ℕ)) (attempt : List ℕ) where
       (filter_no (λ bytes. nat_le (length bytes) size) attempt (lt-leb (length attempt) size over))
       ∙ append-nil (fitting size attempts)
 
-  too_long_more : size < length attempt → too_long size (attempts ++ attempt ∷ []) ≡ too_long size attempts ++ attempt ∷ []
+  too_long_more : size < length attempt → too_long size (attempts ++ attempt ∷ []) ≡ too_long size attempts
+      ++ attempt ∷ []
   too_long_more over =
       filter-append (λ bytes. nat_lt size (length bytes)) attempts (attempt ∷ [])
       ∙ ap (λ xs. too_long size attempts ++ xs)
@@ -179,41 +183,43 @@ module _ (size : ℕ) (attempts : List (List ℕ)) (attempt : List ℕ) (old mid
     → length mid.bytes.items + length attempt ≤ old.bytes.capacity)
     (same_room : mid.bytes.capacity ≡ old.bytes.capacity) (same_places : mid.lengths.capacity ≡ old.lengths.capacity)
     (counted : new.drops ≡ old.drops)
-    (extended : new.bytes ≡ buffer (keep_last mid.bytes.capacity (mid.bytes.items ++ attempt)) mid.bytes.capacity) where
-  at_capacity : RingIsAt old.bytes.capacity attempts old
-  at_capacity = let P : ℕ → Type 0 = λ n. RingIsAt n attempts old in subst P (sym s.room) s
+    (extended : new.bytes ≡ buffer (keep_last mid.bytes.capacity (mid.bytes.items ++ attempt)) mid.bytes.capacity)
+  where
+    at_capacity : RingIsAt old.bytes.capacity attempts old
+    at_capacity = let P : ℕ → Type 0 = λ n. RingIsAt n attempts old in subst P (sym s.room) s
 
-  stored : new.bytes.items ≡ mid.bytes.items ++ attempt
-  stored = ap (λ (b : Buffer ℕ). b.items) extended
-      ∙ keep_all mid.bytes.capacity (mid.bytes.items ++ attempt)
-      (omega (arith, length-append mid.bytes.items attempt, room attempts at_capacity))
+    stored : new.bytes.items ≡ mid.bytes.items ++ attempt
+    stored = ap (λ (b : Buffer ℕ). b.items) extended
+        ∙ keep_all mid.bytes.capacity (mid.bytes.items ++ attempt)
+        (omega (arith, length-append mid.bytes.items attempt, room attempts at_capacity))
 
-  put_with : new.lengths.capacity ≡ mid.lengths.capacity
-      → new.lengths.items ≡ mid.lengths.items ++ lengths_of (attempt ∷ []) → RingIsAt size (attempts ++ attempt ∷ []) new
-  put_with places long =
-      let P : ℕ → Type 0 = λ n. RingIsAt n (attempts ++ attempt ∷ []) new in
-      subst P s.room
-      (ring_taken old.bytes.capacity attempts attempt old new at_capacity mid.bytes.items mid.lengths.items
-      (makes attempts at_capacity) (room attempts at_capacity)
-      (ap (λ (b : Buffer ℕ). b.capacity) extended ∙ same_room)
-      (places ∙ same_places ∙ at_capacity.places) stored long counted)
+    put_with : new.lengths.capacity ≡ mid.lengths.capacity
+        → new.lengths.items ≡ mid.lengths.items ++ lengths_of (attempt ∷ [])
+        → RingIsAt size (attempts ++ attempt ∷ []) new
+    put_with places long =
+        let P : ℕ → Type 0 = λ n. RingIsAt n (attempts ++ attempt ∷ []) new in
+        subst P s.room
+        (ring_taken old.bytes.capacity attempts attempt old new at_capacity mid.bytes.items mid.lengths.items
+        (makes attempts at_capacity) (room attempts at_capacity)
+        (ap (λ (b : Buffer ℕ). b.capacity) extended ∙ same_room)
+        (places ∙ same_places ∙ at_capacity.places) stored long counted)
 
-  -- a record with bytes has its length noted
-  pub ring_put_some : 0 < length attempt
-      → new.lengths ≡ buffer (keep_last mid.lengths.capacity (mid.lengths.items ++ length attempt ∷ []))
-      mid.lengths.capacity
-      → RingIsAt size (attempts ++ attempt ∷ []) new
-  ring_put_some some noted =
-      let few = room_places old.bytes.capacity (fitting old.bytes.capacity attempts) (length attempt) mid.bytes.items
-      mid.lengths.items (makes attempts at_capacity) (room attempts at_capacity) some in
-      put_with (ap (λ (b : Buffer ℕ). b.capacity) noted)
-      (ap (λ (b : Buffer ℕ). b.items) noted
-      ∙ keep_all mid.lengths.capacity (mid.lengths.items ++ length attempt ∷ [])
-      (omega (arith, length_push mid.lengths.items (length attempt), same_places, at_capacity.places))
-      ∙ ap (λ xs. mid.lengths.items ++ xs) (sym (lengths_one attempt some)))
+    -- a record with bytes has its length noted
+    pub ring_put_some : 0 < length attempt
+        → new.lengths ≡ buffer (keep_last mid.lengths.capacity (mid.lengths.items ++ length attempt ∷ []))
+        mid.lengths.capacity
+        → RingIsAt size (attempts ++ attempt ∷ []) new
+    ring_put_some some noted =
+        let few = room_places old.bytes.capacity (fitting old.bytes.capacity attempts) (length attempt) mid.bytes.items
+        mid.lengths.items (makes attempts at_capacity) (room attempts at_capacity) some in
+        put_with (ap (λ (b : Buffer ℕ). b.capacity) noted)
+        (ap (λ (b : Buffer ℕ). b.items) noted
+        ∙ keep_all mid.lengths.capacity (mid.lengths.items ++ length attempt ∷ [])
+        (omega (arith, length_push mid.lengths.items (length attempt), same_places, at_capacity.places))
+        ∙ ap (λ xs. mid.lengths.items ++ xs) (sym (lengths_one attempt some)))
 
-  pub ring_put_empty : length attempt ≡ 0 → new.lengths ≡ mid.lengths → RingIsAt size (attempts ++ attempt ∷ []) new
-  ring_put_empty none same =
-      put_with (ap (λ (b : Buffer ℕ). b.capacity) same)
-      (ap (λ (b : Buffer ℕ). b.items) same ∙ sym (append-nil mid.lengths.items)
-      ∙ ap (λ xs. mid.lengths.items ++ xs) (sym (lengths_nil attempt none)))
+    pub ring_put_empty : length attempt ≡ 0 → new.lengths ≡ mid.lengths → RingIsAt size (attempts ++ attempt ∷ []) new
+    ring_put_empty none same =
+        put_with (ap (λ (b : Buffer ℕ). b.capacity) same)
+        (ap (λ (b : Buffer ℕ). b.items) same ∙ sym (append-nil mid.lengths.items)
+        ∙ ap (λ xs. mid.lengths.items ++ xs) (sym (lengths_nil attempt none)))

@@ -1,5 +1,6 @@
 -- A buffer at the end of a past: what it shows, and one event more.
-use Rattle.std.proofs.Common.{◌≡◌, ℕ, ◌+◌, ◌≤◌, ◌⊎◌, ◌↔◌, ◌||◌, Bool, true, false, List, [], ◌∷◌, ◌++◌, length, refl, sym, ◌∙◌, subst, inl, inr, IsTrue, if◌then◌else◌, Result, Ok, Err, IfOk}
+use Rattle.std.proofs.Common.{◌≡◌, ℕ, ◌+◌, ◌≤◌, ◌⊎◌, ◌↔◌, ◌||◌, Bool, true, false, List, [], ◌∷◌, ◌++◌, length, refl}
+use Rattle.std.proofs.Common.{sym, ◌∙◌, subst, inl, inr, IsTrue, if◌then◌else◌, Result, Ok, Err, IfOk}
 use Rattle.std.proofs.lemmas.Bool.{false≢true}
 use Rattle.std.proofs.lemmas.List.{append-nil}
 use Rattle.dt_buffer.proofs.Choices.{keeps_switch}
@@ -13,7 +14,8 @@ use Rattle.dt_buffer.specs.Shows.{Shows, ShownBy, KeptBy, Answers, EndLast, unke
 use Rattle.dt_buffer.specs.Stores.{SwitchIsAt, FillIsAt, RingIsAt}
 use Rattle.dt_buffer.specs.declared.fill.FillStore.{FillStore}
 use Rattle.dt_buffer.specs.declared.policy.Policy.{Policy}
-use Rattle.dt_buffer.specs.declared.policy.Policy.TheVariants.{Switch as SwitchPolicy, Fill as FillPolicy, Ring as RingPolicy}
+use Rattle.dt_buffer.specs.declared.policy.Policy.TheVariants.{Switch as SwitchPolicy, Fill as FillPolicy}
+use Rattle.dt_buffer.specs.declared.policy.Policy.TheVariants.{Ring as RingPolicy}
 use Rattle.dt_buffer.specs.declared.policy.Put.{Put}
 use Rattle.dt_buffer.specs.declared.policy.Put.TheVariants.{Kept, Dropped, Filled}
 use Rattle.dt_buffer.specs.declared.principal.Store.{Store}
@@ -23,7 +25,8 @@ use Rattle.dt_buffer.specs.declared.switch.SwitchStore.{SwitchStore}
 
 -- what a store shows
 module _ (past : Past) where
-  pub switch_shown : (store : SwitchStore) → StoreIsAt past (Switch store) → Shows past store.kept.items store.drops false
+  pub switch_shown : (store : SwitchStore) → StoreIsAt past (Switch store)
+      → Shows past store.kept.items store.drops false
   switch_shown store s =
       let P : Policy → Type 0 = λ p. ShownBy past p store.kept.items store.drops false in
       subst P (sym s.0) (s.1.shows, refl)

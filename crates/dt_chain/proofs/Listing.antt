@@ -1,5 +1,6 @@
 -- Whom lists have after one of them was changed for one seat.
-use Rattle.std.proofs.Common.{◌≡◌, ◌≢◌, ◌↔◌, ℕ, ◌<◌, ◌≤◌, Bool, false, IsTrue, cond, eqb, List, Some, length, ap, sym, ◌∙◌, arith, ⊎_elim, set, get_or, subst, refl, zero, suc, [], ◌∷◌, ◌++◌, replicate}
+use Rattle.std.proofs.Common.{◌≡◌, ◌≢◌, ◌↔◌, ℕ, ◌<◌, ◌≤◌, Bool, false, IsTrue, cond, eqb, List, Some, length, ap, sym}
+use Rattle.std.proofs.Common.{◌∙◌, arith, ⊎_elim, set, get_or, subst, refl, zero, suc, [], ◌∷◌, ◌++◌, replicate}
 use Rattle.std.proofs.lemmas.Bool.{cases_eq, eq-eqb, ne_eqb}
 use Rattle.std.proofs.lemmas.Grind.{common_steps}
 use Rattle.std.proofs.lemmas.Option.{gets, slice_get-get_or, slice_get_past}

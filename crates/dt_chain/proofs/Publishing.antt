@@ -1,5 +1,6 @@
 -- What is kept of a seat's entry, and who is listed, after a publication.
-use Rattle.std.proofs.Common.{◌≡◌, ◌≢◌, ◌↔◌, ℕ, ◌<◌, Bool, true, false, IsTrue, cond, eqb, List, Option, Some, None, length, ap, sym, ◌∙◌, refl, subst, ⊎_elim, set, get_or}
+use Rattle.std.proofs.Common.{◌≡◌, ◌≢◌, ◌↔◌, ℕ, ◌<◌, Bool, true, false, IsTrue, cond, eqb, List, Option, Some, None}
+use Rattle.std.proofs.Common.{length, ap, sym, ◌∙◌, refl, subst, ⊎_elim, set, get_or}
 use Rattle.std.proofs.lemmas.Bool.{cases_eq, eq-eqb, ne_eqb}
 use Rattle.std.proofs.lemmas.List.{get_or-set_same, get_or-set_other}
 use Rattle.std.specs.Option.{option_map, IsSomeAnd}

@@ -1,5 +1,6 @@
 -- What takings bring to a processor's buffer.
-use Rattle.std.proofs.Common.{◌≡◌, ℕ, suc, ◌+◌, ◌<◌, ◌≤◌, get_or, take, drop, true, false, List, [], ◌∷◌, ◌++◌, length, Option, Some, None, map, refl, sym, ap, ◌∙◌, subst, arith}
+use Rattle.std.proofs.Common.{◌≡◌, ℕ, suc, ◌+◌, ◌<◌, ◌≤◌, get_or, take, drop, true, false, List, [], ◌∷◌, ◌++◌, length}
+use Rattle.std.proofs.Common.{Option, Some, None, map, refl, sym, ap, ◌∙◌, subst, arith}
 use Rattle.std.specs.Option.{is_some, option_map, option_to_list}
 use Rattle.std.proofs.lemmas.List.{append-nil, append_assoc, take_all}
 use Rattle.std.proofs.lemmas.Grind.{flat_map-append}
@@ -88,7 +89,8 @@ pub took_more : (f : Ecb → Taking) (row : List Ecb) (i : ℕ) (ecb : Ecb) (pas
     → HasTaken (followed_by past (attempts_of (map f (take (i + 1) row))))
     (errors + faults (map f (take (i + 1) row))) p
 took_more f row i ecb past errors p inside is h =
-    subst (λ xs. HasTaken (followed_by past (attempts_of xs)) (errors + faults xs) p) (sym (row_more f row i ecb inside is))
+    subst (λ xs. HasTaken (followed_by past (attempts_of xs)) (errors + faults xs) p)
+    (sym (row_more f row i ecb inside is))
     (has_more past errors (map f (take i row)) (f ecb ∷ []) p h)
 
 -- all were
@@ -102,7 +104,8 @@ took_all f row i past errors p beyond h =
 
 -- the last of the takings up to an exit
 pub took_exit : (f : Ecb → Taking) (row : List Ecb) (i : ℕ) (ecb : Ecb) (past : Past) (errors : ℕ) (p : Processor)
-    → i < length row → ecb ≡ get_or row i ecb → first_exit (map f (take i row)) ≡ None → is_some (exit_of (f ecb)) ≡ true
+    → i < length row → ecb ≡ get_or row i ecb → first_exit (map f (take i row)) ≡ None
+    → is_some (exit_of (f ecb)) ≡ true
     → HasTaken
     (followed_by (followed_by past (attempts_of (map f (take i row)))) (attempts_of (f ecb ∷ [])))
     ((errors + faults (map f (take i row))) + faults (f ecb ∷ [])) p

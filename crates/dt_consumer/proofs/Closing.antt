@@ -1,5 +1,6 @@
 -- A consumer that is closed.
-use Rattle.std.proofs.Common.{◌≡◌, ℕ, suc, Bool, true, false, List, ◌∷◌, Option, Some, None, Ok, refl, sym, ap, ◌∙◌, subst}
+use Rattle.std.proofs.Common.{◌≡◌, ℕ, suc, Bool, true, false, List, ◌∷◌, Option, Some, None, Ok, refl, sym, ap, ◌∙◌}
+use Rattle.std.proofs.Common.{subst}
 use Rattle.std.specs.Option.{MatchOption}
 use Rattle.dt_cred.specs.declared.account.Account.{Account}
 use Rattle.dt_machine.specs.Registry.{Registry}
@@ -55,7 +56,8 @@ module _ (account : Account) (registry : Registry) (consumer : Consumer) (life :
           → StandsFor account registry (record consumer { closed = true; lines = n }) (asked (Ok close) ∷ life)
       by_flag true e =
           let stopped = ap is_stopped (never.standing ∙ ap phase_untraced e) in
-          stands_changed account registry consumer life s (Ok close) _ own (closed_by account registry life true stopped)
+          stands_changed account registry consumer life s (Ok close) _ own
+          (closed_by account registry life true stopped)
           counts
           (record {
             same_account = s.keeps.same_account;

@@ -1,5 +1,6 @@
 -- What drafts say, case by case.
-use Rattle.std.proofs.Common.{◌≡◌, ℕ, ◌<◌, ◌≤◌, ◌&&◌, ◌||◌, not, Bool, true, false, cond, List, [], ◌∷◌, Option, Some, None, Result, Ok, refl, sym, ap, ◌∙◌, subst}
+use Rattle.std.proofs.Common.{◌≡◌, ℕ, ◌<◌, ◌≤◌, ◌&&◌, ◌||◌, not, Bool, true, false, cond, List, [], ◌∷◌, Option, Some}
+use Rattle.std.proofs.Common.{None, Result, Ok, refl, sym, ap, ◌∙◌, subst}
 use Rattle.dt_aggstore.specs.declared.key.Aggregation.{Aggregation}
 use Rattle.dt_aggstore.specs.TableOf.{table_of}
 use Rattle.dt_consumer.specs.Stores.{stores_in}
@@ -19,9 +20,12 @@ use Rattle.dt_ecb.specs.Enable.{Verdict, IsVerdict, is_enabled}
 use Rattle.dt_consumer.specs.Answer.{Answer, described, refused, answer_of, aggregated}
 use Rattle.dt_consumer.specs.Ask.{Ask, option, enable, go, stop, snap, describe, agg, trunc, close}
 use Rattle.dt_consumer.specs.Draft.{Drafted, IsDraftOf, is_close}
-use Rattle.dt_consumer.specs.Life.{Item, asked, SetUp, is_active, is_over, is_inactive, is_stopped, is_readable, set_up, phase, phase_of, next_epid, since_then, happens, has_room, with_program, with_options, with_event, shapes_in}
+use Rattle.dt_consumer.specs.Life.{Item, asked, SetUp, is_active, is_over, is_inactive, is_stopped, is_readable}
+use Rattle.dt_consumer.specs.Life.{set_up, phase, phase_of, next_epid, since_then, happens, has_room, with_program}
+use Rattle.dt_consumer.specs.Life.{with_options, with_event, shapes_in}
 use Rattle.dt_consumer.specs.Options.{Setting, with_setting}
-use Rattle.dt_consumer.specs.Reply.{Replies, RepliesInQuota, IsVerdictOnCommand, Accepted, is_asked_late, ecb_of, refusal_of, known}
+use Rattle.dt_consumer.specs.Reply.{Replies, RepliesInQuota, IsVerdictOnCommand, Accepted, is_asked_late, ecb_of}
+use Rattle.dt_consumer.specs.Reply.{refusal_of, known}
 use Rattle.dt_consumer.specs.Takings.{began, ended, read, truncated, closed}
 use Rattle.dt_consumer.specs.declared.draft.Change.TheVariants.{Nothing}
 use Rattle.dt_consumer.specs.declared.draft.Draft.{Draft}
@@ -141,7 +145,8 @@ module _ (account : Account) (registry : Registry) (life : List Item) where
 
   -- a program's verdict is the command's
   pub program_verdict : (clauses : List ClauseForm) (v : Verdict) → phase account registry life ≡ Inactive
-      → IsVerdict account registry (shapes_in (set_up account registry life)) (next_epid account registry now) clauses v
+      → IsVerdict account registry (shapes_in (set_up account registry life))
+      (next_epid account registry now) clauses v
       → IsVerdictOnCommand account registry life (enable (program clauses)) (refusal_of v)
   program_verdict clauses v off is =
       let P : Bool → Type 0 = λ b. MatchBool b (refusal_of v ≡ Some Busy)
@@ -317,7 +322,8 @@ module _ (account : Account) (registry : Registry) (life : List Item) where
       → is_readable (set_up account registry life) (phase account registry life) ≡ true
       → set_up account registry (asked (Ok (snap n)) ∷ life) ≡ with_event (set_up account registry life) (read n)
   read_by_snap n inside on =
-      ap (λ b. cond (b && is_readable now (phase_of now)) (with_event now (read n)) now) (lt-ltb n registry.cpus inside)
+      ap (λ b. cond (b && is_readable now (phase_of now)) (with_event now (read n)) now)
+      (lt-ltb n registry.cpus inside)
       ∙ ap (λ b. cond b (with_event now (read n)) now) on
 
   -- `agg` and `trunc`

@@ -1,5 +1,6 @@
 -- The drafts of commands that change more than the count.
-use Rattle.std.proofs.Common.{◌≡◌, ℕ, ◌+◌, ◌<◌, Bool, true, false, List, [], ◌++◌, Option, Some, None, Ok, length, map, refl, sym, ap, ◌∙◌, subst, ⊎_elim, arith}
+use Rattle.std.proofs.Common.{◌≡◌, ℕ, ◌+◌, ◌<◌, Bool, true, false, List, [], ◌++◌, Option, Some, None, Ok, length, map}
+use Rattle.std.proofs.Common.{refl, sym, ap, ◌∙◌, subst, ⊎_elim, arith}
 use Rattle.std.specs.Global.{Vec}
 use Rattle.std.specs.Option.{IfSome, option_and_then}
 use Rattle.std.proofs.lemmas.Bool.{cases_Bool}
@@ -27,7 +28,8 @@ use Rattle.dt_consumer.specs.Ask.{option, enable, go, stop, snap, close, reading
 use Rattle.dt_consumer.specs.Buffers.{past}
 use Rattle.dt_consumer.specs.Draft.{IsDraftOf}
 use Rattle.dt_consumer.specs.Keeps.{AreEcbs, IsTracing, Keeps, form_of_options}
-use Rattle.dt_consumer.specs.Life.{Item, SetUp, is_over, is_readable, set_up, phase, next_epid, has_room, happens, since_then, with_options, shapes_in}
+use Rattle.dt_consumer.specs.Life.{Item, SetUp, is_over, is_readable, set_up, phase, next_epid, has_room, happens}
+use Rattle.dt_consumer.specs.Life.{since_then, with_options, shapes_in}
 use Rattle.dt_consumer.specs.Options.{Setting, with_setting}
 use Rattle.dt_consumer.specs.Refusal.{refused_as}
 use Rattle.dt_consumer.specs.Reply.{Accepted, IsVerdictOnCommand, refusal_of}
@@ -43,7 +45,9 @@ use Rattle.dt_consumer.specs.declared.refusal.Refusal.TheVariants.{Program}
 use Rattle.dt_consumer.specs.declared.reply.Reply.{Reply}
 use Rattle.dt_consumer.specs.declared.reply.Reply.TheVariants.{Done, Enabled, Refused}
 use Rattle.dt_consumer.specs.declared.tracing.Tracing.{Tracing}
-use Rattle.dt_consumer.proofs.DraftLemmas.{in_quota, accepted_reply, refused_by, fault_refused, destructive_refused, program_verdict, idle_program, go_taken, snap_taken, option_taken, set_by, stop_taken}
+use Rattle.dt_consumer.proofs.DraftLemmas.{in_quota, accepted_reply, refused_by, fault_refused, destructive_refused}
+use Rattle.dt_consumer.proofs.DraftLemmas.{program_verdict, idle_program, go_taken, snap_taken, option_taken, set_by}
+use Rattle.dt_consumer.proofs.DraftLemmas.{stop_taken}
 
 -- what a buffer tells of its past, in three parts
 pub shown_all : ((past : Past) (bytes other : List ℕ) (drops count : ℕ) (filled full : Bool)
@@ -124,7 +128,8 @@ module _ (account : Account) (registry : Registry) (life : List Item) where
       (record { reply = Enabled count first; change = Enable clauses ecbs shapes })
   program_draft count first clauses ecbs shapes fresh off is holds are counts shaped =
       let forms = map form_of_clause clauses.items in
-      let H : ℕ → Type 0 = λ n. is_enabled account registry (shapes_in now) n (map form_of_clause clauses.items) ≡ true in
+      let H : ℕ → Type 0 = λ n. is_enabled account registry (shapes_in now) n (map form_of_clause clauses.items)
+      ≡ true in
       let A : ℕ → Type 0 = λ n. AreEcbs (now.clauses ++ map form_of_clause clauses.items)
       (added account registry n (map form_of_clause clauses.items)) ecbs.items in
       let allowed = subst H is holds in

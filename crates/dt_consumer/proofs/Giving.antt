@@ -1,5 +1,6 @@
 -- What a consumer's clauses give to its aggregations.
-use Rattle.std.proofs.Common.{◌≡◌, ℕ, ℤ, pos, zero, suc, ◌+◌, ◌<◌, ◌≤◌, get_or, take, drop, true, false, Bool, cond, List, [], ◌∷◌, ◌++◌, length, Option, Some, None, map, refl, sym, ap, ◌∙◌, subst, arith}
+use Rattle.std.proofs.Common.{◌≡◌, ℕ, ℤ, pos, zero, suc, ◌+◌, ◌<◌, ◌≤◌, get_or, take, drop, true, false, Bool, cond}
+use Rattle.std.proofs.Common.{List, [], ◌∷◌, ◌++◌, length, Option, Some, None, map, refl, sym, ap, ◌∙◌, subst, arith}
 use Rattle.std.specs.List.{flat_map}
 use Rattle.std.specs.Option.{is_some, option_and_then, option_map, option_to_list}
 use Rattle.std.proofs.lemmas.List.{append-nil, get_or-drop, append_assoc, take_all, take_more, map-append, length-map}
@@ -15,13 +16,17 @@ use Rattle.dt_expr.specs.Scene.{SceneForm}
 use Rattle.dt_expr.specs.declared.text.Value.{Value}
 use Rattle.dt_expr.specs.declared.text.Value.TheVariants as val
 use Rattle.dt_expr.specs.Operators.{holds}
-use Rattle.dt_lang.specs.Program.{ArgForm, CallForm, ClauseForm, StatementForm, trace, stack, ustack, exit, aggregate, form_of_clause}
+use Rattle.dt_lang.specs.Program.{ArgForm, CallForm, ClauseForm, StatementForm, trace, stack, ustack, exit, aggregate}
+use Rattle.dt_lang.specs.Program.{form_of_clause}
 use Rattle.dt_lang.specs.declared.program.Clause.{Clause}
-use Rattle.dt_record.specs.Taking.{Effect, records, gives, exits, argument_value, contributed, each, effect, frames_bytes, given, predicate_value, taken_of, TakenForm, taking}
-use Rattle.dt_consumer.specs.Aggregations.{aggregation_of, contributions, contributions_of, given_by, number_of, part_of}
+use Rattle.dt_record.specs.Taking.{Effect, records, gives, exits, argument_value, contributed, each, effect}
+use Rattle.dt_record.specs.Taking.{frames_bytes, given, predicate_value, taken_of, TakenForm, taking}
+use Rattle.dt_consumer.specs.Aggregations.{aggregation_of, contributions, contributions_of, given_by, number_of}
+use Rattle.dt_consumer.specs.Aggregations.{part_of}
 use Rattle.dt_consumer.specs.Takings.{Taking, MomentForm, exit_of, first_exit, scene_at, taking_of, through_exit}
 use Rattle.dt_consumer.specs.Keeps.{taking_by}
-use Rattle.dt_consumer.specs.Uses.{UseForm, AreUses, contribution_at, form_of_use, form_of_uses, given_then, key_at, number_at, split_by, use_by, uses_by}
+use Rattle.dt_consumer.specs.Uses.{UseForm, AreUses, contribution_at, form_of_use, form_of_uses, given_then, key_at}
+use Rattle.dt_consumer.specs.Uses.{number_at, split_by, use_by, uses_by}
 use Rattle.dt_consumer.specs.declared.uses.Use.{Use}
 use Rattle.dt_consumer.specs.declared.uses.Uses.{Uses}
 use Rattle.dt_consumer.proofs.Takings.{clause_found, row_more, row_split, through_first, through_none}
@@ -264,7 +269,8 @@ module _ (shapes : List ShapeForm) where
 
   -- the last of the takings up to an exit
   pub gave_exit : (f : Ecb → Taking) (row : List Ecb) (i : ℕ) (ecb : Ecb) (past : store.Past) (st : AggStore)
-      → i < length row → ecb ≡ get_or row i ecb → first_exit (map f (take i row)) ≡ None → is_some (exit_of (f ecb)) ≡ true
+      → i < length row → ecb ≡ get_or row i ecb → first_exit (map f (take i row)) ≡ None
+      → is_some (exit_of (f ecb)) ≡ true
       → IsAt (given_then (given_then past (contributions shapes (map f (take i row))))
       (contributions_of shapes (f ecb))) st
       → IsAt (given_then past (contributions shapes (through_exit (map f row)))) st

@@ -1,5 +1,6 @@
 -- What holds at each place of a list.
-use Rattle.std.proofs.Common.{◌≡◌, ◌≢◌, ℕ, zero, suc, ◌<◌, ◌≤◌, not, Bool, true, false, List, [], ◌∷◌, ◌++◌, Option, Some, length, get_or, map, filter, refl, sym, ap, subst, if◌then◌else◌, arith}
+use Rattle.std.proofs.Common.{◌≡◌, ◌≢◌, ℕ, zero, suc, ◌<◌, ◌≤◌, not, Bool, true, false, List, [], ◌∷◌, ◌++◌, Option}
+use Rattle.std.proofs.Common.{Some, length, get_or, map, filter, refl, sym, ap, subst, if◌then◌else◌, arith}
 use Rattle.std.specs.List.{slice_get, slice_set, find}
 use Rattle.std.specs.Option.{IfSome, option_map}
 

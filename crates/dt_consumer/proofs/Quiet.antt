@@ -1,5 +1,6 @@
 -- What a buffer shows where a consumer never traced: nothing.
-use Rattle.std.proofs.Common.{◌≡◌, ℕ, ◌==◌, Bool, true, false, cond, List, [], ◌∷◌, ◌++◌, refl, sym, subst, ⊎_elim, arith}
+use Rattle.std.proofs.Common.{◌≡◌, ℕ, ◌==◌, Bool, true, false, cond, List, [], ◌∷◌, ◌++◌, refl, sym, subst, ⊎_elim}
+use Rattle.std.proofs.Common.{arith}
 use Rattle.std.specs.List.{AllByRecursion}
 use Rattle.dt_buffer.specs.Beginning.{ShowsFill, IsLongestBeginning}
 use Rattle.dt_buffer.specs.Choice.{ShowsSwitch}

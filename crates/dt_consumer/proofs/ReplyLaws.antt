@@ -1,5 +1,6 @@
 -- A line has one reply.
-use Rattle.std.proofs.Common.{◌≡◌, ℕ, Bool, true, false, cond, List, Option, Some, None, Result, Ok, Err, refl, sym, ap, ◌∙◌, subst}
+use Rattle.std.proofs.Common.{◌≡◌, ℕ, Bool, true, false, cond, List, Option, Some, None, Result, Ok, Err, refl, sym}
+use Rattle.std.proofs.Common.{ap, ◌∙◌, subst}
 use Rattle.dt_aggstore.specs.TableOf.{table_of}
 use Rattle.dt_consumer.specs.Stores.{stores_in}
 use Rattle.std.specs.Bool.{MatchBool}
@@ -18,7 +19,8 @@ use Rattle.dt_buffer.specs.Shows.{Shows}
 use Rattle.dt_consumer.specs.Ask.{Ask, option, enable, go, stop, snap, status, list, describe, agg, trunc, close}
 use Rattle.dt_consumer.specs.Buffers.{past}
 use Rattle.dt_consumer.specs.Life.{Item, SetUp, is_over, set_up, next_epid, shapes_in}
-use Rattle.dt_consumer.specs.Reply.{Replies, RepliesInQuota, IsVerdictOnCommand, Accepted, is_asked_late, ecb_of, refusal_of, known}
+use Rattle.dt_consumer.specs.Reply.{Replies, RepliesInQuota, IsVerdictOnCommand, Accepted, is_asked_late, ecb_of}
+use Rattle.dt_consumer.specs.Reply.{refusal_of, known}
 use Rattle.dt_consumer.specs.declared.refusal.Refusal.{Refusal}
 use Rattle.dt_consumer.specs.declared.refusal.Refusal.TheVariants.{Program, Busy, NoEpid, Quota, NoAgg}
 use Rattle.dt_consumer.specs.declared.refusal.Refusal.TheVariants as refusal
@@ -71,7 +73,8 @@ module _ (one_verdict : (account : Account) (registry : Registry) (accepted : Li
 
   abbrev OfProgram : List ClauseForm → Option Refusal → Type 0
   OfProgram clauses verdict = (v : Verdict)
-      × IsVerdict account registry (shapes_in now) (next_epid account registry now) clauses v × (verdict ≡ refusal_of v)
+      × IsVerdict account registry (shapes_in now) (next_epid account registry now) clauses v
+      × (verdict ≡ refusal_of v)
 
   one_of_program : (clauses : List ClauseForm) (v w : Option Refusal) → OfProgram clauses v → OfProgram clauses w
       → v ≡ w

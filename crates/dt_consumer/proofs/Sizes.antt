@@ -1,5 +1,6 @@
 -- How many bytes the records of END's ECBs have.
-use Rattle.std.proofs.Common.{◌≡◌, ℕ, zero, suc, ◌+◌, ◌<◌, ◌≤◌, ◌==◌, get_or, take, Bool, true, false, List, [], ◌∷◌, length, map, sum, if◌then◌else◌, sym, ap, ◌∙◌, arith}
+use Rattle.std.proofs.Common.{◌≡◌, ℕ, zero, suc, ◌+◌, ◌<◌, ◌≤◌, ◌==◌, get_or, take, Bool, true, false, List, [], ◌∷◌}
+use Rattle.std.proofs.Common.{length, map, sum, if◌then◌else◌, sym, ap, ◌∙◌, arith}
 use Rattle.std.proofs.lemmas.List.{take_all}
 use Rattle.std.proofs.lemmas.List.Sums.{sum-map, sum_by-cons}
 use Rattle.dt_ecb.specs.Ecbs.{EcbForm, of_probe}

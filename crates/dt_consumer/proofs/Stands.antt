@@ -1,5 +1,7 @@
 -- A consumer after a line of its own, and after a firing.
-use Rattle.std.proofs.Common.{◌≡◌, ℕ, zero, suc, ◌+◌, ◌-◌, ◌<◌, ◌≤◌, ◌&&◌, ◌||◌, not, Bool, true, false, cond, List, [], ◌∷◌, ◌++◌, Option, Some, None, Result, length, get_or, map, refl, sym, ap, ◌∙◌, subst, arith}
+use Rattle.std.proofs.Common.{◌≡◌, ℕ, zero, suc, ◌+◌, ◌-◌, ◌<◌, ◌≤◌, ◌&&◌, ◌||◌, not, Bool, true, false, cond, List}
+use Rattle.std.proofs.Common.{[], ◌∷◌, ◌++◌, Option, Some, None, Result, length, get_or, map, refl, sym, ap, ◌∙◌}
+use Rattle.std.proofs.Common.{subst, arith}
 use Rattle.std.specs.List.{All, AllByRecursion, list_any, enumerate_from}
 use Rattle.std.specs.Option.{MatchOption}
 use Rattle.std.proofs.lemmas.List.{length-append, length-map, map-append}
@@ -20,8 +22,10 @@ use Rattle.dt_ecb.specs.declared.limits.TheConstants.{ECBS_MAX}
 use Rattle.dt_ecb.specs.declared.parts.Ecb.{Ecb}
 use Rattle.dt_consumer.specs.Ask.{Ask}
 use Rattle.dt_consumer.specs.Draft.{after_line}
-use Rattle.dt_consumer.specs.Keeps.{AreEcbs, IsTracing, IsUntraced, Keeps, form_of_options, is_quiet, phase_by, phase_untraced, placed_after}
-use Rattle.dt_consumer.specs.Life.{Item, asked, SetUp, lines, is_inactive, is_over, set_up, ecbs_in, next_epid, phase_of, with_event, with_options, with_program, is_active, shapes_in}
+use Rattle.dt_consumer.specs.Keeps.{AreEcbs, IsTracing, IsUntraced, Keeps, form_of_options, is_quiet, phase_by}
+use Rattle.dt_consumer.specs.Keeps.{phase_untraced, placed_after}
+use Rattle.dt_consumer.specs.Life.{Item, asked, SetUp, lines, is_inactive, is_over, set_up, ecbs_in, next_epid}
+use Rattle.dt_consumer.specs.Life.{phase_of, with_event, with_options, with_program, is_active, shapes_in}
 use Rattle.dt_consumer.specs.StandsFor.{StandsFor}
 use Rattle.dt_consumer.specs.Takings.{Event}
 use Rattle.dt_consumer.specs.declared.consumer.Consumer.{Consumer}

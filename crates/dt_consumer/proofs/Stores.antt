@@ -1,5 +1,6 @@
 -- What comes to the stores of all processors.
-use Rattle.std.proofs.Common.{◌≡◌, ◌≢◌, ℕ, zero, suc, ◌+◌, ◌<◌, ◌≤◌, ◌==◌, Bool, true, false, cond, List, [], ◌∷◌, ◌++◌, length, get_or, Some, map, refl, sym, ap, ◌∙◌, subst, ⊎_elim, arith}
+use Rattle.std.proofs.Common.{◌≡◌, ◌≢◌, ℕ, zero, suc, ◌+◌, ◌<◌, ◌≤◌, ◌==◌, Bool, true, false, cond, List, [], ◌∷◌}
+use Rattle.std.proofs.Common.{◌++◌, length, get_or, Some, map, refl, sym, ap, ◌∙◌, subst, ⊎_elim, arith}
 use Rattle.std.specs.Bool.{nat_lt}
 use Rattle.std.specs.List.{slice_get, slice_set, All, AllZip, range_with_len}
 use Rattle.std.specs.Option.{IfSome, IsSomeAnd, option_map, option_to_list}
@@ -20,7 +21,8 @@ use Rattle.dt_consumer.specs.Aggregations.{aggregation_of, contributions}
 use Rattle.dt_consumer.specs.Keeps.{taking_by, where_taken}
 use Rattle.dt_consumer.specs.Life.{SetUp, ecbs_in, shapes_in, since_then, with_event}
 use Rattle.dt_consumer.specs.Stores.{given_in, given_on}
-use Rattle.dt_consumer.specs.Takings.{Event, began, seen, read, truncated, ended, is_end, Taking, MomentForm, moment_at, own_moment, taken_at, taken_on, through_exit, closed}
+use Rattle.dt_consumer.specs.Takings.{Event, began, seen, read, truncated, ended, is_end, Taking, MomentForm}
+use Rattle.dt_consumer.specs.Takings.{moment_at, own_moment, taken_at, taken_on, through_exit, closed}
 use Rattle.dt_consumer.specs.Uses.{AreGiven, AreUses, given_and, given_then}
 use Rattle.dt_consumer.specs.declared.limits.TheConstants.{END}
 use Rattle.dt_consumer.specs.declared.phase.End.{End}

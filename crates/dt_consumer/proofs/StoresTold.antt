@@ -1,5 +1,6 @@
 -- What `agg` and `status` tell of the stores.
-use Rattle.std.proofs.Common.{◌≡◌, ℕ, Bool, true, false, List, [], ◌∷◌, ◌++◌, length, Option, Some, None, map, replicate, refl, sym, ap, ◌∙◌, arith}
+use Rattle.std.proofs.Common.{◌≡◌, ℕ, Bool, true, false, List, [], ◌∷◌, ◌++◌, length, Option, Some, None, map}
+use Rattle.std.proofs.Common.{replicate, refl, sym, ap, ◌∙◌, arith}
 use Rattle.std.specs.List.{AllByRecursion, AllZip, flat_map, range_with_len}
 use Rattle.std.specs.Option.{option_map, option_to_list}
 use Rattle.std.specs.Vec.{vec_len}
@@ -84,7 +85,8 @@ module _ (fresh : (size : ℕ) → drops (store.new_past size) ≡ 0)
   no_aggdrops account registry life quiet =
       let s = set_up account registry life in
       sym (all_zero (aggdrops_in account registry s) registry.cpus 0
-      (λ cpu. none_given account registry (shapes_in s) (ecbs_in account registry s) cpu s.options.aggsize s.since quiet))
+      (λ cpu. none_given account registry (shapes_in s) (ecbs_in account registry s) cpu s.options.aggsize
+      s.since quiet))
 
 -- nothing is held where nothing was given
 abbrev gives_none : List store.Event → Type 0
@@ -97,7 +99,8 @@ none_counted (store.truncated aggregation ∷ later) [] none = refl
 none_counted (store.truncated aggregation ∷ later) (c ∷ chosen) none = none_counted later chosen none.1
 
 none_held : (events : List store.Event) (chosen : List Bool) → gives_none events → held events chosen ≡ []
-none_held events chosen none = ap (λ cs. distinct (map (λ (c : Contribution). c.entry) cs)) (none_counted events chosen none)
+none_held events chosen none = ap (λ cs. distinct (map (λ (c : Contribution). c.entry) cs))
+    (none_counted events chosen none)
 
 append_none : (a b : List store.Event) → gives_none a → gives_none b → gives_none (a ++ b)
 append_none [] b h k = k

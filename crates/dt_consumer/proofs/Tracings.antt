@@ -1,5 +1,6 @@
 -- What a consumer has from `go` on, as more happens.
-use Rattle.std.proofs.Common.{◌≡◌, ℕ, ℤ, ◌+◌, ◌<◌, ◌==◌, ◌&&◌, Bool, true, false, cond, List, [], ◌∷◌, ◌++◌, Option, Some, None, length, get_or, filter, map, refl, sym, ap, ◌∙◌, subst, arith}
+use Rattle.std.proofs.Common.{◌≡◌, ℕ, ℤ, ◌+◌, ◌<◌, ◌==◌, ◌&&◌, Bool, true, false, cond, List, [], ◌∷◌, ◌++◌, Option}
+use Rattle.std.proofs.Common.{Some, None, length, get_or, filter, map, refl, sym, ap, ◌∙◌, subst, arith}
 use Rattle.std.specs.List.{slice_get, All, AllByRecursion}
 use Rattle.std.proofs.lemmas.List.Elements.{All-from_recursion, recursion_from_All}
 use Rattle.std.specs.Option.{IfSome, IsSomeAnd, is_some, option_and_then, option_map, option_map_or, option_or}
@@ -15,10 +16,13 @@ use Rattle.dt_ecb.specs.Ecbs.{EcbForm, of_probe}
 use Rattle.dt_ecb.specs.Forms.{form_of_ecb}
 use Rattle.dt_ecb.specs.declared.parts.Ecb.{Ecb}
 use Rattle.dt_consumer.specs.Buffers.{attempts_of, comes_by, errors_in, past_in, reserve_on}
-use Rattle.dt_consumer.specs.Keeps.{AreEcbs, AreTaken, HasTaken, IsTracing, errors_and, followed_by, pasts_and, taking_by, where_taken}
+use Rattle.dt_consumer.specs.Keeps.{AreEcbs, AreTaken, HasTaken, IsTracing, errors_and, followed_by, pasts_and}
+use Rattle.dt_consumer.specs.Keeps.{taking_by, where_taken}
 use Rattle.dt_consumer.specs.Life.{SetUp, ecbs_in, end_by, end_size, happens, seen_in, since_then, with_event}
 use Rattle.dt_consumer.specs.Options.{OptionsForm, is_fill}
-use Rattle.dt_consumer.specs.Takings.{Event, began, seen, read, truncated, ended, closed, is_end, Taking, MomentForm, exit_of, faults, first_exit, moment_at, own_firing, own_moment, own_process, record_of, taken_at, taken_by, taken_on, taken_since, taking_of, through_exit}
+use Rattle.dt_consumer.specs.Takings.{Event, began, seen, read, truncated, ended, closed, is_end, Taking, MomentForm}
+use Rattle.dt_consumer.specs.Takings.{exit_of, faults, first_exit, moment_at, own_firing, own_moment, own_process}
+use Rattle.dt_consumer.specs.Takings.{record_of, taken_at, taken_by, taken_on, taken_since, taking_of, through_exit}
 use Rattle.dt_consumer.specs.declared.limits.TheConstants.{END}
 use Rattle.dt_consumer.specs.declared.phase.End.{End}
 use Rattle.dt_consumer.specs.declared.phase.End.TheVariants.{Exit, History}
@@ -68,7 +72,8 @@ module _ (account : Account) (registry : Registry) (s : SetUp) where
         → new ≡ taken_at (is_end event) (ecbs_in account registry s) m
         → AreTaken (pasts_and (past_in account registry s) (where_taken m.firing.cpu new))
         (errors_and (errors_in account registry s) (where_taken m.firing.cpu new)) all
-        → AreTaken (past_in account registry (with_event s event)) (errors_in account registry (with_event s event)) all
+        → AreTaken (past_in account registry (with_event s event))
+        (errors_in account registry (with_event s event)) all
     grown all new is h = λ cpu.
         let w : where_taken m.firing.cpu new cpu ≡ taken_on account registry own cpu event =
         ap (λ xs. where_taken m.firing.cpu xs cpu) is ∙ sym (on_is cpu) in
@@ -230,7 +235,8 @@ exit_is account registry s row clauses event m exit fires at ordinary same e =
 -- a firing was taken
 pub record TookAt (account : Account) (registry : Registry) (s : SetUp) (event : Event) (all : List Processor)
     (exit : Option ℤ) : Type 0 where
-  pub taken : AreTaken (past_in account registry (with_event s event)) (errors_in account registry (with_event s event))
+  pub taken : AreTaken (past_in account registry (with_event s event))
+      (errors_in account registry (with_event s event))
       all
   pub exited : first_exit (taken_by account registry (ecbs_in account registry s) event) ≡ exit
   pub still : (cpu : ℕ) → of_end (past_in account registry (with_event s event) cpu).events ≡ []

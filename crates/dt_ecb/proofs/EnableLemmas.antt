@@ -1,5 +1,6 @@
 -- What the parts of `enable` come to.
-use Rattle.std.proofs.Common.{◌≡◌, ℕ, ◌+◌, ◌-◌, ◌<◌, ◌≤◌, ◌||◌, Bool, ltb, List, ◌++◌, Option, Some, None, length, map, refl, sym, ap, ◌∙◌}
+use Rattle.std.proofs.Common.{◌≡◌, ℕ, ◌+◌, ◌-◌, ◌<◌, ◌≤◌, ◌||◌, Bool, ltb, List, ◌++◌, Option, Some, None, length, map}
+use Rattle.std.proofs.Common.{refl, sym, ap, ◌∙◌}
 use Rattle.std.specs.List.{All}
 use Rattle.std.specs.Option.{MatchOption}
 use Rattle.std.proofs.lemmas.List.{length-map}

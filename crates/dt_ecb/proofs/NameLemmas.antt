@@ -1,5 +1,6 @@
 -- The first use of a name: each use of some clauses is found by its name, and further uses leave what is found.
-use Rattle.std.proofs.Common.{◌≡◌, ℕ, zero, suc, ◌+◌, ◌<◌, Bool, true, false, cond, List, [], ◌∷◌, ◌++◌, Option, Some, None, length, get_or, map, refl, sym, ap, ◌∙◌, subst, arith}
+use Rattle.std.proofs.Common.{◌≡◌, ℕ, zero, suc, ◌+◌, ◌<◌, Bool, true, false, cond, List, [], ◌∷◌, ◌++◌, Option, Some}
+use Rattle.std.proofs.Common.{None, length, get_or, map, refl, sym, ap, ◌∙◌, subst, arith}
 use Rattle.std.specs.List.{Contains, enumerate_from, find, flat_map}
 use Rattle.std.specs.Option.{IsSome, is_some, option_or}
 use Rattle.std.specs.Str.{bytes_eq}

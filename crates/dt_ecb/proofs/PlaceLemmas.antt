@@ -1,8 +1,10 @@
 -- The ECBs that are made by the places of their clauses, one probe and one clause further.
-use Rattle.std.proofs.Common.{◌≡◌, ℕ, suc, ◌+◌, ◌<◌, ◌≤◌, Bool, true, false, cond, List, [], ◌∷◌, ◌++◌, length, get_or, take, map, filter, Some, sym, ap, subst, ◌∙◌, zero-add, arith}
+use Rattle.std.proofs.Common.{◌≡◌, ℕ, suc, ◌+◌, ◌<◌, ◌≤◌, Bool, true, false, cond, List, [], ◌∷◌, ◌++◌, length, get_or}
+use Rattle.std.proofs.Common.{take, map, filter, Some, sym, ap, subst, ◌∙◌, zero-add, arith}
 use Rattle.std.specs.List.{AllByRecursion, slice_get}
 use Rattle.std.specs.Option.{IfSome}
-use Rattle.std.proofs.lemmas.List.{append_assoc, append-nil, length-append, length-map, length-take-le, take_more, map-append}
+use Rattle.std.proofs.lemmas.List.{append_assoc, append-nil, length-append, length-map, length-take-le, take_more}
+use Rattle.std.proofs.lemmas.List.{map-append}
 use Rattle.std.proofs.lemmas.List.Elements.{filter_more}
 use Rattle.std.proofs.lemmas.List.FromFn.{length-enumerate_from}
 use Rattle.std.proofs.lemmas.Option.{slice_get-get_or}
@@ -170,7 +172,8 @@ small_id contents sound probes all i probe inside is =
     omega (arith, numbered.number, sound.few_probes, inside, ap length all)
 
 -- an ECB was pushed
-pub kept_push : (xs ys : List Ecb) (ecb : Ecb) → ys ≡ xs ++ ecb ∷ [] → map kept_in ys ≡ map kept_in xs ++ kept_in ecb ∷ []
+pub kept_push : (xs ys : List Ecb) (ecb : Ecb) → ys ≡ xs ++ ecb ∷ [] → map kept_in ys ≡ map kept_in xs
+    ++ kept_in ecb ∷ []
 kept_push xs ys ecb grown = ap (map kept_in) grown ∙ map-append kept_in xs (ecb ∷ [])
 
 pub count_grown : (xs ys : List Ecb) (kept : ℕ × (ℕ × ℕ)) → map kept_in ys ≡ map kept_in xs ++ kept ∷ []

@@ -1,5 +1,6 @@
 -- Processes that a number finds, and tests of mapped lists.
-use Rattle.std.proofs.Common.{◌≡◌, ℕ, not, length, filter, ◌<◌, ◌≤◌, ◌||◌, ◌&&◌, eqb, Bool, true, false, List, [], ◌∷◌, Option, Some, None, cond, map, refl, sym, ap, ◌∙◌, subst, ◌⊎◌, inl, inr, arith}
+use Rattle.std.proofs.Common.{◌≡◌, ℕ, not, length, filter, ◌<◌, ◌≤◌, ◌||◌, ◌&&◌, eqb, Bool, true, false, List, [], ◌∷◌}
+use Rattle.std.proofs.Common.{Option, Some, None, cond, map, refl, sym, ap, ◌∙◌, subst, ◌⊎◌, inl, inr, arith}
 use Rattle.std.specs.List.{list_any, find}
 use Rattle.std.specs.Option.{IfSome}
 use Rattle.std.proofs.lemmas.Bool.{eqb-true, ne_eqb}

@@ -4,7 +4,8 @@ use Rattle.std.specs.List.{list_any}
 use Rattle.dt_cred.specs.declared.account.Account.{Account}
 use Rattle.dt_machine.specs.Registry.{Registry}
 use Rattle.dt_lang.specs.Program.{ClauseForm}
-use Rattle.dt_ecb.specs.Enable.{Verdict, enabled, privilege, clash, unmatched, limit, IsVerdict, has_stack, is_allowed, is_unmatched, is_too_much}
+use Rattle.dt_ecb.specs.Enable.{Verdict, enabled, privilege, clash, unmatched, limit, IsVerdict, has_stack, is_allowed}
+use Rattle.dt_ecb.specs.Enable.{is_unmatched, is_too_much}
 use Rattle.dt_ecb.specs.Shapes.{ShapeForm, uses_of, any_clash}
 use Rattle.dt_ecb.proofs.ClashLaws.{some_clash, any_from_clash, same_clash}
 use Rattle.dt_ecb.proofs.FirstLemmas.{some_first, any_from_first, same_first}

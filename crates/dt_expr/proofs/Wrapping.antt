@@ -1,5 +1,6 @@
 -- What std's methods leave in 64 bits is the representative of the whole number.
-use Rattle.std.proofs.Common.{◌≡◌, ℕ, zero, suc, ◌+◌, ◌*◌, ◌%◌, ◌/◌, ◌^◌, ◌<◌, ◌≤◌, refl, sym, ap, ◌∙◌, arith, Some, ℤ, pos, negsuc, ◌*ℤ◌, neg_ℤ, FitsSigned}
+use Rattle.std.proofs.Common.{◌≡◌, ℕ, zero, suc, ◌+◌, ◌*◌, ◌%◌, ◌/◌, ◌^◌, ◌<◌, ◌≤◌, refl, sym, ap, ◌∙◌, arith, Some, ℤ}
+use Rattle.std.proofs.Common.{pos, negsuc, ◌*ℤ◌, neg_ℤ, FitsSigned}
 use Rattle.std.proofs.Math.Nat.{div-le_self, mod-lt}
 use Rattle.std.specs.Prelude.{int_div, unsigned_abs}
 use Rattle.std.specs.Int.{w64, int_wrap, int_wrapping_div, int_shl, cast_signed, cast_unsigned, int_rem_euclid}

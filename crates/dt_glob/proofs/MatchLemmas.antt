@@ -1,5 +1,6 @@
 -- Items that take a byte each, and the first place where they can.
-use Rattle.std.proofs.Common.{◌≡◌, ◌≢◌, ℕ, ◌≤◌, ◌⊎◌, ◌↔◌, inl, inr, Bool, true, false, List, [], ◌∷◌, ◌++◌, length, refl, sym, ap, ◌∙◌, append_assoc, length-append, arith}
+use Rattle.std.proofs.Common.{◌≡◌, ◌≢◌, ℕ, ◌≤◌, ◌⊎◌, ◌↔◌, inl, inr, Bool, true, false, List, [], ◌∷◌, ◌++◌, length}
+use Rattle.std.proofs.Common.{refl, sym, ap, ◌∙◌, append_assoc, length-append, arith}
 use Rattle.dt_glob.specs.PatternItem.{PatternItem, Star, AnyByte, Literal, OneOf, Takes}
 use Rattle.dt_glob.specs.Matches.{Matches}
 use Rattle.dt_glob.specs.Spells.{Spells}
@@ -87,7 +88,8 @@ same_rest [] (y ∷ b) r s e h = absurd (omega arith)
 same_rest (x ∷ a) [] r s e h = absurd (omega arith)
 same_rest (x ∷ a) (y ∷ b) r s e h = same_rest a b r s (cc) (omega arith)
 
--- What a star leaves to the items up to the next star can begin at the first place where these fit, since they take one
+-- What a star leaves to the items up to the next star can begin at the first place where these fit, since they take
+-- one
 -- byte each: wherever the pattern matches, it then matches from there on.
 pub Matches-first_place : (front tail : List PatternItem) (bytes rest : List ℕ) → TakeEach front bytes
     → Matches (Star ∷ (front ++ Star ∷ tail)) (bytes ++ rest) → Matches (Star ∷ tail) rest
@@ -179,7 +181,8 @@ follows_more items text unread left h item tail byte behind rest e f t s = recor
   front = h.front ++ item ∷ [];
   tail = tail;
   bytes = h.bytes ++ byte ∷ [];
-  items_are = h.items_are ∙ ap (λ (s : List PatternItem). h.front ++ s) e ∙ sym (append_assoc h.front (item ∷ []) tail);
+  items_are = h.items_are ∙ ap (λ (s : List PatternItem). h.front ++ s) e
+      ∙ sym (append_assoc h.front (item ∷ []) tail);
   text_is = h.text_is ∙ ap (λ (s : List ℕ). h.bytes ++ s) f ∙ sym (append_assoc h.bytes (byte ∷ []) rest);
   take = TakeEach-push h.front h.bytes item byte h.take t;
   spells = s;

@@ -1,5 +1,6 @@
 -- Where a check of a text stands: each sign leads on or shows a fault, so each text has an answer.
-use Rattle.std.proofs.Common.{◌≡◌, ◌≢◌, ℕ, ◌⊎◌, inl, inr, Bool, true, false, List, [], ◌∷◌, ◌++◌, Result, Ok, Err, refl, sym, ap, ◌∙◌, append_assoc, append-nil}
+use Rattle.std.proofs.Common.{◌≡◌, ◌≢◌, ℕ, ◌⊎◌, inl, inr, Bool, true, false, List, [], ◌∷◌, ◌++◌, Result, Ok, Err}
+use Rattle.std.proofs.Common.{refl, sym, ap, ◌∙◌, append_assoc, append-nil}
 use Rattle.dt_glob.specs.declared.sign.Sign.{Sign}
 use Rattle.dt_glob.specs.declared.sign.Sign.TheVariants.{Plain, Escaped}
 use Rattle.dt_glob.specs.declared.element.Element.{Element}
@@ -13,7 +14,8 @@ use Rattle.dt_glob.specs.PatternItem.{PatternItem, Star, AnyByte, Literal, OneOf
 use Rattle.dt_glob.specs.Spells.{SpellsElements, Lacks, BeginsWith, mark, SpellsSet, SpellsItem, SpellsItems, Spells}
 use Rattle.dt_glob.specs.Fault.{AreItems, EndsInSet, FaultOf}
 use Rattle.dt_glob.specs.Place.{step_of, IsInside, HasOpened, StandsAt}
-use Rattle.dt_glob.proofs.SignLemmas.{text_of_signs-append, AreSigns-append, AreSigns-front, plain_cases, bang_apart, Lacks-mark}
+use Rattle.dt_glob.proofs.SignLemmas.{text_of_signs-append, AreSigns-append, AreSigns-front, plain_cases, bang_apart}
+use Rattle.dt_glob.proofs.SignLemmas.{Lacks-mark}
 
 -- each inside of a set spells elements
 elements_exist : (signs : List Sign) → (elements : List Element) × SpellsElements signs elements
@@ -209,20 +211,23 @@ FaultOf-empty text signs sign rest e a h =
 
 pub text_of_signs-more : (text : List ℕ) (signs : List Sign) (sign : Sign) (rest : List ℕ) → text
     ≡ text_of_signs signs ++ (sign_text sign ++ rest) → text ≡ text_of_signs (signs ++ sign ∷ []) ++ rest
-text_of_signs-more text signs sign rest e = e ∙ sym (rw (text_of_signs-append signs (sign ∷ []), append-nil, append_assoc) refl)
+text_of_signs-more text signs sign rest e =
+    e ∙ sym (rw (text_of_signs-append signs (sign ∷ []), append-nil, append_assoc) refl)
 
 -- each text is a pattern, or has a fault
 abbrev pub Answer : List ℕ → Type 0
 Answer text = ((items : List PatternItem) × Spells text items) ⊎ ((fault : GlobFault) × FaultOf text fault)
 
-led : (text : List ℕ) (signs : List Sign) (sign : Sign) (rest : List ℕ) → text ≡ text_of_signs (signs ++ sign ∷ []) ++ rest
+led : (text : List ℕ) (signs : List Sign) (sign : Sign) (rest : List ℕ) → text
+    ≡ text_of_signs (signs ++ sign ∷ []) ++ rest
     → AreSigns (signs ++ sign ∷ [])
     → ((next : Place) → StandsAt next (signs ++ sign ∷ []) → Answer text) → (to : Result Place GlobFault)
     → Leads signs sign to → Answer text
 led text signs sign rest e a go (Ok next) h = go next h
 led text signs sign rest e a go (Err fault) h = inr (EmptySet, FaultOf-empty text signs sign rest e a h.1)
 
-answer_from : (rest text : List ℕ) (place : Place) (signs : List Sign) → text ≡ text_of_signs signs ++ rest → AreSigns signs
+answer_from : (rest text : List ℕ) (place : Place) (signs : List Sign) → text ≡ text_of_signs signs ++ rest
+    → AreSigns signs
     → StandsAt place signs → Answer text
 answer_from [] text place signs e a h = elim (at_end place signs h) [
   | inl w ↦ inl
@@ -244,7 +249,8 @@ answer_from (byte ∷ next ∷ rest) text place signs e a h = elim (plain_cases 
   | inl w ↦ let is : byte ≡ 92 = ap byte_of w.1 in
       let are : AreSigns (signs ++ Escaped next ∷ []) = AreSigns-append signs (Escaped next ∷ []) a (tt, tt) in
       let written =
-      text_of_signs-more text signs (Escaped next) rest (e ∙ ap (λ (b : ℕ). text_of_signs signs ++ b ∷ next ∷ rest) is) in
+      text_of_signs-more text signs (Escaped next) rest
+      (e ∙ ap (λ (b : ℕ). text_of_signs signs ++ b ∷ next ∷ rest) is) in
       led text signs (Escaped next) rest written are
       (λ to k. answer_from rest text to (signs ++ Escaped next ∷ []) written are k) (step_of place (Escaped next))
       (stepped place signs (Escaped next) h)

@@ -1,5 +1,6 @@
 -- What a text spells, and its fault, are what the reading of it says: so there is one answer.
-use Rattle.std.proofs.Common.{◌≡◌, ◌≢◌, ℕ, ◌⊎◌, inl, inr, Bool, true, false, List, [], ◌∷◌, ◌++◌, Some, None, Result, Ok, Err, refl, sym, ap, ◌∙◌, append_assoc, append-nil, cond, subst, arith}
+use Rattle.std.proofs.Common.{◌≡◌, ◌≢◌, ℕ, ◌⊎◌, inl, inr, Bool, true, false, List, [], ◌∷◌, ◌++◌, Some, None, Result}
+use Rattle.std.proofs.Common.{Ok, Err, refl, sym, ap, ◌∙◌, append_assoc, append-nil, cond, subst, arith}
 use Rattle.dt_glob.specs.declared.sign.Sign.{Sign}
 use Rattle.dt_glob.specs.declared.sign.Sign.TheVariants.{Plain, Escaped}
 use Rattle.dt_glob.specs.declared.element.Element.{Element}
@@ -8,9 +9,11 @@ use Rattle.dt_glob.specs.declared.fault.GlobFault.{GlobFault}
 use Rattle.dt_glob.specs.declared.fault.GlobFault.TheVariants.{Unclosed, EmptySet, LoneEscape}
 use Rattle.dt_glob.specs.Sign.{byte_of, sign_text, text_of_signs, IsSign, AreSigns, opening, closing, bang, dash}
 use Rattle.dt_glob.specs.PatternItem.{PatternItem, Star, AnyByte, Literal, OneOf}
-use Rattle.dt_glob.specs.Spells.{BeginsRangeEnd, SpellsElements, Lacks, BeginsWith, mark, SpellsSet, SpellsItem, SpellsItems, Spells}
+use Rattle.dt_glob.specs.Spells.{BeginsRangeEnd, SpellsElements, Lacks, BeginsWith, mark, SpellsSet, SpellsItem}
+use Rattle.dt_glob.specs.Spells.{SpellsItems, Spells}
 use Rattle.dt_glob.specs.Fault.{AreItems, EndsInSet, FaultOf}
-use Rattle.dt_glob.specs.Reading.{is_plain, Signs, behind, signs_of, elements_of, also, set_and, items_from, reading_of, items_of_text}
+use Rattle.dt_glob.specs.Reading.{is_plain, Signs, behind, signs_of, elements_of, also, set_and, items_from}
+use Rattle.dt_glob.specs.Reading.{reading_of, items_of_text}
 use Rattle.dt_glob.proofs.SignLemmas.{AreSigns-append, is_plain-false, bang_apart, Lacks-mark}
 
 -- signs in front of what was read
@@ -177,7 +180,8 @@ reading_of-signs : (signs : List Sign) (tail : List ℕ) → AreSigns signs → 
 unfolding reading_of
 reading_of-signs signs tail h = rw (signs_of-text_of_signs signs tail h)
 
-reading_of-text_of_signs : (signs : List Sign) → AreSigns signs → reading_of (text_of_signs signs) ≡ items_from false None signs
+reading_of-text_of_signs : (signs : List Sign) → AreSigns signs → reading_of (text_of_signs signs)
+    ≡ items_from false None signs
 unfolding signs_of
 reading_of-text_of_signs signs h = let e = reading_of-signs signs [] h in
     rw (append-nil (text_of_signs signs), append-nil signs) at e
@@ -200,7 +204,8 @@ reading_of-spelled text items h =
 
 pub reading_of-fault : (text : List ℕ) (fault : GlobFault) → FaultOf text fault → reading_of text ≡ Err fault
 unfolding items_from ending
-reading_of-fault text Unclosed (signs, e, a, h) = rw e (reading_of-text_of_signs signs a ∙ items_from-open false signs h)
+reading_of-fault text Unclosed (signs, e, a, h) =
+    rw e (reading_of-text_of_signs signs a ∙ items_from-open false signs h)
 reading_of-fault text EmptySet (front, negated, rest, e, a, h) =
     let signs : List Sign = front ++ opening ∷ (mark negated ++ closing ∷ []) in
     let are : AreSigns signs =

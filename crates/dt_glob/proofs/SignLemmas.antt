@@ -1,5 +1,6 @@
 -- Signs and how they are written.
-use Rattle.std.proofs.Common.{◌≡◌, ◌≢◌, ℕ, ◌⊎◌, inl, inr, Bool, true, false, List, [], ◌∷◌, ◌++◌, refl, sym, ◌∙◌, append_assoc, arith}
+use Rattle.std.proofs.Common.{◌≡◌, ◌≢◌, ℕ, ◌⊎◌, inl, inr, Bool, true, false, List, [], ◌∷◌, ◌++◌, refl, sym, ◌∙◌}
+use Rattle.std.proofs.Common.{append_assoc, arith}
 use Rattle.std.proofs.lemmas.Bool.{false≢true}
 use Rattle.dt_glob.specs.declared.sign.Sign.{Sign}
 use Rattle.dt_glob.specs.declared.sign.Sign.TheVariants.{Plain, Escaped}
@@ -9,7 +10,8 @@ use Rattle.dt_glob.specs.Reading.{is_plain}
 
 pub text_of_signs-append : (a b : List Sign) → text_of_signs (a ++ b) ≡ text_of_signs a ++ text_of_signs b
 text_of_signs-append [] b = refl
-text_of_signs-append (sign ∷ a) b = rw (text_of_signs-append a b) (sym (append_assoc (sign_text sign) (text_of_signs a) (text_of_signs b)))
+text_of_signs-append (sign ∷ a) b =
+    rw (text_of_signs-append a b) (sym (append_assoc (sign_text sign) (text_of_signs a) (text_of_signs b)))
 
 pub AreSigns-append : (a b : List Sign) → AreSigns a → AreSigns b → AreSigns (a ++ b)
 AreSigns-append [] b p q = q

@@ -8,7 +8,8 @@ use Rattle.dt_glob.specs.declared.element.Element.TheVariants.{Single, Range}
 use Rattle.dt_glob.specs.PatternItem.{PatternItem, Star, AnyByte, Literal, OneOf, Holds, HoldsAny, Takes}
 use Rattle.dt_glob.specs.Matches.{Matches}
 use Rattle.dt_glob.specs.Test.{holds, holds_any, takes, is_match}
-use Rattle.dt_glob.proofs.MatchLemmas.{Matches-take, Matches-taken, Matches-star_none, Matches-star_more, Matches-star_cases, Matches-star_empty}
+use Rattle.dt_glob.proofs.MatchLemmas.{Matches-take, Matches-taken, Matches-star_none, Matches-star_more}
+use Rattle.dt_glob.proofs.MatchLemmas.{Matches-star_cases, Matches-star_empty}
 
 Decides-never : {P : Type 0} → (P → ⊥) → Decides false P
 Decides-never n = (λ e. absurd (false≢true e), λ p. absurd (n p))
@@ -56,7 +57,8 @@ pub Decides-is_match : (items : List PatternItem) (text : List ℕ) → Decides 
 Decides-is_match [] [] = (λ e. refl, λ m. refl)
 Decides-is_match [] (byte ∷ rest) = Decides-never (λ m. cc)
 Decides-is_match (Star ∷ items) [] =
-    Decides-like (is_match items []) (Matches-star_none items []) (Matches-star_empty items) (Decides-is_match items [])
+    Decides-like (is_match items []) (Matches-star_none items []) (Matches-star_empty items)
+    (Decides-is_match items [])
 Decides-is_match (Star ∷ items) (byte ∷ rest) =
     Decides-like (is_match items (byte ∷ rest) || is_match (Star ∷ items) rest)
     (λ s. elim s [ inl m ↦ Matches-star_none items (byte ∷ rest) m | inr m ↦ Matches-star_more items byte rest m ])

@@ -1,16 +1,20 @@
 -- Items and elements, as the code reads them off a text.
-use Rattle.std.proofs.Common.{◌≡◌, ◌≢◌, ℕ, ◌-◌, ◌⊎◌, inl, inr, Bool, true, false, List, [], ◌∷◌, ◌++◌, length, refl, sym, ap, ◌∙◌, append_assoc, append-nil, eqb, arith, ◌↔◌, length-append}
+use Rattle.std.proofs.Common.{◌≡◌, ◌≢◌, ℕ, ◌-◌, ◌⊎◌, inl, inr, Bool, true, false, List, [], ◌∷◌, ◌++◌, length, refl}
+use Rattle.std.proofs.Common.{sym, ap, ◌∙◌, append_assoc, append-nil, eqb, arith, ◌↔◌, length-append}
 use Rattle.dt_glob.specs.declared.sign.Sign.{Sign}
 use Rattle.dt_glob.specs.declared.sign.Sign.TheVariants.{Plain, Escaped}
 use Rattle.dt_glob.specs.declared.element.Element.{Element}
 use Rattle.dt_glob.specs.declared.element.Element.TheVariants.{Single, Range}
-use Rattle.dt_glob.specs.Sign.{byte_of, sign_text, text_of_signs, IsSign, AreSigns, star, question, opening, closing, bang, dash}
+use Rattle.dt_glob.specs.Sign.{byte_of, sign_text, text_of_signs, IsSign, AreSigns, star, question, opening, closing}
+use Rattle.dt_glob.specs.Sign.{bang, dash}
 use Rattle.dt_glob.specs.PatternItem.{PatternItem, Star, AnyByte, Literal, OneOf, Holds, HoldsAny}
-use Rattle.dt_glob.specs.Spells.{BeginsRangeEnd, SpellsElements, Lacks, BeginsWith, SpellsSet, SpellsItem, SpellsItems, Spells}
+use Rattle.dt_glob.specs.Spells.{BeginsRangeEnd, SpellsElements, Lacks, BeginsWith, SpellsSet, SpellsItem, SpellsItems}
+use Rattle.dt_glob.specs.Spells.{Spells}
 use Rattle.dt_glob.specs.Token.{ShowsElements, ReadsElement, IsToken, ReadsToken, ClosesAt, BeginsSet}
 use Rattle.dt_glob.specs.declared.token.Token.{Token}
 use Rattle.dt_glob.specs.declared.token.Token.TheVariants as token
-use Rattle.dt_glob.proofs.SignLemmas.{text_of_signs-append, AreSigns-append, AreSigns-front, AreSigns-back, same_sign, plain_apart, Lacks-mark}
+use Rattle.dt_glob.proofs.SignLemmas.{text_of_signs-append, AreSigns-append, AreSigns-front, AreSigns-back, same_sign}
+use Rattle.dt_glob.proofs.SignLemmas.{plain_apart, Lacks-mark}
 
 -- what is left to read of the elements
 pub record LeftOf (elements : List Element) (rest : List ℕ) (byte : ℕ) : Type 0 where
@@ -250,7 +254,8 @@ seeks_more text len rest sign behind h i n e = go h.more h.rest_is h.are_more h.
           more = more;
           behind = h.behind;
           text_is = whole;
-          len_is = let l = ap length whole ∙ length-append (text_of_signs (h.seen ++ sign ∷ [])) behind in omega (arith, l);
+          len_is = let l = ap length whole
+              ∙ length-append (text_of_signs (h.seen ++ sign ∷ [])) behind in omega (arith, l);
           rest_is = sym same.1;
           are_seen = AreSigns-append h.seen (sign ∷ []) h.are_seen (i, tt);
           are_more = a.1;
@@ -270,7 +275,8 @@ closes_once (x ∷ a) [] r s p q u v e =
     (sym (append_assoc (sign_text x) (text_of_signs a) (93 ∷ r)) ∙ e) in absurd (u.0 same.0)
 closes_once (x ∷ a) (y ∷ b) r s p q u v e =
     let same = same_sign x y (text_of_signs a ++ 93 ∷ r) (text_of_signs b ++ 93 ∷ s) p.0 q.0
-    (sym (append_assoc (sign_text x) (text_of_signs a) (93 ∷ r)) ∙ e ∙ append_assoc (sign_text y) (text_of_signs b) (93 ∷ s))
+    (sym (append_assoc (sign_text x) (text_of_signs a) (93 ∷ r)) ∙ e
+    ∙ append_assoc (sign_text y) (text_of_signs b) (93 ∷ s))
     in
     let more = closes_once a b r s p.1 q.1 u.1 v.1 same.1 in
     (cc (same.0, more.0), more.1)
@@ -322,7 +328,8 @@ bang_text (Escaped byte ∷ signs) rest e = let same : ◌≡◌ {A = ℕ} 92 33
 pub set_negated : (negated : Bool) (elements : List Element) (inside rest : List ℕ) → FindsSet negated elements inside
     → inside ≡ 33 ∷ rest → (negated ≡ true) × ShowsElements rest elements
 set_negated true elements inside rest h e =
-    let written : 33 ∷ rest ≡ 33 ∷ text_of_signs h.spells.inside = sym e ∙ h.written ∙ ap text_of_signs h.spells.begins in
+    let written : 33 ∷ rest ≡ 33 ∷ text_of_signs h.spells.inside =
+    sym e ∙ h.written ∙ ap text_of_signs h.spells.begins in
     let are : AreSigns (bang ∷ h.spells.inside) = rw h.spells.begins at h.are_signs in
     (refl, record { signs = h.spells.inside; written = cc; are_signs = are.1; spells = h.spells.spells })
 set_negated false elements inside rest h e =
@@ -331,7 +338,8 @@ set_negated false elements inside rest h e =
 
 pub set_plain : (negated : Bool) (elements : List Element) (inside : List ℕ) → FindsSet negated elements inside
     → ((rest : List ℕ) → inside ≢ 33 ∷ rest) → (negated ≡ false) × ShowsElements inside elements
-set_plain true elements inside h n = absurd (n (text_of_signs h.spells.inside) (h.written ∙ ap text_of_signs h.spells.begins))
+set_plain true elements inside h n =
+    absurd (n (text_of_signs h.spells.inside) (h.written ∙ ap text_of_signs h.spells.begins))
 set_plain false elements inside h n =
     let are : AreSigns h.spells.inside = rw h.spells.begins at h.are_signs in (
       refl,
@@ -412,7 +420,8 @@ star_item : (inner : List Sign) (item : PatternItem) → SpellsItem (star ∷ in
 star_item inner Star e = (cc, refl)
 star_item inner AnyByte e = let same : star ≡ question = cc in absurd (plain_apart 42 63 (λ k. omega arith) same)
 star_item inner (Literal byte) (inl e) = let same : Plain 42 ≡ Escaped byte = cc in cc
-star_item inner (Literal byte) (inr h) = let e = h.0 in let same : Plain 42 ≡ Plain byte = cc in absurd (h.1 (sym same))
+star_item inner (Literal byte) (inr h) = let e = h.0 in let same : Plain 42 ≡ Plain byte =
+    cc in absurd (h.1 (sym same))
 star_item inner (OneOf negated elements) h = let e = h.1 in let same : star ≡ opening =
     cc in absurd (plain_apart 42 91 (λ k. omega arith) same)
 

@@ -1,7 +1,9 @@
 -- What stands behind the blanks: one rest, and only one.
-use Rattle.std.proofs.Common.{◌≡◌, ◌≢◌, ℕ, zero, suc, ◌<◌, ◌≤◌, ◌⊎◌, inl, inr, false, eqb, IsTrue, List, [], ◌∷◌, ◌++◌, length, refl, sym, ap, ◌∙◌, subst, arith, length-append}
+use Rattle.std.proofs.Common.{◌≡◌, ◌≢◌, ℕ, zero, suc, ◌<◌, ◌≤◌, ◌⊎◌, inl, inr, false, eqb, IsTrue, List, [], ◌∷◌, ◌++◌}
+use Rattle.std.proofs.Common.{length, refl, sym, ap, ◌∙◌, subst, arith, length-append}
 use Rattle.std.proofs.lemmas.Bool.{false≢true, eqb-true, eq-eqb}
-use Rattle.dt_lang.specs.Blanks.{is_blank, HasNoEnd, BeginsWithBlank, EndsComment, BeginsWithComment, StripsBlank, SkipsBlanks, none_left, one_more}
+use Rattle.dt_lang.specs.Blanks.{is_blank, HasNoEnd, BeginsWithBlank, EndsComment, BeginsWithComment, StripsBlank}
+use Rattle.dt_lang.specs.Blanks.{SkipsBlanks, none_left, one_more}
 use Rattle.dt_lang.proofs.Comments.{before_more, ends_here, no_end_nil}
 use Rattle.dt_lang.proofs.Lists.{tails}
 use Rattle.dt_lang.proofs.Runs.{truth_of}

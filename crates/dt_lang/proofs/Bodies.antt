@@ -1,5 +1,7 @@
 -- What is found by its first byte, in a predicate or a body, is the longest piece.
-use Rattle.std.proofs.Common.{◌≡◌, ◌≢◌, ℕ, zero, suc, ◌+◌, ◌<◌, ◌≤◌, ◌⊎◌, inl, inr, Bool, true, false, cond, ltb, eqb, List, [], ◌∷◌, ◌++◌, length, drop, get_or, refl, sym, ap, ◌∙◌, subst, arith, append_assoc, length-append}
+use Rattle.std.proofs.Common.{◌≡◌, ◌≢◌, ℕ, zero, suc, ◌+◌, ◌<◌, ◌≤◌, ◌⊎◌, inl, inr, Bool, true, false, cond, ltb, eqb}
+use Rattle.std.proofs.Common.{List, [], ◌∷◌, ◌++◌, length, drop, get_or, refl, sym, ap, ◌∙◌, subst, arith}
+use Rattle.std.proofs.Common.{append_assoc, length-append}
 use Rattle.std.proofs.lemmas.Bool.{false≢true, eqb-true, eq-eqb, ltb-true, cases_lt}
 use Rattle.std.proofs.lemmas.Bool.Decides.{nat_tests}
 use Rattle.std.proofs.lemmas.List.Folds.{length-prefix_len}
@@ -8,7 +10,8 @@ use Rattle.std.specs.List.{take_while, prefix_len, AllPass}
 use Rattle.dt_names.specs.declared.short_text.TheConstants.{SHORT_TEXT_MAX}
 use Rattle.dt_lang.specs.Class.{is_word_byte, is_text_byte}
 use Rattle.dt_lang.specs.Lexeme.{IsIdentifier, IsName, IsBodyToken, OPENING, IsBodyPiece}
-use Rattle.dt_lang.specs.Piece.{start_of, identifier_at, FindsWord, NumberOf, text_of, aggregation_of, FindsSign, FindsAs, FindsInBody, opens_comment}
+use Rattle.dt_lang.specs.Piece.{start_of, identifier_at, FindsWord, NumberOf, text_of, aggregation_of, FindsSign}
+use Rattle.dt_lang.specs.Piece.{FindsAs, FindsInBody, opens_comment}
 use Rattle.dt_lang.specs.Spelling.{spelling}
 use Rattle.dt_lang.specs.declared.piece.Piece.{Piece}
 use Rattle.dt_lang.specs.declared.piece.Piece.TheVariants as piece
@@ -17,7 +20,8 @@ use Rattle.dt_lang.specs.declared.piece.Start.TheVariants as start
 use Rattle.dt_lang.specs.declared.token.Token.TheVariants as token
 use Rattle.dt_lang.proofs.Fronts.{Fits, Closed, Open, front_fits, short_aggregation, long_aggregation}
 use Rattle.dt_lang.proofs.Lists.{tails, first_of, last_of}
-use Rattle.dt_lang.proofs.Runs.{truth_of, run_at_least, run_exactly, run_passes, run_cut, behind_run, run_begins, run_ends}
+use Rattle.dt_lang.proofs.Runs.{truth_of, run_at_least, run_exactly, run_passes, run_cut, behind_run, run_begins}
+use Rattle.dt_lang.proofs.Runs.{run_ends}
 use Rattle.dt_lang.proofs.Signs.{at_most_two}
 use Rattle.dt_lang.proofs.Starts.{Starts, starts, word_digit}
 

@@ -1,10 +1,12 @@
--- The laws of refusing: a token is refused for the cause that the state says, and where it says none, none holds. For all
+-- The laws of refusing: a token is refused for the cause that the state says, and where it says none, none holds. For
+-- all
 -- tokens `t` and `ts`, and states `s` with `run start ts ≡ Some s`:
 --
 --     refused    cause_of s t ≡ Some cause → Refused ts t cause
 --     unrefused  cause_of s t ≡ None → Holds ts t cause → ⊥
 --     one_cause  Refused ts t cause → Refused ts t other → cause ≡ other
-use Rattle.std.proofs.Common.{◌≡◌, ◌⊎◌, inl, inr, ℕ, ◌+◌, Bool, true, false, not, ◌&&◌, List, [], ◌∷◌, ◌++◌, Option, Some, None, is_some, refl, sym, ap, ◌∙◌, Decides}
+use Rattle.std.proofs.Common.{◌≡◌, ◌⊎◌, inl, inr, ℕ, ◌+◌, Bool, true, false, not, ◌&&◌, List, [], ◌∷◌, ◌++◌, Option}
+use Rattle.std.proofs.Common.{Some, None, is_some, refl, sym, ap, ◌∙◌, Decides}
 use Rattle.std.specs.Prelude.{option_and_then}
 use Rattle.dt_expr.specs.declared.scene.NumberVariable.TheVariants as variable
 use Rattle.dt_expr.specs.declared.scene.TextVariable.TheVariants as text_variable
@@ -20,9 +22,13 @@ use Rattle.dt_lang.specs.Grammar.{begins, ends, Begins}
 use Rattle.dt_lang.specs.Program.{ArgForm, number, text, ClauseForm}
 use Rattle.dt_lang.specs.Stand.{Slot, predicate, traced, exited, key, value}
 use Rattle.dt_lang.specs.declared.fault.Why.TheVariants.{Syntax}
-use Rattle.dt_lang.specs.Refused.{Cause, because, StatementBegins, IsDestructive, NameStands, a_statement, a_function, IsNoAction, VariableStands, a_number, a_text, NamesNoVariable, IsNoVariable, Holds, Refused}
-use Rattle.dt_lang.specs.ClauseState.{Place, body, assigned, within, bounded, at_lower, at_upper, at_step, ProgramState, state, shut, go_on, from_within, step_from, step, run, start}
-use Rattle.dt_lang.specs.Cause.{too_long_at, out_of_range_at, is_word, names_no_variable, destructive_of, is_no_description, statement_at, name_at, operand_at, destroys_at, cause_of}
+use Rattle.dt_lang.specs.Refused.{Cause, because, StatementBegins, IsDestructive, NameStands, a_statement, a_function}
+use Rattle.dt_lang.specs.Refused.{IsNoAction, VariableStands, a_number, a_text, NamesNoVariable, IsNoVariable, Holds}
+use Rattle.dt_lang.specs.Refused.{Refused}
+use Rattle.dt_lang.specs.ClauseState.{Place, body, assigned, within, bounded, at_lower, at_upper, at_step}
+use Rattle.dt_lang.specs.ClauseState.{ProgramState, state, shut, go_on, from_within, step_from, step, run, start}
+use Rattle.dt_lang.specs.Cause.{too_long_at, out_of_range_at, is_word, names_no_variable, destructive_of}
+use Rattle.dt_lang.specs.Cause.{is_no_description, statement_at, name_at, operand_at, destroys_at, cause_of}
 use Rattle.dt_lang.proofs.ExpressionLaws.{foreign}
 use Rattle.dt_lang.proofs.ClauseSound.{none_some, same_some}
 use Rattle.dt_lang.proofs.ClauseLaws.{Steps, goes_on, begins_on}
@@ -150,7 +156,8 @@ module _ (ts : List Token) (t : Token) (s : ProgramState) (h : run start ts ≡ 
 
   name_where : NameStands ts → name_at s.place ≡ true
   unfolding step
-  name_where (a_statement b) = let k = goes_on ts s _ h b in from_statement s.place (statement_place s.clauses s.clause s.place k.next k.steps)
+  name_where (a_statement b) = let k =
+      goes_on ts s _ h b in from_statement s.place (statement_place s.clauses s.clause s.place k.next k.steps)
     where
       from_statement : (p : Place) → statement_at p ≡ true → name_at p ≡ true
       from_statement (body begins) e = refl
@@ -180,7 +187,8 @@ module _ (ts : List Token) (t : Token) (s : ProgramState) (h : run start ts ≡ 
   syntax_decides = (λ e b. go (step s t) (goes_on ts s t h b) e, λ n. back (step s t) refl n)
     where
       go : (o : Option ProgramState) → Steps s t → not (is_some (step s t)) ≡ true → ⊥
-      go o k e = let i : not (is_some (step s t)) ≡ false = ap (λ (x : Option ProgramState). not (is_some x)) k.steps in cc
+      go o k e = let i : not (is_some (step s t)) ≡ false =
+          ap (λ (x : Option ProgramState). not (is_some x)) k.steps in cc
 
       back : (o : Option ProgramState) → step s t ≡ o → (Begins (ts ++ (t ∷ [])) → ⊥) → not (is_some o) ≡ true
       back None k n = refl
@@ -296,5 +304,6 @@ module _ (ts : List Token) (t : Token) (s : ProgramState) (h : run start ts ≡ 
   unrefused_steps e = go (step s t) refl
     where
       go : (o : Option ProgramState) → step s t ≡ o → Steps s t
-      go None k = absurd (unrefused e (because Syntax) ((syntax_decides ts t s h).0 (ap (λ (x : Option ProgramState). not (is_some x)) k)))
+      go None k = absurd (unrefused e (because Syntax)
+          ((syntax_decides ts t s h).0 (ap (λ (x : Option ProgramState). not (is_some x)) k)))
       go (Some next) k = record { next = next; steps = k }

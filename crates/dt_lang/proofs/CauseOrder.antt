@@ -1,13 +1,16 @@
--- Of the causes that hold, the first is that for which a token is refused: so there is one, where the tests of all causes
+-- Of the causes that hold, the first is that for which a token is refused: so there is one, where the tests of all
+-- causes
 -- are at hand.
-use Rattle.std.proofs.Common.{◌≡◌, ◌≢◌, ℕ, ◌<◌, Bool, true, false, List, [], ◌∷◌, ◌++◌, Option, Some, None, refl, sym, ◌∙◌, arith, Decides}
+use Rattle.std.proofs.Common.{◌≡◌, ◌≢◌, ℕ, ◌<◌, Bool, true, false, List, [], ◌∷◌, ◌++◌, Option, Some, None, refl, sym}
+use Rattle.std.proofs.Common.{◌∙◌, arith, Decides}
 use Rattle.dt_lang.specs.declared.fault.Why.{Why}
 use Rattle.dt_lang.specs.declared.fault.Why.TheVariants.{Syntax, Probe, Action, Variable, TooLong, Range}
 use Rattle.dt_lang.specs.declared.token.Token.{Token}
 use Rattle.dt_lang.specs.declared.token.Token.TheVariants as token
 use Rattle.dt_lang.specs.declared.word.Destructive.{Destructive}
 use Rattle.dt_lang.specs.Grammar.{Begins}
-use Rattle.dt_lang.specs.Refused.{Cause, because, destroys, rank, IsTooLong, IsDestructive, IsNoAction, IsNoVariable, IsOutOfRange, Holds, Refused}
+use Rattle.dt_lang.specs.Refused.{Cause, because, destroys, rank, IsTooLong, IsDestructive, IsNoAction, IsNoVariable}
+use Rattle.dt_lang.specs.Refused.{IsOutOfRange, Holds, Refused}
 use Rattle.dt_lang.specs.Cause.{first_cause}
 use Rattle.dt_lang.proofs.ClauseSound.{none_some, same_some}
 
@@ -124,12 +127,14 @@ module _ (ts : List Token) (t : Token) where
       (false_not _ h.probe_is)) (false_not _ h.action_is) in
       landed _ _ e (record { holds = h.variable_is.0 refl; first = b })
   refused_by false None false false false true s cause h e =
-      let b = below_5 (below_4 (below_3 (below_2 (below_1 (false_not _ h.too_long_is)) (none_not ts t h.is_destructive))
+      let b = below_5 (below_4 (below_3
+      (below_2 (below_1 (false_not _ h.too_long_is)) (none_not ts t h.is_destructive))
       (false_not _ h.probe_is)) (false_not _ h.action_is)) (false_not _ h.variable_is) in
       landed _ _ e (record { holds = h.range_is.0 refl; first = b })
   refused_by false None false false false false true cause h e =
       let b = below_6 (below_5 (below_4 (below_3 (below_2 (below_1 (false_not _ h.too_long_is))
-      (none_not ts t h.is_destructive)) (false_not _ h.probe_is)) (false_not _ h.action_is)) (false_not _ h.variable_is))
+      (none_not ts t h.is_destructive)) (false_not _ h.probe_is)) (false_not _ h.action_is))
+      (false_not _ h.variable_is))
       (false_not _ h.range_is) in
       landed _ _ e (record { holds = h.syntax_is.0 refl; first = b })
   refused_by false None false false false false false cause h e = absurd (none_some e)
@@ -140,7 +145,8 @@ module _ (ts : List Token) (t : Token) where
       → (cause : Cause) → Holds ts t cause → ⊥
   unrefused_by false None false false false false false h e =
       none_holds (below_6 (below_5 (below_4 (below_3 (below_2 (below_1 (false_not _ h.too_long_is))
-      (none_not ts t h.is_destructive)) (false_not _ h.probe_is)) (false_not _ h.action_is)) (false_not _ h.variable_is))
+      (none_not ts t h.is_destructive)) (false_not _ h.probe_is)) (false_not _ h.action_is))
+      (false_not _ h.variable_is))
       (false_not _ h.range_is)) (false_not _ h.syntax_is)
   unrefused_by false None false false false false true h e = cc
   unrefused_by false None false false false true s h e = cc

@@ -1,5 +1,6 @@
 -- What is read as a program leads through the states of its reading to its end.
-use Rattle.std.proofs.Common.{◌≡◌, ◌≢◌, ℕ, ◌+◌, leb, true, false, ◌&&◌, List, [], ◌∷◌, ◌++◌, length, Option, Some, None, refl, sym, ap, ◌∙◌, append_assoc, ℤ, le-leb, add-zero, suc, arith}
+use Rattle.std.proofs.Common.{◌≡◌, ◌≢◌, ℕ, ◌+◌, leb, true, false, ◌&&◌, List, [], ◌∷◌, ◌++◌, length, Option, Some}
+use Rattle.std.proofs.Common.{None, refl, sym, ap, ◌∙◌, append_assoc, ℤ, le-leb, add-zero, suc, arith}
 use Rattle.std.specs.Prelude.{option_and_then}
 use Rattle.dt_expr.specs.Form.{Form}
 use Rattle.dt_lang.specs.Description.{DescForm}
@@ -11,12 +12,19 @@ use Rattle.dt_lang.specs.declared.word.Function.{Function}
 use Rattle.dt_lang.specs.declared.word.Function.TheVariants as function
 use Rattle.dt_lang.specs.ExpressionState as expression
 use Rattle.dt_lang.specs.ExpressionState.{IsRead, ends_argument}
-use Rattle.dt_lang.specs.Grammar.{ReadsHead, a_description, another, ReadsOpening, always, ReadsKeys, a_key, ReadsTarget, bare, ReadsConstant, plain, negative, ReadsBounds, by_one, stepped, call_of, ReadsCall, counting, of_one, in_levels, AreFrames, ReadsStatement, tracing, of_stack, of_ustack, exiting, aggregating, Spot, begins, ends, ReadsBody, nothing, stated, separated, ReadsClause, a_clause, ReadsClauses, ReadsProgram}
+use Rattle.dt_lang.specs.Grammar.{ReadsHead, a_description, another, ReadsOpening, always, ReadsKeys, a_key}
+use Rattle.dt_lang.specs.Grammar.{ReadsTarget, bare, ReadsConstant, plain, negative, ReadsBounds, by_one, stepped}
+use Rattle.dt_lang.specs.Grammar.{call_of, ReadsCall, counting, of_one, in_levels, AreFrames, ReadsStatement, tracing}
+use Rattle.dt_lang.specs.Grammar.{of_stack, of_ustack, exiting, aggregating, Spot, begins, ends, ReadsBody, nothing}
+use Rattle.dt_lang.specs.Grammar.{stated, separated, ReadsClause, a_clause, ReadsClauses, ReadsProgram}
 use Rattle.dt_lang.specs.Grammar as grammar
 use Rattle.dt_lang.specs.Program.{ArgForm, number, CallForm, lquantize, StatementForm, aggregate, ClauseForm}
-use Rattle.dt_lang.specs.Stand.{HeadStands, BodyStands, KeysStand, TargetStands, Slot, predicate, traced, exited, key, value, divides_in, SlotOpens}
+use Rattle.dt_lang.specs.Stand.{HeadStands, BodyStands, KeysStand, TargetStands, Slot, predicate, traced, exited, key}
+use Rattle.dt_lang.specs.Stand.{value, divides_in, SlotOpens}
 use Rattle.dt_lang.specs.Stand as stand
-use Rattle.dt_lang.specs.ClauseState.{BoundForm, at_lower, at_upper, at_step, outside, described, body, keyed, assigned, within, bounding, bounded, ProgramState, state, headed, ended, entered, given, shut, step, run, start, whole, finished}
+use Rattle.dt_lang.specs.ClauseState.{BoundForm, at_lower, at_upper, at_step, outside, described, body, keyed}
+use Rattle.dt_lang.specs.ClauseState.{assigned, within, bounding, bounded, ProgramState, state, headed, ended, entered}
+use Rattle.dt_lang.specs.ClauseState.{given, shut, step, run, start, whole, finished}
 use Rattle.dt_lang.proofs.ExpressionLaws.{complete, complete_argument}
 use Rattle.dt_lang.proofs.ExpressionLaws as laws
 use Rattle.dt_lang.proofs.Reading.{split_last, split_two}
@@ -40,7 +48,8 @@ pub run_on : (s middle last : ProgramState) (ts us : List Token) → run s ts �
 run_on s middle last ts us h k = run-append ts us s ∙ rw h k
 
 -- the rest is read where the first tokens lead
-pub run_over : (s middle : ProgramState) (ts us : List Token) → run s ts ≡ Some middle → run s (ts ++ us) ≡ run middle us
+pub run_over : (s middle : ProgramState) (ts us : List Token) → run s ts ≡ Some middle → run s (ts ++ us)
+    ≡ run middle us
 run_over s middle ts us h = run-append ts us s ∙ rw h refl
 
 -- one more token
@@ -182,12 +191,14 @@ keys_lead cs c name _ _ (a_key ts a h) =
 keys_lead cs c name _ _ (grammar.another ts us keys a h k) =
     let l = keys_lead cs c name ts keys h in
     let r = complete_argument us a k in
-    let first : run (entered cs c (key name [])) (ts ++ (token.Sign sign.Comma ∷ [])) ≡ Some (entered cs c (key name keys))
+    let first : run (entered cs c (key name [])) (ts ++ (token.Sign sign.Comma ∷ []))
+    ≡ Some (entered cs c (key name keys))
     = key_ends cs c name ts keys (token.Sign sign.Comma) _ l refl
     (ap (λ (x : List ArgForm). Some (entered cs c (key name x))) (sym l.keys_are)) in
     let all : run (entered cs c (key name [])) ((ts ++ (token.Sign sign.Comma ∷ [])) ++ us)
     ≡ Some (state cs c (within (key name keys) (0 + length us) r.at))
-    = run_on _ _ _ (ts ++ (token.Sign sign.Comma ∷ [])) us first (run_within cs c (key name keys) us 0 _ r.at r.runs) in
+    = run_on _ _ _ (ts ++ (token.Sign sign.Comma ∷ [])) us first
+    (run_within cs c (key name keys) us 0 _ r.at r.runs) in
     record {
       before = keys;
       last = a;

@@ -1,4 +1,5 @@
--- The laws of reading programs token by token. `run start ts` is what the tokens lead to. For all tokens `t`, `ts`, `us`,
+-- The laws of reading programs token by token. `run start ts` is what the tokens lead to. For all tokens `t`, `ts`,
+-- `us`,
 -- states `s` and programs `cs`:
 --
 --     program_leads  ReadsProgram ts cs → ProgramLeads ts cs

@@ -1,5 +1,7 @@
 -- What a step of the reading of programs says of the tokens that were read.
-use Rattle.std.proofs.Common.{◌≡◌, ◌≢◌, ℕ, ◌+◌, leb, Bool, true, false, ◌&&◌, List, [], ◌∷◌, ◌++◌, Option, Some, None, refl, sym, ap, ◌∙◌, subst, append_assoc, append-nil, length-append, ℤ, pos, leb-true, if◌then◌else◌}
+use Rattle.std.proofs.Common.{◌≡◌, ◌≢◌, ℕ, ◌+◌, leb, Bool, true, false, ◌&&◌, List, [], ◌∷◌, ◌++◌, Option, Some, None}
+use Rattle.std.proofs.Common.{refl, sym, ap, ◌∙◌, subst, append_assoc, append-nil, length-append, ℤ, pos, leb-true}
+use Rattle.std.proofs.Common.{if◌then◌else◌}
 use Rattle.std.specs.Prelude.{option_and_then}
 use Rattle.dt_expr.specs.Form.{Form}
 use Rattle.dt_lang.specs.declared.program.TheConstants.{FRAMES_MAX}
@@ -13,13 +15,28 @@ use Rattle.dt_lang.specs.declared.word.Function.TheVariants as function
 use Rattle.dt_lang.specs.declared.word.Word.TheVariants as word
 use Rattle.dt_lang.specs.Expression.{ReadsExpr, ReadsArgument}
 use Rattle.dt_lang.specs.ExpressionState as expression
-use Rattle.dt_lang.specs.Grammar.{ReadsKeys, ReadsTarget, ReadsConstant, ReadsBounds, by_one, stepped, call_of, ReadsCall, counting, of_one, in_levels, AreFrames, ReadsStatement, tracing, of_stack, of_ustack, exiting, aggregating, Spot, begins, ends, ReadsClauses}
+use Rattle.dt_lang.specs.Grammar.{ReadsKeys, ReadsTarget, ReadsConstant, ReadsBounds, by_one, stepped, call_of}
+use Rattle.dt_lang.specs.Grammar.{ReadsCall, counting, of_one, in_levels, AreFrames, ReadsStatement, tracing, of_stack}
+use Rattle.dt_lang.specs.Grammar.{of_ustack, exiting, aggregating, Spot, begins, ends, ReadsClauses}
 use Rattle.dt_lang.specs.Grammar as grammar
-use Rattle.dt_lang.specs.Program.{ArgForm, number, CallForm, count, lquantize, StatementForm, trace, exit, aggregate, ClauseForm}
-use Rattle.dt_lang.specs.Stand.{HeadStands, BodyStands, KeysStand, TargetStands, Slot, predicate, traced, exited, key, value, divides_in, SlotOpens, a_predicate, an_argument, a_status, first_key, a_key, a_value}
-use Rattle.dt_lang.specs.ClauseState.{BoundForm, at_lower, at_upper, at_step, Place, outside, described, listed, guarded, body, called, framed, closing, named, keyed, assigned, applied, within, bounding, negating, bounded, ProgramState, state, headed, with_statement, ended, entered, from_outside, from_described, from_listed, from_guarded, from_begins, from_ends, opened, from_called, stack_of, from_framed, from_closing, from_named, from_keyed, from_assigned, given, from_applied, shut_predicate, shut_traced, shut_exited, shut_key, shut_levels, shut_value, shut, go_on, from_within, from_bounding, from_negating, from_bounded, step_from, step, run, start}
+use Rattle.dt_lang.specs.Program.{ArgForm, number, CallForm, count, lquantize, StatementForm, trace, exit, aggregate}
+use Rattle.dt_lang.specs.Program.{ClauseForm}
+use Rattle.dt_lang.specs.Stand.{HeadStands, BodyStands, KeysStand, TargetStands, Slot, predicate, traced, exited, key}
+use Rattle.dt_lang.specs.Stand.{value, divides_in, SlotOpens, a_predicate, an_argument, a_status, first_key, a_key}
+use Rattle.dt_lang.specs.Stand.{a_value}
+use Rattle.dt_lang.specs.ClauseState.{BoundForm, at_lower, at_upper, at_step, Place, outside, described, listed}
+use Rattle.dt_lang.specs.ClauseState.{guarded, body, called, framed, closing, named, keyed, assigned, applied, within}
+use Rattle.dt_lang.specs.ClauseState.{bounding, negating, bounded, ProgramState, state, headed, with_statement, ended}
+use Rattle.dt_lang.specs.ClauseState.{entered, from_outside, from_described, from_listed, from_guarded, from_begins}
+use Rattle.dt_lang.specs.ClauseState.{from_ends, opened, from_called, stack_of, from_framed, from_closing, from_named}
+use Rattle.dt_lang.specs.ClauseState.{from_keyed, from_assigned, given, from_applied, shut_predicate, shut_traced}
+use Rattle.dt_lang.specs.ClauseState.{shut_exited, shut_key, shut_levels, shut_value, shut, go_on, from_within}
+use Rattle.dt_lang.specs.ClauseState.{from_bounding, from_negating, from_bounded, step_from, step, run, start}
 use Rattle.dt_lang.proofs.ExpressionLaws.{sound, sound_argument, run-append}
-use Rattle.dt_lang.proofs.Reading.{HeadRead, ListRead, GuardRead, Follows, FollowsTarget, Closing, Within, BoundsBegin, Levels, Bounded, stack_action, ReadAt, Read, split_last, split_three, split_four, split_levels, head_begins, head_goes_on, body_begins, guarded_body_begins, body_separated, body_stated, body_closed}
+use Rattle.dt_lang.proofs.Reading.{HeadRead, ListRead, GuardRead, Follows, FollowsTarget, Closing, Within, BoundsBegin}
+use Rattle.dt_lang.proofs.Reading.{Levels, Bounded, stack_action, ReadAt, Read, split_last, split_three, split_four}
+use Rattle.dt_lang.proofs.Reading.{split_levels, head_begins, head_goes_on, body_begins, guarded_body_begins}
+use Rattle.dt_lang.proofs.Reading.{body_separated, body_stated, body_closed}
 
 pub none_some : {A : Type 0} {x : A} → None ≡ Some x → ⊥
 none_some e = cc
@@ -118,7 +135,8 @@ sound_called cs c a ts (token.Sign sign.OpenParen) next h e =
 sound_called cs c a ts t next h e = absurd (none_some e)
 
 reads_stack : (process : Bool) (n : ℕ) → AreFrames n
-    → ReadsStatement (token.Word (word.Action (stack_action process)) ∷ token.Sign sign.OpenParen ∷ token.Number (pos n)
+    → ReadsStatement (token.Word (word.Action (stack_action process)) ∷ token.Sign sign.OpenParen
+    ∷ token.Number (pos n)
     ∷ token.Sign sign.CloseParen ∷ []) (stack_of process n)
 reads_stack true n h = of_ustack n h
 reads_stack false n h = of_stack n h
@@ -208,18 +226,21 @@ aggregated : (ts front us : List Token) (cs : List ClauseForm) (c : ClauseForm) 
     (call : CallForm) → TargetStands front cs c name keys → ReadsCall us call
     → ts ≡ front ++ (token.Sign sign.Equal ∷ us) → BodyStands ends ts cs (with_statement c (aggregate name keys call))
 aggregated ts front us cs c name keys call h k e =
-    body_stated ts h.front (h.back ++ (token.Sign sign.Equal ∷ us)) cs c _ (rw (e, h.split) (simp append_assoc)) h.stands
+    body_stated ts h.front (h.back ++ (token.Sign sign.Equal ∷ us)) cs c _
+    (rw (e, h.split) (simp append_assoc)) h.stands
     (aggregating h.back us name keys call h.reads k)
 
 counting_closes : (cs : List ClauseForm) (c : ClauseForm) (name : List ℕ) (keys : List ArgForm) (ts : List Token)
     → FollowsTarget
-    (token.Sign sign.Equal ∷ token.Word (word.Function function.Count) ∷ token.Sign sign.OpenParen ∷ []) ts cs c name keys
+    (token.Sign sign.Equal ∷ token.Word (word.Function function.Count) ∷ token.Sign sign.OpenParen ∷ []) ts
+    cs c name keys
     → Closing ts cs c (aggregate name keys count)
 counting_closes cs c name keys ts h =
     let s = h.stands in
     record {
       front = s.front;
-      back = s.back ++ (token.Sign sign.Equal ∷ token.Word (word.Function function.Count) ∷ token.Sign sign.OpenParen ∷ []);
+      back = s.back ++ (token.Sign sign.Equal ∷ token.Word (word.Function function.Count) ∷ token.Sign
+          sign.OpenParen ∷ []);
       split = rw (h.split, s.split) (simp append_assoc);
       stands = s.stands;
       reads = rw append_assoc (aggregating s.back _ name keys count s.reads counting);
@@ -228,17 +249,20 @@ counting_closes cs c name keys ts h =
 -- what is given to a function begins
 value_opens : (cs : List ClauseForm) (c : ClauseForm) (name : List ℕ) (keys : List ArgForm) (fn : Function)
     (ts : List Token) → fn ≢ function.Count
-    → FollowsTarget (token.Sign sign.Equal ∷ token.Word (word.Function fn) ∷ token.Sign sign.OpenParen ∷ []) ts cs c name keys
+    → FollowsTarget (token.Sign sign.Equal ∷ token.Word (word.Function fn) ∷ token.Sign sign.OpenParen ∷ []) ts
+    cs c name keys
     → Read (entered cs c (value name keys fn)) ts
 value_opens cs c name keys fn ts n h =
     let k : SlotOpens (value name keys fn)
     (h.front ++ (token.Sign sign.Equal ∷ token.Word (word.Function fn) ∷ token.Sign sign.OpenParen ∷ [])) cs c
     = a_value h.front cs c name keys fn n h.stands in
-    enters ts cs c (value name keys fn) (subst (λ (x : List Token). SlotOpens (value name keys fn) x cs c) (sym h.split) k)
+    enters ts cs c (value name keys fn)
+    (subst (λ (x : List Token). SlotOpens (value name keys fn) x cs c) (sym h.split) k)
 
 read_given : (cs : List ClauseForm) (c : ClauseForm) (name : List ℕ) (keys : List ArgForm) (fn : Function)
     (ts : List Token)
-    → FollowsTarget (token.Sign sign.Equal ∷ token.Word (word.Function fn) ∷ token.Sign sign.OpenParen ∷ []) ts cs c name keys
+    → FollowsTarget (token.Sign sign.Equal ∷ token.Word (word.Function fn) ∷ token.Sign sign.OpenParen ∷ []) ts
+    cs c name keys
     → Read (given cs c name keys fn) ts
 read_given cs c name keys function.Count ts h = counting_closes cs c name keys ts h
 read_given cs c name keys function.Sum ts h = value_opens cs c name keys _ ts (λ e. cc) h
@@ -296,7 +320,8 @@ opens_exited (a_status ts cs c h) = record { front = ts; split = refl; stands = 
 
 opens_value : {ts : List Token} {cs : List ClauseForm} {c : ClauseForm} {name : List ℕ} {keys : List ArgForm}
     {fn : Function} → SlotOpens (value name keys fn) ts cs c
-    → FollowsTarget (token.Sign sign.Equal ∷ token.Word (word.Function fn) ∷ token.Sign sign.OpenParen ∷ []) ts cs c name keys
+    → FollowsTarget (token.Sign sign.Equal ∷ token.Word (word.Function fn) ∷ token.Sign sign.OpenParen ∷ []) ts
+    cs c name keys
 opens_value (a_value ts cs c name keys fn n h) = record { front = ts; split = refl; stands = h }
 
 key_read : {front : List Token} {cs : List ClauseForm} {c : ClauseForm} {name : List ℕ} {keys : List ArgForm}
@@ -496,7 +521,8 @@ bound_begins ts tail cs c name keys f b next h k = record {
   front = h.front;
   middle = h.middle;
   back = h.back ++ (tail ++ (token.Sign sign.Comma ∷ []));
-  split = split_four ts h.front h.middle h.back tail _ h.split ∙ ap (λ (x : List Token). h.front ++ (h.middle ++ x)) (sym (append-nil _));
+  split = split_four ts h.front h.middle h.back tail _ h.split
+      ∙ ap (λ (x : List Token). h.front ++ (h.middle ++ x)) (sym (append-nil _));
   opens = h.opens;
   reads = h.reads;
   bounds = k;
@@ -534,9 +560,11 @@ sound_at_upper cs c name keys f lower z ts (token.Sign sign.Comma) next h k =
 sound_at_upper cs c name keys f lower z ts (token.Sign sign.CloseParen) next h k =
     let l = h.levels in
     let (us, e, r) = l.bounds in
-    let i : l.back ++ h.tail ≡ token.Sign sign.Comma ∷ (us ++ (token.Sign sign.Comma ∷ h.tail)) = rw e (simp append_assoc) in
+    let i : l.back ++ h.tail ≡ token.Sign sign.Comma ∷ (us ++ (token.Sign sign.Comma ∷ h.tail)) =
+    rw e (simp append_assoc) in
     landed _ _ _ k
-    (levels_end ts h.tail cs c name keys f (at_upper lower) lower z (pos 1) l (rw i (by_one us h.tail lower z r h.reads)))
+    (levels_end ts h.tail cs c name keys f (at_upper lower) lower z (pos 1) l
+    (rw i (by_one us h.tail lower z r h.reads)))
 sound_at_upper cs c name keys f lower z ts t next h k = absurd (none_some k)
 
 sound_at_step : (cs : List ClauseForm) (c : ClauseForm) (name : List ℕ) (keys : List ArgForm) (f : Form)

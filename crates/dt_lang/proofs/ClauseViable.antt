@@ -1,5 +1,6 @@
 -- Whatever was read of a program goes on to a whole one.
-use Rattle.std.proofs.Common.{◌≡◌, ◌≢◌, ℕ, ◌+◌, Bool, true, false, List, [], ◌∷◌, ◌++◌, length, Some, refl, sym, ◌∙◌, ℤ, pos}
+use Rattle.std.proofs.Common.{◌≡◌, ◌≢◌, ℕ, ◌+◌, Bool, true, false, List, [], ◌∷◌, ◌++◌, length, Some, refl, sym, ◌∙◌}
+use Rattle.std.proofs.Common.{ℤ, pos}
 use Rattle.dt_expr.specs.Form.{Form}
 use Rattle.dt_lang.specs.declared.description.Description.{Description}
 use Rattle.dt_lang.specs.declared.token.Sign.TheVariants as sign
@@ -15,7 +16,10 @@ use Rattle.dt_lang.specs.ExpressionState.{IsRead, ends_argument}
 use Rattle.dt_lang.specs.Grammar.{Spot, begins, ends}
 use Rattle.dt_lang.specs.Program.{ArgForm, number, StatementForm, ClauseForm}
 use Rattle.dt_lang.specs.Stand.{Slot, predicate, traced, exited, key, value, divides_in, SlotOpens, a_value}
-use Rattle.dt_lang.specs.ClauseState.{BoundForm, at_lower, at_upper, at_step, Place, outside, described, listed, guarded, body, called, framed, closing, named, keyed, assigned, applied, within, bounding, negating, bounded, ProgramState, state, entered, given, shut, step, run}
+use Rattle.dt_lang.specs.ClauseState.{BoundForm, at_lower, at_upper, at_step, Place, outside, described, listed}
+use Rattle.dt_lang.specs.ClauseState.{guarded, body, called, framed, closing, named, keyed, assigned, applied, within}
+use Rattle.dt_lang.specs.ClauseState.{bounding, negating, bounded, ProgramState, state, entered, given, shut, step}
+use Rattle.dt_lang.specs.ClauseState.{run}
 use Rattle.dt_lang.proofs.ExpressionLaws.{complete, run_beginning}
 use Rattle.dt_lang.proofs.ExpressionLaws as laws
 use Rattle.dt_lang.proofs.Reading.{Within, ReadAt, Read}
@@ -223,7 +227,8 @@ called_completes : (cs : List ClauseForm) (c : ClauseForm) (a : Action) (ts : Li
     → Read (state cs c (called a)) ts → Completes (state cs c (called a))
 unfolding step
 called_completes cs c action.Trace ts h =
-    let r = sound_step (state cs c (called action.Trace)) (entered cs c traced) ts (token.Sign sign.OpenParen) h refl in
+    let r = sound_step (state cs c (called action.Trace)) (entered cs c traced) ts
+    (token.Sign sign.OpenParen) h refl in
     back _ _ (token.Sign sign.OpenParen) refl (within_completes cs c traced 0 _ _ r)
 called_completes cs c action.Exit ts h =
     let r = sound_step (state cs c (called action.Exit)) (entered cs c exited) ts (token.Sign sign.OpenParen) h refl in
@@ -245,7 +250,8 @@ function_completes : (cs : List ClauseForm) (c : ClauseForm) (name : List ℕ) (
     (ts : List Token) → Read (state cs c (applied name keys fn)) ts → Completes (state cs c (applied name keys fn))
 unfolding step
 function_completes cs c name keys fn ts h =
-    let r = sound_step (state cs c (applied name keys fn)) (given cs c name keys fn) ts (token.Sign sign.OpenParen) h refl in
+    let r = sound_step (state cs c (applied name keys fn)) (given cs c name keys fn) ts
+    (token.Sign sign.OpenParen) h refl in
     back _ _ (token.Sign sign.OpenParen) refl (given_completes cs c name keys fn _ r)
 
 place_completes : (cs : List ClauseForm) (c : ClauseForm) (p : Place) (ts : List Token) → ReadAt cs c p ts

@@ -1,5 +1,6 @@
 -- The bytes and the fields of a description.
-use Rattle.std.proofs.Common.{◌≡◌, ℕ, ◌⊎◌, inl, inr, zero, suc, ◌-◌, ◌≤◌, List, [], ◌∷◌, ◌++◌, length, get_or, replicate, Option, Some, None, refl, sym, ap, ◌∙◌, subst, ⊎_elim, arith}
+use Rattle.std.proofs.Common.{◌≡◌, ℕ, ◌⊎◌, inl, inr, zero, suc, ◌-◌, ◌≤◌, List, [], ◌∷◌, ◌++◌, length, get_or}
+use Rattle.std.proofs.Common.{replicate, Option, Some, None, refl, sym, ap, ◌∙◌, subst, ⊎_elim, arith}
 use Rattle.std.specs.List.{AllByRecursion}
 use Rattle.dt_names.specs.Desc.{Desc, Describes, IsField, fields}
 use Rattle.dt_glob.specs.declared.pattern.TheConstants.{PATTERN_MAX}
@@ -63,7 +64,8 @@ module _ (one_pattern : (text : List ℕ) (a b : List PatternItem) → Spells te
       one_pattern q.desc.module a.module b.module (module_of text q.desc q.described a p) q.module in
       let function : a.function ≡ b.function =
       one_pattern q.desc.function a.function b.function (function_of text q.desc q.described a p) q.function in
-      let name : a.name ≡ b.name = one_pattern q.desc.name a.name b.name (name_of text q.desc q.described a p) q.name in
+      let name : a.name ≡ b.name = one_pattern q.desc.name a.name b.name
+      (name_of text q.desc q.described a p) q.name in
       ap (λ x. record a { provider = x }) provider
       ∙ ap (λ x. record { provider = b.provider; «module» = x; function = a.function; name = a.name }) «module»
       ∙ ap (λ x. record { provider = b.provider; «module» = b.module; function = x; name = a.name }) function

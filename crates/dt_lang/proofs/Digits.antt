@@ -1,5 +1,6 @@
 -- Digits in a base, one after another.
-use Rattle.std.proofs.Common.{◌≡◌, ◌^◌, ◌+◌, ◌*◌, ◌≤◌, ◌%◌, pos, w64, ℕ, zero, suc, ◌<◌, List, [], ◌∷◌, length, get_or, ap, sym, ◌∙◌, arith}
+use Rattle.std.proofs.Common.{◌≡◌, ◌^◌, ◌+◌, ◌*◌, ◌≤◌, ◌%◌, pos, w64, ℕ, zero, suc, ◌<◌, List, [], ◌∷◌, length, get_or}
+use Rattle.std.proofs.Common.{ap, sym, ◌∙◌, arith}
 use Rattle.std.proofs.lemmas.Int.{of_z-to_z}
 use Rattle.std.proofs.Math.Nat.{mod-eq_of_lt}
 use Rattle.std.specs.Int.{int_wrap}

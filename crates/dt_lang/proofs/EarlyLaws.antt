@@ -1,5 +1,6 @@
 -- The cause of a token is the one that it shows at its place, or else what comes of it says it.
-use Rattle.std.proofs.Common.{◌≡◌, ℕ, Bool, true, false, not, ◌&&◌, List, Option, Some, None, is_some, refl, sym, ap, ◌∙◌, subst}
+use Rattle.std.proofs.Common.{◌≡◌, ℕ, Bool, true, false, not, ◌&&◌, List, Option, Some, None, is_some, refl, sym, ap}
+use Rattle.std.proofs.Common.{◌∙◌, subst}
 use Rattle.std.specs.Option.{option_map}
 use Rattle.dt_lang.specs.declared.fault.Refusal.{Refusal}
 use Rattle.dt_lang.specs.declared.fault.Refusal.TheVariants as refusal
@@ -15,7 +16,8 @@ use Rattle.dt_lang.specs.Grammar.{begins}
 use Rattle.dt_lang.specs.Program.{ArgForm, ClauseForm}
 use Rattle.dt_lang.specs.Refused.{Cause}
 use Rattle.dt_lang.specs.ClauseState.{Place, body, assigned, within, ProgramState, step_from, step}
-use Rattle.dt_lang.specs.Cause.{is_word, names_no_variable, is_no_description, name_at, operand_at, destroys_at, too_long_at, out_of_range_at, first_cause, cause_of}
+use Rattle.dt_lang.specs.Cause.{is_word, names_no_variable, is_no_description, name_at, operand_at, destroys_at}
+use Rattle.dt_lang.specs.Cause.{too_long_at, out_of_range_at, first_cause, cause_of}
 use Rattle.dt_lang.specs.Early.{cause_of_refusal, early_elsewhere, early_within, early_at, Outcome, Answers}
 use Rattle.dt_lang.specs.Fits.{Fits}
 use Rattle.dt_lang.proofs.ClauseSound.{none_some}

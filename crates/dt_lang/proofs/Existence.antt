@@ -1,5 +1,6 @@
 -- In each text something stands.
-use Rattle.std.proofs.Common.{◌≡◌, ◌≢◌, ℕ, zero, suc, ◌^◌, ◌⊎◌, inl, inr, Bool, true, false, List, [], ◌∷◌, ◌++◌, Option, Some, None, length, get_or, drop, refl, sym, ap, ◌∙◌, subst, arith, pos}
+use Rattle.std.proofs.Common.{◌≡◌, ◌≢◌, ℕ, zero, suc, ◌^◌, ◌⊎◌, inl, inr, Bool, true, false, List, [], ◌∷◌, ◌++◌}
+use Rattle.std.proofs.Common.{Option, Some, None, length, get_or, drop, refl, sym, ap, ◌∙◌, subst, arith, pos}
 use Rattle.std.proofs.lemmas.Bool.{cases_eq, cases_lt}
 use Rattle.std.specs.Char.{digit_value}
 use Rattle.std.specs.List.{take_while, All, Contains}
@@ -10,7 +11,9 @@ use Rattle.dt_lang.specs.Description.{DescForm, form_of_description, ReadsDescri
 use Rattle.dt_lang.specs.declared.description.Description.{Description}
 use Rattle.dt_lang.specs.Class.{is_word_byte, is_text_byte, is_description_byte}
 use Rattle.dt_lang.specs.Number.{IsNumber, IsDecimal, IsOctal, IsHexadecimal}
-use Rattle.dt_lang.specs.Piece.{start_of, identifier_at, NumberOf, text_of, aggregation_of, BeginsWith, FindsSign, FindsAs, FindsInBody, head_sign, FindsRun, FindsInHead, FindsInMode, FindsUncommented, Finds, opens_comment}
+use Rattle.dt_lang.specs.Piece.{start_of, identifier_at, NumberOf, text_of, aggregation_of, BeginsWith, FindsSign}
+use Rattle.dt_lang.specs.Piece.{FindsAs, FindsInBody, head_sign, FindsRun, FindsInHead, FindsInMode, FindsUncommented}
+use Rattle.dt_lang.specs.Piece.{Finds, opens_comment}
 use Rattle.dt_lang.specs.Spelling.{spelling}
 use Rattle.dt_lang.specs.Word.{name_of_word, IsWord}
 use Rattle.dt_lang.specs.declared.mode.Mode.{Mode}

@@ -1,5 +1,6 @@
 -- What is an expression is read as it.
-use Rattle.std.proofs.Common.{◌≡◌, ℕ, ◌+◌, ◌≤◌, Bool, true, if◌then◌else◌, List, [], ◌∷◌, ◌++◌, Some, None, option_map, refl, ap, ◌∙◌, arith, le-leb}
+use Rattle.std.proofs.Common.{◌≡◌, ℕ, ◌+◌, ◌≤◌, Bool, true, if◌then◌else◌, List, [], ◌∷◌, ◌++◌, Some, None, option_map}
+use Rattle.std.proofs.Common.{refl, ap, ◌∙◌, arith, le-leb}
 use Rattle.dt_expr.specs.Form.{Form, Num, Named, Prefixed, Joined, Compared}
 use Rattle.dt_expr.specs.declared.operators.BinaryOp.{BinaryOp}
 use Rattle.dt_expr.specs.declared.operators.UnaryOp.{UnaryOp}
@@ -9,9 +10,12 @@ use Rattle.dt_lang.specs.declared.token.Sign.{Sign}
 use Rattle.dt_lang.specs.declared.token.Sign.TheVariants as sign
 use Rattle.dt_lang.specs.declared.token.Token.{Token}
 use Rattle.dt_lang.specs.declared.token.Token.TheVariants as token
-use Rattle.dt_lang.specs.Expression.{binding, OPERAND, comparison_of, EQUALITY, text_of, IsOperator, ReadsExpr, a_number, a_variable, prefixed, grouped, compared, looser, joined}
-use Rattle.dt_lang.specs.ExpressionState.{FrameForm, opened, before, after, nothing, whole, lone, compares, level_next, Closed, close, state, wait, leave, step, run}
-use Rattle.dt_lang.proofs.ExpressionSteps.{run_more, run_step, run_one, binding-lt, close_stays, close_ends, begins_sign, begins_text, follows, leaves}
+use Rattle.dt_lang.specs.Expression.{binding, OPERAND, comparison_of, EQUALITY, text_of, IsOperator, ReadsExpr}
+use Rattle.dt_lang.specs.Expression.{a_number, a_variable, prefixed, grouped, compared, looser, joined}
+use Rattle.dt_lang.specs.ExpressionState.{FrameForm, opened, before, after, nothing, whole, lone, compares, level_next}
+use Rattle.dt_lang.specs.ExpressionState.{Closed, close, state, wait, leave, step, run}
+use Rattle.dt_lang.proofs.ExpressionSteps.{run_more, run_step, run_one, binding-lt, close_stays, close_ends}
+use Rattle.dt_lang.proofs.ExpressionSteps.{begins_sign, begins_text, follows, leaves}
 
 -- The tokens are read behind the frames, and what is at hand then is to all that comes as the form alone.
 pub record Arrives (divides : Bool) (frames : List FrameForm) (level : ℕ) (f : Form) (ts : List Token) : Type 0 where
@@ -71,7 +75,8 @@ arrives_grouped divides frames ts f a = record {
 
 arrives_compared : (divides : Bool) (frames : List FrameForm) (s : Sign) (op : TextOp) (left right : Token)
     (a b : Text) → comparison_of s ≡ Some op → text_of left ≡ Some a → text_of right ≡ Some b
-    → level_next frames ≤ EQUALITY → Arrives divides frames EQUALITY (Compared op a b) (left ∷ token.Sign s ∷ right ∷ [])
+    → level_next frames ≤ EQUALITY → Arrives divides frames EQUALITY (Compared op a b)
+    (left ∷ token.Sign s ∷ right ∷ [])
 unfolding step
 arrives_compared divides frames s op left right a b h k m n = record {
   waiting = frames;

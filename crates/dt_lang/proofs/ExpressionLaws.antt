@@ -26,7 +26,9 @@
 --     run_step           step s t ≡ Some next → run s (t ∷ us) ≡ run next us
 --     run_more           run s ts ≡ Some next → run s (ts ++ us) ≡ run next us
 --     run_one            run s (t ∷ []) ≡ step s t
-use Rattle.std.proofs.Common.{◌≡◌, ℕ, leb, Bool, true, false, ◌||◌, if◌then◌else◌, List, [], ◌∷◌, ◌++◌, Option, Some, None, is_some, is_none, option_map, option_and_then, refl, sym, ap, ◌∙◌, subst, arith, pos}
+use Rattle.std.proofs.Common.{◌≡◌, ℕ, leb, Bool, true, false, ◌||◌, if◌then◌else◌, List, [], ◌∷◌, ◌++◌, Option, Some}
+use Rattle.std.proofs.Common.{None, is_some, is_none, option_map, option_and_then, refl, sym, ap, ◌∙◌, subst, arith}
+use Rattle.std.proofs.Common.{pos}
 use Rattle.std.proofs.Math.Dec.{leb-zero}
 use Rattle.dt_expr.specs.Form.{Form, Num, Prefixed, Joined, Compared}
 use Rattle.dt_expr.specs.declared.operators.TextOp.{TextOp}
@@ -39,8 +41,14 @@ use Rattle.dt_lang.specs.declared.token.Sign.TheVariants as sign
 use Rattle.dt_lang.specs.declared.token.Token.{Token}
 use Rattle.dt_lang.specs.declared.token.Token.TheVariants as token
 use Rattle.dt_lang.specs.declared.word.Word.TheVariants as word
-use Rattle.dt_lang.specs.Expression.{BeginsExpr, OPERAND, EQUALITY, text_of, comparison_of, ReadsExpr, ReadsArgument, a_text, an_expression}
-use Rattle.dt_lang.specs.ExpressionState.{IsRead, IsReadBy, IsOneText, RunsBy, is_operand, FrameForm, opened, before, after, HandForm, nothing, whole, lone, compares, State, level_next, Closed, close, state, start, operator_in, join, leave, follow_sign, follow, compare, begin_sign, begin, is_foreign_sign, is_foreign, is_number, ends_argument, step, run, number_alone, done_from, done, wants, wants_at, takes_number, takes_number_at, takes_text, takes_text_at, step_from}
+use Rattle.dt_lang.specs.Expression.{BeginsExpr, OPERAND, EQUALITY, text_of, comparison_of, ReadsExpr, ReadsArgument}
+use Rattle.dt_lang.specs.Expression.{a_text, an_expression}
+use Rattle.dt_lang.specs.ExpressionState.{IsRead, IsReadBy, IsOneText, RunsBy, is_operand, FrameForm, opened, before}
+use Rattle.dt_lang.specs.ExpressionState.{after, HandForm, nothing, whole, lone, compares, State, level_next, Closed}
+use Rattle.dt_lang.specs.ExpressionState.{close, state, start, operator_in, join, leave, follow_sign, follow, compare}
+use Rattle.dt_lang.specs.ExpressionState.{begin_sign, begin, is_foreign_sign, is_foreign, is_number, ends_argument}
+use Rattle.dt_lang.specs.ExpressionState.{step, run, number_alone, done_from, done, wants, wants_at, takes_number}
+use Rattle.dt_lang.specs.ExpressionState.{takes_number_at, takes_text, takes_text_at, step_from}
 use Rattle.dt_lang.specs.Program.{ArgForm, number, text}
 use Rattle.dt_lang.proofs.ExpressionSteps.{begins_text, leaves, close_ends}
 pub use Rattle.dt_lang.proofs.ExpressionSteps.{run-append, run_more, run_step, run_one}

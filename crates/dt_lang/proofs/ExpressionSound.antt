@@ -1,5 +1,7 @@
 -- What is read as an expression is one.
-use Rattle.std.proofs.Common.{◌≡◌, ℕ, zero, suc, ◌+◌, ◌-◌, ◌≤◌, leb, Bool, true, false, if◌then◌else◌, List, [], ◌∷◌, ◌++◌, Option, Some, None, option_map, option_and_then, IfSome, refl, sym, ap, ◌∙◌, subst, arith, leb-true, leb-false, append_assoc, append-nil, add-zero}
+use Rattle.std.proofs.Common.{◌≡◌, ℕ, zero, suc, ◌+◌, ◌-◌, ◌≤◌, leb, Bool, true, false, if◌then◌else◌, List, [], ◌∷◌}
+use Rattle.std.proofs.Common.{◌++◌, Option, Some, None, option_map, option_and_then, IfSome, refl, sym, ap, ◌∙◌, subst}
+use Rattle.std.proofs.Common.{arith, leb-true, leb-false, append_assoc, append-nil, add-zero}
 use Rattle.dt_expr.specs.Form.{Form, Num, Named, Prefixed, Joined, Compared}
 use Rattle.dt_expr.specs.declared.operators.BinaryOp.{BinaryOp}
 use Rattle.dt_expr.specs.declared.operators.UnaryOp.{UnaryOp}
@@ -10,8 +12,12 @@ use Rattle.dt_lang.specs.declared.token.Sign.TheVariants as sign
 use Rattle.dt_lang.specs.declared.token.Token.{Token}
 use Rattle.dt_lang.specs.declared.token.Token.TheVariants as token
 use Rattle.dt_lang.specs.declared.word.Word.TheVariants as word
-use Rattle.dt_lang.specs.Expression.{prefix_of, binding, OPERAND, comparison_of, EQUALITY, text_of, IsOperator, ReadsExpr, a_number, a_variable, prefixed, grouped, compared, looser, joined}
-use Rattle.dt_lang.specs.ExpressionState.{FrameForm, opened, before, after, HandForm, nothing, whole, lone, compares, State, level_next, Closed, close, state, start, begin_sign, begin_text, begin, operator_in, wait, join, leave, follow_sign, follow, compare, step_from, step, run}
+use Rattle.dt_lang.specs.Expression.{prefix_of, binding, OPERAND, comparison_of, EQUALITY, text_of, IsOperator}
+use Rattle.dt_lang.specs.Expression.{ReadsExpr, a_number, a_variable, prefixed, grouped, compared, looser, joined}
+use Rattle.dt_lang.specs.ExpressionState.{FrameForm, opened, before, after, HandForm, nothing, whole, lone, compares}
+use Rattle.dt_lang.specs.ExpressionState.{State, level_next, Closed, close, state, start, begin_sign, begin_text}
+use Rattle.dt_lang.specs.ExpressionState.{begin, operator_in, wait, join, leave, follow_sign, follow, compare}
+use Rattle.dt_lang.specs.ExpressionState.{step_from, step, run}
 use Rattle.dt_lang.proofs.ExpressionSteps.{binding-lt, operator_is}
 
 -- These tokens lead to these frames. `outer` is whether `/` divided at first.
@@ -112,7 +118,8 @@ same_tokens e h = record {
 
 pub close_reads : (outer divides : Bool) (level bound : ℕ) (frames : List FrameForm) (f : Form)
     (front us : List Token) → Waits outer divides frames front → level_next frames ≤ bound → level ≤ bound
-    → bound ≤ OPERAND → ReadsExpr divides bound us f → ClosesTo outer divides level (front ++ us) (close level frames f)
+    → bound ≤ OPERAND → ReadsExpr divides bound us f
+    → ClosesTo outer divides level (front ++ us) (close level frames f)
 unfolding close
 close_reads outer divides level bound [] f front us w h k b r =
     record { front = front; us = us; waits = w; loose = omega arith; reads = loosen level bound r k b; tokens = refl }

@@ -1,5 +1,6 @@
 -- The steps of reading an expression, one by one.
-use Rattle.std.proofs.Common.{◌≡◌, ℕ, ◌<◌, ◌≤◌, leb, Bool, true, false, if◌then◌else◌, List, [], ◌∷◌, ◌++◌, Option, Some, None, option_map, option_and_then, refl, ap, ◌∙◌, arith, le-leb}
+use Rattle.std.proofs.Common.{◌≡◌, ℕ, ◌<◌, ◌≤◌, leb, Bool, true, false, if◌then◌else◌, List, [], ◌∷◌, ◌++◌, Option}
+use Rattle.std.proofs.Common.{Some, None, option_map, option_and_then, refl, ap, ◌∙◌, arith, le-leb}
 use Rattle.std.proofs.lemmas.Bool.{lt-leb}
 use Rattle.dt_expr.specs.Form.{Form, Joined}
 use Rattle.dt_expr.specs.declared.operators.BinaryOp.{BinaryOp}
@@ -12,7 +13,8 @@ use Rattle.dt_lang.specs.declared.token.Token.{Token}
 use Rattle.dt_lang.specs.declared.token.Token.TheVariants as token
 use Rattle.dt_lang.specs.declared.word.Word.TheVariants as word
 use Rattle.dt_lang.specs.Expression.{prefix_of, binding, OPERAND, text_of, IsOperator}
-use Rattle.dt_lang.specs.ExpressionState.{FrameForm, opened, before, after, nothing, whole, State, level_next, binds, around, close, state, begin_text, operator_in, wait, join, leave, step, run}
+use Rattle.dt_lang.specs.ExpressionState.{FrameForm, opened, before, after, nothing, whole, State, level_next, binds}
+use Rattle.dt_lang.specs.ExpressionState.{around, close, state, begin_text, operator_in, wait, join, leave, step, run}
 
 -- going on is going on
 pub run-append : (s : State) (ts us : List Token) → run s (ts ++ us)

@@ -1,8 +1,11 @@
 -- What isn't refused leaves the lists of a state within the limits.
-use Rattle.std.proofs.Common.{◌≡◌, ◌⊎◌, inl, inr, ℕ, ℤ, ◌+◌, ◌<◌, ◌≤◌, leb, Bool, true, false, ◌&&◌, ◌||◌, List, [], ◌∷◌, ◌++◌, length, Option, Some, None, is_some, refl, sym, ap, ◌∙◌, subst, length-append, arith, leb-false, if◌then◌else◌, pos}
+use Rattle.std.proofs.Common.{◌≡◌, ◌⊎◌, inl, inr, ℕ, ℤ, ◌+◌, ◌<◌, ◌≤◌, leb, Bool, true, false, ◌&&◌, ◌||◌, List, []}
+use Rattle.std.proofs.Common.{◌∷◌, ◌++◌, length, Option, Some, None, is_some, refl, sym, ap, ◌∙◌, subst, length-append}
+use Rattle.std.proofs.Common.{arith, leb-false, if◌then◌else◌, pos}
 use Rattle.std.specs.Prelude.{option_and_then}
 use Rattle.dt_expr.specs.Form.{Form}
-use Rattle.dt_lang.specs.declared.program.TheConstants.{CLAUSES_MAX, DESCRIPTIONS_MAX, STATEMENTS_MAX, KEYS_MAX, TOKENS_MAX, FRAMES_MAX}
+use Rattle.dt_lang.specs.declared.program.TheConstants.{CLAUSES_MAX, DESCRIPTIONS_MAX, STATEMENTS_MAX, KEYS_MAX}
+use Rattle.dt_lang.specs.declared.program.TheConstants.{TOKENS_MAX, FRAMES_MAX}
 use Rattle.dt_lang.specs.declared.token.Sign.TheVariants as sign
 use Rattle.dt_lang.specs.declared.token.Token.{Token}
 use Rattle.dt_lang.specs.declared.token.Token.TheVariants as token
@@ -15,7 +18,14 @@ use Rattle.dt_lang.specs.ExpressionState as expression
 use Rattle.dt_lang.specs.Grammar.{call_of, begins, ends}
 use Rattle.dt_lang.specs.Program.{ArgForm, number, CallForm, StatementForm, aggregate, ClauseForm}
 use Rattle.dt_lang.specs.Stand.{Slot, predicate, traced, exited, key, value}
-use Rattle.dt_lang.specs.ClauseState.{BoundForm, at_lower, at_upper, at_step, Place, outside, described, listed, guarded, body, called, framed, closing, named, keyed, assigned, applied, within, bounding, negating, bounded, ProgramState, state, ended, entered, from_outside, from_described, from_listed, from_guarded, from_begins, from_ends, opened, from_called, stack_of, from_framed, from_closing, from_named, from_keyed, from_assigned, given, from_applied, shut_predicate, shut_traced, shut_exited, shut_key, shut_levels, shut_value, shut, go_on, from_within, from_bounding, from_negating, from_bounded, step_from, step}
+use Rattle.dt_lang.specs.ClauseState.{BoundForm, at_lower, at_upper, at_step, Place, outside, described, listed}
+use Rattle.dt_lang.specs.ClauseState.{guarded, body, called, framed, closing, named, keyed, assigned, applied, within}
+use Rattle.dt_lang.specs.ClauseState.{bounding, negating, bounded, ProgramState, state, ended, entered, from_outside}
+use Rattle.dt_lang.specs.ClauseState.{from_described, from_listed, from_guarded, from_begins, from_ends, opened}
+use Rattle.dt_lang.specs.ClauseState.{from_called, stack_of, from_framed, from_closing, from_named, from_keyed}
+use Rattle.dt_lang.specs.ClauseState.{from_assigned, given, from_applied, shut_predicate, shut_traced, shut_exited}
+use Rattle.dt_lang.specs.ClauseState.{shut_key, shut_levels, shut_value, shut, go_on, from_within, from_bounding}
+use Rattle.dt_lang.specs.ClauseState.{from_negating, from_bounded, step_from, step}
 use Rattle.dt_lang.specs.Cause.{takes, full, too_long_at}
 use Rattle.dt_lang.specs.Fits.{FitsClause, FitsStatement, FitsTarget, FitsKey, FitsSlot, FitsWithin, FitsAt, Fits}
 use Rattle.dt_lang.proofs.ClauseSound.{none_some, same_some}
@@ -202,7 +212,8 @@ module _ (cs : List ClauseForm) (c : ClauseForm) where
 
   fits_value : (name : List ℕ) (keys : List ArgForm) (fn : Function) (a : ArgForm) (t : Token) (next : ProgramState)
       → FitsTarget cs c keys → shut_value cs c name keys fn a t ≡ Some next → Fits next
-  fits_value name keys fn (number f) (token.Sign sign.CloseParen) next h e = fits_call name keys (call_of fn f) next h e
+  fits_value name keys fn (number f) (token.Sign sign.CloseParen) next h e =
+      fits_call name keys (call_of fn f) next h e
   fits_value name keys fn (number f) (token.Sign sign.Comma) next h e = fits_levels name keys fn f next h e
   fits_value name keys fn _ _ next h e = absurd (none_some e)
 
@@ -253,7 +264,8 @@ module _ (cs : List ClauseForm) (c : ClauseForm) where
   fits_go_on slot n x t next None k h l e = fits_done slot n x t next (expression.done x) refl h.fits e
 
   fits_within : (slot : Slot) (n : ℕ) (x : expression.State) (t : Token) (next : ProgramState)
-      → FitsWithin cs c slot n x → full slot n && takes x t ≡ false → from_within cs c slot n x t ≡ Some next → Fits next
+      → FitsWithin cs c slot n x → full slot n && takes x t ≡ false → from_within cs c slot n x t
+      ≡ Some next → Fits next
   fits_within slot n x t next h l e = fits_go_on slot n x t next (expression.step x t) refl h l e
 
   module _ (name : List ℕ) (keys : List ArgForm) (f : Form) (h : FitsTarget cs c keys) where

@@ -1,5 +1,7 @@
 -- The frames of a stack, the last first.
-use Rattle.std.proofs.Common.{◌≡◌, ℕ, ◌+◌, ◌-◌, Bool, true, false, ◌||◌, List, [], ◌∷◌, ◌++◌, map, reverse, length, Option, Some, None, MatchOption, option_to_list, option_copied, take, vec_len, refl, sym, ap, ◌∙◌, arith, if◌then◌else◌}
+use Rattle.std.proofs.Common.{◌≡◌, ℕ, ◌+◌, ◌-◌, Bool, true, false, ◌||◌, List, [], ◌∷◌, ◌++◌, map, reverse, length}
+use Rattle.std.proofs.Common.{Option, Some, None, MatchOption, option_to_list, option_copied, take, vec_len, refl, sym}
+use Rattle.std.proofs.Common.{ap, ◌∙◌, arith, if◌then◌else◌}
 use Rattle.std.specs.List.{slice_get, list_any}
 use Rattle.std.proofs.lemmas.List.{reverse-append, map-append, length-append, append-nil}
 use Rattle.std.proofs.lemmas.List.Folds.{list_any-append}
@@ -8,7 +10,9 @@ use Rattle.dt_lang.specs.declared.frames.Frame.{Frame}
 use Rattle.dt_expr.specs.Form.{Form, Prefixed, Joined}
 use Rattle.dt_expr.specs.declared.text.Text.{Text}
 use Rattle.dt_lang.specs.Expression.{OPERAND}
-use Rattle.dt_lang.specs.ExpressionState.{FrameForm, opened, before, after, HandForm, nothing, whole, lone, compares, wants_at, State, state, done, done_from, number_alone, text_alone, leave, Closed, binds, is_bound, around, close, is_opened}
+use Rattle.dt_lang.specs.ExpressionState.{FrameForm, opened, before, after, HandForm, nothing, whole, lone, compares}
+use Rattle.dt_lang.specs.ExpressionState.{wants_at, State, state, done, done_from, number_alone, text_alone, leave}
+use Rattle.dt_lang.specs.ExpressionState.{Closed, binds, is_bound, around, close, is_opened}
 use Rattle.dt_lang.proofs.ExpressionSteps.{close_ends}
 use Rattle.dt_lang.specs.ExpressionView.{frame_of}
 use Rattle.std.specs.Global.{Vec}

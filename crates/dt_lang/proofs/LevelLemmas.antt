@@ -1,5 +1,6 @@
 -- The tests of bounds, which are done in 128 bits.
-use Rattle.std.proofs.Common.{◌≡◌, ℕ, ◌<◌, ◌^◌, ◌/◌, negsuc, div-le_self, true, false, ℤ, pos, to_z, of_z, int_lt, int_le, int_div, int_rem, sym, ap, ◌∙◌, arith}
+use Rattle.std.proofs.Common.{◌≡◌, ℕ, ◌<◌, ◌^◌, ◌/◌, negsuc, div-le_self, true, false, ℤ, pos, to_z, of_z, int_lt}
+use Rattle.std.proofs.Common.{int_le, int_div, int_rem, sym, ap, ◌∙◌, arith}
 use Rattle.std.proofs.lemmas.Int.{ints, to_z-of_z}
 use Rattle.std.specs.Int.Signed.{mag, mag_rem, rem_z, quot_z}
 use mir.Syntax.{w128}

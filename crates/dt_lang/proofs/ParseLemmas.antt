@@ -18,7 +18,8 @@ use Rattle.dt_lang.specs.Lexeme.{Lexes, LiesWithin}
 use Rattle.dt_lang.specs.Mode.{mode_after}
 use Rattle.dt_lang.specs.Program.{form_of_program}
 use Rattle.dt_lang.specs.Reads.{Answered}
-use Rattle.dt_lang.proofs.TextLaws.{Going, going_on, going_first, refused_at, overlong_at, stray_at, ended_whole, ended_early}
+use Rattle.dt_lang.proofs.TextLaws.{Going, going_on, going_first, refused_at, overlong_at, stray_at, ended_whole}
+use Rattle.dt_lang.proofs.TextLaws.{ended_early}
 use Rattle.dt_lang.specs.declared.mode.Mode.TheVariants.{Head}
 
 -- What was read up to this byte.
@@ -45,7 +46,8 @@ module _ (text : List ℕ) (mode : Mode) (from : ℕ) (s : ProgramState) (h : So
   pub so_far_refused : (t : Token) (at to : ℕ) (r : Refusal) (new : ProgramState)
       → Lexes text mode from (lexeme.Token at t to) → Answers s t (Some r) new → Answered text (Err (fault_at at r))
   so_far_refused t at to (refusal.Why why) new l a = refused_at text mode h.tokens from s h.going t at to _ l a
-  so_far_refused t at to (refusal.Destructive what) new l a = refused_at text mode h.tokens from s h.going t at to _ l a
+  so_far_refused t at to (refusal.Destructive what) new l a =
+      refused_at text mode h.tokens from s h.going t at to _ l a
 
   pub so_far_overlong : (at : ℕ) → Lexes text mode from (lexeme.Overlong at)
       → Answered text (Err (lang.Program at TooLong))

@@ -1,5 +1,6 @@
 -- A token ends an `lquantize` with wrong bounds exactly where the state of the reading says so.
-use Rattle.std.proofs.Common.{◌≡◌, ℕ, Bool, true, false, not, List, ◌∷◌, ◌++◌, Some, refl, sym, ◌∙◌, subst, append_assoc, ℤ, pos, Decides}
+use Rattle.std.proofs.Common.{◌≡◌, ℕ, Bool, true, false, not, List, ◌∷◌, ◌++◌, Some, refl, sym, ◌∙◌, subst}
+use Rattle.std.proofs.Common.{append_assoc, ℤ, pos, Decides}
 use Rattle.std.specs.Prelude.{◌-ℤ◌, int_lt, int_rem}
 use Rattle.std.specs.Ordering.{int_eq}
 use Rattle.std.proofs.lemmas.Bool.Decides.{Decides-int_eq}
@@ -13,7 +14,8 @@ use Rattle.dt_lang.specs.Grammar.{ReadsConstant, plain, negative, ReadsBounds, b
 use Rattle.dt_lang.specs.Program.{ArgForm, number, ClauseForm}
 use Rattle.dt_lang.specs.Stand.{value}
 use Rattle.dt_lang.specs.Refused.{IsOutOfRange}
-use Rattle.dt_lang.specs.ClauseState.{BoundForm, at_lower, at_upper, at_step, Place, bounding, bounded, ProgramState, state, entered, step, run, start}
+use Rattle.dt_lang.specs.ClauseState.{BoundForm, at_lower, at_upper, at_step, Place, bounding, bounded, ProgramState}
+use Rattle.dt_lang.specs.ClauseState.{state, entered, step, run, start}
 use Rattle.dt_lang.specs.Cause.{are_bounds, no_levels, out_of_range_at}
 use Rattle.dt_lang.specs.ExpressionState.{IsRead}
 use Rattle.dt_lang.proofs.ExpressionLaws.{complete}
@@ -63,7 +65,8 @@ bounded_out ts cs c name keys f at_lower z h e = cc
 bounded_out ts cs c name keys f (at_upper lower) z h e =
     let l = h.levels in
     let (us, k, r) = l.bounds in
-    let i : l.back ++ h.tail ≡ token.Sign sign.Comma ∷ (us ++ (token.Sign sign.Comma ∷ h.tail)) = rw k (simp append_assoc) in
+    let i : l.back ++ h.tail ≡ token.Sign sign.Comma ∷ (us ++ (token.Sign sign.Comma ∷ h.tail)) =
+    rw k (simp append_assoc) in
     record {
       front = l.front;
       expression = l.middle;
@@ -126,7 +129,8 @@ pub record BoundsLead (cs : List ClauseForm) (c : ClauseForm) (name : List ℕ) 
   pub bound : BoundForm
   pub last : ℤ
   pub levels : no_levels bound last ≡ not (are_bounds lower upper by)
-  pub runs : run (entered cs c (value name keys function.Lquantize)) ts ≡ Some (state cs c (bounded name keys f bound last))
+  pub runs : run (entered cs c (value name keys function.Lquantize)) ts
+      ≡ Some (state cs c (bounded name keys f bound last))
 
 constant_lead : (cs : List ClauseForm) (c : ClauseForm) (name : List ℕ) (keys : List ArgForm) (f : Form)
     (b : BoundForm) (ts : List Token) (z : ℤ) → ReadsConstant ts z

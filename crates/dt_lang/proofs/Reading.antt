@@ -1,5 +1,6 @@
 -- What a state of the reading of programs says of the tokens that were read.
-use Rattle.std.proofs.Common.{◌≡◌, ℕ, Bool, true, false, List, [], ◌∷◌, ◌++◌, length, Some, None, refl, ap, append_assoc, append-nil, ℤ}
+use Rattle.std.proofs.Common.{◌≡◌, ℕ, Bool, true, false, List, [], ◌∷◌, ◌++◌, length, Some, None, refl, ap}
+use Rattle.std.proofs.Common.{append_assoc, append-nil, ℤ}
 use Rattle.dt_expr.specs.Form.{Form}
 use Rattle.dt_lang.specs.Description.{form_of_description}
 use Rattle.dt_lang.specs.declared.description.Description.{Description}
@@ -12,11 +13,14 @@ use Rattle.dt_lang.specs.declared.word.Function.TheVariants as function
 use Rattle.dt_lang.specs.declared.word.Word.TheVariants as word
 use Rattle.dt_lang.specs.Expression.{ReadsExpr}
 use Rattle.dt_lang.specs.ExpressionState as expression
-use Rattle.dt_lang.specs.Grammar.{ReadsHead, a_description, another, ReadsOpening, always, guarded, ReadsKeys, a_key, ReadsTarget, bare, keyed, ReadsConstant, ReadsStatement, Spot, begins, ends, ReadsBody, nothing, stated, separated, ReadsClause, a_clause, ReadsClauses}
+use Rattle.dt_lang.specs.Grammar.{ReadsHead, a_description, another, ReadsOpening, always, guarded, ReadsKeys, a_key}
+use Rattle.dt_lang.specs.Grammar.{ReadsTarget, bare, keyed, ReadsConstant, ReadsStatement, Spot, begins, ends}
+use Rattle.dt_lang.specs.Grammar.{ReadsBody, nothing, stated, separated, ReadsClause, a_clause, ReadsClauses}
 use Rattle.dt_lang.specs.Grammar as grammar
 use Rattle.dt_lang.specs.Program.{ArgForm, StatementForm, ClauseForm}
 use Rattle.dt_lang.specs.Stand.{HeadStands, BodyStands, TargetStands, Slot, value, divides_in, SlotOpens}
-use Rattle.dt_lang.specs.ClauseState.{BoundForm, at_lower, at_upper, at_step, Place, headed, with_description, with_statement}
+use Rattle.dt_lang.specs.ClauseState.{BoundForm, at_lower, at_upper, at_step, Place, headed, with_description}
+use Rattle.dt_lang.specs.ClauseState.{with_statement}
 use Rattle.dt_lang.specs.ClauseState as place
 
 -- a head, of which nothing else is known
@@ -203,7 +207,8 @@ guarded_body_begins ts cs c h =
     let q : c.statements ≡ [] = ap (λ (x : ClauseForm). x.statements) h.fresh in
     record {
       clauses = s.clauses;
-      opening = s.head ++ (token.Sign sign.Slash ∷ (h.back ++ (token.Sign sign.Slash ∷ token.Sign sign.OpenBrace ∷ [])));
+      opening = s.head ++ (token.Sign sign.Slash
+          ∷ (h.back ++ (token.Sign sign.Slash ∷ token.Sign sign.OpenBrace ∷ [])));
       body = [];
       split = rw (h.split, s.split) (simp (append_assoc, append-nil));
       before = s.before;
@@ -242,6 +247,7 @@ body_closed spot ts cs c h =
     let k = a_clause spot h.opening h.body c.descriptions c.predicate c.statements h.opened h.reads in
     let all : ReadsClauses (h.clauses ++ (h.opening ++ (h.body ++ (token.Sign sign.CloseBrace ∷ [])))) (cs ++ (c ∷ []))
     = grammar.another h.clauses (h.opening ++ (h.body ++ (token.Sign sign.CloseBrace ∷ []))) cs c h.before k in
-    let e : ts ++ (token.Sign sign.CloseBrace ∷ []) ≡ h.clauses ++ (h.opening ++ (h.body ++ (token.Sign sign.CloseBrace ∷ [])))
+    let e : ts ++ (token.Sign sign.CloseBrace ∷ []) ≡ h.clauses
+    ++ (h.opening ++ (h.body ++ (token.Sign sign.CloseBrace ∷ [])))
     = rw h.split (simp append_assoc) in
     rw e all

@@ -1,5 +1,6 @@
 -- Signs of two bytes and of one.
-use Rattle.std.proofs.Common.{◌≡◌, ℕ, ◌≤◌, ◌⊎◌, inl, inr, Bool, true, eqb, List, Option, Some, None, IfSome, IfNone, length, refl, arith}
+use Rattle.std.proofs.Common.{◌≡◌, ℕ, ◌≤◌, ◌⊎◌, inl, inr, Bool, true, eqb, List, Option, Some, None, IfSome, IfNone}
+use Rattle.std.proofs.Common.{length, refl, arith}
 use Rattle.std.specs.List.{All, list_all, Contains}
 use Rattle.std.proofs.lemmas.Bool.{eqb-true}
 use Rattle.std.proofs.lemmas.List.Elements.{All-contains}

@@ -11,7 +11,8 @@ use Rattle.dt_glob.specs.declared.fault.GlobFault.{GlobFault}
 use Rattle.dt_lang.specs.Description.{DescForm, ReadsDescription}
 use Rattle.dt_lang.proofs.Descriptions.{some_described}
 
-never_both : (text : List ℕ) (items : List PatternItem) (fault : GlobFault) → Spells text items → FaultOf text fault → ⊥
+never_both : (text : List ℕ) (items : List PatternItem) (fault : GlobFault) → Spells text items
+    → FaultOf text fault → ⊥
 never_both text items fault h k =
     let e = reading_of-spelled text items h in
     let f = reading_of-fault text fault k in

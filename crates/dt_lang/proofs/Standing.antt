@@ -1,5 +1,6 @@
 -- What is found is what stands there.
-use Rattle.std.proofs.Common.{◌≡◌, ℕ, inl, inr, Bool, true, false, eqb, ◌&&◌, List, [], ◌∷◌, ◌++◌, refl, sym, subst, arith}
+use Rattle.std.proofs.Common.{◌≡◌, ℕ, inl, inr, Bool, true, false, eqb, ◌&&◌, List, [], ◌∷◌, ◌++◌, refl, sym, subst}
+use Rattle.std.proofs.Common.{arith}
 use Rattle.std.proofs.lemmas.Bool.{false≢true, eqb-true}
 use Rattle.dt_lang.specs.Lexeme.{IsPiece, OPENING, IsLongest, Stands}
 use Rattle.dt_lang.specs.Piece.{FindsInMode, FindsUncommented, Finds, opens_comment}

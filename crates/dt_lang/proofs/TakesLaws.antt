@@ -1,5 +1,6 @@
 -- A token is one more of an expression exactly where the state of its reading says so.
-use Rattle.std.proofs.Common.{◌≡◌, ◌⊎◌, inl, inr, Bool, true, false, ◌&&◌, ◌||◌, List, [], ◌∷◌, ◌++◌, Option, Some, None, is_some, refl, sym, ap, ◌∙◌}
+use Rattle.std.proofs.Common.{◌≡◌, ◌⊎◌, inl, inr, Bool, true, false, ◌&&◌, ◌||◌, List, [], ◌∷◌, ◌++◌, Option, Some}
+use Rattle.std.proofs.Common.{None, is_some, refl, sym, ap, ◌∙◌}
 use Rattle.std.specs.Prelude.{option_and_then}
 use Rattle.dt_expr.specs.declared.scene.NumberVariable.TheVariants as variable
 use Rattle.dt_expr.specs.declared.scene.TextVariable.TheVariants as text_variable
@@ -112,11 +113,19 @@ goes_on_takes divides ts t (fits b) =
 goes_on_takes divides ts t (taken o (a_number b)) =
     let l = last_step divides ts _ b in
     let w = wants_where_number l.at l.next l.steps in
-    record { at = l.at; runs = l.runs; takes_it = or_right (is_some (step l.at t)) _ (rw (is_operand_true t o, w) refl) }
+    record {
+      at = l.at;
+      runs = l.runs;
+      takes_it = or_right (is_some (step l.at t)) _ (rw (is_operand_true t o, w) refl);
+    }
 goes_on_takes divides ts t (taken o (a_text b)) =
     let l = last_step divides ts _ b in
     let w = wants_where_text l.at l.next l.steps in
-    record { at = l.at; runs = l.runs; takes_it = or_right (is_some (step l.at t)) _ (rw (is_operand_true t o, w) refl) }
+    record {
+      at = l.at;
+      runs = l.runs;
+      takes_it = or_right (is_some (step l.at t)) _ (rw (is_operand_true t o, w) refl);
+    }
 
 operand_stands : (divides : Bool) (ts : List Token) (s : State) → run (start divides) ts ≡ Some s → wants s ≡ true
     → OperandStands divides ts

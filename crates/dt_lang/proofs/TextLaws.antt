@@ -1,5 +1,6 @@
 -- Each text has one reading.
-use Rattle.std.proofs.Common.{◌≡◌, ◌≢◌, ◌⊎◌, inl, inr, ℕ, zero, suc, ◌+◌, ◌≤◌, List, [], ◌∷◌, ◌++◌, length, Option, Some, None, refl, sym, ap, ◌∙◌, subst, append_assoc, length-append, arith}
+use Rattle.std.proofs.Common.{◌≡◌, ◌≢◌, ◌⊎◌, inl, inr, ℕ, zero, suc, ◌+◌, ◌≤◌, List, [], ◌∷◌, ◌++◌, length, Option}
+use Rattle.std.proofs.Common.{Some, None, refl, sym, ap, ◌∙◌, subst, append_assoc, length-append, arith}
 use native.Mathlib.Decide.{dec_le}
 use Rattle.dt_lang.specs.declared.fault.Why.TheVariants.{Syntax, TooLong}
 use Rattle.dt_lang.specs.declared.lexer.Lexeme.{Lexeme}
@@ -12,7 +13,8 @@ use Rattle.dt_lang.specs.Mode.{mode_after}
 use Rattle.dt_lang.specs.Program.{ClauseForm}
 use Rattle.dt_lang.specs.Grammar.{ReadsProgram}
 use Rattle.dt_lang.specs.Refused.{Cause, because, destroys, Holds, Refused, NoneRefused}
-use Rattle.dt_lang.specs.Reads.{TokensTo, none, another, IsRefused, a_token, overlong, stray, unfinished, IsProgram, Reading, program, fault, destructive, Reads}
+use Rattle.dt_lang.specs.Reads.{TokensTo, none, another, IsRefused, a_token, overlong, stray, unfinished, IsProgram}
+use Rattle.dt_lang.specs.Reads.{Reading, program, fault, destructive, Reads}
 use Rattle.dt_lang.specs.ClauseState.{ProgramState, step, run, start, finished}
 use Rattle.dt_lang.specs.Cause.{cause_of}
 use Rattle.dt_lang.proofs.ClauseSound.{none_some, same_some}
@@ -134,7 +136,8 @@ module _ (text : List ℕ) (laws : LexemeLaws text) where
   ahead mode _ ts _ from _ h none s = none_ahead text mode ts from h s
   ahead mode _ ts _ from _ h (another other us u n a b k m) s = elim (dec_le (length ts) (length us)) [
     | yes i ↦ one_more text mode other ts us from n u a b (mode_after other u) (ahead mode other ts us from n h k i) m
-    | no i ↦ same_ahead (as_many mode _ ts _ from _ h (another other us u n a b k m) (omega (arith, length_last us u, i)))
+    | no i ↦ same_ahead (as_many mode _ ts _ from _ h (another other us u n a b k m)
+        (omega (arith, length_last us u, i)))
   ]
     where
       same_ahead : {mode other : Mode} {ts us : List Token} {from n : ℕ} → Same mode other ts us from n
@@ -199,7 +202,8 @@ module _ (text : List ℕ) (laws : LexemeLaws text) where
   one_stopped : (a b : Reading) → Stopped text a → Stopped text b → a ≡ b
   one_stopped a b h k = elim (dec_le (length h.tokens) (length k.tokens)) [
     | yes i ↦ meet _ _ _ _ _ _ a b (ahead _ _ _ _ _ _ h.stand k.stand i) k.unrefused h.stops k.stops
-    | no i ↦ sym (meet _ _ _ _ _ _ b a (ahead _ _ _ _ _ _ k.stand h.stand (omega (arith, i))) h.unrefused k.stops h.stops)
+    | no i ↦ sym (meet _ _ _ _ _ _ b a (ahead _ _ _ _ _ _ k.stand h.stand (omega (arith, i))) h.unrefused
+        k.stops h.stops)
   ]
 
   -- A text has at most one reading.

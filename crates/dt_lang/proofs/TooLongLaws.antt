@@ -1,20 +1,26 @@
 -- A token is one too many exactly where the state of the reading says so.
-use Rattle.std.proofs.Common.{◌≡◌, inl, inr, ℕ, ◌+◌, ◌≤◌, leb, eqb, true, ◌&&◌, List, [], ◌∷◌, ◌++◌, length, Some, refl, sym, ◌∙◌, subst, arith, leb-true, le-leb, eqb-true, append-nil, Decides}
-use Rattle.dt_lang.specs.declared.program.TheConstants.{CLAUSES_MAX, DESCRIPTIONS_MAX, STATEMENTS_MAX, KEYS_MAX, TOKENS_MAX}
+use Rattle.std.proofs.Common.{◌≡◌, inl, inr, ℕ, ◌+◌, ◌≤◌, leb, eqb, true, ◌&&◌, List, [], ◌∷◌, ◌++◌, length, Some}
+use Rattle.std.proofs.Common.{refl, sym, ◌∙◌, subst, arith, leb-true, le-leb, eqb-true, append-nil, Decides}
+use Rattle.dt_lang.specs.declared.program.TheConstants.{CLAUSES_MAX, DESCRIPTIONS_MAX, STATEMENTS_MAX, KEYS_MAX}
+use Rattle.dt_lang.specs.declared.program.TheConstants.{TOKENS_MAX}
 use Rattle.dt_lang.specs.declared.token.Sign.TheVariants as sign
 use Rattle.dt_lang.specs.declared.token.Token.{Token}
 use Rattle.dt_lang.specs.declared.token.Token.TheVariants as token
 use Rattle.dt_lang.specs.ExpressionState as expression
 use Rattle.dt_lang.specs.Grammar.{begins, ends, ReadsClauses}
 use Rattle.dt_lang.specs.Program.{ArgForm, ClauseForm}
-use Rattle.dt_lang.specs.Stand.{BodyStands, Slot, predicate, traced, exited, key, value, divides_in, SlotOpens, first_key, a_key}
+use Rattle.dt_lang.specs.Stand.{BodyStands, Slot, predicate, traced, exited, key, value, divides_in, SlotOpens}
+use Rattle.dt_lang.specs.Stand.{first_key, a_key}
 use Rattle.dt_lang.specs.Refused.{GoesOn, IsForStatement, IsTooLong, a_clause, a_description, a_statement, a_token}
 use Rattle.dt_lang.specs.Refused as refused
-use Rattle.dt_lang.specs.ClauseState.{Place, outside, described, listed, guarded, body, called, framed, closing, named, keyed, assigned, applied, within, bounding, negating, bounded, ProgramState, state, headed, step, run, start}
+use Rattle.dt_lang.specs.ClauseState.{Place, outside, described, listed, guarded, body, called, framed, closing, named}
+use Rattle.dt_lang.specs.ClauseState.{keyed, assigned, applied, within, bounding, negating, bounded, ProgramState}
+use Rattle.dt_lang.specs.ClauseState.{state, headed, step, run, start}
 use Rattle.dt_lang.specs.Cause.{is_for_statement, takes, keys_full, full, too_long_at}
 use Rattle.dt_lang.proofs.Reading.{ListRead, Within, ReadAt}
 use Rattle.dt_lang.proofs.ClauseSound.{same_some}
-use Rattle.dt_lang.proofs.ClauseComplete.{run_on, run_step, run_within, clauses_lead, head_stands_lead, body_stands_lead, slot_leads}
+use Rattle.dt_lang.proofs.ClauseComplete.{run_on, run_step, run_within, clauses_lead, head_stands_lead}
+use Rattle.dt_lang.proofs.ClauseComplete.{body_stands_lead, slot_leads}
 use Rattle.dt_lang.proofs.ClauseLaws.{read}
 use Rattle.dt_lang.proofs.TakesLaws.{one_of, both_left, both_right, goes_on_takes, takes_goes_on}
 

@@ -1,5 +1,7 @@
 -- The processes read so far, and the map that finds them.
-use Rattle.std.proofs.Common.{◌≡◌, ◌≢◌, ◌^◌, ◌≤◌, zero, suc, length, length-append, slice_get, subst, nat_eq, IfSome, ◌==◌, ◌||◌, ℕ, ◌<◌, [], ◌∷◌, ◌++◌, List, Bool, true, false, cond, Option, Some, None, Bor, IsSome, IsSomeAnd, ◌⊎◌, inl, inr, All, map, refl, sym, ap, ◌∙◌, arith}
+use Rattle.std.proofs.Common.{◌≡◌, ◌≢◌, ◌^◌, ◌≤◌, zero, suc, length, length-append, slice_get, subst, nat_eq, IfSome}
+use Rattle.std.proofs.Common.{◌==◌, ◌||◌, ℕ, ◌<◌, [], ◌∷◌, ◌++◌, List, Bool, true, false, cond, Option, Some, None}
+use Rattle.std.proofs.Common.{Bor, IsSome, IsSomeAnd, ◌⊎◌, inl, inr, All, map, refl, sym, ap, ◌∙◌, arith}
 use Rattle.std.specs.Prelude.{is_some, find, option_and_then}
 use Rattle.std.specs.HashMap.{HashMap, get}
 use Rattle.std.specs.declared.hash.FoldHasher.{FoldHasher}

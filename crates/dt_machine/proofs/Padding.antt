@@ -1,5 +1,7 @@
 -- Numbers that are written one by one into an array of zeros.
-use Rattle.std.proofs.Common.{◌≡◌, ◌+◌, ◌-◌, ◌<◌, ℕ, suc, [], ◌∷◌, ◌++◌, List, Option, Some, None, IsSome, All, map, take, set, replicate, slice_get, length, get_or, append_assoc, refl, sym, ap, ◌∙◌, subst, arith}
+use Rattle.std.proofs.Common.{◌≡◌, ◌+◌, ◌-◌, ◌<◌, ℕ, suc, [], ◌∷◌, ◌++◌, List, Option, Some, None, IsSome, All, map}
+use Rattle.std.proofs.Common.{take, set, replicate, slice_get, length, get_or, append_assoc, refl, sym, ap, ◌∙◌, subst}
+use Rattle.std.proofs.Common.{arith}
 use Rattle.std.proofs.Math.Seq.{set-append_seam}
 use Rattle.std.proofs.lemmas.List.{length-map}
 use Rattle.std.proofs.lemmas.List.Elements.{All-push}

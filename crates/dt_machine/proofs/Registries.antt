@@ -1,5 +1,6 @@
 -- What the words of a registry say.
-use Rattle.std.proofs.Common.{◌≡◌, ℕ, zero, suc, ◌-◌, Bor, List, length, Option, Some, None, IsSome, [], ◌∷◌, ◌<◌, ◌≤◌, slice_get, refl, sym, ap, subst, arith}
+use Rattle.std.proofs.Common.{◌≡◌, ℕ, zero, suc, ◌-◌, Bor, List, length, Option, Some, None, IsSome, [], ◌∷◌, ◌<◌, ◌≤◌}
+use Rattle.std.proofs.Common.{slice_get, refl, sym, ap, subst, arith}
 use Rattle.dt_cred.specs.declared.probe.Probe.{Probe}
 use Rattle.std.proofs.lemmas.Option.{slice_get_past, slice_get_read}
 use Rattle.std.specs.Option.{option_copied}

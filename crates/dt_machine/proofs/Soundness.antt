@@ -1,5 +1,7 @@
 -- What holds of a machine whose file is right.
-use Rattle.std.proofs.Common.{◌≡◌, ◌≢◌, ◌∙◌, ◌+◌, ◌<◌, ◌≤◌, ◌==◌, ℕ, Bool, true, false, cond, zero, suc, [], ◌∷◌, List, Option, Some, None, IfSome, IsSomeAnd, All, AllPairs, map, take, slice_get, get_or, length, option_map, codes, lit<, refl, sym, ap, subst, arith, add-zero}
+use Rattle.std.proofs.Common.{◌≡◌, ◌≢◌, ◌∙◌, ◌+◌, ◌<◌, ◌≤◌, ◌==◌, ℕ, Bool, true, false, cond, zero, suc, [], ◌∷◌, List}
+use Rattle.std.proofs.Common.{Option, Some, None, IfSome, IsSomeAnd, All, AllPairs, map, take, slice_get, get_or}
+use Rattle.std.proofs.Common.{length, option_map, codes, lit<, refl, sym, ap, subst, arith, add-zero}
 use Rattle.std.specs.Prelude.{find, option_and_then}
 use Rattle.std.proofs.lemmas.List.{length-map, get_or-take, length-take-le}
 use Rattle.std.proofs.lemmas.List.Elements.{All-head, All-tail}
@@ -10,9 +12,11 @@ use Rattle.dt_cred.specs.declared.account.Process.{Process as ProcessType}
 use Rattle.dt_cred.specs.declared.probe.Probe.{Probe as ProbeType}
 use Rattle.dt_machine.specs.declared.firing.Firing.{Firing as FiringType}
 use Rattle.dt_machine.specs.declared.fault.FaultNumber.TheVariants.{Cpus, Account, Process, Probe, Script}
-use Rattle.dt_machine.specs.Reading.{AllRight, AllRightIn, Passes, Registers, accounts_in, processes_in, probes_in, scripts_in}
+use Rattle.dt_machine.specs.Reading.{AllRight, AllRightIn, Passes, Registers, accounts_in, processes_in, probes_in}
+use Rattle.dt_machine.specs.Reading.{scripts_in}
 use Rattle.dt_machine.specs.Registry.{Registry, Belongs, IsSound, IsNumbered, IsPlaced, probe_of, firing_at}
-use Rattle.dt_machine.specs.Rows.{AccountRow, ProcessRow, FiringRow, account, process, firing, script, scripts, number_in, AreProbes, IsBelow, IsRightAccount, IsRightProcess, HasRoom}
+use Rattle.dt_machine.specs.Rows.{AccountRow, ProcessRow, FiringRow, account, process, firing, script, scripts}
+use Rattle.dt_machine.specs.Rows.{number_in, AreProbes, IsBelow, IsRightAccount, IsRightProcess, HasRoom}
 use Rattle.dt_machine.specs.Sections.{AreSections, registry_of}
 use Rattle.dt_machine.specs.declared.sections.Sections.{Sections}
 use Rattle.dt_machine.proofs.ByPid.{at_pid, below_some}

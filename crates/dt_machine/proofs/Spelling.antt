@@ -1,5 +1,7 @@
 -- The probes that texts spell.
-use Rattle.std.proofs.Common.{◌≡◌, ◌≢◌, ◌+◌, ◌<◌, ◌≤◌, ◌==◌, ◌&&◌, ℕ, zero, suc, [], ◌∷◌, ◌++◌, Bool, true, false, List, Option, Some, None, IsSome, IsSomeAnd, IfNone, All, drop, slice_get, get_or, length, codes, lit≤, lit<, refl, sym, ap, ◌∙◌, subst, arith, add-zero}
+use Rattle.std.proofs.Common.{◌≡◌, ◌≢◌, ◌+◌, ◌<◌, ◌≤◌, ◌==◌, ◌&&◌, ℕ, zero, suc, [], ◌∷◌, ◌++◌, Bool, true, false}
+use Rattle.std.proofs.Common.{List, Option, Some, None, IsSome, IsSomeAnd, IfNone, All, drop, slice_get, get_or}
+use Rattle.std.proofs.Common.{length, codes, lit≤, lit<, refl, sym, ap, ◌∙◌, subst, arith, add-zero}
 use Rattle.std.specs.Prelude.{find}
 use Rattle.std.specs.List.{AllByRecursion}
 use Rattle.std.proofs.lemmas.List.Elements.{All-cons, All-head, All-tail, All-from_recursion}

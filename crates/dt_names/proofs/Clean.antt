@@ -1,5 +1,6 @@
 -- Text in which no byte shows a fault, read from the left.
-use Rattle.std.proofs.Common.{◌≡◌, ℕ, zero, suc, ◌+◌, ◌-◌, ◌<◌, ◌≤◌, cond, List, [], ◌∷◌, length, get_or, drop, take, refl, sym, ap, ◌∙◌, subst, ⊎_elim, ◌⊎◌, inl, inr, count_by, add-one, arith}
+use Rattle.std.proofs.Common.{◌≡◌, ℕ, zero, suc, ◌+◌, ◌-◌, ◌<◌, ◌≤◌, cond, List, [], ◌∷◌, length, get_or, drop, take}
+use Rattle.std.proofs.Common.{refl, sym, ap, ◌∙◌, subst, ⊎_elim, ◌⊎◌, inl, inr, count_by, add-one, arith}
 use Rattle.std.specs.List.{AllByRecursion, onto_first}
 use Rattle.std.proofs.lemmas.List.Splits.{slice_split-cons_no, slice_split-cons_yes, length-slice_split}
 use Rattle.std.proofs.lemmas.Bool.{eq-eqb, ne_eqb, cases_eq, cases_lt}
@@ -8,7 +9,8 @@ use Rattle.std.proofs.lemmas.List.Sums.{count_by_more_yes, count_by_more_no, sum
 use Rattle.std.proofs.lemmas.List.{take_all}
 use Rattle.std.proofs.Math.Seq.{drop-cons}
 use Rattle.std.proofs.Math.ListN.{drop_of_length-le}
-use Rattle.dt_names.specs.Desc.{is_colon, fields, IsField, NoColonWithin, ShowsFault, NoneShown, Desc, Describes, IsFirstFault}
+use Rattle.dt_names.specs.Desc.{is_colon, fields, IsField, NoColonWithin, ShowsFault, NoneShown, Desc, Describes}
+use Rattle.dt_names.specs.Desc.{IsFirstFault}
 use Rattle.dt_names.specs.declared.desc.NameFault.{NameFault}
 use Rattle.dt_names.specs.declared.desc.NameFault.TheVariants.{BadByte, TooLong, TooManyFields}
 
@@ -24,7 +26,8 @@ FirstGoesOn n [] = ⊥
 FirstGoesOn n (first ∷ others) = (n + length first ≤ 63) × AllByRecursion IsNameByte first
     × AllByRecursion IsField others
 
-onto : (n x : ℕ) (parts : List (List ℕ)) → IsNameByte x → FirstGoesOn (suc n) parts → FirstGoesOn n (onto_first x parts)
+onto : (n x : ℕ) (parts : List (List ℕ)) → IsNameByte x → FirstGoesOn (suc n) parts
+    → FirstGoesOn n (onto_first x parts)
 onto n x [] b h = absurd h
 onto n x (first ∷ others) b h = (omega (arith, h.0), (b, h.1), h.2)
 

@@ -1,5 +1,6 @@
 -- The text of a tuple and the four fields that it is cut into.
-use Rattle.std.proofs.Common.{◌≡◌, ◌≢◌, ℕ, ◌++◌, Bool, true, false, eqb, List, [], ◌∷◌, length, drop, replicate, sym, ap, ◌∙◌, refl, arith}
+use Rattle.std.proofs.Common.{◌≡◌, ◌≢◌, ℕ, ◌++◌, Bool, true, false, eqb, List, [], ◌∷◌, length, drop, replicate, sym}
+use Rattle.std.proofs.Common.{ap, ◌∙◌, refl, arith}
 use Rattle.std.proofs.lemmas.Bool.{eqb-true, true≢false}
 use Rattle.dt_names.specs.Desc.{fields}
 use Rattle.dt_names.specs.Name.{IsName}

@@ -1,5 +1,6 @@
 -- Only a line over the quota is refused as one.
-use Rattle.std.proofs.Common.{◌≡◌, Bool, true, false, List, Option, Some, None, Result, Ok, Err, IfErr, IsTrue, ◌↔◌, MatchOption, MatchBool, if◌then◌else◌, refl, sym, ap, ◌∙◌, subst}
+use Rattle.std.proofs.Common.{◌≡◌, Bool, true, false, List, Option, Some, None, Result, Ok, Err, IfErr, IsTrue, ◌↔◌}
+use Rattle.std.proofs.Common.{MatchOption, MatchBool, if◌then◌else◌, refl, sym, ap, ◌∙◌, subst}
 use Rattle.std.specs.Option.{option_map_or}
 use Rattle.dt_cred.specs.declared.account.Account.{Account}
 use Rattle.dt_machine.specs.Registry.{Registry}
@@ -12,7 +13,8 @@ use Rattle.dt_consumer.specs.Life.{Item, is_over}
 use Rattle.dt_consumer.specs.Refusal.{IsNoCommand}
 use Rattle.dt_consumer.specs.Reply.{refusal_of, IsVerdictOnCommand, Accepted, RepliesInQuota, Replies}
 use Rattle.dt_consumer.specs.declared.refusal.Refusal.{Refusal}
-use Rattle.dt_consumer.specs.declared.refusal.Refusal.TheVariants.{Busy, Destructive, Limit, NoAgg, NoCpu, NoEpid, Program, Quota}
+use Rattle.dt_consumer.specs.declared.refusal.Refusal.TheVariants.{Busy, Destructive, Limit, NoAgg, NoCpu, NoEpid}
+use Rattle.dt_consumer.specs.declared.refusal.Refusal.TheVariants.{Program, Quota}
 use Rattle.dt_consumer.specs.declared.refusal.Refusal.TheVariants as refusal
 use Rattle.dt_proto.specs.Line.{ask_in}
 use Rattle.dt_proto.specs.Lines.{LineForm}

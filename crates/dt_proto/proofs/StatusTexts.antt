@@ -1,5 +1,6 @@
 -- How a status is written.
-use Rattle.std.proofs.Common.{◌≡◌, ℕ, ℤ, false, List, [], ◌∷◌, ◌++◌, Some, None, codes, decimal, map, append_assoc, refl, ◌∙◌}
+use Rattle.std.proofs.Common.{◌≡◌, ℕ, ℤ, false, List, [], ◌∷◌, ◌++◌, Some, None, codes, decimal, map, append_assoc}
+use Rattle.std.proofs.Common.{refl, ◌∙◌}
 use Rattle.std.specs.Fmt.{signed_decimal}
 use Rattle.serde_json.specs.Data.{string}
 use Rattle.serde_json.specs.View.{items_of}
@@ -68,17 +69,20 @@ unfolding serde_json_on_literals
 text-active seen errors aggdrops = text-status Active (codes "null") (codes "null") (codes "active") seen errors
     aggdrops refl refl refl
 
-pub text-stopped : (seen : ℕ) (errors aggdrops : List ℕ) → reply_text (status (Stopped (Some Stop)) seen errors aggdrops)
+pub text-stopped : (seen : ℕ) (errors aggdrops : List ℕ)
+    → reply_text (status (Stopped (Some Stop)) seen errors aggdrops)
     ≡ status_text (codes "\"stop\"") (codes "null") (codes "stopped") seen errors aggdrops
 unfolding serde_json_on_literals
-text-stopped seen errors aggdrops = text-status (Stopped (Some Stop)) (codes "\"stop\"") (codes "null") (codes "stopped")
+text-stopped seen errors aggdrops =
+    text-status (Stopped (Some Stop)) (codes "\"stop\"") (codes "null") (codes "stopped")
     seen errors aggdrops refl refl refl
 
 pub text-exited : (code : ℤ) (seen : ℕ) (errors aggdrops : List ℕ)
     → reply_text (status (Stopped (Some (Exit code))) seen errors aggdrops)
     ≡ status_text (codes "\"exit\"") (signed_decimal code) (codes "stopped") seen errors aggdrops
 unfolding serde_json_on_literals
-text-exited code seen errors aggdrops = text-status (Stopped (Some (Exit code))) (codes "\"exit\"") (signed_decimal code)
+text-exited code seen errors aggdrops =
+    text-status (Stopped (Some (Exit code))) (codes "\"exit\"") (signed_decimal code)
     (codes "stopped") seen errors aggdrops refl (signed_written code) refl
 
 pub text-history : (seen : ℕ) (errors aggdrops : List ℕ)

@@ -1,5 +1,6 @@
 -- How the table of an aggregation is written.
-use Rattle.std.proofs.Common.{◌≡◌, ℕ, ℤ, List, [], ◌∷◌, ◌++◌, false, Option, Some, None, codes, decimal, map, append_assoc, refl, ap, ◌∙◌}
+use Rattle.std.proofs.Common.{◌≡◌, ℕ, ℤ, List, [], ◌∷◌, ◌++◌, false, Option, Some, None, codes, decimal, map}
+use Rattle.std.proofs.Common.{append_assoc, refl, ap, ◌∙◌}
 use Rattle.std.specs.List.{join_with_byte}
 use Rattle.serde_json.specs.Data.{string}
 use Rattle.serde_json.specs.View.{items_of}
@@ -13,7 +14,8 @@ use Rattle.dt_aggstore.specs.declared.key.KeyPart.{KeyPart}
 use Rattle.dt_aggstore.specs.declared.key.KeyPart.TheVariants.{Number, Text}
 use Rattle.dt_consumer.specs.Answer.{aggregated}
 use Rattle.dt_proto.specs.Reply.{reply_text}
-use Rattle.dt_proto.specs.Rows.{counted_data, counted_text, function_word, least_data, least_text, part_data, part_text, row_data, row_text, value_data, value_text}
+use Rattle.dt_proto.specs.Rows.{counted_data, counted_text, function_word, least_data, least_text, part_data}
+use Rattle.dt_proto.specs.Rows.{part_text, row_data, row_text, value_data, value_text}
 use Rattle.dt_proto.specs.Scalars.{characters}
 use Rattle.dt_proto.proofs.ItemTexts.{items_written}
 use Rattle.dt_proto.proofs.Texts.{signed_written}

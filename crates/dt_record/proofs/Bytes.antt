@@ -1,5 +1,6 @@
 -- Numbers and their bytes, both ways.
-use Rattle.std.proofs.Common.{◌≡◌, ℕ, zero, suc, ◌+◌, ◌*◌, ◌^◌, ◌<◌, ◌%◌, ◌/◌, List, [], ◌∷◌, ◌++◌, length, refl, sym, ap, ◌∙◌, arith}
+use Rattle.std.proofs.Common.{◌≡◌, ℕ, zero, suc, ◌+◌, ◌*◌, ◌^◌, ◌<◌, ◌%◌, ◌/◌, List, [], ◌∷◌, ◌++◌, length, refl, sym}
+use Rattle.std.proofs.Common.{ap, ◌∙◌, arith}
 use Rattle.std.proofs.Math.Nat.{mul-add-mod_self_right, mod-eq_of_lt, mod-lt, mul-div_cancel}
 use Rattle.std.proofs.lemmas.List.{append-nil, append_assoc}
 use Rattle.std.specs.Int.{byte_at, bytes_high_first}
@@ -34,7 +35,8 @@ big_unique n (x ∷ xs) [] a b u v e = absurd (omega (arith, a, b))
 big_unique zero (x ∷ xs) (y ∷ ys) a b u v e = absurd (omega (arith, a))
 big_unique (suc n) (x ∷ xs) (y ∷ ys) a b u v e =
     let moved : x * 256 ^ n + big_from 0 n xs ≡ y * 256 ^ n + big_from 0 n ys =
-    ap (λ r. x * 256 ^ n + r) (sym (big_from-cons 0 n x xs)) ∙ e ∙ ap (λ r. y * 256 ^ n + r) (big_from-cons 0 n y ys) in
+    ap (λ r. x * 256 ^ n + r) (sym (big_from-cons 0 n x xs)) ∙ e
+    ∙ ap (λ r. y * 256 ^ n + r) (big_from-cons 0 n y ys) in
     let both = parts (256 ^ n) x y (big_from 0 n xs) (big_from 0 n ys) (big_from-lt 0 n xs (tail_bytes x xs u))
     (big_from-lt 0 n ys (tail_bytes y ys v)) moved in
     ap (λ b. b ∷ xs) both.0 ∙ ap (λ l. y ∷ l) (big_unique n xs ys (omega (arith, a)) (omega (arith, b))

@@ -1,5 +1,6 @@
 -- The values of a record, one more, and what they determine.
-use Rattle.std.proofs.Common.{◌≡◌, ℕ, ◌+◌, ◌*◌, ◌^◌, ◌<◌, List, [], ◌∷◌, ◌++◌, map, take, drop, length, sum, refl, sym, ap, subst, ◌∙◌, arith}
+use Rattle.std.proofs.Common.{◌≡◌, ℕ, ◌+◌, ◌*◌, ◌^◌, ◌<◌, List, [], ◌∷◌, ◌++◌, map, take, drop, length, sum, refl, sym}
+use Rattle.std.proofs.Common.{ap, subst, ◌∙◌, arith}
 use Rattle.std.proofs.Math.ListN.{get_or}
 use Rattle.std.proofs.lemmas.List.{take_more, drop_more, map-append, append-nil, length-append}
 use Rattle.std.proofs.Math.Seq.{take-append_seam, drop-append_seam}
@@ -28,7 +29,8 @@ pub fit-turn : (fields : List Field) (i : ℕ) (field : Field) → i < length fi
     → FitAll (map form_of_field (take i fields)) old → Fits (form_of_field field) value
     → FitAll (map form_of_field (take (i + 1) fields)) new
 fit-turn fields i field inside is old new value pushed all one =
-    let more : map form_of_field (take i fields) ++ form_of_field field ∷ [] ≡ map form_of_field (take (i + 1) fields) =
+    let more : map form_of_field (take i fields) ++ form_of_field field ∷ []
+    ≡ map form_of_field (take (i + 1) fields) =
     sym (ap (map form_of_field) (take_more fields i field inside ∙ ap (λ f. take i fields ++ f ∷ []) (sym is))
     ∙ map-append form_of_field (take i fields) (field ∷ [])) in
     subst (λ fs. FitAll fs new) more

@@ -1,5 +1,6 @@
 -- What the statements leave, one statement more.
-use Rattle.std.proofs.Common.{◌≡◌, ℕ, List, [], ◌∷◌, ◌++◌, Bool, true, false, Option, Some, None, Result, Ok, Err, MatchResult, IsErr, refl, sym, ap, ◌∙◌, if◌then◌else◌}
+use Rattle.std.proofs.Common.{◌≡◌, ℕ, List, [], ◌∷◌, ◌++◌, Bool, true, false, Option, Some, None, Result, Ok, Err}
+use Rattle.std.proofs.Common.{MatchResult, IsErr, refl, sym, ap, ◌∙◌, if◌then◌else◌}
 use Rattle.std.proofs.Math.Bool.{false≢true}
 use Rattle.std.proofs.lemmas.List.{append-nil, append_assoc}
 use Rattle.std.proofs.lemmas.Grind.{flat_map-append}
@@ -7,7 +8,8 @@ use Rattle.std.specs.List.{flat_map}
 use Rattle.std.specs.Option.{option_map, option_or}
 use Rattle.dt_lang.specs.Program.{StatementForm}
 use Rattle.dt_record.specs.Forms.{form_of_taken}
-use Rattle.dt_record.specs.Taking.{Effect, TakenForm, recorded, contributed, exit_of, first_exit, epid_bytes, leaves_record, taken_of}
+use Rattle.dt_record.specs.Taking.{Effect, TakenForm, recorded, contributed, exit_of, first_exit, epid_bytes}
+use Rattle.dt_record.specs.Taking.{leaves_record, taken_of}
 use Rattle.dt_record.specs.declared.parts.Taken.{Taken}
 use Rattle.dt_record.proofs.Each.{or_none}
 
@@ -29,7 +31,8 @@ exit_more (first ∷ effects) effect =
 
 -- the record, where there is one
 bytes_more : (leaves : Bool) (epid : ℕ) (effects : List Effect) (effect : Effect)
-    → option_map (λ bytes. bytes ++ recorded effect) (if leaves then Some (epid_bytes epid ++ flat_map recorded effects) else None)
+    → option_map (λ bytes. bytes ++ recorded effect)
+    (if leaves then Some (epid_bytes epid ++ flat_map recorded effects) else None)
     ≡ (if leaves then Some (epid_bytes epid ++ flat_map recorded (effects ++ effect ∷ [])) else None)
 bytes_more false epid effects effect = refl
 bytes_more true epid effects effect =
@@ -43,9 +46,11 @@ by_parts a b e f g =
     ∙ ap (λ values. record { record_bytes = b.record_bytes; values = values; exit = a.exit }) f
     ∙ ap (λ exit. record { record_bytes = b.record_bytes; values = b.values; exit = exit }) g
 
-pub left-more : (epid : ℕ) (statements : List StatementForm) (effects : List Effect) (effect : Effect) (old new : Taken)
+pub left-more : (epid : ℕ) (statements : List StatementForm) (effects : List Effect) (effect : Effect)
+    (old new : Taken)
     → form_of_taken old ≡ taken_of epid statements effects
-    → (form_of_taken new).record_bytes ≡ option_map (λ bytes. bytes ++ recorded effect) (form_of_taken old).record_bytes
+    → (form_of_taken new).record_bytes
+    ≡ option_map (λ bytes. bytes ++ recorded effect) (form_of_taken old).record_bytes
     → new.values.items ≡ old.values.items ++ contributed effect
     → new.exit ≡ option_or old.exit (exit_of effect)
     → form_of_taken new ≡ taken_of epid statements (effects ++ effect ∷ [])

@@ -1,5 +1,6 @@
 -- Bytes are records in one way at most.
-use Rattle.std.proofs.Common.{◌≡◌, ℕ, ℤ, FitsSigned, ◌^◌, ◌<◌, List, [], ◌∷◌, ◌++◌, Option, Some, length, unwrap_or, refl, sym, ap, subst, ◌∙◌, arith}
+use Rattle.std.proofs.Common.{◌≡◌, ℕ, ℤ, FitsSigned, ◌^◌, ◌<◌, List, [], ◌∷◌, ◌++◌, Option, Some, length, unwrap_or}
+use Rattle.std.proofs.Common.{refl, sym, ap, subst, ◌∙◌, arith}
 use Rattle.std.proofs.lemmas.List.{append-nil, append_assoc, length-append}
 use Rattle.std.proofs.lemmas.Int.{to_z-of_z, SFits-int_wrap}
 use Rattle.std.proofs.Math.Facts.{Fits-of_z}
@@ -11,7 +12,8 @@ use Rattle.dt_expr.specs.Operators.{wrapped}
 use Rattle.dt_record.specs.Layout.{FieldForm}
 use Rattle.dt_record.specs.Layout as layout
 use Rattle.dt_record.specs.Split as split
-use Rattle.dt_record.specs.Split.{RecordedForm, RecordForm, AreFrames, Fits, FitAll, IsFrame, IsRecordOf, IsSplit, recorded_bytes, record_bytes}
+use Rattle.dt_record.specs.Split.{RecordedForm, RecordForm, AreFrames, Fits, FitAll, IsFrame, IsRecordOf, IsSplit}
+use Rattle.dt_record.specs.Split.{recorded_bytes, record_bytes}
 use Rattle.dt_record.specs.Taking.{epid_bytes, number_bytes}
 use Rattle.dt_record.proofs.Fitting.{cut, fits-long, epid-read}
 
@@ -65,7 +67,8 @@ value-unique (layout.ustack n) (split.frames k) (split.text t) a b e = elim b [ 
 value-unique (layout.ustack n) (split.number z) w a b e = elim a [ ]
 value-unique (layout.ustack n) (split.text t) w a b e = elim a [ ]
 
-values-unique : (fields : List FieldForm) (vs ws : List RecordedForm) (a b : List ℕ) → FitAll fields vs → FitAll fields ws
+values-unique : (fields : List FieldForm) (vs ws : List RecordedForm) (a b : List ℕ) → FitAll fields vs
+    → FitAll fields ws
     → flat_map recorded_bytes vs ++ a ≡ flat_map recorded_bytes ws ++ b → (vs ≡ ws) × (a ≡ b)
 values-unique [] [] [] a b f g e = (refl, e)
 values-unique [] [] (w ∷ ws) a b f g e = elim g [ ]
@@ -73,7 +76,8 @@ values-unique [] (v ∷ vs) ws a b f g e = elim f [ ]
 values-unique (field ∷ fields) [] ws a b f g e = elim f [ ]
 values-unique (field ∷ fields) (v ∷ vs) [] a b f g e = elim g [ ]
 values-unique (field ∷ fields) (v ∷ vs) (w ∷ ws) a b f g e =
-    let both = cut (recorded_bytes v) (recorded_bytes w) (flat_map recorded_bytes vs ++ a) (flat_map recorded_bytes ws ++ b)
+    let both = cut (recorded_bytes v) (recorded_bytes w) (flat_map recorded_bytes vs ++ a)
+    (flat_map recorded_bytes ws ++ b)
     (fits-long field v f.0 ∙ sym (fits-long field w g.0))
     (sym (append_assoc (recorded_bytes v) (flat_map recorded_bytes vs) a) ∙ e
     ∙ append_assoc (recorded_bytes w) (flat_map recorded_bytes ws) b) in
@@ -100,10 +104,14 @@ module _ (layouts : List (Option (List FieldForm))) where
       let first = epid-read s.epid (epid_bytes r.epid) (flat_map recorded_bytes r.values ++ a)
       (flat_map recorded_bytes s.values ++ b) also.small (length-bytes_high_first 4 r.epid) whole in
       let epid : r.epid ≡ s.epid =
-      sym (big_number-reads_back 4 r.epid [] is.small) ∙ ap (big_number 4) (append-nil (epid_bytes r.epid)) ∙ first.0 in
+      sym (big_number-reads_back 4 r.epid [] is.small) ∙ ap (big_number 4) (append-nil (epid_bytes r.epid))
+      ∙ first.0 in
       let rest = values-unique also.fields r.values s.values a b
-      (subst (λ fields. FitAll fields r.values) (same_fields r s is also epid) is.fit) also.fit first.1 in
-      (ap (λ n. record { epid = n; values = r.values }) epid ∙ ap (λ vs. record { epid = s.epid; values = vs }) rest.0, rest.1)
+      (subst (λ fields. FitAll fields r.values) (same_fields r s is also epid) is.fit) also.fit first.1 in (
+        ap (λ n. record { epid = n; values = r.values }) epid
+            ∙ ap (λ vs. record { epid = s.epid; values = vs }) rest.0,
+        rest.1,
+      )
 
   -- what is left of a list of records, after those that were read
   pub record Left (done : List RecordForm) (all : List RecordForm) (rest : List ℕ) : Type 0 where

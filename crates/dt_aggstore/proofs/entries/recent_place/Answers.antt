@@ -12,5 +12,6 @@ returns-then-is c =
     let held = c.in_ok-held.held.now in
     let entries = c.args.index.now.entries in
     ap (λ e. lookup (is_named e) entries)
-    (entry_is (entry_of c.args.aggregation c.args.key.now.parts.items) (name_of held) (sym c.is.ensures ∙ c.if-is.true))
+    (entry_is (entry_of c.args.aggregation c.args.key.now.parts.items) (name_of held)
+    (sym c.is.ensures ∙ c.if-is.true))
     ∙ sym (ap (λ eq. lookup (eq held) entries) tests_alike) ∙ c.in_ok-held.ensures.value

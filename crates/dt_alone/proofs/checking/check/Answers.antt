@@ -1,3 +1,4 @@
+-- What is to be shown of `check`.
 use Rattle.std.proofs.Common.{◌≡◌, Option, Some, None, sym, ap, ◌∙◌}
 use Rattle.dt_proto.specs.Session.{session_account}
 use Rattle.dt_alone.specs.Lent.{entries_of}

@@ -1,3 +1,4 @@
+-- What is to be shown of `judge`.
 use Rattle.std.proofs.Common.{◌+◌, ◌<◌, [], length, get_or, take, drop, reverse, sym, ap, arith}
 use Rattle.dt_alone.specs.Lent.{entry_of, entries_of}
 use Rattle.dt_alone.specs.declared.entry.Entry.{Entry}

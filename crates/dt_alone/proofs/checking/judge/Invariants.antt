@@ -1,3 +1,4 @@
+-- What holds at each turn of a loop of `judge`.
 use Rattle.std.proofs.Common.{take, reverse}
 use Rattle.dt_alone.specs.Judging.{IsAfter}
 use Rattle.dt_alone.specs.Legal.{Agrees}

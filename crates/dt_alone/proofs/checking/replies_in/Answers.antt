@@ -1,3 +1,4 @@
+-- What is to be shown of `replies_in`.
 use Rattle.std.proofs.Common.{◌≡◌, ◌+◌, List, ◌∷◌, count_by, cond, refl, sym, ◌∙◌, arith, rules}
 use Rattle.std.proofs.lemmas.List.Recursion.{is_count_by}
 use Rattle.dt_alone.specs.Lent.{entry_of, entries_of, has_reply}

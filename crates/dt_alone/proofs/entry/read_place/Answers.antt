@@ -1,3 +1,4 @@
+-- What is to be shown of `read_place`.
 use Rattle.std.proofs.Common.{decimal, sym, ◌∙◌, arith}
 use Rattle.dt_alone.proofs.Cuts.{same_cut, no_cut}
 use Rattle.dt_alone.proofs.Decimals.{decimal_no}

@@ -1,3 +1,4 @@
+-- What is to be shown of `read_reply`.
 use Rattle.std.proofs.Common.{◌≡◌, ◌∷◌, ◌++◌, codes, Some, None, sym, ap, ◌∙◌, subst}
 use Rattle.std.proofs.lemmas.Bool.Decides.{Decides-eqb}
 use Rattle.std.proofs.lemmas.List.Elements.{All-drop}

@@ -1,3 +1,4 @@
+-- What is to be shown of `compared`.
 use Rattle.std.proofs.Common.{◌≡◌, ◌++◌, codes, Some, sym, ap, ◌∙◌}
 use Rattle.std.proofs.lemmas.Bool.{true≢false}
 use Rattle.std.proofs.lemmas.Bool.Decides.{Decides-eqb}

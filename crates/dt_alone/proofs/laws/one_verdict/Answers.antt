@@ -1,3 +1,4 @@
+-- What is to be shown of `one_verdict`.
 use Rattle.dt_alone.proofs.Verdicts.{one_verdict}
 use Rattle.dt_alone.proofs.laws.one_verdict.Goals as goal
 

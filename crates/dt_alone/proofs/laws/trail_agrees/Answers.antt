@@ -1,3 +1,4 @@
+-- What is to be shown of `trail_agrees`.
 use Rattle.dt_alone.proofs.Trailed.{trail_agrees, text_agrees}
 use Rattle.dt_alone.proofs.laws.trail_agrees.Goals as goal
 

@@ -1,3 +1,4 @@
+-- What is to be shown of `alone`.
 use Rattle.std.proofs.Common.{◌≡◌, ◌+◌, ◌<◌, [], ◌∷◌, ◌++◌, cond, length, take, map, refl, sym, ap, ◌∙◌, subst, arith}
 use Rattle.std.proofs.lemmas.List.{map_push, map-append}
 use Rattle.dt_consumer.specs.Draft.{after_line}
@@ -10,7 +11,8 @@ use Rattle.dt_alone.specs.Answered.{IsAnswered}
 use Rattle.dt_alone.specs.Items.{form_of_item, view_of}
 use Rattle.dt_alone.proofs.SoFar.{so_far_more, after_offer}
 use Rattle.dt_alone.proofs.replies.alone.Goals as goal
-use Rattle.dt_alone.proofs.replies.alone.Goals.{in-Line+in_ok-answer-in-Line+in_ok-push-in-Line, in-Firing+in_ok-offer-in-Firing}
+use Rattle.dt_alone.proofs.replies.alone.Goals.{in-Line+in_ok-answer-in-Line+in_ok-push-in-Line}
+use Rattle.dt_alone.proofs.replies.alone.Goals.{in-Firing+in_ok-offer-in-Firing}
 
 pub loop-item-preserved : goal.loop-item-preserved
 loop-item-preserved c =

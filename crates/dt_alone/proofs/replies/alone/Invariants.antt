@@ -1,3 +1,4 @@
+-- What holds at each turn of a loop of `alone`.
 use Rattle.std.proofs.Common.{◌≡◌, List, take, map}
 use Rattle.dt_consumer.specs.Answer.{Answer}
 use Rattle.dt_consumer.specs.Life.{Item}

@@ -1,14 +1,20 @@
 -- One thing more came, or nothing.
-use Rattle.std.proofs.Common.{◌≡◌, ℕ, ◌+◌, ◌∷◌, List, [], ◌++◌, Bool, inl, inr, length, take, sym, ap, ◌∙◌, subst, arith}
+use Rattle.std.proofs.Common.{◌≡◌, ℕ, ◌+◌, ◌∷◌, List, [], ◌++◌, Bool, inl, inr, length, take, sym, ap, ◌∙◌, subst}
+use Rattle.std.proofs.Common.{arith}
 use Rattle.std.specs.Global.{Vec}
 use Rattle.std.proofs.lemmas.List.{length-append}
 use Rattle.dt_alone.specs.Happened.{all_to}
 use Rattle.dt_alone.specs.Shown.{IsBeginningOf, of_kind}
 use Rattle.dt_alone.specs.declared.shown.Beginning.{Beginning}
 use Rattle.dt_buffer.specs.History.{attempt}
-use Rattle.dt_alone.proofs.Showing.{all_more, begins_cut, begins_kept, kind_other, kind_put, no_attempts, other_bool, same_beginning, same_bool}
+use Rattle.dt_alone.proofs.Showing.{all_more, begins_cut, begins_kept, kind_other, kind_put, no_attempts, other_bool}
+use Rattle.dt_alone.proofs.Showing.{same_beginning, same_bool}
 use Rattle.dt_alone.proofs.shown.beginning_of.Goals as goal
-use Rattle.dt_alone.proofs.shown.beginning_of.Goals.{in-Put+then-in_end-of_end+then-not-is_cut+then-more-room+in_ok-extend_from_slice, in-Put+then-in_end-of_end+then-not-is_cut+else-more-room, in-Put+else-in_end-of_end, else-in_end-of_end-via-then-in_end-of_end+else-not-is_cut, else-in_end-of_end-via-else-in_end-of_end, in_default}
+use Rattle.dt_alone.proofs.shown.beginning_of.Goals.{in-Put+then-in_end-of_end+then-not-is_cut+then-more-room+in_ok-extend_from_slice}
+use Rattle.dt_alone.proofs.shown.beginning_of.Goals.{in-Put+then-in_end-of_end+then-not-is_cut+else-more-room}
+use Rattle.dt_alone.proofs.shown.beginning_of.Goals.{in-Put+else-in_end-of_end}
+use Rattle.dt_alone.proofs.shown.beginning_of.Goals.{else-in_end-of_end-via-then-in_end-of_end+else-not-is_cut}
+use Rattle.dt_alone.proofs.shown.beginning_of.Goals.{else-in_end-of_end-via-else-in_end-of_end, in_default}
 
 pub loop-one-preserved : goal.loop-one-preserved
 loop-one-preserved c =

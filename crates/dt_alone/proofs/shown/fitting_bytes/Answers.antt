@@ -10,7 +10,8 @@ use Rattle.dt_buffer.specs.History.{attempts}
 use Rattle.dt_buffer.proofs.Keeping.{concat-push}
 use Rattle.dt_alone.proofs.Showing.{all_more, fitting_more, no_attempts}
 use Rattle.dt_alone.proofs.shown.fitting_bytes.Goals as goal
-use Rattle.dt_alone.proofs.shown.fitting_bytes.Goals.{in-Put+then-bytes-size+in_ok-extend_from_slice, in-Put+else-bytes-size, in_default}
+use Rattle.dt_alone.proofs.shown.fitting_bytes.Goals.{in-Put+then-bytes-size+in_ok-extend_from_slice}
+use Rattle.dt_alone.proofs.shown.fitting_bytes.Goals.{in-Put+else-bytes-size, in_default}
 
 pub loop-one-preserved : goal.loop-one-preserved
 loop-one-preserved c =

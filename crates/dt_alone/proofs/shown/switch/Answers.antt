@@ -7,7 +7,8 @@ use Rattle.dt_buffer.specs.History.{since_swap}
 use Rattle.dt_buffer.proofs.Histories.{since-put, since-swap}
 use Rattle.dt_alone.proofs.Showing.{all_more, same_switch, switch_dropped, switch_kept, switch_nothing}
 use Rattle.dt_alone.proofs.shown.switch.Goals as goal
-use Rattle.dt_alone.proofs.shown.switch.Goals.{in-Put+then-more-size+in_ok-extend_from_slice-in-Put, in-Put+else-more-size, in-Read, in-Nothing}
+use Rattle.dt_alone.proofs.shown.switch.Goals.{in-Put+then-more-size+in_ok-extend_from_slice-in-Put}
+use Rattle.dt_alone.proofs.shown.switch.Goals.{in-Put+else-more-size, in-Read, in-Nothing}
 
 pub loop-one-preserved : goal.loop-one-preserved
 loop-one-preserved c =

@@ -1,5 +1,6 @@
 -- One thing more.
-use Rattle.std.proofs.Common.{◌≡◌, ℕ, ◌+◌, ◌<◌, ◌≤◌, Bool, true, false, cond, get_or, length, take, refl, sym, ap, ◌∙◌, arith}
+use Rattle.std.proofs.Common.{◌≡◌, ℕ, ◌+◌, ◌<◌, ◌≤◌, Bool, true, false, cond, get_or, length, take, refl, sym, ap, ◌∙◌}
+use Rattle.std.proofs.Common.{arith}
 use Rattle.std.specs.Vec.{with_items}
 use Rattle.std.proofs.lemmas.List.{get_or-replicate, length-replicate, take_all, with_items_is}
 use Rattle.std.proofs.lemmas.List.FromFn.{fill_by_all}
@@ -39,8 +40,10 @@ loop-one-preserved c =
     let before = c.loop-one.invariant in
     let same = c.as_mut_slice.ensures.value in
     let after : (with_items c.loop-one.faults c.count_fault.new.faults).items ≡ c.count_fault.new.faults =
-    with_items_is c.loop-one.faults c.count_fault.new.faults (omega (arith, c.count_fault.ensures.len, ap length same)) in
-    let now : (cpu : ℕ) → cpu < c.args.cpus → get_or (with_items c.loop-one.faults c.count_fault.new.faults).items cpu 0
+    with_items_is c.loop-one.faults c.count_fault.new.faults
+    (omega (arith, c.count_fault.ensures.len, ap length same)) in
+    let now : (cpu : ℕ) → cpu < c.args.cpus
+    → get_or (with_items c.loop-one.faults c.count_fault.new.faults).items cpu 0
     ≡ get_or c.loop-one.faults.items cpu 0 + cond (is_fault_on cpu x) 1 0 =
     λ cpu low.
     ap (λ faults. get_or faults cpu 0) after

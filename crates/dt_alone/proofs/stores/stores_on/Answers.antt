@@ -22,7 +22,8 @@ loop-one-preserved c =
     λ cpu.
     ap (λ given. given_to cpu (take i hs) ++ given) (sym (append-nil (gives_to cpu x)))
     ∙ sym (flat_map-append (gives_to cpu) (take i hs) (x ∷ []))
-    ∙ ap (given_to cpu) (sym (take_more hs i x c.loop-one-test.true ∙ ap (λ e. take i hs ++ e ∷ []) (sym c.one-item.is))) in
+    ∙ ap (given_to cpu) (sym (take_more hs i x c.loop-one-test.true
+    ∙ ap (λ e. take i hs ++ e ∷ []) (sym c.one-item.is))) in
     let P : ℕ → Past = λ cpu. record { size = c.args.size; events = given_to cpu (take i hs) } in
     let same : c.as_mut_slice.result.now ≡ c.loop-one.stores.items = c.as_mut_slice.ensures.value in
     let after : (with_items c.loop-one.stores c.give.new.stores).items ≡ c.give.new.stores =
@@ -32,7 +33,8 @@ loop-one-preserved c =
     let counts = c.give.ensures.counts (i * STATEMENTS_MAX)
     (subst (All (GivenAtMost (i * STATEMENTS_MAX))) (sym same) c.loop-one.invariant.gives) in
     record {
-      each = subst (AreGiven (λ cpu. record { size = c.args.size; events = given_to cpu (take (i + 1) hs) })) (sym after)
+      each = subst (AreGiven (λ cpu. record { size = c.args.size; events = given_to cpu (take (i + 1) hs) }))
+          (sym after)
           (λ cpu. if_some_map _ _ (slice_get c.give.new.stores cpu)
           (λ st at. same_at _ _ st (ap (λ events. record { size = c.args.size; events = events }) (more cpu)) at)
           (given cpu));

@@ -9,7 +9,8 @@ use Rattle.dt_alone.proofs.stores.stores_on.Given as goal
 
 abbrev pub invariant-loop-one : goal.invariant-loop-one
 invariant-loop-one l = record {
-  each : AreGiven (λ cpu. record { size = l.size; events = given_to cpu (take l.one-index l.happened) }) l.stores.items;
+  each : AreGiven (λ cpu. record { size = l.size; events = given_to cpu (take l.one-index l.happened) })
+      l.stores.items;
   len : length l.stores.items ≡ l.cpus;
   gives : All (GivenAtMost (l.one-index * STATEMENTS_MAX)) l.stores.items;
 }

@@ -1,3 +1,4 @@
+-- What is to be shown of `read_entries`.
 use Rattle.dt_alone.specs.Lent.{entries_of}
 use Rattle.dt_alone.proofs.Trails.{nothing_left, not_empty}
 use Rattle.dt_alone.proofs.trail.read_entries.Goals as goal

@@ -1,3 +1,4 @@
+-- What holds at each turn of a loop of `read_entries`.
 use Rattle.std.proofs.Common.{◌≡◌, ◌++◌, length}
 use Rattle.std.specs.List.{AllByRecursion}
 use Rattle.dt_proto.specs.Trail.{IsWritable}

@@ -12,7 +12,8 @@ loop-probe-preserved c =
     let step = c.loop-probe in
     elim c.if-contains.branch [
       | then-contains w ↦
-          let changed = changed_one step.lists step.probe c.args.seat true w.insert.new.self (omega arith) w.insert.ensures in
+          let changed = changed_one step.lists step.probe c.args.seat true w.insert.new.self (omega arith)
+          w.insert.ensures in
           rw w.lists-is (record {
             own = below_more _ _
                 (λ probe below.
@@ -23,7 +24,8 @@ loop-probe-preserved c =
             bounded = λ some. c.contains.ensures.bounded;
           })
       | else-contains w ↦
-          let changed = changed_one step.lists step.probe c.args.seat false w.remove.new.self (omega arith) w.remove.ensures.others in
+          let changed = changed_one step.lists step.probe c.args.seat false w.remove.new.self (omega arith)
+          w.remove.ensures.others in
           rw w.lists-is (record {
             own = below_more _ _
                 (λ probe below.
@@ -41,7 +43,8 @@ returns-clause-own c = λ probe.
     ⊎_elim
     (λ (within : probe < 4099). done.invariant.own probe (omega arith))
     (λ (past : 4099 ≤ probe).
-    let none : is_listed done.lists probe c.args.seat ≡ false = listed_past done.lists probe c.args.seat (omega arith) in (
+    let none : is_listed done.lists probe c.args.seat ≡ false =
+    listed_past done.lists probe c.args.seat (omega arith) in (
       λ t. absurd (false≢true (sym none ∙ t)),
       λ names. absurd (omega (arith, done.invariant.bounded (omega arith) probe names)),
     ))

@@ -1,3 +1,4 @@
+-- What is to be shown of `skip_blanks`.
 use Rattle.std.proofs.Common.{arith}
 use Rattle.dt_lang.specs.Blanks.{one_more, none_left}
 use Rattle.dt_lang.proofs.blanks.skip_blanks.Goals as goal

@@ -1,3 +1,4 @@
+-- What holds at each turn of a loop of `skip_blanks`.
 use Rattle.std.proofs.Common.{◌≤◌, List, ℕ, length}
 use Rattle.dt_lang.specs.Blanks.{SkipsBlanks}
 use Rattle.dt_lang.proofs.blanks.skip_blanks.Given as goal

@@ -1,3 +1,4 @@
+-- What is to be shown of `one_description`.
 use Rattle.dt_lang.proofs.Descriptions.{same_reading_of_description}
 use Rattle.dt_lang.proofs.description.one_description.Goals as goal
 

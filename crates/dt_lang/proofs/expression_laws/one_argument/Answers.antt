@@ -1,3 +1,4 @@
+-- What is to be shown of `one_argument`.
 use Rattle.dt_lang.proofs.ExpressionLaws.{one_argument}
 use Rattle.dt_lang.proofs.expression_laws.one_argument.Goals as goal
 

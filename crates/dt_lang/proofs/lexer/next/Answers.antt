@@ -1,3 +1,4 @@
+-- What is to be shown of `next`.
 use Rattle.std.proofs.Common.{arith}
 use Rattle.dt_lang.proofs.Progress.{token_within}
 use Rattle.dt_lang.proofs.lexer.next.Goals as goal

@@ -1,3 +1,4 @@
+-- What is to be shown of `one_lexeme`.
 use Rattle.dt_lang.proofs.Lexemes.{one_lexed, lexed_within}
 use Rattle.dt_lang.proofs.lexer.one_lexeme.Goals as goal
 

@@ -1,3 +1,4 @@
+-- What is to be shown of `some_lexeme`.
 use Rattle.dt_lang.proofs.Lexemes.{some_lexed}
 use Rattle.dt_lang.proofs.lexer.some_lexeme.Goals as goal
 

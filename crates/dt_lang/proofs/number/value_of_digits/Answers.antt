@@ -1,3 +1,4 @@
+-- What is to be shown of `value_of_digits`.
 use Rattle.std.proofs.Common.{◌+◌, get_or, arith, sym, ◌∙◌, ap, subst, ◌<◌, ℕ}
 use Rattle.std.specs.Char.{digit_value}
 use Rattle.std.proofs.lemmas.Bool.{false≢true}

@@ -1,3 +1,4 @@
+-- What holds at each turn of a loop of `value_of_digits`.
 use Rattle.std.proofs.Common.{◌≡◌, take}
 use Rattle.std.specs.Str.Parse.{digits_value, AllDigits}
 use Rattle.dt_lang.proofs.number.value_of_digits.Given as goal

@@ -7,16 +7,19 @@ use Rattle.dt_lang.specs.declared.program.Program.{Program}
 use Rattle.dt_lang.specs.ClauseState.{ProgramState}
 use Rattle.dt_lang.specs.Reads.{Answered}
 use Rattle.dt_lang.specs.ReaderView.{program_state_of}
-use Rattle.dt_lang.proofs.ParseLemmas.{SoFar, so_far_first, so_far_on, so_far_refused, so_far_overlong, so_far_stray, so_far_end, answers_is}
+use Rattle.dt_lang.proofs.ParseLemmas.{SoFar, so_far_first, so_far_on, so_far_refused, so_far_overlong, so_far_stray}
+use Rattle.dt_lang.proofs.ParseLemmas.{so_far_end, answers_is}
 use Rattle.dt_lang.proofs.parse.read.Goals as goal
 
 pub tokens-init : goal.tokens-init
-tokens-init c = subst (λ (s : ProgramState). SoFar c.args.text.now Head 0 s) (sym c.requires) (so_far_first c.args.text.now)
+tokens-init c = subst (λ (s : ProgramState). SoFar c.args.text.now Head 0 s) (sym c.requires)
+    (so_far_first c.args.text.now)
 
 pub returns-in-Some : goal.returns-in-Some
 returns-in-Some c =
     let a = answers_is _ _ c.in-Token.token _ (Some c.in-Some.refusal) c.in-Some.is c.in_ok-refusal-in-Token.ensures in
-    let r = so_far_refused c.args.text.now c.tokens.mode c.tokens.from (program_state_of c.tokens.reader) c.tokens.invariant
+    let r = so_far_refused c.args.text.now c.tokens.mode c.tokens.from (program_state_of c.tokens.reader)
+    c.tokens.invariant
     c.in-Token.token c.in-Token.at c.in-Token.end c.in-Some.refusal (program_state_of c.push.new.self)
     c.in-Token.ensures.lexes a in
     subst (λ (x : LangFault). Answered c.args.text.now (Err x)) (sym c.fault.ensures) r
@@ -42,6 +45,7 @@ returns-in-Stray c =
 
 pub returns-in-End : goal.returns-in-End
 returns-in-End c =
-    let r = so_far_end c.args.text.now c.tokens.mode c.tokens.from (program_state_of c.tokens.reader) c.tokens.invariant
+    let r = so_far_end c.args.text.now c.tokens.mode c.tokens.from (program_state_of c.tokens.reader)
+    c.tokens.invariant
     c.in-End.at c.finish.result c.in-End.ensures.lexes c.finish.ensures in
     subst (λ (x : Result Program LangFault). Answered c.args.text.now x) (sym c.ok_or.ensures.value) r

@@ -1,3 +1,4 @@
+-- What is to be shown of `in_head`.
 use Rattle.std.proofs.Common.{List, ℕ, length, eqb, sym, ap, ◌∙◌}
 use Rattle.std.proofs.lemmas.Bool.{false≢true}
 use Rattle.dt_lang.proofs.Pieces.{described}

@@ -1,3 +1,4 @@
+-- What is to be shown of `number`.
 use Rattle.std.proofs.Common.{ap, refl, ◌∙◌, ℤ, w64}
 use Rattle.dt_lang.specs.declared.token.Token.TheVariants as token
 use Rattle.dt_lang.proofs.Digits.{representative}

@@ -1,3 +1,4 @@
+-- What is to be shown of `first_of`.
 use Rattle.std.proofs.Common.{arith, sym, ◌∙◌, ap, ◌++◌, drop, length, List, ℕ, below_more}
 use Rattle.std.proofs.lemmas.Bool.Decides.{Decides-eqb}
 use Rattle.std.proofs.lemmas.Bool.{false≢true}

@@ -1,3 +1,4 @@
+-- What holds at each turn of a loop of `first_of`.
 use Rattle.std.proofs.Common.{ℕ, ◌<◌}
 use Rattle.std.specs.List.{HoldsAt}
 use Rattle.dt_lang.specs.Piece.{BeginsWith}

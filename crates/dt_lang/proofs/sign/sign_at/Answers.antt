@@ -1,3 +1,4 @@
+-- What is to be shown of `sign_at`.
 use Rattle.dt_lang.proofs.Signs.{longest_pair, some_single, no_single}
 use Rattle.dt_lang.proofs.sign.sign_at.Goals as goal
 

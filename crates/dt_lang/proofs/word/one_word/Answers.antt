@@ -1,3 +1,4 @@
+-- What is to be shown of `one_word`.
 use Rattle.dt_lang.proofs.Existence.{some_word}
 use Rattle.dt_lang.proofs.Names.{one_word}
 use Rattle.dt_lang.proofs.word.one_word.Goals as goal

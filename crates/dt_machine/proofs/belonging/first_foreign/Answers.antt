@@ -1,5 +1,6 @@
 -- What the proof of `first_foreign` is told at its goals.
-use Rattle.std.proofs.Common.{◌≡◌, ◌∙◌, ◌<◌, List, Vec, Global, Some, option_map, map, length, slice_get, get_or, ℕ, ap, sym, refl, subst, arith}
+use Rattle.std.proofs.Common.{◌≡◌, ◌∙◌, ◌<◌, List, Vec, Global, Some, option_map, map, length, slice_get, get_or, ℕ}
+use Rattle.std.proofs.Common.{ap, sym, refl, subst, arith}
 use Rattle.std.proofs.lemmas.List.{length-map}
 use Rattle.std.proofs.lemmas.Option.{slice_get-map, slice_get_read}
 use Rattle.dt_machine.specs.declared.firing.Firing.{Firing}

@@ -1,5 +1,6 @@
 -- What the proof of `read_probes` is told at its goals.
-use Rattle.std.proofs.Common.{◌≡◌, ◌∙◌, ◌+◌, ◌-◌, ◌≤◌, ℕ, ap, sym, take, drop, length, refl, subst, codes, arith, [], ◌∷◌, ◌++◌, List}
+use Rattle.std.proofs.Common.{◌≡◌, ◌∙◌, ◌+◌, ◌-◌, ◌≤◌, ℕ, ap, sym, take, drop, length, refl, subst, codes, arith, []}
+use Rattle.std.proofs.Common.{◌∷◌, ◌++◌, List}
 use Rattle.std.proofs.lemmas.List.{take_all, length-drop}
 use Rattle.serde_json.specs.View.{view}
 use Rattle.dt_names.specs.Tuple.{SpellsTuple}
@@ -9,7 +10,8 @@ use Rattle.dt_machine.specs.Reading.{IsFirstWrong}
 use Rattle.dt_machine.specs.Rows.{AreProbes, IsRightProbe}
 use Rattle.dt_machine.specs.Sections.{texts}
 use Rattle.dt_machine.proofs.Spelling.{length-probes, own_dropped, probes_push}
-use Rattle.dt_machine.proofs.Searching.{row_at, first_wrong, right_more, right_all, take_next, length-front, length-rows}
+use Rattle.dt_machine.proofs.Searching.{row_at, first_wrong, right_more, right_all, take_next, length-front}
+use Rattle.dt_machine.proofs.Searching.{length-rows}
 use Rattle.dt_machine.proofs.probes.read_probes.Goals as goal
 
 -- the slice after the two own probes

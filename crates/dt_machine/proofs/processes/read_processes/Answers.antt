@@ -1,5 +1,6 @@
 -- What the proof of `read_processes` is told at its goals.
-use Rattle.std.proofs.Common.{◌≡◌, ◌∙◌, ◌<◌, ◌^◌, ℕ, ap, sym, take, find, length, All, IsSome, List, Option, Some, None, arith, refl, subst, [], ◌∷◌, ◌++◌}
+use Rattle.std.proofs.Common.{◌≡◌, ◌∙◌, ◌<◌, ◌^◌, ℕ, ap, sym, take, find, length, All, IsSome, List, Option, Some}
+use Rattle.std.proofs.Common.{None, arith, refl, subst, [], ◌∷◌, ◌++◌}
 use Rattle.std.proofs.lemmas.List.{length-map}
 use Rattle.std.proofs.lemmas.List.Elements.{All-push}
 use Rattle.serde_json.specs.View.{view}
@@ -8,7 +9,8 @@ use Rattle.dt_machine.specs.Reading.{IsFirstWrong}
 use Rattle.dt_machine.specs.Rows.{ProcessRow, process_row, process, number_in, IsBelow, IsRightProcess}
 use Rattle.dt_machine.specs.Sections.{process_rows, Indexes}
 use Rattle.dt_machine.proofs.ByPid.{at_pid, indexes_more}
-use Rattle.dt_machine.proofs.Searching.{row_at, first_wrong, right_more, right_all, map_next, take_next, length-front, length-rows}
+use Rattle.dt_machine.proofs.Searching.{row_at, first_wrong, right_more, right_all, map_next, take_next, length-front}
+use Rattle.dt_machine.proofs.Searching.{length-rows}
 use Rattle.dt_machine.proofs.processes.read_processes.Goals as goal
 
 some_below : (limit : ℕ) (number : Option ℕ) → IsBelow limit number → IsSome number

@@ -2,7 +2,8 @@
 use Rattle.std.proofs.Common.{arith}
 use Rattle.dt_names.proofs.Clean.{scanned_colon, scanned_byte, few_fields, clean_fields}
 use Rattle.dt_names.proofs.desc.first_fault.Goals as goal
-use Rattle.dt_names.proofs.desc.first_fault.Goals.{then-byte-eq58+else-colons, else-byte-eq58+else-not-is_name_byte+else-field_len-eq-FIELD_MAX}
+use Rattle.dt_names.proofs.desc.first_fault.Goals.{then-byte-eq58+else-colons}
+use Rattle.dt_names.proofs.desc.first_fault.Goals.{else-byte-eq58+else-not-is_name_byte+else-field_len-eq-FIELD_MAX}
 
 pub loop-byte-preserved : goal.loop-byte-preserved
 loop-byte-preserved c =

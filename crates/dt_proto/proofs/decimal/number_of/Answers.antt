@@ -1,3 +1,4 @@
+-- What is to be shown of `number_of`.
 use Rattle.std.proofs.Common.{sym, ◌∙◌}
 use Rattle.std.proofs.lemmas.Bool.{true≢false}
 use Rattle.dt_proto.proofs.Decimals.{decimal_bare, decimal_utf8, parsed, unparsed, ok_some, ok_none}

@@ -1,3 +1,4 @@
+-- What is to be shown of `command_of`.
 use Rattle.std.proofs.Common.{◌∙◌, rules}
 use Rattle.std.proofs.lemmas.Result.{IfOk-weaker, IfErr-weaker}
 use Rattle.dt_proto.proofs.Requests.{requested-read, requested-unread}

@@ -1,3 +1,4 @@
+-- What holds at each turn of a loop of `asked_in`.
 use Rattle.std.proofs.Common.{◌≡◌, take, map}
 use Rattle.std.specs.List.{flat_map}
 use Rattle.dt_proto.specs.Asked.{form_asked}

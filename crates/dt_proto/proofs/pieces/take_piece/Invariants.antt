@@ -1,3 +1,4 @@
+-- What holds at each turn of a loop of `take_piece`.
 use Rattle.std.proofs.Common.{◌≡◌, ◌++◌, ℕ, List, length, map}
 use Rattle.dt_proto.specs.Asked.{form_asked}
 use Rattle.dt_proto.specs.HasRead.{HasRead}

@@ -1,3 +1,4 @@
+-- What holds at each turn of a loop of `listed_value`.
 use Rattle.std.proofs.Common.{◌≡◌, map, take}
 use Rattle.serde_json.specs.View.{view}
 use Rattle.dt_proto.specs.Reply.{probe_data}

@@ -1,3 +1,4 @@
+-- What is to be shown of `reply_bytes`.
 use Rattle.std.proofs.Common.{◌≡◌, ◌∷◌, ◌++◌, [], ap, ◌∙◌, rules}
 use Rattle.serde_json.specs.Written.{has_float, compact_text}
 use Rattle.dt_consumer.specs.Answer.{answer_of}

@@ -1,3 +1,4 @@
+-- What is to be shown of `reply_texts`.
 use Rattle.std.proofs.Common.{◌≡◌, ℕ, ◌++◌, codes, decimal, append_assoc, refl}
 use Rattle.std.specs.Fmt.{digits}
 use Rattle.dt_lang.specs.Fault.{word_of}
@@ -5,14 +6,16 @@ use Rattle.dt_lang.specs.Word.{name_of_destructive}
 use Rattle.dt_lang.specs.declared.fault.Why.{Why}
 use Rattle.dt_lang.specs.declared.fault.Why.TheVariants.{Syntax, Probe, Action, Variable, TooLong, Range}
 use Rattle.dt_lang.specs.declared.word.Destructive.{Destructive}
-use Rattle.dt_lang.specs.declared.word.Destructive.TheVariants.{Stop, Raise, Copyout, Copyoutstr, System, Breakpoint, Panic, Chill}
+use Rattle.dt_lang.specs.declared.word.Destructive.TheVariants.{Stop, Raise, Copyout, Copyoutstr, System, Breakpoint}
+use Rattle.dt_lang.specs.declared.word.Destructive.TheVariants.{Panic, Chill}
 use Rattle.dt_consumer.specs.Answer.{refused}
 use Rattle.dt_consumer.specs.declared.refusal.Refusal.TheVariants as Refusal
 use Rattle.dt_proto.specs.Reply.{reply_text}
 use Rattle.serde_json.proofs.OnLiterals.{serde_json_on_literals}
 use Rattle.dt_proto.proofs.ListedTexts.{text-listed}
 use Rattle.dt_proto.proofs.DescribedTexts.{text-described, text-unrecorded}
-use Rattle.dt_proto.proofs.StatusTexts.{text-inactive, text-active, text-stopped, text-exited, text-history, text-closed}
+use Rattle.dt_proto.proofs.StatusTexts.{text-inactive, text-active, text-stopped, text-exited, text-history}
+use Rattle.dt_proto.proofs.StatusTexts.{text-closed}
 use Rattle.dt_proto.proofs.TableTexts.{text-aggregated}
 use Rattle.dt_proto.proofs.Texts.{text-snapped}
 use Rattle.dt_proto.proofs.reply.reply_texts.Goals as goal
@@ -49,7 +52,8 @@ pub returns-clause-snapped : goal.returns-clause-snapped
 returns-clause-snapped c = text-snapped
 
 by_why : (at : ℕ) (why : Why) → reply_text (refused (Refusal.Program at why))
-    ≡ codes "{\"at\":" ++ decimal at ++ codes ",\"error\":4,\"name\":\"Program\",\"why\":\"" ++ word_of why ++ codes "\"}\n"
+    ≡ codes "{\"at\":" ++ decimal at
+    ++ codes ",\"error\":4,\"name\":\"Program\",\"why\":\"" ++ word_of why ++ codes "\"}\n"
 unfolding serde_json_on_literals
 by_why at Syntax = simp (four, append_assoc)
 by_why at Probe = simp (four, append_assoc)
@@ -59,7 +63,8 @@ by_why at TooLong = simp (four, append_assoc)
 by_why at Range = simp (four, append_assoc)
 
 by_name : (at : ℕ) (what : Destructive) → reply_text (refused (Refusal.Destructive at what))
-    ≡ codes "{\"at\":" ++ decimal at ++ codes ",\"error\":7,\"name\":\"Destructive\",\"what\":\"" ++ name_of_destructive what
+    ≡ codes "{\"at\":" ++ decimal at
+    ++ codes ",\"error\":7,\"name\":\"Destructive\",\"what\":\"" ++ name_of_destructive what
     ++ codes "\"}\n"
 unfolding serde_json_on_literals
 by_name at Stop = simp (seven, append_assoc)

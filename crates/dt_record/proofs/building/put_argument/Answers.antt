@@ -21,5 +21,6 @@ pub returns-in-Text-clause-written : goal.returns-in-Text-clause-written
 returns-in-Text-clause-written c = (
   text_value (scene_of c.args.scene.now) c.in-Text.text,
   ap (λ (a : Argument). argument_value (scene_of c.args.scene.now) (form_of_argument a)) c.in-Text.is,
-  c.put.ensures.written ∙ ap (λ shown. option_map (λ bytes. bytes ++ shown) (bytes_of c.args.record.now)) c.shown.ensures,
+  c.put.ensures.written ∙ ap (λ shown. option_map (λ bytes. bytes ++ shown) (bytes_of c.args.record.now))
+      c.shown.ensures,
 )

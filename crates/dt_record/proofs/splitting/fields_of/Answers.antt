@@ -1,5 +1,6 @@
 -- What the proof of `fields_of` is told at its goals.
-use Rattle.std.proofs.Common.{◌≡◌, ℕ, List, Some, None, is_some, unwrap_or, map, length, refl, ap, sym, subst, ◌∙◌, arith}
+use Rattle.std.proofs.Common.{◌≡◌, ℕ, List, Some, None, is_some, unwrap_or, map, length, refl, ap, sym, subst, ◌∙◌}
+use Rattle.std.proofs.Common.{arith}
 use Rattle.std.proofs.Math.Bool.{false≢true}
 use Rattle.std.proofs.lemmas.Option.{slice_get_read, slice_get-map}
 use Rattle.std.specs.List.{slice_get}

@@ -22,7 +22,8 @@ loop-i-preserved c =
       are = back_bytes front back are;
       long = let cut = c.split_at.ensures.back_len in let long = c.loop-i.invariant.long in omega arith;
       same = ap (λ l. flat_map (big_bytes 8) l ++ back) c.in_ok-push.ensures.items
-          ∙ pieces-more (big_bytes 8) c.loop-i.frames.items c.read_u64.result front back c.loop-i.rest.now c.args.bytes.now
+          ∙ pieces-more (big_bytes 8) c.loop-i.frames.items c.read_u64.result front back c.loop-i.rest.now
+          c.args.bytes.now
           c.loop-i.invariant.same whole
           (ap (big_bytes 8) c.read_u64.ensures
           ∙ bytes_back 8 front c.split_at.ensures.front_len (front_bytes front back are));

@@ -22,7 +22,8 @@ loop-key-preserved c =
         given.0 ++ value ∷ [],
         each-turn form_of_argument (argument_value (scene_of c.args.scene.now)) c.args.keys.now c.loop-key.key-index
             c.key-item.result c.loop-key-test.true c.key-item.is given.0 value given.1 c.in_ok-value_of.ensures,
-        c.push.ensures.items ∙ ap (λ vs. vs ++ value ∷ []) given.2 ∙ append_assoc c.args.values.now.items given.0 (value ∷ []),
+        c.push.ensures.items ∙ ap (λ vs. vs ++ value ∷ []) given.2
+            ∙ append_assoc c.args.values.now.items given.0 (value ∷ []),
       );
       long = search rules;
     }

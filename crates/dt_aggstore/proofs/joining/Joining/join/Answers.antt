@@ -1,5 +1,6 @@
 -- A bag joins the row of its key, or makes one.
-use Rattle.std.proofs.Common.{◌≡◌, ℕ, ◌<◌, Bool, true, false, cond, List, ◌∷◌, length, get_or, take, drop, refl, sym, ap, ◌∙◌, subst, arith}
+use Rattle.std.proofs.Common.{◌≡◌, ℕ, ◌<◌, Bool, true, false, cond, List, ◌∷◌, length, get_or, take, drop, refl, sym}
+use Rattle.std.proofs.Common.{ap, ◌∙◌, subst, arith}
 use Rattle.std.specs.Prelude.{All}
 use Rattle.std.specs.List.{insert}
 use Rattle.std.specs.Result.{is_ok}
@@ -14,7 +15,8 @@ use Rattle.dt_aggstore.proofs.Same.{key_decides}
 use Rattle.dt_aggstore.proofs.Joins.{bag_at, cell_then, merged_at, inserted_at}
 use Rattle.dt_aggstore.proofs.Rising.{Key}
 use Rattle.dt_aggstore.proofs.joining.Joining.join.Goals as goal
-use Rattle.dt_aggstore.proofs.joining.Joining.join.Goals.{else-place-len-via-then-place-len+else-is, else-place-len-via-else-place-len}
+use Rattle.dt_aggstore.proofs.joining.Joining.join.Goals.{else-place-len-via-then-place-len+else-is}
+use Rattle.dt_aggstore.proofs.joining.Joining.join.Goals.{else-place-len-via-else-place-len}
 
 pub returns-then-is-clause-joins : goal.returns-then-is-clause-joins
 returns-then-is-clause-joins c = λ bags bag j few own cell.

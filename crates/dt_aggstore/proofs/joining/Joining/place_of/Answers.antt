@@ -1,5 +1,6 @@
 -- One row more comes before the key.
-use Rattle.std.proofs.Common.{◌≡◌, ℕ, ◌+◌, ◌<◌, List, get_or, Ordering, Less, false, refl, sym, ap, ◌∙◌, subst, below_more, length}
+use Rattle.std.proofs.Common.{◌≡◌, ℕ, ◌+◌, ◌<◌, List, get_or, Ordering, Less, false, refl, sym, ap, ◌∙◌, subst}
+use Rattle.std.proofs.Common.{below_more, length}
 use Rattle.std.proofs.lemmas.List.{get_or-map}
 use Rattle.std.proofs.lemmas.Bool.{false≢true}
 use Rattle.std.specs.Ordering.{is_ge}

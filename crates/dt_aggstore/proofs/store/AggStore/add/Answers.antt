@@ -1,5 +1,6 @@
 -- A contribution goes to the entry that is held, or to a new one.
-use Rattle.std.proofs.Common.{◌≡◌, ◌+◌, ◌≤◌, ◌↔◌, ℤ, Bool, true, false, List, [], ◌∷◌, ◌++◌, length, take, drop, refl, ap, ◌∙◌, subst, IsTrue, to_z, of_z, arith}
+use Rattle.std.proofs.Common.{◌≡◌, ◌+◌, ◌≤◌, ◌↔◌, ℤ, Bool, true, false, List, [], ◌∷◌, ◌++◌, length, take, drop, refl}
+use Rattle.std.proofs.Common.{ap, ◌∙◌, subst, IsTrue, to_z, of_z, arith}
 use Rattle.std.specs.Prelude.{FitsSigned, slice_range, Contains}
 use Rattle.std.specs.Int.{w64}
 use Rattle.std.proofs.lemmas.Int.{to_z-of_z}
@@ -16,7 +17,8 @@ use Rattle.dt_aggstore.specs.declared.limits.TheConstants.{ADDED_LIMIT}
 use Rattle.dt_aggstore.specs.declared.key.Aggregation.{Aggregation}
 use Rattle.dt_aggstore.specs.declared.key.KeyPart.{KeyPart}
 use Rattle.dt_aggstore.specs.declared.store.AggStore.{AggStore}
-use Rattle.dt_aggstore.proofs.Steps.{after_added, keeps_added, given_bag, cell_is, after_made, after_dropped, keeps_made}
+use Rattle.dt_aggstore.proofs.Steps.{after_added, keeps_added, given_bag, cell_is, after_made, after_dropped}
+use Rattle.dt_aggstore.proofs.Steps.{keeps_made}
 use Rattle.dt_aggstore.proofs.Drops.{drops-given}
 use Rattle.dt_aggstore.proofs.store.AggStore.add.Goals as goal
 
@@ -24,7 +26,8 @@ use Rattle.dt_aggstore.proofs.store.AggStore.add.Goals as goal
 made : (past : Past) (old new : AggStore) (at : IsAt past old) (aggregation : Aggregation) (key : List KeyPart)
     (value : ℤ)
     (b : Bool) → FitsSigned w64 value → (Contains (names_of old.entries.items) (entry_of aggregation key) → ⊥)
-    → Makes aggregation key value old.size (old.added + 1) old.dropped (names_of old.entries.items) old.cells.items new b
+    → Makes aggregation key value old.size (old.added + 1) old.dropped (names_of old.entries.items)
+    old.cells.items new b
     → IsAt (after past (given aggregation key value)) new
 made past old new at aggregation key value true word none m =
     after_made past old at aggregation key value none new m.same_size m.same_count m.drops word

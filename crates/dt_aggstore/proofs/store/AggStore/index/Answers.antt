@@ -32,6 +32,7 @@ returns c = λ past at.
           ∙ ap (places_from 0) at.names;
       cells = subst (AllByRecursion Cells) (sym is)
           (all_also (λ e. LiesAt (names_of items) (name_of e.0) e.1) Cells
-          (λ e lies. cell_is past self at e.0.aggregation e.0.key.parts.items (pos 0) c.cell_length.ensures.words e.1 lies)
+          (λ e lies. cell_is past self at e.0.aggregation e.0.key.parts.items (pos 0)
+          c.cell_length.ensures.words e.1 lies)
           (zip items places) (all_lie items));
     }

@@ -78,6 +78,7 @@ invariant_of-self-2-clause-places_are c =
     let names = names_of self.entries.items in
     c.push.ensures.places
     ∙ ap (λ places. places ++ c.len-place.result ∷ []) self.places_are
-    ∙ ap (λ place. places_from 0 names ++ place ∷ []) (omega (arith, c.len-place.ensures, self.cells.ok, self.cells_are))
+    ∙ ap (λ place. places_from 0 names ++ place ∷ [])
+    (omega (arith, c.len-place.ensures, self.cells.ok, self.cells_are))
     ∙ sym (places-push 0 names (name_of c.args.held))
     ∙ ap (places_from 0) (sym (one_more self.entries.items c.args.held c.push.new.self.items c.push.ensures.items))

@@ -12,7 +12,8 @@ use Rattle.std.specs.declared.alloc.AllocError.{AllocError}
 use Rattle.dt_aggstore.specs.declared.joining.Joined.{Joined}
 use Rattle.dt_aggstore.specs.declared.table.Row.{Row}
 use Rattle.dt_aggstore.proofs.Rising.{Key}
-use Rattle.dt_aggstore.proofs.Tables.{choices_of, choices_are, none_joined, store_joined, all_joined, all_short, table_is, one_table}
+use Rattle.dt_aggstore.proofs.Tables.{choices_of, choices_are, none_joined, store_joined, all_joined, all_short}
+use Rattle.dt_aggstore.proofs.Tables.{table_is, one_table}
 use Rattle.dt_aggstore.proofs.SomeTables.{is_table}
 use Rattle.dt_aggstore.specs.TableOf.{table_of}
 use Rattle.dt_aggstore.proofs.store.AggStore.merge_all.Goals as goal

@@ -1,9 +1,11 @@
+-- What is to be shown of `read`.
 use Rattle.std.proofs.Common.{◌≡◌, ◌++◌, codes, Some, None, sym, ◌∙◌}
 use Rattle.std.proofs.lemmas.Bool.{true≢false}
 use Rattle.std.proofs.lemmas.Bool.Decides.{Decides-eqb}
 use Rattle.std.proofs.lemmas.Slice.Eq.{strip_prefix_is, slice_eq-Decides}
 use Rattle.dt_alone.proofs.Cuts.{no_cut}
-use Rattle.dt_alone.proofs.Entries.{entry_whole, first_of, more_of, starts_line, starts_fired, no_line, no_fired, no_entry}
+use Rattle.dt_alone.proofs.Entries.{entry_whole, first_of, more_of, starts_line, starts_fired, no_line, no_fired}
+use Rattle.dt_alone.proofs.Entries.{no_entry}
 use Rattle.dt_alone.proofs.entry.Entry.read.Goals as goal
 
 pub returns-in_err-first-clause-none : goal.returns-in_err-first-clause-none

@@ -11,7 +11,8 @@ use Rattle.dt_alone.proofs.Leaving.{given_none, given_one, other_use, span_same,
 use Rattle.dt_consumer.specs.Aggregations.{aggregation_of}
 use Rattle.dt_consumer.specs.Uses.{key_at, number_at, split_by, uses_by}
 use Rattle.dt_alone.proofs.happened.Contribution.all.Goals as goal
-use Rattle.dt_alone.proofs.happened.Contribution.all.Goals.{in-Aggregate, in-Some+in_ok-push, in_default-of, in_default}
+use Rattle.dt_alone.proofs.happened.Contribution.all.Goals.{in-Aggregate, in-Some+in_ok-push, in_default-of}
+use Rattle.dt_alone.proofs.happened.Contribution.all.Goals.{in_default}
 
 pub loop-statement-preserved : goal.loop-statement-preserved
 loop-statement-preserved c =

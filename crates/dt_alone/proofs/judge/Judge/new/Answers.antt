@@ -1,3 +1,4 @@
+-- What is to be shown of `new`.
 use Rattle.dt_alone.proofs.Judging.{no_least}
 use Rattle.dt_alone.proofs.judge.Judge.new.Goals as goal
 

@@ -1,3 +1,4 @@
+-- What is to be shown of `take`.
 use Rattle.dt_alone.proofs.judge.Judge.take.Goals as goal
 
 pub returns-in-Line : goal.returns-in-Line

@@ -1,3 +1,4 @@
+-- What is to be shown of `take_firing`.
 use Rattle.std.proofs.Common.{◌≡◌, Some, sym, ◌∙◌, subst, arith, rules}
 use Rattle.std.proofs.lemmas.Bool.{true≢false}
 use Rattle.dt_machine.specs.declared.firing.Firing.{Firing}

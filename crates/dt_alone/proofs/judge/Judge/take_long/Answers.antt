@@ -1,3 +1,4 @@
+-- What is to be shown of `take_long`.
 use Rattle.std.proofs.Common.{refl, sym, subst, ◌∙◌}
 use Rattle.std.proofs.lemmas.Bool.{true≢false}
 use Rattle.dt_proto.specs.Splits.{with_newline}

@@ -1,5 +1,6 @@
 -- One ECB more was taken, or passed.
-use Rattle.std.proofs.Common.{◌≡◌, ◌<◌, ◌+◌, ◌==◌, ◌∷◌, [], true, cond, List, None, length, map, take, sym, ap, ◌∙◌, subst, arith}
+use Rattle.std.proofs.Common.{◌≡◌, ◌<◌, ◌+◌, ◌==◌, ◌∷◌, [], true, cond, List, None, length, map, take, sym, ap, ◌∙◌}
+use Rattle.std.proofs.Common.{subst, arith}
 use Rattle.std.specs.Global.{Vec}
 use Rattle.std.specs.List.{All}
 use Rattle.std.proofs.lemmas.Bool.{eq-eqb, ne_eqb}
@@ -11,12 +12,17 @@ use Rattle.dt_alone.specs.Forms.{form_of_moment}
 use Rattle.dt_alone.specs.Happened.{Adds}
 use Rattle.dt_alone.specs.declared.happened.Happened.{Happened}
 use Rattle.dt_alone.proofs.Bringing.{adds_both}
-use Rattle.dt_alone.proofs.Firing.{exit_all, exited, exited_here, exited_other, exited_past, none_is, some_exit, some_is, taken, taken_here, taken_other, taken_past}
+use Rattle.dt_alone.proofs.Firing.{exit_all, exited, exited_here, exited_other, exited_past, none_is, some_exit}
+use Rattle.dt_alone.proofs.Firing.{some_is, taken, taken_here, taken_other, taken_past}
 use Rattle.dt_consumer.proofs.Takings.{there_at}
 use Rattle.dt_consumer.specs.Keeps.{taking_by}
 use Rattle.dt_consumer.specs.Takings.{exit_of, first_exit}
 use Rattle.dt_alone.proofs.programs.Programs.take.Goals as goal
-use Rattle.dt_alone.proofs.programs.Programs.take.Goals.{then-ecb-moment+then-is_none+in_ok-status+then-in_end, then-ecb-moment+then-is_none+in_ok-status+else-in_end, else-ecb-moment, else-ecb-moment-via-then-ecb-moment+else-is_none, else-ecb-moment-via-else-ecb-moment}
+use Rattle.dt_alone.proofs.programs.Programs.take.Goals.{then-ecb-moment+then-is_none+in_ok-status+then-in_end}
+use Rattle.dt_alone.proofs.programs.Programs.take.Goals.{then-ecb-moment+then-is_none+in_ok-status+else-in_end}
+use Rattle.dt_alone.proofs.programs.Programs.take.Goals.{else-ecb-moment}
+use Rattle.dt_alone.proofs.programs.Programs.take.Goals.{else-ecb-moment-via-then-ecb-moment+else-is_none}
+use Rattle.dt_alone.proofs.programs.Programs.take.Goals.{else-ecb-moment-via-else-ecb-moment}
 
 pub loop-ecb-preserved : goal.loop-ecb-preserved
 loop-ecb-preserved c =
@@ -95,7 +101,8 @@ loop-ecb-preserved c =
                       (λ z e. stays c.if-ecb-moment.happened.items
                       (taken_past c.args.in_end m cs all i ecb inside is_at z (sym (held.exit placed) ∙ e)) is placed);
                   exit = λ placed. w.exit-is ∙ held.exit placed ∙ some_exit c.loop-ecb.exit _ some
-                      (λ z e. sym (exited_past c.args.in_end m cs all i ecb inside is_at z (sym (held.exit placed) ∙ e)));
+                      (λ z e. sym (exited_past c.args.in_end m cs all i ecb inside is_at z
+                      (sym (held.exit placed) ∙ e)));
                   few = omega (arith, ap length is, held.few);
                 }
             | else-ecb-moment-via-else-ecb-moment w' ↦

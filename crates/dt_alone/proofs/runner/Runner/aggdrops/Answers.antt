@@ -12,8 +12,10 @@ pub loop-store-preserved : goal.loop-store-preserved
 loop-store-preserved c =
     let i = c.loop-store.store-index in
     let stores = c.deref-store-items.result.now in
-    let pasts : ℕ → Past = λ cpu. record { size = c.args.self.now.options.aggsize; events = given_to cpu c.args.self.now.since.items } in
-    let given : AreGiven (λ cpu. record { size = c.args.self.now.options.aggsize; events = given_to cpu c.deref.result.now }) stores =
+    let pasts : ℕ → Past = λ cpu. record
+    { size = c.args.self.now.options.aggsize; events = given_to cpu c.args.self.now.since.items } in
+    let given : AreGiven (λ cpu. record
+    { size = c.args.self.now.options.aggsize; events = given_to cpu c.deref.result.now }) stores =
     subst
     (AreGiven (λ cpu. record { size = c.args.self.now.options.aggsize; events = given_to cpu c.deref.result.now }))
     (sym c.deref-store-items.ensures.value) c.in_ok-stores.ensures.each in

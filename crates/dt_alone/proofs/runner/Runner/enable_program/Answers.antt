@@ -17,7 +17,8 @@ returns-in-Ok c = λ account life k off.
     c.in-Ok.ensures.enabled c.in-Ok.ensures.placed (omega (arith, c.len-in-Ok.ensures))
     c.in_ok-extend-in-Ok.ensures.clauses
     (c.in_ok-extend-in-Ok.ensures.ecbs
-    ∙ ap (λ es. r.programs.ecbs.items ++ map (placed_after (length r.programs.clauses.items)) es) c.deref.ensures.value)
+    ∙ ap (λ es. r.programs.ecbs.items ++ map (placed_after (length r.programs.clauses.items)) es)
+    c.deref.ensures.value)
     (ap shapes_of c.in_ok-extend-in-Ok.ensures.shapes ∙ c.in_ok-shapes-in-Ok.ensures)
     (record { account = refl; seen = refl; since = refl }) refl refl refl refl
 

@@ -1,7 +1,8 @@
 -- ECBs were taken, and tracing goes on or ends.
 use Rattle.std.proofs.Common.{Some, refl, sym, ap, ◌∙◌}
 use Rattle.dt_alone.specs.Forms.{form_of_moment}
-use Rattle.dt_alone.proofs.Running.{ends_at, goes_on, has_since, never_none, never_some, own_placed, took_exit, took_told}
+use Rattle.dt_alone.proofs.Running.{ends_at, goes_on, has_since, never_none, never_some, own_placed, took_exit}
+use Rattle.dt_alone.proofs.Running.{took_told}
 use Rattle.dt_consumer.specs.Life.{phase_of}
 use Rattle.dt_consumer.specs.Options.{OptionsForm}
 use Rattle.dt_consumer.specs.declared.phase.Phase.TheVariants as phases

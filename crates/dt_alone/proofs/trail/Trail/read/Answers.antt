@@ -1,3 +1,4 @@
+-- What is to be shown of `read`.
 use Rattle.std.proofs.Common.{◌≡◌, ◌++◌, codes, Some, None, ◌∙◌}
 use Rattle.std.proofs.lemmas.Bool.Decides.{Decides-eqb}
 use Rattle.std.proofs.lemmas.Slice.Eq.{strip_prefix_is}

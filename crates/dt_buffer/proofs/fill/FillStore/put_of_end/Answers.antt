@@ -2,7 +2,8 @@
 use Rattle.std.proofs.Common.{refl, inl, inr, arith}
 use Rattle.dt_buffer.proofs.Filling.{put_end_kept, put_end_left}
 use Rattle.dt_buffer.proofs.fill.FillStore.put_of_end.Goals as goal
-use Rattle.dt_buffer.proofs.fill.FillStore.put_of_end.Goals.{then-self-via-then-self, then-self-via-else-self+then-self-len}
+use Rattle.dt_buffer.proofs.fill.FillStore.put_of_end.Goals.{then-self-via-then-self}
+use Rattle.dt_buffer.proofs.fill.FillStore.put_of_end.Goals.{then-self-via-else-self+then-self-len}
 
 pub returns-then-self : goal.returns-then-self
 returns-then-self c = λ size reserve ordinary of_end s.

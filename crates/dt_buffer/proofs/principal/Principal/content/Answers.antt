@@ -12,5 +12,10 @@ returns-in-Fill c = λ past s.
     let filled = c.in-Fill.store.ordinary_filled || c.in-Fill.store.end_filled in
     let B : List ℕ → Type 0 = λ bytes. Shows past bytes 0 filled in
     ok_more _ _ c.from_slice-in-Fill.result
-    (λ v e. (0, filled, subst B (sym (e ∙ c.deref-in-Fill.ensures.value)) (fill_shown past c.in-Fill.store (subst P c.in-Fill.is s))))
+    (λ v e. (
+      0,
+      filled,
+      subst B (sym (e ∙ c.deref-in-Fill.ensures.value))
+          (fill_shown past c.in-Fill.store (subst P c.in-Fill.is s)),
+    ))
     c.from_slice-in-Fill.ensures.items

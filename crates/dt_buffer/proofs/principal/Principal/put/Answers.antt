@@ -1,6 +1,7 @@
 -- A record is put into the store of the policy.
 use Rattle.std.proofs.Common.{Bool, sym, subst, true, false}
-use Rattle.dt_buffer.proofs.Pasts.{put_switch, answer_switch, put_ring, answer_ring, put_ordinary_past, answer_ordinary, put_end_past, answer_end}
+use Rattle.dt_buffer.proofs.Pasts.{put_switch, answer_switch, put_ring, answer_ring, put_ordinary_past}
+use Rattle.dt_buffer.proofs.Pasts.{answer_ordinary, put_end_past, answer_end}
 use Rattle.dt_buffer.specs.History.{attempt, after, attempts, ordinary, of_end, since_swap}
 use Rattle.dt_buffer.specs.IsAt.{StoreIsAt}
 use Rattle.dt_buffer.specs.Shows.{Answers, EndLast}
@@ -28,7 +29,8 @@ returns-then-in_end-clause-stands c = λ past s last.
     let P : Store → Type 0 = λ x. StoreIsAt past x in
     let E : Bool → Type 0 = λ e. StoreIsAt (after past (attempt c.args.bytes.now e)) (Fill c.put_of_end.new.self) in
     subst E (sym c.if-in_end.true)
-    (put_end_past past c.args.bytes.now c.put_of_end.result c.in-Fill.store c.put_of_end.new.self (subst P c.in-Fill.is s)
+    (put_end_past past c.args.bytes.now c.put_of_end.result c.in-Fill.store c.put_of_end.new.self
+    (subst P c.in-Fill.is s)
     (c.put_of_end.ensures past.size past.reserve (ordinary past.events) (of_end past.events)))
 
 pub returns-then-in_end-clause-answers : goal.returns-then-in_end-clause-answers

@@ -10,7 +10,8 @@ pub returns-in-Switch-clause-stands : goal.returns-in-Switch-clause-stands
 returns-in-Switch-clause-stands c = λ past s.
     let P : Store → Type 0 = λ x. StoreIsAt past x in
     let held = subst P c.in-Switch.is s in
-    swap_switch past c.in-Switch.store c.clear.new.self held (c.clear.ensures.stands past.size (since_swap past.events) held.1)
+    swap_switch past c.in-Switch.store c.clear.new.self held
+    (c.clear.ensures.stands past.size (since_swap past.events) held.1)
 
 pub returns-in_default-clause-stands : goal.returns-in_default-clause-stands
 returns-in_default-clause-stands c = λ past s. swap_other past c.args.self.now.store c.in_default.not-Switch s

@@ -17,7 +17,13 @@ loop-self-preserved c = record {
       c.in-Some.ensures.value (ap (λ (b : Buffer ℕ). b.items) c.pop_front.ensures.items)
       (omega (arith, c.saturating_sub-left.ensures, c.len-in-loop-self.ensures.len))
       (ap (λ (b : Buffer ℕ). b.items) c.truncate_front.ensures)
-      (omega (arith, c.loop-self-test.true, c.capacity.ensures.capacity, c.len.ensures.len, c.loop-self.invariant.capacity));
+      (omega (
+        arith,
+        c.loop-self-test.true,
+        c.capacity.ensures.capacity,
+        c.len.ensures.len,
+        c.loop-self.invariant.capacity,
+      ));
 }
 
 pub returns-in_default-clause-room : goal.returns-in_default-clause-room

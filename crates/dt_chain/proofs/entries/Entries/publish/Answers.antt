@@ -13,10 +13,13 @@ returns-clause-ok c = λ writes at.
     let old = c.args.self.now in
     let entry : Entry = record { life = c.args.life; account = c.args.account.now; probes = c.args.interest.now } in
     let within : c.number.result < length old.slots = search rules in
-    let whole : take 4099 old.lists.items ≡ old.lists.items = take_all 4099 old.lists.items (omega (arith, old.few, old.lists.ok.0)) in
+    let whole : take 4099 old.lists.items ≡ old.lists.items =
+    take_all 4099 old.lists.items (omega (arith, old.few, old.lists.ok.0)) in
     let resized : c.as_mut_slice.result.now ≡ old.lists.items ++ replicate (4099 - vec_len old.lists) c.new.result =
-    c.as_mut_slice.ensures.value ∙ c.in_ok-resize.ensures.items ∙ ap (λ items. items ++ replicate (4099 - vec_len old.lists) c.new.result) whole in
-    let others : (probe other : ℕ) → other ≢ c.args.seat → is_listed c.list.new.lists probe other ≡ is_listed old.lists.items probe other =
+    c.as_mut_slice.ensures.value ∙ c.in_ok-resize.ensures.items
+    ∙ ap (λ items. items ++ replicate (4099 - vec_len old.lists) c.new.result) whole in
+    let others : (probe other : ℕ) → other ≢ c.args.seat → is_listed c.list.new.lists probe other
+    ≡ is_listed old.lists.items probe other =
     λ probe other ne.
     c.list.ensures.others probe other ne
     ∙ ap (λ lists. is_listed lists probe other) resized
@@ -26,10 +29,12 @@ returns-clause-ok c = λ writes at.
     record {
       kept = λ seat.
           rw c.number.ensures.value
-          (kept_after old.slots c.args.seat seat entry (state writes seat) (rw (← c.number.ensures.value) within) (at.kept seat));
+          (kept_after old.slots c.args.seat seat entry (state writes seat) (rw (← c.number.ensures.value) within)
+          (at.kept seat));
       listed = λ probe seat.
           along _ _ _ (ap (λ lists. is_listed lists probe seat) kept_lists)
-          (listed_after (λ other. is_listed old.lists.items probe other) (λ other. is_listed c.list.new.lists probe other)
+          (listed_after (λ other. is_listed old.lists.items probe other)
+          (λ other. is_listed c.list.new.lists probe other)
           c.args.seat seat probe entry (state writes seat)
           (c.list.ensures.own probe) (others probe) (at.listed probe seat));
     }

@@ -8,6 +8,7 @@ unnamed false life e = refl
 
 pub returns : goal.returns
 returns c = (
-  λ empty seat. ap (λ b. cond b (Some (slice_index c.args.self.now.lives seat)) None) (c.is_empty.ensures.0 empty seat),
+  λ empty seat. ap (λ b. cond b (Some (slice_index c.args.self.now.lives seat)) None)
+      (c.is_empty.ensures.0 empty seat),
   λ none. c.is_empty.ensures.1 (λ seat. unnamed _ _ (none seat)),
 )

@@ -7,7 +7,8 @@ use Rattle.dt_ecb.specs.Forms.{no_clause}
 use Rattle.dt_consumer.specs.Answer.{described}
 use Rattle.dt_consumer.specs.Life.{set_up}
 use Rattle.dt_consumer.proofs.Takings.{clause_found}
-use Rattle.dt_consumer.proofs.Telling.{ecb_none, probe_none, ecb_some, match_none, match_some, clause_known, number_found}
+use Rattle.dt_consumer.proofs.Telling.{ecb_none, probe_none, ecb_some, match_none, match_some, clause_known}
+use Rattle.dt_consumer.proofs.Telling.{number_found}
 use Rattle.dt_consumer.proofs.consumer.Consumer.description.Goals as goal
 
 pub returns-in_err-ecb : goal.returns-in_err-ecb

@@ -18,6 +18,7 @@ returns-in-Some c =
 pub returns-in_ok-vec-in-None : goal.returns-in_ok-vec-in-None
 returns-in_ok-vec-in-None c = λ account life m.
     let registry = c.args.machine.now.registry in
-    let off = (untraced account registry (set_up account registry life) c.args.self.now m.stands.keeps c.in-None.is).quiet in
+    let off = (untraced account registry (set_up account registry life) c.args.self.now m.stands.keeps
+    c.in-None.is).quiet in
     c.in_ok-vec-in-None.ensures.items_if_clones_equal (λ y h. h) ∙ ap (λ n. replicate n 0) c.cpus.ensures.value
     ∙ no_errors account registry life off

@@ -8,7 +8,8 @@ use Rattle.dt_consumer.specs.Takings.{ended}
 use Rattle.dt_consumer.specs.declared.consumer.Consumer.{Consumer}
 use Rattle.dt_consumer.specs.declared.phase.End.TheVariants.{Stop}
 use Rattle.dt_consumer.proofs.DraftLemmas.{stopped_by}
-use Rattle.dt_consumer.proofs.Stands.{after_counted, quota_left, stands_changed, keeps_traced, not_active, traced, untraced}
+use Rattle.dt_consumer.proofs.Stands.{after_counted, quota_left, stands_changed, keeps_traced, not_active, traced}
+use Rattle.dt_consumer.proofs.Stands.{untraced}
 use Rattle.dt_consumer.proofs.consumer.Consumer.stop.Goals as goal
 use Rattle.dt_consumer.proofs.consumer.Consumer.stop.Goals.{in-Some, in_default}
 

@@ -4,7 +4,8 @@ use Rattle.dt_consumer.specs.Life.{set_up, with_event}
 use Rattle.dt_consumer.specs.Takings.{truncated}
 use Rattle.dt_consumer.specs.declared.consumer.Consumer.{Consumer}
 use Rattle.dt_consumer.proofs.DraftLemmas.{truncated_by}
-use Rattle.dt_consumer.proofs.Stands.{after_counted, quota_left, stands_changed, keeps_quiet, keeps_traced, traced, untraced}
+use Rattle.dt_consumer.proofs.Stands.{after_counted, quota_left, stands_changed, keeps_quiet, keeps_traced, traced}
+use Rattle.dt_consumer.proofs.Stands.{untraced}
 use Rattle.dt_consumer.proofs.consumer.Consumer.trunc.Goals as goal
 use Rattle.dt_consumer.proofs.consumer.Consumer.trunc.Goals.{in-Some, in_default}
 

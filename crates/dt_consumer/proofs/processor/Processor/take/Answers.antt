@@ -28,7 +28,8 @@ returns-then-is_some-clause-taken c = λ there past errors last h.
     subst P c.deref-ecb-items.ensures.value
     (λ there.
     let one = there_at row i c.ecb-item.result _ there c.loop-ecb-test.true c.ecb-item.is in
-    took_exit f row i c.ecb-item.result past errors _ c.loop-ecb-test.true c.ecb-item.is (c.loop-ecb.invariant.stays there)
+    took_exit f row i c.ecb-item.result past errors _ c.loop-ecb-test.true c.ecb-item.is
+    (c.loop-ecb.invariant.stays there)
     (subst (λ o. is_some o ≡ true) (c.take_one-exit.ensures.exit one) (sym c.if-is_some.ensures))
     (c.take_one-exit.ensures.taken one _ _ (still_last past _ (none_of_end m forms (take i row)) last)
     (c.loop-ecb.invariant.taken there past errors last h)))
@@ -45,7 +46,8 @@ returns-then-is_some-clause-exit c = λ there.
     let same = c.take_one-exit.ensures.exit
     (there_at row c.loop-ecb.ecb-index c.ecb-item.result _ there c.loop-ecb-test.true c.ecb-item.is) in
     same
-    ∙ exit_found f row c.loop-ecb.ecb-index c.ecb-item.result c.loop-ecb-test.true c.ecb-item.is (c.loop-ecb.invariant.stays there)
+    ∙ exit_found f row c.loop-ecb.ecb-index c.ecb-item.result c.loop-ecb-test.true c.ecb-item.is
+    (c.loop-ecb.invariant.stays there)
     (subst (λ o. is_some o ≡ true) same (sym c.if-is_some.ensures)))
     there
 

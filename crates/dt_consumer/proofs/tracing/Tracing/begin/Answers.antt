@@ -1,5 +1,6 @@
 -- BEGIN fired on processors on which nothing was taken.
-use Rattle.std.proofs.Common.{◌≡◌, ◌+◌, ◌*◌, ◌<◌, ◌==◌, ℕ, IfSome, filter, slice_get, [], length, map, refl, sym, ap, ◌∙◌, subst, arith}
+use Rattle.std.proofs.Common.{◌≡◌, ◌+◌, ◌*◌, ◌<◌, ◌==◌, ℕ, IfSome, filter, slice_get, [], length, map, refl, sym, ap}
+use Rattle.std.proofs.Common.{◌∙◌, subst, arith}
 use Rattle.std.specs.Option.{option_copied}
 use Rattle.dt_ecb.specs.declared.limits.TheConstants.{ECBS_MAX}
 use Rattle.dt_ecb.specs.Forms.{shapes_of}
@@ -15,7 +16,8 @@ use Rattle.dt_consumer.specs.declared.limits.TheConstants.{BEGIN}
 use Rattle.dt_consumer.proofs.Counted.{no_more, none_more}
 use Rattle.dt_consumer.proofs.Stores.{gave_at, new_given}
 use Rattle.dt_consumer.proofs.Taken.{own_is}
-use Rattle.dt_consumer.proofs.Tracings.{RowOf, becomes, end_is, happens_last, happens_on, new_taken, row_at, rows_kept, took_at, two_there}
+use Rattle.dt_consumer.proofs.Tracings.{RowOf, becomes, end_is, happens_last, happens_on, new_taken, row_at, rows_kept}
+use Rattle.dt_consumer.proofs.Tracings.{took_at, two_there}
 use Rattle.dt_consumer.proofs.tracing.Tracing.begin.Goals as goal
 
 pub invariant_of-tracing : goal.invariant_of-tracing
@@ -77,7 +79,8 @@ returns-in_default c = λ s same own kept shaped room.
     let its = row_at account registry fresh c.in_ok-rows.rows.items BEGIN row rows long c.index.ensures in
     let named : BEGIN ≡ c.own_firing.result.probe = sym (ap (λ (f : Firing). f.probe) c.own_firing.ensures) in
     let own_clauses = ap (map form_of_clause) c.clauses-2.ensures.value ∙ own in
-    let took = took_at account registry fresh began m row c.clauses-2.result.now c.in_ok-processors.processors.all.items
+    let took = took_at account registry fresh began m row c.clauses-2.result.now
+    c.in_ok-processors.processors.all.items
     c.take-exit.new.self.all.items c.take-exit.result tt at refl own_clauses
     (subst (λ n. RowOf account registry fresh n row) named its) (λ cpu. refl) c.take-exit.ensures.taken
     (λ placed. c.take-exit.ensures.exit placed
@@ -146,7 +149,8 @@ returns c = λ s same own kept shaped room.
     let its = row_at account registry fresh c.in_ok-rows.rows.items BEGIN row rows long c.index.ensures in
     let named : BEGIN ≡ c.own_firing.result.probe = sym (ap (λ (f : Firing). f.probe) c.own_firing.ensures) in
     let own_clauses = ap (map form_of_clause) c.clauses-2.ensures.value ∙ own in
-    let took = took_at account registry fresh began m row c.clauses-2.result.now c.in_ok-processors.processors.all.items
+    let took = took_at account registry fresh began m row c.clauses-2.result.now
+    c.in_ok-processors.processors.all.items
     c.take-exit.new.self.all.items c.take-exit.result tt at refl own_clauses
     (subst (λ n. RowOf account registry fresh n row) named its) (λ cpu. refl) c.take-exit.ensures.taken
     (λ placed. c.take-exit.ensures.exit placed

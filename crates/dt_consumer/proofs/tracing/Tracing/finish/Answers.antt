@@ -16,7 +16,8 @@ invariant_of-self-clause-counted c =
     let old : All (AtMost (ECBS_MAX * (c.args.self.now.seen + 1))) c.args.self.now.processors.all.items =
     subst (λ e. All (AtMost (ECBS_MAX * (c.args.self.now.seen + own_firings e))) c.args.self.now.processors.all.items)
     c.requires c.args.self.now.counted in
-    let more : ECBS_MAX * (c.args.self.now.seen + 1) + ECBS_MAX ≡ ECBS_MAX * (c.args.self.now.seen + 2) = omega arith in
+    let more : ECBS_MAX * (c.args.self.now.seen + 1) + ECBS_MAX ≡ ECBS_MAX * (c.args.self.now.seen + 2) =
+    omega arith in
     subst (λ n. All (AtMost n) c.fire_end.new.self.all.items) more (c.fire_end.ensures.counts _ old)
 
 pub invariant_of-self-clause-given : goal.invariant_of-self-clause-given

@@ -8,9 +8,11 @@ use Rattle.std.specs.List.{All}
 use Rattle.dt_ecb.specs.declared.limits.TheConstants.{ECBS_MAX}
 use Rattle.dt_consumer.specs.Counts.{AtMost, GivenAtMost, GIVES_MAX, must_be_left, own_firings}
 use Rattle.dt_consumer.specs.Uses.{AreUses}
-use Rattle.dt_consumer.proofs.Counted.{below_limit, counted_on, given_below, given_more, given_on, left_on, none_more, no_more, one_left, one_more}
+use Rattle.dt_consumer.proofs.Counted.{below_limit, counted_on, given_below, given_more, given_on, left_on, none_more}
+use Rattle.dt_consumer.proofs.Counted.{no_more, one_left, one_more}
 use Rattle.dt_consumer.proofs.Stores.{end_gave, gave_at}
-use Rattle.dt_consumer.proofs.Tracings.{becomes, end_fired, end_is, happens_last, happens_on, row_at, row_placed, took_at}
+use Rattle.dt_consumer.proofs.Tracings.{becomes, end_fired, end_is, happens_last, happens_on, row_at, row_placed}
+use Rattle.dt_consumer.proofs.Tracings.{took_at}
 use Rattle.dt_consumer.proofs.tracing.Tracing.see.Goals as goal
 
 counted_is : (a b c d : ℕ) → a ≡ b → c ≡ d → (b + 1 == d) ≡ (a + 1 == c)

@@ -12,7 +12,8 @@ loop-one-preserved c =
       place = span_step all i x c.loop-one.place c.loop-one-test.true c.one-item.is c.loop-one.invariant.place;
       near = omega (arith, c.loop-one.invariant.near, x.few);
       stands = λ past h.
-          split_step all i x c.loop-one.place c.args.values.now past c.give.new.store c.loop-one-test.true c.one-item.is
+          split_step all i x c.loop-one.place c.args.values.now past c.give.new.store c.loop-one-test.true
+          c.one-item.is
           c.loop-one.invariant.place (c.give.ensures.stands _ (c.loop-one.invariant.stands past h));
       counts = omega (arith, c.loop-one.invariant.counts, c.give.ensures.counts);
     }

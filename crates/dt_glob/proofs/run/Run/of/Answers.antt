@@ -3,7 +3,8 @@ use Rattle.std.proofs.Common.{◌≡◌, ◌∷◌, ℕ, List, ◌∙◌, ap, sy
 use Rattle.std.proofs.lemmas.Bool.{false≢true}
 use Rattle.dt_glob.specs.PatternItem.{PatternItem, Star}
 use Rattle.dt_glob.specs.Spells.{Spells}
-use Rattle.dt_glob.proofs.MatchLemmas.{follows_first, follows_more, fails_ended, fails_byte, reaches_star, matched_whole, fails_behind}
+use Rattle.dt_glob.proofs.MatchLemmas.{follows_first, follows_more, fails_ended, fails_byte, reaches_star}
+use Rattle.dt_glob.proofs.MatchLemmas.{matched_whole, fails_behind}
 use Rattle.dt_glob.proofs.TokenLemmas.{token_no_star, spells_none, no_bytes, no_length}
 use Rattle.dt_glob.proofs.run.Run.of.Goals as goal
 

@@ -1,3 +1,4 @@
+-- What is to be shown of `run`.
 use Rattle.std.proofs.Common.{◌≡◌, false, sym, ◌∙◌, ap, take, get_or, length, arith}
 use Rattle.std.proofs.lemmas.List.Sums.{prefix_len_is}
 use Rattle.std.proofs.Math.Seq.{take-length}

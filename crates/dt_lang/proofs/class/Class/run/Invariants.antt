@@ -1,3 +1,4 @@
+-- What holds at each turn of a loop of `run`.
 use Rattle.std.proofs.Common.{◌≡◌, ℕ, ◌<◌, true, get_or}
 use Rattle.dt_lang.specs.Class.{members}
 use Rattle.dt_lang.proofs.class.Class.run.Given as goal

@@ -1,3 +1,4 @@
+-- What is to be shown of `parse`.
 use Rattle.dt_names.specs.Desc.{desc_of}
 use Rattle.dt_lang.proofs.Descriptions.{short_description, provider_of, module_of, function_of, name_of}
 use Rattle.dt_lang.proofs.description.Description.parse.Goals as goal

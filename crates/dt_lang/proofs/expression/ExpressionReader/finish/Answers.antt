@@ -1,3 +1,4 @@
+-- What is to be shown of `finish`.
 use Rattle.std.proofs.Common.{List, sym, ap, ◌∙◌, refl, inl, inr}
 use Rattle.dt_expr.specs.Form.{form_of}
 use Rattle.dt_lang.specs.ExpressionState.{FrameForm, nothing, compares, number_alone, text_alone}

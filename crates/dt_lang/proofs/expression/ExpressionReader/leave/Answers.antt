@@ -1,3 +1,4 @@
+-- What is to be shown of `leave`.
 use Rattle.std.proofs.Common.{List, sym, ap, ◌∙◌, refl}
 use Rattle.dt_expr.specs.Form.{form_of}
 use Rattle.dt_lang.specs.ExpressionState.{FrameForm, Closed, close, leave}

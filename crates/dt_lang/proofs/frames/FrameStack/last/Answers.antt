@@ -1,3 +1,4 @@
+-- What is to be shown of `last`.
 use Rattle.std.proofs.Common.{◌-◌, List, length, ap, ◌∙◌}
 use Rattle.std.specs.List.{slice_get}
 use Rattle.dt_lang.specs.declared.frames.Frame.{Frame}

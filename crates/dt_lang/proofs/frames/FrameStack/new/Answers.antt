@@ -1,3 +1,4 @@
+-- What is to be shown of `new`.
 use Rattle.std.proofs.Common.{List, map, reverse, ap}
 use Rattle.dt_lang.specs.declared.frames.Frame.{Frame}
 use Rattle.dt_lang.specs.ExpressionView.{frame_of, frames_of}

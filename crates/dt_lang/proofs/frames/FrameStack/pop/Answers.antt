@@ -1,3 +1,4 @@
+-- What is to be shown of `pop`.
 use Rattle.dt_lang.specs.ExpressionView.{frames_of}
 use Rattle.dt_lang.proofs.FrameLemmas.{pop_shown, none_left}
 use Rattle.dt_lang.proofs.frames.FrameStack.pop.Goals as goal

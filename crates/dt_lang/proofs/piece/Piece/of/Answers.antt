@@ -1,3 +1,4 @@
+-- What is to be shown of `of`.
 use Rattle.std.proofs.Common.{sym, ◌∙◌}
 use Rattle.dt_lang.proofs.Pieces.{finds, commented, head_mode, body_mode}
 use Rattle.dt_lang.proofs.Standing.{stands_found}

@@ -12,7 +12,8 @@ returns-then-branch c =
 pub returns-in-Some : goal.returns-in-Some
 returns-in-Some c =
     push_early (program_state_of c.args.self.now) (program_state_of c.exceeds.new.self) c.args.token
-    c.in_ok-exceeds.field-0 c.in_ok-exceeds.ensures.told c.if-branch.false c.in_ok-exceeds.ensures.kept c.in-Some.refusal
+    c.in_ok-exceeds.field-0 c.in_ok-exceeds.ensures.told c.if-branch.false c.in_ok-exceeds.ensures.kept
+    c.in-Some.refusal
     (program_state_of c.exceeds.new.self) c.in-Some.ensures
 
 pub returns-in-Some-2 : goal.returns-in-Some-2

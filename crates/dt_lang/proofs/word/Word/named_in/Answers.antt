@@ -1,3 +1,4 @@
+-- What is to be shown of `named_in`.
 use Rattle.std.proofs.Common.{arith, sym, ◌∙◌, ap, below_more}
 use Rattle.std.proofs.lemmas.Bool.{false≢true}
 use Rattle.std.proofs.lemmas.List.{get_or_default}

@@ -1,3 +1,4 @@
+-- What holds at each turn of a loop of `named_in`.
 use Rattle.std.proofs.Common.{◌≢◌, ℕ, ◌<◌, Some}
 use Rattle.std.specs.List.{HoldsAt}
 use Rattle.dt_lang.specs.Word.{name_of_word}

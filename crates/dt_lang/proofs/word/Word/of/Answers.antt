@@ -1,3 +1,4 @@
+-- What is to be shown of `of`.
 use Rattle.dt_lang.proofs.Words.{named, unknown}
 use Rattle.dt_lang.proofs.word.Word.of.Goals as goal
 

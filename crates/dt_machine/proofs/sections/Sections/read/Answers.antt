@@ -4,8 +4,10 @@ use Rattle.serde_json.specs.View.{view}
 use Rattle.dt_cred.specs.declared.account.Process.{Process as ProcessType}
 use Rattle.dt_machine.specs.declared.fault.FaultNumber.TheVariants.{Shape, Cpus, Account, Process, Probe, Script}
 use Rattle.dt_machine.specs.Given.{text_of}
-use Rattle.dt_machine.specs.Reading.{AllRight, AllRightIn, IsFirstFinding, IsFirstWrong, IsScriptFault, Passes, accounts_in, processes_in, probes_in, scripts_in}
-use Rattle.dt_machine.specs.Rows.{AccountRow, ProcessRow, FiringRow, account_row, process_row, script_rows, account, process, AreProbes, IsRightAccount, IsRightProcess, IsRightProbe, HasRoom}
+use Rattle.dt_machine.specs.Reading.{AllRight, AllRightIn, IsFirstFinding, IsFirstWrong, IsScriptFault, Passes}
+use Rattle.dt_machine.specs.Reading.{accounts_in, processes_in, probes_in, scripts_in}
+use Rattle.dt_machine.specs.Rows.{AccountRow, ProcessRow, FiringRow, account_row, process_row, script_rows, account}
+use Rattle.dt_machine.specs.Rows.{process, AreProbes, IsRightAccount, IsRightProcess, IsRightProbe, HasRoom}
 use Rattle.dt_machine.specs.Sections.{UnlessMemory, account_rows, process_rows, texts}
 use Rattle.dt_machine.proofs.Exits.{passed_on}
 use Rattle.dt_machine.proofs.Faults.{json_passes, one_more, first_fault}

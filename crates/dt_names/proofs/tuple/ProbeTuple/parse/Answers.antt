@@ -3,7 +3,9 @@ use Rattle.std.proofs.Common.{refl, sym, ◌∙◌}
 use Rattle.dt_names.proofs.Aligning.{four_fields, colons_of}
 use Rattle.dt_names.proofs.Tuples.{empty-from_test, some-from_test, tuple_fields, spells}
 use Rattle.dt_names.proofs.tuple.ProbeTuple.parse.Goals as goal
-use Rattle.dt_names.proofs.tuple.ProbeTuple.parse.Goals.{then-count_of_colons-ne3-via-then-count_of_colons-ne3, then-count_of_colons-ne3-via-else-count_of_colons-ne3+then-is_empty, then-count_of_colons-ne3-via-else-count_of_colons-ne3+else-is_empty+then-is_empty-2}
+use Rattle.dt_names.proofs.tuple.ProbeTuple.parse.Goals.{then-count_of_colons-ne3-via-then-count_of_colons-ne3}
+use Rattle.dt_names.proofs.tuple.ProbeTuple.parse.Goals.{then-count_of_colons-ne3-via-else-count_of_colons-ne3+then-is_empty}
+use Rattle.dt_names.proofs.tuple.ProbeTuple.parse.Goals.{then-count_of_colons-ne3-via-else-count_of_colons-ne3+else-is_empty+then-is_empty-2}
 
 pub returns-clause-found : goal.returns-clause-found
 returns-clause-found c =

@@ -75,14 +75,16 @@ returns-in_ok-given-in-Aggregate-clause-done c =
     let keys = c.in_ok-put_keys-in-Aggregate.ensures.given in
     let number = c.in_ok-given-in-Aggregate.field-0 in
     let scene : SceneForm = scene_of c.args.scene.now in
-    let values : each (argument_value scene) (map form_of_argument c.in-Aggregate.aggregation.keys.items) ≡ Some keys.0 =
+    let values : each (argument_value scene) (map form_of_argument c.in-Aggregate.aggregation.keys.items)
+    ≡ Some keys.0 =
     ap (λ (ks : List Argument). each (argument_value scene) (map form_of_argument ks)) (sym c.deref.ensures.value)
     ∙ keys.1 in
     let given : spec.given scene (form_of_call c.in-Aggregate.aggregation.call) ≡ Some number =
     c.in_ok-given-in-Aggregate.ensures in
     let does : effect scene (form_of_statement c.args.statement.now) ≡ Some (gives (keys.0 ++ number ∷ [])) =
     ap (λ (s : Statement). effect scene (form_of_statement s)) c.in-Aggregate.is
-    ∙ ap (option_and_then (λ vs. option_map (λ v. gives (vs ++ v ∷ [])) (spec.given scene (form_of_call c.in-Aggregate.aggregation.call)))) values
+    ∙ ap (option_and_then (λ vs. option_map (λ v. gives (vs ++ v ∷ []))
+    (spec.given scene (form_of_call c.in-Aggregate.aggregation.call)))) values
     ∙ ap (option_map (λ v. gives (keys.0 ++ v ∷ []))) given in (
       gives (keys.0 ++ number ∷ []),
       does,

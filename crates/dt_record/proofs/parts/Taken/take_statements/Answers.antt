@@ -21,12 +21,14 @@ loop-statement-preserved c =
     record {
       left = (
         before.0 ++ does.0 ∷ [],
-        each-turn form_of_statement (effect (scene_of c.args.scene.now)) c.args.statements.now c.loop-statement.statement-index
+        each-turn form_of_statement (effect (scene_of c.args.scene.now)) c.args.statements.now
+            c.loop-statement.statement-index
             c.statement-item.result c.loop-statement-test.true c.statement-item.is before.0 does.0 before.1 does.1,
         left-more c.args.epid (map form_of_statement c.args.statements.now) before.0 does.0 c.loop-statement.self
             c.add.new.self before.2 does.2 does.3 does.4,
       );
-      record_room = let grows = c.in_ok-add.ensures.record_grows in let room = c.loop-statement.invariant.record_room in
+      record_room = let grows = c.in_ok-add.ensures.record_grows in let room =
+          c.loop-statement.invariant.record_room in
           omega arith;
       values_room = let grows = c.in_ok-add.ensures.values_grow in let room = c.loop-statement.invariant.values_room in
           omega arith;
