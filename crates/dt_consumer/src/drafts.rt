@@ -194,6 +194,7 @@ impl Consumer {
     ) -> Result<Draft, AllocError>
         requires few { length ecbs.items ≤ ECBS_MAX }
         requires placed { All (λ ecb. ecb.clause < length program.clauses.items) ecbs.items }
+        // for each life of which it stands inactive: where the program is accepted, and these are the ECBs that it adds
         ensures { IfOk result (λ draft. (account : Account) (life : List Item)
             → MayAsk account _machine.now.registry self.now life
             → phase account _machine.now.registry life ≡ Inactive

@@ -41,6 +41,7 @@ pub fn enable(
     ensures refused { IfErr result (λ fault. IfSome (verdict_of fault)
         (IsVerdict account.now machine.now.registry (shapes_of shapes.now) next_epid (form_of_program program.now))) }
 {
+    // a program is refused for the first of these that holds, in this order
     if let Some(clause) = first_unallowed(account, program) {
         let what = RestrictedAction::Stack;
         return Err(EnableFault::Privilege { clause, what });
@@ -49,6 +50,7 @@ pub fn enable(
     if let Some(what) = first_clash(shapes, &all) {
         return Err(EnableFault::AggClash { what });
     }
+    // asked before any ECB is made, so that no memory is taken for a program that is refused here
     if let Some(clause) = first_unmatched(account, machine, program) {
         return Err(EnableFault::NoMatch { clause });
     }

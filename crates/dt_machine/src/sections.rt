@@ -41,6 +41,7 @@ impl Sections {
         ensures memory { IfErr result NowhereIfMemory }
         ensures fault { IfErr result (λ fault. UnlessMemory fault (IsFirstFinding (view file.now) fault)) }
     {
+        // in the order of the faults' numbers: the first that is found decides
         if !is_machine(file) {
             return Err(FaultNumber::Shape.nowhere());
         }
