@@ -1,5 +1,6 @@
 -- What a change of what is on a seat does to the trail of the first session there.
-use Rattle.std.proofs.Common.{◌≡◌, ℕ, ◌++◌, ◌==◌, ◌&&◌, Bool, true, false, cond, List, [], Option, Some, None, is_some, length, refl, ap}
+use Rattle.std.proofs.Common.{◌≡◌, ℕ, ◌++◌, ◌==◌, ◌&&◌, Bool, true, false, cond, List, [], Option, Some, None, is_some}
+use Rattle.std.proofs.Common.{length, refl, ap}
 use Rattle.std.proofs.lemmas.List.{append-nil}
 use Rattle.std.specs.Option.{option_map, option_map_or, option_and_then}
 use Rattle.dt_cred.specs.declared.account.Account.{Account}
@@ -36,7 +37,8 @@ text-same registry None None text same h = h
 text-same registry None (Some a) text same h = cc
 text-same registry (Some b) None text same h = cc
 text-same registry (Some b) (Some a) text same h =
-    let account : a.account ≡ b.account = ap (λ o. option_map_or (λ (p : Account × List Reached). p.0) o a.account) same in
+    let account : a.account ≡ b.account =
+    ap (λ o. option_map_or (λ (p : Account × List Reached). p.0) o a.account) same in
     let view : a.view ≡ b.view = ap (λ o. option_map_or (λ (p : Account × List Reached). p.1) o a.view) same in
     rw (account, view) h
 
@@ -81,7 +83,8 @@ module _ (place : Place) (session : Session) (is : place.present ≡ Some sessio
   pub first-seen : (registry : Registry) (firing : Firing) (text : List ℕ)
       → is_seen session.account registry (life_in registry session) firing ≡ true
       → IsTrailText registry (first_on place) text
-      → IsTrailText registry (first_on (record { present = Some (reached session (firing_made firing)); earlier = place.earlier }))
+      → IsTrailText registry (first_on
+      (record { present = Some (reached session (firing_made firing)); earlier = place.earlier }))
       (text ++ cond (is_some (first_account place)) (entry_text (fired_at firing.cpu firing.place)) [])
   first-seen registry firing text seen h =
       changed registry (reached session (firing_made firing)) text (entry_text (fired_at firing.cpu firing.place))
@@ -90,11 +93,13 @@ module _ (place : Place) (session : Session) (is : place.present ≡ Some sessio
   pub first-unseen : (registry : Registry) (firing : Firing) (text : List ℕ)
       → is_seen session.account registry (life_in registry session) firing ≡ false
       → IsTrailText registry (first_on place) text
-      → IsTrailText registry (first_on (record { present = Some (reached session (firing_made firing)); earlier = place.earlier })) text
+      → IsTrailText registry (first_on
+      (record { present = Some (reached session (firing_made firing)); earlier = place.earlier })) text
   first-unseen registry firing text unseen h =
       by_number (length place.earlier == 0) (rw is at h) where
         by_number : (b : Bool) → IsTrailText registry (cond b (Some session) (numbered place.earlier 0)) text
-            → IsTrailText registry (cond b (Some (reached session (firing_made firing))) (numbered place.earlier 0)) text
+            → IsTrailText registry (cond b (Some (reached session (firing_made firing))) (numbered place.earlier 0))
+            text
         by_number true told = trail-unseen session.account registry session.view firing text unseen told
         by_number false told = told
 
@@ -107,7 +112,8 @@ module _ (registry : Registry) where
   offered-seen due place text sees h = session_case place.present refl sees where
     life_case : (session : Session) (same : Bool) → place.present ≡ Some session
         → (same && is_seen session.account registry (life_in registry session) due.firing) ≡ true
-        → IsTrailText registry (first_on (cond same (record place { present = Some (reached session (firing_made due.firing)) }) place))
+        → IsTrailText registry (first_on
+        (cond same (record place { present = Some (reached session (firing_made due.firing)) }) place))
         (text ++ cond (is_some (first_account place)) (entry_text (fired_at due.firing.cpu due.firing.place)) [])
     life_case session true is seen = first-seen place session is registry due.firing text seen h
     life_case session false is seen = cc
@@ -127,7 +133,8 @@ module _ (registry : Registry) where
   offered-unseen due place text sees h = session_case place.present refl sees where
     life_case : (session : Session) (same : Bool) → place.present ≡ Some session
         → (same && is_seen session.account registry (life_in registry session) due.firing) ≡ false
-        → IsTrailText registry (first_on (cond same (record place { present = Some (reached session (firing_made due.firing)) }) place)) text
+        → IsTrailText registry (first_on
+        (cond same (record place { present = Some (reached session (firing_made due.firing)) }) place)) text
     life_case session true is seen = first-unseen place session is registry due.firing text seen h
     life_case session false is seen = h
 
@@ -150,7 +157,8 @@ module _ (registry : Registry) where
   passed-trail seat entry place firing text sound h = session_case place.present refl where
     named_case : (session : Session) → place.present ≡ Some session → (is_named_now : Bool)
         → option_map_or (λ life. life == length place.earlier) (life_named firing entry) false ≡ is_named_now
-        → IsTrailText registry (first_on (cond is_named_now place (record place { present = Some (reached session (firing_made firing)) }))) text
+        → IsTrailText registry (first_on
+        (cond is_named_now place (record place { present = Some (reached session (firing_made firing)) }))) text
     named_case session is true at = h
     named_case session is false at =
         let entered = rw is at sound in
@@ -164,4 +172,5 @@ module _ (registry : Registry) where
         (record place { present = Some (reached session (firing_made firing)) })) present place)) text
     session_case None is = h
     session_case (Some session) is =
-        named_case session is (option_map_or (λ life. life == length place.earlier) (life_named firing entry) false) refl
+        named_case session is (option_map_or (λ life. life == length place.earlier) (life_named firing entry) false)
+        refl

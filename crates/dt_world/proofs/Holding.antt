@@ -1,8 +1,10 @@
 -- A seat after each of its calls.
-use Rattle.std.proofs.Common.{◌≡◌, ℕ, ◌+◌, true, false, List, Option, Some, None, IfSome, is_some, refl, sym, ap, ◌∙◌, subst, arith}
+use Rattle.std.proofs.Common.{◌≡◌, ℕ, ◌+◌, true, false, List, Option, Some, None, IfSome, is_some, refl, sym, ap, ◌∙◌}
+use Rattle.std.proofs.Common.{subst, arith}
 use Rattle.dt_machine.specs.Registry.{Registry}
 use Rattle.dt_proto.specs.Lines.{LineForm}
-use Rattle.dt_world.specs.Stands.{IsSession, IsPresent, IsHeld, IsAsked, IsAskedOn, IsFinishing, IsFinishedOn, closed_on}
+use Rattle.dt_world.specs.Stands.{IsSession, IsPresent, IsHeld, IsAsked, IsAskedOn, IsFinishing, IsFinishedOn}
+use Rattle.dt_world.specs.Stands.{closed_on}
 use Rattle.dt_world.specs.World.{Session, Place, may_ask}
 use Rattle.dt_world.specs.declared.held.Held.{Held}
 use Rattle.dt_world.specs.declared.served.Served.{Served}

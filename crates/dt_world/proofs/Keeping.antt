@@ -1,6 +1,7 @@
 -- What a line and a firing leave of a life: tracing begins by an accepted `go` alone, and a life that traces keeps its
 -- ECBs.
-use Rattle.std.proofs.Common.{◌≡◌, ◌&&◌, ◌||◌, Bool, true, false, cond, List, [], ◌∷◌, Option, Some, None, Result, Ok, Err, is_none, nat_lt, refl, sym, ap, subst}
+use Rattle.std.proofs.Common.{◌≡◌, ◌&&◌, ◌||◌, Bool, true, false, cond, List, [], ◌∷◌, Option, Some, None, Result, Ok}
+use Rattle.std.proofs.Common.{Err, is_none, nat_lt, refl, sym, ap, subst}
 use Rattle.std.specs.Option.{option_map_or}
 use Rattle.std.proofs.lemmas.Bool.{and_parts}
 use Rattle.dt_cred.specs.declared.account.Account.{Account}
@@ -11,7 +12,9 @@ use Rattle.dt_lang.specs.Reads.{program, fault, destructive}
 use Rattle.dt_consumer.specs.Aggregations.{aggregation_of}
 use Rattle.dt_consumer.specs.Ask.{Ask, option, enable, go, stop, snap, agg, trunc, status, list, describe, close}
 use Rattle.dt_consumer.specs.Draft.{after_line}
-use Rattle.dt_consumer.specs.Life.{Item, asked, fired, SetUp, with_event, is_over, set_up, phase_of, ecbs, is_active, is_inactive, is_stopped, is_readable, has_room, accepts, happens, end_by, after_item, since_then, shapes_in}
+use Rattle.dt_consumer.specs.Life.{Item, asked, fired, SetUp, with_event, is_over, set_up, phase_of, ecbs, is_active}
+use Rattle.dt_consumer.specs.Life.{is_inactive, is_stopped, is_readable, has_room, accepts, happens, end_by}
+use Rattle.dt_consumer.specs.Life.{after_item, since_then, shapes_in}
 use Rattle.dt_consumer.specs.Takings.{Event, began, seen, read, truncated, ended}
 use Rattle.dt_consumer.specs.declared.phase.End.{End}
 use Rattle.dt_consumer.specs.declared.phase.Phase.{Phase}
@@ -42,7 +45,8 @@ no_longer_inactive (Stopped cause) h k = cc
 
 module _ (account : Account) (registry : Registry) where
   happens_clauses : (s : SetUp) (event : Event) (end : Option End)
-      → (option_map_or (λ why. with_event (with_event s event) (ended why)) end (with_event s event)).clauses ≡ s.clauses
+      → (option_map_or (λ why. with_event (with_event s event) (ended why)) end (with_event s event)).clauses
+      ≡ s.clauses
   happens_clauses s event None = refl
   happens_clauses s event (Some why) = refl
 

@@ -1,5 +1,6 @@
 -- The step lines of lines, and of the lines with one more.
-use Rattle.std.proofs.Common.{◌≡◌, ℕ, ◌+◌, ◌-◌, ◌≤◌, ◌==◌, Bool, true, false, List, [], ◌∷◌, ◌++◌, length, take, map, filter, fold, append_assoc, refl, sym, ap, ◌∙◌, subst, arith}
+use Rattle.std.proofs.Common.{◌≡◌, ℕ, ◌+◌, ◌-◌, ◌≤◌, ◌==◌, Bool, true, false, List, [], ◌∷◌, ◌++◌, length, take, map}
+use Rattle.std.proofs.Common.{filter, append_assoc, refl, sym, ap, ◌∙◌, subst, arith}
 use Rattle.std.specs.List.{AllByRecursion}
 use Rattle.std.proofs.lemmas.List.{append-nil, length-append, length-map, map-append}
 use Rattle.std.proofs.lemmas.List.Sums.{fold-append}
@@ -7,13 +8,13 @@ use Rattle.std.proofs.Math.Seq.{take-append_seam}
 use Rattle.std.proofs.lemmas.List.Elements.{filter-append}
 use Rattle.dt_machine.specs.Registry.{Registry, Contents}
 use Rattle.dt_world.specs.Input.{AreStepLines, IsLineOn, IsRefused, is_written, lines_of}
-use Rattle.dt_world.specs.Progress.{IsAfter, HasTaken}
-use Rattle.dt_world.specs.Replay.{Replayed, IsReplay, replayed, after_line, beginning}
+use Rattle.dt_world.specs.Progress.{HasTaken}
+use Rattle.dt_world.specs.Replay.{replayed, after_line, beginning}
 use Rattle.dt_world.specs.StepLine.{StepLineForm, spelling, SpellsStepLine, IsWritable}
 use Rattle.dt_world.specs.Told.{IsOutput}
 use Rattle.dt_world.specs.declared.progress.Progress.{Progress}
-use Rattle.dt_world.specs.declared.told.Wanted.{Wanted}
-use Rattle.dt_world.specs.declared.told.Wanted.TheVariants as wanted
+use Rattle.dt_world.specs.declared.output.Wanted.{Wanted}
+use Rattle.dt_world.specs.declared.output.Wanted.TheVariants as wanted
 use Rattle.dt_world.proofs.StepLines.{one_step_line}
 
 -- Writable step lines of one spelling are the same.
@@ -105,7 +106,8 @@ pub record IsLast (registry : Registry) (line : List ℕ) : Type 0 where
 pub last_line : (registry : Registry) (lines : List (List ℕ)) (all : List StepLineForm) (line : List ℕ)
     → is_written line ≡ true → AreStepLines registry (lines ++ line ∷ []) all → IsLast registry line
 last_line registry lines all line written more =
-    let cut = cut_at_last all (filter is_written lines) line (sym more.spelled ∙ written-one_more lines line written) in
+    let cut = cut_at_last all (filter is_written lines) line
+    (sym more.spelled ∙ written-one_more lines line written) in
     record {
       form = cut.last;
       spells = record {
@@ -126,7 +128,8 @@ written [] h = cc
 written (byte ∷ line) h = refl
 
 fewer_at : (line : List ℕ) (lines : List (List ℕ)) (b : Bool) → is_written line ≡ b
-    → length (filter is_written lines) ≤ length lines → length (filter is_written (line ∷ lines)) ≤ length (line ∷ lines)
+    → length (filter is_written lines) ≤ length lines → length (filter is_written (line ∷ lines))
+    ≤ length (line ∷ lines)
 fewer_at line lines true is h = rw is (omega (arith, h))
 fewer_at line lines false is h = rw is (omega (arith, h))
 
@@ -171,7 +174,7 @@ replayed-one_more contents forms form = fold-append (after_line contents) beginn
 -- all lines were taken
 pub finished : (wanted : Wanted) (contents : Contents) (text : List ℕ) (lines : List (List ℕ)) (progress : Progress)
     → lines_of text ≡ lines → HasTaken wanted contents lines progress
-    → IsOutput wanted contents text progress.told.text.items
+    → IsOutput wanted contents text progress.output.text.items
 finished wanted.Replies contents text lines progress whole taken = record {
   forms = taken.forms;
   told = taken.after.told.0;

@@ -1,5 +1,6 @@
 -- The life of a view is one, and the seen view has the same.
-use Rattle.std.proofs.Common.{◌≡◌, ◌++◌, Bool, true, false, cond, List, [], ◌∷◌, Result, refl, sym, ap, ◌∙◌, subst, ⊎_elim, inl, inr}
+use Rattle.std.proofs.Common.{◌≡◌, ◌++◌, Bool, true, false, cond, List, [], ◌∷◌, Result, refl, sym, ap, ◌∙◌, subst}
+use Rattle.std.proofs.Common.{⊎_elim, inl, inr}
 use Rattle.std.proofs.lemmas.Bool.{both_ways}
 use Rattle.dt_cred.specs.declared.account.Account.{Account}
 use Rattle.dt_machine.specs.Registry.{Registry}
@@ -26,7 +27,11 @@ module _ (account : Account) (registry : Registry) where
       → IsAfterFiring account registry before firing (after before firing seen)
   after_is before firing true h = inl (seen_from account registry before firing h, refl)
   after_is before firing false h =
-      inr (λ sees. both_ways (is_seen account registry before firing) h (seen_to account registry before firing sees), refl)
+      inr (
+        λ sees. both_ways (is_seen account registry before firing) h
+            (seen_to account registry before firing sees),
+        refl,
+      )
 
   one_after : (before life : List Item) (firing : Firing) → IsAfterFiring account registry before firing life
       → life ≡ after before firing (is_seen account registry before firing)
@@ -43,7 +48,8 @@ module _ (account : Account) (registry : Registry) where
   is_life (firing_made firing ∷ view) = (
     life_of account registry view,
     is_life view,
-    after_is (life_of account registry view) firing (is_seen account registry (life_of account registry view) firing) refl,
+    after_is (life_of account registry view) firing
+        (is_seen account registry (life_of account registry view) firing) refl,
   )
 
   pub one_life : (view : List Reached) (life : List Item) → IsLifeOf account registry view life
@@ -71,7 +77,8 @@ module _ (account : Account) (registry : Registry) where
   seen_more : (view : List Reached) (firing : Firing) (seen : Bool)
       → is_seen account registry (life_of account registry view) firing ≡ seen
       → life_of account registry (seen_view account registry view) ≡ life_of account registry view
-      → life_of account registry (cond seen (firing_made firing ∷ seen_view account registry view) (seen_view account registry view))
+      → life_of account registry (cond seen (firing_made firing ∷ seen_view account registry view)
+      (seen_view account registry view))
       ≡ cond seen (fired firing ∷ life_of account registry view) (life_of account registry view)
   seen_more view firing true is before = rw (before, is) refl
   seen_more view firing false is before = before
@@ -82,7 +89,8 @@ module _ (account : Account) (registry : Registry) where
   life-seen_view [] = refl
   life-seen_view (own_line line ∷ view) = ap (λ before. after_line before (ask_in line)) (life-seen_view view)
   life-seen_view (firing_made firing ∷ view) =
-      seen_more view firing (is_seen account registry (life_of account registry view) firing) refl (life-seen_view view)
+      seen_more view firing (is_seen account registry (life_of account registry view) firing) refl
+      (life-seen_view view)
 
   reply_alike : (view other : List Reached) (line : LineForm) (answer : Answer)
       → life_of account registry view ≡ life_of account registry other

@@ -1,5 +1,6 @@
 -- What a look names, and the interest of ECBs.
-use Rattle.std.proofs.Common.{◌≡◌, ℕ, ◌+◌, ◌<◌, ◌≤◌, ◌==◌, max, Bool, true, false, cond, List, [], ◌∷◌, Option, Some, None, length, map, unwrap_or, IsSomeAnd, refl, sym, ap, ◌∙◌, arith, ⊎_elim}
+use Rattle.std.proofs.Common.{◌≡◌, ℕ, ◌+◌, ◌<◌, ◌≤◌, ◌==◌, max, Bool, true, false, cond, List, [], ◌∷◌, Option, Some}
+use Rattle.std.proofs.Common.{None, length, map, unwrap_or, IsSomeAnd, refl, sym, ap, ◌∙◌, arith, ⊎_elim}
 use Rattle.std.proofs.lemmas.Bool.{eqb-true, and_parts, and_from, or_cases, cases_lt, false_from_ne_true}
 use Rattle.std.proofs.lemmas.List.FromFn.{get_or-map-range_with_len, length-map-range_with_len}
 use Rattle.std.proofs.lemmas.Option.{slice_get-get_or, slice_get_past}
@@ -33,7 +34,8 @@ module _ (registry : Registry) (entry : Entry) (firing : Firing) where
   named_to : Names registry entry firing → is_named registry entry firing ≡ true
   unfolding is_named
   named_to h =
-      let flag : unwrap_or (slice_get entry.probes firing.probe) false ≡ true = ap (λ o. unwrap_or o false) h.interested in
+      let flag : unwrap_or (slice_get entry.probes firing.probe) false ≡ true =
+      ap (λ o. unwrap_or o false) h.interested in
       and_from _ _ (belongs_to registry firing h.belongs)
       (and_from _ _ flag (shown_to entry.account registry firing h.admitted))
 

@@ -1,5 +1,7 @@
 -- What a look of a replay does.
-use Rattle.std.proofs.Common.{◌≡◌, ℕ, ◌+◌, ◌<◌, ◌≤◌, ◌==◌, ◌&&◌, Bool, true, false, cond, List, [], ◌∷◌, ◌++◌, Option, Some, None, IfSome, is_some, nat_lt, length, get_or, set, ⊎_elim, refl, sym, ap, ◌∙◌, subst, arith}
+use Rattle.std.proofs.Common.{◌≡◌, ℕ, ◌+◌, ◌<◌, ◌≤◌, ◌==◌, ◌&&◌, Bool, true, false, cond, List, [], ◌∷◌, ◌++◌, Option}
+use Rattle.std.proofs.Common.{Some, None, IfSome, is_some, nat_lt, length, get_or, set, ⊎_elim, refl, sym, ap, ◌∙◌}
+use Rattle.std.proofs.Common.{subst, arith}
 use Rattle.std.specs.List.{slice_get}
 use Rattle.std.specs.Option.{option_map, option_and_then}
 use Rattle.std.proofs.lemmas.Bool.{eq-eqb, ne_eqb, lt-ltb, cases_eq}
@@ -73,7 +75,8 @@ module _ (registry : Registry) (world : World) (cpu : ℕ) (firing : Firing) whe
               ∙ ap (λ (w : World). is_some (w.due cpu seat)) (sym at),
         ) where
           due_is : (seat : ℕ) (named : Option ℕ) (b : Bool) → b ≡ true → is_some named
-              ≡ is_some (cond b (option_map (λ life. record { life = life; firing = firing }) named) (world.due cpu seat))
+              ≡ is_some (cond b (option_map (λ life. record { life = life; firing = firing }) named)
+              (world.due cpu seat))
           due_is seat None b is = rw is refl
           due_is seat (Some life) b is = rw is refl
 

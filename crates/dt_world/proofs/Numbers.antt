@@ -1,5 +1,6 @@
 -- How many sessions were closed on a seat: one more for each line at most.
-use Rattle.std.proofs.Common.{◌≡◌, ℕ, zero, suc, ◌+◌, ◌≤◌, ◌==◌, ◌&&◌, Bool, true, false, cond, List, [], ◌∷◌, ◌++◌, Option, Some, None, is_some, is_none, nat_lt, length, map, fold, filter, refl, sym, ap, ◌∙◌, subst, arith}
+use Rattle.std.proofs.Common.{◌≡◌, ℕ, ◌+◌, ◌≤◌, ◌==◌, ◌&&◌, Bool, true, false, cond, List, [], ◌∷◌, Option, Some, None}
+use Rattle.std.proofs.Common.{is_none, nat_lt, length, map, fold, refl, subst, arith}
 use Rattle.std.proofs.lemmas.Bool.{eqb-true, cond_both}
 use Rattle.std.specs.Option.{option_map_or}
 use Rattle.dt_machine.specs.Registry.{Registry, Contents}
@@ -7,11 +8,17 @@ use Rattle.dt_machine.specs.declared.firing.Firing.{Firing}
 use Rattle.dt_chain.specs.declared.seat.TheConstants.{SEATS}
 use Rattle.dt_proto.specs.Lines.{LineForm, form_of}
 use Rattle.dt_proto.specs.Session.{session_account}
-use Rattle.dt_world.specs.Replay.{Replayed, after_line, replayed, acts_of, behind_ask, firing_acts, next_of, seats_due, waits, has_closed, beginning}
-use Rattle.dt_world.specs.StepLine.{StepLineForm, open_line, close_line, withdraw_line, ask_line, publish_line, finish_line, look_line, offer_line, call_line, fire_line}
-use Rattle.dt_world.specs.Steps.{Act, opens, asks, publishes, finishes, withdraws, looks, offers, closes, happens, with_place, with_session, answering, opening, asking, publishing, publishing_of, finishing, withdrawing, passed, looking_at, looking, is_done, offered, offering_of, offering, closing}
+use Rattle.dt_world.specs.Replay.{Replayed, after_line, replayed, acts_of, firing_acts, next_of, seats_due, waits}
+use Rattle.dt_world.specs.Replay.{has_closed, beginning}
+use Rattle.dt_world.specs.StepLine.{StepLineForm, open_line, close_line, withdraw_line, ask_line, publish_line}
+use Rattle.dt_world.specs.StepLine.{finish_line, look_line, offer_line, call_line, fire_line}
+use Rattle.dt_world.specs.Steps.{Act, opens, asks, publishes, finishes, withdraws, looks, offers, closes, happens}
+use Rattle.dt_world.specs.Steps.{with_place, with_session, answering, opening, asking, publishing, publishing_of}
+use Rattle.dt_world.specs.Steps.{finishing, withdrawing, passed, looking_at, looking, is_done, offered, offering_of}
+use Rattle.dt_world.specs.Steps.{offering, closing}
 use Rattle.dt_world.specs.Tests.{mask_of}
-use Rattle.dt_world.specs.World.{World, Session, Place, Pending, Due, number_on, new_session, answered, waiting, may_ask, begins, may_withdraw, reached, start}
+use Rattle.dt_world.specs.World.{World, Session, Place, Due, number_on, new_session, answered, waiting, may_ask}
+use Rattle.dt_world.specs.World.{begins, may_withdraw}
 
 -- what a step adds to the number of closed sessions, at most
 abbrev adds : Act → ℕ

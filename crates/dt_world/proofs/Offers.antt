@@ -1,5 +1,7 @@
 -- The offers of a `fire`, one by one.
-use Rattle.std.proofs.Common.{◌≡◌, ◌≢◌, ℕ, zero, suc, ◌+◌, ◌<◌, ◌≤◌, ◌==◌, ◌&&◌, Bool, true, false, cond, List, [], ◌∷◌, ◌++◌, Option, Some, None, is_some, map, fold, filter, ⊎_elim, refl, sym, ap, ◌∙◌, arith}
+use Rattle.std.proofs.Common.{◌≡◌, ◌≢◌, ℕ, zero, suc, ◌+◌, ◌<◌, ◌≤◌, ◌==◌, ◌&&◌, Bool, true, false, cond, List, []}
+use Rattle.std.proofs.Common.{◌∷◌, ◌++◌, Option, Some, None, is_some, map, fold, filter, ⊎_elim, refl, sym, ap, ◌∙◌}
+use Rattle.std.proofs.Common.{arith}
 use Rattle.std.specs.List.{range_with_len}
 use Rattle.std.specs.Option.{option_map_or}
 use Rattle.std.proofs.lemmas.Bool.{eq-eqb, ne_eqb, cases_eq, cases_lt}
@@ -79,7 +81,8 @@ offered_to contents now cpu seats =
     }
 
 pub one_more_offer : (contents : Contents) (now : Replayed) (cpu : ℕ) (seats : List ℕ) (seat : ℕ)
-    → (offered_to contents now cpu (seats ++ seat ∷ [])).world ≡ offering (offered_to contents now cpu seats).world cpu seat
+    → (offered_to contents now cpu (seats ++ seat ∷ [])).world
+    ≡ offering (offered_to contents now cpu seats).world cpu seat
 one_more_offer contents now cpu seats seat =
     let looked = (after_line contents now (look_line cpu)).world in
     ap (fold (happens contents.registry) looked) (map-append (offers cpu) seats (seat ∷ []))
@@ -97,13 +100,15 @@ module _ (contents : Contents) (now : Replayed) (cpu : ℕ) where
 
   abbrev fired_at : Option Firing → Replayed
   fired_at o = record {
-    world = fold (happens contents.registry) now.world (option_map_or (firing_acts contents.registry now.world cpu) o []);
+    world = fold (happens contents.registry) now.world
+        (option_map_or (firing_acts contents.registry now.world cpu) o []);
     taken = taken_at o;
   }
 
   abbrev offers_at : Option Firing → Replayed
   offers_at o = record {
-    world = fold (happens contents.registry) (looked_at o).world (map (offers cpu) (seats_due (looked_at o).world cpu));
+    world = fold (happens contents.registry) (looked_at o).world
+        (map (offers cpu) (seats_due (looked_at o).world cpu));
     taken = taken_at o;
   }
 
@@ -123,7 +128,8 @@ module _ (contents : Contents) (now : Replayed) (cpu : ℕ) where
 
   -- the mask of a look names the seats to which offers are due
   pub named_due : (firing : Firing) (mask : SeatMask) → next_of contents now cpu ≡ Some firing
-      → ((seat : ℕ) → is_some (life_at mask seat) ≡ is_some ((looking contents.registry now.world cpu firing).due cpu seat))
+      → ((seat : ℕ) → is_some (life_at mask seat)
+      ≡ is_some ((looking contents.registry now.world cpu firing).due cpu seat))
       → named_by mask ≡ seats_due (after_line contents now (look_line cpu)).world cpu
   unfolding named_by seats_due
   named_due firing mask is h =

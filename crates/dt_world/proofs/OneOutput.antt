@@ -1,5 +1,6 @@
 -- A replay is a run of the world, and has one output, and one trail.
-use Rattle.std.proofs.Common.{◌≡◌, ℕ, ◌++◌, Bool, true, false, List, [], ◌∷◌, Result, Option, Some, None, MatchBool, fold, refl, sym, ap, ◌∙◌, subst, ⊎_elim}
+use Rattle.std.proofs.Common.{◌≡◌, ℕ, ◌++◌, Bool, true, false, List, [], ◌∷◌, Result, Option, Some, None, MatchBool}
+use Rattle.std.proofs.Common.{fold, refl, sym, ap, ◌∙◌, subst, ⊎_elim}
 use Rattle.std.specs.List.{flat_map}
 use Rattle.std.proofs.lemmas.List.{append_cancel_right}
 use Rattle.std.proofs.lemmas.List.Sums.{fold-append}
@@ -20,10 +21,11 @@ use Rattle.dt_proto.specs.Splits.{with_newline}
 use Rattle.dt_proto.specs.Trail.{Entry, line_asked, long_asked, IsEntryOf, IsTold, IsToldFiring, IsTrailOf, trail_text}
 use Rattle.dt_world.specs.Ran.{Told, IsReply, AreReplies}
 use Rattle.dt_world.specs.Replay as replay
-use Rattle.dt_world.specs.Replay.{Replayed, IsReplay, IsTrailReplay, IsTrailText, replayed, acts_of, acts_from, beginning, told_line}
+use Rattle.dt_world.specs.Replay.{Replayed, IsReplay, IsTrailReplay, IsTrailText, replayed, acts_of, acts_from}
+use Rattle.dt_world.specs.Replay.{beginning, told_line}
 use Rattle.dt_world.specs.StepLine.{StepLineForm}
 use Rattle.dt_world.specs.Steps.{happens, world_after}
-use Rattle.dt_world.specs.World.{World, Session, Question, start, session_of}
+use Rattle.dt_world.specs.World.{Session, Question, session_of}
 use Rattle.dt_world.proofs.LineLists.{same_forms}
 
 from : (contents : Contents) (now : Replayed) (forms : List StepLineForm)
@@ -43,7 +45,8 @@ is_run contents forms = from contents beginning forms
 same_reply : (a b : List ℕ) → with_newline a ≡ with_newline b → a ≡ b
 same_reply a b e = append_cancel_right a b (10 ∷ []) e
 
-same_entry : (line : LineForm) (answer : Answer) (a b : Entry) → IsEntryOf line answer a → IsEntryOf line answer b → a ≡ b
+same_entry : (line : LineForm) (answer : Answer) (a b : Entry) → IsEntryOf line answer a
+    → IsEntryOf line answer b → a ≡ b
 same_entry (short_line line) answer a b h k =
     h.1 ∙ ap (line_asked line) (same_reply h.0 k.0 (h.2 ∙ sym k.2)) ∙ sym k.1
 same_entry long_line answer a b h k = h.1 ∙ ap long_asked (same_reply h.0 k.0 (h.2 ∙ sym k.2)) ∙ sym k.1
@@ -78,9 +81,11 @@ module _ (one_reply : (account : Account) (registry : Registry) (life : List Ite
 
     -- what a line adds to a trail is one
     told_same_at : (life : List Item) (line : LineForm) (over : Bool) (a b : List Entry)
-        → MatchBool over (a ≡ []) ((answer : Answer) × (entry : Entry) × Replies account registry life (ask_in line) answer
+        → MatchBool over (a ≡ []) ((answer : Answer) × (entry : Entry)
+        × Replies account registry life (ask_in line) answer
         × IsEntryOf line answer entry × (a ≡ entry ∷ []))
-        → MatchBool over (b ≡ []) ((answer : Answer) × (entry : Entry) × Replies account registry life (ask_in line) answer
+        → MatchBool over (b ≡ []) ((answer : Answer) × (entry : Entry)
+        × Replies account registry life (ask_in line) answer
         × IsEntryOf line answer entry × (b ≡ entry ∷ []))
         → a ≡ b
     told_same_at life line true a b h k = h ∙ sym k

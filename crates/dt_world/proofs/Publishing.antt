@@ -1,5 +1,6 @@
 -- A seat after its interest was published.
-use Rattle.std.proofs.Common.{◌≡◌, ◌≢◌, ℕ, ◌==◌, Bool, true, false, cond, not, List, [], ◌∷◌, Option, Some, None, IsSomeAnd, IsTrue, ◌↔◌, MatchOption, MatchBool, length, refl, sym, subst}
+use Rattle.std.proofs.Common.{◌≡◌, ◌≢◌, ℕ, ◌==◌, Bool, true, false, cond, not, List, [], ◌∷◌, Option, Some, None}
+use Rattle.std.proofs.Common.{IsSomeAnd, IsTrue, ◌↔◌, MatchOption, MatchBool, length, refl, sym, subst}
 use Rattle.std.specs.List.{slice_index_or}
 use Rattle.std.specs.Option.{option_map, option_map_or}
 use Rattle.dt_cred.specs.declared.account.Account.{Account}
@@ -22,7 +23,8 @@ use Rattle.dt_world.proofs.Looking.{interest_from, interest_to}
 use Rattle.dt_world.proofs.Seeing.{wanted_from, wanted_to}
 
 -- entries see what was published by the probes that it names
-slot_at : (n : ℕ) (account : Account) (probes others : List Bool) (before : Option Entry) (same : Bool) (slot : Option Slot)
+slot_at : (n : ℕ) (account : Account) (probes others : List Bool) (before : Option Entry) (same : Bool)
+    (slot : Option Slot)
     → slot ≡ option_map slot_of (cond same (Some (record { life = n; account = account; probes = probes })) before)
     → slot ≡ option_map slot_of (cond same (Some (record { life = n; account = account; probes = others })) before)
 slot_at n account probes others before true slot h = h
@@ -34,7 +36,8 @@ listed_at : (n : ℕ) (account : Account) (probes others : List Bool) (before : 
     (λ (entry : Entry). interest.Names entry.probes probe)
     → IsTrue listed ↔ IsSomeAnd (cond same (Some (record { life = n; account = account; probes = others })) before)
     (λ (entry : Entry). interest.Names entry.probes probe)
-listed_at n account probes others before true probe listed alike h = (λ e. alike.0 (h.0 e), λ names. h.1 (alike.1 names))
+listed_at n account probes others before true probe listed alike h =
+    (λ e. alike.0 (h.0 e), λ names. h.1 (alike.1 names))
 listed_at n account probes others before false probe listed alike h = h
 
 entered_alike : (seat n : ℕ) (account : Account) (probes others : List Bool) (writes : List Write) (entries : Entries)
@@ -71,7 +74,8 @@ module _ (Same : Type 0) (Later : Session → Pending → Type 0) where
   go_does session None is h = cc
   go_does session (Some pending) is h = pending_does session pending pending.published is (h pending refl)
 
-  present_does : (present : Option Session) (session : Session) → present ≡ Some session → is_unpublished session ≡ true
+  present_does : (present : Option Session) (session : Session) → present ≡ Some session
+      → is_unpublished session ≡ true
       → ((pending : Pending) → session.go ≡ Some pending → Later session pending)
       → MatchOption present Same (λ own. MatchOption own.go Same
       (λ pending. MatchBool pending.published Same (Later own pending)))
@@ -100,7 +104,8 @@ module _ (registry : Registry) (place : Place) (held : Held) (h : IsHeld registr
       let s = serves registry place held h served is in
       let session = s.session in
       let own = ecbs session.account registry (life_in registry session) in
-      let entered : chain.IsAt (published seat (length place.earlier) session.account (interest_of own) ∷ writes) later =
+      let entered : chain.IsAt (published seat (length place.earlier) session.account (interest_of own) ∷ writes)
+      later =
       entered_alike seat (length place.earlier) session.account flags (interest_of own) writes later
       (interest_alike own flags (named session s.kept))
       (subst (λ n. chain.IsAt (published seat n session.account flags ∷ writes) later) h.counted

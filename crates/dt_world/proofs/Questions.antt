@@ -1,5 +1,6 @@
 -- The questions of each session are the lines of its view.
-use Rattle.std.proofs.Common.{◌≡◌, ℕ, ◌≤◌, ◌&&◌, ◌==◌, Bool, true, false, cond, List, [], ◌∷◌, ◌++◌, Option, Some, None, is_none, nat_lt, length, map, fold, refl, sym, ap, ◌∙◌, subst, arith}
+use Rattle.std.proofs.Common.{◌≡◌, ℕ, ◌≤◌, ◌&&◌, ◌==◌, Bool, true, false, cond, List, [], ◌∷◌, ◌++◌, Option, Some}
+use Rattle.std.proofs.Common.{None, is_none, nat_lt, length, map, fold, refl, sym, ap, ◌∙◌, subst, arith}
 use Rattle.std.proofs.lemmas.Bool.{eqb-true, eq-eqb, and_parts, and_left, cond_both}
 use Rattle.std.proofs.lemmas.List.{append-nil, map-append}
 use Rattle.std.proofs.lemmas.List.Elements.{filter-append}
@@ -15,9 +16,12 @@ use Rattle.dt_proto.specs.Lines.{LineForm}
 use Rattle.dt_proto.specs.Reply.{reply_text}
 use Rattle.dt_proto.specs.Session.{session_account}
 use Rattle.dt_world.specs.Ran.{Told, IsText, IsReply, AreReplies, is_of, told_to, IsAnsweredAlone}
-use Rattle.dt_world.specs.Steps.{Act, opens, asks, publishes, finishes, withdraws, looks, offers, closes, happens, with_session, question_of, answering, opening, asking, publishing, finishing, withdrawing, passed, looking, is_done, offered, offering, closing, world_after}
+use Rattle.dt_world.specs.Steps.{Act, opens, asks, publishes, finishes, withdraws, looks, offers, closes, happens}
+use Rattle.dt_world.specs.Steps.{with_session, question_of, answering, opening, asking, publishing, finishing}
+use Rattle.dt_world.specs.Steps.{withdrawing, passed, looking, is_done, offered, offering, closing, world_after}
 use Rattle.dt_world.specs.Tests.{mask_of}
-use Rattle.dt_world.specs.World.{World, Session, Place, Due, Question, start, number_on, numbered, sessions_on, session_of, new_session, reached, answered, waiting, may_ask, begins, may_withdraw}
+use Rattle.dt_world.specs.World.{World, Session, Place, Due, Question, start, number_on, numbered, sessions_on}
+use Rattle.dt_world.specs.World.{session_of, new_session, reached, answered, waiting, may_ask, begins, may_withdraw}
 use Rattle.dt_world.proofs.Soundness.{updated, updated_others, option_case}
 
 -- the questions of a session, by its view, the oldest first
@@ -74,11 +78,23 @@ told_at : (seat n : ℕ) (session : Session) (line : LineForm) (earlier : List S
     (same : Bool) → (length earlier == n) ≡ same
     → filter (is_of seat n) questions ≡ asked_of seat n (cond same (Some session) (numbered earlier n))
     → filter (is_of seat n) questions
-    ++ cond same (record { seat = seat; number = length earlier; account = session.account; view = session.view; line = line } ∷ []) []
+    ++ cond same (record {
+      seat = seat;
+      number = length earlier;
+      account = session.account;
+      view = session.view;
+      line = line;
+    } ∷ []) []
     ≡ asked_of seat n (cond same (Some (answered session line)) (numbered earlier n))
 told_at seat n session line earlier questions true is h =
     let at : length earlier ≡ n = eqb-true (length earlier) n is in
-    ap (λ before. before ++ record { seat = seat; number = length earlier; account = session.account; view = session.view; line = line } ∷ []) h
+    ap (λ before. before ++ record {
+      seat = seat;
+      number = length earlier;
+      account = session.account;
+      view = session.view;
+      line = line;
+    } ∷ []) h
     ∙ ap (λ m. asked_by seat n session.account session.view
     ++ record { seat = seat; number = m; account = session.account; view = session.view; line = line } ∷ []) at
 told_at seat n session line earlier questions false is h = append-nil (filter (is_of seat n) questions) ∙ h
@@ -104,7 +120,8 @@ own_question seat n number question at is =
 module _ (registry : Registry) (world : World) (h : AreAsked world) where
   asked_at : (seat : ℕ) (session : Session) → (world.places seat).present ≡ Some session → (n : ℕ)
       → filter (is_of seat n) world.questions
-      ≡ asked_of seat n (cond (length (world.places seat).earlier == n) (Some session) (numbered (world.places seat).earlier n))
+      ≡ asked_of seat n (cond (length (world.places seat).earlier == n) (Some session)
+      (numbered (world.places seat).earlier n))
   asked_at seat session is n = rw is at (h seat n)
 
   -- the newest session changes, and no question is added

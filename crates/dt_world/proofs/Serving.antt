@@ -1,5 +1,6 @@
 -- A session after each of its calls.
-use Rattle.std.proofs.Common.{◌≡◌, ℕ, ◌&&◌, ◌||◌, Bool, true, false, cond, not, List, ◌∷◌, Option, Some, None, is_some, is_none, Result, Ok, Err, IsTrue, ◌↔◌, refl, sym, ap, ◌∙◌, subst}
+use Rattle.std.proofs.Common.{◌≡◌, ℕ, ◌&&◌, ◌||◌, Bool, true, false, cond, not, List, ◌∷◌, Option, Some, None, is_some}
+use Rattle.std.proofs.Common.{is_none, Result, Ok, Err, IsTrue, ◌↔◌, refl, sym, ap, ◌∙◌, subst}
 use Rattle.std.proofs.lemmas.Bool.{both_ways, and_parts, not-true, false_from_ne_true}
 use Rattle.std.specs.List.{list_any}
 use Rattle.std.specs.Option.{option_map_or}
@@ -141,7 +142,8 @@ module _ (registry : Registry) (account : Account) (life : List Item) where
 module _ (registry : Registry) (session : Session) (line : LineForm) (served : Served)
     (h : IsSession registry session served) where
   -- an accepted `go` is kept
-  pub asked_go : (kept : Asked) (draft : Draft) → form_asked kept ≡ line → IsDraftOf session.account registry (life_in registry session) (ask_in line) draft
+  pub asked_go : (kept : Asked) (draft : Draft) → form_asked kept ≡ line
+      → IsDraftOf session.account registry (life_in registry session) (ask_in line) draft
       → IsAcceptedGo session.account registry (life_in registry session) (ask_in line)
       → IsAsked registry session line None (record {
         account = served.account;

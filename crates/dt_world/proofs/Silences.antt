@@ -1,5 +1,6 @@
 -- Which steps answer nothing: the questions stay as they were.
-use Rattle.std.proofs.Common.{◌≡◌, ℕ, ◌&&◌, ◌==◌, Bool, true, false, cond, List, ◌∷◌, Option, Some, None, is_none, nat_lt, refl, subst}
+use Rattle.std.proofs.Common.{◌≡◌, ℕ, ◌&&◌, ◌==◌, Bool, true, false, cond, List, ◌∷◌, Option, Some, None, is_none}
+use Rattle.std.proofs.Common.{nat_lt, refl, subst}
 use Rattle.std.proofs.lemmas.Bool.{cond_both, eqb-true}
 use Rattle.std.specs.Option.{option_map_or}
 use Rattle.dt_machine.specs.Registry.{Registry, Contents}
@@ -9,7 +10,8 @@ use Rattle.dt_proto.specs.Session.{session_account}
 use Rattle.dt_world.specs.Progress.{with_world}
 use Rattle.dt_world.specs.Replay.{Replayed, after_line, waits, has_closed}
 use Rattle.dt_world.specs.StepLine.{call_line}
-use Rattle.dt_world.specs.Steps.{with_place, with_session, asking, finishing, opening, publishing, publishing_of, withdrawing, offering, offering_of, closing}
+use Rattle.dt_world.specs.Steps.{with_place, with_session, asking, finishing, opening, publishing, publishing_of}
+use Rattle.dt_world.specs.Steps.{withdrawing, offering, offering_of, closing}
 use Rattle.dt_world.specs.World.{World, Session, Place, session_of, new_session, waiting, may_withdraw}
 use Rattle.dt_world.proofs.Firsts.{first_on, seen_as, first-same}
 
@@ -41,7 +43,8 @@ module _ (world : World) where
   same_views at place same seat = by_seat (at == seat) refl where
     by_seat : (b : Bool) → (at == seat) ≡ b
         → seen_as (first_on (cond b place (world.places seat))) ≡ seen_as (first_on (world.places seat))
-    by_seat true is = subst (λ n. seen_as (first_on place) ≡ seen_as (first_on (world.places n))) (eqb-true at seat is) same
+    by_seat true is = subst (λ n. seen_as (first_on place) ≡ seen_as (first_on (world.places n)))
+        (eqb-true at seat is) same
     by_seat false is = refl
 
   pub publishing_silent : (registry : Registry) (seat : ℕ) → Silent (publishing registry world seat)
@@ -63,7 +66,10 @@ module _ (world : World) where
         either SameViews _ world session.go (λ other. refl)
         (λ pending. cond_both pending.published world (publishing_of registry world seat session pending) SameViews
         (λ _. λ other. refl)
-        (λ _. same_views seat (record { present = Some (waiting session pending.line true); earlier = (world.places seat).earlier })
+        (λ _. same_views seat (record {
+          present = Some (waiting session pending.line true);
+          earlier = (world.places seat).earlier;
+        })
         (first-same (world.places seat) session is (waiting session pending.line true) refl refl)))
 
   pub withdrawing_silent : (registry : Registry) (seat : ℕ) → Silent (withdrawing registry world seat)
@@ -98,7 +104,7 @@ module _ (world : World) where
         same_views seat (record { present = None; earlier = session ∷ (world.places seat).earlier }) (rw is refl)
 
 module _ (contents : Contents) (now : Replayed) (seat : ℕ) (line : List ℕ) where
-  -- the world behind the ask of a `call`
+  -- the world after the ask of a `call`
   abbrev pub asked_in : World
   asked_in = asking contents.registry now.world seat (form_of line)
 

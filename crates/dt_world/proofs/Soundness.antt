@@ -1,5 +1,6 @@
 -- Each step keeps what is published sound.
-use Rattle.std.proofs.Common.{◌≡◌, ℕ, ◌<◌, ◌≤◌, ◌&&◌, ◌==◌, Bool, true, false, cond, List, [], ◌∷◌, Option, Some, None, Result, Ok, is_none, nat_lt, fold, length, refl, sym, ap, ◌∙◌, subst, arith}
+use Rattle.std.proofs.Common.{◌≡◌, ℕ, ◌<◌, ◌≤◌, ◌&&◌, ◌==◌, Bool, true, false, cond, List, [], ◌∷◌, Option, Some, None}
+use Rattle.std.proofs.Common.{Result, Ok, is_none, nat_lt, fold, length, refl, sym, ap, ◌∙◌, subst, arith}
 use Rattle.std.proofs.lemmas.Bool.{eqb-true, ltb-true, and_parts, not-true, both_ways, cond_both, false_from_ne_true}
 use Rattle.std.specs.Option.{option_map, option_map_or}
 use Rattle.dt_cred.specs.declared.account.Account.{Account}
@@ -18,9 +19,12 @@ use Rattle.dt_proto.specs.Line.{ask_in}
 use Rattle.dt_proto.specs.Lines.{LineForm}
 use Rattle.dt_proto.specs.Session.{session_account}
 use Rattle.dt_world.specs.Sound.{entry_of, IsEntered, IsSoundSeat, IsSound}
-use Rattle.dt_world.specs.Steps.{Act, opens, asks, publishes, finishes, withdraws, looks, offers, closes, happens, world_after, with_session, answering, opening, asking, publishing, finishing, withdrawing, passed, looking, is_done, offered, offering, closing}
+use Rattle.dt_world.specs.Steps.{Act, opens, asks, publishes, finishes, withdraws, looks, offers, closes, happens}
+use Rattle.dt_world.specs.Steps.{world_after, with_session, answering, opening, asking, publishing, finishing}
+use Rattle.dt_world.specs.Steps.{withdrawing, passed, looking, is_done, offered, offering, closing}
 use Rattle.dt_world.specs.Tests.{is_seen, interest_of, mask_of}
-use Rattle.dt_world.specs.World.{World, Session, Place, Pending, Due, start, number_on, life_in, is_tracing, new_session, reached, answered, waiting, may_ask, begins, may_withdraw}
+use Rattle.dt_world.specs.World.{World, Session, Place, Pending, Due, start, number_on, life_in, is_tracing}
+use Rattle.dt_world.specs.World.{new_session, reached, answered, waiting, may_ask, begins, may_withdraw}
 use Rattle.dt_world.proofs.Beginning.{begins_from, begins_to, inactive_from}
 use Rattle.dt_world.proofs.Keeping.{Keeps, may_begin, life-after_line, life-fired, ecbs-go}
 use Rattle.dt_world.proofs.Seeing.{seen_from}
@@ -152,7 +156,8 @@ module _ (registry : Registry) (account : Account) (n : ℕ) (entry : Option Ent
         published = λ other e. cc;
       }
 
-  no_go : (life : List Item) (firing : Firing) (line : Result Ask Refusal) → is_seen account registry life firing ≡ true
+  no_go : (life : List Item) (firing : Firing) (line : Result Ask Refusal)
+      → is_seen account registry life firing ≡ true
       → IsAcceptedGo account registry life line → ⊥
   no_go life firing line seen is =
       let active = (seen_from account registry life firing seen).active in
@@ -206,7 +211,8 @@ module _ (registry : Registry) where
   sound-reached seat entry place session firing is h =
       let before = rw is at h in (
         before.0,
-        entered-fired registry session.account (length place.earlier) entry (life_in registry session) session.go firing
+        entered-fired registry session.account (length place.earlier) entry (life_in registry session)
+            session.go firing
             (is_seen session.account registry (life_in registry session) firing) refl before.1,
       )
 
@@ -214,7 +220,8 @@ module _ (registry : Registry) where
       → IsSoundSeat registry seat entry place → IsSoundSeat registry seat entry (passed firing named place)
   sound-passed seat entry place firing named h =
       option_case (IsSoundSeat registry seat entry) _ place place.present h (λ session is.
-      cond_both (option_map_or (λ life. life == length place.earlier) named false) _ _ (IsSoundSeat registry seat entry)
+      cond_both (option_map_or (λ life. life == length place.earlier) named false) _ _
+      (IsSoundSeat registry seat entry)
       (λ own. h) (λ other. sound-reached seat entry place session firing is h))
 
   sound-offered : (seat : ℕ) (entry : Option Entry) (place : Place) (due : Due)
@@ -357,7 +364,8 @@ module _ (registry : Registry) where
     none_named : (firing : Firing) (seat : ℕ) → SEATS ≤ seat → mask_of registry world.writes firing seat ≡ None
     unfolding mask_of
     none_named firing seat past =
-        rw (no_entry seat (state world.writes seat) (world.places seat) (world.places seat).present refl (h.seats seat) past)
+        rw (no_entry seat (state world.writes seat) (world.places seat) (world.places seat).present refl
+        (h.seats seat) past)
         refl
 
     due_at : (same : Bool) (cpu seat : ℕ) (firing : Firing) (named : Option ℕ) → named ≡ None → SEATS ≤ seat
@@ -386,7 +394,8 @@ module _ (registry : Registry) where
     unfolding offering
     sound-offering cpu seat =
         option_case (IsSound registry) _ world (world.due cpu seat) h (λ due is. record {
-          seats = updated (λ other place. IsSoundSeat registry other (state world.writes other) place) world.places seat
+          seats = updated (λ other place. IsSoundSeat registry other (state world.writes other) place)
+              world.places seat
               (offered due (world.places seat)) h.seats
               (sound-offered seat (state world.writes seat) (world.places seat) due (h.seats seat));
           due = λ other at past. no_due_at (other == cpu && at == seat) other at past;
@@ -396,7 +405,8 @@ module _ (registry : Registry) where
     unfolding closing
     sound-closing seat =
         option_case (IsSound registry) _ world (world.places seat).present h (λ session is. record {
-          seats = updated (λ other place. IsSoundSeat registry other (state world.writes other) place) world.places seat
+          seats = updated (λ other place. IsSoundSeat registry other (state world.writes other) place)
+              world.places seat
               (record { present = None; earlier = session ∷ (world.places seat).earlier }) h.seats
               (no_entry seat (state world.writes seat) (world.places seat) (world.places seat).present refl
               (h.seats seat));

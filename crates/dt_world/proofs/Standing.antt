@@ -1,6 +1,9 @@
 -- The seats with their consumers after each step.
-use Rattle.std.proofs.Common.{◌≡◌, ◌≢◌, ℕ, zero, suc, ◌+◌, ◌^◌, ◌<◌, ◌≤◌, ◌&&◌, ◌==◌, Bool, true, false, cond, not, List, ◌∷◌, Option, Some, None, is_none, is_some, IfSome, IsTrue, ◌↔◌, nat_lt, length, get_or, set, MatchBool, MatchOption, ⊎_elim, refl, sym, ap, ◌∙◌, subst, arith}
-use Rattle.std.proofs.lemmas.Bool.{eqb-true, eqb-false, eq-eqb, ne_eqb, ltb-true, lt-ltb, le-ltb, and_parts, and_from, and_left, and_right, both_ways, false_from_ne_true, cases_lt, cases_eq}
+use Rattle.std.proofs.Common.{◌≡◌, ◌≢◌, ℕ, zero, suc, ◌+◌, ◌^◌, ◌<◌, ◌≤◌, ◌&&◌, ◌==◌, Bool, true, false, cond, not}
+use Rattle.std.proofs.Common.{List, ◌∷◌, Option, Some, None, is_none, is_some, IfSome, IsTrue, ◌↔◌, nat_lt, length}
+use Rattle.std.proofs.Common.{get_or, set, MatchBool, MatchOption, ⊎_elim, refl, sym, ap, ◌∙◌, subst, arith}
+use Rattle.std.proofs.lemmas.Bool.{eqb-true, eqb-false, eq-eqb, ne_eqb, ltb-true, lt-ltb, le-ltb, and_parts, and_from}
+use Rattle.std.proofs.lemmas.Bool.{and_left, and_right, both_ways, false_from_ne_true, cases_lt, cases_eq}
 use Rattle.std.proofs.lemmas.List.{get_or-set_same, get_or-set_other, length-set, set-get_or}
 use Rattle.std.proofs.lemmas.Option.{slice_get_read, slice_get_past, slice_get_within, slice_get-get_or}
 use Rattle.std.specs.List.{slice_get, list_all, range_with_len}
@@ -20,10 +23,15 @@ use Rattle.dt_proto.specs.Alone.{firing_made}
 use Rattle.dt_proto.specs.Lines.{LineForm}
 use Rattle.dt_proto.specs.Session.{session_account}
 use Rattle.dt_world.specs.Sound.{entry_of, IsEntered, IsSoundSeat, IsSound}
-use Rattle.dt_world.specs.Stands.{IsSession, IsPresent, IsHeld, IsAsked, IsAskedOn, IsFinishing, IsFinishedOn, IsPublishedOn, IsKept, IsAnswered, IsLooked, with_present, opened_on, closed_on, due_of, due_in, sees_on, seen_in}
-use Rattle.dt_world.specs.Steps.{with_place, with_session, question_of, answering, opening, asking, publishing, publishing_of, finishing, withdrawing, passed, looking, is_done, offered, offering, closing}
+use Rattle.dt_world.specs.Stands.{IsSession, IsPresent, IsHeld, IsAsked, IsAskedOn, IsFinishing, IsFinishedOn}
+use Rattle.dt_world.specs.Stands.{IsPublishedOn, IsKept, IsAnswered, IsLooked, with_present, opened_on, closed_on}
+use Rattle.dt_world.specs.Stands.{due_of, due_in, sees_on, seen_in}
+use Rattle.dt_world.specs.Steps.{with_place, with_session, question_of, answering, opening, asking, publishing}
+use Rattle.dt_world.specs.Steps.{publishing_of, finishing, withdrawing, passed, looking, is_done, offered, offering}
+use Rattle.dt_world.specs.Steps.{closing}
 use Rattle.dt_world.specs.Tests.{is_seen, is_named, interest_of, mask_of}
-use Rattle.dt_world.specs.World.{World, Session, Pending, Place, Due, number_on, life_in, new_session, reached, answered, waiting, may_ask, begins, may_withdraw}
+use Rattle.dt_world.specs.World.{World, Session, Pending, Place, Due, number_on, life_in, new_session, reached}
+use Rattle.dt_world.specs.World.{answered, waiting, may_ask, begins, may_withdraw}
 use Rattle.dt_world.specs.declared.held.Held.{Held}
 use Rattle.dt_world.specs.declared.looked.Looked.{Looked}
 use Rattle.dt_world.specs.declared.served.Served.{Served}
@@ -107,7 +115,8 @@ module _ (registry : Registry) where
       held_at =
           let long = kept.all in
           let low = found.low in
-          let there : slice_get seats at ≡ Some held = slice_get_read seats (length seats) at held refl (omega arith) found.read in
+          let there : slice_get seats at ≡ Some held =
+          slice_get_read seats (length seats) at held refl (omega arith) found.read in
           let same : slice_get seats seat ≡ Some held = sym (ap (slice_get seats) found.is) ∙ there in
           rw same at (kept.held seat)
 
@@ -122,7 +131,8 @@ module _ (registry : Registry) where
           get_set_at (λ o. IfSome o (IsHeld registry (cond (seat == other) place (places other)))) seats at other after
           (at == other) refl (omega arith)
           (λ same. let own : (seat == other) ≡ true = ap (λ n. n == other) (sym found.is) ∙ same in rw own now)
-          (λ same. let own : (seat == other) ≡ false = ap (λ n. n == other) (sym found.is) ∙ same in rw own (before other))
+          (λ same. let own : (seat == other) ≡ false = ap (λ n. n == other) (sym found.is)
+          ∙ same in rw own (before other))
 
       set_all : (after : Held) → length (set seats at after) ≡ SEATS
       set_all after = length-set seats at after ∙ kept.all
@@ -181,7 +191,8 @@ module _ (registry : Registry) where
                 → session_account registry name ≡ account → nat_lt seat SEATS ≡ true → (after : Held)
                 → IsHeld registry (opened_on registry (world.places seat) name) after
                 → IsKept registry (cond (nat_lt seat SEATS && not (is_some (world.places seat).present))
-                (option_map_or (λ own. with_session world seat (new_session own)) (session_account registry name) world)
+                (option_map_or (λ own. with_session world seat (new_session own))
+                (session_account registry name) world)
                 world) (set seats at after) entries processors
             opened_at true account taken is here after h =
                 rw (here, taken) (kept_same after (rw taken at h))
@@ -222,7 +233,8 @@ module _ (registry : Registry) where
           asked_case (world.places seat).present (asks (world.places seat) held_at) where
             may_case : (session : Session) (may : Bool)
                 → MatchBool may
-                ((served : Served) × (after.earlier ≡ length (world.places seat).earlier) × (after.present ≡ Some served)
+                ((served : Served) × (after.earlier ≡ length (world.places seat).earlier)
+                × (after.present ≡ Some served)
                 × IsAsked registry session line reply served)
                 ((reply ≡ None) × IsHeld registry (world.places seat) after)
                 → Asked line reply after (cond may (cond (begins registry session line)
@@ -233,7 +245,8 @@ module _ (registry : Registry) where
             asked_case : (present : Option Session)
                 → MatchOption present ((reply ≡ None) × IsHeld registry (world.places seat) after)
                 (λ session. MatchBool (may_ask registry session)
-                ((served : Served) × (after.earlier ≡ length (world.places seat).earlier) × (after.present ≡ Some served)
+                ((served : Served) × (after.earlier ≡ length (world.places seat).earlier)
+                × (after.present ≡ Some served)
                 × IsAsked registry session line reply served)
                 ((reply ≡ None) × IsHeld registry (world.places seat) after))
                 → Asked line reply after (option_map_or (λ session. cond (may_ask registry session)
@@ -255,11 +268,13 @@ module _ (registry : Registry) where
           (answering world seat session pending.line) world) session.go world)
       unfolding Finished
       finished_on session None after served at_ counted is h =
-          let same : IsHeld registry (world.places seat) after = held_same (world.places seat) session after served at_ counted is h.1 in
+          let same : IsHeld registry (world.places seat) after =
+          held_same (world.places seat) session after served at_ counted is h.1 in
           not_at session.go h.0 (kept_same after same, refl) where
             not_at : (pending : Option Pending) → option_map_or (λ (p : Pending). p.published) pending false ≡ false
                 → Finished None after world
-                → Finished None after (option_map_or (λ p. cond p.published (answering world seat session p.line) world) pending world)
+                → Finished None after (option_map_or
+                (λ p. cond p.published (answering world seat session p.line) world) pending world)
             not_at None no_more same = same
             not_at (Some p) no_more same = rw no_more same
       finished_on session (Some text) after served at_ counted is h =
@@ -324,7 +339,8 @@ module _ (registry : Registry) where
           → IsKept registry (publishing registry world seat) (set seats at after) later processors
       unfolding publishing
       kept-publishing after later publishes =
-          published_case (world.places seat).present (publishes (world.places seat) world.writes held_at kept.entered) where
+          published_case (world.places seat).present
+          (publishes (world.places seat) world.writes held_at kept.entered) where
             pending_case : (session : Session) (pending : Pending) (done : Bool)
                 → MatchBool done (IsHeld registry (world.places seat) after × chain.IsAt world.writes later)
                 (IsHeld registry (with_present (world.places seat) (waiting session pending.line true)) after
@@ -349,7 +365,8 @@ module _ (registry : Registry) where
 
             published_case : (present : Option Session)
                 → MatchOption present (IsHeld registry (world.places seat) after × chain.IsAt world.writes later)
-                (λ session. MatchOption session.go (IsHeld registry (world.places seat) after × chain.IsAt world.writes later)
+                (λ session. MatchOption session.go
+                (IsHeld registry (world.places seat) after × chain.IsAt world.writes later)
                 (λ pending. MatchBool pending.published
                 (IsHeld registry (world.places seat) after × chain.IsAt world.writes later)
                 (IsHeld registry (with_present (world.places seat) (waiting session pending.line true)) after
@@ -363,8 +380,10 @@ module _ (registry : Registry) where
 
       -- Withdraw
       pub kept-withdrawing : (told : Bool) (later : Entries)
-          → ((place : Place) → IsHeld registry place held → told ≡ option_map_or (may_withdraw registry) place.present true)
-          → (told ≡ true → (writes : List Write) → chain.IsAt writes entries → chain.IsAt (withdrawn seat ∷ writes) later)
+          → ((place : Place) → IsHeld registry place held → told
+          ≡ option_map_or (may_withdraw registry) place.present true)
+          → (told ≡ true → (writes : List Write) → chain.IsAt writes entries
+          → chain.IsAt (withdrawn seat ∷ writes) later)
           → (told ≡ false → later ≡ entries)
           → IsKept registry (withdrawing registry world seat) seats later processors
       unfolding withdrawing
@@ -372,9 +391,11 @@ module _ (registry : Registry) where
           may_case told (option_map_or (may_withdraw registry) (world.places seat).present true)
           (tells (world.places seat) held_at) does not_ where
             may_case : (told_ may : Bool) → told_ ≡ may
-                → (told_ ≡ true → (writes : List Write) → chain.IsAt writes entries → chain.IsAt (withdrawn seat ∷ writes) later)
+                → (told_ ≡ true → (writes : List Write) → chain.IsAt writes entries
+                → chain.IsAt (withdrawn seat ∷ writes) later)
                 → (told_ ≡ false → later ≡ entries)
-                → IsKept registry (cond may (record world { writes = withdrawn seat ∷ world.writes }) world) seats later processors
+                → IsKept registry (cond may (record world { writes = withdrawn seat ∷ world.writes }) world) seats
+                later processors
             may_case told_ true is does_ none_ = record {
               all = kept.all;
               held = kept.held;
@@ -392,7 +413,8 @@ module _ (registry : Registry) where
 
 -- a session that a look doesn't name doesn't see the firing
 module _ (registry : Registry) (account : Account) (life : List Item) (n : ℕ) (firing : Firing) where
-  named_own : is_seen account registry life firing ≡ true → is_named registry (entry_of registry account life n) firing ≡ true
+  named_own : is_seen account registry life firing ≡ true
+      → is_named registry (entry_of registry account life n) firing ≡ true
   unfolding is_seen is_named
   named_own h =
       let a = and_parts _ _ h in
@@ -436,7 +458,8 @@ one_named registry writes firing lives is seat =
 -- a seat after a firing reached its session, which didn't see it
 unseen_present : (registry : Registry) (session : Session) (firing : Firing) (served : Option Served)
     → is_seen session.account registry (life_in registry session) firing ≡ false
-    → IsPresent registry (Some session) served → IsPresent registry (Some (reached session (firing_made firing))) served
+    → IsPresent registry (Some session) served
+    → IsPresent registry (Some (reached session (firing_made firing))) served
 unseen_present registry session firing None unseen h = h
 unseen_present registry session firing (Some served) unseen h = rw unseen h
 
@@ -452,7 +475,8 @@ module _ (registry : Registry) where
         cond_case : (session : Session) → place.present ≡ Some session → (named : Bool)
             → option_map_or (λ life. life == length place.earlier) (option_and_then
             (λ one. cond (is_named registry one firing) (Some one.life) None) entry) false ≡ named
-            → IsHeld registry (cond named place (record place { present = Some (reached session (firing_made firing)) })) held
+            → IsHeld registry (cond named place
+            (record place { present = Some (reached session (firing_made firing)) })) held
         cond_case session is true named = h
         cond_case session is false named =
             let entered = rw is at sound in
@@ -485,7 +509,8 @@ module _ (registry : Registry) where
         → (seat : ℕ) → from ≤ seat → seat < from + count → is_none (due seat) ≡ true
     all_done due from zero h seat low high = absurd (omega arith)
     all_done due from (suc count) h seat low high =
-        let parts = and_parts (is_none (due from)) (list_all (λ s. is_none (due s)) (range_with_len (from + 1) count)) h in
+        let parts = and_parts (is_none (due from))
+        (list_all (λ s. is_none (due s)) (range_with_len (from + 1) count)) h in
         ⊎_elim
         (λ (same : from ≡ seat). subst (λ s. is_none (due s) ≡ true) same parts.0)
         (λ (other : from ≡ seat → ⊥).
@@ -502,7 +527,8 @@ module _ (registry : Registry) where
     no_due_left looked seat h = ap (option_map (λ life. record { life = life; firing = looked.firing })) h
 
     no_life : (life : Option ℕ) (firing : Firing)
-        → is_none {T = Due} (option_map (λ (own : ℕ). record { life = own; firing = firing }) life) ≡ true → life ≡ None
+        → is_none {T = Due} (option_map (λ (own : ℕ). record { life = own; firing = firing }) life) ≡ true
+        → life ≡ None
     no_life None firing h = refl
     no_life (Some own) firing h = cc
 
@@ -514,7 +540,8 @@ module _ (registry : Registry) where
     unfolding is_done
     done_to cpu done seat =
         ⊎_elim
-        (λ (low : seat < SEATS). none_of (world.due cpu seat) (all_done (world.due cpu) 0 SEATS done seat (omega arith) (omega arith)))
+        (λ (low : seat < SEATS). none_of (world.due cpu seat)
+        (all_done (world.due cpu) 0 SEATS done seat (omega arith) (omega arith)))
         (λ (high : SEATS ≤ seat). sound.due cpu seat high)
         (cases_lt seat SEATS)
 
@@ -532,7 +559,8 @@ module _ (registry : Registry) where
         (cases_lt cpu (length processors)) in
         sym (and_left (nat_lt cpu registry.cpus) (is_done (world.due cpu)) far)
 
-    near : (cpu : ℕ) (looked : Option Looked) → slice_get processors cpu ≡ Some looked → nat_lt cpu registry.cpus ≡ true
+    near : (cpu : ℕ) (looked : Option Looked) → slice_get processors cpu ≡ Some looked
+        → nat_lt cpu registry.cpus ≡ true
     near cpu looked is =
         let cpus = kept.cpus in
         let low : cpu < length processors = slice_get_within processors cpu looked is in
@@ -550,7 +578,8 @@ module _ (registry : Registry) where
         → told ≡ (nat_lt cpu registry.cpus && is_done (world.due cpu))
     done-looked cpu looked true is tells =
         sym (and_from (nat_lt cpu registry.cpus) (is_done (world.due cpu)) (near cpu (Some looked) is)
-        (done_from cpu (λ seat. kept.due cpu seat ∙ ap (λ o. due_in o seat) is ∙ no_due_left looked seat (tells.0 refl seat))))
+        (done_from cpu (λ seat. kept.due cpu seat ∙ ap (λ o. due_in o seat) is
+        ∙ no_due_left looked seat (tells.0 refl seat))))
     done-looked cpu looked false is tells =
         let not_done : is_done (world.due cpu) ≡ false =
         false_from_ne_true (is_done (world.due cpu)) (λ done.
@@ -560,31 +589,36 @@ module _ (registry : Registry) where
         sym (and_right (nat_lt cpu registry.cpus) (is_done (world.due cpu)) not_done)
 
     -- Look
-    due_after : (cpu other seat : ℕ) (firing : Firing) (left : SeatMask) → cpu < registry.cpus
+    due_after : (cpu other seat : ℕ) (firing : Firing) (left : SeatMask) (looked : Option Looked) → cpu < registry.cpus
         → ((at : ℕ) → life_at left at ≡ mask_of registry world.writes firing at)
+        → ((at : ℕ) → due_in (Some looked) at
+        ≡ option_map (λ life. record { life = life; firing = firing }) (life_at left at))
         → cond (other == cpu) (option_map (λ life. record { life = life; firing = firing })
         (mask_of registry world.writes firing seat)) (world.due other seat)
-        ≡ due_in (slice_get (set processors cpu (Some (record { firing = firing; left = left }))) other) seat
-    due_after cpu other seat firing left low named =
+        ≡ due_in (slice_get (set processors cpu looked) other) seat
+    due_after cpu other seat firing left looked low named owes =
         let cpus = kept.cpus in
         get_set_at (λ o. cond (other == cpu) (option_map (λ life. record { life = life; firing = firing })
         (mask_of registry world.writes firing seat)) (world.due other seat) ≡ due_in o seat)
-        processors cpu other (Some (record { firing = firing; left = left })) (cpu == other) refl (omega arith)
+        processors cpu other looked (cpu == other) refl (omega arith)
         (λ same.
         let own : (other == cpu) ≡ true = eq-eqb other cpu (sym (eqb-true cpu other same)) in
-        rw own (ap (option_map (λ life. record { life = life; firing = firing })) (sym (named seat))))
+        rw own (ap (option_map (λ life. record { life = life; firing = firing })) (sym (named seat))
+        ∙ sym (owes seat)))
         (λ same.
         let own : (other == cpu) ≡ false = ne_eqb other cpu (λ e. eqb-false cpu other same (sym e)) in
         rw own (kept.due other seat))
 
-    pub kept-looking : (cpu : ℕ) (firing : Firing) (left : SeatMask) → (firing.cpu == cpu) ≡ true
+    pub kept-looking : (cpu : ℕ) (firing : Firing) (left : SeatMask) (looked : Option Looked)
+        → (firing.cpu == cpu) ≡ true
         → (nat_lt cpu registry.cpus && is_done (world.due cpu)) ≡ true
         → IsLook registry world.writes firing (life_at left)
-        → IsKept registry (looking registry world cpu firing) seats entries
-        (set processors cpu (Some (record { firing = firing; left = left })))
+        → ((at : ℕ) → due_in (Some looked) at
+        ≡ option_map (λ life. record { life = life; firing = firing }) (life_at left at))
+        → IsKept registry (looking registry world cpu firing) seats entries (set processors cpu looked)
         × IsLooked world (looking registry world cpu firing) (Some left)
     unfolding looking mask_of
-    kept-looking cpu firing left own enabled look =
+    kept-looking cpu firing left looked own enabled look owes =
         let parts = and_parts (nat_lt cpu registry.cpus) (is_done (world.due cpu)) enabled in
         let named = one_named registry world.writes firing (life_at left) look in
         let may : (nat_lt cpu registry.cpus && (firing.cpu == cpu && is_done (world.due cpu))) ≡ true =
@@ -595,11 +629,13 @@ module _ (registry : Registry) where
             held = λ seat. held_each seats world.places
                 (λ at. passed firing (mask_of registry world.writes firing at) (world.places at)) seat
                 (slice_get seats seat) refl
-                (λ held h. passed_held seat (state world.writes seat) (world.places seat) held firing (sound.seats seat) h)
+                (λ held h. passed_held seat (state world.writes seat) (world.places seat) held firing
+                (sound.seats seat) h)
                 (kept.held seat);
             entered = kept.entered;
-            cpus = length-set processors cpu (Some (record { firing = firing; left = left })) ∙ kept.cpus;
-            due = λ other seat. due_after cpu other seat firing left (ltb-true cpu registry.cpus parts.0) named;
+            cpus = length-set processors cpu looked ∙ kept.cpus;
+            due = λ other seat. due_after cpu other seat firing left looked
+                (ltb-true cpu registry.cpus parts.0) named owes;
           },
           (mask_of registry world.writes firing, refl, named),
         )
@@ -620,7 +656,8 @@ module _ (registry : Registry) where
 
     -- Offer
     -- no offer is left to the seat
-    pub offering-none : (cpu seat : ℕ) → due_in (slice_get processors cpu) seat ≡ None → offering world cpu seat ≡ world
+    pub offering-none : (cpu seat : ℕ) → due_in (slice_get processors cpu) seat ≡ None
+        → offering world cpu seat ≡ world
     unfolding offering
     offering-none cpu seat none =
         let is : world.due cpu seat ≡ None = kept.due cpu seat ∙ none in rw is refl
@@ -637,7 +674,8 @@ module _ (registry : Registry) where
         → seen_in registry world cpu seat ≡ cond seen (Some due.firing) None
     seen-offered cpu at seat held before due found is owes seen tells =
         let own : world.due cpu seat ≡ Some due = kept.due cpu seat ∙ ap (λ o. due_in o seat) is ∙ owes in
-        let told = tells (world.places seat) (held_at registry world seats entries processors kept at seat held found) in
+        let told = tells (world.places seat)
+        (held_at registry world seats entries processors kept at seat held found) in
         rw own (ap (λ b. cond b (Some due.firing) None) (sym told))
 
     due_taken : (cpu seat other at : ℕ) (before after : Looked) → slice_get processors cpu ≡ Some (Some before)
@@ -667,7 +705,8 @@ module _ (registry : Registry) where
     unfolding offering
     kept-offering cpu at seat held after before left due found is owes taken delivers =
         let own : world.due cpu seat ≡ Some due = kept.due cpu seat ∙ ap (λ o. due_in o seat) is ∙ owes in
-        let h = delivers (world.places seat) (held_at registry world seats entries processors kept at seat held found) in
+        let h = delivers (world.places seat)
+        (held_at registry world seats entries processors kept at seat held found) in
         rw own (record {
           all = length-set seats at after ∙ kept.all;
           held = kept_seat registry world seats entries processors kept at seat held found world.places

@@ -1,6 +1,8 @@
 -- One text, one step line.
 use Rattle.std.proofs.Common.{◌≡◌, ℕ, List, decimal, drop, get_or, sym, ap, ◌∙◌, arith}
-use Rattle.dt_world.specs.StepLine.{StepLineForm, open_line, close_line, withdraw_line, ask_line, publish_line, finish_line, look_line, offer_line, call_line, fire_line, IsWritable, SpellsStepLine, spelling}
+use Rattle.dt_world.specs.StepLine.{StepLineForm, open_line, close_line, withdraw_line, ask_line, publish_line}
+use Rattle.dt_world.specs.StepLine.{finish_line, look_line, offer_line, call_line, fire_line, IsWritable}
+use Rattle.dt_world.specs.StepLine.{SpellsStepLine, spelling}
 use Rattle.dt_world.proofs.Behind.{same_parts}
 use Rattle.dt_world.proofs.Decimals.{one_number}
 

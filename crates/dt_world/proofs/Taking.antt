@@ -1,5 +1,6 @@
 -- What each step answers, and how many sessions there are after it.
-use Rattle.std.proofs.Common.{◌≡◌, ℕ, ◌+◌, ◌≤◌, ◌&&◌, ◌==◌, true, false, cond, List, [], ◌∷◌, ◌++◌, Option, Some, None, is_none, nat_lt, length, fold, Vec, Global, option_map, refl, sym, subst, arith}
+use Rattle.std.proofs.Common.{◌≡◌, ℕ, ◌+◌, ◌≤◌, ◌&&◌, ◌==◌, true, false, cond, List, [], ◌∷◌, ◌++◌, Option, Some, None}
+use Rattle.std.proofs.Common.{is_none, nat_lt, length, fold, Vec, Global, option_map, refl, sym, subst, arith}
 use Rattle.std.proofs.lemmas.Bool.{cond_both}
 use Rattle.std.specs.Option.{option_map_or}
 use Rattle.dt_machine.specs.Registry.{Registry}
@@ -11,10 +12,14 @@ use Rattle.dt_proto.specs.Lines.{LineForm}
 use Rattle.dt_proto.specs.Session.{session_account}
 use Rattle.dt_world.specs.Ran.{Told, IsReply, AreReplies, AreMasks, HasTold}
 use Rattle.dt_world.specs.Stands.{IsAnswered, IsLooked}
-use Rattle.dt_world.specs.Steps.{Act, opens, asks, publishes, finishes, withdraws, looks, offers, closes, happens, world_after, with_session, answering, opening, asking, publishing, publishing_of, finishing, withdrawing, passed, looking_at, looking, is_done, offered, offering, closing}
+use Rattle.dt_world.specs.Steps.{Act, opens, asks, publishes, finishes, withdraws, looks, offers, closes, happens}
+use Rattle.dt_world.specs.Steps.{world_after, with_session, answering, opening, asking, publishing, publishing_of}
+use Rattle.dt_world.specs.Steps.{finishing, withdrawing, passed, looking_at, looking, is_done, offered, offering}
+use Rattle.dt_world.specs.Steps.{closing}
 use Rattle.dt_world.specs.Telling.{IsTelling}
 use Rattle.dt_world.specs.Tests.{mask_of}
-use Rattle.dt_world.specs.World.{World, Place, Due, Question, start, number_on, new_session, answered, waiting, may_ask, begins, may_withdraw}
+use Rattle.dt_world.specs.World.{World, Place, Due, Question, start, number_on, new_session, answered, waiting}
+use Rattle.dt_world.specs.World.{may_ask, begins, may_withdraw}
 use Rattle.dt_world.specs.declared.outcome.Outcome.TheVariants.{Quiet, Replied, Looked}
 use Rattle.dt_world.proofs.Soundness.{updated, option_case}
 
@@ -163,14 +168,16 @@ module _ (registry : Registry) (world : World) where
   unfolding looking
   grows-looking cpu firing =
       cond_both (nat_lt cpu registry.cpus && (firing.cpu == cpu && is_done (world.due cpu))) _ world Grows
-      (λ may seat. grows_passed seat (world.places seat) firing (mask_of registry world.writes firing seat) (grows_same seat))
+      (λ may seat. grows_passed seat (world.places seat) firing (mask_of registry world.writes firing seat)
+      (grows_same seat))
       (λ no. grows_same)
 
   grows-offering : (cpu seat : ℕ) → Grows (offering world cpu seat)
   unfolding offering
   grows-offering cpu seat =
       option_case Grows _ world (world.due cpu seat) grows_same (λ due is.
-      grows_place seat (offered due (world.places seat)) (grows_offered seat (world.places seat) due (grows_same seat)))
+      grows_place seat (offered due (world.places seat))
+      (grows_offered seat (world.places seat) due (grows_same seat)))
 
   grows-closing : (seat : ℕ) → Grows (closing world seat)
   unfolding closing

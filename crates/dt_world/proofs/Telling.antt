@@ -1,5 +1,6 @@
 -- The trail of a session, after one thing more.
-use Rattle.std.proofs.Common.{◌≡◌, ℕ, ◌++◌, Bool, true, false, List, [], ◌∷◌, codes, MatchBool, append_assoc, subst, refl, sym, ap, ◌∙◌, inl, inr}
+use Rattle.std.proofs.Common.{◌≡◌, ℕ, ◌++◌, Bool, true, false, List, [], ◌∷◌, codes, MatchBool, append_assoc, subst}
+use Rattle.std.proofs.Common.{refl, sym, ap, ◌∙◌, inl, inr}
 use Rattle.std.proofs.lemmas.Bool.{both_ways}
 use Rattle.std.proofs.lemmas.List.{append-nil}
 use Rattle.std.proofs.lemmas.Grind.{flat_map-append}
@@ -15,7 +16,8 @@ use Rattle.dt_proto.specs.Line.{ask_in}
 use Rattle.dt_proto.specs.Lines.{LineForm, short_line, long_line}
 use Rattle.dt_proto.specs.Reply.{reply_text}
 use Rattle.dt_proto.specs.Splits.{with_newline}
-use Rattle.dt_proto.specs.Trail.{Entry, line_asked, long_asked, fired_at, entry_text, IsEntryOf, IsTrailOf, IsTold as IsTrailOfLine, trail_text}
+use Rattle.dt_proto.specs.Trail.{Entry, line_asked, long_asked, fired_at, entry_text, IsEntryOf, IsTrailOf}
+use Rattle.dt_proto.specs.Trail.{IsTold as IsTrailOfLine, trail_text}
 use Rattle.dt_proto.proofs.Entries.{reply_line_of}
 use Rattle.dt_world.specs.Ran.{IsText}
 use Rattle.dt_world.specs.Told.{line_told, answer_told}
@@ -83,7 +85,8 @@ module _ (account : Account) (registry : Registry) (view : List Reached) where
       (answer, entry, replies, is_entry line answer reply.0 reply.1, refl) in (
         told.0 ++ entry ∷ [],
         (life, told.0, entry ∷ [], is_life account registry view, told.1, new, refl),
-        rw (told.2) (ap (λ more. trail_text account.name told.0 ++ more) (sym (text_of_entry line answer reply.0 reply.1))
+        rw (told.2) (ap (λ more. trail_text account.name told.0 ++ more)
+            (sym (text_of_entry line answer reply.0 reply.1))
             ∙ sym (trail_text-append account.name told.0 (entry ∷ []))),
       )
 
@@ -129,7 +132,11 @@ module _ (account : Account) (registry : Registry) (view : List Reached) where
           [],
           is_life account registry view,
           told.1,
-          inr (λ sees. both_ways (is_seen account registry life firing) unseen (seen_to account registry life firing sees), refl),
+          inr (
+            λ sees. both_ways (is_seen account registry life firing) unseen
+                (seen_to account registry life firing sees),
+            refl,
+          ),
           sym (append-nil told.0),
         ),
         told.2,

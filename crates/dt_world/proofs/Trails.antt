@@ -1,8 +1,10 @@
 -- What is told of a world, after each step.
-use Rattle.std.proofs.Common.{◌≡◌, ℕ, ◌++◌, ◌==◌, ◌&&◌, Bool, true, false, cond, List, [], ◌∷◌, codes, Option, Some, None, is_none, is_some, nat_lt, length, ◌⊎◌, ⊎_elim, inl, inr, refl, sym, ap, ◌∙◌, subst, arith}
+use Rattle.std.proofs.Common.{◌≡◌, ℕ, ◌++◌, ◌==◌, ◌&&◌, Bool, true, false, cond, List, [], ◌∷◌, codes, Option, Some}
+use Rattle.std.proofs.Common.{None, is_none, is_some, nat_lt, length, ◌⊎◌, ⊎_elim, inl, inr, refl, sym, ap, ◌∙◌, subst}
+use Rattle.std.proofs.Common.{arith}
 use Rattle.std.proofs.lemmas.Bool.{eqb-true, eq-eqb, and_parts, cond_both}
 use Rattle.std.proofs.lemmas.List.{append-nil, length-append, append_cancel_left}
-use Rattle.std.specs.Option.{option_map_or, option_and_then}
+use Rattle.std.specs.Option.{option_map, option_map_or, option_and_then}
 use Rattle.dt_cred.specs.declared.account.Account.{Account}
 use Rattle.dt_machine.specs.Registry.{Registry}
 use Rattle.dt_machine.specs.declared.firing.Firing.{Firing}
@@ -15,15 +17,19 @@ use Rattle.dt_proto.specs.Splits.{with_newline}
 use Rattle.dt_proto.specs.Trail.{fired_at, entry_text}
 use Rattle.dt_world.specs.Ran.{IsText}
 use Rattle.dt_world.specs.Replay.{IsTrailText, told_line}
-use Rattle.dt_world.specs.Stands.{IsAnswered, first_account, sees_on, seen_in}
-use Rattle.dt_world.specs.Steps.{with_session, question_of, answering, opening, asking, finishing, offered, offering, offering_of, looking, looking_at, is_done}
+use Rattle.dt_world.specs.Stands.{IsAnswered, first_account, place_of, sees_on, seen_in}
+use Rattle.dt_world.specs.Steps.{with_session, question_of, answering, opening, asking, finishing, offered, offering}
+use Rattle.dt_world.specs.Steps.{offering_of, looking, looking_at, is_done}
 use Rattle.dt_world.specs.Sound.{IsSound}
 use Rattle.dt_world.specs.Tests.{mask_of}
 use Rattle.dt_world.specs.Told.{IsTold, IsToldText, opening_text, reply_told, answer_told, firing_told}
-use Rattle.dt_world.specs.World.{World, Session, Pending, Place, Due, Question, life_in, session_of, new_session, answered, waiting, may_ask, begins, numbered}
-use Rattle.dt_world.specs.declared.told.Wanted.{Wanted}
-use Rattle.dt_world.specs.declared.told.Wanted.TheVariants as wanted
-use Rattle.dt_world.proofs.Firsts.{first_on, seen_as, text-same, first-same, first-answered, offered-seen, offered-unseen, passed-trail}
+use Rattle.dt_world.specs.World.{World, Session, Pending, Place, Due, Question, life_in, session_of, new_session}
+use Rattle.dt_world.specs.World.{answered, waiting, may_ask, begins, numbered}
+use Rattle.dt_world.specs.declared.looked.ScriptPlace.{ScriptPlace}
+use Rattle.dt_world.specs.declared.output.Wanted.{Wanted}
+use Rattle.dt_world.specs.declared.output.Wanted.TheVariants as wanted
+use Rattle.dt_world.proofs.Firsts.{first_on, seen_as, text-same, first-same, first-answered, offered-seen}
+use Rattle.dt_world.proofs.Firsts.{offered-unseen, passed-trail}
 use Rattle.dt_world.proofs.Looks.{looking_keeps}
 use Rattle.dt_world.proofs.Replying.{told-one_more}
 use Rattle.dt_world.proofs.Silences.{either, SameViews, same_views, opening_silent, offering_silent}
@@ -51,7 +57,8 @@ module _ (registry : Registry) (world : World) where
   -- A step that answers nothing and brings nothing to a session.
   pub told-silent : (wanted : Wanted) (later : World) (text : List ℕ) → later.questions ≡ world.questions
       → SameViews world later → IsTold wanted registry world text → IsTold wanted registry later text
-  told-silent wanted.Replies later text same views told = subst (λ questions. IsToldText registry questions text) (sym same) told
+  told-silent wanted.Replies later text same views told =
+      subst (λ questions. IsToldText registry questions text) (sym same) told
   told-silent (wanted.Trail own) later text same views told =
       text-same registry (session_of world own 0) (session_of later own 0) text (views own) told
 
@@ -63,7 +70,8 @@ module _ (registry : Registry) (world : World) where
   changed_at own at place text more does h = by_seat (at == own) refl where
     by_seat : (b : Bool) → (at == own) ≡ b
         → IsTrailText registry (first_on (cond b place (world.places own))) (text ++ cond b more [])
-    by_seat true is = does (subst (λ n. IsTrailText registry (first_on (world.places n)) text) (sym (eqb-true at own is)) h)
+    by_seat true is = does (subst (λ n. IsTrailText registry (first_on (world.places n)) text)
+        (sym (eqb-true at own is)) h)
     by_seat false is = rw (append-nil text) h
 
   -- where nothing more is told
@@ -73,7 +81,8 @@ module _ (registry : Registry) (world : World) where
       → IsTrailText registry (first_on (cond (at == own) place (world.places own))) text
   changed_to own at place text does h = by_seat (at == own) refl where
     by_seat : (b : Bool) → (at == own) ≡ b → IsTrailText registry (first_on (cond b place (world.places own))) text
-    by_seat true is = does (subst (λ n. IsTrailText registry (first_on (world.places n)) text) (sym (eqb-true at own is)) h)
+    by_seat true is = does (subst (λ n. IsTrailText registry (first_on (world.places n)) text)
+        (sym (eqb-true at own is)) h)
     by_seat false is = h
 
   -- An answer, and it is told.
@@ -90,7 +99,8 @@ module _ (registry : Registry) (world : World) where
       (text ++ reply_told wanted at (is_some (first_account (world.places at))) line reply over)
   told-answered wanted.Replies later at line reply over text a full told =
       subst (λ (w : World). IsToldText registry w.questions (text ++ told_line (at, reply))) (sym a.is)
-      (told-one_more registry world.questions text (text ++ told_line (at, reply)) (question_of world at a.session line)
+      (told-one_more registry world.questions text (text ++ told_line (at, reply))
+      (question_of world at a.session line)
       (at, reply) told (refl, a.text) refl)
   told-answered (wanted.Trail own) later at line reply over text a full told =
       let first = is_some (first_account (world.places at)) in
@@ -115,9 +125,13 @@ module _ (registry : Registry) (world : World) where
     begun_case : (session : Session) (go : Bool) → (world.places at).present ≡ Some session
         → (cond go (with_session world at (waiting session line false)) (answering world at session line)).questions
         ≡ world.questions
-        → SameViews world (cond go (with_session world at (waiting session line false)) (answering world at session line))
+        → SameViews world (cond go (with_session world at (waiting session line false))
+        (answering world at session line))
     begun_case session true is same =
-        same_views world at (record { present = Some (waiting session line false); earlier = (world.places at).earlier })
+        same_views world at (record {
+          present = Some (waiting session line false);
+          earlier = (world.places at).earlier;
+        })
         (first-same (world.places at) session is (waiting session line false) refl refl)
     begun_case session false is same = absurd (no_more world.questions (question_of world at session line) same)
 
@@ -128,9 +142,11 @@ module _ (registry : Registry) (world : World) where
     may_case session false is same = λ seat. refl
 
     asked_case : (present : Option Session) → (world.places at).present ≡ present
-        → (option_map_or (λ session. cond (may_ask registry session) (begun at line session) world) present world).questions
+        → (option_map_or (λ session. cond (may_ask registry session) (begun at line session) world) present
+        world).questions
         ≡ world.questions
-        → SameViews world (option_map_or (λ session. cond (may_ask registry session) (begun at line session) world) present world)
+        → SameViews world (option_map_or (λ session. cond (may_ask registry session) (begun at line session) world)
+        present world)
     asked_case None is same = λ seat. refl
     asked_case (Some session) is same = may_case session (may_ask registry session) is same
 
@@ -150,8 +166,10 @@ module _ (registry : Registry) (world : World) where
   unfolding asking
   asking-answers at line reply h = asked_case (world.places at).present refl h where
     begun_case : (session : Session) (go : Bool) → (world.places at).present ≡ Some session
-        → IsAnswered registry world (cond go (with_session world at (waiting session line false)) (answering world at session line)) at (Some reply)
-        → Answers (cond go (with_session world at (waiting session line false)) (answering world at session line)) at line reply
+        → IsAnswered registry world (cond go (with_session world at (waiting session line false))
+        (answering world at session line)) at (Some reply)
+        → Answers (cond go (with_session world at (waiting session line false)) (answering world at session line))
+        at line reply
     begun_case session true is a = absurd (no_more world.questions a.0 (sym a.1))
     begun_case session false is a = record {
       session = session;
@@ -168,8 +186,10 @@ module _ (registry : Registry) (world : World) where
 
     asked_case : (present : Option Session) → (world.places at).present ≡ present
         → IsAnswered registry world
-        (option_map_or (λ session. cond (may_ask registry session) (begun at line session) world) present world) at (Some reply)
-        → Answers (option_map_or (λ session. cond (may_ask registry session) (begun at line session) world) present world) at line reply
+        (option_map_or (λ session. cond (may_ask registry session) (begun at line session) world) present world) at
+        (Some reply)
+        → Answers (option_map_or (λ session. cond (may_ask registry session) (begun at line session) world) present
+        world) at line reply
     asked_case None is a = absurd (no_more world.questions a.0 (sym a.1))
     asked_case (Some session) is a = may_case session (may_ask registry session) is a
 
@@ -209,16 +229,19 @@ module _ (registry : Registry) (world : World) where
         → IsAnswered registry world
         (option_map_or (λ pending. cond pending.published (answering world at session pending.line) world) go world)
         at (Some reply)
-        → Finishes (option_map_or (λ pending. cond pending.published (answering world at session pending.line) world) go world) at reply
+        → Finishes (option_map_or (λ pending. cond pending.published (answering world at session pending.line) world)
+        go world) at reply
     go_case session None is go a = absurd (no_more world.questions a.0 (sym a.1))
     go_case session (Some pending) is go a = published_case session pending pending.published is go a
 
     finished_case : (present : Option Session) → (world.places at).present ≡ present
         → IsAnswered registry world (option_map_or (λ session. option_map_or
-        (λ pending. cond pending.published (answering world at session pending.line) world) session.go world) present world)
+        (λ pending. cond pending.published (answering world at session pending.line) world) session.go world)
+        present world)
         at (Some reply)
         → Finishes (option_map_or (λ session. option_map_or
-        (λ pending. cond pending.published (answering world at session pending.line) world) session.go world) present world) at reply
+        (λ pending. cond pending.published (answering world at session pending.line) world) session.go world) present
+        world) at reply
     finished_case None is a = absurd (no_more world.questions a.0 (sym a.1))
     finished_case (Some session) is a = go_case session session.go is refl a
 
@@ -260,7 +283,8 @@ module _ (registry : Registry) (world : World) where
   unfolding opening
   opening_cases at name =
       free_case (nat_lt at SEATS && is_none (world.places at).present) (session_account registry name) refl where
-        free_case : (free : Bool) (account : Option Account) → (nat_lt at SEATS && is_none (world.places at).present) ≡ free
+        free_case : (free : Bool) (account : Option Account)
+            → (nat_lt at SEATS && is_none (world.places at).present) ≡ free
             → (cond free (option_map_or (λ own. with_session world at (new_session own)) account world) world ≡ world)
             ⊎ Opens (cond free (option_map_or (λ own. with_session world at (new_session own)) account world) world) at
         free_case false account is = inl refl
@@ -268,7 +292,8 @@ module _ (registry : Registry) (world : World) where
         free_case true (Some own) is =
             inr (record {
               account = own;
-              free = none_is (world.places at).present (and_parts (nat_lt at SEATS) (is_none (world.places at).present) is).1;
+              free = none_is (world.places at).present
+                  (and_parts (nat_lt at SEATS) (is_none (world.places at).present) is).1;
               is = refl;
             })
 
@@ -276,7 +301,8 @@ module _ (registry : Registry) (world : World) where
   abbrev opened_on : (at : ℕ) → Account → Place
   opened_on at account = record { present = Some (new_session account); earlier = (world.places at).earlier }
 
-  free_first : (at : ℕ) → (world.places at).present ≡ None → first_on (world.places at) ≡ numbered (world.places at).earlier 0
+  free_first : (at : ℕ) → (world.places at).present ≡ None → first_on (world.places at)
+      ≡ numbered (world.places at).earlier 0
   free_first at free = rw free refl
 
   here_is : (at : ℕ) (later : World) → (opens : Opens later at)
@@ -288,7 +314,8 @@ module _ (registry : Registry) (world : World) where
   -- the first session on a seat was opened
   opened_first : (at : ℕ) (account : Account) (later : World) (text : List ℕ) → (opens : Opens later at)
       → first_account (later.places at) ≡ Some account → IsTrailText registry (first_on (world.places at)) text
-      → IsTrailText registry (first_on (opened_on at opens.account)) (text ++ with_newline (codes "account " ++ account.name))
+      → IsTrailText registry (first_on (opened_on at opens.account))
+      (text ++ with_newline (codes "account " ++ account.name))
   opened_first at account later text opens first h =
       by_number (length (world.places at).earlier == 0) refl (sym (here_is at later opens) ∙ first) where
         by_number : (b : Bool) → (length (world.places at).earlier == 0) ≡ b
@@ -314,12 +341,15 @@ module _ (registry : Registry) (world : World) where
   told-opened (wanted.Trail own) at name account text none first told =
       ⊎_elim
       (λ same.
-      let bad : None ≡ Some account = sym none ∙ ap (λ (w : World). first_account (w.places at)) (sym same) ∙ first in cc)
+      let bad : None ≡ Some account = sym none ∙ ap (λ (w : World). first_account (w.places at)) (sym same)
+      ∙ first in cc)
       (λ opens.
       let more = with_newline (codes "account " ++ account.name) in
-      subst (λ (w : World). IsTrailText registry (session_of w own 0) (text ++ opening_text (wanted.Trail own) at account))
+      subst (λ (w : World). IsTrailText registry (session_of w own 0)
+      (text ++ opening_text (wanted.Trail own) at account))
       (sym opens.is)
-      (subst (λ own_more. IsTrailText registry (first_on (cond (at == own) (opened_on at opens.account) (world.places own))) (text ++ own_more))
+      (subst (λ own_more. IsTrailText registry
+      (first_on (cond (at == own) (opened_on at opens.account) (world.places own))) (text ++ own_more))
       (sym (cond_and (at == own) true more []))
       (changed_at own at (opened_on at opens.account) text more
       (opened_first at account (opening registry world at name) text opens first) told)))
@@ -348,7 +378,8 @@ module _ (registry : Registry) (world : World) where
       (λ same. subst (λ w. IsTold wanted registry w text) (sym same) told)
       (λ opens.
       told-silent wanted (opening registry world at name) text (opening_silent world registry at name)
-      (⊎_elim (later_views at (opening registry world at name) opens) (λ there. absurd (not_there opens there)) why) told)
+      (⊎_elim (later_views at (opening registry world at name) opens) (λ there. absurd (not_there opens there)) why)
+      told)
       (opening_cases at name) where
         not_there : Opens (opening registry world at name) at → is_some (first_account (world.places at)) ≡ true → ⊥
         not_there opens there =
@@ -361,7 +392,8 @@ module _ (registry : Registry) (world : World) where
       → IsTrailText registry (first_on (offered due (world.places at))) (text ++ more))
       → IsTrailText registry (session_of world own 0) text
       → IsTrailText registry (session_of (offering_of world cpu at due) own 0) (text ++ cond (at == own) more [])
-  offered_case own cpu at text more due does told = changed_at own at (offered due (world.places at)) text more does told
+  offered_case own cpu at text more due does told =
+      changed_at own at (offered due (world.places at)) text more does told
 
   abbrev brings : (at : ℕ) → Due → Option Firing
   brings at due = cond (sees_on registry due (world.places at)) (Some due.firing) None
@@ -369,7 +401,7 @@ module _ (registry : Registry) (world : World) where
   pub told-seen : (wanted : Wanted) (cpu at : ℕ) (firing : Firing) (text : List ℕ)
       → Some firing ≡ seen_in registry world cpu at → IsTold wanted registry world text
       → IsTold wanted registry (offering world cpu at)
-      (text ++ firing_told wanted at (is_some (first_account (world.places at))) firing)
+      (text ++ firing_told wanted at (is_some (first_account (world.places at))) firing.cpu firing.place)
   unfolding offering
   told-seen wanted.Replies cpu at firing text seen told =
       rw (append-nil text) (subst (λ questions. IsToldText registry questions text)
@@ -379,7 +411,8 @@ module _ (registry : Registry) (world : World) where
         sees_case : (due : Due) (sees : Bool) → sees_on registry due (world.places at) ≡ sees
             → Some firing ≡ cond sees (Some due.firing) None
             → IsTrailText registry (session_of (offering_of world cpu at due) own 0)
-            (text ++ firing_told (wanted.Trail own) at (is_some (first_account (world.places at))) firing)
+            (text ++ firing_told (wanted.Trail own) at (is_some (first_account (world.places at))) firing.cpu
+            firing.place)
         sees_case due true is seen =
             let one : firing ≡ due.firing = cc in
             let entry = entry_text (fired_at due.firing.cpu due.firing.place) in
@@ -390,9 +423,24 @@ module _ (registry : Registry) (world : World) where
 
         due_case : (due : Option Due) → Some firing ≡ option_and_then (brings at) due
             → IsTrailText registry (session_of (option_map_or (λ one. offering_of world cpu at one) due world) own 0)
-            (text ++ firing_told (wanted.Trail own) at (is_some (first_account (world.places at))) firing)
+            (text ++ firing_told (wanted.Trail own) at (is_some (first_account (world.places at))) firing.cpu
+            firing.place)
         due_case None seen = cc
         due_case (Some due) seen = sees_case due (sees_on registry due (world.places at)) refl seen
+
+  -- the same by where the firing stands
+  pub told-seen-at : (wanted : Wanted) (cpu at : ℕ) (place : ScriptPlace) (text : List ℕ)
+      → Some place ≡ option_map place_of (seen_in registry world cpu at) → IsTold wanted registry world text
+      → IsTold wanted registry (offering world cpu at)
+      (text ++ firing_told wanted at (is_some (first_account (world.places at))) place.cpu place.place)
+  told-seen-at wanted cpu at place text seen told = by_seen (seen_in registry world cpu at) refl seen where
+    by_seen : (seen : Option Firing) → seen_in registry world cpu at ≡ seen → Some place ≡ option_map place_of seen
+        → IsTold wanted registry (offering world cpu at)
+        (text ++ firing_told wanted at (is_some (first_account (world.places at))) place.cpu place.place)
+    by_seen None is e = cc
+    by_seen (Some firing) is e =
+        let one : place ≡ place_of firing = cc in
+        rw one (told-seen wanted cpu at firing text (sym is) told)
 
   pub told-unseen : (wanted : Wanted) (cpu at : ℕ) (text : List ℕ)
       → None ≡ seen_in registry world cpu at → IsTold wanted registry world text
@@ -407,12 +455,23 @@ module _ (registry : Registry) (world : World) where
             → IsTrailText registry (session_of (offering_of world cpu at due) own 0) text
         sees_case due true is seen = cc
         sees_case due false is seen =
-            changed_to own at (offered due (world.places at)) text (offered-unseen registry due (world.places at) text is) told
+            changed_to own at (offered due (world.places at)) text
+            (offered-unseen registry due (world.places at) text is) told
 
         due_case : (due : Option Due) → None ≡ option_and_then (brings at) due
-            → IsTrailText registry (session_of (option_map_or (λ one. offering_of world cpu at one) due world) own 0) text
+            → IsTrailText registry (session_of (option_map_or (λ one. offering_of world cpu at one) due world) own 0)
+            text
         due_case None seen = told
         due_case (Some due) seen = sees_case due (sees_on registry due (world.places at)) refl seen
+
+  pub told-unseen-at : (wanted : Wanted) (cpu at : ℕ) (text : List ℕ)
+      → option_map place_of (seen_in registry world cpu at) ≡ None → IsTold wanted registry world text
+      → IsTold wanted registry (offering world cpu at) text
+  told-unseen-at wanted cpu at text unseen told = by_seen (seen_in registry world cpu at) refl unseen where
+    by_seen : (seen : Option Firing) → seen_in registry world cpu at ≡ seen
+        → option_map place_of seen ≡ None → IsTold wanted registry (offering world cpu at) text
+    by_seen None is e = told-unseen wanted cpu at text (sym is) told
+    by_seen (Some firing) is e = cc
 
   -- Look
   pub told-looked : (wanted : Wanted) (cpu : ℕ) (firing : Firing) (text : List ℕ) → IsSound registry world

@@ -13,15 +13,15 @@ use Rattle.dt_world.specs.Steps.{looking}
 use Rattle.dt_world.specs.Told.{IsTold}
 use Rattle.dt_world.specs.World.{World}
 use Rattle.dt_world.specs.declared.progress.Progress.{Progress}
-use Rattle.dt_world.specs.declared.told.Wanted.{Wanted}
+use Rattle.dt_world.specs.declared.output.Wanted.{Wanted}
 
 -- What is kept is that of where the replay stands: the seats with their consumers, how many firings of each script
 -- were taken, and what is to be written, as it is wanted.
 pub record IsAfter (wanted : Wanted) (contents : Contents) (now : Replayed) (progress : Progress) : Type 0 where
   pub at : IsAt contents.registry now.world progress.engine
   pub taken : (cpu : ℕ) → cpu < CPUS_MAX → slice_index progress.taken cpu ≡ now.taken cpu
-  pub same : progress.told.wanted ≡ wanted
-  pub told : IsTold wanted contents.registry now.world progress.told.text.items
+  pub same : progress.output.wanted ≡ wanted
+  pub told : IsTold wanted contents.registry now.world progress.output.text.items
 
 -- a replay with another world
 abbrev pub with_world : Replayed → World → Replayed

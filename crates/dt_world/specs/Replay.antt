@@ -34,9 +34,9 @@ has_closed registry place =
 unfoldable pub seats_due : World → (cpu : ℕ) → List ℕ
 seats_due world cpu = filter (λ seat. is_some (world.due cpu seat)) (range_with_len 0 SEATS)
 
--- what a `call` does behind its ask: a pending `go` is published and finished; an accepted `close` ends the session
-abbrev pub behind_ask : Registry → World → (seat : ℕ) → List Act
-behind_ask registry world seat =
+-- what a `call` does after its ask: a pending `go` is published and finished; an accepted `close` ends the session
+abbrev pub after_ask : Registry → World → (seat : ℕ) → List Act
+after_ask registry world seat =
     if waits (world.places seat) then publishes seat ∷ finishes seat ∷ []
     else if has_closed registry (world.places seat) then withdraws seat ∷ closes seat ∷ [] else []
 
@@ -61,7 +61,7 @@ module _ (contents : Contents) where
   acts_of now (look_line cpu) = option_map_or (λ firing. looks cpu firing ∷ []) (next_of now cpu) []
   acts_of now (offer_line cpu seat) = offers cpu seat ∷ []
   acts_of now (call_line seat line) = asks seat (form_of line)
-      ∷ behind_ask contents.registry (asking contents.registry now.world seat (form_of line)) seat
+      ∷ after_ask contents.registry (asking contents.registry now.world seat (form_of line)) seat
   acts_of now (fire_line cpu) = option_map_or (firing_acts contents.registry now.world cpu) (next_of now cpu) []
 
   -- the line takes a firing of this processor's script

@@ -25,6 +25,7 @@ use Rattle.dt_world.specs.World.{World, Session, Place, Pending, Due, Question, 
 use Rattle.dt_world.specs.declared.engine.Engine.{Engine}
 use Rattle.dt_world.specs.declared.held.Held.{Held}
 use Rattle.dt_world.specs.declared.looked.Looked.{Looked}
+use Rattle.dt_world.specs.declared.looked.ScriptPlace.{ScriptPlace}
 use Rattle.dt_world.specs.declared.served.Served.{Served}
 use Rattle.dt_world.specs.declared.served.Waiting.{Waiting}
 
@@ -48,6 +49,10 @@ closed_on place = option_map_or
 abbrev pub first_account : Place → Option Account
 first_account place = option_and_then
     (λ session. if length place.earlier == 0 then Some session.account else None) place.present
+
+-- where a firing stands in the scripts
+abbrev pub place_of : Firing → ScriptPlace
+place_of firing = record { cpu = firing.cpu; place = firing.place }
 
 -- what a processor owes to a seat of what it looked for
 abbrev pub due_of : Looked → (seat : ℕ) → Option Due

@@ -3,16 +3,15 @@ use Rattle.std.specs.Prelude.{◌≡◌, ℕ, ◌++◌, ◌==◌, ◌&&◌, Bool
 use Rattle.std.specs.List.{flat_map}
 use Rattle.dt_cred.specs.declared.account.Account.{Account}
 use Rattle.dt_machine.specs.Registry.{Registry, Contents}
-use Rattle.dt_machine.specs.declared.firing.Firing.{Firing}
 use Rattle.dt_proto.specs.Lines.{LineForm, short_line, long_line}
 use Rattle.dt_proto.specs.Splits.{with_newline}
 use Rattle.dt_proto.specs.Trail.{fired_at, entry_text}
 use Rattle.dt_world.specs.Ran.{Told as Reply, AreReplies}
 use Rattle.dt_world.specs.Replay.{IsReplay, IsTrailReplay, IsTrailText, told_line}
 use Rattle.dt_world.specs.World.{World, Question, session_of}
-use Rattle.dt_world.specs.declared.told.Told.{Told}
-use Rattle.dt_world.specs.declared.told.Wanted.{Wanted}
-use Rattle.dt_world.specs.declared.told.Wanted.TheVariants as wanted
+use Rattle.dt_world.specs.declared.output.Output.{Output}
+use Rattle.dt_world.specs.declared.output.Wanted.{Wanted}
+use Rattle.dt_world.specs.declared.output.Wanted.TheVariants as wanted
 
 -- what is written for an input, as it is wanted
 abbrev pub IsOutput : Wanted → Contents → (text output : List ℕ) → Type 0
@@ -56,11 +55,10 @@ reply_told (wanted.Trail own) seat first line reply over =
     if follows (wanted.Trail own) seat first then answer_told line reply over else []
 
 -- what is written for a firing that is seen
-abbrev pub firing_told : Wanted → (seat : ℕ) → (first : Bool) → Firing → List ℕ
-firing_told wanted seat first firing =
-    if follows wanted seat first then entry_text (fired_at firing.cpu firing.place) else []
+abbrev pub firing_told : Wanted → (seat : ℕ) → (first : Bool) → (cpu place : ℕ) → List ℕ
+firing_told wanted seat first cpu place = if follows wanted seat first then entry_text (fired_at cpu place) else []
 
 -- This was written in addition.
-pub record Tells (old new : Told) (more : List ℕ) : Type 0 where
+pub record Tells (old new : Output) (more : List ℕ) : Type 0 where
   pub wanted : new.wanted ≡ old.wanted
   pub text : new.text.items ≡ old.text.items ++ more

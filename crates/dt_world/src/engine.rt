@@ -3,11 +3,12 @@ ghost use Rattle.std.specs.Prelude.{◌≡◌, vec_len};
 ghost use Rattle.dt_chain.specs.declared.seat.TheConstants.{SEATS};
 
 use crate::held::{Held, free_seats};
-use crate::looked::{Looked, idle_processors};
+use crate::looked::{Looked, ScriptPlace, idle_processors};
 use crate::outcome::Outcome;
 use crate::served::{Answered, Finished};
 use crate::step::Step;
 use dt_chain::{Entries, SEATS, Seat, SeatMask};
+use dt_cred::Account;
 use dt_machine::{Firing, Machine};
 use dt_proto::WholeLine;
 use std::alloc::{AllocError, Global};
@@ -22,11 +23,12 @@ pub(crate) struct Engine {
 }
 
 impl Engine {
-    ghost use Rattle.std.specs.Prelude.{ℕ, ◌+◌, ◌<◌, ◌^◌, ◌&&◌, Some, IsTrue, IfOk, IfSome, OnOk, option_map, nat_lt};
+    ghost use Rattle.std.specs.Prelude.{ℕ, ◌+◌, ◌<◌, ◌^◌, ◌&&◌, Some, IsTrue, IfOk, IfSome, OnOk, is_some, option_map, nat_lt};
     ghost use Rattle.dt_machine.specs.Registry.{Registry};
     ghost use Rattle.dt_consumer.specs.Life.{is_over};
     ghost use Rattle.dt_proto.specs.Asked.{form_lent, form_asked};
-    ghost use Rattle.dt_world.specs.Stands.{IsAt, IsAnswered, IsLooked, seen_in};
+    ghost use Rattle.dt_world.specs.Stands.{IsAt, IsAnswered, IsLooked, first_account, place_of, seen_in};
+    ghost use Rattle.dt_world.specs.Replay as replay;
     ghost use Rattle.dt_world.specs.Steps as steps;
     ghost use Rattle.dt_world.specs.Telling.{IsTelling};
     ghost use Rattle.dt_world.specs.Steps.{act_of, happens, opening, asking, publishing, finishing, withdrawing, looking, offering, closing};
@@ -127,10 +129,7 @@ impl Engine {
             return None;
         }
         let mask = self.entries.look(machine, firing);
-        self.processors[cpu as usize] = Some(Looked {
-            firing: *firing,
-            left: mask,
-        });
+        self.processors[cpu as usize] = Looked::unless_empty(firing, &mask);
         Some(mask)
     }
 
@@ -147,18 +146,23 @@ impl Engine {
         }
     }
 
-    /// Offers the firing that a processor looked for to a seat. Answers the firing, where the session on the seat saw it.
-    pub(crate) fn offer(&mut self, machine: &Machine, cpu: u32, seat: Seat) -> Option<Firing>
+    /// Offers the firing that a processor looked for to a seat. Answers where the firing stands, where the session on the
+    /// seat saw it.
+    pub(crate) fn offer(&mut self, machine: &Machine, cpu: u32, seat: Seat) -> Option<ScriptPlace>
         ensures at { (world : World) → IsAt machine.now.registry world self.old
             → IsAt machine.now.registry (offering world cpu seat) self.new }
         ensures seen { (world : World) → IsAt machine.now.registry world self.old
-            → result ≡ seen_in machine.now.registry world cpu seat }
+            → result ≡ option_map place_of (seen_in machine.now.registry world cpu seat) }
     {
         if (cpu as usize) < self.processors.len() {
             if let Some(looked) = &mut self.processors[cpu as usize] {
-                if let Some((life, firing)) = looked.take(seat) {
-                    if self.seats[seat.number() as usize].deliver(machine, life, &firing) {
-                        return Some(firing);
+                if let Some(life) = looked.take(seat) {
+                    let held = &mut self.seats[seat.number() as usize];
+                    if held.deliver(machine, life, &looked.firing) {
+                        return Some(ScriptPlace {
+                            cpu: looked.firing.cpu,
+                            place: looked.firing.place,
+                        });
                     }
                 }
             }
@@ -172,6 +176,44 @@ impl Engine {
             → IsAt registry world self.old → IsAt registry (closing world seat) self.new }
     {
         self.seats[seat.number() as usize].close();
+    }
+
+    /// Whether a `go` of the session on a seat is pending.
+    pub(crate) fn waits(&self, seat: Seat) -> bool
+        ensures { (registry : Registry) (world : World) → IsAt registry world self.now
+            → result ≡ replay.waits (world.places seat) }
+    {
+        match &self.seats[seat.number() as usize].present {
+            Some(served) => served.go.is_some(),
+            None => false,
+        }
+    }
+
+    /// Whether a `close` of the session on a seat was accepted.
+    pub(crate) fn has_closed(&self, seat: Seat) -> bool
+        ensures { (registry : Registry) (world : World) → IsAt registry world self.now
+            → result ≡ replay.has_closed registry (world.places seat) }
+    {
+        match &self.seats[seat.number() as usize].present {
+            Some(served) => served.is_closed,
+            None => false,
+        }
+    }
+
+    /// Whether the session on a seat is there, and the first.
+    pub(crate) fn is_first(&self, seat: Seat) -> bool
+        ensures { (registry : Registry) (world : World) → IsAt registry world self.now
+            → result ≡ is_some (first_account (world.places seat)) }
+    {
+        self.seats[seat.number() as usize].is_first()
+    }
+
+    /// The account of the session on a seat, where that is the first session there.
+    pub(crate) fn first(&self, seat: Seat) -> Option<Account>
+        ensures { (registry : Registry) (world : World) → IsAt registry world self.now
+            → result ≡ first_account (world.places seat) }
+    {
+        self.seats[seat.number() as usize].first()
     }
 
     /// Takes a step, and tells what it answers.

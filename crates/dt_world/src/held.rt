@@ -20,7 +20,7 @@ pub(crate) struct Held {
 }
 
 impl Held {
-    ghost use Rattle.std.specs.Prelude.{◌+◌, ◌<◌, ◌^◌, ◌∷◌, OnOk, List, Some, true, length, option_map};
+    ghost use Rattle.std.specs.Prelude.{◌+◌, ◌<◌, ◌^◌, ◌∷◌, OnOk, List, Some, true, length, is_some, option_map};
     ghost use Rattle.std.specs.Option.{option_map_or};
     ghost use Rattle.dt_chain.specs.IsAt.{IsAt};
     ghost use Rattle.dt_chain.specs.Writes.{Write};
@@ -51,6 +51,7 @@ impl Held {
         ensures { OnOk result ((place : Place) → IsHeld machine.now.registry place self.old
             → IsHeld machine.now.registry (opened_on machine.now.registry place name.now) self.new) }
     {
+        // on a taken seat, or without an account that may trace, the step isn't enabled
         if self.present.is_some() {
             return Ok(());
         }
@@ -135,11 +136,23 @@ impl Held {
         ensures reached { (place : Place) → IsHeld machine.now.registry place self.old
             → IsHeld machine.now.registry (steps.offered (record { life = life; firing = firing.now }) place) self.new }
     {
+        // the mask was made for a session that was here before
         if life != self.earlier {
             return false;
         }
         match &mut self.present {
             Some(served) => served.offer(machine, firing),
+            None => false,
+        }
+    }
+
+    /// Whether its session is there, and the first on the seat.
+    pub(crate) fn is_first(&self) -> bool
+        ensures { (registry : Registry) (place : Place) → IsHeld registry place self.now
+            → result ≡ is_some (first_account place) }
+    {
+        match &self.present {
+            Some(_) => self.earlier == 0,
             None => false,
         }
     }

@@ -15,15 +15,14 @@ mod held;
 mod laws;
 mod looked;
 mod outcome;
+mod output;
 mod progress;
 mod replay_laws;
 mod replays;
 mod running;
 mod served;
-mod stages;
 mod step;
 mod step_line;
-mod told;
 mod words;
 
 pub use laws::{agree_alike, seen_alike, tests_agree, told_alone, worlds_are_sound};

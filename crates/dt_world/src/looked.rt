@@ -6,6 +6,13 @@ use dt_chain::{Seat, SeatMask};
 use dt_machine::Firing;
 use std::alloc::{AllocError, Global};
 
+/// A place in a processor's script, from 0 on.
+#[derive(Clone, Copy)]
+pub(crate) struct ScriptPlace {
+    pub(crate) cpu: u32,
+    pub(crate) place: u32,
+}
+
 /// The firing that a processor looked for last, and the seats that it is still to be offered to.
 #[derive(Clone, Copy)]
 pub(crate) struct Looked {
@@ -14,19 +21,37 @@ pub(crate) struct Looked {
 }
 
 impl Looked {
+    ghost use Rattle.std.specs.Prelude.{option_map};
+    ghost use Rattle.dt_chain.specs.Seats.{life_at};
     ghost use Rattle.dt_world.specs.Stands.{due_of};
 
-    /// Takes out the offer to a seat, if it is left: the life that was named, and the firing.
-    pub(crate) fn take(&mut self, seat: Seat) -> Option<(u64, Firing)>
-        ensures offer { IfSome result (λ offer. due_of self.old seat ≡ Some (record { life = offer.0; firing = offer.1 })) }
+    /// What is kept of a look for a firing that named these seats: nothing, where it named none.
+    pub(crate) fn unless_empty(firing: &Firing, named: &SeatMask) -> Option<Looked>
+        ensures { (seat : ℕ) → due_in (Some result) seat
+            ≡ option_map (λ life. record { life = life; firing = firing.now }) (life_at named.now seat) }
+    {
+        // most looks name no seat: nothing is copied then
+        if named.is_empty() {
+            return None;
+        }
+        Some(Looked {
+            firing: *firing,
+            left: *named,
+        })
+    }
+
+    /// Takes out the offer to a seat, if it is left, and answers the life that was named. The firing stays.
+    pub(crate) fn take(&mut self, seat: Seat) -> Option<u64>
+        ensures offer { IfSome result (λ life. due_of self.old seat ≡ Some (record { life = life; firing = self.old.firing })) }
         ensures taken { IfSome result (λ _. (other : ℕ)
             → due_of self.new other ≡ (if other == seat then None else due_of self.old other)) }
+        ensures firing { self.new.firing ≡ self.old.firing }
         ensures none { IfNone result (due_of self.old seat ≡ None) }
         ensures same { IfNone result (self.new ≡ self.old) }
     {
         let life = self.left.life_of(seat)?;
         self.left.remove(seat);
-        Some((life, self.firing))
+        Some(life)
     }
 }
 

@@ -7,11 +7,11 @@ ghost use Rattle.dt_world.specs.Replay.{Replayed, after_line};
 ghost use Rattle.dt_world.specs.StepLine.{StepLineForm, look_line, call_line, fire_line, form_of_step_line};
 ghost use Rattle.dt_world.specs.Steps.{opening, asking, finishing, offering};
 ghost use Rattle.dt_world.specs.World.{number_on};
-ghost use Rattle.dt_world.specs.declared.told.Wanted.{Wanted};
+ghost use Rattle.dt_world.specs.declared.output.Wanted.{Wanted};
 
 use crate::engine::Engine;
+use crate::output::{Output, Wanted};
 use crate::step_line::StepLine;
-use crate::told::{Told, Wanted};
 use dt_chain::{Seat, SeatMask};
 use dt_machine::{CPUS_MAX, Machine};
 use dt_proto::WholeLine;
@@ -22,7 +22,7 @@ use std::alloc::{AllocError, Global};
 pub(crate) struct Progress {
     pub(crate) engine: Engine,
     pub(crate) taken: [u32; CPUS_MAX as usize],
-    pub(crate) told: Told,
+    pub(crate) output: Output,
 }
 
 impl Progress {
@@ -33,7 +33,7 @@ impl Progress {
         Ok(Progress {
             engine: Engine::new(alloc, machine)?,
             taken: [0; CPUS_MAX as usize],
-            told: Told {
+            output: Output {
                 wanted,
                 text: Vec::new(alloc),
             },
@@ -112,13 +112,13 @@ impl Progress {
         ensures { OnOk result ((wanted : Wanted) (now : Replayed) → IsAfter wanted machine.now now self.old
             → IsAfter wanted machine.now (with_world now (opening machine.now.registry now.world seat name.now)) self.new) }
     {
-        let was_there = self.engine.first(seat).is_some();
+        let was_there = self.engine.is_first(seat);
         self.engine.open(alloc, machine, seat, name)?;
         if was_there {
             return Ok(());
         }
         match self.engine.first(seat) {
-            Some(account) => self.told.open(seat, &account),
+            Some(account) => self.output.open(seat, &account),
             None => Ok(()),
         }
     }
@@ -134,10 +134,10 @@ impl Progress {
         ensures { OnOk result ((wanted : Wanted) (now : Replayed) → IsAfter wanted machine.now now self.old
             → IsAfter wanted machine.now (with_world now (asking machine.now.registry now.world seat (form_of line.now))) self.new) }
     {
-        let is_first = self.engine.first(seat).is_some();
+        let is_first = self.engine.is_first(seat);
         let line = WholeLine::Bytes(line);
         match self.engine.ask(alloc, machine, seat, line)? {
-            Some(answered) => self.told.reply(
+            Some(answered) => self.output.reply(
                 alloc,
                 seat,
                 is_first,
@@ -154,9 +154,9 @@ impl Progress {
         ensures { OnOk result ((wanted : Wanted) (now : Replayed) → IsAfter wanted machine.now now self.old
             → IsAfter wanted machine.now (with_world now (finishing now.world seat)) self.new) }
     {
-        let is_first = self.engine.first(seat).is_some();
+        let is_first = self.engine.is_first(seat);
         match self.engine.finish(alloc, machine, seat)? {
-            Some(finished) => self.told.reply(
+            Some(finished) => self.output.reply(
                 alloc,
                 seat,
                 is_first,
@@ -239,9 +239,9 @@ impl Progress {
         ensures { OnOk result ((wanted : Wanted) (now : Replayed) → IsAfter wanted machine.now now self.old
             → IsAfter wanted machine.now (with_world now (offering now.world cpu seat)) self.new) }
     {
-        let is_first = self.engine.first(seat).is_some();
+        let is_first = self.engine.is_first(seat);
         match self.engine.offer(machine, cpu, seat) {
-            Some(firing) => self.told.fire(alloc, seat, is_first, &firing),
+            Some(at) => self.output.fire(alloc, seat, is_first, at),
             None => Ok(()),
         }
     }

@@ -11,8 +11,8 @@ ghost use Rattle.dt_world.specs.Input.{lines_of, IsRefused};
 ghost use Rattle.dt_world.specs.Replay.{IsReplay, IsTrailReplay};
 ghost use Rattle.dt_world.specs.Told.{IsOutput};
 
+use crate::output::Wanted;
 use crate::progress::Progress;
-use crate::told::Wanted;
 use dt_chain::Seat;
 use dt_machine::{Machine, MachineFault};
 use std::alloc::{AllocError, Global};
@@ -47,7 +47,7 @@ pub enum ReplayFault {
 }
 
 /// Replays an input on a machine: reads both whole, takes the step lines in order, and writes the
-/// replies, each behind its seat.
+/// replies, each after its seat.
 pub fn replay<R: Read, W: Write>(
     alloc: Global,
     machine: &[u8],
@@ -211,7 +211,7 @@ fn output_of(
             Err(AllocError) => return Err(ReplayFault::Memory),
         }
     }
-    Ok(progress.told.text)
+    Ok(progress.output.text)
 }
 
 /// The text before the first newline, and what stands after it.

@@ -1,3 +1,4 @@
+-- What holds at each turn of a loop of `free_seats`.
 use Rattle.std.proofs.Common.{◌≡◌, ℕ, [], None, IfSome, vec_len, slice_get}
 use Rattle.dt_machine.specs.Registry.{Registry}
 use Rattle.dt_world.specs.Stands.{IsHeld}

@@ -1,3 +1,4 @@
+-- What holds at each turn of a loop of `idle_processors`.
 use Rattle.std.proofs.Common.{◌≡◌, ℕ, None, vec_len, slice_get}
 use Rattle.dt_world.specs.Stands.{due_in}
 use Rattle.dt_world.proofs.looked.idle_processors.Given as goal

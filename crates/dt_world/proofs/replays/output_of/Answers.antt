@@ -1,4 +1,5 @@
-use Rattle.std.proofs.Common.{◌≡◌, ◌∷◌, ◌++◌, ◌<◌, ◌^◌, [], length, refl, arith, rules, ◌+◌}
+-- What is to be shown of `output_of`.
+use Rattle.std.proofs.Common.{◌≡◌, ◌∷◌, ◌++◌, [], length, refl, arith, rules, ◌+◌}
 use Rattle.std.proofs.lemmas.List.{length-append}
 use Rattle.dt_world.specs.Input.{lines_of}
 use Rattle.dt_world.proofs.LineCuts.{lines-one_more, length-cut, lines-all}
@@ -20,7 +21,8 @@ loop-line-preserved c =
           cut,
       omega (arith, one_more, before.2),
       omega (arith, room, before.3),
-      c.take_line.ensures.taken (search rules) c.args.wanted before.0 (omega (arith, room, before.2, before.3)) before.4,
+      c.take_line.ensures.taken (search rules) c.args.wanted before.0
+          (omega (arith, room, before.2, before.3)) before.4,
     )
 
 pub returns-in-Ok-false-clause-err : goal.returns-in-Ok-false-clause-err

@@ -1,3 +1,4 @@
+-- What holds at each turn of a loop of `read_input`.
 use Rattle.std.specs.Io.KnownBytes.{Consumes}
 use Rattle.dt_world.proofs.replays.read_input.Given as goal
 

@@ -1,3 +1,4 @@
+-- What is to be shown of `write_output`.
 use Rattle.std.proofs.Common.{◌≡◌, ◌+◌, ◌-◌, ℕ, List, Bor, length, drop, arith, ap, ◌∙◌}
 use Rattle.std.proofs.lemmas.List.{drop-drop, length-drop}
 use Rattle.dt_world.proofs.Streams.{more_written, still_written, whole_rest}

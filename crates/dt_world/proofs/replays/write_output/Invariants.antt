@@ -1,3 +1,4 @@
+-- What holds at each turn of a loop of `write_output`.
 use Rattle.std.proofs.Common.{◌≡◌, ◌≤◌, ℕ, length, take, drop}
 use Rattle.std.specs.Io.KnownBytes.{Appends}
 use Rattle.dt_world.proofs.replays.write_output.Given as goal

@@ -33,7 +33,8 @@ loop-step-preserved c =
       at = subst (λ w. IsAt registry w c.take.new.self) (sym later) did.0;
       told = subst (λ w. HasTold registry w (map (λ reply. (reply.0, reply.1.items)) c.tell.new.self.replies.items)
           c.tell.new.self.masks.items) (sym later)
-          (c.in_ok-tell.ensures registry world (happens registry world (act_of item)) did.1 c.loop-step.invariant.told);
+          (c.in_ok-tell.ensures registry world (happens registry world (act_of item)) did.1
+          c.loop-step.invariant.told);
     }
 
 pub returns-clause-alone : goal.returns-clause-alone

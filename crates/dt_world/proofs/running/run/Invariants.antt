@@ -1,3 +1,4 @@
+-- What holds at each turn of a loop of `run`.
 use Rattle.std.proofs.Common.{map, take}
 use Rattle.dt_world.specs.Ran.{HasTold}
 use Rattle.dt_world.specs.Stands.{IsAt}

@@ -18,7 +18,8 @@ returns-clause-at c =
     IfOk-weaker c.finish.result _ _
     (λ reply does world at. (
       sound-finishing registry world at.0 c.args.seat,
-      (kept-finishing registry world seats c.args.self.now.entries c.args.self.now.processors.items at.1 c.number.result
+      (kept-finishing registry world seats c.args.self.now.entries c.args.self.now.processors.items at.1
+          c.number.result
           c.args.seat c.index_mut.result.now found
           (option_map (λ finished. finished.text.items) reply) c.finish.new.self does).0,
     ))

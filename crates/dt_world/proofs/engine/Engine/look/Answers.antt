@@ -16,9 +16,10 @@ returns-clause-at c = λ world at.
       sound-looking registry world at.0 c.args.cpu c.args.firing.now,
       (kept-looking registry world c.args.self.now.seats.items c.args.self.now.entries
           c.args.self.now.processors.items at.0 at.1 c.args.cpu c.args.firing.now c.look-mask.result
+          c.unless_empty.result
           (eq-eqb c.args.firing.now.cpu c.args.cpu c.if-firing-cpu.false)
           (sym (c.is_done.ensures.done registry world at) ∙ done)
-          (c.look-mask.ensures world.writes at.1.entered)).0,
+          (c.look-mask.ensures world.writes at.1.entered) c.unless_empty.ensures).0,
     )
 
 pub returns-clause-answer : goal.returns-clause-answer
@@ -26,10 +27,10 @@ returns-clause-answer c = λ world at.
     let registry = c.args.machine.now.registry in
     let done : c.is_done.result ≡ true = search rules in
     (kept-looking registry world c.args.self.now.seats.items c.args.self.now.entries
-    c.args.self.now.processors.items at.0 at.1 c.args.cpu c.args.firing.now c.look-mask.result
+    c.args.self.now.processors.items at.0 at.1 c.args.cpu c.args.firing.now c.look-mask.result c.unless_empty.result
     (eq-eqb c.args.firing.now.cpu c.args.cpu c.if-firing-cpu.false)
     (sym (c.is_done.ensures.done registry world at) ∙ done)
-    (c.look-mask.ensures world.writes at.1.entered)).1
+    (c.look-mask.ensures world.writes at.1.entered) c.unless_empty.ensures).1
 
 pub returns-then-firing-cpu-clause-at : goal.returns-then-firing-cpu-clause-at
 returns-then-firing-cpu-clause-at c = λ world at.
@@ -39,9 +40,11 @@ returns-then-firing-cpu-clause-at c = λ world at.
     let same : looking registry world c.args.cpu c.args.firing.now ≡ world =
     looking-not registry world c.args.self.now.seats.items c.args.self.now.entries
     c.args.self.now.processors.items at.0 at.1 c.args.cpu c.args.firing.now
-    (and_left (c.args.firing.now.cpu == c.args.cpu) (nat_lt c.args.cpu registry.cpus && is_done (world.due c.args.cpu)) other) in
+    (and_left (c.args.firing.now.cpu == c.args.cpu)
+    (nat_lt c.args.cpu registry.cpus && is_done (world.due c.args.cpu)) other) in
     subst (λ w. IsSound registry w
-    × IsKept registry w c.args.self.now.seats.items c.args.self.now.entries c.args.self.now.processors.items) (sym same) at
+    × IsKept registry w c.args.self.now.seats.items c.args.self.now.entries c.args.self.now.processors.items)
+    (sym same) at
 
 pub returns-then-firing-cpu-clause-answer : goal.returns-then-firing-cpu-clause-answer
 returns-then-firing-cpu-clause-answer c = λ world at.
@@ -50,7 +53,8 @@ returns-then-firing-cpu-clause-answer c = λ world at.
     ne_eqb c.args.firing.now.cpu c.args.cpu c.if-firing-cpu.true in
     ap (λ (w : World). w.looks) (looking-not registry world c.args.self.now.seats.items c.args.self.now.entries
     c.args.self.now.processors.items at.0 at.1 c.args.cpu c.args.firing.now
-    (and_left (c.args.firing.now.cpu == c.args.cpu) (nat_lt c.args.cpu registry.cpus && is_done (world.due c.args.cpu)) other))
+    (and_left (c.args.firing.now.cpu == c.args.cpu)
+    (nat_lt c.args.cpu registry.cpus && is_done (world.due c.args.cpu)) other))
 
 pub returns-then-not-is_done-clause-at : goal.returns-then-not-is_done-clause-at
 returns-then-not-is_done-clause-at c = λ world at.
@@ -61,9 +65,11 @@ returns-then-not-is_done-clause-at c = λ world at.
     let same : looking registry world c.args.cpu c.args.firing.now ≡ world =
     looking-not registry world c.args.self.now.seats.items c.args.self.now.entries
     c.args.self.now.processors.items at.0 at.1 c.args.cpu c.args.firing.now
-    (and_right (c.args.firing.now.cpu == c.args.cpu) (nat_lt c.args.cpu registry.cpus && is_done (world.due c.args.cpu)) off) in
+    (and_right (c.args.firing.now.cpu == c.args.cpu)
+    (nat_lt c.args.cpu registry.cpus && is_done (world.due c.args.cpu)) off) in
     subst (λ w. IsSound registry w
-    × IsKept registry w c.args.self.now.seats.items c.args.self.now.entries c.args.self.now.processors.items) (sym same) at
+    × IsKept registry w c.args.self.now.seats.items c.args.self.now.entries c.args.self.now.processors.items)
+    (sym same) at
 
 pub returns-then-not-is_done-clause-answer : goal.returns-then-not-is_done-clause-answer
 returns-then-not-is_done-clause-answer c = λ world at.
@@ -73,4 +79,5 @@ returns-then-not-is_done-clause-answer c = λ world at.
     sym (c.is_done.ensures.done registry world at) ∙ busy in
     ap (λ (w : World). w.looks) (looking-not registry world c.args.self.now.seats.items c.args.self.now.entries
     c.args.self.now.processors.items at.0 at.1 c.args.cpu c.args.firing.now
-    (and_right (c.args.firing.now.cpu == c.args.cpu) (nat_lt c.args.cpu registry.cpus && is_done (world.due c.args.cpu)) off))
+    (and_right (c.args.firing.now.cpu == c.args.cpu)
+    (nat_lt c.args.cpu registry.cpus && is_done (world.due c.args.cpu)) off))

@@ -7,7 +7,8 @@ use Rattle.dt_world.specs.Telling.{IsTelling}
 use Rattle.dt_world.specs.declared.outcome.Outcome.TheVariants.{Quiet}
 use Rattle.dt_world.specs.declared.served.Answered.{Answered}
 use Rattle.dt_world.specs.declared.served.Finished.{Finished}
-use Rattle.dt_world.proofs.Taking.{quiet-opening, looks-asking, quiet-publishing, looks-finishing, quiet-withdrawing, questions-looking, quiet-offering, quiet-closing, telling_replied, telling_looked}
+use Rattle.dt_world.proofs.Taking.{quiet-opening, looks-asking, quiet-publishing, looks-finishing, quiet-withdrawing}
+use Rattle.dt_world.proofs.Taking.{questions-looking, quiet-offering, quiet-closing, telling_replied, telling_looked}
 use Rattle.dt_world.proofs.engine.Engine.take.Goals as goal
 
 pub returns-in_ok-open-in-Open : goal.returns-in_ok-open-in-Open
@@ -29,7 +30,8 @@ returns-in_ok-reply-in-Ask c = λ world few at.
     (sym (ap act_of c.in-Ask.is)) (
       subst (λ line. IsAt registry (asking registry world c.in-Ask.seat line) c.ask.new.self) c.lent.ensures
           (c.in_ok-reply-in-Ask.ensures.at world at),
-      subst (IsTelling registry world (asking registry world c.in-Ask.seat (form_asked c.in-Ask.line))) (sym c.replied.ensures)
+      subst (IsTelling registry world (asking registry world c.in-Ask.seat (form_asked c.in-Ask.line)))
+          (sym c.replied.ensures)
           (telling_replied (λ (answered : Answered). answered.text) registry world
           (asking registry world c.in-Ask.seat (form_asked c.in-Ask.line)) c.in-Ask.seat
           c.in_ok-reply-in-Ask.reply
@@ -57,7 +59,8 @@ returns-in_ok-reply-in-Finish c = λ world few at.
     (sym (ap act_of c.in-Finish.is)) (
       c.in_ok-reply-in-Finish.ensures.at world at,
       subst (IsTelling registry world (finishing world c.in-Finish.seat)) (sym c.finished.ensures)
-          (telling_replied (λ (finished : Finished). finished.text) registry world (finishing world c.in-Finish.seat) c.in-Finish.seat
+          (telling_replied (λ (finished : Finished). finished.text) registry world (finishing world c.in-Finish.seat)
+          c.in-Finish.seat
           c.in_ok-reply-in-Finish.reply (c.in_ok-reply-in-Finish.ensures.answer world at)
           (looks-finishing registry world c.in-Finish.seat)),
     )

@@ -22,5 +22,6 @@ returns-in-Some-clause-over c =
     (λ reply.
     some_weaker reply _ _
     (λ answered over place session h at.
-    over session (served_session c.args.machine.now.registry place c.args.self.now h c.in-Some.served session c.in-Some.is at)))
+    over session (served_session c.args.machine.now.registry place c.args.self.now h c.in-Some.served session
+    c.in-Some.is at)))
     c.ask.ensures.over

@@ -8,7 +8,8 @@ pub returns-in-Some-clause-finished : goal.returns-in-Some-clause-finished
 returns-in-Some-clause-finished c =
     IfOk-weaker c.finish.result _ _
     (λ reply does place h.
-    finished-session c.args.machine.now.registry place c.args.self.now h (option_map (λ finished. finished.text.items) reply)
+    finished-session c.args.machine.now.registry place c.args.self.now h
+    (option_map (λ finished. finished.text.items) reply)
     c.in-Some.served c.finish.new.self c.in-Some.is does)
     c.finish.ensures.finished
 
@@ -18,5 +19,6 @@ returns-in-Some-clause-line c =
     (λ reply.
     some_weaker reply _ _
     (λ finished told place session pending h at.
-    told session pending (served_session c.args.machine.now.registry place c.args.self.now h c.in-Some.served session c.in-Some.is at)))
+    told session pending (served_session c.args.machine.now.registry place c.args.self.now h c.in-Some.served session
+    c.in-Some.is at)))
     c.finish.ensures.line

@@ -10,5 +10,6 @@ returns-in_ok-publish-in-Some c = λ registry place writes h at.
     c.set_published.new.self c.in_ok-interest-in-Some.interest c.in-Some.is
     (λ session kept. sym (c.is_unpublished.ensures registry session kept) ∙ c.if-is_unpublished.true)
     (c.set_published.ensures registry)
-    (λ session kept. c.in_ok-interest-in-Some.ensures.named session.account registry (life_in registry session) kept.stands)
+    (λ session kept. c.in_ok-interest-in-Some.ensures.named session.account registry (life_in registry session)
+    kept.stands)
     (c.in_ok-publish-in-Some.ensures.ok writes at)

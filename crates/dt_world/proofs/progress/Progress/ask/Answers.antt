@@ -1,5 +1,5 @@
 -- A line is asked, and its reply told.
-use Rattle.std.proofs.Common.{◌≡◌, Some, None, option_map, is_some, rules, subst, sym, ap, ◌∙◌, refl}
+use Rattle.std.proofs.Common.{◌≡◌, Some, None, option_map, is_some, subst, ap, refl}
 use Rattle.std.proofs.lemmas.Result.{on_ok_weaker}
 use Rattle.dt_proto.specs.Lines.{form_of}
 use Rattle.dt_world.specs.Stands.{IsAnswered, first_account}
@@ -23,16 +23,17 @@ returns-in-Some c =
     subst (IsAnswered registry now.world world seat) (ap (option_map (λ one. one.text.items)) c.in-Some.is)
     (c.in_ok-answered.ensures.answer now.world before.at) in
     let a = asking-answers registry now.world seat line answered.text.items answers in
-    let known : c.is_some-is_first.result ≡ is_some c.first.result = search rules in
-    let first : c.is_some-is_first.result ≡ is_some (first_account (now.world.places seat)) =
-    known ∙ ap is_some (c.first.ensures registry now.world before.at) in
+    let first : c.is_first-is_first.result ≡ is_some (first_account (now.world.places seat)) =
+    c.is_first-is_first.ensures registry now.world before.at in
     after-told wanted c.args.machine.now now world c.args.self.now
-    (record { engine = c.ask.new.self; taken = c.args.self.now.taken; told = c.reply.new.self })
+    (record { engine = c.ask.new.self; taken = c.args.self.now.taken; output = c.reply.new.self })
     before (c.in_ok-answered.ensures.at now.world before.at) refl
-    (λ w. reply_told w seat (is_some (first_account (now.world.places seat))) line answered.text.items answered.is_over)
+    (λ w. reply_told w seat (is_some (first_account (now.world.places seat))) line answered.text.items
+    answered.is_over)
     (rw (← first, ← c.deref.ensures.value) tells)
     (told-answered registry now.world wanted world seat line answered.text.items answered.is_over
-    c.args.self.now.told.text.items a (some_of _ answered _ c.in-Some.is c.in_ok-answered.ensures.over now.world a.session before.at a.present)))
+    c.args.self.now.output.text.items a
+    (some_of _ answered _ c.in-Some.is c.in_ok-answered.ensures.over now.world a.session before.at a.present)))
     c.reply.ensures
 
 pub returns-in-None : goal.returns-in-None
@@ -45,6 +46,6 @@ returns-in-None c = λ wanted now before.
     subst (IsAnswered registry now.world world seat) (ap (option_map (λ one. one.text.items)) c.in-None.is)
     (c.in_ok-answered.ensures.answer now.world before.at) in
     after-untold wanted c.args.machine.now now world c.args.self.now
-    (record { engine = c.ask.new.self; taken = c.args.self.now.taken; told = c.args.self.now.told })
+    (record { engine = c.ask.new.self; taken = c.args.self.now.taken; output = c.args.self.now.output })
     before (c.in_ok-answered.ensures.at now.world before.at) refl refl
-    (told-unasked registry now.world wanted seat line c.args.self.now.told.text.items none)
+    (told-unasked registry now.world wanted seat line c.args.self.now.output.text.items none)

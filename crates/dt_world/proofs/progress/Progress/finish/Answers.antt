@@ -1,5 +1,5 @@
 -- A `go` takes effect, and its reply is told.
-use Rattle.std.proofs.Common.{◌≡◌, Some, None, false, option_map, is_some, rules, subst, sym, ap, ◌∙◌, ◌++◌, refl}
+use Rattle.std.proofs.Common.{◌≡◌, Some, None, false, option_map, is_some, subst, sym, ap, ◌++◌, refl}
 use Rattle.std.proofs.lemmas.Result.{on_ok_weaker}
 use Rattle.dt_proto.specs.Asked.{form_asked}
 use Rattle.dt_world.specs.Stands.{IsAnswered, first_account}
@@ -23,19 +23,19 @@ returns-in-Some c =
     subst (IsAnswered registry now.world world seat) (ap (option_map (λ one. one.text.items)) c.in-Some.is)
     (c.in_ok-finished.ensures.answer now.world before.at) in
     let f = finishing-answers registry now.world seat done.text.items answers in
-    let same = some_of _ done _ c.in-Some.is c.in_ok-finished.ensures.line now.world f.answers.session f.pending before.at f.answers.present f.go in
-    let known : c.is_some-is_first.result ≡ is_some c.first.result = search rules in
-    let first : c.is_some-is_first.result ≡ is_some (first_account (now.world.places seat)) =
-    known ∙ ap is_some (c.first.ensures registry now.world before.at) in
+    let same = some_of _ done _ c.in-Some.is c.in_ok-finished.ensures.line now.world f.answers.session f.pending
+    before.at f.answers.present f.go in
+    let first : c.is_first-is_first.result ≡ is_some (first_account (now.world.places seat)) =
+    c.is_first-is_first.ensures registry now.world before.at in
     after-told wanted c.args.machine.now now world c.args.self.now
-    (record { engine = c.finish.new.self; taken = c.args.self.now.taken; told = c.reply.new.self })
+    (record { engine = c.finish.new.self; taken = c.args.self.now.taken; output = c.reply.new.self })
     before (c.in_ok-finished.ensures.at now.world before.at) refl
     (λ w. reply_told w seat (is_some (first_account (now.world.places seat))) line done.text.items false)
     (rw (← first, ← c.deref.ensures.value, ← c.lent.ensures) tells)
-    (λ told. subst (λ one. IsTold wanted registry world (c.args.self.now.told.text.items
+    (λ told. subst (λ one. IsTold wanted registry world (c.args.self.now.output.text.items
     ++ reply_told wanted seat (is_some (first_account (now.world.places seat))) one done.text.items false)) (sym same)
     (told-answered registry now.world wanted world seat f.pending.line done.text.items false
-    c.args.self.now.told.text.items f.answers
+    c.args.self.now.output.text.items f.answers
     (within_quota registry now.world seat f.answers.session f.pending f.answers.present f.go before.at.0) told)))
     c.reply.ensures
 
@@ -48,6 +48,6 @@ returns-in-None c = λ wanted now before.
     subst (IsAnswered registry now.world world seat) (ap (option_map (λ one. one.text.items)) c.in-None.is)
     (c.in_ok-finished.ensures.answer now.world before.at) in
     after-untold wanted c.args.machine.now now world c.args.self.now
-    (record { engine = c.finish.new.self; taken = c.args.self.now.taken; told = c.args.self.now.told })
+    (record { engine = c.finish.new.self; taken = c.args.self.now.taken; output = c.args.self.now.output })
     before (c.in_ok-finished.ensures.at now.world before.at) refl refl
-    (told-unfinished registry now.world wanted seat c.args.self.now.told.text.items none)
+    (told-unfinished registry now.world wanted seat c.args.self.now.output.text.items none)

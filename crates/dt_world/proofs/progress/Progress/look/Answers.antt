@@ -3,7 +3,8 @@ use Rattle.std.proofs.Common.{◌≡◌, ◌+◌, ◌<◌, Some, set, sym, ap, �
 use Rattle.dt_machine.specs.Registry.{firing_at}
 use Rattle.dt_world.specs.Progress.{IsAfter}
 use Rattle.dt_world.specs.Stands.{IsAt}
-use Rattle.dt_world.proofs.Looks.{not_done, done, next_not_done, next_done, look_none, look_some, counted, own_firing, low_place}
+use Rattle.dt_world.proofs.Looks.{not_done, done, next_not_done, next_done, look_none, look_some, counted, own_firing}
+use Rattle.dt_world.proofs.Looks.{low_place}
 use Rattle.dt_world.proofs.Trails.{told-looked}
 use Rattle.dt_world.proofs.progress.Progress.look.Goals as goal
 
@@ -19,7 +20,8 @@ returns-in_err-mask-clause-after c = λ wanted now there before.
     let left = not_done contents.registry now.world cpu firing there
     (own_firing contents sound cpu (now.taken cpu) firing is) (c.in_err-mask.ensures.answer now.world before.at) in
     subst
-    (λ at. IsAfter wanted contents at (record { engine = c.look.new.self; taken = c.args.self.now.taken; told = c.args.self.now.told }))
+    (λ at. IsAfter wanted contents at
+    (record { engine = c.look.new.self; taken = c.args.self.now.taken; output = c.args.self.now.output }))
     (sym (look_none contents now cpu (next_not_done contents now cpu left.0)))
     (record {
       at = subst (λ world. IsAt contents.registry world c.look.new.self) left.1
@@ -55,19 +57,25 @@ returns-clause-after c = λ wanted now there before.
     (own_firing contents sound cpu (now.taken cpu) firing is) c.in_ok-mask.mask
     (c.in_ok-mask.ensures.answer now.world before.at) in
     let more : c.saturating_add.result ≡ now.taken cpu + 1 =
-    omega (arith, c.saturating_add.ensures, before.taken cpu low, low_place contents sound cpu (now.taken cpu) firing is) in
+    omega (
+      arith,
+      c.saturating_add.ensures,
+      before.taken cpu low,
+      low_place contents sound cpu (now.taken cpu)
+          firing is,
+    ) in
     subst
     (λ at. IsAfter wanted contents at (record {
       engine = c.look.new.self;
       taken = set c.args.self.now.taken cpu c.saturating_add.result;
-      told = c.args.self.now.told;
+      output = c.args.self.now.output;
     }))
     (sym (look_some contents now cpu firing (next_done contents now cpu firing seen.0 is)))
     (record {
       at = c.in_ok-mask.ensures.at now.world before.at;
       taken = counted c.args.self.now.taken now.taken cpu c.saturating_add.result (search rules) before.taken more;
       same = before.same;
-      told = told-looked contents.registry now.world wanted cpu firing c.args.self.now.told.text.items before.at.0
+      told = told-looked contents.registry now.world wanted cpu firing c.args.self.now.output.text.items before.at.0
           before.told;
     })
 

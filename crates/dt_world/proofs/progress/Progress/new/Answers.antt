@@ -1,3 +1,4 @@
+-- What is to be shown of `new`.
 use Rattle.std.proofs.Common.{[], refl}
 use Rattle.dt_world.proofs.LineLists.{no_lines}
 use Rattle.dt_world.proofs.Taken.{zeros, nothing_told}

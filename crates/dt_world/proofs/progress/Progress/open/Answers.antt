@@ -1,5 +1,5 @@
 -- A session is opened, and told where it is the first.
-use Rattle.std.proofs.Common.{◌≡◌, Some, None, is_some, true, false, inl, inr, rules, sym, ap, ◌∙◌, refl}
+use Rattle.std.proofs.Common.{◌≡◌, Some, None, true, false, inl, inr, rules, sym, ◌∙◌, refl}
 use Rattle.std.proofs.lemmas.Result.{on_ok_weaker}
 use Rattle.dt_world.specs.Stands.{first_account}
 use Rattle.dt_world.specs.Steps.{opening}
@@ -17,15 +17,16 @@ returns-in-Some c =
     let name = c.args.name.now in
     let world = opening registry now.world seat name in
     let at = c.in_ok-open.ensures now.world before.at in
-    let there : is_some c.first.result ≡ false = search rules in
+    let there : c.is_first-was_there.result ≡ false = search rules in
     let none : first_account (now.world.places seat) ≡ None =
-    sym (c.first.ensures registry now.world before.at) ∙ none_there c.first.result there in
+    none_there (first_account (now.world.places seat))
+    (sym (c.is_first-was_there.ensures registry now.world before.at) ∙ there) in
     let first : first_account (world.places seat) ≡ Some c.in-Some.account =
-    sym (c.first-2.ensures registry world at) ∙ c.in-Some.is in
+    sym (c.first.ensures registry world at) ∙ c.in-Some.is in
     after-told wanted c.args.machine.now now world c.args.self.now
-    (record { engine = c.open.new.self; taken = c.args.self.now.taken; told = c.open-in-Some.new.self })
+    (record { engine = c.open.new.self; taken = c.args.self.now.taken; output = c.open-in-Some.new.self })
     before at refl (λ w. opening_text w seat c.in-Some.account) tells
-    (told-opened registry now.world wanted seat name c.in-Some.account c.args.self.now.told.text.items none first))
+    (told-opened registry now.world wanted seat name c.in-Some.account c.args.self.now.output.text.items none first))
     c.open-in-Some.ensures
 
 pub returns-then-was_there : goal.returns-then-was_there
@@ -35,12 +36,12 @@ returns-then-was_there c = λ wanted now before.
     let name = c.args.name.now in
     let world = opening registry now.world seat name in
     let at = c.in_ok-open.ensures now.world before.at in
-    let there : is_some c.first.result ≡ true = search rules in
+    let there : c.is_first-was_there.result ≡ true = search rules in
     after-untold wanted c.args.machine.now now world c.args.self.now
-    (record { engine = c.open.new.self; taken = c.args.self.now.taken; told = c.args.self.now.told })
+    (record { engine = c.open.new.self; taken = c.args.self.now.taken; output = c.args.self.now.output })
     before at refl refl
-    (told-unopened registry now.world wanted seat name c.args.self.now.told.text.items
-    (inr (ap is_some (sym (c.first.ensures registry now.world before.at)) ∙ there)))
+    (told-unopened registry now.world wanted seat name c.args.self.now.output.text.items
+    (inr (sym (c.is_first-was_there.ensures registry now.world before.at) ∙ there)))
 
 pub returns-in-None : goal.returns-in-None
 returns-in-None c = λ wanted now before.
@@ -50,7 +51,7 @@ returns-in-None c = λ wanted now before.
     let world = opening registry now.world seat name in
     let at = c.in_ok-open.ensures now.world before.at in
     after-untold wanted c.args.machine.now now world c.args.self.now
-    (record { engine = c.open.new.self; taken = c.args.self.now.taken; told = c.args.self.now.told })
+    (record { engine = c.open.new.self; taken = c.args.self.now.taken; output = c.args.self.now.output })
     before at refl refl
-    (told-unopened registry now.world wanted seat name c.args.self.now.told.text.items
-    (inl (sym (c.first-2.ensures registry world at) ∙ c.in-None.is)))
+    (told-unopened registry now.world wanted seat name c.args.self.now.output.text.items
+    (inl (sym (c.first.ensures registry world at) ∙ c.in-None.is)))

@@ -6,7 +6,8 @@ use Rattle.dt_world.specs.Replay.{after_line}
 use Rattle.dt_world.specs.StepLine.{form_of_step_line}
 use Rattle.dt_world.specs.Steps.{publishing, withdrawing, closing}
 use Rattle.dt_world.proofs.After.{after-silent}
-use Rattle.dt_world.proofs.Silences.{publishing_silent, publishing_views, withdrawing_silent, withdrawing_views, closing_silent, closing_views}
+use Rattle.dt_world.proofs.Silences.{publishing_silent, publishing_views, withdrawing_silent, withdrawing_views}
+use Rattle.dt_world.proofs.Silences.{closing_silent, closing_views}
 use Rattle.dt_world.proofs.progress.Progress.take.Goals as goal
 
 pub returns-in-Close : goal.returns-in-Close
@@ -14,11 +15,12 @@ returns-in-Close c = λ wanted now few known before.
     let contents = c.args.machine.now in
     subst
     (λ step. IsAfter wanted contents (after_line contents now (form_of_step_line step))
-    (record { engine = c.close.new.self; taken = c.args.self.now.taken; told = c.args.self.now.told }))
+    (record { engine = c.close.new.self; taken = c.args.self.now.taken; output = c.args.self.now.output }))
     (sym c.in-Close.is)
     (after-silent wanted contents now (closing now.world c.in-Close.seat) c.args.self.now
-    (record { engine = c.close.new.self; taken = c.args.self.now.taken; told = c.args.self.now.told }) before
-    (c.close.ensures contents.registry now.world (few c.in-Close.seat) before.at) refl (closing_silent now.world c.in-Close.seat)
+    (record { engine = c.close.new.self; taken = c.args.self.now.taken; output = c.args.self.now.output }) before
+    (c.close.ensures contents.registry now.world (few c.in-Close.seat) before.at) refl
+    (closing_silent now.world c.in-Close.seat)
     (closing_views now.world c.in-Close.seat) refl)
 
 pub returns-in-Withdraw : goal.returns-in-Withdraw
@@ -26,10 +28,10 @@ returns-in-Withdraw c = λ wanted now few known before.
     let contents = c.args.machine.now in
     subst
     (λ step. IsAfter wanted contents (after_line contents now (form_of_step_line step))
-    (record { engine = c.withdraw.new.self; taken = c.args.self.now.taken; told = c.args.self.now.told }))
+    (record { engine = c.withdraw.new.self; taken = c.args.self.now.taken; output = c.args.self.now.output }))
     (sym c.in-Withdraw.is)
     (after-silent wanted contents now (withdrawing contents.registry now.world c.in-Withdraw.seat) c.args.self.now
-    (record { engine = c.withdraw.new.self; taken = c.args.self.now.taken; told = c.args.self.now.told }) before
+    (record { engine = c.withdraw.new.self; taken = c.args.self.now.taken; output = c.args.self.now.output }) before
     (c.withdraw.ensures now.world before.at) refl (withdrawing_silent now.world contents.registry c.in-Withdraw.seat)
     (withdrawing_views now.world contents.registry c.in-Withdraw.seat) refl)
 
@@ -40,10 +42,10 @@ returns-in-Publish c =
     let contents = c.args.machine.now in
     subst
     (λ step. IsAfter wanted contents (after_line contents now (form_of_step_line step))
-    (record { engine = c.publish.new.self; taken = c.args.self.now.taken; told = c.args.self.now.told }))
+    (record { engine = c.publish.new.self; taken = c.args.self.now.taken; output = c.args.self.now.output }))
     (sym c.in-Publish.is)
     (after-silent wanted contents now (publishing contents.registry now.world c.in-Publish.seat) c.args.self.now
-    (record { engine = c.publish.new.self; taken = c.args.self.now.taken; told = c.args.self.now.told }) before
+    (record { engine = c.publish.new.self; taken = c.args.self.now.taken; output = c.args.self.now.output }) before
     (does now.world before.at) refl
     (publishing_silent now.world contents.registry c.in-Publish.seat)
     (publishing_views now.world contents.registry c.in-Publish.seat) refl))

@@ -24,7 +24,9 @@ returns-clause-taken c = λ _ wanted lines small before.
     let contents = c.args.machine.now in
     let known : c.is_known.result ≡ true = search rules in
     let on = c.is_known.ensures.0 known in
-    taken-one_more wanted contents lines c.args.line.now (form_of_step_line c.in-Some.step) c.args.self.now c.take.new.self
+    taken-one_more wanted contents lines c.args.line.now (form_of_step_line c.in-Some.step) c.args.self.now
+    c.take.new.self
     before (written c.args.line.now c.if-is_empty.ensures) c.in-Some.ensures.found on
-    (c.in_ok-take.ensures wanted (replayed contents before.forms) (room wanted contents lines c.args.self.now before small) on
+    (c.in_ok-take.ensures wanted (replayed contents before.forms)
+    (room wanted contents lines c.args.self.now before small) on
     before.after)

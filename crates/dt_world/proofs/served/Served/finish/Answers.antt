@@ -1,5 +1,5 @@
 -- A published `go` takes effect.
-use Rattle.std.proofs.Common.{◌≡◌, ◌∙◌, Some, true, rules, sym, ap, subst}
+use Rattle.std.proofs.Common.{◌≡◌, ◌∙◌, true, rules, sym, ap, subst}
 use Rattle.dt_consumer.specs.Answer.{answer_of}
 use Rattle.dt_consumer.specs.Draft.{IsDraftOf}
 use Rattle.dt_proto.specs.Asked.{form_asked}

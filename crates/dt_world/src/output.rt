@@ -1,9 +1,9 @@
 //! What is written while the steps are taken: the replies of all sessions, or the trail of one.
 ghost use Rattle.std.specs.Prelude.{◌≡◌, true, OnOk};
 
+use crate::looked::ScriptPlace;
 use dt_chain::Seat;
 use dt_cred::Account;
-use dt_machine::Firing;
 use dt_proto::{LINE_MAX, WholeLine};
 use std::alloc::{AllocError, Global};
 
@@ -32,12 +32,12 @@ impl Wanted {
 
 /// What is to be written.
 #[derive(Drop)]
-pub(crate) struct Told {
+pub(crate) struct Output {
     pub(crate) wanted: Wanted,
     pub(crate) text: Vec<u8>,
 }
 
-impl Told {
+impl Output {
     ghost use Rattle.dt_proto.specs.Asked.{form_lent};
     ghost use Rattle.dt_world.specs.Told.{Tells, opening_text, reply_told, line_told, firing_told};
 
@@ -99,20 +99,20 @@ impl Told {
         Ok(())
     }
 
-    /// The session on a seat, which is the first there or not, saw a firing.
+    /// The session on a seat, which is the first there or not, saw the firing at a place.
     pub(crate) fn fire(
         &mut self,
         alloc: Global,
         seat: Seat,
         is_first: bool,
-        firing: &Firing,
+        at: ScriptPlace,
     ) -> Result<(), AllocError>
-        ensures { OnOk result (Tells self.old self.new (firing_told self.old.wanted seat is_first firing.now)) }
+        ensures { OnOk result (Tells self.old self.new (firing_told self.old.wanted seat is_first at.cpu at.place)) }
     {
         if !self.wanted.follows(seat, is_first) {
             return Ok(());
         }
-        let line = format!(in alloc; "fired {} {}\n", firing.cpu, firing.place)?;
+        let line = format!(in alloc; "fired {} {}\n", at.cpu, at.place)?;
         self.text.extend_from_slice(line.as_bytes())
     }
 }
