@@ -83,8 +83,12 @@ fn status_with_blanks_is_read_up_to_the_limit(rt: HostRuntime) -> Result<(), Fai
         let mut line = Vec::from_slice(alloc, b"{\"cmd\":\"status\"}")?;
         line.resize(length, b' ')?;
         line.push(b'\n')?;
-        let text = told(alloc, &[&line])?;
-        assert_eq!(rt; text.as_str(), wanted, "{length} bytes");
+        // cut in the words, after them, on both sides of the limit, and after the newline
+        for cut in [0, 1, 9, 16, 17, 65_535, 65_536, length, line.len()] {
+            assert!(rt; cut <= line.len());
+            let text = told(alloc, &[&line[..cut], &line[cut..]])?;
+            assert_eq!(rt; text.as_str(), wanted, "{length} bytes, cut at {cut}");
+        }
     }
     Ok(())
 }
