@@ -86,6 +86,34 @@ fn trails_are_judged(rt: HostRuntime) -> Result<(), Fail> {
     Ok(())
 }
 
+/// The items of the trail above that agrees, on the machine of the first row.
+#[test]
+fn the_first_trail_is_answered_alone(rt: HostRuntime) -> Result<(), Fail> {
+    let alloc = rt.alloc();
+    let machine = Machine::read(alloc, super::MACHINE.as_bytes())
+        .ok()
+        .ok_or("no machine")?;
+    let account = machine.account(b"root").ok_or("no account")?;
+    let firing = machine.firing(0, 0).ok_or("no firing")?;
+    let mut items = Vec::new(alloc);
+    items.push(Item::Line(asked(alloc, r#"{"cmd":"enable","text":"syscall::read:entry{}"}"#)?))?;
+    items.push(Item::Line(asked(alloc, r#"{"cmd":"go"}"#)?))?;
+    items.push(Item::Firing(*firing))?;
+    items.push(Item::Line(asked(alloc, r#"{"cmd":"snap","cpu":0}"#)?))?;
+    let replies = alone(alloc, account, &machine, &items)?;
+    let mut text = Vec::new(alloc);
+    for reply in &replies {
+        text.extend_from_slice(reply)?;
+    }
+    let wanted = r#"{"count":1,"first":1,"ok":true}
+{"ok":true}
+{"cpu":0,"data":"00000001","drops":0,"filled":false,"ok":true}
+"#;
+    assert_eq!(rt; text.as_slice(), wanted.as_bytes());
+    assert_eq!(rt; replies.len(), 3);
+    Ok(())
+}
+
 #[test]
 fn a_consumer_is_answered_alone(rt: HostRuntime) -> Result<(), Fail> {
     let alloc = rt.alloc();
