@@ -2,6 +2,7 @@
 import json
 import os
 import pathlib
+import re
 import subprocess
 import sys
 import time
@@ -13,12 +14,13 @@ PROGRAM = pathlib.Path(__file__).parent.parent / "crates" / "dtraced" / "out" / 
 
 def program():
     """The program to measure: the first word, or the proved one, as `rt run` leaves it."""
-    return sys.argv[1] if len(sys.argv) > 1 else str(PROGRAM)
+    words = [word for word in sys.argv[1:] if not word.startswith("-")]
+    return words[0] if words else str(PROGRAM)
 
 
-def machine():
-    """The machine file: one probe fires, and another never does."""
-    script = [{"probe": 3, "pid": 100, "args": [place]} for place in range(FIRINGS)]
+def machine(firings=FIRINGS):
+    """The machine file: one probe fires, so often on each processor, and another never does."""
+    script = [{"probe": 3, "pid": 100, "args": [place]} for place in range(firings)]
     return json.dumps({
         "cpus": CPUS,
         "accounts": [{"name": "root", "uid": 0, "privs": ["dtrace_kernel"]}],
@@ -52,3 +54,13 @@ def time_of(program, path, text):
     if running.returncode != 0:
         sys.exit("the program failed")
     return used.ru_utime + used.ru_stime - before
+
+
+def instructions_of(program, path, text):
+    """The instructions of a whole replay, the machine's reading too (by Debian's valgrind): the same in each run."""
+    command = ["valgrind", "--tool=callgrind", "--callgrind-out-file=/dev/null", program, "replay", path]
+    done = subprocess.run(command, input=text, stdout=subprocess.DEVNULL, stderr=subprocess.PIPE)
+    found = re.search(rb"Collected : (\d+)", done.stderr)
+    if done.returncode != 0 or not found:
+        sys.exit("valgrind or the program failed")
+    return int(found.group(1))

@@ -30,7 +30,7 @@ impl Looked {
         ensures { (seat : ℕ) → due_in (Some result) seat
             ≡ option_map (λ life. record { life = life; firing = firing.now }) (life_at named.now seat) }
     {
-        // most looks name no seat: nothing is copied then
+        // with no offer left there is nothing to keep
         if named.is_empty() {
             return None;
         }
