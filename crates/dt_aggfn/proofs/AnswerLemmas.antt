@@ -13,7 +13,7 @@ use Rattle.dt_aggfn.specs.declared.function.AggFn.TheVariants.{Count, Sum, Avg, 
 use Rattle.dt_aggfn.specs.declared.levels.Bounds.{Bounds}
 use Rattle.dt_aggfn.specs.declared.answer.CountedRow.{CountedRow}
 use Rattle.dt_aggfn.specs.Rows.{Row, zero_row, quantize_rows, lquantize_rows, name_at, counts_of, counted_words}
-use Rattle.dt_aggfn.specs.Answers.{number, rows as row_form, answer_of, form_of_row, counted_rows}
+use Rattle.dt_aggfn.specs.Answers.{number, rows as row_form, answer_of, form_of_counted_row, counted_rows}
 use Rattle.dt_aggfn.specs.Cells.{rows_of, cell_of, sum_of, least_of, greatest_of, IsBag}
 use Rattle.dt_aggfn.proofs.RowLemmas.{named}
 use Rattle.dt_aggfn.proofs.SumLemmas.{sum_fits}
@@ -35,13 +35,13 @@ counted_next rows cell n =
 
 -- a row whose word is above 0 comes to them
 pub one_counted : (rows : List Row) (cell : List ℕ) (n : ℕ) (told : List CountedRow) (row : CountedRow)
-    → map form_of_row told ≡ counted_to rows cell n → row.least ≡ name_at rows n → row.count ≡ get_or cell n 0
-    → 0 < get_or cell n 0 → map form_of_row (told ++ row ∷ []) ≡ counted_to rows cell (n + 1)
+    → map form_of_counted_row told ≡ counted_to rows cell n → row.least ≡ name_at rows n → row.count ≡ get_or cell n 0
+    → 0 < get_or cell n 0 → map form_of_counted_row (told ++ row ∷ []) ≡ counted_to rows cell (n + 1)
 one_counted rows cell n told row before name count some =
-    let form : form_of_row row ≡ (name_at rows n, get_or cell n 0) =
+    let form : form_of_counted_row row ≡ (name_at rows n, get_or cell n 0) =
     ap (λ x. (x, row.count)) name ∙ ap (λ x. (name_at rows n, x)) count in
-    map_push form_of_row told row
-    ∙ ap (λ x. x ++ form_of_row row ∷ []) before
+    map_push form_of_counted_row told row
+    ∙ ap (λ x. x ++ form_of_counted_row row ∷ []) before
     ∙ ap (λ x. counted_to rows cell n ++ x ∷ []) form
     ∙ sym (counted_next rows cell n
     ∙ ap (λ b. counted_to rows cell n ++ cond b ((name_at rows n, get_or cell n 0) ∷ []) [])
@@ -49,8 +49,8 @@ one_counted rows cell n told row before name count some =
 
 -- one whose word is 0 doesn't
 pub none_counted : (rows : List Row) (cell : List ℕ) (n : ℕ) (told : List CountedRow)
-    → map form_of_row told ≡ counted_to rows cell n → get_or cell n 0 ≤ 0
-    → map form_of_row told ≡ counted_to rows cell (n + 1)
+    → map form_of_counted_row told ≡ counted_to rows cell n → get_or cell n 0 ≤ 0
+    → map form_of_counted_row told ≡ counted_to rows cell (n + 1)
 none_counted rows cell n told before none =
     before ∙ sym (counted_next rows cell n
     ∙ ap (λ b. counted_to rows cell n ++ cond b ((name_at rows n, get_or cell n 0) ∷ []) [])

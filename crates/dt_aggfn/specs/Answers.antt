@@ -28,10 +28,10 @@ answer_of Quantize bag = rows (counted_rows quantize_rows bag)
 answer_of (Lquantize bounds) bag = rows (counted_rows (lquantize_rows bounds) bag)
 
 -- the name and the count of a row
-abbrev pub form_of_row : CountedRow → Option ℤ × ℕ
-form_of_row row = (row.least, row.count)
+abbrev pub form_of_counted_row : CountedRow → Option ℤ × ℕ
+form_of_counted_row row = (row.least, row.count)
 
 -- an answer of the code, as a form
 abbrev pub form_of_answer : Answer → AnswerForm
 form_of_answer (Number value) = number value
-form_of_answer (Rows counted) = rows (map form_of_row counted.items)
+form_of_answer (Rows counted) = rows (map form_of_counted_row counted.items)

@@ -31,7 +31,7 @@ pub enum AggFn {
 impl AggFn {
     ghost use Rattle.dt_aggfn.specs.Rows.{name_at, counted_words};
     ghost use Rattle.dt_aggfn.specs.Cells.{cell_words, rows_of, cell_of, IsBag};
-    ghost use Rattle.dt_aggfn.specs.Answers.{answer_of, form_of_row, form_of_answer};
+    ghost use Rattle.dt_aggfn.specs.Answers.{answer_of, form_of_counted_row, form_of_answer};
 
     /// How many words a cell has: at most [`CELL_WORDS_MAX`].
     pub fn cell_words(self) -> usize
@@ -131,7 +131,7 @@ impl AggFn {
     /// The rows that count something.
     fn counted_rows(self, alloc: Global, cell: &[u64]) -> Result<Vec<CountedRow>, AllocError>
         requires { length cell.now ≡ cell_words self }
-        ensures { IfOk result (λ counted. map form_of_row counted.items ≡ counted_words (rows_of self) cell.now) }
+        ensures { IfOk result (λ counted. map form_of_counted_row counted.items ≡ counted_words (rows_of self) cell.now) }
     {
         let mut counted = Vec::new(alloc);
         for (index, count) in cell.iter().enumerate() {

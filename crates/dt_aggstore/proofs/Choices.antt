@@ -10,7 +10,7 @@ use Rattle.std.proofs.lemmas.Option.{slice_get_within}
 use Rattle.dt_aggstore.specs.Keys.{entry_cost, cost_of}
 use Rattle.dt_aggstore.specs.History.{Event, given, truncated, Past, after}
 use Rattle.dt_aggstore.specs.Held.{entry_of, held}
-use Rattle.dt_aggstore.specs.Choice.{IsKept, IsChoice, Keeps}
+use Rattle.dt_aggstore.specs.Choice.{IsKept, IsChoice, KeepsContribution}
 use Rattle.dt_aggstore.specs.Chosen.{is_kept, choice_of}
 use Rattle.dt_aggstore.specs.declared.key.Aggregation.{Aggregation}
 use Rattle.dt_aggstore.specs.declared.key.KeyPart.{KeyPart}
@@ -202,7 +202,7 @@ choice_of-after past event =
 pub keeps : (past : Past) (aggregation : Aggregation) (key : List KeyPart) (value : ℤ) (chosen : List Bool) (b :
     Bool)
     → IsChoice past chosen → IsTrue b ↔ IsKept past.size past.events chosen (given aggregation key value)
-    → IsTrue b ↔ Keeps past aggregation key value
+    → IsTrue b ↔ KeepsContribution past aggregation key value
 keeps past aggregation key value chosen b choice kept =
     let event = given aggregation key value in
     let more = choice_more past chosen event b choice kept in

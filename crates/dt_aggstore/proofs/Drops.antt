@@ -4,7 +4,7 @@ use Rattle.std.proofs.Common.{ap, ◌∙◌, IsTrue, arith}
 use Rattle.std.specs.Prelude.{not, zip, count_by, if◌then◌else◌}
 use Rattle.std.proofs.lemmas.List.Sums.{sum_by-append}
 use Rattle.dt_aggstore.specs.History.{Event, given, truncated, Past, new_past, after}
-use Rattle.dt_aggstore.specs.Choice.{Keeps}
+use Rattle.dt_aggstore.specs.Choice.{KeepsContribution}
 use Rattle.dt_aggstore.specs.Chosen.{is_kept, choice_of, gives_value, drops}
 use Rattle.dt_aggstore.specs.declared.key.Aggregation.{Aggregation}
 use Rattle.dt_aggstore.specs.declared.key.KeyPart.{KeyPart}
@@ -38,13 +38,13 @@ told dropped false = refl
 
 -- a contribution that isn't kept is one drop more
 pub drops-given : (past : Past) (aggregation : Aggregation) (key : List KeyPart) (value : ℤ) (b : Bool)
-    → IsTrue b ↔ Keeps past aggregation key value
+    → IsTrue b ↔ KeepsContribution past aggregation key value
     → drops (after past (given aggregation key value)) ≡ (if b then drops past else drops past + 1)
 drops-given past aggregation key value b kept =
     let event = given aggregation key value in
     let chosen = choice_of past in
     let test = is_kept past.size past.events chosen event in
-    let same : test ≡ b = same_bits test b (Keeps past aggregation key value)
+    let same : test ≡ b = same_bits test b (KeepsContribution past aggregation key value)
     (keeps past aggregation key value chosen test (is_choice past)
     (kept_exactly past.size past.events chosen event)) kept in
     drops-after past event ∙ ap (λ t. drops past + cond (true && not t) 1 0) same ∙ told (drops past) b

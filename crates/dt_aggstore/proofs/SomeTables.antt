@@ -13,7 +13,7 @@ use Rattle.dt_aggstore.specs.History.{Past}
 use Rattle.dt_aggstore.specs.Held.{entry_of, held}
 use Rattle.dt_aggstore.specs.Choice.{IsChoice}
 use Rattle.dt_aggstore.specs.Chosen.{choice_of}
-use Rattle.dt_aggstore.specs.Table.{IsRising, HeldInSome, joined, RowForm, IsTable}
+use Rattle.dt_aggstore.specs.Table.{IsRising, HeldInSome, joined_bag, RowForm, IsTable}
 use Rattle.dt_aggstore.specs.TableOf.{table_of}
 use Rattle.dt_aggstore.specs.declared.key.Aggregation.{Aggregation}
 use Rattle.dt_aggstore.proofs.Same.{aggregation_is, own_aggregation}
@@ -219,14 +219,14 @@ are_choices (past ∷ pasts) = (is_choice past, are_choices pasts)
 
 module _ (pasts : List Past) (aggregation : Aggregation) (choices : List (List Bool)) where
   abbrev row_of : Key → RowForm
-  row_of key = record { key = key; value = answer_of aggregation.function (joined aggregation key pasts choices) }
+  row_of key = record { key = key; value = answer_of aggregation.function (joined_bag aggregation key pasts choices) }
 
   keys_are : (keys : List Key) → map (λ (row : RowForm). row.key) (map row_of keys) ≡ keys
   keys_are [] = refl
   keys_are (key ∷ keys) = ap (λ xs. key ∷ xs) (keys_are keys)
 
   answers_are : (keys : List Key) → AllByRecursion
-      (λ row. row.value ≡ answer_of aggregation.function (joined aggregation row.key pasts choices))
+      (λ row. row.value ≡ answer_of aggregation.function (joined_bag aggregation row.key pasts choices))
       (map row_of keys)
   answers_are [] = tt
   answers_are (key ∷ keys) = (refl, answers_are keys)

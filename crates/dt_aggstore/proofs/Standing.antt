@@ -12,7 +12,7 @@ use Rattle.std.proofs.lemmas.List.Folds.{list_any-append}
 use Rattle.dt_aggfn.specs.declared.function.AggFn.{AggFn}
 use Rattle.dt_aggfn.specs.Cells.{cell_words, cell_of, IsBag}
 use Rattle.dt_aggstore.specs.Keys.{Entry, same_entry}
-use Rattle.dt_aggstore.specs.History.{Event, given, truncated, contributions}
+use Rattle.dt_aggstore.specs.History.{Event, given, truncated, contribution_count}
 use Rattle.dt_aggstore.specs.Held.{Contribution, entry_of, truncates, counted, held, values_of, bag}
 use Rattle.dt_aggstore.specs.Entries.{words_of}
 use Rattle.dt_aggstore.specs.IsAt.{GivesWord}
@@ -93,7 +93,7 @@ word_values entry (truncated a ∷ events) (c ∷ chosen) w = word_values entry 
 
 -- an entry that is held has a bag
 pub held_bag : (events : List Event) (chosen : List Bool) (aggregation : Aggregation) (key : List KeyPart)
-    → AllByRecursion GivesWord events → contributions events ≤ ADDED_LIMIT
+    → AllByRecursion GivesWord events → contribution_count events ≤ ADDED_LIMIT
     → has (entry_of aggregation key) (held events chosen) ≡ true → IsBag (bag events chosen aggregation key)
 held_bag events chosen aggregation key words few is = record {
   some = values_some (counted events chosen) (entry_of aggregation key)
@@ -110,7 +110,7 @@ numbers-push [] event w g = (g, tt)
 numbers-push (e ∷ events) event w g = (w.0, numbers-push events event w.1 g)
 
 pub contributions-given : (events : List Event) (aggregation : Aggregation) (key : List KeyPart) (value : ℤ)
-    → contributions (events ++ given aggregation key value ∷ []) ≡ contributions events + 1
+    → contribution_count (events ++ given aggregation key value ∷ []) ≡ contribution_count events + 1
 contributions-given [] aggregation key value = omega arith
 contributions-given (given a k v ∷ events) aggregation key value =
     omega (arith, contributions-given events aggregation key value)

@@ -10,9 +10,9 @@ use Rattle.std.proofs.lemmas.List.Folds.{list_any-append}
 use Rattle.std.proofs.lemmas.List.Elements.{Contains-append_right}
 use Rattle.dt_aggfn.specs.Cells.{cell_words, cell_of, IsBag}
 use Rattle.dt_aggstore.specs.Keys.{Entry, same_entry, same_aggregation, entry_cost, cost_of, without}
-use Rattle.dt_aggstore.specs.History.{Event, given, truncated, Past, after, contributions}
+use Rattle.dt_aggstore.specs.History.{Event, given, truncated, Past, after, contribution_count}
 use Rattle.dt_aggstore.specs.Held.{Contribution, entry_of, counted, distinct, held, values_of}
-use Rattle.dt_aggstore.specs.Choice.{IsKept, Keeps}
+use Rattle.dt_aggstore.specs.Choice.{IsKept, KeepsContribution}
 use Rattle.dt_aggstore.specs.Chosen.{drops}
 use Rattle.dt_aggstore.specs.Entries.{names_of, words_of, LiesAt, cells_without}
 use Rattle.dt_aggstore.specs.IsAt.{IsAt}
@@ -118,7 +118,7 @@ module _ (past : Past) (old : AggStore) (at : IsAt past old) (aggregation : Aggr
       cells_then : old.cells.items ≡ cells_from Bags-then (lies.before ++ Given ∷ lies.later)
       cells_then = at.cells ∙ ap (cells_from Bags-then) split
 
-      pub given_bag : contributions past.events ≤ ADDED_LIMIT → IsBag (Bags-then Given)
+      pub given_bag : contribution_count past.events ≤ ADDED_LIMIT → IsBag (Bags-then Given)
       given_bag few = held_bag past.events at.chosen aggregation key at.numbers few is_held
 
       pub cell_is : slice_range old.cells.items place (place + cell_words aggregation.function)
@@ -243,7 +243,7 @@ module _ (past : Past) (old : AggStore) (at : IsAt past old) (aggregation : Aggr
 
       pub keeps_made : (b : Bool) → IsTrue b ↔
           (entry_cost aggregation key + cost_of (names_of old.entries.items) ≤ old.size)
-          → IsTrue b ↔ Keeps past aggregation key value
+          → IsTrue b ↔ KeepsContribution past aggregation key value
       keeps_made b fits =
           keeps past aggregation key value at.chosen b at.choice (
             (λ t. inr (omega (arith, fits.0 t, at.size, ap cost_of at.names))),
@@ -257,7 +257,7 @@ module _ (past : Past) (old : AggStore) (at : IsAt past old) (aggregation : Aggr
 pub keeps_added : (past : Past) (old : AggStore) (at : IsAt past old) (aggregation : Aggregation) (key :
     List KeyPart)
     (value : ℤ) (place : ℕ) → LiesAt (names_of old.entries.items) (entry_of aggregation key) place
-    → IsTrue true ↔ Keeps past aggregation key value
+    → IsTrue true ↔ KeepsContribution past aggregation key value
 keeps_added past old at aggregation key value place lies =
     let entry = entry_of aggregation key in
     let split : held past.events at.chosen ≡ lies.before ++ entry ∷ lies.later = sym at.names ∙ lies.split in
@@ -269,7 +269,7 @@ keeps_added past old at aggregation key value place lies =
 -- ---- a truncation
 
 contributions-truncated : (events : List Event) (aggregation : Aggregation)
-    → contributions (events ++ truncated aggregation ∷ []) ≡ contributions events
+    → contribution_count (events ++ truncated aggregation ∷ []) ≡ contribution_count events
 contributions-truncated [] aggregation = refl
 contributions-truncated (given a k v ∷ events) aggregation =
     ap (λ n. 1 + n) (contributions-truncated events aggregation)

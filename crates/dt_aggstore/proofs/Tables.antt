@@ -11,7 +11,7 @@ use Rattle.dt_aggstore.specs.Keys.{IsBelow}
 use Rattle.dt_aggstore.specs.History.{Past}
 use Rattle.dt_aggstore.specs.Held.{entry_of, counted, held, bag}
 use Rattle.dt_aggstore.specs.Choice.{IsChoice}
-use Rattle.dt_aggstore.specs.Table.{IsRising, HeldInSome, joined, RowForm, IsTable}
+use Rattle.dt_aggstore.specs.Table.{IsRising, HeldInSome, joined_bag, RowForm, IsTable}
 use Rattle.dt_aggstore.specs.IsAt.{IsAt}
 use Rattle.dt_aggstore.specs.Joining.{keys_of, AreJoined, MakesRows}
 use Rattle.dt_aggstore.specs.declared.limits.TheConstants.{ADDED_LIMIT}
@@ -74,7 +74,7 @@ many_choices (p ∷ pasts) (s ∷ stores) at = ap suc (many_choices pasts stores
 module _ (aggregation : Aggregation) where
   -- the bags of the first stores
   abbrev pub Bags-to : (pasts : List Past) (stores : List AggStore) → AllZip IsAt pasts stores → ℕ → Key → List ℤ
-  Bags-to pasts stores at n key = joined aggregation key (take n pasts) (take n (choices_of pasts stores at))
+  Bags-to pasts stores at n key = joined_bag aggregation key (take n pasts) (take n (choices_of pasts stores at))
 
   abbrev Next : (pasts : List Past) (stores : List AggStore) → AllZip IsAt pasts stores → ℕ → AggStore → Type 0
   Next pasts stores at i store =
@@ -94,7 +94,7 @@ module _ (aggregation : Aggregation) where
       let one : suc i + 1 ≡ suc (i + 1) = omega arith in (
         rest.0,
         rest.1,
-        λ key. ap (λ n. joined aggregation key (take n (p ∷ pasts))
+        λ key. ap (λ n. joined_bag aggregation key (take n (p ∷ pasts))
             (take n (at.0.chosen ∷ choices_of pasts stores at.1))) one
             ∙ ap (λ b. bag p.events at.0.chosen aggregation key ++ b) (rest.2 key)
             ∙ sym (append_assoc (bag p.events at.0.chosen aggregation key) (Bags-to pasts stores at.1 i key)
@@ -135,20 +135,20 @@ module _ (aggregation : Aggregation) where
 
   pub values_held : (key : Key) (pasts : List Past) (choices : List (List Bool))
       → HeldInSome aggregation key pasts choices
-      → joined aggregation key pasts choices ≢ []
+      → joined_bag aggregation key pasts choices ≢ []
   values_held key [] choices h = absurd h
   values_held key (p ∷ pasts) [] h = absurd h
   values_held key (p ∷ pasts) (c ∷ choices) h = ⊎_elim
-      (λ here. append_left (bag p.events c aggregation key) (joined aggregation key pasts choices)
+      (λ here. append_left (bag p.events c aggregation key) (joined_bag aggregation key pasts choices)
       (values_some (counted p.events c) (entry_of aggregation key)
       (sym (has-distinct (names (counted p.events c)) (entry_of aggregation key))
       ∙ has_from_contains (held p.events c) (entry_of aggregation key) here)))
-      (λ later. append_right (bag p.events c aggregation key) (joined aggregation key pasts choices)
+      (λ later. append_right (bag p.events c aggregation key) (joined_bag aggregation key pasts choices)
       (values_held key pasts choices later))
       h
 
   pub held_values : (key : Key) (pasts : List Past) (choices : List (List Bool))
-      → joined aggregation key pasts choices ≢ [] → HeldInSome aggregation key pasts choices
+      → joined_bag aggregation key pasts choices ≢ [] → HeldInSome aggregation key pasts choices
   held_values key [] choices h = h refl
   held_values key (p ∷ pasts) [] h = h refl
   held_values key (p ∷ pasts) (c ∷ choices) h = ⊎_elim
@@ -158,7 +158,7 @@ module _ (aggregation : Aggregation) where
       (sym (has-distinct (names (counted p.events c)) (entry_of aggregation key)) ∙ no))))
       (yes_or_no (has (entry_of aggregation key) (held p.events c))))
       (λ later. inr (held_values key pasts choices later))
-      (append_cases (bag p.events c aggregation key) (joined aggregation key pasts choices) h)
+      (append_cases (bag p.events c aggregation key) (joined_bag aggregation key pasts choices) h)
 
 -- before all stores nothing is joined
 pub none_joined : (function : AggFn) (bags : Key → List ℤ) (rows : List Joined) → rows ≡ []
@@ -194,11 +194,11 @@ made_answers function bags (r ∷ rows) (f ∷ forms) m =
 
 pub table_is : (aggregation : Aggregation) (pasts : List Past) (choices : List (List Bool)) (rows : List Joined)
     (forms : List RowForm) → AllZip IsChoice pasts choices
-    → AreJoined aggregation.function (λ key. joined aggregation key pasts choices) rows
-    → MakesRows aggregation.function (λ key. joined aggregation key pasts choices) rows forms
+    → AreJoined aggregation.function (λ key. joined_bag aggregation key pasts choices) rows
+    → MakesRows aggregation.function (λ key. joined_bag aggregation key pasts choices) rows forms
     → IsTable pasts aggregation forms
 table_is aggregation pasts choices rows forms are j m =
-    let keys = made_keys aggregation.function (λ key. joined aggregation key pasts choices) rows forms m in
+    let keys = made_keys aggregation.function (λ key. joined_bag aggregation key pasts choices) rows forms m in
     record {
       choices = choices;
       choice = are;
@@ -208,7 +208,7 @@ table_is aggregation pasts choices rows forms are j m =
         (λ h. subst (λ xs. Contains xs key) (sym keys)
             ((j.has key).1 (values_held aggregation key pasts choices h))),
       );
-      answers = made_answers aggregation.function (λ key. joined aggregation key pasts choices) rows forms m;
+      answers = made_answers aggregation.function (λ key. joined_bag aggregation key pasts choices) rows forms m;
     }
 
 -- ---- one table
@@ -270,9 +270,9 @@ pub one_table : (pasts : List Past) (aggregation : Aggregation) (rows other : Li
     → IsTable pasts aggregation rows → IsTable pasts aggregation other → rows ≡ other
 one_table pasts aggregation rows other t u =
     let same = one_list pasts u.choices t.choices u.choice t.choice in
-    let answer = λ (key : Key). answer_of aggregation.function (joined aggregation key pasts t.choices) in
+    let answer = λ (key : Key). answer_of aggregation.function (joined_bag aggregation key pasts t.choices) in
     let answers = subst (λ c. AllByRecursion (λ row. row.value
-    ≡ answer_of aggregation.function (joined aggregation row.key pasts c)) other) same u.answers in
+    ≡ answer_of aggregation.function (joined_bag aggregation row.key pasts c)) other) same u.answers in
     let keys = same_keys (map (λ row. row.key) rows) (map (λ row. row.key) other) t.rising u.rising
     (λ k a. (u.held k).1 (subst (HeldInSome aggregation k pasts) (sym same) ((t.held k).0 a)))
     (λ k a. (t.held k).1 (subst (HeldInSome aggregation k pasts) same ((u.held k).0 a))) in
@@ -304,25 +304,25 @@ pub all_joined : (aggregation : Aggregation) (pasts : List Past) (stores : List 
     AllZip IsAt pasts stores) (n : ℕ)
     (rows : List Joined) → length stores ≤ n
     → AreJoined aggregation.function (Bags-to aggregation pasts stores at n) rows
-    → AreJoined aggregation.function (λ key. joined aggregation key pasts (choices_of pasts stores at)) rows
+    → AreJoined aggregation.function (λ key. joined_bag aggregation key pasts (choices_of pasts stores at)) rows
 all_joined aggregation pasts stores at n rows all j =
     joined_alike aggregation.function (Bags-to aggregation pasts stores at n) _ rows
-    (λ key. ap (λ ps. joined aggregation key ps (take n (choices_of pasts stores at)))
+    (λ key. ap (λ ps. joined_bag aggregation key ps (take n (choices_of pasts stores at)))
     (take_all n pasts (omega (arith, as_many pasts stores at)))
-    ∙ ap (joined aggregation key pasts)
+    ∙ ap (joined_bag aggregation key pasts)
     (take_all n (choices_of pasts stores at) (omega (arith, many_choices pasts stores at))))
     j
 
 -- all bags together are short
 pub all_short : (aggregation : Aggregation) (pasts : List Past) (stores : List AggStore) (at :
     AllZip IsAt pasts stores)
-    (key : Key) → length (joined aggregation key pasts (choices_of pasts stores at)) ≤ length stores * ADDED_LIMIT
+    (key : Key) → length (joined_bag aggregation key pasts (choices_of pasts stores at)) ≤ length stores * ADDED_LIMIT
 all_short aggregation pasts stores at key =
     let n = length stores in
     let whole : Bags-to aggregation pasts stores at n key
-    ≡ joined aggregation key pasts (choices_of pasts stores at) =
-    ap (λ ps. joined aggregation key ps (take n (choices_of pasts stores at)))
+    ≡ joined_bag aggregation key pasts (choices_of pasts stores at) =
+    ap (λ ps. joined_bag aggregation key ps (take n (choices_of pasts stores at)))
     (take_all n pasts (omega (arith, as_many pasts stores at)))
-    ∙ ap (joined aggregation key pasts)
+    ∙ ap (joined_bag aggregation key pasts)
     (take_all n (choices_of pasts stores at) (omega (arith, many_choices pasts stores at))) in
     omega (arith, bags_short aggregation pasts stores at n key, ap length whole)

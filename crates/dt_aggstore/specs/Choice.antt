@@ -21,7 +21,7 @@ pub record IsChoice (past : Past) (chosen : List Bool) : Type 0 where
       (IsTrue (slice_index_or chosen i false) ↔ IsKept past.size (take i past.events) (take i chosen) event)
 
 -- After a past, a store keeps this contribution: it is the last of them, and chosen.
-pub record Keeps (past : Past) (aggregation : Aggregation) (key : List KeyPart) (value : ℤ) : Type 0 where
+pub record KeepsContribution (past : Past) (aggregation : Aggregation) (key : List KeyPart) (value : ℤ) : Type 0 where
   pub chosen : List Bool
   pub choice : IsChoice (after past (given aggregation key value)) chosen
   pub last : IsTrue (slice_index_or chosen (length past.events) false)

@@ -23,7 +23,7 @@ abbrev pub after : Past → Event → Past
 after past event = record { size = past.size; events = past.events ++ event ∷ [] }
 
 -- how many contributions there are
-abbrev pub contributions : List Event → ℕ
-contributions [] = 0
-contributions (given aggregation key value ∷ later) = 1 + contributions later
-contributions (truncated aggregation ∷ later) = contributions later
+abbrev pub contribution_count : List Event → ℕ
+contribution_count [] = 0
+contribution_count (given aggregation key value ∷ later) = 1 + contribution_count later
+contribution_count (truncated aggregation ∷ later) = contribution_count later

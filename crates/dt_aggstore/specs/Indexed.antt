@@ -12,7 +12,7 @@ pub record Indexed : Type 0 where
   pub room : ℕ
 
 -- An index has at most so many entries, and it and an empty one beside it each have room for so many.
-pub record HasRoom {S T : Type 0} (room : ℕ) (index : IndexMap Held ℕ S) (other : IndexMap Held ℕ T) : Type 0 where
+pub record IndexHasRoom {S T : Type 0} (room : ℕ) (index : IndexMap Held ℕ S) (other : IndexMap Held ℕ T) : Type 0 where
   pub within : index_map_len index ≤ room
   pub first : room ≤ index_map_len index + spare index
   pub second : room ≤ spare other

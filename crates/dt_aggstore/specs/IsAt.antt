@@ -3,7 +3,7 @@ use Rattle.std.specs.Prelude.{◌≡◌, ℕ, ◌+◌, ◌≤◌, ◌↔◌, ℤ
 use Rattle.std.specs.List.{AllByRecursion, flat_map}
 use Rattle.std.specs.Int.{w64}
 use Rattle.dt_aggfn.specs.Cells.{cell_of}
-use Rattle.dt_aggstore.specs.History.{Event, given, truncated, Past, contributions}
+use Rattle.dt_aggstore.specs.History.{Event, given, truncated, Past, contribution_count}
 use Rattle.dt_aggstore.specs.Keys.{Entry, entry_cost, cost_of}
 use Rattle.dt_aggstore.specs.Held.{entry_of, held, bag}
 use Rattle.dt_aggstore.specs.Choice.{IsChoice}
@@ -27,7 +27,7 @@ cells_of events chosen entries =
 -- 64-bit numbers, and those that were dropped, and has the held entries, each with the cell of its bag.
 pub record IsAt (past : Past) (store : AggStore) : Type 0 where
   pub size : store.size ≡ past.size
-  pub added : store.added ≡ contributions past.events
+  pub added : store.added ≡ contribution_count past.events
   pub dropped : store.dropped ≡ drops past
   pub numbers : AllByRecursion GivesWord past.events
   pub chosen : List Bool

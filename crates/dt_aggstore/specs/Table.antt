@@ -23,10 +23,10 @@ module _ (aggregation : Aggregation) (key : List KeyPart) where
       Contains (held past.events chosen) (entry_of aggregation key) ⊎ HeldInSome pasts choices
 
   -- the key's bags at the ends of all pasts, joined in order
-  abbrev pub joined : List Past → List (List Bool) → List ℤ
-  joined [] choices = []
-  joined (past ∷ pasts) [] = []
-  joined (past ∷ pasts) (chosen ∷ choices) = bag past.events chosen aggregation key ++ joined pasts choices
+  abbrev pub joined_bag : List Past → List (List Bool) → List ℤ
+  joined_bag [] choices = []
+  joined_bag (past ∷ pasts) [] = []
+  joined_bag (past ∷ pasts) (chosen ∷ choices) = bag past.events chosen aggregation key ++ joined_bag pasts choices
 
 -- A row of a table: its key, and what the function makes of the key's values.
 pub record RowForm : Type 0 where
@@ -42,4 +42,4 @@ pub record IsTable (pasts : List Past) (aggregation : Aggregation) (rows : List 
   pub held : (key : List KeyPart) →
       Contains (map (λ row. row.key) rows) key ↔ HeldInSome aggregation key pasts choices
   pub answers : AllByRecursion
-      (λ row. row.value ≡ answer_of aggregation.function (joined aggregation row.key pasts choices)) rows
+      (λ row. row.value ≡ answer_of aggregation.function (joined_bag aggregation row.key pasts choices)) rows

@@ -7,7 +7,7 @@ use Rattle.dt_aggstore.specs.Keys.{Entry, key_cmp, same_aggregation}
 use Rattle.dt_aggstore.specs.History.{Past}
 use Rattle.dt_aggstore.specs.Held.{held}
 use Rattle.dt_aggstore.specs.Chosen.{choice_of}
-use Rattle.dt_aggstore.specs.Table.{joined, RowForm}
+use Rattle.dt_aggstore.specs.Table.{joined_bag, RowForm}
 use Rattle.dt_aggstore.specs.declared.key.Aggregation.{Aggregation}
 use Rattle.dt_aggstore.specs.declared.key.KeyPart.{KeyPart}
 
@@ -23,6 +23,6 @@ table_of pasts aggregation =
     map
     (λ key. record {
       key = key;
-      value = answer_of aggregation.function (joined aggregation key pasts (map choice_of pasts));
+      value = answer_of aggregation.function (joined_bag aggregation key pasts (map choice_of pasts));
     })
     (rising_keys aggregation (flat_map (λ past. held past.events (choice_of past)) pasts))

@@ -31,13 +31,13 @@ pub(crate) struct Entries {
 
 impl Model for Entries {
     ghost use Rattle.indexmap.specs.IndexMap.{keys, values};
-    ghost use Rattle.dt_aggstore.specs.Indexed.{Indexed, HasRoom};
+    ghost use Rattle.dt_aggstore.specs.Indexed.{Indexed, IndexHasRoom};
 
     ghost Value = { Indexed };
 
     ghost view = { λ e. record { items = keys e.index; places = values e.index; room = e.room } };
 
-    ghost invariant = { λ e. HasRoom e.room e.index e.other };
+    ghost invariant = { λ e. IndexHasRoom e.room e.index e.other };
 }
 
 impl Entries {

@@ -38,8 +38,8 @@ pub struct AggStore {
 }
 
 impl AggStore {
-    ghost use Rattle.dt_aggstore.specs.History.{Past, given, truncated, new_past, after, contributions};
-    ghost use Rattle.dt_aggstore.specs.Choice.{Keeps};
+    ghost use Rattle.dt_aggstore.specs.History.{Past, given, truncated, new_past, after, contribution_count};
+    ghost use Rattle.dt_aggstore.specs.Choice.{KeepsContribution};
     ghost use Rattle.dt_aggstore.specs.Chosen.{drops};
     ghost use Rattle.dt_aggstore.specs.IsAt.{IsAt, Makes, added_of};
     ghost use Rattle.dt_aggstore.specs.Lent.{LendsIndex, LendsPool, pool_of};
@@ -70,7 +70,7 @@ impl AggStore {
         ensures stands { (past : Past) → IsAt past self.old
             → IsAt (after past (given aggregation key.now.parts.items value)) self.new }
         ensures keeps { (past : Past) → IsAt past self.old
-            → (IsTrue result ↔ Keeps past aggregation key.now.parts.items value) }
+            → (IsTrue result ↔ KeepsContribution past aggregation key.now.parts.items value) }
         ensures added { added_of self.new ≡ added_of self.old + 1 }
         ensures drops { (past : Past) → IsAt past self.old
             → drops (after past (given aggregation key.now.parts.items value))
@@ -104,7 +104,7 @@ impl AggStore {
     /// How many values were given so far, kept or not.
     pub fn added(&self) -> u64
         ensures counted { result ≡ added_of self.now }
-        ensures shows { (past : Past) → IsAt past self.now → result ≡ contributions past.events }
+        ensures shows { (past : Past) → IsAt past self.now → result ≡ contribution_count past.events }
     {
         self.added
     }

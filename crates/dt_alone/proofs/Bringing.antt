@@ -23,7 +23,8 @@ use Rattle.dt_consumer.proofs.Giving.{contributions-append}
 use Rattle.dt_consumer.proofs.Takings.{faults-append}
 
 -- the same, written in another way
-pub same_brings : (cpu : ℕ) (happened : List Happened) (a a' : List buffer.Event) (n n' : ℕ) (g g' : List store.Event)
+pub same_brings : (cpu : ℕ) (happened : List Happened) (a a' : List buffer.BufferEvent) (n n' : ℕ)
+    (g g' : List store.Event)
     → a ≡ a' → n ≡ n' → g ≡ g' → Brings cpu happened a n g → Brings cpu happened a' n' g'
 same_brings cpu happened a a' n n' g g' e f h b =
     record { buffer = b.buffer ∙ e; failures = b.failures ∙ f; store = b.store ∙ h }
@@ -40,7 +41,7 @@ counted_more p (y ∷ xs) x = one (p y) (counted_more p xs x)
     one false e = e
 
 -- one thing more
-pub brings_one : (cpu : ℕ) (happened : List Happened) (h : Happened) (a : List buffer.Event) (n : ℕ)
+pub brings_one : (cpu : ℕ) (happened : List Happened) (h : Happened) (a : List buffer.BufferEvent) (n : ℕ)
     (g : List store.Event) → Brings cpu happened a n g
     → Brings cpu (happened ++ h ∷ []) (a ++ comes_to cpu h) (n + faults_on cpu (h ∷ [])) (g ++ gives_to cpu h)
 brings_one cpu happened h a n g b = record {
@@ -97,7 +98,7 @@ adds_both shapes there xs ys old mid new f h = λ cpu a n g b.
 
 -- one taking: what it brings where it was taken, and nothing elsewhere
 one_there : (shapes : List ShapeForm) (there cpu : ℕ) (t : Taking) (old new : List Happened)
-    (a a' : List buffer.Event) (n n' : ℕ) (g g' : List store.Event)
+    (a a' : List buffer.BufferEvent) (n n' : ℕ) (g g' : List store.Event)
     → Brings cpu new (a ++ cond (there == cpu) a' []) (n + cond (there == cpu) n' 0) (g ++ cond (there == cpu) g' [])
     → a' ≡ attempts_of (t ∷ []) → n' ≡ faults (t ∷ []) → g' ≡ contributions shapes (t ∷ [])
     → Brings cpu new (a ++ attempts_of (where_taken there (t ∷ []) cpu)) (n + faults (where_taken there (t ∷ []) cpu))
@@ -119,7 +120,7 @@ one_there shapes there cpu t old new a a' n n' g g' b e f h =
     gives false = refl
 
 -- what one taking attempts, faults and gives, by what came of it
-abbrev attempted : Bool → Option (List ℕ) → List buffer.Event
+abbrev attempted : Bool → Option (List ℕ) → List buffer.BufferEvent
 attempted in_end o = option_to_list (option_map (λ bytes. buffer.attempt bytes in_end) o)
 
 abbrev bytes_in : Option (Option TakenForm) → Option (List ℕ)

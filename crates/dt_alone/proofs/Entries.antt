@@ -5,7 +5,7 @@ use Rattle.std.proofs.lemmas.Fmt.{decimal_injective}
 use Rattle.std.proofs.lemmas.List.{length-append}
 use Rattle.std.proofs.lemmas.List.Elements.{All-append, All-drop}
 use Rattle.dt_proto.specs.Splits.{HasNoNewline, with_newline}
-use Rattle.dt_proto.specs.Trail.{Entry, line_asked, long_asked, fired_at, entry_text, reply_line, IsWritable}
+use Rattle.dt_proto.specs.Trail.{TrailEntry, line_asked, long_asked, fired_at, entry_text, reply_line, IsWritable}
 use Rattle.dt_alone.specs.Parts.{HasNo, IsCutAt}
 use Rattle.dt_alone.proofs.Cuts.{Other, same_cut, line_then, none_in}
 use Rattle.dt_alone.proofs.Decimals.{decimal_no}
@@ -15,12 +15,12 @@ abbrev pub place_text : (cpu place : ℕ) → List ℕ
 place_text cpu place = decimal cpu ++ (codes " " ++ decimal place)
 
 -- the first line of an entry, and its other lines
-abbrev pub first_of : Entry → List ℕ
+abbrev pub first_of : TrailEntry → List ℕ
 first_of (line_asked line reply) = codes "line " ++ line
 first_of (long_asked reply) = codes "long"
 first_of (fired_at cpu place) = codes "fired " ++ place_text cpu place
 
-abbrev pub more_of : Entry → List ℕ
+abbrev pub more_of : TrailEntry → List ℕ
 more_of (line_asked line reply) = reply_line reply
 more_of (long_asked reply) = reply_line reply
 more_of (fired_at cpu place) = []
@@ -28,7 +28,7 @@ more_of (fired_at cpu place) = []
 two_lines : (first more rest : List ℕ) → (with_newline first ++ more) ++ rest ≡ first ++ (10 ∷ (more ++ rest))
 two_lines first more rest = append_assoc (with_newline first) more rest ∙ line_then first (more ++ rest)
 
-pub entry_whole : (entry : Entry) (rest : List ℕ) → entry_text entry ++ rest
+pub entry_whole : (entry : TrailEntry) (rest : List ℕ) → entry_text entry ++ rest
     ≡ first_of entry ++ (10 ∷ (more_of entry ++ rest))
 entry_whole (line_asked line reply) rest = two_lines (codes "line " ++ line) (reply_line reply) rest
 entry_whole (long_asked reply) rest = two_lines (codes "long") (reply_line reply) rest
@@ -40,7 +40,7 @@ place_clean cpu place p q =
     (All-append (Other 10) (codes " ") (decimal place) (none_in 10 (codes " ") refl)
     (decimal_no 10 place (omega arith) q))
 
-pub first_clean : (entry : Entry) → IsWritable entry → HasNo 10 (first_of entry)
+pub first_clean : (entry : TrailEntry) → IsWritable entry → HasNo 10 (first_of entry)
 first_clean (line_asked line reply) h =
     All-append (Other 10) (codes "line ") line (none_in 10 (codes "line ") refl) h.0
 first_clean (long_asked reply) h = none_in 10 (codes "long") refl
@@ -49,7 +49,7 @@ first_clean (fired_at cpu place) h =
     (place_clean cpu place h.0 h.1)
 
 -- a text whose first line is this, and that begins with an entry
-pub begins : (text first rest more : List ℕ) (entry : Entry) → text ≡ first ++ (10 ∷ rest) → HasNo 10 first
+pub begins : (text first rest more : List ℕ) (entry : TrailEntry) → text ≡ first ++ (10 ∷ rest) → HasNo 10 first
     → IsWritable entry → text ≡ entry_text entry ++ more
     → (first ≡ first_of entry) × (rest ≡ more_of entry ++ more)
 begins text first rest more entry cut clean h is =
@@ -60,18 +60,18 @@ at : (n : ℕ) (a b : List ℕ) → a ≡ b → get_or a n 0 ≡ get_or b n 0
 at n a b e = ap (λ text. get_or text n 0) e
 
 -- by its first line an entry is one of a line, of a long line, or a firing
-pub is_line : (line : List ℕ) (entry : Entry) → codes "line " ++ line ≡ first_of entry
+pub is_line : (line : List ℕ) (entry : TrailEntry) → codes "line " ++ line ≡ first_of entry
     → (reply : List ℕ) × (entry ≡ line_asked line reply)
 is_line line (line_asked other reply) e = (reply, ap (λ l. line_asked l reply) (sym (ap (drop 5) e)))
 is_line line (long_asked reply) e = absurd (omega (arith, at 1 _ _ e))
 is_line line (fired_at cpu place) e = absurd (omega (arith, at 0 _ _ e))
 
-pub is_long : (entry : Entry) → codes "long" ≡ first_of entry → (reply : List ℕ) × (entry ≡ long_asked reply)
+pub is_long : (entry : TrailEntry) → codes "long" ≡ first_of entry → (reply : List ℕ) × (entry ≡ long_asked reply)
 is_long (line_asked other reply) e = absurd (omega (arith, at 1 _ _ e))
 is_long (long_asked reply) e = (reply, refl)
 is_long (fired_at cpu place) e = absurd (omega (arith, at 0 _ _ e))
 
-pub is_fired : (text : List ℕ) (entry : Entry) → codes "fired " ++ text ≡ first_of entry
+pub is_fired : (text : List ℕ) (entry : TrailEntry) → codes "fired " ++ text ≡ first_of entry
     → (cpu place : ℕ) × (entry ≡ fired_at cpu place) × (text ≡ place_text cpu place)
 is_fired text (line_asked other reply) e = absurd (omega (arith, at 0 _ _ e))
 is_fired text (long_asked reply) e = absurd (omega (arith, at 0 _ _ e))
@@ -100,7 +100,7 @@ same_places c d p q hc hd hp hq e =
       decimal_injective p q (omega arith) (omega arith) both.1,
     )
 
-same_more : (a b : Entry) (r s : List ℕ) → IsWritable a → IsWritable b → first_of a ≡ first_of b
+same_more : (a b : TrailEntry) (r s : List ℕ) → IsWritable a → IsWritable b → first_of a ≡ first_of b
     → more_of a ++ r ≡ more_of b ++ s → (a ≡ b) × (r ≡ s)
 same_more (line_asked x t) (line_asked y u) r s h k e f =
     let line : x ≡ y = ap (drop 5) e in
@@ -122,24 +122,26 @@ same_more (long_asked t) (fired_at d q) r s h k e f = absurd (omega (arith, at 0
 same_more (fired_at c p) (line_asked y u) r s h k e f = absurd (omega (arith, at 0 _ _ e))
 same_more (fired_at c p) (long_asked u) r s h k e f = absurd (omega (arith, at 0 _ _ e))
 
-pub same_entry : (a b : Entry) (r s : List ℕ) → IsWritable a → IsWritable b → entry_text a ++ r ≡ entry_text b ++ s
+pub same_entry : (a b : TrailEntry) (r s : List ℕ) → IsWritable a → IsWritable b → entry_text a ++ r
+    ≡ entry_text b ++ s
     → (a ≡ b) × (r ≡ s)
 same_entry a b r s h k e =
     let both = begins (entry_text a ++ r) (first_of a) (more_of a ++ r) s b (entry_whole a r) (first_clean a h) k e in
     same_more a b r s h k both.0 both.1
 
 -- an entry has a newline at least
-pub entry_long : (entry : Entry) (rest : List ℕ) → length rest < length (entry_text entry ++ rest)
+pub entry_long : (entry : TrailEntry) (rest : List ℕ) → length rest < length (entry_text entry ++ rest)
 entry_long entry rest =
     let whole = ap length (entry_whole entry rest) ∙ length-append (first_of entry) (10 ∷ (more_of entry ++ rest)) in
     omega (arith, whole, length-append (more_of entry) rest)
 
 -- What a text begins with whose first line is known: an entry, or none.
 module _ (text first rest : List ℕ) (cut : IsCutAt 10 text first rest) where
-  abbrev Starts : Entry → List ℕ → Type 0
+  abbrev Starts : TrailEntry → List ℕ → Type 0
   Starts entry more = IsWritable entry × (text ≡ entry_text entry ++ more)
 
-  started : (entry : Entry) (more : List ℕ) → IsWritable entry → first ≡ first_of entry → rest ≡ more_of entry ++ more
+  started : (entry : TrailEntry) (more : List ℕ) → IsWritable entry → first ≡ first_of entry → rest
+      ≡ more_of entry ++ more
       → Starts entry more
   started entry more h line later = (
     h,
@@ -163,7 +165,7 @@ module _ (text first rest : List ℕ) (cut : IsCutAt 10 text first rest) where
       started (fired_at cpu place) rest (h.0, h.1) (is ∙ ap (λ more. codes "fired " ++ more) h.2) refl
 
   abbrev StartsNone : Type 0
-  StartsNone = (entry : Entry) (more : List ℕ) → IsWritable entry → text ≡ entry_text entry ++ more → ⊥
+  StartsNone = (entry : TrailEntry) (more : List ℕ) → IsWritable entry → text ≡ entry_text entry ++ more → ⊥
 
   pub no_line : (line : List ℕ) → first ≡ codes "line " ++ line
       → ((reply more : List ℕ) → HasNoNewline reply → rest ≡ reply_line reply ++ more → ⊥) → StartsNone
@@ -188,7 +190,7 @@ module _ (text first rest : List ℕ) (cut : IsCutAt 10 text first rest) where
       none found.0 found.1 writable.0 writable.1 found.3
 
   no_kind : ((line : List ℕ) → first ≡ codes "line " ++ line → ⊥) → (first ≡ codes "long" → ⊥)
-      → ((places : List ℕ) → first ≡ codes "fired " ++ places → ⊥) → (entry : Entry) → first ≡ first_of entry → ⊥
+      → ((places : List ℕ) → first ≡ codes "fired " ++ places → ⊥) → (entry : TrailEntry) → first ≡ first_of entry → ⊥
   no_kind line long fired (line_asked l reply) is = line l is
   no_kind line long fired (long_asked reply) is = long is
   no_kind line long fired (fired_at cpu place) is = fired (place_text cpu place) is

@@ -16,14 +16,14 @@ use Rattle.dt_consumer.specs.Life.{Item, asked, is_over}
 use Rattle.dt_consumer.specs.Reply.{Replies}
 use Rattle.dt_consumer.specs.declared.refusal.Refusal.{Refusal}
 use Rattle.dt_proto.specs.Line.{ask_in}
-use Rattle.dt_proto.specs.Lines.{form_of, long_line}
+use Rattle.dt_proto.specs.Lines.{line_form, long_line}
 use Rattle.dt_proto.specs.Reply.{reply_text}
 use Rattle.dt_proto.specs.Splits.{with_newline}
-use Rattle.dt_proto.specs.Trail.{Entry, line_asked, long_asked, fired_at}
-use Rattle.dt_alone.specs.Answered.{IsAnswered}
+use Rattle.dt_proto.specs.Trail.{TrailEntry, line_asked, long_asked, fired_at}
+use Rattle.dt_alone.specs.Answered.{AnswersAsk}
 use Rattle.dt_alone.specs.Compared.{IsCompared}
-use Rattle.dt_alone.specs.Judging.{IsAfter, IsRuling}
-use Rattle.dt_alone.specs.Legal.{IsAbove, life_in}
+use Rattle.dt_alone.specs.Judging.{HasJudged, IsRuling}
+use Rattle.dt_alone.specs.Legal.{IsAbove, life_of_trail}
 use Rattle.dt_alone.specs.Runs.{Runs}
 use Rattle.dt_alone.specs.declared.judge.Judge.{Judge}
 use Rattle.dt_alone.specs.declared.judge.Ruling.{Ruling}
@@ -53,7 +53,7 @@ inside contents cpu place firing sound is =
     inside_script contents cpu place firing (slice_get contents.scripts cpu) sound refl (sound.short cpu) is
 
 -- the least places above those of each processor's firings
-abbrev pub AreLeast : List Entry → List ℕ → Type 0
+abbrev pub AreLeast : List TrailEntry → List ℕ → Type 0
 AreLeast past least = (cpu place : ℕ) → cpu < 64 → (IsAbove past cpu place ↔ (get_or least cpu 0 ≤ place))
 
 not_above : (n place : ℕ) → n ≡ 0 → n ≤ place
@@ -65,7 +65,7 @@ no_least cpu place low = (
   λ reached. tt,
 )
 
-pub least_more : (least : List ℕ) (past : List Entry) (cpu place : ℕ) → cpu < length least → AreLeast past least
+pub least_more : (least : List ℕ) (past : List TrailEntry) (cpu place : ℕ) → cpu < length least → AreLeast past least
     → get_or least cpu 0 ≤ place → AreLeast (fired_at cpu place ∷ past) (set least cpu (place + 1))
 least_more least past cpu place within before low other at small =
     ⊎_elim
@@ -87,8 +87,8 @@ least_more least past cpu place within before low other at small =
 module _ (one_reply : (account : Account) (registry : Registry) (life : List Item) (line : Result Ask Refusal)
     (a b : Answer) → Replies account registry life line a → Replies account registry life line b → a ≡ b)
     (account : Account) (contents : Contents) where
-  abbrev life_of : List Entry → List Item
-  life_of past = life_in account contents past
+  abbrev life_of : List TrailEntry → List Item
+  life_of past = life_of_trail account contents past
 
   -- what is said of a reply to what a line asks
   abbrev IsReply : List Item → Result Ask Refusal → List ℕ → Type 0
@@ -96,7 +96,7 @@ module _ (one_reply : (account : Account) (registry : Registry) (life : List Ite
       × (with_newline reply ≡ reply_text answer)
 
   abbrev Answered : List Item → Result Ask Refusal → Runner → List ℕ → Type 0
-  Answered life ask runner due = IsAnswered account contents.registry life ask runner due
+  Answered life ask runner due = AnswersAsk account contents.registry life ask runner due
 
   is_reply : (life : List Item) (ask : Result Ask Refusal) (runner : Runner) (reply due : List ℕ)
       → Answered life ask runner due → with_newline reply ≡ due → IsReply life ask reply
@@ -112,15 +112,15 @@ module _ (one_reply : (account : Account) (registry : Registry) (life : List Ite
       → Answered life ask runner due → is_over life ≡ false → Runs account contents.registry runner (asked ask ∷ life)
   has_run life ask runner due h quota = rw quota at h.runs
 
-  pub line_ruled : (past : List Entry) (judge new : Judge) (line reply due : List ℕ) (ruling : Ruling)
-      → IsAfter account contents past judge → new.least ≡ judge.least → is_over (life_of past) ≡ false
-      → Answered (life_of past) (ask_in (form_of line)) new.runner due → IsCompared (with_newline reply) due ruling
+  pub line_ruled : (past : List TrailEntry) (judge new : Judge) (line reply due : List ℕ) (ruling : Ruling)
+      → HasJudged account contents past judge → new.least ≡ judge.least → is_over (life_of past) ≡ false
+      → Answered (life_of past) (ask_in (line_form line)) new.runner due → IsCompared (with_newline reply) due ruling
       → IsRuling account contents past (line_asked line reply) new ruling
   line_ruled past judge new line reply due Right after kept quota h same = (
     quota,
-    is_reply (life_of past) (ask_in (form_of line)) new.runner reply due h same,
+    is_reply (life_of past) (ask_in (line_form line)) new.runner reply due h same,
     record {
-      runs = has_run (life_of past) (ask_in (form_of line)) new.runner due h quota;
+      runs = has_run (life_of past) (ask_in (line_form line)) new.runner due h quota;
       least = λ cpu place low. (
         λ above. rw kept ((after.least cpu place low).0 above.1),
         λ reached. (tt, (after.least cpu place low).1 (rw kept at reached)),
@@ -128,11 +128,11 @@ module _ (one_reply : (account : Account) (registry : Registry) (life : List Ite
     },
   )
   line_ruled past judge new line reply due Wrong after kept quota h other =
-      (quota, no_reply (life_of past) (ask_in (form_of line)) new.runner reply due h other)
+      (quota, no_reply (life_of past) (ask_in (line_form line)) new.runner reply due h other)
   line_ruled past judge new line reply due OutOfPlace after kept quota h none = absurd none
 
-  pub long_ruled : (past : List Entry) (judge new : Judge) (reply due : List ℕ) (ruling : Ruling)
-      → IsAfter account contents past judge → new.least ≡ judge.least → is_over (life_of past) ≡ false
+  pub long_ruled : (past : List TrailEntry) (judge new : Judge) (reply due : List ℕ) (ruling : Ruling)
+      → HasJudged account contents past judge → new.least ≡ judge.least → is_over (life_of past) ≡ false
       → Answered (life_of past) (ask_in long_line) new.runner due → IsCompared (with_newline reply) due ruling
       → IsRuling account contents past (long_asked reply) new ruling
   long_ruled past judge new reply due Right after kept quota h same = (

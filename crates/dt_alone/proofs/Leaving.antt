@@ -19,7 +19,7 @@ use Rattle.dt_lang.specs.declared.program.Aggregation as program
 use Rattle.dt_lang.specs.declared.program.Statement.{Statement}
 use Rattle.dt_lang.specs.declared.program.Statement.TheVariants.{Aggregate, Exit, Stack, Trace, Ustack}
 use Rattle.dt_record.specs.Taking.{Effect, contributed, each, effect, predicate_value, taken_of, TakenForm, taking}
-use Rattle.dt_consumer.specs.Aggregations.{aggregation_of, contributions_of, given_by, number_of}
+use Rattle.dt_consumer.specs.Aggregations.{aggregation_of, contributions_of, given_by, number_given}
 use Rattle.dt_consumer.specs.Keeps.{taking_by}
 use Rattle.dt_consumer.specs.Takings.{Taking, MomentForm, scene_at, taking_of}
 use Rattle.dt_consumer.specs.Uses.{UseForm, contribution_at, key_at, number_at, split_by, use_by, uses_by}
@@ -136,7 +136,7 @@ given_one a o keys place values parts z is own number =
     ap (λ x. contribution_at (x, keys) (drop place values)) is
     ∙ ap (λ ks. store.given a ks (number_at (drop place values) keys) ∷ []) (sym own)
     ∙ ap (λ n. store.given a parts n ∷ [])
-    (ap number_of (get_or-drop place values keys (val.Number (pos 0))) ∙ sym number)
+    (ap number_given (get_or-drop place values keys (val.Number (pos 0))) ∙ sym number)
 
 pub given_none : (o : Option Aggregation) (keys : ℕ) (values : List Value) → o ≡ None
     → contribution_at (o, keys) values ≡ []

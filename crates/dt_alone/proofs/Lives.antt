@@ -14,11 +14,11 @@ use Rattle.dt_consumer.specs.Life.{Item}
 use Rattle.dt_consumer.specs.Reply.{Replies}
 use Rattle.dt_proto.specs.Alone.{Reached, own_line, firing_made, IsAfterFiring, IsLifeOf, Alone}
 use Rattle.dt_proto.specs.Line.{ask_in}
-use Rattle.dt_proto.specs.Lines.{LineForm, form_of, long_line}
+use Rattle.dt_proto.specs.Lines.{LineForm, line_form, long_line}
 use Rattle.dt_proto.specs.Reply.{reply_text}
 use Rattle.dt_proto.specs.Splits.{with_newline}
-use Rattle.dt_proto.specs.Trail.{Entry, line_asked, long_asked, fired_at}
-use Rattle.dt_alone.specs.Legal.{Agrees, IsLegal, life_in, reached_by}
+use Rattle.dt_proto.specs.Trail.{TrailEntry, line_asked, long_asked, fired_at}
+use Rattle.dt_alone.specs.Legal.{Agrees, IsLegal, life_of_trail, reached_by}
 use Rattle.dt_alone.specs.Verdicts.{AreRepliesAlone, replies_by, replies_of}
 
 -- two lists that end alike
@@ -38,16 +38,16 @@ same_last (w ∷ xs) (z ∷ ys) x y e =
     (whole, both.1)
 
 -- what a past tells: the view, and the replies, the oldest first
-abbrev view_in : Contents → List Entry → List Reached
+abbrev view_in : Contents → List TrailEntry → List Reached
 view_in contents past = flat_map (reached_by contents) past
 
-abbrev replies_told : List Entry → List (List ℕ)
+abbrev replies_told : List TrailEntry → List (List ℕ)
 replies_told [] = []
 replies_told (entry ∷ past) = replies_told past ++ replies_by entry
 
 module _ (account : Account) (contents : Contents) where
-  abbrev lived : List Entry → List Item
-  lived past = life_in account contents past
+  abbrev lived : List TrailEntry → List Item
+  lived past = life_of_trail account contents past
 
   -- a view has one life
   after_same : (before : List Item) (firing : Firing) (a b : List Item)
@@ -72,7 +72,7 @@ module _ (account : Account) (contents : Contents) where
       (subst (λ life. IsAfterFiring account contents.registry life firing b) before k.2)
 
   -- the life that legal entries tell is that of the view that they tell
-  pub lives : (past : List Entry) → IsLegal account contents past
+  pub lives : (past : List TrailEntry) → IsLegal account contents past
       → IsLifeOf account contents.registry (view_in contents past) (lived past)
   lives [] h = refl
   lives (line_asked line reply ∷ past) h = (lived past, lives past h.0, rw h.1 refl)
@@ -81,22 +81,22 @@ module _ (account : Account) (contents : Contents) where
       let firing = h.1.1 in
       rw firing.1 (lived past, lives past h.0, inl (firing.2, refl))
 
-  legal : (past : List Entry) → Agrees account contents past → IsLegal account contents past
+  legal : (past : List TrailEntry) → Agrees account contents past → IsLegal account contents past
   legal [] h = tt
   legal (entry ∷ past) h = (legal past h.0, h.1)
 
   -- The replies of a past are those of the view that it tells.
-  record IsAnswered (past : List Entry) : Type 0 where
+  record IsAnswered (past : List TrailEntry) : Type 0 where
     answers : List Answer
     alone : Alone account contents.registry (view_in contents past) answers
     told : replies_told past ≡ map reply_text answers
 
   -- what is said of a reply to a line
-  abbrev IsReply : List Entry → LineForm → List ℕ → Type 0
+  abbrev IsReply : List TrailEntry → LineForm → List ℕ → Type 0
   IsReply past form reply = (answer : Answer) × Replies account contents.registry (lived past) (ask_in form) answer
       × (with_newline reply ≡ reply_text answer)
 
-  line_answered : (past : List Entry) (form : LineForm) (reply : List ℕ) (before : IsAnswered past)
+  line_answered : (past : List TrailEntry) (form : LineForm) (reply : List ℕ) (before : IsAnswered past)
       → IsLegal account contents past → (here : IsReply past form reply)
       → Alone account contents.registry (own_line form ∷ view_in contents past) (before.answers ++ here.0 ∷ [])
       × (replies_told past ++ with_newline reply ∷ [] ≡ map reply_text (before.answers ++ here.0 ∷ []))
@@ -107,11 +107,11 @@ module _ (account : Account) (contents : Contents) where
         ∙ sym (map-append reply_text before.answers (here.0 ∷ [])),
   )
 
-  answered : (past : List Entry) → Agrees account contents past → IsAnswered past
+  answered : (past : List TrailEntry) → Agrees account contents past → IsAnswered past
   answered [] h = record { answers = []; alone = refl; told = refl }
   answered (line_asked line reply ∷ past) h =
       let before = answered past h.0 in
-      let more = line_answered past (form_of line) reply before (legal past h.0) h.2 in
+      let more = line_answered past (line_form line) reply before (legal past h.0) h.2 in
       record { answers = before.answers ++ h.2.0 ∷ []; alone = more.0; told = more.1 }
   answered (long_asked reply ∷ past) h =
       let before = answered past h.0 in
@@ -127,7 +127,7 @@ module _ (account : Account) (contents : Contents) where
       }
 
   -- the last reply is the one that is due, and those before it are those of the view before
-  line_right : (past : List Entry) (form : LineForm) (reply : List ℕ) (answers : List Answer)
+  line_right : (past : List TrailEntry) (form : LineForm) (reply : List ℕ) (answers : List Answer)
       → IsLegal account contents past
       → (k : Alone account contents.registry (own_line form ∷ view_in contents past) answers)
       → replies_told past ++ with_newline reply ∷ [] ≡ map reply_text answers
@@ -139,12 +139,12 @@ module _ (account : Account) (contents : Contents) where
       let due = subst (λ l. Replies account contents.registry l (ask_in form) k.1) life k.3.2 in
       (last.0, (k.1, due, last.1))
 
-  agrees : (past : List Entry) (answers : List Answer) → IsLegal account contents past
+  agrees : (past : List TrailEntry) (answers : List Answer) → IsLegal account contents past
       → Alone account contents.registry (view_in contents past) answers → replies_told past ≡ map reply_text answers
       → Agrees account contents past
   agrees [] answers h k e = tt
   agrees (line_asked line reply ∷ past) answers h k e =
-      let right = line_right past (form_of line) reply answers h.0 k e in
+      let right = line_right past (line_form line) reply answers h.0 k e in
       (agrees past k.0 h.0 k.2 right.0, h.1, right.1)
   agrees (long_asked reply ∷ past) answers h k e =
       let right = line_right past long_line reply answers h.0 k e in
@@ -154,18 +154,18 @@ module _ (account : Account) (contents : Contents) where
       (agrees past answers h.0 (rw firing.1 at k) (sym (append-nil (replies_told past)) ∙ e), h.1, tt)
 
 -- the replies of entries, told from the newest
-told_first : (past : List Entry) (entry : Entry) → replies_told (past ++ entry ∷ [])
+told_first : (past : List TrailEntry) (entry : TrailEntry) → replies_told (past ++ entry ∷ [])
     ≡ replies_by entry ++ replies_told past
 told_first [] entry = sym (append-nil (replies_by entry))
 told_first (one ∷ past) entry = ap (λ told. told ++ replies_by one) (told_first past entry)
     ∙ append_assoc (replies_by entry) (replies_told past) (replies_by one)
 
-told_all : (entries : List Entry) → replies_told (reverse entries) ≡ replies_of entries
+told_all : (entries : List TrailEntry) → replies_told (reverse entries) ≡ replies_of entries
 told_all [] = refl
 told_all (entry ∷ entries) = ap replies_told (reverse-append (entry ∷ []) entries)
     ∙ told_first (reverse entries) entry ∙ ap (λ told. replies_by entry ++ told) (told_all entries)
 
-pub agreement : (account : Account) (contents : Contents) (entries : List Entry)
+pub agreement : (account : Account) (contents : Contents) (entries : List TrailEntry)
     → Agrees account contents (reverse entries)
     ↔ (IsLegal account contents (reverse entries) × AreRepliesAlone account contents entries)
 agreement account contents entries = (

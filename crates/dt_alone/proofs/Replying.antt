@@ -22,9 +22,9 @@ use Rattle.dt_ecb.specs.Enable as enabling
 use Rattle.dt_ecb.specs.Forms.{form_of_ecb, shapes_of}
 use Rattle.dt_ecb.specs.Shapes.{ShapeForm, uses_of}
 use Rattle.dt_ecb.specs.declared.parts.Ecb.{Ecb}
-use Rattle.dt_alone.specs.Forms.{form_of_options}
+use Rattle.dt_alone.specs.Forms.{form_of_own_options}
 use Rattle.dt_alone.specs.Happened.{Brings, all_to}
-use Rattle.dt_alone.specs.Runs.{Answers, Has, HasIn, IsAsked}
+use Rattle.dt_alone.specs.Runs.{Answers, Has, HasIn, HasAsked}
 use Rattle.dt_aggstore.specs.declared.key.Aggregation.{Aggregation}
 use Rattle.dt_buffer.specs.Shows.{Shows}
 use Rattle.std.specs.Global.{Vec}
@@ -44,7 +44,7 @@ use Rattle.dt_consumer.specs.Options.{OptionsForm, Setting, is_fill, with_settin
 use Rattle.dt_consumer.specs.Refusal.{refused_as}
 use Rattle.dt_consumer.specs.Reply.{Accepted, known, IsVerdictOnCommand, ecb_of, refusal_of}
 use Rattle.dt_consumer.specs.Stores.{given_since}
-use Rattle.dt_consumer.specs.Takings.{Event, began, ended, read, truncated, faults as failures, taken_since}
+use Rattle.dt_consumer.specs.Takings.{TracingEvent, began, ended, read, truncated, faults as failures, taken_since}
 use Rattle.dt_consumer.specs.declared.phase.End.TheVariants as ends
 use Rattle.dt_consumer.specs.declared.phase.Phase.{Phase}
 use Rattle.dt_consumer.specs.declared.phase.Phase.TheVariants.{Inactive, Active, Stopped}
@@ -98,7 +98,7 @@ pub has_alike : (account : Account) (registry : Registry) (s : SetUp) (p : Phase
     → (q : Phase) → new.phase ≡ q → (q ≡ Inactive → p ≡ Inactive) → HasIn account registry s q new
 has_alike account registry s p old new h a options programs q standing idle = record {
   same_account = a.account ∙ h.same_account;
-  options = ap form_of_options options ∙ h.options;
+  options = ap form_of_own_options options ∙ h.options;
   clauses = ap (λ (x : Programs). map form_of_clause x.clauses.items) programs ∙ h.clauses;
   ecbs = subst (λ (x : Programs). AreEcbs s.clauses (ecbs_in account registry s) x.ecbs.items) (sym programs) h.ecbs;
   shapes = ap (λ (x : Programs). shapes_of x.shapes) programs ∙ h.shapes;
@@ -109,7 +109,7 @@ has_alike account registry s p old new h a options programs q standing idle = re
 }
 
 module _ (account : Account) (registry : Registry) (life : List Item) (r : Runner)
-    (k : IsAsked account registry r life) where
+    (k : HasAsked account registry r life) where
   abbrev now : SetUp
   now = set_up account registry life
 
@@ -146,10 +146,10 @@ module _ (account : Account) (registry : Registry) (life : List Item) (r : Runne
   -- other options
   pub has_options : (options : Options) (new : Runner) → Alike r new → new.options ≡ options
       → new.programs ≡ r.programs → new.phase ≡ r.phase
-      → Has account registry (with_options (set_up account registry life) (form_of_options options)) new
+      → Has account registry (with_options (set_up account registry life) (form_of_own_options options)) new
   has_options options new a set programs same = record {
     same_account = a.account ∙ k.has.same_account;
-    options = ap form_of_options set;
+    options = ap form_of_own_options set;
     clauses = ap (λ (x : Programs). map form_of_clause x.clauses.items) programs ∙ k.has.clauses;
     ecbs = subst (λ (x : Programs). AreEcbs now.clauses (ecbs_in account registry now) x.ecbs.items) (sym programs)
         k.has.ecbs;
@@ -162,12 +162,12 @@ module _ (account : Account) (registry : Registry) (life : List Item) (r : Runne
 
   -- an option that is set, or is none
   pub option_set : (o : Option Setting) (options : Options) (new : Runner) → phase account registry life ≡ Inactive
-      → Some (form_of_options options) ≡ option_map (with_setting (form_of_options r.options)) o
+      → Some (form_of_own_options options) ≡ option_map (with_setting (form_of_own_options r.options)) o
       → Alike r new → new.options ≡ options → new.programs ≡ r.programs → new.phase ≡ r.phase → new.lines ≡ r.lines
       → Answers account registry life (option o) Done new
   option_set None options new off e a is programs same lines = cc
   option_set (Some one) options new off e a is programs same lines =
-      let set : form_of_options options ≡ with_setting (form_of_options r.options) one = cc in
+      let set : form_of_own_options options ≡ with_setting (form_of_own_options r.options) one = cc in
       accepts_as (option (Some one)) Done new _ (option_taken account registry life one off) refl
       (set_by account registry life one off
       ∙ ap (λ (o : OptionsForm). with_options now (with_setting o one)) (sym k.has.options)
@@ -175,7 +175,7 @@ module _ (account : Account) (registry : Registry) (life : List Item) (r : Runne
       (has_options options new a is programs same) lines
 
   pub option_unset : (o : Option Setting) → phase account registry life ≡ Inactive
-      → None ≡ option_map (with_setting (form_of_options r.options)) o
+      → None ≡ option_map (with_setting (form_of_own_options r.options)) o
       → Answers account registry life (option o) (Refused refusals.Option) r
   option_unset (Some one) off e = cc
   option_unset None off e =
@@ -294,12 +294,12 @@ module _ (account : Account) (registry : Registry) (life : List Item) (r : Runne
   brings_still ecbs shapes off cpu =
       let none : (set_up account registry life).since ≡ [] = k.has.idle off in
       let own = ecbs_in account registry (set_up account registry life) in
-      let P : List Event → Type 0 = λ events. Brings cpu r.since.items
+      let P : List TracingEvent → Type 0 = λ events. Brings cpu r.since.items
       (comes_since account registry (ecbs_in account registry (set_up account registry life)) cpu events)
       (failures (taken_since account registry (ecbs_in account registry (set_up account registry life)) cpu events))
       (given_since account registry (shapes_in (set_up account registry life))
       (ecbs_in account registry (set_up account registry life)) cpu events) in
-      let Q : List Event → Type 0 = λ events. Brings cpu r.since.items
+      let Q : List TracingEvent → Type 0 = λ events. Brings cpu r.since.items
       (comes_since account registry ecbs cpu events) (failures (taken_since account registry ecbs cpu events))
       (given_since account registry shapes ecbs cpu events) in
       subst Q (sym none) (subst P none (k.has.brings cpu))
@@ -332,7 +332,7 @@ module _ (account : Account) (registry : Registry) (life : List Item) (r : Runne
         let both = are_both now.clauses forms _ _ r.programs.ecbs.items _ k.has.ecbs after in
         record {
           same_account = a.account ∙ k.has.same_account;
-          options = ap form_of_options same_options ∙ k.has.options;
+          options = ap form_of_own_options same_options ∙ k.has.options;
           clauses =
               ap (λ (x : Programs). map form_of_clause x.clauses.items) own
               ∙ ap (map form_of_clause) grown ∙ map-append form_of_clause r.programs.clauses.items clauses

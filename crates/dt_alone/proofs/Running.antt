@@ -13,7 +13,7 @@ use Rattle.dt_ecb.specs.Ecbs.{EcbForm, of_probe}
 use Rattle.dt_ecb.specs.Forms.{form_of_ecb, shapes_of}
 use Rattle.dt_ecb.specs.Shapes.{ShapeForm}
 use Rattle.dt_ecb.specs.declared.parts.Ecb.{Ecb}
-use Rattle.dt_alone.specs.Forms.{form_of_options}
+use Rattle.dt_alone.specs.Forms.{form_of_own_options}
 use Rattle.dt_alone.specs.Happened.{Adds, Brings}
 use Rattle.dt_alone.specs.Runs.{Has, HasIn}
 use Rattle.dt_alone.specs.Runs as runs
@@ -25,10 +25,11 @@ use Rattle.dt_alone.proofs.Bringing.{brings_one, same_brings}
 use Rattle.dt_consumer.specs.Aggregations.{aggregation_of, contributions}
 use Rattle.dt_consumer.specs.Buffers.{attempts_of, comes_by, comes_since, errors_in}
 use Rattle.dt_consumer.specs.Keeps.{AreEcbs, where_taken}
-use Rattle.dt_consumer.specs.Life.{SetUp, ecbs_in, end_by, happens, is_inactive, phase_of, seen_in, shapes_in}
+use Rattle.dt_consumer.specs.Life.{SetUp, ecbs_in, end_by, happens, is_inactive, phase_of, seen_count, shapes_in}
 use Rattle.dt_consumer.specs.Life.{since_then, with_event}
 use Rattle.dt_consumer.specs.Stores.{given_on, given_since}
-use Rattle.dt_consumer.specs.Takings.{Event, MomentForm, Taking, began, seen, read, truncated, ended, closed, faults}
+use Rattle.dt_consumer.specs.Takings.{TracingEvent, MomentForm, Taking, began, seen}
+use Rattle.dt_consumer.specs.Takings.{read, truncated, ended, closed, faults}
 use Rattle.dt_consumer.specs.Takings.{first_exit, is_end, moment_at, taken_at, taken_by, taken_on, taken_since}
 use Rattle.dt_consumer.specs.declared.phase.End.{End}
 use Rattle.dt_consumer.specs.declared.phase.End.TheVariants.{Exit, History}
@@ -39,7 +40,7 @@ use Rattle.dt_consumer.proofs.Takings.{faults-append}
 use Rattle.dt_consumer.proofs.Tracings.{IsFiring, by_is, end_is, happens_last, happens_on, on_is}
 
 module _ (account : Account) (registry : Registry) where
-  comes_firing : (ecbs : List EcbForm) (cpu : ℕ) (event : Event) → IsFiring event
+  comes_firing : (ecbs : List EcbForm) (cpu : ℕ) (event : TracingEvent) → IsFiring event
       → comes_by account registry ecbs cpu event ≡ attempts_of (taken_on account registry ecbs cpu event)
   comes_firing ecbs cpu began is = refl
   comes_firing ecbs cpu (seen firing) is = refl
@@ -48,7 +49,7 @@ module _ (account : Account) (registry : Registry) where
   comes_firing ecbs cpu (ended end) is = refl
   comes_firing ecbs cpu closed is = refl
 
-  given_firing : (shapes : List ShapeForm) (ecbs : List EcbForm) (cpu : ℕ) (event : Event) → IsFiring event
+  given_firing : (shapes : List ShapeForm) (ecbs : List EcbForm) (cpu : ℕ) (event : TracingEvent) → IsFiring event
       → given_on account registry shapes ecbs cpu event
       ≡ contributions shapes (taken_on account registry ecbs cpu event)
   given_firing shapes ecbs cpu began is = refl
@@ -69,7 +70,7 @@ module _ (account : Account) (registry : Registry) where
     ecbs = ecbs_in account registry s
 
     -- ECBs were taken
-    pub told_firing : (event : Event) (m : MomentForm) (old new : List Happened) → IsFiring event
+    pub told_firing : (event : TracingEvent) (m : MomentForm) (old new : List Happened) → IsFiring event
         → moment_at account registry event ≡ Some m
         → Adds (shapes_in s) m.firing.cpu (taken_at (is_end event) (ecbs_in account registry s) m) old new
         → Told s old → Told (with_event s event) new
@@ -140,14 +141,14 @@ module _ (account : Account) (registry : Registry) where
   not_idle phase begun e = let no : true ≡ false = sym (ap is_inactive e) ∙ begun in cc
 
   -- a runner of the same options and programs, where further events came
-  pub has_since : (s : SetUp) (events : List Event) (phase phase' : Phase) (old new : Runner)
+  pub has_since : (s : SetUp) (events : List TracingEvent) (phase phase' : Phase) (old new : Runner)
       → HasIn account registry s phase old → new.account ≡ old.account → new.options ≡ old.options
-      → new.programs ≡ old.programs → new.phase ≡ phase' → is_inactive phase' ≡ false → new.seen ≡ seen_in events
+      → new.programs ≡ old.programs → new.phase ≡ phase' → is_inactive phase' ≡ false → new.seen ≡ seen_count events
       → Told (since_then s events) new.since.items → HasIn account registry (since_then s events) phase' new
   has_since s events phase phase' old new h same_account same_options same_programs standing begun counts told =
       record {
         same_account = same_account ∙ h.same_account;
-        options = ap form_of_options same_options ∙ h.options;
+        options = ap form_of_own_options same_options ∙ h.options;
         clauses = ap (λ (p : Programs). map form_of_clause p.clauses.items) same_programs ∙ h.clauses;
         ecbs = subst (λ (p : Programs). AreEcbs s.clauses (ecbs_in account registry s) p.ecbs.items)
             (sym same_programs) h.ecbs;
@@ -159,10 +160,10 @@ module _ (account : Account) (registry : Registry) where
       }
 
   -- tracing began, or a firing was seen
-  module _ (s : SetUp) (event : Event) (exit : Option ℤ) (end : Option End) (history count : ℕ)
+  module _ (s : SetUp) (event : TracingEvent) (exit : Option ℤ) (end : Option End) (history count : ℕ)
       (exits : first_exit (taken_by account registry (ecbs_in account registry s) event) ≡ exit)
       (is : end ≡ option_or (option_map Exit exit) (cond (count == history) (Some History) None))
-      (all : history ≡ s.options.histsize) (counts : count ≡ seen_in (event ∷ s.since)) where
+      (all : history ≡ s.options.histsize) (counts : count ≡ seen_count (event ∷ s.since)) where
     pub ends_so : end_by account registry (with_event s event) event ≡ end
     ends_so =
         end_is account registry (with_event s event) event exit (count == history) exits
@@ -183,7 +184,7 @@ module _ (account : Account) (registry : Registry) where
         subst (λ x. Has account registry x r) (sym (happens_last account registry s event e (ends_so ∙ some))) h
 
 -- tracing began, or a firing was seen
-firing_is : (event : Event) → runs.IsFiring event → IsFiring event × (is_end event ≡ false)
+firing_is : (event : TracingEvent) → runs.IsFiring event → IsFiring event × (is_end event ≡ false)
 firing_is began is = (tt, refl)
 firing_is (seen firing) is = (tt, refl)
 firing_is (read n) is = absurd is
@@ -191,7 +192,7 @@ firing_is (truncated name) is = absurd is
 firing_is (ended end) is = absurd is
 firing_is closed is = absurd is
 
-module _ (account : Account) (registry : Registry) (s : SetUp) (event : Event) (m : MomentForm) (old : Runner)
+module _ (account : Account) (registry : Registry) (s : SetUp) (event : TracingEvent) (m : MomentForm) (old : Runner)
     (h : Has account registry s old) (fires : runs.IsFiring event)
     (at : moment_at account registry event ≡ Some m) where
   -- what the runner takes

@@ -14,7 +14,7 @@ use Rattle.std.proofs.lemmas.List.{take_more, drop-append-le, take-append-drop}
 use Rattle.dt_buffer.specs.Beginning.{IsLongestBeginning, ShowsFill, size_of}
 use Rattle.dt_buffer.specs.Choice.{ShowsSwitch, chosen_of}
 use Rattle.dt_buffer.specs.Ending.{IsLongestEnd, ShowsRing, fitting, too_long}
-use Rattle.dt_buffer.specs.History.{Event, attempt, attempts, swap, of_end, ordinary}
+use Rattle.dt_buffer.specs.History.{BufferEvent, attempt, attempts, swap, of_end, ordinary}
 use Rattle.dt_buffer.proofs.Beginnings.{begins_all, begins_same, past_room, size_push}
 use Rattle.dt_buffer.proofs.Histories.{attempts-append, of_end-append, ordinary-append}
 use Rattle.dt_buffer.proofs.Keeping.{choice_more, concat-push}
@@ -27,12 +27,12 @@ use Rattle.dt_alone.specs.declared.shown.Came.{Came}
 use Rattle.dt_alone.specs.declared.shown.Came.TheVariants as came
 
 -- records with one more, none of END's
-pub kind_put : (b : Bool) (events : List Event) (bytes : List ℕ)
+pub kind_put : (b : Bool) (events : List BufferEvent) (bytes : List ℕ)
     → of_kind b (events ++ attempt bytes b ∷ []) ≡ of_kind b events ++ bytes ∷ []
 kind_put true events bytes = of_end-append events (attempt bytes true ∷ [])
 kind_put false events bytes = ordinary-append events (attempt bytes false ∷ [])
 
-pub kind_other : (b other : Bool) (events : List Event) (bytes : List ℕ) → (b ≡ other → ⊥)
+pub kind_other : (b other : Bool) (events : List BufferEvent) (bytes : List ℕ) → (b ≡ other → ⊥)
     → of_kind b (events ++ attempt bytes other ∷ []) ≡ of_kind b events
 kind_other true true events bytes ne = absurd (ne refl)
 kind_other true false events bytes ne = of_end-append events (attempt bytes false ∷ []) ∙ append-nil (of_end events)
@@ -40,13 +40,13 @@ kind_other false true events bytes ne =
     ordinary-append events (attempt bytes true ∷ []) ∙ append-nil (ordinary events)
 kind_other false false events bytes ne = absurd (ne refl)
 
-pub kind_read : (b : Bool) (events : List Event) → of_kind b (events ++ swap ∷ []) ≡ of_kind b events
+pub kind_read : (b : Bool) (events : List BufferEvent) → of_kind b (events ++ swap ∷ []) ≡ of_kind b events
 kind_read true events = of_end-append events (swap ∷ []) ∙ append-nil (of_end events)
 kind_read false events = ordinary-append events (swap ∷ []) ∙ append-nil (ordinary events)
 
 -- what came by one thing more
 pub all_more : (cpu : ℕ) (hs : List Happened) (i : ℕ) (x : Happened) → i < length hs → x ≡ get_or hs i x
-    → (events : List Event) → events ≡ comes_to cpu x
+    → (events : List BufferEvent) → events ≡ comes_to cpu x
     → all_to cpu (take (i + 1) hs) ≡ all_to cpu (take i hs) ++ events
 all_more cpu hs i x inside at events e =
     ap (all_to cpu) (take_more hs i x inside ∙ ap (λ y. take i hs ++ y ∷ []) (sym at))
@@ -55,7 +55,7 @@ all_more cpu hs i x inside at events e =
 
 -- where no record came, it was a reading or nothing
 pub no_attempts : (c : Came) → ((bytes : Bor (List ℕ)) (in_end : Bool) → c ≡ came.Put bytes in_end → ⊥)
-    → (xs : List Event) → (attempts (xs ++ events_of c) ≡ attempts xs)
+    → (xs : List BufferEvent) → (attempts (xs ++ events_of c) ≡ attempts xs)
     × ((b : Bool) → of_kind b (xs ++ events_of c) ≡ of_kind b xs)
 no_attempts came.Nothing none xs = (ap attempts (append-nil xs), (λ b. ap (of_kind b) (append-nil xs)))
 no_attempts (came.Put bytes in_end) none xs = absurd (none bytes in_end refl)
@@ -267,7 +267,7 @@ filter_few p (x ∷ xs) = one (p x) (filter_few p xs)
     one true e = omega (arith, e)
     one false e = omega (arith, e)
 
-attempts_few : (events : List Event) → length (attempts events) ≤ length events
+attempts_few : (events : List BufferEvent) → length (attempts events) ≤ length events
 attempts_few [] = omega arith
 attempts_few (attempt bytes in_end ∷ events) = omega (arith, attempts_few events)
 attempts_few (swap ∷ events) = omega (arith, attempts_few events)
@@ -368,14 +368,14 @@ shows_ring size cpu hs start drops bytes within fits least are counts =
     }
 
 -- the records that are too long, and those that aren't, with one more
-pub too_long_more : (size : ℕ) (events : List Event) (bytes : List ℕ) (in_end : Bool)
+pub too_long_more : (size : ℕ) (events : List BufferEvent) (bytes : List ℕ) (in_end : Bool)
     → too_long size (attempts (events ++ attempt bytes in_end ∷ []))
     ≡ too_long size (attempts events) ++ cond (nat_lt size (length bytes)) (bytes ∷ []) []
 too_long_more size events bytes in_end =
     ap (too_long size) (attempts-append events (attempt bytes in_end ∷ []))
     ∙ filter-append (λ (bs : List ℕ). nat_lt size (length bs)) (attempts events) (bytes ∷ [])
 
-pub fitting_more : (size : ℕ) (events : List Event) (bytes : List ℕ) (in_end : Bool)
+pub fitting_more : (size : ℕ) (events : List BufferEvent) (bytes : List ℕ) (in_end : Bool)
     → fitting size (attempts (events ++ attempt bytes in_end ∷ []))
     ≡ fitting size (attempts events) ++ cond (nat_le (length bytes) size) (bytes ∷ []) []
 fitting_more size events bytes in_end =

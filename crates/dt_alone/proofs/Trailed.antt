@@ -14,24 +14,24 @@ use Rattle.dt_consumer.specs.Reply.{Replies}
 use Rattle.dt_consumer.specs.Sees.{Sees}
 use Rattle.dt_proto.specs.Alone.{Reached, own_line, firing_made, IsLifeOf}
 use Rattle.dt_proto.specs.Line.{ask_in}
-use Rattle.dt_proto.specs.Lines.{LineForm, short_line, long_line, form_of}
+use Rattle.dt_proto.specs.Lines.{LineForm, short_line, long_line, line_form}
 use Rattle.dt_proto.specs.Session.{session_account}
-use Rattle.dt_proto.specs.Trail.{Entry, fired_at, IsEntryOf, IsTold, IsToldFiring, IsTrailOf, SpellsTrail}
+use Rattle.dt_proto.specs.Trail.{TrailEntry, fired_at, IsEntryOf, IsLineTold, IsToldFiring, IsTrailOf, SpellsTrail}
 use Rattle.dt_proto.specs.declared.limits.TheConstants.{LINE_MAX}
-use Rattle.dt_alone.specs.Legal.{Agrees, IsAbove, life_in}
+use Rattle.dt_alone.specs.Legal.{Agrees, IsAbove, life_of_trail}
 use Rattle.dt_alone.specs.Verdicts.{IsVerdictOn, replies_in}
 use Rattle.dt_alone.specs.Views.{IsBrought, IsInForm, IsLower}
 use Rattle.dt_alone.specs.declared.verdict.Verdict.TheVariants.{Agree}
 
-in_form : (bytes : List ℕ) → length bytes ≤ LINE_MAX → form_of bytes ≡ short_line bytes
+in_form : (bytes : List ℕ) → length bytes ≤ LINE_MAX → line_form bytes ≡ short_line bytes
 in_form bytes few = rw (le-ltb LINE_MAX (length bytes) few) refl
 
 module _ (account : Account) (contents : Contents) where
-  abbrev lived : List Entry → List Item
-  lived past = life_in account contents past
+  abbrev lived : List TrailEntry → List Item
+  lived past = life_of_trail account contents past
 
   -- A past is the trail of a view: it agrees, it tells the view's life, and its firings are of the view.
-  record IsTrailed (view : List Reached) (past : List Entry) : Type 0 where
+  record IsTrailed (view : List Reached) (past : List TrailEntry) : Type 0 where
     agrees : Agrees account contents past
     lives : (life : List Item) → IsLifeOf account contents.registry view life → life ≡ lived past
     below : (cpu place : ℕ) → AllByRecursion (IsLower cpu place) view → IsAbove past cpu place
@@ -40,7 +40,7 @@ module _ (account : Account) (contents : Contents) where
   nothing_trailed = record { agrees = tt; lives = λ life is. is; below = λ cpu place all. tt }
 
   -- a line over the quota is no part of the trail
-  over_trailed : (view : List Reached) (past : List Entry) (line : LineForm) → IsTrailed view past
+  over_trailed : (view : List Reached) (past : List TrailEntry) (line : LineForm) → IsTrailed view past
       → is_over (lived past) ≡ true → IsTrailed (own_line line ∷ view) past
   over_trailed view past line before over = record {
     agrees = before.agrees;
@@ -49,13 +49,14 @@ module _ (account : Account) (contents : Contents) where
     below = λ cpu place all. before.below cpu place all.1;
   }
 
-  line_trailed : (view : List Reached) (past : List Entry) (line : LineForm) (answer : Answer) (entry : Entry)
+  line_trailed : (view : List Reached) (past : List TrailEntry) (line : LineForm) (answer : Answer)
+      (entry : TrailEntry)
       → IsTrailed view past → IsInForm line → is_over (lived past) ≡ false
       → Replies account contents.registry (lived past) (ask_in line) answer → IsEntryOf line answer entry
       → IsTrailed (own_line line ∷ view) (entry ∷ past)
   line_trailed view past (short_line bytes) answer entry before few quota replies is =
-      let form : short_line bytes ≡ form_of bytes = sym (in_form bytes few) in
-      let due : Replies account contents.registry (lived past) (ask_in (form_of bytes)) answer =
+      let form : short_line bytes ≡ line_form bytes = sym (in_form bytes few) in
+      let due : Replies account contents.registry (lived past) (ask_in (line_form bytes)) answer =
       subst (λ one. Replies account contents.registry (lived past) (ask_in one) answer) form replies in
       subst (λ one. IsTrailed (own_line (short_line bytes) ∷ view) (one ∷ past)) (sym is.1) (record {
         agrees = (before.agrees, quota, (answer, due, is.2));
@@ -72,9 +73,9 @@ module _ (account : Account) (contents : Contents) where
         below = λ cpu place all. (tt, before.below cpu place all.1);
       })
 
-  told_trailed : (view : List Reached) (past : List Entry) (line : LineForm) (new : List Entry) (over : Bool)
+  told_trailed : (view : List Reached) (past : List TrailEntry) (line : LineForm) (new : List TrailEntry) (over : Bool)
       → IsTrailed view past → IsInForm line → is_over (lived past) ≡ over
-      → MatchBool over (new ≡ []) ((answer : Answer) × (entry : Entry)
+      → MatchBool over (new ≡ []) ((answer : Answer) × (entry : TrailEntry)
       × Replies account contents.registry (lived past) (ask_in line) answer × IsEntryOf line answer entry
       × (new ≡ entry ∷ []))
       → IsTrailed (own_line line ∷ view) (reverse new ++ past)
@@ -85,7 +86,7 @@ module _ (account : Account) (contents : Contents) where
       subst (λ more. IsTrailed (own_line line ∷ view) (reverse more ++ past)) (sym h.4)
       (line_trailed view past line h.0 h.1 before form is h.2 h.3)
 
-  seen_trailed : (view : List Reached) (past : List Entry) (firing : Firing) → IsTrailed view past
+  seen_trailed : (view : List Reached) (past : List TrailEntry) (firing : Firing) → IsTrailed view past
       → firing_at contents.scripts firing.cpu firing.place ≡ Some firing
       → AllByRecursion (IsLower firing.cpu firing.place) view → Sees account contents.registry (lived past) firing
       → IsTrailed (firing_made firing ∷ view) (fired_at firing.cpu firing.place ∷ past)
@@ -100,7 +101,7 @@ module _ (account : Account) (contents : Contents) where
     below = λ cpu place all. (all.0, before.below cpu place all.1);
   }
 
-  unseen_trailed : (view : List Reached) (past : List Entry) (firing : Firing) → IsTrailed view past
+  unseen_trailed : (view : List Reached) (past : List TrailEntry) (firing : Firing) → IsTrailed view past
       → (Sees account contents.registry (lived past) firing → ⊥) → IsTrailed (firing_made firing ∷ view) past
   unseen_trailed view past firing before hidden = record {
     agrees = before.agrees;
@@ -113,7 +114,8 @@ module _ (account : Account) (contents : Contents) where
     below = λ cpu place all. before.below cpu place all.1;
   }
 
-  fired_trailed : (view : List Reached) (past : List Entry) (firing : Firing) (new : List Entry) → IsTrailed view past
+  fired_trailed : (view : List Reached) (past : List TrailEntry) (firing : Firing) (new : List TrailEntry)
+      → IsTrailed view past
       → firing_at contents.scripts firing.cpu firing.place ≡ Some firing
       → AllByRecursion (IsLower firing.cpu firing.place) view
       → IsToldFiring account contents.registry (lived past) firing new
@@ -126,14 +128,14 @@ module _ (account : Account) (contents : Contents) where
       (unseen_trailed view past firing before unseen.0))
       h
 
-  trailed : (view : List Reached) (entries : List Entry) → IsBrought contents view
+  trailed : (view : List Reached) (entries : List TrailEntry) → IsBrought contents view
       → IsTrailOf account contents.registry view entries → IsTrailed view (reverse entries)
   trailed [] entries h k = subst (λ all. IsTrailed [] (reverse all)) (sym k) nothing_trailed
   trailed (own_line line ∷ view) entries h k =
       let before = trailed view k.1 h.0 k.4 in
       let life : k.0 ≡ lived (reverse k.1) = before.lives k.0 k.3 in
-      let new : IsTold account contents.registry (lived (reverse k.1)) line k.2 =
-      subst (λ l. IsTold account contents.registry l line k.2) life k.5 in
+      let new : IsLineTold account contents.registry (lived (reverse k.1)) line k.2 =
+      subst (λ l. IsLineTold account contents.registry l line k.2) life k.5 in
       subst (IsTrailed (own_line line ∷ view)) (sym (ap reverse k.6 ∙ reverse-append k.1 k.2))
       (told_trailed view (reverse k.1) line k.2 (is_over (lived (reverse k.1))) before h.1 refl new)
   trailed (firing_made firing ∷ view) entries h k =
@@ -144,12 +146,12 @@ module _ (account : Account) (contents : Contents) where
       subst (IsTrailed (firing_made firing ∷ view)) (sym (ap reverse k.6 ∙ reverse-append k.1 k.2))
       (fired_trailed view (reverse k.1) firing k.2 before h.1 h.2 new)
 
-  pub trail_agrees : (view : List Reached) (entries : List Entry) → IsBrought contents view
+  pub trail_agrees : (view : List Reached) (entries : List TrailEntry) → IsBrought contents view
       → IsTrailOf account contents.registry view entries → Agrees account contents (reverse entries)
   trail_agrees view entries h k = let all = trailed view entries h k in all.agrees
 
 pub text_agrees : (contents : Contents) (name : List ℕ) (account : Account) (view : List Reached)
-    (entries : List Entry)
+    (entries : List TrailEntry)
     (text : List ℕ) → session_account contents.registry name ≡ Some account → IsBrought contents view
     → IsTrailOf account contents.registry view entries → SpellsTrail text name entries
     → IsVerdictOn contents text (Agree (replies_in entries))

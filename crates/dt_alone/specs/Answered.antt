@@ -13,7 +13,7 @@ use Rattle.dt_alone.specs.Runs.{Runs}
 use Rattle.dt_alone.specs.declared.runner.Runner.{Runner}
 
 -- The bytes are the reply to what a line asks after a life, and the runner has run the life with the line.
-pub record IsAnswered (account : Account) (registry : Registry) (life : List Item) (ask : Result Ask Refusal)
+pub record AnswersAsk (account : Account) (registry : Registry) (life : List Item) (ask : Result Ask Refusal)
     (runner : Runner) (bytes : List ℕ) : Type 0 where
   pub answer : Answer
   pub replies : Replies account registry life ask answer

@@ -5,12 +5,12 @@ use Rattle.dt_consumer.specs.Options.{OptionsForm}
 use Rattle.dt_consumer.specs.Takings.{MomentForm}
 
 -- a moment without where its parts lie in memory
-abbrev pub form_of_moment : Moment → MomentForm
-form_of_moment moment = record { probe = moment.probe.now; process = moment.process.now; firing = moment.firing.now }
+abbrev pub form_of_own_moment : Moment → MomentForm
+form_of_own_moment moment = record { probe = moment.probe.now; process = moment.process.now; firing = moment.firing.now }
 
 -- options without their invariants
-abbrev pub form_of_options : Options → OptionsForm
-form_of_options o = record {
+abbrev pub form_of_own_options : Options → OptionsForm
+form_of_own_options o = record {
   bufsize = o.bufsize;
   bufpolicy = o.bufpolicy;
   aggsize = o.aggsize;

@@ -20,7 +20,7 @@ abbrev pub given_as : Contribution → store.Event
 given_as one = store.given one.aggregation one.key.parts.items one.number
 
 -- what comes to the buffer of a processor
-abbrev pub comes_to : ℕ → Happened → List buffer.Event
+abbrev pub comes_to : ℕ → Happened → List buffer.BufferEvent
 comes_to cpu (Failed there) = []
 comes_to cpu (Left there in_end left) =
     if there == cpu then
@@ -40,7 +40,7 @@ gives_to cpu (Left there in_end left) = if there == cpu then map given_as left.g
 gives_to cpu (Read there) = []
 gives_to cpu (Truncated aggregation) = store.truncated aggregation ∷ []
 
-abbrev pub all_to : ℕ → List Happened → List buffer.Event
+abbrev pub all_to : ℕ → List Happened → List buffer.BufferEvent
 all_to cpu happened = flat_map (comes_to cpu) happened
 
 -- the records that come to it and aren't longer than it
@@ -54,7 +54,7 @@ abbrev pub given_to : ℕ → List Happened → List store.Event
 given_to cpu happened = flat_map (gives_to cpu) happened
 
 -- What happened brought these to the buffer of a processor, these errors, and these to its store.
-pub record Brings (cpu : ℕ) (happened : List Happened) (comes : List buffer.Event) (errors : ℕ)
+pub record Brings (cpu : ℕ) (happened : List Happened) (comes : List buffer.BufferEvent) (errors : ℕ)
     (given : List store.Event) : Type 0 where
   pub buffer : all_to cpu happened ≡ comes
   pub failures : faults_on cpu happened ≡ errors
@@ -62,7 +62,7 @@ pub record Brings (cpu : ℕ) (happened : List Happened) (comes : List buffer.Ev
 
 -- The second list is the first and, after it, what was taken on a processor.
 abbrev pub Adds : List ShapeForm → ℕ → List Taking → List Happened → List Happened → Type 0
-Adds shapes there takings old new = (cpu : ℕ) (comes : List buffer.Event) (errors : ℕ) (given : List store.Event)
+Adds shapes there takings old new = (cpu : ℕ) (comes : List buffer.BufferEvent) (errors : ℕ) (given : List store.Event)
     → Brings cpu old comes errors given
     → Brings cpu new (comes ++ attempts_of (where_taken there takings cpu))
     (errors + faults (where_taken there takings cpu)) (given ++ contributions shapes (where_taken there takings cpu))

@@ -3,8 +3,8 @@ use Rattle.std.specs.Prelude.{ℕ, ◌<◌, ◌≤◌, ◌↔◌, List, ◌∷�
 use Rattle.dt_cred.specs.declared.account.Account.{Account}
 use Rattle.dt_machine.specs.Registry.{Contents}
 use Rattle.dt_machine.specs.declared.limits.TheConstants.{CPUS_MAX}
-use Rattle.dt_proto.specs.Trail.{Entry}
-use Rattle.dt_alone.specs.Legal.{IsAbove, life_in, MayStand, IsRight}
+use Rattle.dt_proto.specs.Trail.{TrailEntry}
+use Rattle.dt_alone.specs.Legal.{IsAbove, life_of_trail, MayStand, IsRight}
 use Rattle.dt_alone.specs.Runs.{Runs}
 use Rattle.dt_alone.specs.declared.judge.Judge.{Judge}
 use Rattle.dt_alone.specs.declared.judge.Ruling.{Ruling}
@@ -13,15 +13,15 @@ use Rattle.dt_alone.specs.declared.judge.Ruling.TheVariants.{Right, Wrong, OutOf
 module _ (account : Account) (contents : Contents) where
   -- A judge is after these entries: its runner has run the life that they tell, and it knows each processor's least place
   -- that is above those of its firings.
-  pub record IsAfter (past : List Entry) (judge : Judge) : Type 0 where
-    pub runs : Runs account contents.registry judge.runner (life_in account contents past)
+  pub record HasJudged (past : List TrailEntry) (judge : Judge) : Type 0 where
+    pub runs : Runs account contents.registry judge.runner (life_of_trail account contents past)
     pub least : (cpu place : ℕ) → cpu < CPUS_MAX → (IsAbove past cpu place ↔ (slice_index judge.least cpu ≤ place))
 
   -- The ruling on an entry: it may not stand, or its reply is not the one that is due; or both are in order, and the
   -- judge is after it.
-  abbrev pub IsRuling : List Entry → Entry → Judge → Ruling → Type 0
+  abbrev pub IsRuling : List TrailEntry → TrailEntry → Judge → Ruling → Type 0
   IsRuling past entry judge Right =
-      MayStand account contents past entry × IsRight account contents past entry × IsAfter (entry ∷ past) judge
+      MayStand account contents past entry × IsRight account contents past entry × HasJudged (entry ∷ past) judge
   IsRuling past entry judge Wrong =
       MayStand account contents past entry × (IsRight account contents past entry → ⊥)
   IsRuling past entry judge OutOfPlace = MayStand account contents past entry → ⊥

@@ -4,17 +4,17 @@ use Rattle.dt_cred.specs.declared.account.Account.{Account}
 use Rattle.dt_lang.specs.Program.{form_of_clause}
 use Rattle.dt_machine.specs.Registry.{Registry}
 use Rattle.dt_ecb.specs.Forms.{shapes_of}
-use Rattle.dt_alone.specs.Forms.{form_of_options}
+use Rattle.dt_alone.specs.Forms.{form_of_own_options}
 use Rattle.dt_alone.specs.Happened.{Brings}
 use Rattle.dt_alone.specs.declared.runner.Runner.{Runner}
 use Rattle.dt_consumer.specs.Answer.{answer_of}
 use Rattle.dt_consumer.specs.Ask.{Ask}
 use Rattle.dt_consumer.specs.Buffers.{comes_since, errors_in}
 use Rattle.dt_consumer.specs.Keeps.{AreEcbs}
-use Rattle.dt_consumer.specs.Life.{Item, asked, SetUp, ecbs_in, lines, phase_of, seen_in, set_up, shapes_in}
+use Rattle.dt_consumer.specs.Life.{Item, asked, SetUp, ecbs_in, lines, phase_of, seen_count, set_up, shapes_in}
 use Rattle.dt_consumer.specs.Reply.{RepliesInQuota}
 use Rattle.dt_consumer.specs.Stores.{given_since}
-use Rattle.dt_consumer.specs.Takings.{Event, began, seen}
+use Rattle.dt_consumer.specs.Takings.{TracingEvent, began, seen}
 use Rattle.dt_consumer.specs.declared.phase.Phase.{Phase}
 use Rattle.dt_consumer.specs.declared.phase.Phase.TheVariants.{Inactive}
 use Rattle.dt_consumer.specs.declared.reply.Reply.{Reply}
@@ -23,13 +23,13 @@ module _ (account : Account) (registry : Registry) where
   -- A runner has a set-up as plain data, but its phase is this one.
   pub record HasIn (s : SetUp) (phase : Phase) (runner : Runner) : Type 0 where
     pub same_account : runner.account ≡ account
-    pub options : form_of_options runner.options ≡ s.options
+    pub options : form_of_own_options runner.options ≡ s.options
     pub clauses : map form_of_clause runner.programs.clauses.items ≡ s.clauses
     pub ecbs : AreEcbs s.clauses (ecbs_in account registry s) runner.programs.ecbs.items
     pub shapes : shapes_of runner.programs.shapes ≡ shapes_in s
     pub standing : runner.phase ≡ phase
     pub idle : phase ≡ Inactive → s.since ≡ []
-    pub seen : runner.seen ≡ seen_in s.since
+    pub seen : runner.seen ≡ seen_count s.since
     pub brings : (cpu : ℕ) → Brings cpu runner.since.items
         (comes_since account registry (ecbs_in account registry s) cpu s.since) (errors_in account registry s cpu)
         (given_since account registry (shapes_in s) (ecbs_in account registry s) cpu s.since)
@@ -44,7 +44,7 @@ module _ (account : Account) (registry : Registry) where
     pub counted : runner.lines ≡ lines life
 
   -- A runner has all that happened in a life, and counts a line more, which is to be answered.
-  pub record IsAsked (runner : Runner) (life : List Item) : Type 0 where
+  pub record HasAsked (runner : Runner) (life : List Item) : Type 0 where
     pub has : Has (set_up account registry life) runner
     pub counted : runner.lines ≡ suc (lines life)
 
@@ -54,7 +54,7 @@ module _ (account : Account) (registry : Registry) where
       RepliesInQuota account registry life (Ok ask) (answer_of reply) × Runs runner (asked (Ok ask) ∷ life)
 
 -- BEGIN fires, or a firing is seen.
-abbrev pub IsFiring : Event → Type 0
+abbrev pub IsFiring : TracingEvent → Type 0
 IsFiring began = Unit {0}
 IsFiring (seen firing) = Unit {0}
 IsFiring _ = ⊥

@@ -2,19 +2,19 @@
 use Rattle.std.specs.Prelude.{◌≡◌, ◌↔◌, ◌<◌, ℕ, Bool, true, false, List, [], ◌∷◌, IsTrue, length, take}
 use Rattle.std.specs.List.{concat}
 use Rattle.dt_buffer.specs.Beginning.{IsLongestBeginning}
-use Rattle.dt_buffer.specs.History.{Event, attempt, swap, of_end, ordinary}
+use Rattle.dt_buffer.specs.History.{BufferEvent, attempt, swap, of_end, ordinary}
 use Rattle.dt_alone.specs.declared.shown.Beginning.{Beginning}
 use Rattle.dt_alone.specs.declared.shown.Came.{Came}
 use Rattle.dt_alone.specs.declared.shown.Came.TheVariants.{Nothing, Put, Read}
 
 -- what came, as an event of the buffer's past
-abbrev pub events_of : Came → List Event
+abbrev pub events_of : Came → List BufferEvent
 events_of Nothing = []
 events_of (Put bytes in_end) = attempt bytes.now in_end ∷ []
 events_of Read = swap ∷ []
 
 -- the records of END, or the ordinary ones
-abbrev pub of_kind : Bool → List Event → List (List ℕ)
+abbrev pub of_kind : Bool → List BufferEvent → List (List ℕ)
 of_kind true events = of_end events
 of_kind false events = ordinary events
 

@@ -8,55 +8,55 @@ use Rattle.dt_proto.specs.Alone.{Reached, Alone}
 use Rattle.dt_proto.specs.Reply.{reply_text}
 use Rattle.dt_proto.specs.Session.{session_account}
 use Rattle.dt_proto.specs.Splits.{with_newline}
-use Rattle.dt_proto.specs.Trail.{Entry, line_asked, long_asked, fired_at, SpellsTrail}
+use Rattle.dt_proto.specs.Trail.{TrailEntry, line_asked, long_asked, fired_at, SpellsTrail}
 use Rattle.dt_alone.specs.Legal.{Agrees, MayStand, IsRight, reached_by}
 use Rattle.dt_alone.specs.declared.verdict.Verdict.{Verdict}
 use Rattle.dt_alone.specs.declared.verdict.Verdict.TheVariants.{Agree, Differs, Illegal}
 
 -- the lines of replies that an entry has
-abbrev pub replies_by : Entry → List (List ℕ)
+abbrev pub replies_by : TrailEntry → List (List ℕ)
 replies_by (line_asked line reply) = with_newline reply ∷ []
 replies_by (long_asked reply) = with_newline reply ∷ []
 replies_by (fired_at cpu place) = []
 
 -- the replies of entries, each with its newline
-abbrev pub replies_of : List Entry → List (List ℕ)
+abbrev pub replies_of : List TrailEntry → List (List ℕ)
 replies_of entries = flat_map replies_by entries
 
 -- how many entries have replies
-abbrev pub replies_in : List Entry → ℕ
+abbrev pub replies_in : List TrailEntry → ℕ
 replies_in entries = length (replies_of entries)
 
 -- the view that entries tell, the oldest first, of which the newest goes first
-abbrev pub view_by : Contents → List Entry → List Reached
+abbrev pub view_by : Contents → List TrailEntry → List Reached
 view_by contents entries = flat_map (reached_by contents) (reverse entries)
 
 module _ (account : Account) (contents : Contents) where
   -- The replies of entries, the oldest first, are those that a consumer is answered which traces alone, with just what
   -- these entries tell.
-  abbrev pub AreRepliesAlone : List Entry → Type 0
+  abbrev pub AreRepliesAlone : List TrailEntry → Type 0
   AreRepliesAlone entries = (answers : List Answer) × Alone account contents.registry (view_by contents entries) answers
       × (replies_of entries ≡ map reply_text answers)
 
   -- The verdict on entries, the oldest first: they agree; or the first that may not stand, or whose reply is not the
   -- one that is due.
-  abbrev pub IsVerdict : List Entry → Verdict → Type 0
-  IsVerdict entries (Agree n) = Agrees account contents (reverse entries) × (n ≡ replies_in entries)
-  IsVerdict entries (Differs k) = (before later : List Entry) × (entry : Entry)
+  abbrev pub IsTrailVerdict : List TrailEntry → Verdict → Type 0
+  IsTrailVerdict entries (Agree n) = Agrees account contents (reverse entries) × (n ≡ replies_in entries)
+  IsTrailVerdict entries (Differs k) = (before later : List TrailEntry) × (entry : TrailEntry)
       × (entries ≡ before ++ (entry ∷ later)) × Agrees account contents (reverse before)
       × MayStand account contents (reverse before) entry × (IsRight account contents (reverse before) entry → ⊥)
       × (k ≡ replies_in before + 1)
-  IsVerdict entries (Illegal k) = (before later : List Entry) × (entry : Entry)
+  IsTrailVerdict entries (Illegal k) = (before later : List TrailEntry) × (entry : TrailEntry)
       × (entries ≡ before ++ (entry ∷ later)) × Agrees account contents (reverse before)
       × (MayStand account contents (reverse before) entry → ⊥) × (k ≡ length before + 1)
 
 -- The verdict on a text: it is the trail of a session on the machine, and this is the verdict on its entries.
 abbrev pub IsVerdictOn : Contents → List ℕ → Verdict → Type 0
-IsVerdictOn contents text verdict = (name : List ℕ) × (account : Account) × (entries : List Entry)
+IsVerdictOn contents text verdict = (name : List ℕ) × (account : Account) × (entries : List TrailEntry)
     × SpellsTrail text name entries × (session_account contents.registry name ≡ Some account)
-    × IsVerdict account contents entries verdict
+    × IsTrailVerdict account contents entries verdict
 
 -- The text is the trail of a session on the machine.
 abbrev pub IsTrail : Registry → List ℕ → Type 0
-IsTrail registry text = (name : List ℕ) × (account : Account) × (entries : List Entry)
+IsTrail registry text = (name : List ℕ) × (account : Account) × (entries : List TrailEntry)
     × SpellsTrail text name entries × (session_account registry name ≡ Some account)

@@ -4,7 +4,7 @@ ghost use Rattle.dt_cred.specs.declared.account.Account.{Account};
 ghost use Rattle.dt_consumer.specs.Life.{Item};
 ghost use Rattle.dt_proto.specs.Line.{ask_in};
 ghost use Rattle.dt_proto.specs.Asked.{form_lent};
-ghost use Rattle.dt_alone.specs.Answered.{IsAnswered};
+ghost use Rattle.dt_alone.specs.Answered.{AnswersAsk};
 ghost use Rattle.dt_alone.specs.Runs.{Runs};
 
 use crate::runner::Runner;
@@ -21,7 +21,7 @@ pub(crate) fn answer(
 ) -> Result<Vec<u8>, AllocError>
     ensures { IfOk result (λ bytes. (account : Account) (life : List Item)
         → Runs account machine.now.registry runner.old life
-        → IsAnswered account machine.now.registry life (ask_in (form_lent line.entry)) runner.new bytes.items) }
+        → AnswersAsk account machine.now.registry life (ask_in (form_lent line.entry)) runner.new bytes.items) }
 {
     let asked = read_line(alloc, line)?;
     let reply = runner.ask(alloc, machine, &asked)?;

@@ -3,7 +3,7 @@ ghost use Rattle.std.specs.Prelude.{◌≡◌, ◌≤◌, Err, IfOk, length};
 ghost use Rattle.std.specs.Option.{option_copied};
 ghost use Rattle.dt_proto.specs.Session.{session_account};
 ghost use Rattle.dt_alone.specs.Lent.{entries_of};
-ghost use Rattle.dt_alone.specs.Verdicts.{IsTrail, IsVerdict, IsVerdictOn, replies_in};
+ghost use Rattle.dt_alone.specs.Verdicts.{IsTrail, IsTrailVerdict, IsVerdictOn, replies_in};
 
 use crate::entry::Entry;
 use crate::judge::{Judge, Ruling};
@@ -54,7 +54,7 @@ fn judge(
     account: &Account,
     entries: &[Entry<'_>],
 ) -> Result<Verdict, AllocError>
-    ensures { IfOk result (IsVerdict account.now machine.now (entries_of entries.now)) }
+    ensures { IfOk result (IsTrailVerdict account.now machine.now (entries_of entries.now)) }
 {
     let mut judge = Judge::new(alloc, *account, machine)?;
     for (index, entry) in entries.iter().enumerate() {

@@ -8,7 +8,7 @@ ghost use Rattle.dt_ecb.specs.declared.limits.TheConstants.{ECBS_MAX};
 ghost use Rattle.dt_aggstore.specs.IsAt.{IsAt};
 ghost use Rattle.dt_aggstore.specs.declared.limits.TheConstants.{STORES_MAX};
 ghost use Rattle.std.specs.List.{AllZip};
-ghost use Rattle.dt_alone.specs.Runs.{Answers, Has, IsAsked};
+ghost use Rattle.dt_alone.specs.Runs.{Answers, Has, HasAsked};
 ghost use Rattle.dt_consumer.specs.Answer.{answer_of, described};
 ghost use Rattle.dt_consumer.specs.Ask.{Ask, ask_of, reading_of, description_of, agg, enable, go, snap, status, list, describe, option, stop, trunc, close};
 ghost use Rattle.dt_consumer.specs.Buffers.{past, reserve_on};
@@ -50,7 +50,7 @@ impl Runner {
     ) -> Result<Reply, AllocError>
         requires room { vec_len self.old.since + 2 * ECBS_MAX ≤ 2 * ECBS_MAX * (self.old.lines + self.old.seen) }
         ensures { IfOk result (λ reply. (account : Account) (life : List Item)
-            → IsAsked account machine.now.registry self.old life
+            → HasAsked account machine.now.registry self.old life
             → Answers account machine.now.registry life (ask_of command.now) reply self.new) }
     {
         match command {
@@ -77,7 +77,7 @@ impl Runner {
 
     /// Sets an option.
     fn set_option(&mut self, _machine: &Machine, name: &String, value: &OptionValue) -> Reply
-        ensures { (account : Account) (life : List Item) → IsAsked account _machine.now.registry self.old life
+        ensures { (account : Account) (life : List Item) → HasAsked account _machine.now.registry self.old life
             → Answers account _machine.now.registry life (option (setting_of (string_bytes name.now) value.now)) result
             self.new }
     {
@@ -97,7 +97,7 @@ impl Runner {
     /// Enables a text.
     fn enable(&mut self, alloc: Global, machine: &Machine, text: &[u8]) -> Result<Reply, AllocError>
         ensures { IfOk result (λ reply. (account : Account) (life : List Item)
-            → IsAsked account machine.now.registry self.old life
+            → HasAsked account machine.now.registry self.old life
             → Answers account machine.now.registry life (enable (reading_of text.now)) reply self.new) }
     {
         if !self.is_inactive() {
@@ -121,7 +121,7 @@ impl Runner {
         program: Program,
     ) -> Result<Reply, AllocError>
         ensures { IfOk result (λ reply. (account : Account) (life : List Item)
-            → IsAsked account machine.now.registry self.old life → phase account machine.now.registry life ≡ Inactive
+            → HasAsked account machine.now.registry self.old life → phase account machine.now.registry life ≡ Inactive
             → Answers account machine.now.registry life (enable (lang.program (form_of_program program))) reply
             self.new) }
     {
@@ -158,7 +158,7 @@ impl Runner {
     fn go(&mut self, alloc: Global, machine: &Machine) -> Result<Reply, AllocError>
         requires room { vec_len self.old.since + 2 * ECBS_MAX ≤ 2 * ECBS_MAX * (self.old.lines + self.old.seen) }
         ensures { IfOk result (λ reply. (account : Account) (life : List Item)
-            → IsAsked account machine.now.registry self.old life
+            → HasAsked account machine.now.registry self.old life
             → Answers account machine.now.registry life go reply self.new) }
     {
         if !self.is_inactive() {
@@ -209,7 +209,7 @@ impl Runner {
     fn stop(&mut self, alloc: Global, machine: &Machine) -> Result<Reply, AllocError>
         requires room { vec_len self.old.since + 2 * ECBS_MAX ≤ 2 * ECBS_MAX * (self.old.lines + self.old.seen) }
         ensures { IfOk result (λ reply. (account : Account) (life : List Item)
-            → IsAsked account machine.now.registry self.old life
+            → HasAsked account machine.now.registry self.old life
             → Answers account machine.now.registry life stop reply self.new) }
     {
         if !matches!(self.phase, Phase::Active) {
@@ -224,7 +224,7 @@ impl Runner {
     fn snap(&mut self, alloc: Global, machine: &Machine, cpu: u64) -> Result<Reply, AllocError>
         requires room { vec_len self.old.since + 2 * ECBS_MAX ≤ 2 * ECBS_MAX * (self.old.lines + self.old.seen) }
         ensures { IfOk result (λ reply. (account : Account) (life : List Item)
-            → IsAsked account machine.now.registry self.old life
+            → HasAsked account machine.now.registry self.old life
             → Answers account machine.now.registry life (snap cpu) reply self.new) }
     {
         if cpu >= u64::from(machine.cpus()) {
@@ -292,7 +292,7 @@ impl Runner {
     fn truncate(&mut self, _machine: &Machine, name: &[u8]) -> Result<Reply, AllocError>
         requires room { vec_len self.old.since + 2 * ECBS_MAX ≤ 2 * ECBS_MAX * (self.old.lines + self.old.seen) }
         ensures { IfOk result (λ reply. (account : Account) (life : List Item)
-            → IsAsked account _machine.now.registry self.old life
+            → HasAsked account _machine.now.registry self.old life
             → Answers account _machine.now.registry life (trunc name.now) reply self.new) }
     {
         let Some(known) = Known::of(&self.programs.shapes, name) else {
@@ -346,7 +346,7 @@ impl Runner {
 
     /// Closes the session: tracing stops without END, where it has not stopped.
     fn close(&mut self, _machine: &Machine) -> Reply
-        ensures { (account : Account) (life : List Item) → IsAsked account _machine.now.registry self.old life
+        ensures { (account : Account) (life : List Item) → HasAsked account _machine.now.registry self.old life
             → Answers account _machine.now.registry life close result self.new }
     {
         if !matches!(self.phase, Phase::Stopped(_)) {

@@ -3,7 +3,7 @@ ghost use Rattle.std.specs.Prelude.{◌≡◌, ℕ, ◌^◌, ◌<◌, List, ◌+
 ghost use Rattle.dt_proto.specs.Splits.{HasNoNewline};
 ghost use Rattle.dt_proto.specs.Trail as trail;
 ghost use Rattle.dt_proto.specs.Trail.{IsWritable, entry_text, reply_line};
-ghost use Rattle.dt_alone.specs.Lent.{entry_of, has_reply};
+ghost use Rattle.dt_alone.specs.Lent.{form_of_lent, has_reply};
 
 use crate::parts::cut_at;
 use dt_proto::number_of;
@@ -22,9 +22,9 @@ pub(crate) enum Entry<'a> {
 impl<'a> Entry<'a> {
     /// The entry that a text begins with, and what stands after it. `None`: it begins with no entry.
     pub(crate) fn read(text: &'a [u8]) -> Option<(Self, &'a [u8])>
-        ensures found { IfSome result (λ parts. IsWritable (entry_of parts.0)
-            × (text.now ≡ entry_text (entry_of parts.0) ++ parts.1.now)) }
-        ensures none { IfNone result ((entry : trail.Entry) (rest : List ℕ)
+        ensures found { IfSome result (λ parts. IsWritable (form_of_lent parts.0)
+            × (text.now ≡ entry_text (form_of_lent parts.0) ++ parts.1.now)) }
+        ensures none { IfNone result ((entry : trail.TrailEntry) (rest : List ℕ)
             → IsWritable entry → text.now ≡ entry_text entry ++ rest → ⊥) }
     {
         let (first, rest) = cut_at(b'\n', text)?;
@@ -42,7 +42,7 @@ impl<'a> Entry<'a> {
 
     /// Whether the entry has a reply.
     pub(crate) fn has_reply(&self) -> bool
-        ensures { result ≡ has_reply (entry_of self.now) }
+        ensures { result ≡ has_reply (form_of_lent self.now) }
     {
         !matches!(self, Entry::Fired { .. })
     }

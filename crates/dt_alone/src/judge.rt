@@ -32,8 +32,8 @@ impl Judge {
     ghost use Rattle.dt_cred.specs.declared.account.Account.{Account};
     ghost use Rattle.dt_proto.specs.Trail as trail;
     ghost use Rattle.dt_proto.specs.Trail.{fired_at, line_asked, long_asked};
-    ghost use Rattle.dt_alone.specs.Judging.{IsAfter, IsRuling};
-    ghost use Rattle.dt_alone.specs.Lent.{entry_of};
+    ghost use Rattle.dt_alone.specs.Judging.{HasJudged, IsRuling};
+    ghost use Rattle.dt_alone.specs.Lent.{form_of_lent};
 
     /// A judge that has seen no entry. `Err`: there was no memory for it.
     pub(crate) fn new(
@@ -41,7 +41,7 @@ impl Judge {
         account: Account,
         machine: &Machine,
     ) -> Result<Self, AllocError>
-        ensures { IfOk result (IsAfter account machine.now []) }
+        ensures { IfOk result (HasJudged account machine.now []) }
     {
         Ok(Judge {
             runner: Runner::new(alloc, account, machine)?,
@@ -57,9 +57,9 @@ impl Judge {
         machine: &Machine,
         entry: &Entry<'_>,
     ) -> Result<Ruling, AllocError>
-        ensures { IfOk result (λ ruling. (account : Account) (past : List trail.Entry)
-            → IsAfter account machine.now past self.old
-            → IsRuling account machine.now past (entry_of entry.now) self.new ruling) }
+        ensures { IfOk result (λ ruling. (account : Account) (past : List trail.TrailEntry)
+            → HasJudged account machine.now past self.old
+            → IsRuling account machine.now past (form_of_lent entry.now) self.new ruling) }
     {
         match entry {
             Entry::Line { line, reply } => self.take_line(alloc, machine, line, reply),
@@ -76,8 +76,8 @@ impl Judge {
         line: &[u8],
         reply: &[u8],
     ) -> Result<Ruling, AllocError>
-        ensures { IfOk result (λ ruling. (account : Account) (past : List trail.Entry)
-            → IsAfter account machine.now past self.old
+        ensures { IfOk result (λ ruling. (account : Account) (past : List trail.TrailEntry)
+            → HasJudged account machine.now past self.old
             → IsRuling account machine.now past (line_asked line.now reply.now) self.new ruling) }
     {
         one_reply();
@@ -95,8 +95,8 @@ impl Judge {
         machine: &Machine,
         reply: &[u8],
     ) -> Result<Ruling, AllocError>
-        ensures { IfOk result (λ ruling. (account : Account) (past : List trail.Entry)
-            → IsAfter account machine.now past self.old
+        ensures { IfOk result (λ ruling. (account : Account) (past : List trail.TrailEntry)
+            → HasJudged account machine.now past self.old
             → IsRuling account machine.now past (long_asked reply.now) self.new ruling) }
     {
         one_reply();
@@ -115,8 +115,8 @@ impl Judge {
         cpu: u32,
         place: u32,
     ) -> Result<Ruling, AllocError>
-        ensures { IfOk result (λ ruling. (account : Account) (past : List trail.Entry)
-            → IsAfter account machine.now past self.old
+        ensures { IfOk result (λ ruling. (account : Account) (past : List trail.TrailEntry)
+            → HasJudged account machine.now past self.old
             → IsRuling account machine.now past (fired_at cpu place) self.new ruling) }
     {
         let Some(firing) = machine.firing(cpu, place) else {

@@ -5,7 +5,7 @@ ghost use Rattle.dt_cred.specs.declared.account.Account.{Account};
 ghost use Rattle.dt_machine.specs.Registry.{Contents};
 ghost use Rattle.dt_proto.specs.Alone.{Reached};
 ghost use Rattle.dt_proto.specs.Session.{session_account};
-ghost use Rattle.dt_proto.specs.Trail.{Entry, IsTrailOf, SpellsTrail};
+ghost use Rattle.dt_proto.specs.Trail.{TrailEntry, IsTrailOf, SpellsTrail};
 ghost use Rattle.dt_alone.specs.Legal.{Agrees, IsLegal};
 ghost use Rattle.dt_alone.specs.Verdicts.{AreRepliesAlone, IsVerdictOn, replies_in};
 ghost use Rattle.dt_alone.specs.Views.{IsBrought};
@@ -21,7 +21,7 @@ pub fn one_verdict()
 /// Law: entries agree exactly where they tell a legal trail, and their replies are those that a consumer is answered
 /// which traces alone, with just what these entries tell.
 pub fn agreement()
-    ensures { (account : Account) (contents : Contents) (entries : List Entry)
+    ensures { (account : Account) (contents : Contents) (entries : List TrailEntry)
         → Agrees account contents (reverse entries)
         ↔ (IsLegal account contents (reverse entries) × AreRepliesAlone account contents entries) }
 {}
@@ -29,10 +29,10 @@ pub fn agreement()
 /// Law: the trail of a view that a machine can bring agrees, and where its account may have a session, that is the verdict
 /// on the trail's text.
 pub fn trail_agrees()
-    ensures entries { (account : Account) (contents : Contents) (view : List Reached) (entries : List Entry)
+    ensures entries { (account : Account) (contents : Contents) (view : List Reached) (entries : List TrailEntry)
         → IsBrought contents view → IsTrailOf account contents.registry view entries
         → Agrees account contents (reverse entries) }
-    ensures text { (contents : Contents) (name : List ℕ) (account : Account) (view : List Reached) (entries : List Entry)
+    ensures text { (contents : Contents) (name : List ℕ) (account : Account) (view : List Reached) (entries : List TrailEntry)
         (text : List ℕ) → session_account contents.registry name ≡ Some account → IsBrought contents view
         → IsTrailOf account contents.registry view entries → SpellsTrail text name entries
         → IsVerdictOn contents text (Agree (replies_in entries)) }

@@ -14,13 +14,13 @@ pub(crate) struct Moment<'a> {
 }
 
 impl<'a> Moment<'a> {
-    ghost use Rattle.dt_alone.specs.Forms.{form_of_moment};
+    ghost use Rattle.dt_alone.specs.Forms.{form_of_own_moment};
     ghost use Rattle.dt_expr.specs.Scene.{scene_of};
     ghost use Rattle.dt_consumer.specs.Takings.{scene_at};
 
     /// The moment as the ECB of this number is shown it.
     pub(crate) fn scene(&self, epid: u32) -> Scene<'a>
-        ensures { scene_of result ≡ scene_at (form_of_moment self.now) epid }
+        ensures { scene_of result ≡ scene_at (form_of_own_moment self.now) epid }
     {
         Scene {
             epid,

@@ -26,12 +26,12 @@ pub(crate) struct Options {
 
 impl Options {
     ghost use Rattle.std.specs.Option.{option_map};
-    ghost use Rattle.dt_alone.specs.Forms.{form_of_options};
+    ghost use Rattle.dt_alone.specs.Forms.{form_of_own_options};
     ghost use Rattle.dt_consumer.specs.Options.{default_options, with_setting, setting_of, number_set};
 
     /// The options where no line sets them.
     pub(crate) fn new() -> Self
-        ensures { form_of_options result ≡ default_options }
+        ensures { form_of_own_options result ≡ default_options }
     {
         Options {
             bufsize: BUFFER_SIZE,
@@ -44,8 +44,8 @@ impl Options {
     /// These options with one that is set, or `None` where there is no option of this name, or the value is of another
     /// kind than it takes, or out of its range.
     pub(crate) fn set(self, name: &str, value: &OptionValue) -> Option<Self>
-        ensures { option_map form_of_options result
-            ≡ option_map (with_setting (form_of_options self)) (setting_of name.now value.now) }
+        ensures { option_map form_of_own_options result
+            ≡ option_map (with_setting (form_of_own_options self)) (setting_of name.now value.now) }
     {
         match value {
             OptionValue::Number(number) => self.set_number(name, *number),
@@ -68,8 +68,8 @@ impl Options {
 
     /// The same for a number.
     fn set_number(self, name: &str, number: u64) -> Option<Self>
-        ensures { option_map form_of_options result
-            ≡ option_map (with_setting (form_of_options self)) (number_set name.now number) }
+        ensures { option_map form_of_own_options result
+            ≡ option_map (with_setting (form_of_own_options self)) (number_set name.now number) }
     {
         if name == "bufsize" && 1 <= number && number <= SIZE_MAX as u64 {
             let bufsize = number as usize;

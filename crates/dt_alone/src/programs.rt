@@ -3,7 +3,7 @@ ghost use Rattle.std.specs.Prelude.{◌≡◌, ◌+◌, ◌≤◌, ◌<◌, ◌+
 ghost use Rattle.std.specs.List.{list_any};
 ghost use Rattle.std.specs.Option.{option_copied};
 ghost use Rattle.dt_lang.specs.Program.{ClauseForm, form_of_clause};
-ghost use Rattle.dt_record.specs.Layout.{layout_of, size_of};
+ghost use Rattle.dt_record.specs.Layout.{layout_of, layout_size};
 ghost use Rattle.dt_ecb.specs.Ecbs.{of_probe};
 ghost use Rattle.dt_ecb.specs.Forms.{form_of_ecb, shapes_of};
 ghost use Rattle.dt_ecb.specs.declared.limits.TheConstants.{ECBS_MAX};
@@ -33,7 +33,7 @@ impl Programs {
     ghost use Rattle.dt_alone.specs.Happened.{Adds, given_as};
     ghost use Rattle.std.specs.Option.{option_map};
     ghost use Rattle.dt_consumer.specs.Uses.{split_by, uses_by};
-    ghost use Rattle.dt_alone.specs.Forms.{form_of_moment};
+    ghost use Rattle.dt_alone.specs.Forms.{form_of_own_moment};
     ghost use Rattle.dt_consumer.specs.Keeps.{taking_by};
     ghost use Rattle.dt_consumer.specs.Takings.{exit_of, first_exit, taken_at};
 
@@ -69,7 +69,7 @@ impl Programs {
         ensures within { IfSome result (λ left. left ≤ size) }
         ensures left { (clauses : List ClauseForm) → map form_of_clause self.now.clauses.items ≡ clauses
             → All (λ ecb. ecb.clause < length clauses) self.now.ecbs.items
-            → (let sizes = sum (map (λ ecb. size_of (layout_of ecb.clause))
+            → (let sizes = sum (map (λ ecb. layout_size (layout_of ecb.clause))
             (of_probe END (map (form_of_ecb clauses) self.now.ecbs.items))) in
             MatchOption result (size < sizes) (λ left. left + sizes ≡ size)) }
     {
@@ -116,14 +116,14 @@ impl Programs {
         in_end: bool,
     ) -> Result<Option<i64>, AllocError>
         ensures taken { All (λ ecb. ecb.clause < length self.now.clauses.items) self.now.ecbs.items
-            → (let m = form_of_moment moment.now in
+            → (let m = form_of_own_moment moment.now in
             IfOk result (λ _. Adds (shapes_of self.now.shapes) m.firing.cpu (taken_at in_end
             (map (form_of_ecb (map form_of_clause self.now.clauses.items)) self.now.ecbs.items) m)
             happened.old.items happened.new.items)) }
         ensures exit { All (λ ecb. ecb.clause < length self.now.clauses.items) self.now.ecbs.items → in_end ≡ false
             → IfOk result (λ exit. exit ≡ first_exit (taken_at false
             (map (form_of_ecb (map form_of_clause self.now.clauses.items)) self.now.ecbs.items)
-            (form_of_moment moment.now))) }
+            (form_of_own_moment moment.now))) }
         ensures few { vec_len happened.new ≤ vec_len happened.old + ECBS_MAX }
     {
         let mut exit = None;
@@ -145,12 +145,12 @@ impl Programs {
         moment: &Moment,
         in_end: bool,
     ) -> Result<Option<i64>, AllocError>
-        ensures taken { ecb.clause < length self.now.clauses.items → (let m = form_of_moment moment.now in
+        ensures taken { ecb.clause < length self.now.clauses.items → (let m = form_of_own_moment moment.now in
             IfOk result (λ _. Adds (shapes_of self.now.shapes) m.firing.cpu
             (taking_by in_end m (map form_of_clause self.now.clauses.items) ecb ∷ [])
             happened.old.items happened.new.items)) }
         ensures exit { ecb.clause < length self.now.clauses.items → IfOk result (λ exit. exit
-            ≡ exit_of (taking_by in_end (form_of_moment moment.now) (map form_of_clause self.now.clauses.items) ecb)) }
+            ≡ exit_of (taking_by in_end (form_of_own_moment moment.now) (map form_of_clause self.now.clauses.items) ecb)) }
         ensures few { vec_len happened.new ≤ vec_len happened.old + 1 }
     {
         let cpu = moment.firing.cpu;

@@ -39,15 +39,15 @@ impl Runner {
     ghost use Rattle.std.specs.Prelude.{◌↔◌, ◌∷◌, ℕ, List, [], Option, Result, Ok, Some, None, IsTrue, IfOk, nat_le, false, length, if◌then◌else◌, ◌==◌};
     ghost use Rattle.dt_cred.specs.declared.account.Account.{Account};
     ghost use Rattle.dt_machine.specs.Registry.{Registry};
-    ghost use Rattle.dt_alone.specs.Forms.{form_of_moment};
-    ghost use Rattle.dt_alone.specs.Runs.{Answers, Has, HasIn, IsAsked, IsFiring, Runs};
+    ghost use Rattle.dt_alone.specs.Forms.{form_of_own_moment};
+    ghost use Rattle.dt_alone.specs.Runs.{Answers, Has, HasIn, HasAsked, IsFiring, Runs};
     ghost use Rattle.dt_consumer.specs.Answer.{answer_of};
     ghost use Rattle.dt_consumer.specs.Ask.{line_asks, ask_of};
     ghost use Rattle.dt_consumer.specs.Draft.{after_line};
-    ghost use Rattle.dt_consumer.specs.Life.{Item, SetUp, asked, fired, happens, phase_after, seen_in, set_up, with_event, is_over as over};
+    ghost use Rattle.dt_consumer.specs.Life.{Item, SetUp, asked, fired, happens, phase_after, seen_count, set_up, with_event, is_over as over};
     ghost use Rattle.dt_consumer.specs.Reply.{Replies, RepliesInQuota};
     ghost use Rattle.dt_consumer.specs.Sees.{Sees};
-    ghost use Rattle.dt_consumer.specs.Takings.{Event, ended, is_end, moment_at};
+    ghost use Rattle.dt_consumer.specs.Takings.{TracingEvent, ended, is_end, moment_at};
     ghost use Rattle.dt_consumer.specs.declared.phase.End.{End};
 
     /// A runner of the empty life.
@@ -142,10 +142,10 @@ impl Runner {
         requires in_history { seen ≤ self.old.options.histsize }
         requires room { vec_len self.old.since + 2 * ECBS_MAX ≤ 2 * ECBS_MAX * (self.old.lines + seen) }
         requires forward { self.old.seen ≤ seen }
-        ensures happens { IfOk result (λ _. (account : Account) (s : SetUp) (event : Event)
+        ensures happens { IfOk result (λ _. (account : Account) (s : SetUp) (event : TracingEvent)
             → Has account machine.now.registry s self.old → IsFiring event
-            → moment_at account machine.now.registry event ≡ Some (form_of_moment moment.now)
-            → phase_after (event ∷ s.since) ≡ phases.Active → seen ≡ seen_in (event ∷ s.since)
+            → moment_at account machine.now.registry event ≡ Some (form_of_own_moment moment.now)
+            → phase_after (event ∷ s.since) ≡ phases.Active → seen ≡ seen_count (event ∷ s.since)
             → Has account machine.now.registry (happens account machine.now.registry s event) self.new) }
         ensures lines { self.new.lines ≡ self.old.lines }
     {

@@ -24,7 +24,7 @@ impl<'a> Trail<'a> {
     pub(crate) fn read(alloc: Global, text: &'a [u8]) -> Result<Self, CheckFault>
         ensures ok { IfOk result (λ trail. SpellsTrail text.now trail.name.now (entries_of trail.entries.items)) }
         ensures refused { result ≡ Err CheckFault.Text
-            → (name : List ℕ) (entries : List trail.Entry) → SpellsTrail text.now name entries → ⊥ }
+            → (name : List ℕ) (entries : List trail.TrailEntry) → SpellsTrail text.now name entries → ⊥ }
     {
         let (first, rest) = cut_at(b'\n', text).ok_or(CheckFault::Text)?;
         let name = first.strip_prefix(b"account ").ok_or(CheckFault::Text)?;
@@ -37,7 +37,7 @@ impl<'a> Trail<'a> {
 fn read_entries(alloc: Global, text: &[u8]) -> Result<Vec<Entry<'_>>, CheckFault>
     ensures ok { IfOk result (λ entries. AreEntries text.now (entries_of entries.items)) }
     ensures refused { result ≡ Err CheckFault.Text
-        → (entries : List trail.Entry) → AreEntries text.now entries → ⊥ }
+        → (entries : List trail.TrailEntry) → AreEntries text.now entries → ⊥ }
 {
     let mut entries = Vec::new(alloc);
     let mut rest = text;

@@ -2,7 +2,7 @@
 ghost use Rattle.std.specs.Prelude.{◌≡◌, Some, IfSome, MatchOption};
 ghost use Rattle.dt_machine.specs.Registry.{Belongs};
 ghost use Rattle.dt_machine.specs.Shown.{IsShown};
-ghost use Rattle.dt_alone.specs.Forms.{form_of_moment};
+ghost use Rattle.dt_alone.specs.Forms.{form_of_own_moment};
 ghost use Rattle.dt_consumer.specs.Takings as spec;
 
 use crate::moment::Moment;
@@ -19,7 +19,7 @@ pub(crate) fn shown<'a>(
     ensures shown { MatchOption result
         (Belongs machine.now.registry firing.now → IsShown account.now machine.now.registry firing.now → ⊥)
         (λ moment. Belongs machine.now.registry firing.now × IsShown account.now machine.now.registry firing.now
-        × (spec.moment_of machine.now.registry firing.now ≡ Some (form_of_moment moment))) }
+        × (spec.moment_of machine.now.registry firing.now ≡ Some (form_of_own_moment moment))) }
 {
     let (probe, process) = machine.belonging(firing)?;
     if !admits(account, probe, firing.mode, process) {

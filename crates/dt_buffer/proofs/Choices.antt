@@ -5,7 +5,7 @@ use Rattle.std.proofs.Math.Seq.{take-suc}
 use Rattle.std.proofs.lemmas.Bool.{cases_lt, false≢true}
 use Rattle.std.proofs.lemmas.List.{append_assoc, append-nil, take_all}
 use Rattle.dt_buffer.proofs.Keeping.{choice_more, get_or-last}
-use Rattle.dt_buffer.specs.Choice.{IsChoice, ShowsSwitch, KeepsSwitch, chosen_of, bytes_of}
+use Rattle.dt_buffer.specs.Choice.{IsFittingChoice, ShowsSwitch, KeepsSwitch, chosen_of, chosen_bytes}
 
 -- what is true exactly where the same holds is the same
 pub same_bits : (x y : Bool) (P : Type 0) → IsTrue x ↔ P → IsTrue y ↔ P → x ≡ y
@@ -15,9 +15,9 @@ same_bits false true P f g = f.1 (g.0 refl)
 same_bits false false P f g = refl
 
 module _ (size : ℕ) (attempts : List (List ℕ)) (a b : List Bool)
-    (ca : IsChoice size attempts a) (cb : IsChoice size attempts b) where
+    (ca : IsFittingChoice size attempts a) (cb : IsFittingChoice size attempts b) where
   abbrev Fits : ℕ → List Bool → Type 0
-  Fits i front = length (bytes_of (take i attempts) front) + length (get_or attempts i []) ≤ size
+  Fits i front = length (chosen_bytes (take i attempts) front) + length (get_or attempts i []) ≤ size
 
   same_bit : (i : ℕ) → i < length attempts → take i a ≡ take i b → get_or a i false ≡ get_or b i false
   same_bit i h front =
@@ -43,13 +43,14 @@ module _ (size : ℕ) (attempts : List (List ℕ)) (bytes other : List ℕ) (dro
   pub one_switch : (bytes ≡ other) × (drops ≡ count)
   one_switch =
       let same = one_choice size attempts s.chosen t.chosen s.choice t.choice in (
-        s.kept ∙ ap (bytes_of attempts) same ∙ sym t.kept,
+        s.kept ∙ ap (chosen_bytes attempts) same ∙ sym t.kept,
         s.dropped ∙ ap (λ c. length attempts - length (chosen_of attempts c)) same ∙ sym t.dropped,
       )
 
 -- one more attempt is chosen, or it isn't
 choice_pushed : (size : ℕ) (attempts : List (List ℕ)) (chosen : List Bool) (attempt : List ℕ)
-    → IsChoice size attempts chosen → (b : Bool) × IsChoice size (attempts ++ attempt ∷ []) (chosen ++ b ∷ [])
+    → IsFittingChoice size attempts chosen → (b : Bool)
+    × IsFittingChoice size (attempts ++ attempt ∷ []) (chosen ++ b ∷ [])
 choice_pushed size attempts chosen attempt choice = ⊎_elim
     (λ over. (
       false,
@@ -57,18 +58,18 @@ choice_pushed size attempts chosen attempt choice = ⊎_elim
           ((λ e. absurd (false≢true e)), (λ fits. absurd (omega arith))),
     ))
     (λ fits. (true, choice_more size attempts chosen attempt true choice ((λ _. fits), (λ _. refl))))
-    (cases_lt size (length (bytes_of attempts chosen) + length attempt))
+    (cases_lt size (length (chosen_bytes attempts chosen) + length attempt))
 
-choice_from : (size : ℕ) (done rest : List (List ℕ)) (chosen : List Bool) → IsChoice size done chosen
-    → (c : List Bool) × IsChoice size (done ++ rest) c
+choice_from : (size : ℕ) (done rest : List (List ℕ)) (chosen : List Bool) → IsFittingChoice size done chosen
+    → (c : List Bool) × IsFittingChoice size (done ++ rest) c
 choice_from size done [] chosen choice =
-    (chosen, subst (λ xs. IsChoice size xs chosen) (sym (append-nil done)) choice)
+    (chosen, subst (λ xs. IsFittingChoice size xs chosen) (sym (append-nil done)) choice)
 choice_from size done (attempt ∷ rest) chosen choice =
     let b = choice_pushed size done chosen attempt choice in
     let c = choice_from size (done ++ attempt ∷ []) rest (chosen ++ b.0 ∷ []) b.1 in
-    (c.0, subst (λ xs. IsChoice size xs c.0) (append_assoc done (attempt ∷ []) rest) c.1)
+    (c.0, subst (λ xs. IsFittingChoice size xs c.0) (append_assoc done (attempt ∷ []) rest) c.1)
 
-pub some_choice : (size : ℕ) (attempts : List (List ℕ)) → (c : List Bool) × IsChoice size attempts c
+pub some_choice : (size : ℕ) (attempts : List (List ℕ)) → (c : List Bool) × IsFittingChoice size attempts c
 some_choice size attempts =
     choice_from size [] attempts [] (record { whole = refl; exactly = λ i h. absurd (omega arith) })
 
@@ -76,7 +77,7 @@ pub some_switch : (size : ℕ) (attempts : List (List ℕ))
     → (bytes : List ℕ) × (drops : ℕ) × ShowsSwitch size attempts bytes drops
 some_switch size attempts =
     let c = some_choice size attempts in (
-      bytes_of attempts c.0,
+      chosen_bytes attempts c.0,
       length attempts - length (chosen_of attempts c.0),
       record { chosen = c.0; choice = c.1; kept = refl; dropped = refl },
     )
@@ -85,7 +86,7 @@ some_switch size attempts =
 module _ (size : ℕ) (attempts : List (List ℕ)) (bytes : List ℕ) (drops : ℕ) (attempt : List ℕ)
     (s : ShowsSwitch size attempts bytes drops) (b : Bool)
     (fits : IsTrue b ↔ (length bytes + length attempt ≤ size)) where
-  more : IsChoice size (attempts ++ attempt ∷ []) (s.chosen ++ b ∷ [])
+  more : IsFittingChoice size (attempts ++ attempt ∷ []) (s.chosen ++ b ∷ [])
   more =
       let P : ℕ → Type 0 = λ n. IsTrue b ↔ (n + length attempt ≤ size) in
       choice_more size attempts s.chosen attempt b s.choice (subst P (ap length s.kept) fits)

@@ -4,7 +4,7 @@ use Rattle.std.proofs.Common.{get_or, take, refl, sym, ap, ◌∙◌, subst, ⊎
 use Rattle.std.specs.List.{concat}
 use Rattle.std.proofs.lemmas.Bool.{cases_eq, false≢true}
 use Rattle.std.proofs.lemmas.List.{append_assoc, append-nil, take-append-le, take_all, length_push}
-use Rattle.dt_buffer.specs.Choice.{IsChoice, ShowsSwitch, chosen_of, bytes_of}
+use Rattle.dt_buffer.specs.Choice.{IsFittingChoice, ShowsSwitch, chosen_of, chosen_bytes}
 use Rattle.dt_buffer.specs.Stores.{SwitchIsAt}
 use Rattle.dt_buffer.specs.declared.switch.SwitchStore.{SwitchStore}
 
@@ -43,10 +43,10 @@ pub take-whole : {X : Type 0} (xs : List X) (i : ℕ) → i ≡ length xs → ta
 take-whole xs i e = take_all i xs (omega arith)
 
 module _ (size : ℕ) (attempts : List (List ℕ)) (chosen : List Bool) (attempt : List ℕ) (b : Bool)
-    (choice : IsChoice size attempts chosen)
-    (fits : IsTrue b ↔ (length (bytes_of attempts chosen) + length attempt ≤ size)) where
+    (choice : IsFittingChoice size attempts chosen)
+    (fits : IsTrue b ↔ (length (chosen_bytes attempts chosen) + length attempt ≤ size)) where
   abbrev Fits-at : ℕ → Bool → List (List ℕ) → List Bool → List ℕ → Type 0
-  Fits-at i c front taken here = IsTrue c ↔ (length (bytes_of front taken) + length here ≤ size)
+  Fits-at i c front taken here = IsTrue c ↔ (length (chosen_bytes front taken) + length here ≤ size)
 
   -- the choice is right at a place of both lists
   abbrev Right-at : ℕ → Type 0
@@ -76,7 +76,7 @@ module _ (size : ℕ) (attempts : List (List ℕ)) (chosen : List Bool) (attempt
       )
       fits
 
-  pub choice_more : IsChoice size (attempts ++ attempt ∷ []) (chosen ++ b ∷ [])
+  pub choice_more : IsFittingChoice size (attempts ++ attempt ∷ []) (chosen ++ b ∷ [])
   choice_more = record {
     whole = omega (arith, length_push chosen b, length_push attempts attempt, choice.whole);
     exactly = λ i h. ⊎_elim

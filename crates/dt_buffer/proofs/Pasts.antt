@@ -8,9 +8,9 @@ use Rattle.dt_buffer.proofs.Filling.{fill_shows}
 use Rattle.dt_buffer.proofs.Histories.{attempts-append, of_end-append, ordinary-append, since-put, since-swap}
 use Rattle.dt_buffer.proofs.Overwriting.{keeps_ring}
 use Rattle.dt_buffer.specs.Beginning.{KeepsOrdinary, KeepsOfEnd}
-use Rattle.dt_buffer.specs.History.{Past, attempt, swap, after, attempts, ordinary, of_end, since_swap}
+use Rattle.dt_buffer.specs.History.{BufferPast, attempt, swap, buffer_after, attempts, ordinary, of_end, since_swap}
 use Rattle.dt_buffer.specs.IsAt.{StoreIsAt}
-use Rattle.dt_buffer.specs.Shows.{Shows, ShownBy, KeptBy, Answers, EndLast, unkept}
+use Rattle.dt_buffer.specs.Shows.{Shows, ShownBy, KeptBy, PutAnswers, EndLast, unkept}
 use Rattle.dt_buffer.specs.Stores.{SwitchIsAt, FillIsAt, RingIsAt}
 use Rattle.dt_buffer.specs.declared.fill.FillStore.{FillStore}
 use Rattle.dt_buffer.specs.declared.policy.Policy.{Policy}
@@ -24,7 +24,7 @@ use Rattle.dt_buffer.specs.declared.ring.RingStore.{RingStore}
 use Rattle.dt_buffer.specs.declared.switch.SwitchStore.{SwitchStore}
 
 -- what a store shows
-module _ (past : Past) where
+module _ (past : BufferPast) where
   pub switch_shown : (store : SwitchStore) → StoreIsAt past (Switch store)
       → Shows past store.kept.items store.drops false
   switch_shown store s =
@@ -56,10 +56,10 @@ said : (b : Bool) (other : Put) → ((if b then Kept else other) ≡ Kept) ⊎ (
 said true other = inl refl
 said false other = inr refl
 
-module _ (past : Past) (bytes : List ℕ) (in_end : Bool) (b : Bool) where
+module _ (past : BufferPast) (bytes : List ℕ) (in_end : Bool) (b : Bool) where
   answer : (policy : Policy) → past.policy ≡ policy → (unkept past policy ≡ Kept → ⊥)
       → IsTrue b ↔ KeptBy past policy bytes in_end
-      → Answers past bytes in_end (if b then Kept else unkept past policy)
+      → PutAnswers past bytes in_end (if b then Kept else unkept past policy)
   answer policy same differs keeps =
       let put = if b then Kept else unkept past policy in
       let K : Policy → Type 0 = λ p. KeptBy past p bytes in_end in
@@ -73,13 +73,13 @@ module _ (past : Past) (bytes : List ℕ) (in_end : Bool) (b : Bool) where
   module _ (old new : SwitchStore) (s : StoreIsAt past (Switch old))
       (steps : SwitchIsAt past.size (since_swap past.events) old
       → SwitchIsAt past.size (since_swap past.events ++ bytes ∷ []) new) where
-    pub put_switch : StoreIsAt (after past (attempt bytes in_end)) (Switch new)
+    pub put_switch : StoreIsAt (buffer_after past (attempt bytes in_end)) (Switch new)
     put_switch =
         let P : List (List ℕ) → Type 0 = λ xs. SwitchIsAt past.size xs new in
         (s.0, subst P (sym (since-put past.events bytes in_end)) (steps s.1))
 
     pub answer_switch : IsTrue b ↔ (length old.kept.items + length bytes ≤ old.size)
-        → Answers past bytes in_end (if b then Kept else Dropped)
+        → PutAnswers past bytes in_end (if b then Kept else Dropped)
     answer_switch fits =
         let P : ℕ → Type 0 = λ n. IsTrue b ↔ (length old.kept.items + length bytes ≤ n) in
         answer SwitchPolicy s.0 (λ e. cc)
@@ -89,13 +89,13 @@ module _ (past : Past) (bytes : List ℕ) (in_end : Bool) (b : Bool) where
   module _ (old new : RingStore) (s : StoreIsAt past (Ring old))
       (steps : RingIsAt past.size (attempts past.events) old
       → RingIsAt past.size (attempts past.events ++ bytes ∷ []) new) where
-    pub put_ring : StoreIsAt (after past (attempt bytes in_end)) (Ring new)
+    pub put_ring : StoreIsAt (buffer_after past (attempt bytes in_end)) (Ring new)
     put_ring =
         let P : List (List ℕ) → Type 0 = λ xs. RingIsAt past.size xs new in
         (s.0, subst P (sym (attempts-append past.events (attempt bytes in_end ∷ []))) (steps s.1))
 
     pub answer_ring : IsTrue b ↔ (length bytes ≤ old.bytes.capacity)
-        → Answers past bytes in_end (if b then Kept else Dropped)
+        → PutAnswers past bytes in_end (if b then Kept else Dropped)
     answer_ring fits =
         let P : ℕ → Type 0 = λ n. IsTrue b ↔ (length bytes ≤ n) in
         let short = subst P s.1.room fits in
@@ -105,7 +105,7 @@ module _ (past : Past) (bytes : List ℕ) (in_end : Bool) (b : Bool) where
         )
 
 -- an ordinary record under fill, where none of END came before it
-module _ (past : Past) (bytes : List ℕ) (b : Bool) (old new : FillStore) (s : StoreIsAt past (Fill old))
+module _ (past : BufferPast) (bytes : List ℕ) (b : Bool) (old new : FillStore) (s : StoreIsAt past (Fill old))
     (last : EndLast past false)
     (steps : FillIsAt past.size past.reserve (ordinary past.events) [] old
     → FillIsAt past.size past.reserve (ordinary past.events ++ bytes ∷ []) [] new
@@ -119,7 +119,7 @@ module _ (past : Past) (bytes : List ℕ) (b : Bool) (old new : FillStore) (s : 
       let P : List (List ℕ) → Type 0 = λ xs. FillIsAt past.size past.reserve (ordinary past.events) xs old in
       steps (subst P none s.1)
 
-  pub put_ordinary_past : StoreIsAt (after past (attempt bytes false)) (Fill new)
+  pub put_ordinary_past : StoreIsAt (buffer_after past (attempt bytes false)) (Fill new)
   put_ordinary_past =
       let O : List (List ℕ) → Type 0 =
       λ xs. FillIsAt past.size past.reserve xs (of_end (past.events ++ attempt bytes false ∷ [])) new in
@@ -129,15 +129,15 @@ module _ (past : Past) (bytes : List ℕ) (b : Bool) (old new : FillStore) (s : 
       sym (of_end-append past.events (attempt bytes false ∷ []) ∙ append-nil (of_end past.events) ∙ none) in
       (s.0, subst O (sym (ordinary-append past.events (attempt bytes false ∷ []))) (subst E ends stepped.0))
 
-  pub answer_ordinary : Answers past bytes false (if b then Kept else Filled)
+  pub answer_ordinary : PutAnswers past bytes false (if b then Kept else Filled)
   answer_ordinary = answer past bytes false b FillPolicy s.0 (λ e. cc) stepped.1
 
 -- a record of END under fill
-module _ (past : Past) (bytes : List ℕ) (b : Bool) (old new : FillStore) (s : StoreIsAt past (Fill old))
+module _ (past : BufferPast) (bytes : List ℕ) (b : Bool) (old new : FillStore) (s : StoreIsAt past (Fill old))
     (steps : FillIsAt past.size past.reserve (ordinary past.events) (of_end past.events) old
     → FillIsAt past.size past.reserve (ordinary past.events) (of_end past.events ++ bytes ∷ []) new
     × (IsTrue b ↔ KeepsOfEnd past.size past.reserve (ordinary past.events) (of_end past.events) bytes)) where
-  pub put_end_past : StoreIsAt (after past (attempt bytes true)) (Fill new)
+  pub put_end_past : StoreIsAt (buffer_after past (attempt bytes true)) (Fill new)
   put_end_past =
       let O : List (List ℕ) → Type 0 =
       λ xs. FillIsAt past.size past.reserve xs (of_end (past.events ++ attempt bytes true ∷ [])) new in
@@ -148,19 +148,19 @@ module _ (past : Past) (bytes : List ℕ) (b : Bool) (old new : FillStore) (s : 
         subst O same (subst E (sym (of_end-append past.events (attempt bytes true ∷ []))) (steps s.1).0),
       )
 
-  pub answer_end : Answers past bytes true (if b then Kept else Filled)
+  pub answer_end : PutAnswers past bytes true (if b then Kept else Filled)
   answer_end = answer past bytes true b FillPolicy s.0 (λ e. cc) (steps s.1).1
 
 -- a swap
-module _ (past : Past) where
+module _ (past : BufferPast) where
   pub swap_switch : (old new : SwitchStore) → StoreIsAt past (Switch old) → SwitchIsAt past.size [] new
-      → StoreIsAt (after past swap) (Switch new)
+      → StoreIsAt (buffer_after past swap) (Switch new)
   swap_switch old new s empty =
       let P : List (List ℕ) → Type 0 = λ xs. SwitchIsAt past.size xs new in
       (s.0, subst P (sym (since-swap past.events)) empty)
 
   pub swap_other : (store : Store) → ((held : SwitchStore) → store ≡ Switch held → ⊥) → StoreIsAt past store
-      → StoreIsAt (after past swap) store
+      → StoreIsAt (buffer_after past swap) store
   swap_other (Switch store) other s = absurd (other store refl)
   swap_other (Fill store) other s =
       let P : List (List ℕ) → List (List ℕ) → Type 0 = λ xs ys. FillIsAt past.size past.reserve xs ys store in
@@ -177,7 +177,8 @@ module _ (past : Past) where
       )
 
 -- no store but that of fill is ever filled
-pub unfilled : (past : Past) (store : Store) → ((held : FillStore) → store ≡ Fill held → ⊥) → StoreIsAt past store
+pub unfilled : (past : BufferPast) (store : Store) → ((held : FillStore) → store ≡ Fill held → ⊥)
+    → StoreIsAt past store
     → (bytes : List ℕ) × (drops : ℕ) × Shows past bytes drops false
 unfilled past (Switch store) other s = (store.kept.items, store.drops, switch_shown past store s)
 unfilled past (Fill store) other s = absurd (other store refl)

@@ -8,7 +8,7 @@ use Rattle.dt_buffer.proofs.Choices.{one_switch, some_switch, same_bits}
 use Rattle.dt_buffer.proofs.Endings.{one_ends, some_ends}
 use Rattle.dt_buffer.specs.Beginning.{IsLongestBeginning, ShowsFill, size_of}
 use Rattle.dt_buffer.specs.Ending.{ShowsRing, fitting, too_long}
-use Rattle.dt_buffer.specs.History.{Past, attempts, ordinary, of_end, since_swap}
+use Rattle.dt_buffer.specs.History.{BufferPast, attempts, ordinary, of_end, since_swap}
 use Rattle.dt_buffer.specs.Shows.{Shows, ShownBy}
 use Rattle.dt_buffer.specs.declared.policy.Policy.{Policy}
 use Rattle.dt_buffer.specs.declared.policy.Policy.TheVariants.{Switch, Fill, Ring}
@@ -82,7 +82,7 @@ some_ring size records =
       record { passed = e.0; newest = e.1; kept = refl; dropped = refl },
     )
 
-one_by : (past : Past) (policy : Policy) (bytes other : List ℕ) (drops count : ℕ) (filled full : Bool)
+one_by : (past : BufferPast) (policy : Policy) (bytes other : List ℕ) (drops count : ℕ) (filled full : Bool)
     → ShownBy past policy bytes drops filled → ShownBy past policy other count full
     → (bytes ≡ other) × (drops ≡ count) × (filled ≡ full)
 one_by past Switch bytes other drops count filled full s t =
@@ -96,12 +96,12 @@ one_by past Ring bytes other drops count filled full s t =
     let same = one_ring past.size (attempts past.events) bytes other drops count s.0 t.0 in
     (same.0, same.1, s.1 ∙ sym t.1)
 
-pub one_thing : (past : Past) (bytes other : List ℕ) (drops count : ℕ) (filled full : Bool)
+pub one_thing : (past : BufferPast) (bytes other : List ℕ) (drops count : ℕ) (filled full : Bool)
     → Shows past bytes drops filled → Shows past other count full
     → (bytes ≡ other) × (drops ≡ count) × (filled ≡ full)
 one_thing past = one_by past past.policy
 
-some_by : (past : Past) (policy : Policy)
+some_by : (past : BufferPast) (policy : Policy)
     → (bytes : List ℕ) × (drops : ℕ) × (filled : Bool) × ShownBy past policy bytes drops filled
 some_by past Switch =
     let s = some_switch past.size (since_swap past.events) in
@@ -113,6 +113,6 @@ some_by past Ring =
     let s = some_ring past.size (attempts past.events) in
     (s.0, s.1, false, (s.2, refl))
 
-pub some_thing : (past : Past)
+pub some_thing : (past : BufferPast)
     → (bytes : List ℕ) × (drops : ℕ) × (filled : Bool) × Shows past bytes drops filled
 some_thing past = some_by past past.policy

@@ -1,6 +1,6 @@
 -- What a buffer shows after a past, by its policy, and what it answers to a record.
 use Rattle.std.specs.Prelude.{◌≡◌, ℕ, ◌+◌, ◌⊎◌, ◌↔◌, Bool, true, false, List, []}
-use Rattle.dt_buffer.specs.History.{Past, attempts, ordinary, of_end, since_swap}
+use Rattle.dt_buffer.specs.History.{BufferPast, attempts, ordinary, of_end, since_swap}
 use Rattle.dt_buffer.specs.Choice.{ShowsSwitch, KeepsSwitch}
 use Rattle.dt_buffer.specs.Beginning.{ShowsFill, KeepsOrdinary, KeepsOfEnd}
 use Rattle.dt_buffer.specs.Ending.{ShowsRing, KeepsRing}
@@ -9,7 +9,7 @@ use Rattle.dt_buffer.specs.declared.policy.Policy.TheVariants.{Switch, Fill, Rin
 use Rattle.dt_buffer.specs.declared.policy.Put.{Put}
 use Rattle.dt_buffer.specs.declared.policy.Put.TheVariants.{Kept, Dropped, Filled}
 
-module _ (past : Past) where
+module _ (past : BufferPast) where
   abbrev pub ShownBy : Policy → List ℕ → ℕ → Bool → Type 0
   ShownBy Switch bytes drops filled =
       ShowsSwitch past.size (since_swap past.events) bytes drops × (filled ≡ false)
@@ -38,8 +38,8 @@ module _ (past : Past) where
   KeptBy Ring bytes in_end = KeepsRing past.size (attempts past.events) bytes
 
   -- After the past, a buffer keeps this record.
-  abbrev pub Keeps : List ℕ → Bool → Type 0
-  Keeps = KeptBy past.policy
+  abbrev pub KeepsRecord : List ℕ → Bool → Type 0
+  KeepsRecord = KeptBy past.policy
 
   -- Under fill, no ordinary record comes after one of END.
   abbrev pub EndLast : Bool → Type 0
@@ -52,8 +52,8 @@ module _ (past : Past) where
   unkept Ring = Dropped
 
   -- What is said of a record: exactly where it is kept, that it is.
-  pub record Answers (bytes : List ℕ) (in_end : Bool) (put : Put) : Type 0 where
-    pub kept : (put ≡ Kept) ↔ Keeps bytes in_end
+  pub record PutAnswers (bytes : List ℕ) (in_end : Bool) (put : Put) : Type 0 where
+    pub kept : (put ≡ Kept) ↔ KeepsRecord bytes in_end
     pub otherwise : (put ≡ Kept) ⊎ (put ≡ unkept past.policy)
 
 -- how many drops are counted after an answer

@@ -1,9 +1,9 @@
 //! The principal buffer of one processor.
 ghost use Rattle.std.specs.Prelude.{◌≡◌, ◌≢◌, ◌+◌, ◌<◌, ◌≤◌, ◌↔◌, ℕ, [], IfOk, MatchOption, if◌then◌else◌};
 ghost use Rattle.dt_buffer.specs.Ending.{HoldsRing};
-ghost use Rattle.dt_buffer.specs.History.{Past, attempt, attempts, swap, new_past, after};
-ghost use Rattle.dt_buffer.specs.Shows.{HasContent, HasDrops, IsFilled, EndLast, Answers, drops_after};
-ghost use Rattle.dt_buffer.specs.IsAt.{IsAt, drops_of};
+ghost use Rattle.dt_buffer.specs.History.{BufferPast, attempt, attempts, swap, new_buffer_past, buffer_after};
+ghost use Rattle.dt_buffer.specs.Shows.{HasContent, HasDrops, IsFilled, EndLast, PutAnswers, drops_after};
+ghost use Rattle.dt_buffer.specs.IsAt.{BufferIsAt, drops_of};
 ghost use Rattle.dt_buffer.specs.declared.limits.TheConstants.{DROPS_LIMIT, SIZE_MAX};
 
 use crate::fill::FillStore;
@@ -48,7 +48,7 @@ impl Principal {
     ) -> Result<Principal, AllocError>
         requires size_max { size ≤ SIZE_MAX }
         requires reserved { reserve ≤ size }
-        ensures stands { IfOk result (IsAt (new_past policy size reserve)) }
+        ensures stands { IfOk result (BufferIsAt (new_buffer_past policy size reserve)) }
         ensures drops { IfOk result (λ principal. drops_of principal ≡ 0) }
     {
         let store = match policy {
@@ -65,10 +65,10 @@ impl Principal {
     /// Under fill, END's records come last.
     pub fn put(&mut self, bytes: &[u8], in_end: bool) -> Put
         requires { drops_of self.old < DROPS_LIMIT }
-        ensures stands { (past : Past) → IsAt past self.old → EndLast past in_end
-            → IsAt (after past (attempt bytes.now in_end)) self.new }
-        ensures answers { (past : Past) → IsAt past self.old → EndLast past in_end
-            → Answers past bytes.now in_end result }
+        ensures stands { (past : BufferPast) → BufferIsAt past self.old → EndLast past in_end
+            → BufferIsAt (buffer_after past (attempt bytes.now in_end)) self.new }
+        ensures answers { (past : BufferPast) → BufferIsAt past self.old → EndLast past in_end
+            → PutAnswers past bytes.now in_end result }
         ensures drops { drops_of self.new ≡ drops_after result (drops_of self.old) }
     {
         match &mut self.store {
@@ -87,7 +87,7 @@ impl Principal {
     /// What a snap does when it has read the buffer: under switch the buffer is empty again and forgets its drops, under
     /// fill and ring nothing changes. It takes no memory.
     pub fn swap(&mut self)
-        ensures stands { (past : Past) → IsAt past self.old → IsAt (after past swap) self.new }
+        ensures stands { (past : BufferPast) → BufferIsAt past self.old → BufferIsAt (buffer_after past swap) self.new }
         ensures drops { drops_of self.new ≤ drops_of self.old }
     {
         if let Store::Switch(store) = &mut self.store {
@@ -97,7 +97,7 @@ impl Principal {
 
     /// A copy of the bytes of the records kept, oldest first. `Err`: there was no memory for it.
     pub fn content(&self, alloc: Global) -> Result<Vec<u8>, AllocError>
-        ensures { (past : Past) → IsAt past self.now → IfOk result (λ bytes. HasContent past bytes.items) }
+        ensures { (past : BufferPast) → BufferIsAt past self.now → IfOk result (λ bytes. HasContent past bytes.items) }
     {
         match &self.store {
             Store::Switch(store) => Vec::from_slice(alloc, &store.kept),
@@ -108,7 +108,7 @@ impl Principal {
 
     /// The two rings of a buffer under the ring policy, or `None` under another. It takes no memory.
     pub fn ring(&self) -> Option<Rings<'_>>
-        ensures { (past : Past) → IsAt past self.now → MatchOption result (past.policy ≢ Policy.Ring)
+        ensures { (past : BufferPast) → BufferIsAt past self.now → MatchOption result (past.policy ≢ Policy.Ring)
             (λ rings. (past.policy ≡ Policy.Ring)
             × HoldsRing past.size (attempts past.events) rings.bytes.now.items rings.lengths.now.items) }
     {
@@ -125,7 +125,7 @@ impl Principal {
     /// fill none. Records that a ring overwrote are no drops.
     pub fn drops(&self) -> u64
         ensures counted { result ≡ drops_of self.now }
-        ensures shows { (past : Past) → IsAt past self.now → HasDrops past result }
+        ensures shows { (past : BufferPast) → BufferIsAt past self.now → HasDrops past result }
     {
         match &self.store {
             Store::Switch(store) => store.drops,
@@ -136,7 +136,7 @@ impl Principal {
 
     /// Whether the policy is fill and some record wasn't kept.
     pub fn filled(&self) -> bool
-        ensures { (past : Past) → IsAt past self.now → IsFilled past result }
+        ensures { (past : BufferPast) → BufferIsAt past self.now → IsFilled past result }
     {
         let Store::Fill(store) = &self.store else {
             return false;

@@ -6,12 +6,13 @@ use Rattle.std.proofs.lemmas.List.{get_or-set_same, get_or-set_other}
 use Rattle.std.specs.Option.{option_map, IsSomeAnd}
 use Rattle.dt_machine.specs.Interest as interest
 use Rattle.dt_chain.specs.Kept.{slot_of}
-use Rattle.dt_chain.specs.Writes.{Entry}
+use Rattle.dt_chain.specs.Writes.{Published}
 use Rattle.dt_chain.specs.declared.entries.Slot.{Slot}
 use Rattle.dt_chain.proofs.Listing.{along}
 
 -- the slots keep what the entry says
-pub kept_after : (slots : List (Option Slot)) (at seat : ℕ) (entry : Entry) (was : Option Entry) → at < length slots
+pub kept_after : (slots : List (Option Slot)) (at seat : ℕ) (entry : Published) (was : Option Published)
+    → at < length slots
     → get_or slots seat None ≡ option_map slot_of was
     → get_or (set slots at (Some (slot_of entry))) seat None
     ≡ option_map slot_of (cond (eqb at seat) (Some entry) was)
@@ -31,7 +32,7 @@ kept_after slots at seat entry was within kept =
     (cases_eq at seat)
 
 -- the lists have the seats whose entries have the probe
-pub listed_after : (before after : ℕ → Bool) (at seat probe : ℕ) (entry : Entry) (was : Option Entry)
+pub listed_after : (before after : ℕ → Bool) (at seat probe : ℕ) (entry : Published) (was : Option Published)
     → (IsTrue (after at) ↔ interest.Names entry.probes probe)
     → ((other : ℕ) → other ≢ at → after other ≡ before other)
     → (IsTrue (before seat) ↔ IsSomeAnd was (λ e. interest.Names e.probes probe))

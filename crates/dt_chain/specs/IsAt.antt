@@ -2,18 +2,18 @@
 use Rattle.std.specs.Prelude.{◌≡◌, ◌≤◌, vec_capacity, ◌↔◌, ℕ, List, None, IsTrue, IsSomeAnd, slice_index_or}
 use Rattle.std.specs.Option.{option_map}
 use Rattle.dt_machine.specs.Interest as interest
-use Rattle.dt_chain.specs.Kept.{is_listed, slot_of}
-use Rattle.dt_chain.specs.Writes.{Write, state}
+use Rattle.dt_chain.specs.Kept.{is_seat_listed, slot_of}
+use Rattle.dt_chain.specs.Writes.{Write, published_on}
 use Rattle.dt_chain.specs.declared.entries.Entries.{Entries}
 use Rattle.dt_chain.specs.declared.lists.TheConstants.{LISTS}
 
 -- Entries are at the end of a list of writes: for each seat they keep what its entry says, and each probe lists the
 -- seats whose entries have it.
-pub record IsAt (writes : List Write) (entries : Entries) : Type 0 where
-  pub kept : (seat : ℕ) → slice_index_or entries.slots seat None ≡ option_map slot_of (state writes seat)
-  pub listed : (probe seat : ℕ) → IsTrue (is_listed entries.lists.items probe seat)
-      ↔ IsSomeAnd (state writes seat) (λ entry. interest.Names entry.probes probe)
+pub record EntriesAreAt (writes : List Write) (entries : Entries) : Type 0 where
+  pub kept : (seat : ℕ) → slice_index_or entries.slots seat None ≡ option_map slot_of (published_on writes seat)
+  pub listed : (probe seat : ℕ) → IsTrue (is_seat_listed entries.lists.items probe seat)
+      ↔ IsSomeAnd (published_on writes seat) (λ entry. interest.Names entry.probes probe)
 
 -- Entries have the room for all that may be published.
-abbrev pub HasRoom : Entries → Type 0
-HasRoom entries = LISTS ≤ vec_capacity entries.lists
+abbrev pub HasListRoom : Entries → Type 0
+HasListRoom entries = LISTS ≤ vec_capacity entries.lists

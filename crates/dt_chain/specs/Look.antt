@@ -4,11 +4,11 @@ use Rattle.dt_machine.specs.Interest as interest
 use Rattle.dt_machine.specs.Registry.{Registry, Belongs}
 use Rattle.dt_machine.specs.Shown.{IsShown}
 use Rattle.dt_machine.specs.declared.firing.Firing.{Firing}
-use Rattle.dt_chain.specs.Writes.{Write, Entry, state}
+use Rattle.dt_chain.specs.Writes.{Write, Published, published_on}
 
 -- An entry names a firing that belongs to the machine, whose probe is one of the entry's, and that the entry's
 -- account is shown.
-pub record Names (registry : Registry) (entry : Entry) (firing : Firing) : Type 0 where
+pub record NamesFiring (registry : Registry) (entry : Published) (firing : Firing) : Type 0 where
   pub belongs : Belongs registry firing
   pub interested : interest.Names entry.probes firing.probe
   pub admitted : IsShown entry.account registry firing
@@ -18,4 +18,4 @@ pub record Names (registry : Registry) (entry : Entry) (firing : Firing) : Type 
 pub record IsLook (registry : Registry) (writes : List Write) (firing : Firing) (lives : ℕ → Option ℕ) : Type 0 where
   pub exactly : (seat life : ℕ)
       → (lives seat ≡ Some life)
-      ↔ IsSomeAnd (state writes seat) (λ entry. (entry.life ≡ life) × Names registry entry firing)
+      ↔ IsSomeAnd (published_on writes seat) (λ entry. (entry.life ≡ life) × NamesFiring registry entry firing)

@@ -9,14 +9,14 @@ pub data Write : Type 0 where
   withdrawn : (seat : ℕ) → Write
 
 -- what is published of a seat
-pub record Entry : Type 0 where
+pub record Published : Type 0 where
   pub life : ℕ
   pub account : Account
   pub probes : List Bool
 
 -- A history of writes is a list, the newest first. The entry of a seat is its last write, if that is a publication.
-abbrev pub state : List Write → ℕ → Option Entry
-state [] seat = None
-state (published at life account probes ∷ earlier) seat =
-    if at == seat then Some (record { life = life; account = account; probes = probes }) else state earlier seat
-state (withdrawn at ∷ earlier) seat = if at == seat then None else state earlier seat
+abbrev pub published_on : List Write → ℕ → Option Published
+published_on [] seat = None
+published_on (published at life account probes ∷ earlier) seat =
+    if at == seat then Some (record { life = life; account = account; probes = probes }) else published_on earlier seat
+published_on (withdrawn at ∷ earlier) seat = if at == seat then None else published_on earlier seat

@@ -31,12 +31,12 @@ impl Entries {
     ghost use Rattle.dt_chain.specs.Writes.{Write, published, withdrawn};
     ghost use Rattle.dt_chain.specs.Look.{IsLook};
     ghost use Rattle.dt_chain.specs.Seats.{has, life_at};
-    ghost use Rattle.dt_chain.specs.Kept.{is_listed, life_shown};
-    ghost use Rattle.dt_chain.specs.IsAt.{IsAt, HasRoom};
+    ghost use Rattle.dt_chain.specs.Kept.{is_seat_listed, life_shown};
+    ghost use Rattle.dt_chain.specs.IsAt.{EntriesAreAt, HasListRoom};
 
     /// No entry. It takes no memory yet.
     pub fn new(alloc: Global) -> Entries
-        ensures { IsAt [] result }
+        ensures { EntriesAreAt [] result }
     {
         Entries {
             slots: [None; SEATS],
@@ -49,9 +49,9 @@ impl Entries {
     ///
     /// `Err`: there was no memory. The entries are as they were, in both cases.
     pub fn reserve(&mut self) -> Result<(), AllocError>
-        ensures room { OnOk result (HasRoom self.new) }
-        ensures succeeds { HasRoom self.old → IsOk result }
-        ensures same { (writes : List Write) → IsAt writes self.old → IsAt writes self.new }
+        ensures room { OnOk result (HasListRoom self.new) }
+        ensures succeeds { HasListRoom self.old → IsOk result }
+        ensures same { (writes : List Write) → EntriesAreAt writes self.old → EntriesAreAt writes self.new }
     {
         // lists that are there keep their seats: only empty ones are added
         self.lists.resize(LISTS, SeatSet::new())
@@ -68,11 +68,11 @@ impl Entries {
         account: &Account,
         interest: &Interest,
     ) -> Result<(), AllocError>
-        ensures ok { OnOk result ((writes : List Write) → IsAt writes self.old
-            → IsAt (published seat life account.now interest.now ∷ writes) self.new) }
-        ensures err { OnErr result ((writes : List Write) → IsAt writes self.old → IsAt writes self.new) }
-        ensures room { OnOk result (HasRoom self.new) }
-        ensures succeeds { HasRoom self.old → IsOk result }
+        ensures ok { OnOk result ((writes : List Write) → EntriesAreAt writes self.old
+            → EntriesAreAt (published seat life account.now interest.now ∷ writes) self.new) }
+        ensures err { OnErr result ((writes : List Write) → EntriesAreAt writes self.old → EntriesAreAt writes self.new) }
+        ensures room { OnOk result (HasListRoom self.new) }
+        ensures succeeds { HasListRoom self.old → IsOk result }
     {
         // only this can fail, so nothing has changed when it does
         self.lists.resize(LISTS, SeatSet::new())?;
@@ -86,8 +86,8 @@ impl Entries {
 
     /// A seat withdraws its entry, if it has one. It takes no memory.
     pub fn withdraw(&mut self, seat: Seat)
-        ensures stands { (writes : List Write) → IsAt writes self.old → IsAt (withdrawn seat ∷ writes) self.new }
-        ensures room { HasRoom self.old → HasRoom self.new }
+        ensures stands { (writes : List Write) → EntriesAreAt writes self.old → EntriesAreAt (withdrawn seat ∷ writes) self.new }
+        ensures room { HasListRoom self.old → HasListRoom self.new }
     {
         strike(self.lists.as_mut_slice(), seat);
         self.slots[seat.number() as usize] = None;
@@ -96,7 +96,7 @@ impl Entries {
     /// The seats whose entries name a firing, each with the life of its entry: the firing belongs to the machine,
     /// its probe is one of the entry's, and the entry's account is shown the firing. It takes no memory.
     pub fn look(&self, machine: &Machine, firing: &Firing) -> SeatMask
-        ensures { (writes : List Write) → IsAt writes self.now
+        ensures { (writes : List Write) → EntriesAreAt writes self.now
             → IsLook machine.now.registry writes firing.now (life_at result) }
     {
         // most firings are of probes that no seat is interested in: they leave here, before anything is looked up
@@ -112,7 +112,7 @@ impl Entries {
 
     /// The seats that are listed for a probe.
     fn interested(&self, probe: u32) -> SeatSet
-        ensures { (seat : ℕ) → has result seat ≡ is_listed self.now.lists.items probe seat }
+        ensures { (seat : ℕ) → has result seat ≡ is_seat_listed self.now.lists.items probe seat }
     {
         match self.lists.get(probe as usize) {
             Some(seats) => *seats,

@@ -4,7 +4,7 @@ use Rattle.std.proofs.Common.{Option, Some, None, map, refl, sym, ap, ◌∙◌,
 use Rattle.std.specs.Option.{is_some, option_map, option_to_list}
 use Rattle.std.proofs.lemmas.List.{append-nil, append_assoc, take_all}
 use Rattle.std.proofs.lemmas.Grind.{flat_map-append}
-use Rattle.dt_buffer.specs.History.{Past, attempt, swap, of_end, after}
+use Rattle.dt_buffer.specs.History.{BufferPast, attempt, swap, of_end, buffer_after}
 use Rattle.dt_buffer.specs.History as buffer
 use Rattle.dt_buffer.specs.Shows.{EndLast}
 use Rattle.dt_ecb.specs.declared.parts.Ecb.{Ecb}
@@ -21,13 +21,13 @@ attempts-append xs ys =
     (λ (t : Taking). option_to_list (option_map (λ bytes. attempt bytes t.in_end) (record_of t))) xs ys
 
 -- the same past and the same errors, written in another way
-pub same_has : (past past' : Past) (n m : ℕ) (p : Processor) → past ≡ past' → n ≡ m → HasTaken past n p
+pub same_has : (past past' : BufferPast) (n m : ℕ) (p : Processor) → past ≡ past' → n ≡ m → HasTaken past n p
     → HasTaken past' m p
 same_has past past' n m p e f h =
     subst (λ x. HasTaken past' x p) f (subst (λ x. HasTaken x n p) e h)
 
 -- some takings, and then more
-pub has_more : (past : Past) (errors : ℕ) (xs ys : List Taking) (p : Processor)
+pub has_more : (past : BufferPast) (errors : ℕ) (xs ys : List Taking) (p : Processor)
     → HasTaken (followed_by (followed_by past (attempts_of xs)) (attempts_of ys)) ((errors + faults xs) + faults ys) p
     → HasTaken (followed_by past (attempts_of (xs ++ ys))) (errors + faults (xs ++ ys)) p
 has_more past errors xs ys p h =
@@ -40,7 +40,7 @@ has_more past errors xs ys p h =
     h
 
 -- none yet
-pub has_none : (past : Past) (errors : ℕ) (p : Processor) → HasTaken past errors p
+pub has_none : (past : BufferPast) (errors : ℕ) (p : Processor) → HasTaken past errors p
     → HasTaken (followed_by past []) (errors + 0) p
 has_none past errors p h =
     same_has _ _ _ _ p
@@ -51,13 +51,13 @@ has_none past errors p h =
     h
 
 -- the attempts of END's among those of others
-pub of_end-append : (xs ys : List buffer.Event) → of_end (xs ++ ys) ≡ of_end xs ++ of_end ys
+pub of_end-append : (xs ys : List buffer.BufferEvent) → of_end (xs ++ ys) ≡ of_end xs ++ of_end ys
 of_end-append [] ys = refl
 of_end-append (attempt bytes true ∷ xs) ys = ap (λ rest. bytes ∷ rest) (of_end-append xs ys)
 of_end-append (attempt bytes false ∷ xs) ys = of_end-append xs ys
 of_end-append (swap ∷ xs) ys = of_end-append xs ys
 
-pub ordinary_one : (o : Option (List ℕ)) (rest : List buffer.Event) → of_end rest ≡ []
+pub ordinary_one : (o : Option (List ℕ)) (rest : List buffer.BufferEvent) → of_end rest ≡ []
     → of_end (option_to_list (option_map (λ bytes. attempt bytes false) o) ++ rest) ≡ []
 ordinary_one None rest e = e
 ordinary_one (Some bytes) rest e = e
@@ -70,18 +70,19 @@ none_of_end m forms (ecb ∷ row) =
     ordinary_one (record_of (taking_by false m forms ecb)) (attempts_of (map (taking_by false m forms) row))
     (none_of_end m forms row)
 
-pub still_last : (past : Past) (events : List buffer.Event) → of_end events ≡ [] → EndLast past false
+pub still_last : (past : BufferPast) (events : List buffer.BufferEvent) → of_end events ≡ [] → EndLast past false
     → EndLast (followed_by past events) false
 still_last past events none last = λ fill e.
     of_end-append past.events events ∙ ap (λ xs. of_end past.events ++ xs) none ∙ append-nil (of_end past.events)
     ∙ last fill e
 
 -- nothing of END comes after what is of END
-pub in_end_last : (past : Past) → EndLast past true
+pub in_end_last : (past : BufferPast) → EndLast past true
 in_end_last past = λ fill e. cc
 
 -- one ECB of a row more was taken
-pub took_more : (f : Ecb → Taking) (row : List Ecb) (i : ℕ) (ecb : Ecb) (past : Past) (errors : ℕ) (p : Processor)
+pub took_more : (f : Ecb → Taking) (row : List Ecb) (i : ℕ) (ecb : Ecb) (past : BufferPast) (errors : ℕ)
+    (p : Processor)
     → i < length row → ecb ≡ get_or row i ecb
     → HasTaken
     (followed_by (followed_by past (attempts_of (map f (take i row)))) (attempts_of (f ecb ∷ [])))
@@ -94,7 +95,7 @@ took_more f row i ecb past errors p inside is h =
     (has_more past errors (map f (take i row)) (f ecb ∷ []) p h)
 
 -- all were
-pub took_all : (f : Ecb → Taking) (row : List Ecb) (i : ℕ) (past : Past) (errors : ℕ) (p : Processor)
+pub took_all : (f : Ecb → Taking) (row : List Ecb) (i : ℕ) (past : BufferPast) (errors : ℕ) (p : Processor)
     → length row ≤ i
     → HasTaken (followed_by past (attempts_of (map f (take i row)))) (errors + faults (map f (take i row))) p
     → HasTaken (followed_by past (attempts_of (map f row))) (errors + faults (map f row)) p
@@ -103,7 +104,8 @@ took_all f row i past errors p beyond h =
     (take_all i row beyond) h
 
 -- the last of the takings up to an exit
-pub took_exit : (f : Ecb → Taking) (row : List Ecb) (i : ℕ) (ecb : Ecb) (past : Past) (errors : ℕ) (p : Processor)
+pub took_exit : (f : Ecb → Taking) (row : List Ecb) (i : ℕ) (ecb : Ecb) (past : BufferPast) (errors : ℕ)
+    (p : Processor)
     → i < length row → ecb ≡ get_or row i ecb → first_exit (map f (take i row)) ≡ None
     → is_some (exit_of (f ecb)) ≡ true
     → HasTaken
@@ -118,7 +120,7 @@ took_exit f row i ecb past errors p inside is stays exits h =
     (has_more past errors (map f (take i row)) (f ecb ∷ []) p h)
 
 -- none exited
-pub took_through : (f : Ecb → Taking) (row : List Ecb) (i : ℕ) (past : Past) (errors : ℕ) (p : Processor)
+pub took_through : (f : Ecb → Taking) (row : List Ecb) (i : ℕ) (past : BufferPast) (errors : ℕ) (p : Processor)
     → length row ≤ i → first_exit (map f (take i row)) ≡ None
     → HasTaken (followed_by past (attempts_of (map f (take i row)))) (errors + faults (map f (take i row))) p
     → HasTaken (followed_by past (attempts_of (through_exit (map f row))))

@@ -5,7 +5,7 @@ use Rattle.std.specs.Global.{Vec}
 use Rattle.std.specs.Option.{IfSome, option_and_then}
 use Rattle.std.proofs.lemmas.Bool.{cases_Bool}
 use Rattle.std.proofs.lemmas.List.{length-map}
-use Rattle.dt_buffer.specs.History.{Past}
+use Rattle.dt_buffer.specs.History.{BufferPast}
 use Rattle.dt_buffer.specs.Shows.{Shows, HasContent, HasDrops, IsFilled}
 use Rattle.dt_cred.specs.declared.account.Account.{Account}
 use Rattle.dt_machine.specs.Registry.{Registry}
@@ -50,10 +50,10 @@ use Rattle.dt_consumer.proofs.DraftLemmas.{program_verdict, idle_program, go_tak
 use Rattle.dt_consumer.proofs.DraftLemmas.{stop_taken}
 
 -- what a buffer tells of its past, in three parts
-pub shown_all : ((past : Past) (bytes other : List ℕ) (drops count : ℕ) (filled full : Bool)
+pub shown_all : ((past : BufferPast) (bytes other : List ℕ) (drops count : ℕ) (filled full : Bool)
     → Shows past bytes drops filled → Shows past other count full
     → (bytes ≡ other) × (drops ≡ count) × (filled ≡ full))
-    → (past : Past) (bytes : List ℕ) (drops : ℕ) (filled : Bool) → HasContent past bytes → HasDrops past drops
+    → (past : BufferPast) (bytes : List ℕ) (drops : ℕ) (filled : Bool) → HasContent past bytes → HasDrops past drops
     → IsFilled past filled → Shows past bytes drops filled
 shown_all one past bytes drops filled content dropped full =
     let second = one past bytes dropped.0 content.0 drops content.1 dropped.1 content.2 dropped.2 in

@@ -21,7 +21,7 @@ use Rattle.dt_lang.specs.Program.{form_of_clause}
 use Rattle.dt_lang.specs.declared.program.Clause.{Clause}
 use Rattle.dt_record.specs.Taking.{Effect, records, gives, exits, argument_value, contributed, each, effect}
 use Rattle.dt_record.specs.Taking.{frames_bytes, given, predicate_value, taken_of, TakenForm, taking}
-use Rattle.dt_consumer.specs.Aggregations.{aggregation_of, contributions, contributions_of, given_by, number_of}
+use Rattle.dt_consumer.specs.Aggregations.{aggregation_of, contributions, contributions_of, given_by, number_given}
 use Rattle.dt_consumer.specs.Aggregations.{part_of}
 use Rattle.dt_consumer.specs.Takings.{Taking, MomentForm, exit_of, first_exit, scene_at, taking_of, through_exit}
 use Rattle.dt_consumer.specs.Keeps.{taking_by}
@@ -154,8 +154,8 @@ module _ (shapes : List ShapeForm) (scene : SceneForm) where
       ap (λ vs. split_by (uses_by shapes statements) (vs ++ flat_map contributed later)) none ∙ e
 
   one_given : (o : Option Aggregation) (ks : List Value) (n : Value)
-      → option_map (λ a. store.given a (map part_of ks) (number_of n)) o
-      ≡ option_and_then (λ a. Some (store.given a (map part_of ks) (number_of n))) o
+      → option_map (λ a. store.given a (map part_of ks) (number_given n)) o
+      ≡ option_and_then (λ a. Some (store.given a (map part_of ks) (number_given n))) o
   one_given None ks n = refl
   one_given (Some a) ks n = refl
 
@@ -170,13 +170,14 @@ module _ (shapes : List ShapeForm) (scene : SceneForm) where
       let agg = aggregation_of shapes name in (
         ap (λ e. contribution_at (agg, length keys) (contributed e ++ rest)) g.all
             ∙ ap (λ ks. option_to_list (option_map (λ a. store.given a (map part_of ks)
-            (number_of (get_or ((g.ks ++ g.n ∷ []) ++ rest) (length keys) (val.Number (pos 0))))) agg)) parts.0
-            ∙ ap (λ n. option_to_list (option_map (λ a. store.given a (map part_of g.ks) (number_of n)) agg)) parts.1
+            (number_given (get_or ((g.ks ++ g.n ∷ []) ++ rest) (length keys) (val.Number (pos 0))))) agg)) parts.0
+            ∙ ap (λ n. option_to_list (option_map (λ a. store.given a (map part_of g.ks) (number_given n))
+            agg)) parts.1
             ∙ ap option_to_list (one_given agg g.ks g.n)
             ∙ ap (λ o. option_to_list (option_and_then (λ a. option_and_then
-            (λ ks. option_map (λ v. store.given a (map part_of ks) (number_of v)) (Some g.n)) o) agg)) (sym g.are)
+            (λ ks. option_map (λ v. store.given a (map part_of ks) (number_given v)) (Some g.n)) o) agg)) (sym g.are)
             ∙ ap (λ o. option_to_list (option_and_then (λ a. option_and_then
-            (λ ks. option_map (λ v. store.given a (map part_of ks) (number_of v)) o)
+            (λ ks. option_map (λ v. store.given a (map part_of ks) (number_given v)) o)
             (each (argument_value scene) keys)) agg)) (sym g.is),
         ap (λ e. drop (length keys + 1) (contributed e ++ rest)) g.all ∙ parts.2,
       )
@@ -300,7 +301,7 @@ gave_one past a o keys place values parts z st is own number h =
     same_at _ _ st
     (ap (λ ks. given_then past (store.given a ks z ∷ [])) own
     ∙ ap (λ n. given_then past (store.given a (key_at keys (drop place values)) n ∷ []))
-    (number ∙ ap number_of (sym (get_or-drop place values keys (val.Number (pos 0)))))
+    (number ∙ ap number_given (sym (get_or-drop place values keys (val.Number (pos 0)))))
     ∙ ap (λ x. given_then past (contribution_at (x, keys) (drop place values))) (sym is))
     h
 

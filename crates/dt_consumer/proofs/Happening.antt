@@ -4,7 +4,7 @@ use Rattle.std.specs.Option.{option_map_or}
 use Rattle.dt_cred.specs.declared.account.Account.{Account}
 use Rattle.dt_machine.specs.Registry.{Registry}
 use Rattle.dt_consumer.specs.Life.{SetUp, end_by, happens, with_event}
-use Rattle.dt_consumer.specs.Takings.{Event, ended}
+use Rattle.dt_consumer.specs.Takings.{TracingEvent, ended}
 use Rattle.dt_consumer.specs.declared.phase.End.{End}
 
 -- what is the same of a set-up and one with further events
@@ -14,7 +14,7 @@ either_event : {X : Type 0} (f : SetUp → X) (s t : SetUp) (o : Option End)
 either_event f s t None ends goes = goes
 either_event f s t (Some end) ends goes = ends end
 
-module _ (account : Account) (registry : Registry) (s : SetUp) (event : Event) where
+module _ (account : Account) (registry : Registry) (s : SetUp) (event : TracingEvent) where
   pub same_options : (happens account registry s event).options ≡ s.options
   same_options =
       either_event (λ x. x.options) s (with_event s event) (end_by account registry (with_event s event) event)

@@ -5,7 +5,7 @@ use Rattle.std.specs.List.{AllByRecursion}
 use Rattle.dt_buffer.specs.Beginning.{ShowsFill, IsLongestBeginning}
 use Rattle.dt_buffer.specs.Choice.{ShowsSwitch}
 use Rattle.dt_buffer.specs.Ending.{ShowsRing}
-use Rattle.dt_buffer.specs.History.{Past, attempts, of_end, ordinary, since_swap, swap}
+use Rattle.dt_buffer.specs.History.{BufferPast, attempts, of_end, ordinary, since_swap, swap}
 use Rattle.dt_buffer.specs.History as buffer
 use Rattle.dt_buffer.specs.Shows.{ShownBy, Shows}
 use Rattle.dt_buffer.specs.declared.policy.Policy.{Policy}
@@ -16,16 +16,16 @@ use Rattle.dt_machine.specs.Registry.{Registry}
 use Rattle.dt_consumer.specs.Buffers.{comes_since, past_in}
 use Rattle.dt_consumer.specs.Keeps.{is_quiet}
 use Rattle.dt_consumer.specs.Life.{SetUp, ecbs_in}
-use Rattle.dt_consumer.specs.Takings.{Event, began, seen, read, truncated, ended, closed}
+use Rattle.dt_consumer.specs.Takings.{TracingEvent, began, seen, read, truncated, ended, closed}
 
-abbrev are_swaps : List buffer.Event → Type 0
+abbrev are_swaps : List buffer.BufferEvent → Type 0
 are_swaps = AllByRecursion (λ event. event ≡ swap)
 
-append_swaps : (a b : List buffer.Event) → are_swaps a → are_swaps b → are_swaps (a ++ b)
+append_swaps : (a b : List buffer.BufferEvent) → are_swaps a → are_swaps b → are_swaps (a ++ b)
 append_swaps [] b h k = k
 append_swaps (x ∷ a) b h k = (h.0, append_swaps a b h.1 k)
 
-quiet_swaps : (account : Account) (registry : Registry) (ecbs : List EcbForm) (cpu : ℕ) (events : List Event)
+quiet_swaps : (account : Account) (registry : Registry) (ecbs : List EcbForm) (cpu : ℕ) (events : List TracingEvent)
     → is_quiet events ≡ true → are_swaps (comes_since account registry ecbs cpu events)
 quiet_swaps account registry ecbs cpu [] e = tt
 quiet_swaps account registry ecbs cpu (began ∷ events) e = cc
@@ -43,13 +43,13 @@ quiet_swaps account registry ecbs cpu (closed ∷ events) e =
     append_swaps _ [] (quiet_swaps account registry ecbs cpu events e) tt
 
 -- by swaps alone no record comes
-record NoneCame (events : List buffer.Event) : Type 0 where
+record NoneCame (events : List buffer.BufferEvent) : Type 0 where
   of_all : attempts events ≡ []
   of_ordinary : ordinary events ≡ []
   of_last : of_end events ≡ []
   of_since : since_swap events ≡ []
 
-none_came : (events : List buffer.Event) → are_swaps events → NoneCame events
+none_came : (events : List buffer.BufferEvent) → are_swaps events → NoneCame events
 none_came [] h = record { of_all = refl; of_ordinary = refl; of_last = refl; of_since = refl }
 none_came (buffer.attempt bytes in_end ∷ later) h = cc
 none_came (swap ∷ later) h =
@@ -85,7 +85,7 @@ shows_ring size = record {
   dropped = refl;
 }
 
-nothing_by : (past : Past) (policy : Policy) → NoneCame past.events → ShownBy past policy [] 0 false
+nothing_by : (past : BufferPast) (policy : Policy) → NoneCame past.events → ShownBy past policy [] 0 false
 nothing_by past Switch none =
     (subst (λ xs. ShowsSwitch past.size xs [] 0) (sym none.of_since) (shows_switch past.size), refl)
 nothing_by past Fill none = (

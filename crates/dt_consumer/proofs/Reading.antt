@@ -11,7 +11,7 @@ use Rattle.std.proofs.lemmas.List.{append-nil}
 use Rattle.dt_aggstore.specs.History as store
 use Rattle.dt_aggstore.specs.declared.key.Aggregation.{Aggregation}
 use Rattle.dt_aggstore.specs.declared.store.AggStore.{AggStore}
-use Rattle.dt_buffer.specs.History.{Past, after, of_end, swap}
+use Rattle.dt_buffer.specs.History.{BufferPast, buffer_after, of_end, swap}
 use Rattle.dt_buffer.specs.History as buffer
 use Rattle.dt_cred.specs.declared.account.Account.{Account}
 use Rattle.dt_ecb.specs.Ecbs.{of_probe}
@@ -46,7 +46,7 @@ read_past : (account : Account) (registry : Registry) (s : SetUp) (n cpu : ℕ) 
 read_past account registry s n cpu b e =
     ap (λ x. followed_by (past_in account registry s cpu) (cond x (swap ∷ []) [])) (sym e)
 
-still_with : (b : Bool) (xs : List buffer.Event) → of_end xs ≡ [] → of_end (xs ++ cond b (swap ∷ []) []) ≡ []
+still_with : (b : Bool) (xs : List buffer.BufferEvent) → of_end xs ≡ [] → of_end (xs ++ cond b (swap ∷ []) []) ≡ []
 still_with true xs e = of_end-append xs (swap ∷ []) ∙ ap (λ ys. ys ++ []) e
 still_with false xs e = ap of_end (append-nil xs) ∙ e
 
@@ -75,7 +75,7 @@ module _ (account : Account) (registry : Registry) (s : SetUp) (old : Tracing)
 
   pub tracing_read : (p q : Processor) → cpu < length old.processors.all.items
       → p ≡ get_or old.processors.all.items cpu p
-      → ((past : Past) (errors : ℕ) → HasTaken past errors p → HasTaken (after past swap) errors q)
+      → ((past : BufferPast) (errors : ℕ) → HasTaken past errors p → HasTaken (buffer_after past swap) errors q)
       → (new : Tracing) → new.rows ≡ old.rows → new.uses ≡ old.uses
       → new.processors.stores ≡ old.processors.stores → new.processors.all ≡ with_item old.processors.all cpu q
       → new.history ≡ old.history → new.seen ≡ old.seen → new.course ≡ old.course

@@ -14,7 +14,7 @@ use Rattle.dt_ecb.specs.Enable.{Verdict, IsVerdict}
 use Rattle.dt_ecb.specs.Shapes.{ShapeForm}
 use Rattle.dt_consumer.specs.Answer.{Answer, done, enabled, snapped, listed, described, refused, aggregated}
 use Rattle.dt_consumer.specs.Answer as answers
-use Rattle.dt_buffer.specs.History.{Past}
+use Rattle.dt_buffer.specs.History.{BufferPast}
 use Rattle.dt_buffer.specs.Shows.{Shows}
 use Rattle.dt_consumer.specs.Ask.{Ask, option, enable, go, stop, snap, status, list, describe, agg, trunc, close}
 use Rattle.dt_consumer.specs.Buffers.{past}
@@ -61,7 +61,7 @@ told_so (Some f) P r v = (P f, refl)
 module _ (one_verdict : (account : Account) (registry : Registry) (accepted : List ShapeForm) (epid : ℕ)
     (clauses : List ClauseForm) (a b : Verdict) → IsVerdict account registry accepted epid clauses a
     → IsVerdict account registry accepted epid clauses b → a ≡ b)
-    (one_shown : (past : Past) (bytes other : List ℕ) (drops count : ℕ) (filled full : Bool)
+    (one_shown : (past : BufferPast) (bytes other : List ℕ) (drops count : ℕ) (filled full : Bool)
     → Shows past bytes drops filled → Shows past other count full
     → (bytes ≡ other) × (drops ≡ count) × (filled ≡ full))
     (account : Account) (registry : Registry) (life : List Item) where
@@ -145,7 +145,8 @@ module _ (one_verdict : (account : Account) (registry : Registry) (accepted : Li
 
 module _ (some_verdict : (account : Account) (registry : Registry) (accepted : List ShapeForm) (epid : ℕ)
     (clauses : List ClauseForm) → (v : Verdict) × IsVerdict account registry accepted epid clauses v)
-    (some_shown : (past : Past) → (bytes : List ℕ) × (drops : ℕ) × (filled : Bool) × Shows past bytes drops filled)
+    (some_shown : (past : BufferPast) → (bytes : List ℕ) × (drops : ℕ) × (filled : Bool)
+    × Shows past bytes drops filled)
     (account : Account) (registry : Registry) (life : List Item) where
   abbrev s : SetUp
   s = set_up account registry life

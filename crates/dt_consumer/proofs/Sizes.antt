@@ -7,11 +7,11 @@ use Rattle.dt_ecb.specs.Ecbs.{EcbForm, of_probe}
 use Rattle.dt_ecb.specs.Forms.{form_of_ecb}
 use Rattle.dt_ecb.specs.declared.parts.Ecb.{Ecb}
 use Rattle.dt_lang.specs.Program.{ClauseForm}
-use Rattle.dt_record.specs.Layout.{layout_of, size_of}
+use Rattle.dt_record.specs.Layout.{layout_of, layout_size}
 use Rattle.dt_consumer.specs.declared.limits.TheConstants.{END}
 
 abbrev pub size_by : EcbForm → ℕ
-size_by ecb = size_of (layout_of ecb.clause)
+size_by ecb = layout_size (layout_of ecb.clause)
 
 -- the bytes of one record of each of END's among ECBs
 abbrev pub end_sizes : List ClauseForm → List Ecb → ℕ

@@ -14,7 +14,7 @@ use Rattle.dt_machine.specs.Registry.{Registry}
 use Rattle.dt_lang.specs.Program.{ClauseForm, form_of_clause}
 use Rattle.dt_lang.specs.declared.program.Clause.{Clause}
 use Rattle.dt_ecb.specs.Ecbs.{EcbForm, numbered, pairs_of, pairs_of_clause, added, ecbs_of}
-use Rattle.dt_ecb.specs.Enable.{is_allowed, is_too_much, is_unmatched, is_enabled}
+use Rattle.dt_ecb.specs.Enable.{may_do_all, is_too_much, is_unmatched, is_enabled}
 use Rattle.dt_ecb.specs.Forms.{form_of_ecb, no_clause, shapes_of}
 use Rattle.dt_ecb.specs.Matching.{matched}
 use Rattle.dt_ecb.specs.Shapes.{ShapeForm, uses_of, any_clash}
@@ -27,7 +27,7 @@ use Rattle.dt_consumer.specs.Keeps.{phase_untraced, placed_after}
 use Rattle.dt_consumer.specs.Life.{Item, asked, SetUp, lines, is_inactive, is_over, set_up, ecbs_in, next_epid}
 use Rattle.dt_consumer.specs.Life.{phase_of, with_event, with_options, with_program, is_active, shapes_in}
 use Rattle.dt_consumer.specs.StandsFor.{StandsFor}
-use Rattle.dt_consumer.specs.Takings.{Event}
+use Rattle.dt_consumer.specs.Takings.{TracingEvent}
 use Rattle.dt_consumer.specs.declared.consumer.Consumer.{Consumer}
 use Rattle.dt_consumer.specs.declared.limits.TheConstants.{LINES_MAX}
 use Rattle.dt_consumer.specs.declared.options.Options.{Options}
@@ -170,7 +170,7 @@ module _ (account : Account) (registry : Registry) where
     after_rights : (not (any_clash shapes (uses_of clauses))
         && (not (list_any (is_unmatched account registry) clauses)
         && not (is_too_much account registry shapes epid clauses))) ≡ true
-    after_rights = (both (is_allowed account registry shapes epid clauses) _ holds).1
+    after_rights = (both (may_do_all account registry shapes epid clauses) _ holds).1
 
     after_clash : (not (list_any (is_unmatched account registry) clauses)
         && not (is_too_much account registry shapes epid clauses)) ≡ true
@@ -362,7 +362,7 @@ module _ (account : Account) (registry : Registry) (s : SetUp) (consumer : Consu
         subst P e k.tracing
 
     -- an event by which nothing is taken, where it never traced
-    pub keeps_quiet : (event : Event) (is_closed : Bool) (n : ℕ) → consumer.tracing ≡ None
+    pub keeps_quiet : (event : TracingEvent) (is_closed : Bool) (n : ℕ) → consumer.tracing ≡ None
         → is_quiet (event ∷ s.since) ≡ true → phase_of (with_event s event) ≡ phase_untraced is_closed
         → Keeps account registry (with_event s event) (record consumer { closed = is_closed; lines = n })
     keeps_quiet event is_closed n none quiet standing = record {

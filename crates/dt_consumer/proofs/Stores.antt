@@ -21,7 +21,7 @@ use Rattle.dt_consumer.specs.Aggregations.{aggregation_of, contributions}
 use Rattle.dt_consumer.specs.Keeps.{taking_by, where_taken}
 use Rattle.dt_consumer.specs.Life.{SetUp, ecbs_in, shapes_in, since_then, with_event}
 use Rattle.dt_consumer.specs.Stores.{given_in, given_on}
-use Rattle.dt_consumer.specs.Takings.{Event, began, seen, read, truncated, ended, is_end, Taking, MomentForm}
+use Rattle.dt_consumer.specs.Takings.{TracingEvent, began, seen, read, truncated, ended, is_end, Taking, MomentForm}
 use Rattle.dt_consumer.specs.Takings.{moment_at, own_moment, taken_at, taken_on, through_exit, closed}
 use Rattle.dt_consumer.specs.Uses.{AreGiven, AreUses, given_and, given_then}
 use Rattle.dt_consumer.specs.declared.limits.TheConstants.{END}
@@ -67,7 +67,7 @@ module _ (shapes : List ShapeForm) (pasts : ℕ → store.Past) (stores : List A
 
 -- what comes by an event at which ECBs are taken
 given_firing : (account : Account) (registry : Registry) (shapes : List ShapeForm) (ecbs : List EcbForm) (cpu : ℕ)
-    (event : Event) → IsFiring event
+    (event : TracingEvent) → IsFiring event
     → given_on account registry shapes ecbs cpu event
     ≡ contributions shapes (taken_on account registry ecbs cpu event)
 given_firing account registry shapes ecbs cpu began is = refl
@@ -78,7 +78,7 @@ given_firing account registry shapes ecbs cpu (ended end) is = refl
 given_firing account registry shapes ecbs cpu closed is = refl
 
 -- what is given at an event is what the set-up with it says
-grown : (account : Account) (registry : Registry) (s : SetUp) (event : Event) (m : MomentForm) → IsFiring event
+grown : (account : Account) (registry : Registry) (s : SetUp) (event : TracingEvent) (m : MomentForm) → IsFiring event
     → moment_at account registry event ≡ Some m → (stores : List AggStore) (new : List Taking)
     → new ≡ taken_at (is_end event) (ecbs_in account registry s) m
     → AreGiven (given_and (shapes_in s) (given_in account registry s) (where_taken m.firing.cpu new)) stores
@@ -99,7 +99,7 @@ own_uses : (s : SetUp) (clauses : List Clause) (uses : List Uses) → map form_o
 own_uses s clauses uses own are = subst (λ cs. AreUses (shapes_in s) cs uses) (sym own) are
 
 -- a firing was taken
-pub gave_at : (account : Account) (registry : Registry) (s : SetUp) (event : Event) (m : MomentForm) (row : Row)
+pub gave_at : (account : Account) (registry : Registry) (s : SetUp) (event : TracingEvent) (m : MomentForm) (row : Row)
     (clauses : List Clause) (uses : List Uses) (old new : List AggStore)
     → IsFiring event → moment_at account registry event ≡ Some m → is_end event ≡ false
     → map form_of_clause clauses ≡ s.clauses → AreUses (shapes_in s) s.clauses uses

@@ -8,7 +8,7 @@ use Rattle.std.proofs.lemmas.List.{append-nil}
 use Rattle.dt_aggfn.specs.Answers.{answer_of}
 use Rattle.dt_aggstore.specs.Chosen.{choice_of, drops, gives_value}
 use Rattle.dt_aggstore.specs.Held.{Contribution, counted, distinct, held}
-use Rattle.dt_aggstore.specs.Table.{joined}
+use Rattle.dt_aggstore.specs.Table.{joined_bag}
 use Rattle.dt_aggstore.specs.TableOf.{rising_keys, table_of}
 use Rattle.dt_aggstore.specs.History as store
 use Rattle.dt_aggstore.specs.IsAt.{IsAt}
@@ -22,7 +22,7 @@ use Rattle.dt_consumer.specs.Keeps.{IsTracing, is_quiet}
 use Rattle.dt_consumer.specs.Life.{Item, SetUp, ecbs_in, set_up, shapes_in}
 use Rattle.dt_consumer.specs.Reply.{all_aggdrops}
 use Rattle.dt_consumer.specs.Stores.{aggdrops_in, given_in, given_since, stores_in}
-use Rattle.dt_consumer.specs.Takings.{Event, began, seen, read, truncated, ended, closed}
+use Rattle.dt_consumer.specs.Takings.{TracingEvent, began, seen, read, truncated, ended, closed}
 use Rattle.dt_consumer.specs.declared.tracing.Tracing.{Tracing}
 use Rattle.dt_consumer.proofs.Stores.{are_zipped}
 use Rattle.dt_consumer.proofs.Telling.{all_zero}
@@ -61,7 +61,7 @@ module _ (fresh : (size : ℕ) → drops (store.new_past size) ≡ 0)
   one_cut size events (Some a) = cut (record { size = size; events = events }) a
 
   none_given : (account : Account) (registry : Registry) (shapes : List ShapeForm) (ecbs : List EcbForm) (cpu size : ℕ)
-      (events : List Event) → is_quiet events ≡ true
+      (events : List TracingEvent) → is_quiet events ≡ true
       → drops (record { size = size; events = given_since account registry shapes ecbs cpu events }) ≡ 0
   none_given account registry shapes ecbs cpu size [] e = fresh size
   none_given account registry shapes ecbs cpu size (began ∷ events) e = cc
@@ -107,7 +107,7 @@ append_none [] b h k = k
 append_none (x ∷ a) b h k = (h.0, append_none a b h.1 k)
 
 module _ (account : Account) (registry : Registry) (shapes : List ShapeForm) (ecbs : List EcbForm) (cpu : ℕ) where
-  quiet_gives : (events : List Event) → is_quiet events ≡ true
+  quiet_gives : (events : List TracingEvent) → is_quiet events ≡ true
       → gives_none (given_since account registry shapes ecbs cpu events)
   quiet_gives [] e = tt
   quiet_gives (began ∷ events) e = cc
@@ -139,7 +139,7 @@ empty_table account registry s a quiet =
     sym (ap
     (λ es. map (λ key. record {
       key = key;
-      value = answer_of a.function (joined a key pasts (map choice_of pasts));
+      value = answer_of a.function (joined_bag a key pasts (map choice_of pasts));
     }) (rising_keys a es))
     (all_held (given_in account registry s) (range_with_len 0 registry.cpus)
     (λ cpu. quiet_gives account registry (shapes_in s) (ecbs_in account registry s) cpu s.since quiet)))

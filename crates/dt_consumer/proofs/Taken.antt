@@ -4,7 +4,7 @@ use Rattle.std.proofs.Common.{length, get_or, refl, sym, ap, ◌∙◌, subst, �
 use Rattle.std.specs.List.{slice_get, slice_set}
 use Rattle.std.specs.Option.{IfSome, IsSomeAnd, option_and_then, option_map}
 use Rattle.std.proofs.lemmas.Bool.{cases_eq, eq-eqb, ne_eqb}
-use Rattle.dt_buffer.specs.History.{Past}
+use Rattle.dt_buffer.specs.History.{BufferPast}
 use Rattle.dt_cred.specs.declared.account.Account.{Account}
 use Rattle.dt_cred.specs.declared.account.Process.{Process}
 use Rattle.dt_cred.specs.declared.probe.Probe.{Probe}
@@ -21,7 +21,7 @@ pub if_some_map : {X : Type 0} (P Q : X → Type 0) (o : Option X) → ((x : X) 
 if_some_map P Q None f h = tt
 if_some_map P Q (Some x) f h = f x h
 
-module _ (pasts : ℕ → Past) (errors : ℕ → ℕ) (all : List Processor) (there : ℕ) (new : List Taking)
+module _ (pasts : ℕ → BufferPast) (errors : ℕ → ℕ) (all : List Processor) (there : ℕ) (new : List Taking)
     (taken : AreTaken pasts errors all) where
   abbrev Wanted : ℕ → Processor → Type 0
   Wanted j p = HasTaken (pasts_and pasts (where_taken there new) j) (errors_and errors (where_taken there new) j) p

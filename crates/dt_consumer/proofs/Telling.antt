@@ -16,9 +16,9 @@ use Rattle.dt_ecb.specs.Forms.{form_of_ecb}
 use Rattle.dt_ecb.specs.declared.parts.Ecb.{Ecb}
 use Rattle.dt_consumer.specs.Buffers.{errors}
 use Rattle.dt_consumer.specs.Keeps.{IsTracing, Keeps, is_quiet}
-use Rattle.dt_consumer.specs.Life.{Item, SetUp, seen_in, set_up, ecbs_in}
+use Rattle.dt_consumer.specs.Life.{Item, SetUp, seen_count, set_up, ecbs_in}
 use Rattle.dt_consumer.specs.Reply.{all_errors, ecb_of}
-use Rattle.dt_consumer.specs.Takings.{Event, began, seen, read, truncated, ended, closed, faults, taken_since}
+use Rattle.dt_consumer.specs.Takings.{TracingEvent, began, seen, read, truncated, ended, closed, faults, taken_since}
 use Rattle.dt_consumer.specs.declared.consumer.Consumer.{Consumer}
 use Rattle.dt_consumer.specs.declared.processor.Processor.{Processor}
 use Rattle.dt_consumer.specs.declared.tracing.Tracing.{Tracing}
@@ -54,7 +54,7 @@ all_zero f (suc n) base none =
     ap (λ k. k ∷ map f (range_with_len (base + 1) n)) (none base) ∙ ap (λ ns. 0 ∷ ns) (all_zero f n (base + 1) none)
 
 -- where a consumer never traced, nothing was taken, and nothing seen
-none_taken : (account : Account) (registry : Registry) (ecbs : List EcbForm) (cpu : ℕ) (events : List Event)
+none_taken : (account : Account) (registry : Registry) (ecbs : List EcbForm) (cpu : ℕ) (events : List TracingEvent)
     → is_quiet events ≡ true → taken_since account registry ecbs cpu events ≡ []
 none_taken account registry ecbs cpu [] e = refl
 none_taken account registry ecbs cpu (began ∷ events) e = cc
@@ -67,7 +67,7 @@ none_taken account registry ecbs cpu (ended end ∷ events) e = cc
 none_taken account registry ecbs cpu (closed ∷ events) e =
     append-nil (taken_since account registry ecbs cpu events) ∙ none_taken account registry ecbs cpu events e
 
-pub none_seen : (events : List Event) → is_quiet events ≡ true → seen_in events ≡ 0
+pub none_seen : (events : List TracingEvent) → is_quiet events ≡ true → seen_count events ≡ 0
 none_seen [] e = refl
 none_seen (began ∷ events) e = cc
 none_seen (seen firing ∷ events) e = cc

@@ -5,7 +5,7 @@ use Rattle.std.specs.List.{slice_get, All, AllByRecursion}
 use Rattle.std.proofs.lemmas.List.Elements.{All-from_recursion, recursion_from_All}
 use Rattle.std.specs.Option.{IfSome, IsSomeAnd, is_some, option_and_then, option_map, option_map_or, option_or}
 use Rattle.std.proofs.lemmas.List.{length-map}
-use Rattle.dt_buffer.specs.History.{Past, new_past, of_end}
+use Rattle.dt_buffer.specs.History.{BufferPast, new_buffer_past, of_end}
 use Rattle.dt_buffer.specs.Shows.{EndLast}
 use Rattle.dt_cred.specs.declared.account.Account.{Account}
 use Rattle.dt_cred.specs.declared.probe.Probe.{Probe}
@@ -18,9 +18,10 @@ use Rattle.dt_ecb.specs.declared.parts.Ecb.{Ecb}
 use Rattle.dt_consumer.specs.Buffers.{attempts_of, comes_by, errors_in, past_in, reserve_on}
 use Rattle.dt_consumer.specs.Keeps.{AreEcbs, AreTaken, HasTaken, IsTracing, errors_and, followed_by, pasts_and}
 use Rattle.dt_consumer.specs.Keeps.{taking_by, where_taken}
-use Rattle.dt_consumer.specs.Life.{SetUp, ecbs_in, end_by, end_size, happens, seen_in, since_then, with_event}
+use Rattle.dt_consumer.specs.Life.{SetUp, ecbs_in, end_by, end_size, happens, seen_count, since_then, with_event}
 use Rattle.dt_consumer.specs.Options.{OptionsForm, is_fill}
-use Rattle.dt_consumer.specs.Takings.{Event, began, seen, read, truncated, ended, closed, is_end, Taking, MomentForm}
+use Rattle.dt_consumer.specs.Takings.{TracingEvent, began, seen, read, truncated}
+use Rattle.dt_consumer.specs.Takings.{ended, closed, is_end, Taking, MomentForm}
 use Rattle.dt_consumer.specs.Takings.{exit_of, faults, first_exit, moment_at, own_firing, own_moment, own_process}
 use Rattle.dt_consumer.specs.Takings.{record_of, taken_at, taken_by, taken_on, taken_since, taking_of, through_exit}
 use Rattle.dt_consumer.specs.declared.limits.TheConstants.{END}
@@ -35,7 +36,7 @@ use Rattle.dt_consumer.proofs.Takings.{faults-append, first_through}
 use Rattle.dt_consumer.proofs.Taken.{if_some_map}
 
 -- an event at which ECBs are taken
-abbrev pub IsFiring : Event → Type 0
+abbrev pub IsFiring : TracingEvent → Type 0
 IsFiring (read cpu) = ⊥
 IsFiring (truncated name) = ⊥
 IsFiring _ = Unit {0}
@@ -44,7 +45,7 @@ module _ (account : Account) (registry : Registry) (s : SetUp) where
   abbrev own : List EcbForm
   own = ecbs_in account registry s
 
-  comes_firing : (cpu : ℕ) (event : Event) → IsFiring event
+  comes_firing : (cpu : ℕ) (event : TracingEvent) → IsFiring event
       → comes_by account registry (ecbs_in account registry s) cpu event
       ≡ attempts_of (taken_on account registry (ecbs_in account registry s) cpu event)
   comes_firing cpu began is = refl
@@ -54,7 +55,7 @@ module _ (account : Account) (registry : Registry) (s : SetUp) where
   comes_firing cpu (ended end) is = refl
   comes_firing cpu closed is = refl
 
-  module _ (event : Event) (m : MomentForm) (fires : IsFiring event)
+  module _ (event : TracingEvent) (m : MomentForm) (fires : IsFiring event)
       (at : moment_at account registry event ≡ Some m) where
     pub on_is : (cpu : ℕ) → taken_on account registry (ecbs_in account registry s) cpu event
         ≡ where_taken m.firing.cpu (taken_at (is_end event) (ecbs_in account registry s) m) cpu
@@ -87,21 +88,21 @@ module _ (account : Account) (registry : Registry) (s : SetUp) where
         (h cpu)
 
 -- why tracing ends, written by what is known of it
-pub end_is : (account : Account) (registry : Registry) (s : SetUp) (event : Event) (exit : Option ℤ) (b : Bool)
+pub end_is : (account : Account) (registry : Registry) (s : SetUp) (event : TracingEvent) (exit : Option ℤ) (b : Bool)
     → first_exit (taken_by account registry (ecbs_in account registry s) event) ≡ exit
-    → (seen_in s.since == s.options.histsize) ≡ b
+    → (seen_count s.since == s.options.histsize) ≡ b
     → end_by account registry s event ≡ option_or (option_map Exit exit) (cond b (Some History) None)
 end_is account registry s event exit b e f =
-    ap (λ x. option_or (option_map Exit x) (cond (seen_in s.since == s.options.histsize) (Some History) None)) e
+    ap (λ x. option_or (option_map Exit x) (cond (seen_count s.since == s.options.histsize) (Some History) None)) e
     ∙ ap (λ x. option_or (option_map Exit exit) (cond x (Some History) None)) f
 
-pub happens_on : (account : Account) (registry : Registry) (s : SetUp) (event : Event)
+pub happens_on : (account : Account) (registry : Registry) (s : SetUp) (event : TracingEvent)
     → end_by account registry (with_event s event) event ≡ None
     → happens account registry s event ≡ with_event s event
 happens_on account registry s event e = ap
     (λ o. option_map_or (λ end. with_event (with_event s event) (ended end)) o (with_event s event)) e
 
-pub happens_last : (account : Account) (registry : Registry) (s : SetUp) (event : Event) (end : End)
+pub happens_last : (account : Account) (registry : Registry) (s : SetUp) (event : TracingEvent) (end : End)
     → end_by account registry (with_event s event) event ≡ Some end
     → happens account registry s event ≡ with_event (with_event s event) (ended end)
 happens_last account registry s event end e = ap
@@ -198,7 +199,7 @@ none_where : (b : Bool) (xs : List Taking) → of_end (attempts_of xs) ≡ [] �
 none_where true xs e = e
 none_where false xs e = refl
 
-pub still_open : (account : Account) (registry : Registry) (s : SetUp) (event : Event) (m : MomentForm)
+pub still_open : (account : Account) (registry : Registry) (s : SetUp) (event : TracingEvent) (m : MomentForm)
     → IsFiring event → moment_at account registry event ≡ Some m → is_end event ≡ false
     → ((cpu : ℕ) → of_end (past_in account registry s cpu).events ≡ [])
     → (cpu : ℕ) → of_end (past_in account registry (with_event s event) cpu).events ≡ []
@@ -219,7 +220,8 @@ all_last account registry s none = λ cpu fill e. none cpu
 
 -- the first exit of a row is that of what is taken
 pub exit_is : (account : Account) (registry : Registry) (s : SetUp) (row : Row) (clauses : List Clause)
-    (event : Event) (m : MomentForm) (exit : Option ℤ) → IsFiring event → moment_at account registry event ≡ Some m
+    (event : TracingEvent) (m : MomentForm) (exit : Option ℤ) → IsFiring event → moment_at account registry event
+    ≡ Some m
     → is_end event ≡ false
     → map (taking_by false m (map form_of_clause clauses)) row.ecbs.items
     ≡ map (taking_of false m) (of_probe m.firing.probe (ecbs_in account registry s))
@@ -233,7 +235,7 @@ exit_is account registry s row clauses event m exit fires at ordinary same e =
     ∙ sym (e ∙ ap first_exit same)
 
 -- a firing was taken
-pub record TookAt (account : Account) (registry : Registry) (s : SetUp) (event : Event) (all : List Processor)
+pub record TookAt (account : Account) (registry : Registry) (s : SetUp) (event : TracingEvent) (all : List Processor)
     (exit : Option ℤ) : Type 0 where
   pub taken : AreTaken (past_in account registry (with_event s event))
       (errors_in account registry (with_event s event))
@@ -241,12 +243,12 @@ pub record TookAt (account : Account) (registry : Registry) (s : SetUp) (event :
   pub exited : first_exit (taken_by account registry (ecbs_in account registry s) event) ≡ exit
   pub still : (cpu : ℕ) → of_end (past_in account registry (with_event s event) cpu).events ≡ []
 
-pub took_at : (account : Account) (registry : Registry) (s : SetUp) (event : Event) (m : MomentForm) (row : Row)
+pub took_at : (account : Account) (registry : Registry) (s : SetUp) (event : TracingEvent) (m : MomentForm) (row : Row)
     (clauses : List Clause) (old new : List Processor) (exit : Option ℤ)
     → IsFiring event → moment_at account registry event ≡ Some m → is_end event ≡ false
     → map form_of_clause clauses ≡ s.clauses → RowOf account registry s m.firing.probe row
     → ((cpu : ℕ) → of_end (past_in account registry s cpu).events ≡ [])
-    → (All (λ ecb. ecb.clause < length clauses) row.ecbs.items → (pasts : ℕ → Past) (errors : ℕ → ℕ)
+    → (All (λ ecb. ecb.clause < length clauses) row.ecbs.items → (pasts : ℕ → BufferPast) (errors : ℕ → ℕ)
     → ((cpu : ℕ) → EndLast (pasts cpu) false) → AreTaken pasts errors old
     → (let taken = through_exit (map (taking_by false m (map form_of_clause clauses)) row.ecbs.items) in
     AreTaken (pasts_and pasts (where_taken m.firing.cpu taken))
@@ -284,13 +286,13 @@ reserved false false size reserve e = refl
 pub new_taken : (account : Account) (registry : Registry) (s : SetUp) (options : OptionsForm) (reserve : ℕ)
     (all : List Processor) → options ≡ s.options → reserve ≡ reserve_on account registry s 0
     → ((cpu : ℕ) → IfSome (slice_get all cpu)
-    (HasTaken (new_past options.bufpolicy options.bufsize (cond (cpu == 0) reserve 0)) 0))
+    (HasTaken (new_buffer_past options.bufpolicy options.bufsize (cond (cpu == 0) reserve 0)) 0))
     → AreTaken (past_in account registry (since_then s [])) (errors_in account registry (since_then s [])) all
 new_taken account registry s options reserve all same room h = λ cpu.
     if_some_map _ _ (slice_get all cpu)
     (λ p. same_has _ _ _ _ p
-    (ap (λ (o : OptionsForm). new_past o.bufpolicy o.bufsize (cond (cpu == 0) reserve 0)) same
-    ∙ ap (new_past s.options.bufpolicy s.options.bufsize)
+    (ap (λ (o : OptionsForm). new_buffer_past o.bufpolicy o.bufsize (cond (cpu == 0) reserve 0)) same
+    ∙ ap (new_buffer_past s.options.bufpolicy s.options.bufsize)
     (reserved (is_fill s.options.bufpolicy) (cpu == 0) (end_size account registry s) reserve room))
     refl)
     (h cpu)

@@ -18,14 +18,14 @@ use Rattle.dt_record.specs.Taking.{argument_value, each, given}
 use Rattle.dt_consumer.specs.Takings.{Taking, left_by}
 
 -- by which function an aggregation is kept; bounds that are none have no function
-abbrev pub function_of : FunctionForm → Option AggFn
-function_of count = Some Count
-function_of sum = Some Sum
-function_of avg = Some Avg
-function_of min = Some Min
-function_of max = Some Max
-function_of quantize = Some Quantize
-function_of (lquantize lower upper step) = option_map Lquantize (bounds_of lower upper step)
+abbrev pub function_kept_by : FunctionForm → Option AggFn
+function_kept_by count = Some Count
+function_kept_by sum = Some Sum
+function_kept_by avg = Some Avg
+function_kept_by min = Some Min
+function_kept_by max = Some Max
+function_kept_by quantize = Some Quantize
+function_kept_by (lquantize lower upper step) = option_map Lquantize (bounds_of lower upper step)
 
 -- a value as a part of a key
 abbrev pub part_of : Value → KeyPart
@@ -33,22 +33,22 @@ part_of (val.Number z) = part.Number z
 part_of (val.Text bytes) = part.Text bytes
 
 -- a value as the number that an aggregation is given: each is given one
-abbrev pub number_of : Value → ℤ
-number_of (val.Number z) = z
-number_of (val.Text bytes) = pos 0
+abbrev pub number_given : Value → ℤ
+number_given (val.Number z) = z
+number_given (val.Text bytes) = pos 0
 
 module _ (shapes : List ShapeForm) where
   -- The aggregation of a name. Its number is the place of the name's first use.
   abbrev pub aggregation_of : List ℕ → Option Aggregation
   aggregation_of name = option_and_then
-      (λ (one : ℕ × ShapeForm). option_map (λ f. record { number = one.0; function = f }) (function_of one.1.function))
+      (λ (one : ℕ × ShapeForm). option_map (λ f. record { number = one.0; function = f }) (function_kept_by one.1.function))
       (named shapes name)
 
   -- what a statement gives to an aggregation in a scene, if it gives something: a key and a number
   abbrev pub given_by : SceneForm → StatementForm → Option store.Event
   given_by scene (aggregate name keys call) = option_and_then
       (λ aggregation. option_and_then
-      (λ parts. option_map (λ v. store.given aggregation (map part_of parts) (number_of v)) (given scene call))
+      (λ parts. option_map (λ v. store.given aggregation (map part_of parts) (number_given v)) (given scene call))
       (each (argument_value scene) keys))
       (aggregation_of name)
   given_by scene _ = None

@@ -44,16 +44,16 @@ module _ (account : Account) (registry : Registry) (life : List Item) where
   abbrev now : SetUp
   now = set_up account registry life
 
-  abbrev after : Result Ask Refusal → SetUp
-  after line = set_up account registry (asked line ∷ life)
+  abbrev set_up_after : Result Ask Refusal → SetUp
+  set_up_after line = set_up account registry (asked line ∷ life)
 
   -- The change is the one that the line makes.
   abbrev pub Drafted : Result Ask Refusal → Change → Type 0
   Drafted line Refuse = is_over life ≡ true
-  Drafted line Nothing = (is_over life ≡ false) × (after line ≡ now) × (is_close line ≡ false)
+  Drafted line Nothing = (is_over life ≡ false) × (set_up_after line ≡ now) × (is_close line ≡ false)
   Drafted line (Set options) =
       (is_over life ≡ false) × (phase account registry life ≡ Inactive)
-      × (after line ≡ with_options now (form_of_options options)) × (is_close line ≡ false)
+      × (set_up_after line ≡ with_options now (form_of_options options)) × (is_close line ≡ false)
   Drafted line (Enable clauses new shapes) =
       let forms = map form_of_clause clauses.items in
       let epid = next_epid account registry now in

@@ -1,8 +1,8 @@
 -- How a consumer keeps its set-up, and what happened on each processor. Only proofs need these definitions.
 use Rattle.std.specs.Prelude.{◌≡◌, ℕ, ◌+◌, ◌<◌, ◌==◌, Bool, true, false, List, [], ◌∷◌, ◌++◌, None, IfSome, if◌then◌else◌, MatchOption, All, length, map, slice_get}
-use Rattle.dt_buffer.specs.History.{Past, of_end}
+use Rattle.dt_buffer.specs.History.{BufferPast, of_end}
 use Rattle.dt_buffer.specs.History as buffer
-use Rattle.dt_buffer.specs.IsAt.{IsAt}
+use Rattle.dt_buffer.specs.IsAt.{BufferIsAt}
 use Rattle.dt_cred.specs.declared.account.Account.{Account}
 use Rattle.dt_machine.specs.Registry.{Registry}
 use Rattle.dt_lang.specs.Program.{ClauseForm, form_of_clause}
@@ -10,10 +10,10 @@ use Rattle.dt_ecb.specs.Ecbs.{EcbForm, of_probe}
 use Rattle.dt_ecb.specs.Forms.{form_of_ecb, shapes_of}
 use Rattle.dt_ecb.specs.declared.parts.Ecb.{Ecb}
 use Rattle.dt_consumer.specs.Buffers.{attempts_of, errors_in, past_in}
-use Rattle.dt_consumer.specs.Life.{SetUp, ecbs_in, phase_of, seen_in, shapes_in}
+use Rattle.dt_consumer.specs.Life.{SetUp, ecbs_in, phase_of, seen_count, shapes_in}
 use Rattle.dt_consumer.specs.Options.{OptionsForm}
 use Rattle.dt_consumer.specs.Stores.{given_in}
-use Rattle.dt_consumer.specs.Takings.{Event, read, truncated, closed, Taking, MomentForm, faults, taking_of}
+use Rattle.dt_consumer.specs.Takings.{TracingEvent, read, truncated, closed, Taking, MomentForm, faults, taking_of}
 use Rattle.dt_consumer.specs.Uses.{AreGiven, AreUses}
 use Rattle.dt_consumer.specs.declared.consumer.Consumer.{Consumer}
 use Rattle.dt_consumer.specs.declared.moment.Moment.{Moment}
@@ -53,7 +53,7 @@ placed_after before ecb =
     record { epid = ecb.epid; probe = ecb.probe; clause = before + ecb.clause; known = ecb.known }
 
 -- a past, and then these
-abbrev pub followed_by : Past → List buffer.Event → Past
+abbrev pub followed_by : BufferPast → List buffer.BufferEvent → BufferPast
 followed_by past events = record {
   policy = past.policy;
   size = past.size;
@@ -62,12 +62,12 @@ followed_by past events = record {
 }
 
 -- What was taken on a processor: its buffer is at the end of this past, and so many errors are counted.
-pub record HasTaken (past : Past) (errors : ℕ) (processor : Processor) : Type 0 where
-  pub stands : IsAt past processor.buffer
+pub record HasTaken (past : BufferPast) (errors : ℕ) (processor : Processor) : Type 0 where
+  pub stands : BufferIsAt past processor.buffer
   pub counted : processor.errors ≡ errors
 
 -- Each processor has taken what leads to its past, and counts its errors.
-abbrev pub AreTaken : (ℕ → Past) → (ℕ → ℕ) → List Processor → Type 0
+abbrev pub AreTaken : (ℕ → BufferPast) → (ℕ → ℕ) → List Processor → Type 0
 AreTaken pasts errors all = (cpu : ℕ) → IfSome (slice_get all cpu) (HasTaken (pasts cpu) (errors cpu))
 
 -- these takings where a processor is the one on which they were taken, and else none
@@ -75,7 +75,7 @@ abbrev pub where_taken : ℕ → List Taking → ℕ → List Taking
 where_taken there takings cpu = if there == cpu then takings else []
 
 -- pasts and errors, and then these takings of each processor
-abbrev pub pasts_and : (ℕ → Past) → (ℕ → List Taking) → ℕ → Past
+abbrev pub pasts_and : (ℕ → BufferPast) → (ℕ → List Taking) → ℕ → BufferPast
 pasts_and pasts new cpu = followed_by (pasts cpu) (attempts_of (new cpu))
 
 abbrev pub errors_and : (ℕ → ℕ) → (ℕ → List Taking) → ℕ → ℕ
@@ -91,7 +91,7 @@ abbrev pub phase_untraced : Bool → Phase
 phase_untraced is_closed = if is_closed then Stopped None else Inactive
 
 -- Nothing was taken: buffers may have been read and aggregations truncated after a close, and that is all.
-abbrev pub is_quiet : List Event → Bool
+abbrev pub is_quiet : List TracingEvent → Bool
 is_quiet [] = true
 is_quiet (read cpu ∷ events) = is_quiet events
 is_quiet (truncated name ∷ events) = is_quiet events
@@ -109,7 +109,7 @@ module _ (account : Account) (registry : Registry) (s : SetUp) where
     pub uses : AreUses (shapes_in s) s.clauses tracing.uses.items
     pub stores : AreGiven (given_in account registry s) tracing.processors.stores.items
     pub history : tracing.history ≡ s.options.histsize
-    pub seen : tracing.seen ≡ seen_in s.since
+    pub seen : tracing.seen ≡ seen_count s.since
     pub standing : phase_of s ≡ phase_by tracing.course
     pub end_last : tracing.course ≡ Running → (cpu : ℕ) → of_end (past_in account registry s cpu).events ≡ []
 

@@ -6,14 +6,14 @@ use Rattle.dt_machine.specs.Registry.{Registry}
 use Rattle.dt_machine.specs.declared.firing.Firing.{Firing}
 use Rattle.dt_lang.specs.Program.{ClauseForm}
 use Rattle.dt_lang.specs.Reads.{program}
-use Rattle.dt_record.specs.Layout.{layout_of, size_of}
+use Rattle.dt_record.specs.Layout.{layout_of, layout_size}
 use Rattle.dt_ecb.specs.Ecbs.{EcbForm, ecbs_of, of_probe}
 use Rattle.dt_ecb.specs.Enable.{is_enabled}
 use Rattle.dt_ecb.specs.Shapes.{ShapeForm, uses_of}
 use Rattle.dt_consumer.specs.Aggregations.{aggregation_of}
 use Rattle.dt_consumer.specs.Ask.{Ask, option, enable, go, stop, snap, trunc, close}
 use Rattle.dt_consumer.specs.Options.{OptionsForm, default_options, with_setting, is_fill, is_ring}
-use Rattle.dt_consumer.specs.Takings.{Event, began, seen, read, truncated, ended, closed, first_exit, taken_by}
+use Rattle.dt_consumer.specs.Takings.{TracingEvent, began, seen, read, truncated, ended, closed, first_exit, taken_by}
 use Rattle.dt_consumer.specs.declared.limits.TheConstants.{LINES_MAX, END}
 use Rattle.dt_consumer.specs.declared.phase.End.{End}
 use Rattle.dt_consumer.specs.declared.phase.End.TheVariants.{Stop, Exit, History}
@@ -58,7 +58,7 @@ is_stopped _ = false
 pub record SetUp : Type 0 where
   pub options : OptionsForm
   pub clauses : List ClauseForm
-  pub since : List Event
+  pub since : List TracingEvent
 
 abbrev pub nothing_yet : SetUp
 nothing_yet = record { options = default_options; clauses = []; since = [] }
@@ -69,10 +69,10 @@ with_options s options = record { options = options; clauses = s.clauses; since 
 abbrev pub with_program : SetUp → List ClauseForm → SetUp
 with_program s clauses = record { options = s.options; clauses = s.clauses ++ clauses; since = s.since }
 
-abbrev pub since_then : SetUp → List Event → SetUp
+abbrev pub since_then : SetUp → List TracingEvent → SetUp
 since_then s events = record { options = s.options; clauses = s.clauses; since = events }
 
-abbrev pub with_event : SetUp → Event → SetUp
+abbrev pub with_event : SetUp → TracingEvent → SetUp
 with_event s event = since_then s (event ∷ s.since)
 
 -- all uses of aggregations by the accepted programs, in order
@@ -81,7 +81,7 @@ shapes_in s = uses_of s.clauses
 
 -- Tracing begins as BEGIN fires, and ends, for good, as END fires, or as the session is closed: then END doesn't fire, and
 -- there is no cause.
-abbrev pub phase_after : List Event → Phase
+abbrev pub phase_after : List TracingEvent → Phase
 phase_after [] = Inactive
 phase_after (began ∷ events) = Active
 phase_after (seen firing ∷ events) = Active
@@ -94,14 +94,14 @@ abbrev pub phase_of : SetUp → Phase
 phase_of s = phase_after s.since
 
 -- how many firings were seen
-abbrev pub seen_in : List Event → ℕ
-seen_in [] = 0
-seen_in (seen firing ∷ events) = seen_in events + 1
-seen_in (began ∷ events) = seen_in events
-seen_in (read cpu ∷ events) = seen_in events
-seen_in (truncated name ∷ events) = seen_in events
-seen_in (ended end ∷ events) = seen_in events
-seen_in (closed ∷ events) = seen_in events
+abbrev pub seen_count : List TracingEvent → ℕ
+seen_count [] = 0
+seen_count (seen firing ∷ events) = seen_count events + 1
+seen_count (began ∷ events) = seen_count events
+seen_count (read cpu ∷ events) = seen_count events
+seen_count (truncated name ∷ events) = seen_count events
+seen_count (ended end ∷ events) = seen_count events
+seen_count (closed ∷ events) = seen_count events
 
 -- A processor's buffer can be read from `go` on, under ring only after tracing ended.
 abbrev pub is_readable : SetUp → Phase → Bool
@@ -123,20 +123,20 @@ module _ (account : Account) (registry : Registry) where
 
   -- the bytes of one record of each of END's ECBs
   abbrev pub end_size : SetUp → ℕ
-  end_size s = sum (map (λ (ecb : EcbForm). size_of (layout_of ecb.clause)) (of_probe END (ecbs_in s)))
+  end_size s = sum (map (λ (ecb : EcbForm). layout_size (layout_of ecb.clause)) (of_probe END (ecbs_in s)))
 
   -- Under fill, processor 0 keeps room for END's records, and there must be room for them.
   abbrev pub has_room : SetUp → Bool
   has_room s = not (is_fill s.options.bufpolicy) || nat_le (end_size s) s.options.bufsize
 
   -- Why tracing ends by an event: an exit is taken, or the firing is the last of the history.
-  abbrev pub end_by : SetUp → Event → Option End
+  abbrev pub end_by : SetUp → TracingEvent → Option End
   end_by s event = option_or
       (option_map Exit (first_exit (taken_by account registry (ecbs_in s) event)))
-      (if seen_in s.since == s.options.histsize then Some History else None)
+      (if seen_count s.since == s.options.histsize then Some History else None)
 
   -- Something happens, and where tracing ends by it, END fires in the same step.
-  abbrev pub happens : SetUp → Event → SetUp
+  abbrev pub happens : SetUp → TracingEvent → SetUp
   happens s event = option_map_or
       (λ end. with_event (with_event s event) (ended end)) (end_by (with_event s event) event) (with_event s event)
 

@@ -21,7 +21,7 @@ use Rattle.dt_consumer.specs.Answer.{Answer, done, enabled, snapped, aggregated,
 use Rattle.dt_consumer.specs.Aggregations.{aggregation_of}
 use Rattle.dt_consumer.specs.Ask.{Ask, option, enable, go, stop, snap, agg, trunc, status, list, describe, close}
 use Rattle.dt_consumer.specs.Buffers.{errors, past}
-use Rattle.dt_consumer.specs.Life.{Item, SetUp, seen_in, is_over, set_up, next_epid, phase, is_active, is_inactive, is_readable, has_room, ecbs, shapes_in}
+use Rattle.dt_consumer.specs.Life.{Item, SetUp, seen_count, is_over, set_up, next_epid, phase, is_active, is_inactive, is_readable, has_room, ecbs, shapes_in}
 use Rattle.dt_consumer.specs.Stores.{aggdrops_in, stores_in}
 use Rattle.dt_consumer.specs.declared.refusal.Refusal.{Refusal}
 use Rattle.dt_consumer.specs.declared.refusal.Refusal.TheVariants.{Program, NoMatch, Privilege, Destructive, AggClash, Limit, Busy, NoCpu, NoAgg, NoEpid, Quota}
@@ -45,7 +45,7 @@ module _ (account : Account) (registry : Registry) (life : List Item) where
 
   -- how many firings were seen
   abbrev pub seen_firings : ℕ
-  seen_firings = seen_in now.since
+  seen_firings = seen_count now.since
 
   -- a processor's errors, one number for each
   abbrev pub all_errors : List ℕ

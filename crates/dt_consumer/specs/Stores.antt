@@ -10,17 +10,17 @@ use Rattle.dt_ecb.specs.Shapes.{ShapeForm}
 use Rattle.dt_machine.specs.Registry.{Registry}
 use Rattle.dt_consumer.specs.Aggregations.{aggregation_of, contributions}
 use Rattle.dt_consumer.specs.Life.{SetUp, ecbs_in, shapes_in}
-use Rattle.dt_consumer.specs.Takings.{Event, truncated, taken_on}
+use Rattle.dt_consumer.specs.Takings.{TracingEvent, truncated, taken_on}
 
 module _ (account : Account) (registry : Registry) where
   module _ (shapes : List ShapeForm) (ecbs : List EcbForm) (cpu : ℕ) where
     -- what comes to a processor's store by an event: contributions, or an aggregation is truncated
-    abbrev pub given_on : Event → List store.Event
+    abbrev pub given_on : TracingEvent → List store.Event
     given_on (truncated name) = option_to_list (option_map store.truncated (aggregation_of shapes name))
     given_on event = contributions shapes (taken_on account registry ecbs cpu event)
 
     -- the same for events, the newest event first, the oldest contribution first
-    abbrev pub given_since : List Event → List store.Event
+    abbrev pub given_since : List TracingEvent → List store.Event
     given_since [] = []
     given_since (event ∷ events) = given_since events ++ given_on event
 

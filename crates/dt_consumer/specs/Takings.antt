@@ -17,15 +17,15 @@ use Rattle.dt_consumer.specs.declared.phase.End.{End}
 
 -- what happens to a consumer's tracing: it begins, a firing is seen, the buffer of a processor is read, the aggregation of
 -- a name is truncated, it ends, or the session is closed
-pub data Event : Type 0 where
-  began : Event
-  seen : Firing → Event
-  read : (cpu : ℕ) → Event
-  truncated : (name : List ℕ) → Event
-  ended : End → Event
-  closed : Event
+pub data TracingEvent : Type 0 where
+  began : TracingEvent
+  seen : Firing → TracingEvent
+  read : (cpu : ℕ) → TracingEvent
+  truncated : (name : List ℕ) → TracingEvent
+  ended : End → TracingEvent
+  closed : TracingEvent
 
-abbrev pub is_end : Event → Bool
+abbrev pub is_end : TracingEvent → Bool
 is_end (ended end) = true
 is_end _ = false
 
@@ -121,7 +121,7 @@ own_moment account registry probe = moment_in registry (Some (own_process accoun
 
 module _ (account : Account) (registry : Registry) where
   -- the moment at which ECBs are taken by an event: BEGIN's, the firing's, END's
-  abbrev pub moment_at : Event → Option MomentForm
+  abbrev pub moment_at : TracingEvent → Option MomentForm
   moment_at began = own_moment account registry BEGIN
   moment_at (seen firing) = moment_of registry firing
   moment_at (read cpu) = None
@@ -131,15 +131,15 @@ module _ (account : Account) (registry : Registry) where
 
   module _ (ecbs : List EcbForm) where
     -- what is taken by an event
-    abbrev pub taken_by : Event → List Taking
+    abbrev pub taken_by : TracingEvent → List Taking
     taken_by event = option_map_or (taken_at (is_end event) ecbs) (moment_at event) []
 
     -- the same, where it happens on this processor
-    abbrev pub taken_on : ℕ → Event → List Taking
+    abbrev pub taken_on : ℕ → TracingEvent → List Taking
     taken_on cpu event = option_map_or
         (λ m. if m.firing.cpu == cpu then taken_at (is_end event) ecbs m else []) (moment_at event) []
 
     -- what is taken on a processor by events, the newest event first, the oldest taking first
-    abbrev pub taken_since : ℕ → List Event → List Taking
+    abbrev pub taken_since : ℕ → List TracingEvent → List Taking
     taken_since cpu [] = []
     taken_since cpu (event ∷ events) = taken_since cpu events ++ taken_on cpu event

@@ -11,7 +11,7 @@ use Rattle.dt_ecb.specs.Shapes.{ShapeForm}
 use Rattle.dt_expr.specs.declared.text.Value.{Value}
 use Rattle.dt_expr.specs.declared.text.Value.TheVariants as val
 use Rattle.dt_lang.specs.Program.{ClauseForm, StatementForm, aggregate}
-use Rattle.dt_consumer.specs.Aggregations.{aggregation_of, contributions, number_of, part_of}
+use Rattle.dt_consumer.specs.Aggregations.{aggregation_of, contributions, number_given, part_of}
 use Rattle.dt_consumer.specs.Takings.{Taking}
 use Rattle.dt_consumer.specs.declared.uses.Use.{Use}
 use Rattle.dt_consumer.specs.declared.uses.Uses.{Uses}
@@ -43,7 +43,7 @@ abbrev pub key_at : ℕ → List Value → List KeyPart
 key_at count values = map part_of (take count values)
 
 abbrev pub number_at : List Value → ℕ → ℤ
-number_at values place = number_of (slice_index_or values place (val.Number (pos 0)))
+number_at values place = number_given (slice_index_or values place (val.Number (pos 0)))
 
 -- what a use gives of the values that begin with its own
 abbrev pub contribution_at : UseForm → List Value → List store.Event

@@ -36,7 +36,7 @@ impl Known {
 
 /// The function of an aggregation, as stores keep it. The bounds that programs are read with are right for it.
 fn function_of(function: Function) -> AggFn
-    ensures { spec.function_of (form_of_function function) ≡ Some result }
+    ensures { spec.function_kept_by (form_of_function function) ≡ Some result }
 {
     match function {
         Function::Count => AggFn::Count,

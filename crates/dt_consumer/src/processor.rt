@@ -25,7 +25,7 @@ impl Processor {
     ghost use Rattle.dt_aggstore.specs.History as stores;
     ghost use Rattle.dt_aggstore.specs.IsAt.{IsAt, added_of};
     ghost use Rattle.dt_aggstore.specs.declared.limits.TheConstants.{ADDED_LIMIT};
-    ghost use Rattle.dt_buffer.specs.History.{Past, new_past, after, swap};
+    ghost use Rattle.dt_buffer.specs.History.{BufferPast, new_buffer_past, buffer_after, swap};
     ghost use Rattle.dt_buffer.specs.IsAt.{drops_of};
     ghost use Rattle.dt_buffer.specs.Shows.{EndLast};
     ghost use Rattle.dt_buffer.specs.declared.limits.TheConstants.{DROPS_LIMIT, SIZE_MAX};
@@ -44,7 +44,7 @@ impl Processor {
     /// A processor on which nothing was taken, with the room that the options ask for.
     pub(crate) fn new(alloc: Global, options: Options, reserve: usize) -> Result<Self, AllocError>
         requires { reserve ≤ options.bufsize }
-        ensures empty { IfOk result (HasTaken (new_past options.bufpolicy options.bufsize reserve) 0) }
+        ensures empty { IfOk result (HasTaken (new_buffer_past options.bufpolicy options.bufsize reserve) 0) }
         ensures counts { IfOk result (AtMost 0) }
     {
         Ok(Processor {
@@ -67,7 +67,7 @@ impl Processor {
         requires counts { AtMost (DROPS_LIMIT - ECBS_MAX) self.old }
         requires gives { GivenAtMost (ADDED_LIMIT - GIVES_MAX) store.old }
         ensures taken { All (λ ecb. ecb.clause < length clauses.now) row.now.ecbs.items
-            → (past : Past) (errors : ℕ) → EndLast past false → HasTaken past errors self.old
+            → (past : BufferPast) (errors : ℕ) → EndLast past false → HasTaken past errors self.old
             → (let new = through_exit
             (map (taking_by false (form_of_moment moment.now) (map form_of_clause clauses.now)) row.now.ecbs.items) in
             HasTaken (followed_by past (attempts_of new)) (errors + faults new) self.new) }
@@ -103,7 +103,7 @@ impl Processor {
         requires counts { AtMost (DROPS_LIMIT - ECBS_MAX) self.old }
         requires gives { GivenAtMost (ADDED_LIMIT - GIVES_MAX) store.old }
         ensures taken { All (λ ecb. ecb.clause < length clauses.now) row.now.ecbs.items
-            → (past : Past) (errors : ℕ) → HasTaken past errors self.old
+            → (past : BufferPast) (errors : ℕ) → HasTaken past errors self.old
             → (let new = map (taking_by true (form_of_moment moment.now) (map form_of_clause clauses.now))
             row.now.ecbs.items in
             HasTaken (followed_by past (attempts_of new)) (errors + faults new) self.new) }
@@ -134,7 +134,7 @@ impl Processor {
         requires counts { (drops_of self.old.buffer < DROPS_LIMIT) × (self.old.errors < DROPS_LIMIT) }
         requires gives { added_of store.old + STATEMENTS_MAX ≤ ADDED_LIMIT }
         ensures taken { ecb.clause < length clauses.now
-            → (past : Past) (errors : ℕ) → EndLast past in_end → HasTaken past errors self.old
+            → (past : BufferPast) (errors : ℕ) → EndLast past in_end → HasTaken past errors self.old
             → (let one = taking_by in_end (form_of_moment moment.now) (map form_of_clause clauses.now) ecb in
             HasTaken (followed_by past (attempts_of (one ∷ []))) (errors + faults (one ∷ [])) self.new) }
         ensures exit { ecb.clause < length clauses.now
@@ -168,8 +168,8 @@ impl Processor {
 
     /// Goes on after a reading of the buffer.
     pub(crate) fn swap(&mut self)
-        ensures stands { (past : Past) (errors : ℕ) → HasTaken past errors self.old
-            → HasTaken (after past swap) errors self.new }
+        ensures stands { (past : BufferPast) (errors : ℕ) → HasTaken past errors self.old
+            → HasTaken (buffer_after past swap) errors self.new }
         ensures counts { AtMostMore 0 self.old self.new }
     {
         self.buffer.swap();

@@ -31,7 +31,7 @@ impl Processors {
     ghost use Rattle.std.specs.List.{range_with_len};
     ghost use Rattle.dt_aggstore.specs.declared.limits.TheConstants.{ADDED_LIMIT, AGGSIZE_MAX};
     ghost use Rattle.dt_ecb.specs.Shapes.{ShapeForm};
-    ghost use Rattle.dt_buffer.specs.History.{Past, new_past};
+    ghost use Rattle.dt_buffer.specs.History.{BufferPast, new_buffer_past};
     ghost use Rattle.dt_buffer.specs.Shows.{EndLast};
     ghost use Rattle.dt_buffer.specs.declared.limits.TheConstants.{DROPS_LIMIT};
     ghost use Rattle.dt_ecb.specs.declared.limits.TheConstants.{ECBS_MAX};
@@ -53,7 +53,7 @@ impl Processors {
         requires few { cpus ≤ STORES_MAX }
         ensures len { IfOk result (λ processors. vec_len processors.all ≡ cpus) }
         ensures empty { IfOk result (λ processors. (cpu : ℕ) → IfSome (slice_get processors.all.items cpu)
-            (HasTaken (new_past options.bufpolicy options.bufsize (if cpu == 0 then reserve else 0)) 0)) }
+            (HasTaken (new_buffer_past options.bufpolicy options.bufsize (if cpu == 0 then reserve else 0)) 0)) }
         ensures counts { IfOk result (λ processors. All (AtMost 0) processors.all.items) }
         ensures fresh { IfOk result (λ processors.
             AreGiven (λ cpu. stores.new_past options.aggsize) processors.stores.items) }
@@ -75,7 +75,7 @@ impl Processors {
         requires { reserve ≤ options.bufsize }
         ensures len { IfOk result (λ all. vec_len all ≡ cpus) }
         ensures empty { IfOk result (λ all. (cpu : ℕ) → IfSome (slice_get all.items cpu)
-            (HasTaken (new_past options.bufpolicy options.bufsize (if cpu == 0 then reserve else 0)) 0)) }
+            (HasTaken (new_buffer_past options.bufpolicy options.bufsize (if cpu == 0 then reserve else 0)) 0)) }
         ensures counts { IfOk result (λ all. All (AtMost 0) all.items) }
     {
         let mut all = Vec::with_capacity(alloc, cpus as usize)?;
@@ -115,7 +115,7 @@ impl Processors {
         ensures counts { (n : ℕ) → All (AtMost n) self.old.all.items
             → All (AtMost (n + ECBS_MAX)) self.new.all.items }
         ensures taken { All (λ ecb. ecb.clause < length clauses.now) row.now.ecbs.items
-            → (pasts : ℕ → Past) (errors : ℕ → ℕ) → ((cpu : ℕ) → EndLast (pasts cpu) false)
+            → (pasts : ℕ → BufferPast) (errors : ℕ → ℕ) → ((cpu : ℕ) → EndLast (pasts cpu) false)
             → AreTaken pasts errors self.old.all.items
             → (let m = form_of_moment moment.now in
             let new = through_exit (map (taking_by false m (map form_of_clause clauses.now)) row.now.ecbs.items) in
@@ -157,7 +157,7 @@ impl Processors {
         ensures counts { (n : ℕ) → All (AtMost n) self.old.all.items
             → All (AtMost (n + ECBS_MAX)) self.new.all.items }
         ensures taken { All (λ ecb. ecb.clause < length clauses.now) row.now.ecbs.items
-            → (pasts : ℕ → Past) (errors : ℕ → ℕ) → AreTaken pasts errors self.old.all.items
+            → (pasts : ℕ → BufferPast) (errors : ℕ → ℕ) → AreTaken pasts errors self.old.all.items
             → IsSomeAnd (own_moment account.now machine.now.registry END)
             (λ m. let new = map (taking_by true m (map form_of_clause clauses.now)) row.now.ecbs.items in
             AreTaken (pasts_and pasts (where_taken 0 new)) (errors_and errors (where_taken 0 new))

@@ -3,7 +3,7 @@ ghost use Rattle.std.specs.Prelude.{◌≡◌, ◌≢◌, ◌↔◌, ℕ, ◌+�
 ghost use Rattle.std.specs.Option.{option_copied};
 ghost use Rattle.dt_lang.specs.Program.{ClauseForm, form_of_clause};
 ghost use Rattle.dt_machine.specs.Interest.{Names};
-ghost use Rattle.dt_record.specs.Layout.{layout_of, size_of};
+ghost use Rattle.dt_record.specs.Layout.{layout_of, layout_size};
 ghost use Rattle.dt_ecb.specs.Ecbs.{of_probe};
 ghost use Rattle.dt_ecb.specs.Forms.{form_of_ecb, shapes_of};
 ghost use Rattle.dt_ecb.specs.declared.limits.TheConstants.{ECBS_MAX};
@@ -82,7 +82,7 @@ impl Programs {
         ensures within { IfSome result (λ left. left ≤ size) }
         ensures left { (clauses : List ClauseForm) → map form_of_clause self.now.clauses.items ≡ clauses
             → All (λ ecb. ecb.clause < length clauses) self.now.ecbs.items
-            → (let sizes = sum (map (λ ecb. size_of (layout_of ecb.clause))
+            → (let sizes = sum (map (λ ecb. layout_size (layout_of ecb.clause))
             (of_probe END (map (form_of_ecb clauses) self.now.ecbs.items))) in
             MatchOption result (size < sizes) (λ left. left + sizes ≡ size)) }
     {

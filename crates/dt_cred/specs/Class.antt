@@ -11,7 +11,7 @@ abbrev pub number_of : List ℕ → ℕ
 number_of digits = fold (λ number digit. 10 * number + (digit - 48)) 0 digits
 
 -- The digits write a decimal number without a leading zero; zero is a single 0.
-pub record IsDecimal (digits : List ℕ) : Type 0 where
+pub record WritesDecimal (digits : List ℕ) : Type 0 where
   pub some : 0 < length digits
   pub each : All IsDigit digits
   pub no_leading_zero : slice_index digits 0 ≡ 48 → length digits ≡ 1
@@ -20,7 +20,7 @@ pub record IsDecimal (digits : List ℕ) : Type 0 where
 pub record NamesProcess (provider : List ℕ) (pid : ℕ) : Type 0 where
   pub digits : List ℕ
   pub spelled : provider ≡ codes "pid" ++ digits
-  pub decimal : IsDecimal digits
+  pub decimal : WritesDecimal digits
   pub stands_for : number_of digits ≡ pid
 
 -- The class of a provider's probes. What has none of the four names is of class Other.

@@ -1,6 +1,6 @@
 //! The class of a probe, by its provider's name.
 ghost use Rattle.std.specs.Prelude.{◌≡◌, ◌≢◌, ◌≤◌, ℕ, length, MatchOption};
-ghost use Rattle.dt_cred.specs.Class.{IsClassOf, IsDecimal, number_of};
+ghost use Rattle.dt_cred.specs.Class.{IsClassOf, WritesDecimal, number_of};
 
 use dt_names::{NAME_MAX, Name};
 
@@ -44,8 +44,8 @@ impl Class {
 /// The number that decimal digits without a leading zero write, or `None` for any other text.
 fn decimal(digits: &[u8]) -> Option<u128>
     requires { length digits.now ≤ DIGITS_MAX }
-    ensures { MatchOption result (IsDecimal digits.now → ⊥)
-        (λ number. IsDecimal digits.now × (number_of digits.now ≡ number)) }
+    ensures { MatchOption result (WritesDecimal digits.now → ⊥)
+        (λ number. WritesDecimal digits.now × (number_of digits.now ≡ number)) }
 {
     if digits.is_empty() || (digits[0] == b'0' && digits.len() != 1) {
         return None;

@@ -4,7 +4,7 @@ use Rattle.std.specs.List.{list_any}
 use Rattle.dt_cred.specs.declared.account.Account.{Account}
 use Rattle.dt_machine.specs.Registry.{Registry}
 use Rattle.dt_lang.specs.Program.{ClauseForm}
-use Rattle.dt_ecb.specs.Enable.{Verdict, enabled, privilege, clash, unmatched, limit, IsVerdict, has_stack, is_allowed}
+use Rattle.dt_ecb.specs.Enable.{Verdict, enabled, privilege, clash, unmatched, limit, IsVerdict, has_stack, may_do_all}
 use Rattle.dt_ecb.specs.Enable.{is_unmatched, is_too_much}
 use Rattle.dt_ecb.specs.Shapes.{ShapeForm, uses_of, any_clash}
 use Rattle.dt_ecb.proofs.ClashLaws.{some_clash, any_from_clash, same_clash}
@@ -75,7 +75,7 @@ all_pass true false false true a c f m = cc
 module _ (account : Account) (registry : Registry) (accepted : List ShapeForm) (epid : ℕ)
     (clauses : List ClauseForm) where
   abbrev may : Bool
-  may = is_allowed account registry accepted epid clauses
+  may = may_do_all account registry accepted epid clauses
 
   abbrev clashing : Bool
   clashing = any_clash accepted (uses_of clauses)

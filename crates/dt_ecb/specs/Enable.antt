@@ -41,8 +41,8 @@ module _ (account : Account) (registry : Registry) where
 
   module _ (accepted : List ShapeForm) (epid : ℕ) (clauses : List ClauseForm) where
     -- the account may do all that the clauses do
-    abbrev pub is_allowed : Bool
-    is_allowed = account.privs.dtrace_kernel || not (list_any has_stack clauses)
+    abbrev pub may_do_all : Bool
+    may_do_all = account.privs.dtrace_kernel || not (list_any has_stack clauses)
 
     -- more than one consumer may have
     abbrev pub is_too_much : Bool
@@ -52,16 +52,16 @@ module _ (account : Account) (registry : Registry) where
 
     -- A program is enabled after these accepted aggregations and with this next EPID.
     abbrev pub is_enabled : Bool
-    is_enabled = is_allowed && (not (any_clash accepted (uses_of clauses))
+    is_enabled = may_do_all && (not (any_clash accepted (uses_of clauses))
         && (not (list_any is_unmatched clauses) && not is_too_much))
 
     -- It is refused for the first of these that holds, in this order.
     abbrev pub IsVerdict : Verdict → Type 0
     IsVerdict (privilege number) = (account.privs.dtrace_kernel ≡ false) × IsFirstSuch has_stack clauses number
-    IsVerdict (clash name) = (is_allowed ≡ true) × IsFirstClash accepted (uses_of clauses) name
+    IsVerdict (clash name) = (may_do_all ≡ true) × IsFirstClash accepted (uses_of clauses) name
     IsVerdict (unmatched number) =
-        (is_allowed ≡ true) × (any_clash accepted (uses_of clauses) ≡ false) × IsFirstSuch is_unmatched clauses number
+        (may_do_all ≡ true) × (any_clash accepted (uses_of clauses) ≡ false) × IsFirstSuch is_unmatched clauses number
     IsVerdict limit =
-        (is_allowed ≡ true) × (any_clash accepted (uses_of clauses) ≡ false)
+        (may_do_all ≡ true) × (any_clash accepted (uses_of clauses) ≡ false)
         × (list_any is_unmatched clauses ≡ false) × (is_too_much ≡ true)
     IsVerdict enabled = is_enabled ≡ true

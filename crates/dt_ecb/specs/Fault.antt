@@ -4,5 +4,5 @@ use Rattle.dt_ecb.specs.declared.fault.RestrictedAction.{RestrictedAction}
 use Rattle.dt_ecb.specs.declared.fault.RestrictedAction.TheVariants.{Stack}
 
 -- an action's name in programs
-abbrev pub word_of : RestrictedAction → List ℕ
-word_of Stack = codes "stack"
+abbrev pub action_word : RestrictedAction → List ℕ
+action_word Stack = codes "stack"

@@ -44,16 +44,16 @@ used_by _ = []
 abbrev pub uses_of : List ClauseForm → List ShapeForm
 uses_of clauses = flat_map (λ clause. flat_map used_by clause.statements) clauses
 
-abbrev pub same_function : FunctionForm → FunctionForm → Bool
-same_function count count = true
-same_function sum sum = true
-same_function avg avg = true
-same_function min min = true
-same_function max max = true
-same_function quantize quantize = true
-same_function (lquantize lower upper step) (lquantize lower' upper' step') =
+abbrev pub same_function_form : FunctionForm → FunctionForm → Bool
+same_function_form count count = true
+same_function_form sum sum = true
+same_function_form avg avg = true
+same_function_form min min = true
+same_function_form max max = true
+same_function_form quantize quantize = true
+same_function_form (lquantize lower upper step) (lquantize lower' upper' step') =
     int_eq lower lower' && (int_eq upper upper' && int_eq step step')
-same_function _ _ = false
+same_function_form _ _ = false
 
 abbrev pub same_kind : KeyKind → KeyKind → Bool
 same_kind number number = true
@@ -69,7 +69,7 @@ same_kinds _ _ = false
 -- Two uses of one name clash where function, bounds or kinds of keys differ.
 abbrev pub clash : ShapeForm → ShapeForm → Bool
 clash one other =
-    bytes_eq one.name other.name && not (same_function one.function other.function && same_kinds one.keys other.keys)
+    bytes_eq one.name other.name && not (same_function_form one.function other.function && same_kinds one.keys other.keys)
 
 -- a use clashes with an earlier one
 abbrev pub clashes : List ShapeForm → ShapeForm → Bool

@@ -1,6 +1,6 @@
 //! Why a program is not enabled.
 ghost use Rattle.std.specs.Prelude.{◌≡◌};
-ghost use Rattle.dt_ecb.specs.Fault.{word_of};
+ghost use Rattle.dt_ecb.specs.Fault.{action_word};
 ghost use Rattle.dt_ecb.specs.declared.fault.EnableFault.TheVariants.{Memory};
 
 use dt_names::ShortText;
@@ -18,7 +18,7 @@ pub enum RestrictedAction {
 impl RestrictedAction {
     /// The action's name in programs, as replies carry it.
     pub fn word(self) -> &'static str
-        ensures { result.now ≡ word_of self }
+        ensures { result.now ≡ action_word self }
     {
         match self {
             RestrictedAction::Stack => "stack",
@@ -28,9 +28,9 @@ impl RestrictedAction {
 
 impl fmt::Display for RestrictedAction {
     ghost use Rattle.std.specs.Prelude.{Some};
-    ghost use Rattle.dt_ecb.specs.Fault.{word_of};
+    ghost use Rattle.dt_ecb.specs.Fault.{action_word};
 
-    ghost output = { λ action. Some (word_of action) };
+    ghost output = { λ action. Some (action_word action) };
 
     fn fmt<W: fmt::Write>(&self, f: &mut fmt::Formatter<W>) -> fmt::Result {
         f.write_str(self.word())

@@ -76,7 +76,7 @@ impl Function {
 
     /// Whether two uses call one function, with the same bounds.
     fn is_same(self, other: Function) -> bool
-        ensures { result ≡ spec.same_function (form_of_function self) (form_of_function other) }
+        ensures { result ≡ spec.same_function_form (form_of_function self) (form_of_function other) }
     {
         match self {
             Function::Count => matches!(other, Function::Count),

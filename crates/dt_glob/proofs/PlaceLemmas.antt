@@ -11,7 +11,8 @@ use Rattle.dt_glob.specs.declared.fault.GlobFault.{GlobFault}
 use Rattle.dt_glob.specs.declared.fault.GlobFault.TheVariants.{Unclosed, EmptySet, LoneEscape}
 use Rattle.dt_glob.specs.Sign.{byte_of, sign_text, text_of_signs, AreSigns, opening, closing, bang}
 use Rattle.dt_glob.specs.PatternItem.{PatternItem, Star, AnyByte, Literal, OneOf}
-use Rattle.dt_glob.specs.Spells.{SpellsElements, Lacks, BeginsWith, mark, SpellsSet, SpellsItem, SpellsItems, Spells}
+use Rattle.dt_glob.specs.Spells.{SpellsElements, Lacks, BeginsWithSign, mark}
+use Rattle.dt_glob.specs.Spells.{SpellsSet, SpellsItem, SpellsItems, Spells}
 use Rattle.dt_glob.specs.Fault.{AreItems, EndsInSet, FaultOf}
 use Rattle.dt_glob.specs.Place.{step_of, IsInside, HasOpened, StandsAt}
 use Rattle.dt_glob.proofs.SignLemmas.{text_of_signs-append, AreSigns-append, AreSigns-front, plain_cases, bang_apart}
@@ -69,7 +70,7 @@ Lacks-append : (sign : Sign) (a b : List Sign) → Lacks sign a → Lacks sign b
 Lacks-append sign [] b h k = k
 Lacks-append sign (next ∷ a) b h k = (h.0, Lacks-append sign a b h.1 k)
 
-BeginsWith-append : (sign : Sign) (a b : List Sign) → a ≢ [] → BeginsWith sign (a ++ b) → BeginsWith sign a
+BeginsWith-append : (sign : Sign) (a b : List Sign) → a ≢ [] → BeginsWithSign sign (a ++ b) → BeginsWithSign sign a
 BeginsWith-append sign [] b n h = absurd (n refl)
 BeginsWith-append sign (next ∷ a) b n h = h
 

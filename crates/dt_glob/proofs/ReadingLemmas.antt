@@ -9,7 +9,7 @@ use Rattle.dt_glob.specs.declared.fault.GlobFault.{GlobFault}
 use Rattle.dt_glob.specs.declared.fault.GlobFault.TheVariants.{Unclosed, EmptySet, LoneEscape}
 use Rattle.dt_glob.specs.Sign.{byte_of, sign_text, text_of_signs, IsSign, AreSigns, opening, closing, bang, dash}
 use Rattle.dt_glob.specs.PatternItem.{PatternItem, Star, AnyByte, Literal, OneOf}
-use Rattle.dt_glob.specs.Spells.{BeginsRangeEnd, SpellsElements, Lacks, BeginsWith, mark, SpellsSet, SpellsItem}
+use Rattle.dt_glob.specs.Spells.{BeginsRangeEnd, SpellsElements, Lacks, BeginsWithSign, mark, SpellsSet, SpellsItem}
 use Rattle.dt_glob.specs.Spells.{SpellsItems, Spells}
 use Rattle.dt_glob.specs.Fault.{AreItems, EndsInSet, FaultOf}
 use Rattle.dt_glob.specs.Reading.{is_plain, Signs, behind, signs_of, elements_of, also, set_and, items_from}
@@ -81,7 +81,7 @@ set_and-true [] rest n = absurd (n refl)
 set_and-true (sign ∷ inside) rest n = refl
 
 set_and-false : (inside : List Sign) (rest : Result (List PatternItem) GlobFault) → inside ≢ []
-    → (¬ BeginsWith bang inside) → set_and inside rest ≡ also (OneOf false (elements_of inside)) rest
+    → (¬ BeginsWithSign bang inside) → set_and inside rest ≡ also (OneOf false (elements_of inside)) rest
 set_and-false [] rest n m = absurd (n refl)
 set_and-false (sign ∷ []) rest n m = rw (is_plain-false 33 sign m)
 set_and-false (sign ∷ next ∷ inside) rest n m = rw (is_plain-false 33 sign m)

@@ -7,7 +7,7 @@ use Rattle.dt_glob.specs.declared.element.Element.{Element}
 use Rattle.dt_glob.specs.declared.element.Element.TheVariants.{Single, Range}
 use Rattle.dt_glob.specs.PatternItem.{PatternItem, Star, AnyByte, Literal, OneOf, Holds, HoldsAny, Takes}
 use Rattle.dt_glob.specs.Matches.{Matches}
-use Rattle.dt_glob.specs.Test.{holds, holds_any, takes, is_match}
+use Rattle.dt_glob.specs.Test.{element_holds, holds_any, takes, is_match}
 use Rattle.dt_glob.proofs.MatchLemmas.{Matches-take, Matches-taken, Matches-star_none, Matches-star_more}
 use Rattle.dt_glob.proofs.MatchLemmas.{Matches-star_cases, Matches-star_empty}
 
@@ -17,7 +17,7 @@ Decides-never n = (λ e. absurd (false≢true e), λ p. absurd (n p))
 Decides-nat_le : (a b : ℕ) → Decides (nat_le a b) (a ≤ b)
 Decides-nat_le a b = (leb-true a b, le-leb a b)
 
-Decides-holds : (element : Element) (byte : ℕ) → Decides (holds element byte) (Holds element byte)
+Decides-holds : (element : Element) (byte : ℕ) → Decides (element_holds element byte) (Holds element byte)
 Decides-holds (Single own) byte = Decides-eqb byte own
 Decides-holds (Range first last) byte =
     Decides-and (nat_le first byte) (nat_le byte last) (Decides-nat_le first byte) (Decides-nat_le byte last)
@@ -25,7 +25,7 @@ Decides-holds (Range first last) byte =
 Decides-holds_any : (elements : List Element) (byte : ℕ) → Decides (holds_any elements byte) (HoldsAny elements byte)
 Decides-holds_any [] byte = Decides-never (λ h. h)
 Decides-holds_any (element ∷ elements) byte =
-    Decides-or (holds element byte) (holds_any elements byte) (Decides-holds element byte)
+    Decides-or (element_holds element byte) (holds_any elements byte) (Decides-holds element byte)
     (Decides-holds_any elements byte)
 
 Decides-takes : (item : PatternItem) (byte : ℕ) → Decides (takes item byte) (Takes item byte)

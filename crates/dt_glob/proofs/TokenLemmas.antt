@@ -8,7 +8,8 @@ use Rattle.dt_glob.specs.declared.element.Element.TheVariants.{Single, Range}
 use Rattle.dt_glob.specs.Sign.{byte_of, sign_text, text_of_signs, IsSign, AreSigns, star, question, opening, closing}
 use Rattle.dt_glob.specs.Sign.{bang, dash}
 use Rattle.dt_glob.specs.PatternItem.{PatternItem, Star, AnyByte, Literal, OneOf, Holds, HoldsAny}
-use Rattle.dt_glob.specs.Spells.{BeginsRangeEnd, SpellsElements, Lacks, BeginsWith, SpellsSet, SpellsItem, SpellsItems}
+use Rattle.dt_glob.specs.Spells.{BeginsRangeEnd, SpellsElements, Lacks, BeginsWithSign}
+use Rattle.dt_glob.specs.Spells.{SpellsSet, SpellsItem, SpellsItems}
 use Rattle.dt_glob.specs.Spells.{Spells}
 use Rattle.dt_glob.specs.Token.{ShowsElements, ReadsElement, IsToken, ReadsToken, ClosesAt, BeginsSet}
 use Rattle.dt_glob.specs.declared.token.Token.{Token}
@@ -320,7 +321,7 @@ finds_set text inside rest negated elements behind k h =
       once.1,
     )
 
-bang_text : (signs : List Sign) (rest : List ℕ) → text_of_signs signs ≡ 33 ∷ rest → BeginsWith bang signs
+bang_text : (signs : List Sign) (rest : List ℕ) → text_of_signs signs ≡ 33 ∷ rest → BeginsWithSign bang signs
 bang_text [] rest e = cc
 bang_text (Plain byte ∷ signs) rest e = let same : byte ≡ 33 = cc in ap Plain same
 bang_text (Escaped byte ∷ signs) rest e = let same : ◌≡◌ {A = ℕ} 92 33 = cc in absurd (omega arith)

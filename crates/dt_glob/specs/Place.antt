@@ -6,7 +6,7 @@ use Rattle.dt_glob.specs.declared.place.Place.TheVariants.{Outside, Opened, Nega
 use Rattle.dt_glob.specs.declared.fault.GlobFault.{GlobFault}
 use Rattle.dt_glob.specs.declared.fault.GlobFault.TheVariants.{EmptySet}
 use Rattle.dt_glob.specs.Sign.{opening, closing, bang}
-use Rattle.dt_glob.specs.Spells.{Lacks, BeginsWith, mark}
+use Rattle.dt_glob.specs.Spells.{Lacks, BeginsWithSign, mark}
 use Rattle.dt_glob.specs.Fault.{AreItems}
 use Rattle.dt_glob.specs.Reading.{is_plain}
 
@@ -24,7 +24,7 @@ pub record IsInside (signs : List Sign) : Type 0 where
   pub inside : List Sign
   pub cut : signs ≡ front ++ opening ∷ (mark negated ++ inside)
   pub items : AreItems front
-  pub marked : negated ≡ false → ¬ BeginsWith bang inside
+  pub marked : negated ≡ false → ¬ BeginsWithSign bang inside
   pub unended : Lacks closing inside
   pub some : inside ≢ []
 

@@ -28,9 +28,9 @@ abbrev pub Lacks : Sign → List Sign → Type 0
 Lacks sign [] = Unit {0}
 Lacks sign (next ∷ signs) = (next ≢ sign) × Lacks sign signs
 
-abbrev pub BeginsWith : Sign → List Sign → Type 0
-BeginsWith sign [] = ⊥
-BeginsWith sign (next ∷ signs) = next ≡ sign
+abbrev pub BeginsWithSign : Sign → List Sign → Type 0
+BeginsWithSign sign [] = ⊥
+BeginsWithSign sign (next ∷ signs) = next ≡ sign
 
 -- how a negated set begins, behind its `[`
 abbrev pub mark : Bool → List Sign
@@ -41,7 +41,7 @@ mark false = []
 pub record SpellsSet (signs : List Sign) (negated : Bool) (elements : List Element) : Type 0 where
   pub inside : List Sign
   pub begins : signs ≡ mark negated ++ inside
-  pub marked : negated ≡ false → ¬ BeginsWith bang inside
+  pub marked : negated ≡ false → ¬ BeginsWithSign bang inside
   pub unended : Lacks closing inside
   pub some : inside ≢ []
   pub spells : SpellsElements inside elements

@@ -5,14 +5,14 @@ use Rattle.dt_glob.specs.declared.element.Element.TheVariants.{Single, Range}
 use Rattle.dt_glob.specs.PatternItem.{PatternItem, Star, AnyByte, Literal, OneOf}
 
 -- the element of a set holds the byte
-abbrev pub holds : Element → ℕ → Bool
-holds (Single own) byte = byte == own
-holds (Range first last) byte = nat_le first byte && nat_le byte last
+abbrev pub element_holds : Element → ℕ → Bool
+element_holds (Single own) byte = byte == own
+element_holds (Range first last) byte = nat_le first byte && nat_le byte last
 
 -- some element holds the byte
 abbrev pub holds_any : List Element → ℕ → Bool
 holds_any [] byte = false
-holds_any (element ∷ elements) byte = holds element byte || holds_any elements byte
+holds_any (element ∷ elements) byte = element_holds element byte || holds_any elements byte
 
 -- the item takes this one byte: a star takes texts instead
 abbrev pub takes : PatternItem → ℕ → Bool

@@ -9,8 +9,8 @@ use Rattle.std.specs.Char.{is_ascii_digit}
 use Rattle.std.specs.List.{take_while, prefix_len, AllPass}
 use Rattle.dt_names.specs.declared.short_text.TheConstants.{SHORT_TEXT_MAX}
 use Rattle.dt_lang.specs.Class.{is_word_byte, is_text_byte}
-use Rattle.dt_lang.specs.Lexeme.{IsIdentifier, IsName, IsBodyToken, OPENING, IsBodyPiece}
-use Rattle.dt_lang.specs.Piece.{start_of, identifier_at, FindsWord, NumberOf, text_of, aggregation_of, FindsSign}
+use Rattle.dt_lang.specs.Lexeme.{IsIdentifier, IsAggregationName, IsBodyToken, OPENING, IsBodyPiece}
+use Rattle.dt_lang.specs.Piece.{start_of, identifier_at, FindsWord, NumberOf, text_piece, aggregation_read, FindsSign}
 use Rattle.dt_lang.specs.Piece.{FindsAs, FindsInBody, opens_comment}
 use Rattle.dt_lang.specs.Spelling.{spelling}
 use Rattle.dt_lang.specs.declared.piece.Piece.{Piece}
@@ -238,13 +238,14 @@ module _ (text rest : List ℕ) (quote : text ≡ 34 ∷ rest) (fronts : FrontsF
             (λ k. false≢true (c ∙ eq-eqb (get_or rest (length quoted_run) 0) 34 k)),
       )
 
-  pub quote_top : (found : Piece) → found ≡ text_of (take_while is_text_byte rest) rest → Tops IsBodyPiece text found
+  pub quote_top : (found : Piece) → found ≡ text_piece (take_while is_text_byte rest) rest
+      → Tops IsBodyPiece text found
   unfolding quoted_run
   quote_top found e =
       quote_by (ltb SHORT_TEXT_MAX (length quoted_run)) (eqb (get_or rest (length quoted_run) 0) 34) refl refl found e
 
 -- aggregations
-pub name_at : (rest : List ℕ) → IsName (identifier_at rest)
+pub name_at : (rest : List ℕ) → IsAggregationName (identifier_at rest)
 name_at [] = inl refl
 name_at (x ∷ xs) = elim (truth_of (is_ascii_digit x)) [
   | inl d ↦ inl (ap (λ b. cond b [] (take_while is_word_byte (x ∷ xs))) d)
@@ -261,7 +262,7 @@ identifier_least rest name behind i e =
     subst (λ (r : List ℕ). length name ≤ length r) (sym (undigited rest digit))
     (run_at_least is_word_byte rest name behind e i.all)
 
-name_least : (rest name behind : List ℕ) → IsName name → rest ≡ name ++ behind
+name_least : (rest name behind : List ℕ) → IsAggregationName name → rest ≡ name ++ behind
     → length name ≤ length (identifier_at rest)
 name_least rest name behind (inl n) e = let f = ap (λ (s : List ℕ). length s) n in omega arith
 name_least rest name behind (inr i) e = identifier_least rest name behind i e
@@ -276,11 +277,11 @@ identifier_cut rest = elim (truth_of (is_ascii_digit (get_or rest 0 0))) [
   )
 ]
 
-long_name : (name : List ℕ) → SHORT_TEXT_MAX < length name → IsName name → IsIdentifier name
+long_name : (name : List ℕ) → SHORT_TEXT_MAX < length name → IsAggregationName name → IsIdentifier name
 long_name name long (inl n) = let f = ap (λ (s : List ℕ). length s) n in absurd (omega arith)
 long_name name long (inr i) = i
 
-aggregation_piece : (name : List ℕ) → IsName name → IsBodyPiece (64 ∷ name) (aggregation_of name)
+aggregation_piece : (name : List ℕ) → IsAggregationName name → IsBodyPiece (64 ∷ name) (aggregation_read name)
 aggregation_piece name n = elim (cases_lt SHORT_TEXT_MAX (length name)) [
   | inl long ↦ subst (IsBodyPiece (64 ∷ name)) (sym (long_aggregation name long))
       (record { inside = name; begins = inr (refl, long_name name long n); long = long })
@@ -288,7 +289,7 @@ aggregation_piece name n = elim (cases_lt SHORT_TEXT_MAX (length name)) [
 ]
 
 at_top : (text rest : List ℕ) (found : Piece) → text ≡ 64 ∷ rest → FrontsFit start.At text
-    → found ≡ aggregation_of (identifier_at rest) → Tops IsBodyPiece text found
+    → found ≡ aggregation_read (identifier_at rest) → Tops IsBodyPiece text found
 at_top text rest found at fronts e =
     let c = identifier_cut rest in
     inl (subst (Top IsBodyPiece text) (sym e) (record {

@@ -23,12 +23,14 @@ use Rattle.dt_lang.specs.Program.{ArgForm, number, text, ClauseForm}
 use Rattle.dt_lang.specs.Stand.{Slot, predicate, traced, exited, key, value}
 use Rattle.dt_lang.specs.declared.fault.Why.TheVariants.{Syntax}
 use Rattle.dt_lang.specs.Refused.{Cause, because, StatementBegins, IsDestructive, NameStands, a_statement, a_function}
-use Rattle.dt_lang.specs.Refused.{IsNoAction, VariableStands, a_number, a_text, NamesNoVariable, IsNoVariable, Holds}
+use Rattle.dt_lang.specs.Refused.{IsNoAction, VariableStands, a_number, a_text}
+use Rattle.dt_lang.specs.Refused.{NamesNoVariable, IsNoVariable, CauseHolds}
 use Rattle.dt_lang.specs.Refused.{Refused}
-use Rattle.dt_lang.specs.ClauseState.{Place, body, assigned, within, bounded, at_lower, at_upper, at_step}
-use Rattle.dt_lang.specs.ClauseState.{ProgramState, state, shut, go_on, from_within, step_from, step, run, start}
+use Rattle.dt_lang.specs.ClauseState.{PlaceForm, body, assigned, within, bounded, at_lower, at_upper, at_step}
+use Rattle.dt_lang.specs.ClauseState.{ProgramState, program_at, shut, go_on, from_within}
+use Rattle.dt_lang.specs.ClauseState.{program_step_from, step, run, program_start}
 use Rattle.dt_lang.specs.Cause.{too_long_at, out_of_range_at, is_word, names_no_variable, destructive_of}
-use Rattle.dt_lang.specs.Cause.{is_no_description, statement_at, name_at, operand_at, destroys_at, cause_of}
+use Rattle.dt_lang.specs.Cause.{is_no_description, statement_at, name_may_stand, operand_at, destroys_at, cause_of}
 use Rattle.dt_lang.proofs.ExpressionLaws.{foreign}
 use Rattle.dt_lang.proofs.ClauseSound.{none_some, same_some}
 use Rattle.dt_lang.proofs.ClauseLaws.{Steps, goes_on, begins_on}
@@ -71,8 +73,8 @@ within_foreign cs c slot n e w next h k =
     let r = within_word cs c slot n e w next (expression.step e (token.Word w)) refl k in
     none_some (sym h ∙ r.1)
 
-statement_place : (cs : List ClauseForm) (c : ClauseForm) (p : Place) (next : ProgramState)
-    → step_from cs c p (token.Word (word.Action action.Trace)) ≡ Some next → statement_at p ≡ true
+statement_place : (cs : List ClauseForm) (c : ClauseForm) (p : PlaceForm) (next : ProgramState)
+    → program_step_from cs c p (token.Word (word.Action action.Trace)) ≡ Some next → statement_at p ≡ true
 statement_place cs c (body begins) next h = refl
 statement_place cs c (within slot n e) next h =
     absurd (within_foreign cs c slot n e (word.Action action.Trace) next (foreign e _ refl) h)
@@ -81,8 +83,8 @@ statement_place cs c (bounded name keys f (at_upper lower) z) next h = absurd (n
 statement_place cs c (bounded name keys f (at_step lower upper) z) next h = absurd (none_some h)
 statement_place cs c _ next h = absurd (none_some h)
 
-function_place : (cs : List ClauseForm) (c : ClauseForm) (p : Place) (next : ProgramState)
-    → step_from cs c p (token.Word (word.Function function.Count)) ≡ Some next → name_at p ≡ true
+function_place : (cs : List ClauseForm) (c : ClauseForm) (p : PlaceForm) (next : ProgramState)
+    → program_step_from cs c p (token.Word (word.Function function.Count)) ≡ Some next → name_may_stand p ≡ true
 function_place cs c (body begins) next h = refl
 function_place cs c (assigned name keys) next h = refl
 function_place cs c (within slot n e) next h =
@@ -92,8 +94,8 @@ function_place cs c (bounded name keys f (at_upper lower) z) next h = absurd (no
 function_place cs c (bounded name keys f (at_step lower upper) z) next h = absurd (none_some h)
 function_place cs c _ next h = absurd (none_some h)
 
-number_place : (cs : List ClauseForm) (c : ClauseForm) (p : Place) (next : ProgramState)
-    → step_from cs c p (token.Word (word.Number variable.Pid)) ≡ Some next → operand_at p ≡ true
+number_place : (cs : List ClauseForm) (c : ClauseForm) (p : PlaceForm) (next : ProgramState)
+    → program_step_from cs c p (token.Word (word.Number variable.Pid)) ≡ Some next → operand_at p ≡ true
 number_place cs c (within slot n e) next h =
     let r = within_word cs c slot n e (word.Number variable.Pid) next (expression.step e _) refl h in
     wants_where_number e r.0 r.1
@@ -104,8 +106,8 @@ number_place cs c (bounded name keys f (at_upper lower) z) next h = absurd (none
 number_place cs c (bounded name keys f (at_step lower upper) z) next h = absurd (none_some h)
 number_place cs c _ next h = absurd (none_some h)
 
-text_place : (cs : List ClauseForm) (c : ClauseForm) (p : Place) (next : ProgramState)
-    → step_from cs c p (token.Word (word.Text text_variable.Execname)) ≡ Some next → operand_at p ≡ true
+text_place : (cs : List ClauseForm) (c : ClauseForm) (p : PlaceForm) (next : ProgramState)
+    → program_step_from cs c p (token.Word (word.Text text_variable.Execname)) ≡ Some next → operand_at p ≡ true
 text_place cs c (within slot n e) next h =
     let r = within_word cs c slot n e (word.Text text_variable.Execname) next (expression.step e _) refl h in
     wants_where_text e r.0 r.1
@@ -117,35 +119,35 @@ text_place cs c (bounded name keys f (at_step lower upper) z) next h = absurd (n
 text_place cs c _ next h = absurd (none_some h)
 
 -- what steps from places
-statement_steps : (cs : List ClauseForm) (c : ClauseForm) (p : Place) → statement_at p ≡ true
-    → Steps (state cs c p) (token.Word (word.Action action.Trace))
+statement_steps : (cs : List ClauseForm) (c : ClauseForm) (p : PlaceForm) → statement_at p ≡ true
+    → Steps (program_at cs c p) (token.Word (word.Action action.Trace))
 unfolding step
 statement_steps cs c (body begins) e = record { next = _; steps = refl }
 statement_steps cs c _ e = cc
 
-name_steps : (cs : List ClauseForm) (c : ClauseForm) (p : Place) → name_at p ≡ true
-    → Steps (state cs c p) (token.Word (word.Action action.Trace))
-    ⊎ Steps (state cs c p) (token.Word (word.Function function.Count))
+name_steps : (cs : List ClauseForm) (c : ClauseForm) (p : PlaceForm) → name_may_stand p ≡ true
+    → Steps (program_at cs c p) (token.Word (word.Action action.Trace))
+    ⊎ Steps (program_at cs c p) (token.Word (word.Function function.Count))
 unfolding step
 name_steps cs c (body begins) e = inl (record { next = _; steps = refl })
 name_steps cs c (assigned name keys) e = inr (record { next = _; steps = refl })
 name_steps cs c _ e = cc
 
 within_steps : (cs : List ClauseForm) (c : ClauseForm) (slot : Slot) (n : ℕ) (e next : expression.State) (t : Token)
-    → expression.step e t ≡ Some next → Steps (state cs c (within slot n e)) t
+    → expression.step e t ≡ Some next → Steps (program_at cs c (within slot n e)) t
 unfolding step
-within_steps cs c slot n e next t h = record { next = state cs c (within slot (n + 1) next); steps = rw h refl }
+within_steps cs c slot n e next t h = record { next = program_at cs c (within slot (n + 1) next); steps = rw h refl }
 
-operand_steps : (cs : List ClauseForm) (c : ClauseForm) (p : Place) → operand_at p ≡ true
-    → Steps (state cs c p) (token.Word (word.Number variable.Pid))
-    ⊎ Steps (state cs c p) (token.Word (word.Text text_variable.Execname))
+operand_steps : (cs : List ClauseForm) (c : ClauseForm) (p : PlaceForm) → operand_at p ≡ true
+    → Steps (program_at cs c p) (token.Word (word.Number variable.Pid))
+    ⊎ Steps (program_at cs c p) (token.Word (word.Text text_variable.Execname))
 operand_steps cs c (within slot n e) h = elim (operand_goes_on e h) [
   | inl k ↦ inl (within_steps cs c slot n e k.0 _ k.1)
   | inr k ↦ inr (within_steps cs c slot n e k.0 _ k.1)
 ]
 operand_steps cs c _ h = cc
 
-module _ (ts : List Token) (t : Token) (s : ProgramState) (h : run start ts ≡ Some s) where
+module _ (ts : List Token) (t : Token) (s : ProgramState) (h : run program_start ts ≡ Some s) where
   statement_where : StatementBegins ts → statement_at s.place ≡ true
   unfolding step
   statement_where b =
@@ -154,18 +156,18 @@ module _ (ts : List Token) (t : Token) (s : ProgramState) (h : run start ts ≡ 
   statement_there : statement_at s.place ≡ true → StatementBegins ts
   statement_there e = begins_on ts s _ h (statement_steps s.clauses s.clause s.place e)
 
-  name_where : NameStands ts → name_at s.place ≡ true
+  name_where : NameStands ts → name_may_stand s.place ≡ true
   unfolding step
   name_where (a_statement b) = let k =
       goes_on ts s _ h b in from_statement s.place (statement_place s.clauses s.clause s.place k.next k.steps)
     where
-      from_statement : (p : Place) → statement_at p ≡ true → name_at p ≡ true
+      from_statement : (p : PlaceForm) → statement_at p ≡ true → name_may_stand p ≡ true
       from_statement (body begins) e = refl
       from_statement _ e = cc
   name_where (a_function b) =
       let k = goes_on ts s _ h b in function_place s.clauses s.clause s.place k.next k.steps
 
-  name_there : name_at s.place ≡ true → NameStands ts
+  name_there : name_may_stand s.place ≡ true → NameStands ts
   name_there e = elim (name_steps s.clauses s.clause s.place e) [
     | inl k ↦ a_statement (begins_on ts s _ h k)
     | inr k ↦ a_function (begins_on ts s _ h k)
@@ -227,12 +229,12 @@ destructive_is (token.Word (word.Destructive other)) what e =
     ap (λ (x : Destructive). token.Word (word.Destructive x)) (same_some e)
 destructive_is _ what e = absurd (none_some e)
 
-destroys_is : (p : Place) (t : Token) (what : Destructive) → destroys_at p t ≡ Some what
+destroys_is : (p : PlaceForm) (t : Token) (what : Destructive) → destroys_at p t ≡ Some what
     → (t ≡ token.Word (word.Destructive what)) × (statement_at p ≡ true)
 destroys_is (body begins) t what e = (destructive_is t what e, refl)
 destroys_is _ t what e = absurd (none_some e)
 
-destroys_true : (p : Place) (t : Token) (what : Destructive) → t ≡ token.Word (word.Destructive what)
+destroys_true : (p : PlaceForm) (t : Token) (what : Destructive) → t ≡ token.Word (word.Destructive what)
     → statement_at p ≡ true → destroys_at p t ≡ Some what
 destroys_true (body begins) t what e k = ap destructive_of e
 destroys_true _ t what e k = cc
@@ -241,8 +243,8 @@ false_of_not : (b : Bool) → not b ≡ true → b ≡ true → ⊥
 false_of_not true e k = cc
 false_of_not false e k = cc
 
-module _ (ts : List Token) (t : Token) (s : ProgramState) (h : run start ts ≡ Some s) where
-  action_is : is_word t && (name_at s.place && not (is_some (step s t))) ≡ true → IsNoAction ts t
+module _ (ts : List Token) (t : Token) (s : ProgramState) (h : run program_start ts ≡ Some s) where
+  action_is : is_word t && (name_may_stand s.place && not (is_some (step s t))) ≡ true → IsNoAction ts t
   action_is e =
       let w = is_word_is t (both_left _ _ e) in
       let k = both_right (is_word t) _ e in
@@ -250,10 +252,10 @@ module _ (ts : List Token) (t : Token) (s : ProgramState) (h : run start ts ≡ 
         word = w.0;
         is_word = w.1;
         stands = name_there ts t s h (both_left _ _ k);
-        unfit = (syntax_decides ts t s h).0 (both_right (name_at s.place) _ k);
+        unfit = (syntax_decides ts t s h).0 (both_right (name_may_stand s.place) _ k);
       }
 
-  action_true : IsNoAction ts t → is_word t && (name_at s.place && not (is_some (step s t))) ≡ true
+  action_true : IsNoAction ts t → is_word t && (name_may_stand s.place && not (is_some (step s t))) ≡ true
   action_true k =
       let a = is_word_true t k.word k.is_word in
       let b = name_where ts t s h k.stands in
@@ -278,7 +280,7 @@ module _ (ts : List Token) (t : Token) (s : ProgramState) (h : run start ts ≡ 
   destructive_where what k = destroys_true s.place t what k.names (statement_where ts t s h k.stands)
 
   tests : Tests ts t (too_long_at s.clauses s.clause s.place t) (destroys_at s.place t) (is_no_description t)
-      (is_word t && (name_at s.place && not (is_some (step s t)))) (names_no_variable t && operand_at s.place)
+      (is_word t && (name_may_stand s.place && not (is_some (step s t)))) (names_no_variable t && operand_at s.place)
       (out_of_range_at s.place t) (not (is_some (step s t)))
   tests = record {
     too_long_is = too_long_decides ts t s h;
@@ -295,7 +297,7 @@ module _ (ts : List Token) (t : Token) (s : ProgramState) (h : run start ts ≡ 
   unfolding cause_of
   refused cause e = refused_by ts t _ _ _ _ _ _ _ cause tests e
 
-  pub unrefused : cause_of s t ≡ None → (cause : Cause) → Holds ts t cause → ⊥
+  pub unrefused : cause_of s t ≡ None → (cause : Cause) → CauseHolds ts t cause → ⊥
   unfolding cause_of
   unrefused e cause k = unrefused_by ts t _ _ _ _ _ _ _ tests e cause k
 

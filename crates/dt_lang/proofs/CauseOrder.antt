@@ -10,7 +10,7 @@ use Rattle.dt_lang.specs.declared.token.Token.TheVariants as token
 use Rattle.dt_lang.specs.declared.word.Destructive.{Destructive}
 use Rattle.dt_lang.specs.Grammar.{Begins}
 use Rattle.dt_lang.specs.Refused.{Cause, because, destroys, rank, IsTooLong, IsDestructive, IsNoAction, IsNoVariable}
-use Rattle.dt_lang.specs.Refused.{IsOutOfRange, Holds, Refused}
+use Rattle.dt_lang.specs.Refused.{IsOutOfRange, CauseHolds, Refused}
 use Rattle.dt_lang.specs.Cause.{first_cause}
 use Rattle.dt_lang.proofs.ClauseSound.{none_some, same_some}
 
@@ -28,7 +28,7 @@ pub record Tests (ts : List Token) (t : Token) (too_long : Bool) (destructive : 
 
 -- none of the causes of a lower rank holds
 abbrev NoneBelow : List Token → Token → ℕ → Type 0
-NoneBelow ts t n = (other : Cause) → rank other < n → Holds ts t other → ⊥
+NoneBelow ts t n = (other : Cause) → rank other < n → CauseHolds ts t other → ⊥
 
 false_not : (P : Type 0) → Decides false P → P → ⊥
 false_not P d h = let k : false ≡ true = d.1 h in cc
@@ -95,7 +95,7 @@ module _ (ts : List Token) (t : Token) where
   below_6 b n (because Range) r h = n h
   below_6 b n (because Syntax) r h = absurd (omega arith)
 
-  none_holds : NoneBelow ts t 6 → ((Begins (ts ++ (t ∷ [])) → ⊥) → ⊥) → (cause : Cause) → Holds ts t cause → ⊥
+  none_holds : NoneBelow ts t 6 → ((Begins (ts ++ (t ∷ [])) → ⊥) → ⊥) → (cause : Cause) → CauseHolds ts t cause → ⊥
   none_holds b n (because TooLong) h = b (because TooLong) (omega arith) h
   none_holds b n (destroys what) h = b (destroys what) (omega arith) h
   none_holds b n (because Probe) h = b (because Probe) (omega arith) h
@@ -142,7 +142,7 @@ module _ (ts : List Token) (t : Token) where
   pub unrefused_by : (too_long : Bool) (destructive : Option Destructive) (probe action variable range syntax : Bool)
       → Tests ts t too_long destructive probe action variable range syntax
       → first_cause too_long destructive probe action variable range syntax ≡ None
-      → (cause : Cause) → Holds ts t cause → ⊥
+      → (cause : Cause) → CauseHolds ts t cause → ⊥
   unrefused_by false None false false false false false h e =
       none_holds (below_6 (below_5 (below_4 (below_3 (below_2 (below_1 (false_not _ h.too_long_is))
       (none_not ts t h.is_destructive)) (false_not _ h.probe_is)) (false_not _ h.action_is))
@@ -173,7 +173,8 @@ not_destructive Variable r = omega arith
 not_destructive Range r = omega arith
 not_destructive Syntax r = omega arith
 
-same_rank : (ts : List Token) (t : Token) (c d : Cause) → rank c ≡ rank d → Holds ts t c → Holds ts t d → c ≡ d
+same_rank : (ts : List Token) (t : Token) (c d : Cause) → rank c ≡ rank d → CauseHolds ts t c
+    → CauseHolds ts t d → c ≡ d
 same_rank ts t (because c) (because d) r h k = same_why c d r
 same_rank ts t (destroys what) (destroys other) r h k = let e = sym h.names ∙ k.names in cc
 same_rank ts t (because c) (destroys other) r h k = absurd (not_destructive c r)
@@ -183,5 +184,5 @@ same_rank ts t (destroys what) (because d) r h k = absurd (not_destructive d (sy
 pub one_cause : (ts : List Token) (t : Token) (c d : Cause) → Refused ts t c → Refused ts t d → c ≡ d
 one_cause ts t c d h k = same_rank ts t c d (same (rank c) (rank d) (k.first c) (h.first d)) h.holds k.holds
   where
-    same : (m n : ℕ) → (m < n → Holds ts t c → ⊥) → (n < m → Holds ts t d → ⊥) → m ≡ n
+    same : (m n : ℕ) → (m < n → CauseHolds ts t c → ⊥) → (n < m → CauseHolds ts t d → ⊥) → m ≡ n
     same m n below above = omega (arith, λ (r : m < n). below r h.holds, λ (r : n < m). above r k.holds)

@@ -14,7 +14,8 @@ use Rattle.dt_lang.specs.ExpressionState as expression
 use Rattle.dt_lang.specs.ExpressionState.{IsRead, ends_argument}
 use Rattle.dt_lang.specs.Grammar.{ReadsHead, a_description, another, ReadsOpening, always, ReadsKeys, a_key}
 use Rattle.dt_lang.specs.Grammar.{ReadsTarget, bare, ReadsConstant, plain, negative, ReadsBounds, by_one, stepped}
-use Rattle.dt_lang.specs.Grammar.{call_of, ReadsCall, counting, of_one, in_levels, AreFrames, ReadsStatement, tracing}
+use Rattle.dt_lang.specs.Grammar.{call_of, ReadsCall, counting, of_one}
+use Rattle.dt_lang.specs.Grammar.{in_levels, IsFrameCount, ReadsStatement, tracing}
 use Rattle.dt_lang.specs.Grammar.{of_stack, of_ustack, exiting, aggregating, Spot, begins, ends, ReadsBody, nothing}
 use Rattle.dt_lang.specs.Grammar.{stated, separated, ReadsClause, a_clause, ReadsClauses, ReadsProgram}
 use Rattle.dt_lang.specs.Grammar as grammar
@@ -23,8 +24,9 @@ use Rattle.dt_lang.specs.Stand.{HeadStands, BodyStands, KeysStand, TargetStands,
 use Rattle.dt_lang.specs.Stand.{value, divides_in, SlotOpens}
 use Rattle.dt_lang.specs.Stand as stand
 use Rattle.dt_lang.specs.ClauseState.{BoundForm, at_lower, at_upper, at_step, outside, described, body, keyed}
-use Rattle.dt_lang.specs.ClauseState.{assigned, within, bounding, bounded, ProgramState, state, headed, ended, entered}
-use Rattle.dt_lang.specs.ClauseState.{given, shut, step, run, start, whole, finished}
+use Rattle.dt_lang.specs.ClauseState.{assigned, within, bounding, bounded, ProgramState}
+use Rattle.dt_lang.specs.ClauseState.{program_at, headed, ended, entered}
+use Rattle.dt_lang.specs.ClauseState.{function_given, shut, step, run, program_start, whole, finished}
 use Rattle.dt_lang.proofs.ExpressionLaws.{complete, complete_argument}
 use Rattle.dt_lang.proofs.ExpressionLaws as laws
 use Rattle.dt_lang.proofs.Reading.{split_last, split_two}
@@ -60,20 +62,20 @@ run_step s middle last ts t h k = run_over s middle ts (t ∷ []) h ∙ rw k ref
 
 pub step_within : (cs : List ClauseForm) (c : ClauseForm) (slot : Slot) (n : ℕ) (e next : expression.State) (t : Token)
     → expression.step e t ≡ Some next
-    → step (state cs c (within slot n e)) t ≡ Some (state cs c (within slot (n + 1) next))
+    → step (program_at cs c (within slot n e)) t ≡ Some (program_at cs c (within slot (n + 1) next))
 unfolding step
 step_within cs c slot n e next t h = rw h refl
 
 pub step_shut : (cs : List ClauseForm) (c : ClauseForm) (slot : Slot) (n : ℕ) (e : expression.State) (a : ArgForm)
     (t : Token) → expression.step e t ≡ None → expression.done e ≡ Some a
-    → step (state cs c (within slot n e)) t ≡ shut cs c slot t a
+    → step (program_at cs c (within slot n e)) t ≡ shut cs c slot t a
 unfolding step
 step_shut cs c slot n e a t h d = rw (h, d) refl
 
 -- what is read for a slot
 pub run_within : (cs : List ClauseForm) (c : ClauseForm) (slot : Slot) (ts : List Token) (n : ℕ)
     (e next : expression.State) → expression.run e ts ≡ Some next
-    → run (state cs c (within slot n e)) ts ≡ Some (state cs c (within slot (n + length ts) next))
+    → run (program_at cs c (within slot n e)) ts ≡ Some (program_at cs c (within slot (n + length ts) next))
 unfolding run expression.run
 run_within cs c slot [] n e next h =
     let k : e ≡ next = cc in
@@ -84,12 +86,14 @@ run_within cs c slot (t ∷ ts) n e next h =
     go : (o : Option expression.State) → expression.step e t ≡ o
         → option_and_then (λ m. expression.run m ts) o ≡ Some next
         → ((m : expression.State) → expression.run m ts ≡ Some next
-        → run (state cs c (within slot (n + 1) m)) ts ≡ Some (state cs c (within slot ((n + 1) + length ts) next)))
-        → run (state cs c (within slot n e)) (t ∷ ts) ≡ Some (state cs c (within slot (n + length (t ∷ ts)) next))
+        → run (program_at cs c (within slot (n + 1) m)) ts
+        ≡ Some (program_at cs c (within slot ((n + 1) + length ts) next)))
+        → run (program_at cs c (within slot n e)) (t ∷ ts)
+        ≡ Some (program_at cs c (within slot (n + length (t ∷ ts)) next))
     go (Some m) k r again =
         let i : (n + 1) + length ts ≡ n + suc (length ts) = omega arith in
         rw (step_within cs c slot n e m t k)
-        (again m r ∙ ap (λ (x : ℕ). Some (state cs c (within slot x next))) i)
+        (again m r ∙ ap (λ (x : ℕ). Some (program_at cs c (within slot x next))) i)
     go None k r again = cc
 
 -- what is read for a slot, with the token that ends it
@@ -103,11 +107,11 @@ slot_over cs c slot ts us a t next h k e =
     run_over _ _ ts (t ∷ us) j ∙ rw (step_shut cs c slot (0 + length ts) h.at a t i h.is_done, e) refl
 
 -- statements
-frames_true : (n : ℕ) → AreFrames n → leb 1 n && leb n FRAMES_MAX ≡ true
+frames_true : (n : ℕ) → IsFrameCount n → leb 1 n && leb n FRAMES_MAX ≡ true
 frames_true n h = rw (le-leb 1 n h.some, le-leb n FRAMES_MAX h.few) refl
 
 given_value : (cs : List ClauseForm) (c : ClauseForm) (name : List ℕ) (keys : List ArgForm) (fn : Function) (f : Form)
-    (call : CallForm) → call_of fn f ≡ Some call → given cs c name keys fn ≡ entered cs c (value name keys fn)
+    (call : CallForm) → call_of fn f ≡ Some call → function_given cs c name keys fn ≡ entered cs c (value name keys fn)
 given_value cs c name keys function.Count f call h = cc
 given_value cs c name keys function.Sum f call h = refl
 given_value cs c name keys function.Avg f call h = refl
@@ -118,7 +122,7 @@ given_value cs c name keys function.Lquantize f call h = refl
 
 pub constant_over : (cs : List ClauseForm) (c : ClauseForm) (name : List ℕ) (keys : List ArgForm) (f : Form)
     (b : BoundForm) (ts us : List Token) (z : ℤ) → ReadsConstant ts z
-    → run (state cs c (bounding name keys f b)) (ts ++ us) ≡ run (state cs c (bounded name keys f b z)) us
+    → run (program_at cs c (bounding name keys f b)) (ts ++ us) ≡ run (program_at cs c (bounded name keys f b z)) us
 unfolding run step
 constant_over cs c name keys f b _ us _ (plain n) = refl
 constant_over cs c name keys f b _ us _ (negative n) = refl
@@ -138,14 +142,14 @@ bounds_lead cs c name keys f ts _ _ _ _ r (stepped vs ws xs lower upper by h k l
     rw append_assoc
     (slot_over cs c (value name keys function.Lquantize) ts _ (number f) (token.Sign sign.Comma) _ r refl refl
     ∙ constant_over cs c name keys f at_lower vs _ lower h
-    ∙ ap (λ (x : List Token). run (state cs c (bounding name keys f (at_upper lower))) x)
+    ∙ ap (λ (x : List Token). run (program_at cs c (bounding name keys f (at_upper lower))) x)
     (append_assoc ws (token.Sign sign.Comma ∷ xs) (token.Sign sign.CloseParen ∷ []))
     ∙ constant_over cs c name keys f (at_upper lower) ws _ upper k
     ∙ constant_over cs c name keys f (at_step lower upper) xs _ by l)
 
 call_leads : (cs : List ClauseForm) (c : ClauseForm) (name : List ℕ) (keys : List ArgForm) (ts : List Token)
     (call : CallForm) → ReadsCall ts call
-    → run (state cs c (assigned name keys)) ts ≡ Some (ended cs c (aggregate name keys call))
+    → run (program_at cs c (assigned name keys)) ts ≡ Some (ended cs c (aggregate name keys call))
 unfolding run step
 call_leads cs c name keys _ _ counting = refl
 call_leads cs c name keys _ _ (of_one fn ts f call m h) =
@@ -164,7 +168,7 @@ pub record KeysLead (cs : List ClauseForm) (c : ClauseForm) (name : List ℕ) (t
   pub tokens : List Token
   pub read : IsRead true tokens last
   pub count : ℕ
-  pub runs : run (entered cs c (key name [])) ts ≡ Some (state cs c (within (key name before) count read.at))
+  pub runs : run (entered cs c (key name [])) ts ≡ Some (program_at cs c (within (key name before) count read.at))
 
 -- behind keys a `,` or a `]` leads on
 pub key_ends : (cs : List ClauseForm) (c : ClauseForm) (name : List ℕ) (ts : List Token) (keys : List ArgForm)
@@ -196,7 +200,7 @@ keys_lead cs c name _ _ (grammar.another ts us keys a h k) =
     = key_ends cs c name ts keys (token.Sign sign.Comma) _ l refl
     (ap (λ (x : List ArgForm). Some (entered cs c (key name x))) (sym l.keys_are)) in
     let all : run (entered cs c (key name [])) ((ts ++ (token.Sign sign.Comma ∷ [])) ++ us)
-    ≡ Some (state cs c (within (key name keys) (0 + length us) r.at))
+    ≡ Some (program_at cs c (within (key name keys) (0 + length us) r.at))
     = run_on _ _ _ (ts ++ (token.Sign sign.Comma ∷ [])) us first
     (run_within cs c (key name keys) us 0 _ r.at r.runs) in
     record {
@@ -212,18 +216,20 @@ keys_lead cs c name _ _ (grammar.another ts us keys a h k) =
 -- an aggregation with its keys, and `=`
 target_over : (cs : List ClauseForm) (c : ClauseForm) (name : List ℕ) (keys : List ArgForm) (ts us : List Token)
     → ReadsTarget ts name keys
-    → run (state cs c (body begins)) (ts ++ (token.Sign sign.Equal ∷ us)) ≡ run (state cs c (assigned name keys)) us
+    → run (program_at cs c (body begins)) (ts ++ (token.Sign sign.Equal ∷ us))
+    ≡ run (program_at cs c (assigned name keys)) us
 unfolding run step
 target_over cs c _ _ _ us (bare name) = refl
 target_over cs c _ _ _ us (grammar.keyed name ts keys h) =
     let l = keys_lead cs c name ts keys h in
-    run_over (entered cs c (key name [])) (state cs c (keyed name keys)) (ts ++ (token.Sign sign.CloseBracket ∷ []))
+    run_over (entered cs c (key name [])) (program_at cs c (keyed name keys))
+    (ts ++ (token.Sign sign.CloseBracket ∷ []))
     (token.Sign sign.Equal ∷ us)
     (key_ends cs c name ts keys (token.Sign sign.CloseBracket) _ l refl
-    (ap (λ (x : List ArgForm). Some (state cs c (keyed name x))) (sym l.keys_are)))
+    (ap (λ (x : List ArgForm). Some (program_at cs c (keyed name x))) (sym l.keys_are)))
 
 statement_leads : (cs : List ClauseForm) (c : ClauseForm) (ts : List Token) (s : StatementForm) → ReadsStatement ts s
-    → run (state cs c (body begins)) ts ≡ Some (ended cs c s)
+    → run (program_at cs c (body begins)) ts ≡ Some (ended cs c s)
 unfolding run step
 statement_leads cs c _ _ (tracing ts a h) =
     slot_over cs c traced ts [] a (token.Sign sign.CloseParen) _ (complete_argument ts a h) refl refl
@@ -236,13 +242,14 @@ statement_leads cs c _ _ (aggregating ts us name keys call h k) =
 
 -- bodies
 separated_step : (cs : List ClauseForm) (c : ClauseForm) (spot : Spot)
-    → step (state cs c (body spot)) (token.Sign sign.Semicolon) ≡ Some (state cs c (body begins))
+    → step (program_at cs c (body spot)) (token.Sign sign.Semicolon) ≡ Some (program_at cs c (body begins))
 unfolding step
 separated_step cs c begins = refl
 separated_step cs c ends = refl
 
 closed_step : (cs : List ClauseForm) (c : ClauseForm) (spot : Spot)
-    → step (state cs c (body spot)) (token.Sign sign.CloseBrace) ≡ Some (state (cs ++ (c ∷ [])) (headed []) outside)
+    → step (program_at cs c (body spot)) (token.Sign sign.CloseBrace)
+    ≡ Some (program_at (cs ++ (c ∷ [])) (headed []) outside)
 unfolding step
 closed_step cs c begins = refl
 closed_step cs c ends = refl
@@ -253,7 +260,7 @@ clause_of ds p ss = record { descriptions = ds; predicate = p; statements = ss }
 
 body_leads : (cs : List ClauseForm) (ds : List DescForm) (p : Option Form) (spot : Spot) (ts : List Token)
     (ss : List StatementForm) → ReadsBody spot ts ss
-    → run (state cs (clause_of ds p []) (body begins)) ts ≡ Some (state cs (clause_of ds p ss) (body spot))
+    → run (program_at cs (clause_of ds p []) (body begins)) ts ≡ Some (program_at cs (clause_of ds p ss) (body spot))
 unfolding run
 body_leads cs ds p _ _ _ nothing = refl
 body_leads cs ds p _ _ _ (stated ts us ss s h k) =
@@ -263,13 +270,13 @@ body_leads cs ds p _ _ _ (separated spot ts ss h) =
 
 -- heads
 head_leads : (cs : List ClauseForm) (c : ClauseForm) (ts : List Token) (ds : List DescForm) → ReadsHead ts ds
-    → run (state cs c outside) ts ≡ Some (state cs (headed ds) described)
+    → run (program_at cs c outside) ts ≡ Some (program_at cs (headed ds) described)
 unfolding run step
 head_leads cs c _ _ (a_description d) = refl
 head_leads cs c _ _ (another ts ds d h) = run_on _ _ _ ts _ (head_leads cs c ts ds h) refl
 
 opening_leads : (cs : List ClauseForm) (c : ClauseForm) (ts : List Token) (ds : List DescForm) (p : Option Form)
-    → ReadsOpening ts ds p → run (state cs c outside) ts ≡ Some (state cs (clause_of ds p []) (body begins))
+    → ReadsOpening ts ds p → run (program_at cs c outside) ts ≡ Some (program_at cs (clause_of ds p []) (body begins))
 unfolding run step
 opening_leads cs c _ _ _ (always ts ds h) = run_over _ _ ts _ (head_leads cs c ts ds h)
 opening_leads cs c _ _ _ (grammar.guarded ts us ds f h k) =
@@ -278,13 +285,13 @@ opening_leads cs c _ _ _ (grammar.guarded ts us ds f h k) =
 
 -- clauses
 clause_leads : (cs : List ClauseForm) (before : ClauseForm) (ts : List Token) (c : ClauseForm) → ReadsClause ts c
-    → run (state cs before outside) ts ≡ Some (state (cs ++ (c ∷ [])) (headed []) outside)
+    → run (program_at cs before outside) ts ≡ Some (program_at (cs ++ (c ∷ [])) (headed []) outside)
 clause_leads cs before _ _ (a_clause spot ts us ds p ss h k) =
     run_over _ _ ts _ (opening_leads cs before ts ds p h)
     ∙ run_step _ _ _ us _ (body_leads cs ds p spot us ss k) (closed_step cs (clause_of ds p ss) spot)
 
 pub clauses_lead : (ts : List Token) (cs : List ClauseForm) → ReadsClauses ts cs
-    → run start ts ≡ Some (state cs (headed []) outside)
+    → run program_start ts ≡ Some (program_at cs (headed []) outside)
 unfolding run
 clauses_lead _ _ grammar.nothing = refl
 clauses_lead _ _ (grammar.another ts us cs c h k) =
@@ -293,7 +300,7 @@ clauses_lead _ _ (grammar.another ts us cs c h k) =
 -- a whole program is read to its end
 pub record ProgramLeads (ts : List Token) (cs : List ClauseForm) : Type 0 where
   pub at : ProgramState
-  pub runs : run start ts ≡ Some at
+  pub runs : run program_start ts ≡ Some at
   pub is_finished : finished at ≡ Some cs
 
 whole_is : (cs : List ClauseForm) → cs ≢ [] → whole cs ≡ Some cs
@@ -303,17 +310,22 @@ whole_is (c ∷ cs) n = refl
 pub program_leads : (ts : List Token) (cs : List ClauseForm) → ReadsProgram ts cs → ProgramLeads ts cs
 unfolding finished
 program_leads ts cs h =
-    record { at = state cs (headed []) outside; runs = clauses_lead ts cs h.reads; is_finished = whole_is cs h.some }
+    record {
+      at = program_at cs (headed []) outside;
+      runs = clauses_lead ts cs h.reads;
+      is_finished = whole_is cs
+          h.some;
+    }
 
 -- where a program's beginnings lead
 pub head_stands_lead : (ts : List Token) (cs : List ClauseForm) (ds : List DescForm) → HeadStands ts cs ds
-    → run start ts ≡ Some (state cs (headed ds) described)
+    → run program_start ts ≡ Some (program_at cs (headed ds) described)
 head_stands_lead ts cs ds h =
     rw h.split
     (run_on _ _ _ h.clauses h.head (clauses_lead h.clauses cs h.before) (head_leads cs (headed []) h.head ds h.reads))
 
 pub body_stands_lead : (spot : Spot) (ts : List Token) (cs : List ClauseForm) (c : ClauseForm)
-    → BodyStands spot ts cs c → run start ts ≡ Some (state cs c (body spot))
+    → BodyStands spot ts cs c → run program_start ts ≡ Some (program_at cs c (body spot))
 body_stands_lead spot ts cs c h =
     rw h.split
     (run_on _ _ _ h.clauses (h.opening ++ h.body) (clauses_lead h.clauses cs h.before)
@@ -326,7 +338,7 @@ pub record KeysStandLead (ts : List Token) (cs : List ClauseForm) (c : ClauseFor
   pub back : List Token
   pub keys_lead : KeysLead cs c name back keys
   pub runs : (t : Token) (next : ProgramState) → run (entered cs c (key name [])) (back ++ (t ∷ [])) ≡ Some next
-      → run start (ts ++ (t ∷ [])) ≡ Some next
+      → run program_start (ts ++ (t ∷ [])) ≡ Some next
 
 pub keys_stand_lead : (ts : List Token) (cs : List ClauseForm) (c : ClauseForm) (name : List ℕ) (keys : List ArgForm)
     → KeysStand ts cs c name keys → KeysStandLead ts cs c name keys
@@ -340,14 +352,14 @@ keys_stand_lead ts cs c name keys h = record {
 
 pub target_stands_lead : (ts us : List Token) (cs : List ClauseForm) (c : ClauseForm) (name : List ℕ)
     (keys : List ArgForm) → TargetStands ts cs c name keys
-    → run start (ts ++ (token.Sign sign.Equal ∷ us)) ≡ run (state cs c (assigned name keys)) us
+    → run program_start (ts ++ (token.Sign sign.Equal ∷ us)) ≡ run (program_at cs c (assigned name keys)) us
 target_stands_lead ts us cs c name keys h =
     rw (split_two ts h.front h.back (token.Sign sign.Equal ∷ us) h.split)
     (run_over _ _ h.front _ (body_stands_lead begins h.front cs c h.stands)
     ∙ target_over cs c name keys h.back us h.reads)
 
 given_other : (cs : List ClauseForm) (c : ClauseForm) (name : List ℕ) (keys : List ArgForm) (fn : Function)
-    → fn ≢ function.Count → given cs c name keys fn ≡ entered cs c (value name keys fn)
+    → fn ≢ function.Count → function_given cs c name keys fn ≡ entered cs c (value name keys fn)
 given_other cs c name keys function.Count n = absurd (n refl)
 given_other cs c name keys function.Sum n = refl
 given_other cs c name keys function.Avg n = refl
@@ -357,7 +369,7 @@ given_other cs c name keys function.Quantize n = refl
 given_other cs c name keys function.Lquantize n = refl
 
 pub slot_leads : (slot : Slot) (ts : List Token) (cs : List ClauseForm) (c : ClauseForm) → SlotOpens slot ts cs c
-    → run start ts ≡ Some (entered cs c slot)
+    → run program_start ts ≡ Some (entered cs c slot)
 unfolding run step
 slot_leads _ _ _ _ (stand.a_predicate ts cs ds h) = run_over _ _ ts _ (head_stands_lead ts cs ds h)
 slot_leads _ _ _ _ (stand.an_argument ts cs c h) = run_over _ _ ts _ (body_stands_lead begins ts cs c h)

@@ -15,14 +15,15 @@ use Rattle.std.specs.Prelude.{option_and_then}
 use Rattle.dt_lang.specs.declared.token.Token.{Token}
 use Rattle.dt_lang.specs.Program.{ClauseForm}
 use Rattle.dt_lang.specs.Grammar.{ReadsClauses, ReadsProgram, Begins}
-use Rattle.dt_lang.specs.ClauseState.{Place, outside, ProgramState, whole, finished_at, step, run, start, finished}
+use Rattle.dt_lang.specs.ClauseState.{PlaceForm, outside, ProgramState, whole, finished_at}
+use Rattle.dt_lang.specs.ClauseState.{step, run, program_start, finished}
 use Rattle.dt_lang.proofs.Reading.{ReadAt, Read}
 use Rattle.dt_lang.proofs.ClauseSound.{none_some, same_some, sound_run, starts}
 use Rattle.dt_lang.proofs.ClauseComplete.{run-append, run_on, program_leads}
 use Rattle.dt_lang.proofs.ClauseViable.{completes}
 
-pub read : (ts : List Token) (s : ProgramState) → run start ts ≡ Some s → Read s ts
-read ts s h = sound_run ts [] start s starts h
+pub read : (ts : List Token) (s : ProgramState) → run program_start ts ≡ Some s → Read s ts
+read ts s h = sound_run ts [] program_start s starts h
 
 whole_reads : (ts : List Token) (cs ds : List ClauseForm) → ReadsClauses ts cs → whole cs ≡ Some ds
     → ReadsProgram ts ds
@@ -31,36 +32,37 @@ whole_reads ts (c ∷ cs) ds h e =
     let same : c ∷ cs ≡ ds = same_some e in
     rw (sym same) (record { reads = h; some = λ k. cc })
 
-pub sound_program : (ts : List Token) (s : ProgramState) (cs : List ClauseForm) → run start ts ≡ Some s
+pub sound_program : (ts : List Token) (s : ProgramState) (cs : List ClauseForm) → run program_start ts ≡ Some s
     → finished s ≡ Some cs → ReadsProgram ts cs
 unfolding finished
 sound_program ts s cs h e = go s.place (read ts s h) e
   where
-    go : (p : Place) → ReadAt s.clauses s.clause p ts → finished_at s.clauses p ≡ Some cs → ReadsProgram ts cs
+    go : (p : PlaceForm) → ReadAt s.clauses s.clause p ts → finished_at s.clauses p ≡ Some cs → ReadsProgram ts cs
     go outside r k = whole_reads ts s.clauses cs r k
     go p r k = absurd (none_some k)
 
-pub viable : (ts : List Token) (s : ProgramState) → run start ts ≡ Some s → Begins ts
+pub viable : (ts : List Token) (s : ProgramState) → run program_start ts ≡ Some s → Begins ts
 viable ts s h =
     let c = completes s ts (read ts s h) in
-    let r = run_on start s _ ts c.more h c.runs in
+    let r = run_on program_start s _ ts c.more h c.runs in
     record { more = c.more; clauses = c.clauses; reads = record { reads = read (ts ++ c.more) _ r; some = c.some } }
 
 -- The tokens lead somewhere.
 pub record Leads (ts : List Token) : Type 0 where
   pub at : ProgramState
-  pub runs : run start ts ≡ Some at
+  pub runs : run program_start ts ≡ Some at
 
 -- The first tokens lead somewhere, and the others on from there.
 pub record LeadsBy (ts us : List Token) (next : ProgramState) : Type 0 where
   pub at : ProgramState
-  pub first : run start ts ≡ Some at
+  pub first : run program_start ts ≡ Some at
   pub second : run at us ≡ Some next
 
-pub leads_by : (ts us : List Token) (next : ProgramState) → run start (ts ++ us) ≡ Some next → LeadsBy ts us next
-leads_by ts us next h = go (run start ts) refl (sym (run-append ts us start) ∙ h)
+pub leads_by : (ts us : List Token) (next : ProgramState) → run program_start (ts ++ us) ≡ Some next
+    → LeadsBy ts us next
+leads_by ts us next h = go (run program_start ts) refl (sym (run-append ts us program_start) ∙ h)
   where
-    go : (o : Option ProgramState) → run start ts ≡ o → option_and_then (λ n. run n us) o ≡ Some next
+    go : (o : Option ProgramState) → run program_start ts ≡ o → option_and_then (λ n. run n us) o ≡ Some next
         → LeadsBy ts us next
     go None e k = absurd (none_some k)
     go (Some at) e k = record { at = at; first = e; second = k }
@@ -84,7 +86,8 @@ steps_run s next t h = go (step s t) refl h
     go None e k = absurd (none_some k)
     go (Some m) e k = record { next = m; steps = e }
 
-pub goes_on : (ts : List Token) (s : ProgramState) (t : Token) → run start ts ≡ Some s → Begins (ts ++ (t ∷ []))
+pub goes_on : (ts : List Token) (s : ProgramState) (t : Token) → run program_start ts ≡ Some s
+    → Begins (ts ++ (t ∷ []))
     → Steps s t
 goes_on ts s t h b =
     let l = leads (ts ++ (t ∷ [])) b in
@@ -97,10 +100,10 @@ one_step : (s next : ProgramState) (t : Token) → step s t ≡ Some next → ru
 unfolding run
 one_step s next t h = rw h refl
 
-pub begins_on : (ts : List Token) (s : ProgramState) (t : Token) → run start ts ≡ Some s → Steps s t
+pub begins_on : (ts : List Token) (s : ProgramState) (t : Token) → run program_start ts ≡ Some s → Steps s t
     → Begins (ts ++ (t ∷ []))
 begins_on ts s t h k =
-    viable (ts ++ (t ∷ [])) k.next (run_on start s k.next ts (t ∷ []) h (one_step s k.next t k.steps))
+    viable (ts ++ (t ∷ [])) k.next (run_on program_start s k.next ts (t ∷ []) h (one_step s k.next t k.steps))
 
 pub one_program : (ts : List Token) (cs ds : List ClauseForm) → ReadsProgram ts cs → ReadsProgram ts ds → cs ≡ ds
 one_program ts cs ds h k =

@@ -16,7 +16,8 @@ use Rattle.dt_lang.specs.declared.word.Word.TheVariants as word
 use Rattle.dt_lang.specs.Expression.{ReadsExpr, ReadsArgument}
 use Rattle.dt_lang.specs.ExpressionState as expression
 use Rattle.dt_lang.specs.Grammar.{ReadsKeys, ReadsTarget, ReadsConstant, ReadsBounds, by_one, stepped, call_of}
-use Rattle.dt_lang.specs.Grammar.{ReadsCall, counting, of_one, in_levels, AreFrames, ReadsStatement, tracing, of_stack}
+use Rattle.dt_lang.specs.Grammar.{ReadsCall, counting, of_one, in_levels}
+use Rattle.dt_lang.specs.Grammar.{IsFrameCount, ReadsStatement, tracing, of_stack}
 use Rattle.dt_lang.specs.Grammar.{of_ustack, exiting, aggregating, Spot, begins, ends, ReadsClauses}
 use Rattle.dt_lang.specs.Grammar as grammar
 use Rattle.dt_lang.specs.Program.{ArgForm, number, CallForm, count, lquantize, StatementForm, trace, exit, aggregate}
@@ -24,14 +25,17 @@ use Rattle.dt_lang.specs.Program.{ClauseForm}
 use Rattle.dt_lang.specs.Stand.{HeadStands, BodyStands, KeysStand, TargetStands, Slot, predicate, traced, exited, key}
 use Rattle.dt_lang.specs.Stand.{value, divides_in, SlotOpens, a_predicate, an_argument, a_status, first_key, a_key}
 use Rattle.dt_lang.specs.Stand.{a_value}
-use Rattle.dt_lang.specs.ClauseState.{BoundForm, at_lower, at_upper, at_step, Place, outside, described, listed}
+use Rattle.dt_lang.specs.ClauseState.{BoundForm, at_lower, at_upper, at_step, PlaceForm, outside, described, listed}
 use Rattle.dt_lang.specs.ClauseState.{guarded, body, called, framed, closing, named, keyed, assigned, applied, within}
-use Rattle.dt_lang.specs.ClauseState.{bounding, negating, bounded, ProgramState, state, headed, with_statement, ended}
+use Rattle.dt_lang.specs.ClauseState.{bounding, negating, bounded, ProgramState}
+use Rattle.dt_lang.specs.ClauseState.{program_at, headed, with_statement, ended}
 use Rattle.dt_lang.specs.ClauseState.{entered, from_outside, from_described, from_listed, from_guarded, from_begins}
 use Rattle.dt_lang.specs.ClauseState.{from_ends, opened, from_called, stack_of, from_framed, from_closing, from_named}
-use Rattle.dt_lang.specs.ClauseState.{from_keyed, from_assigned, given, from_applied, shut_predicate, shut_traced}
+use Rattle.dt_lang.specs.ClauseState.{from_keyed, from_assigned, function_given}
+use Rattle.dt_lang.specs.ClauseState.{from_applied, shut_predicate, shut_traced}
 use Rattle.dt_lang.specs.ClauseState.{shut_exited, shut_key, shut_levels, shut_value, shut, go_on, from_within}
-use Rattle.dt_lang.specs.ClauseState.{from_bounding, from_negating, from_bounded, step_from, step, run, start}
+use Rattle.dt_lang.specs.ClauseState.{from_bounding, from_negating, from_bounded, program_step_from}
+use Rattle.dt_lang.specs.ClauseState.{step, run, program_start}
 use Rattle.dt_lang.proofs.ExpressionLaws.{sound, sound_argument, run-append}
 use Rattle.dt_lang.proofs.Reading.{HeadRead, ListRead, GuardRead, Follows, FollowsTarget, Closing, Within, BoundsBegin}
 use Rattle.dt_lang.proofs.Reading.{Levels, Bounded, stack_action, ReadAt, Read, split_last, split_three, split_four}
@@ -134,14 +138,14 @@ sound_called cs c a ts (token.Sign sign.OpenParen) next h e =
     landed _ _ _ e (read_opened cs c _ a (follows_one _ ts _ cs c h))
 sound_called cs c a ts t next h e = absurd (none_some e)
 
-reads_stack : (process : Bool) (n : ℕ) → AreFrames n
+reads_stack : (process : Bool) (n : ℕ) → IsFrameCount n
     → ReadsStatement (token.Word (word.Action (stack_action process)) ∷ token.Sign sign.OpenParen
     ∷ token.Number (pos n)
     ∷ token.Sign sign.CloseParen ∷ []) (stack_of process n)
 reads_stack true n h = of_ustack n h
 reads_stack false n h = of_stack n h
 
-framed_closes : (cs : List ClauseForm) (c : ClauseForm) (process : Bool) (ts : List Token) (n : ℕ) → AreFrames n
+framed_closes : (cs : List ClauseForm) (c : ClauseForm) (process : Bool) (ts : List Token) (n : ℕ) → IsFrameCount n
     → Follows (token.Word (word.Action (stack_action process)) ∷ token.Sign sign.OpenParen ∷ []) ts cs c
     → Closing (ts ++ (token.Number (pos n) ∷ [])) cs c (stack_of process n)
 framed_closes cs c process ts n k h = record {
@@ -160,14 +164,14 @@ both_right : (a b : Bool) → a && b ≡ true → b ≡ true
 both_right true b e = e
 both_right false b e = cc
 
-are_frames : (n : ℕ) → leb 1 n && leb n FRAMES_MAX ≡ true → AreFrames n
+are_frames : (n : ℕ) → leb 1 n && leb n FRAMES_MAX ≡ true → IsFrameCount n
 are_frames n e =
     record { some = leb-true 1 n (both_left _ _ e); few = leb-true n FRAMES_MAX (both_right (leb 1 n) _ e) }
 
 sound_frames : (cs : List ClauseForm) (c : ClauseForm) (process : Bool) (ts : List Token) (n : ℕ) (next : ProgramState)
     (few : Bool) → leb 1 n && leb n FRAMES_MAX ≡ few
     → Follows (token.Word (word.Action (stack_action process)) ∷ token.Sign sign.OpenParen ∷ []) ts cs c
-    → (if few then Some (state cs c (closing (stack_of process n))) else None) ≡ Some next
+    → (if few then Some (program_at cs c (closing (stack_of process n))) else None) ≡ Some next
     → Read next (ts ++ (token.Number (pos n) ∷ []))
 sound_frames cs c process ts n next true k h e = landed _ _ _ e (framed_closes cs c process ts n (are_frames n k) h)
 sound_frames cs c process ts n next false k h e = absurd (none_some e)
@@ -263,7 +267,7 @@ read_given : (cs : List ClauseForm) (c : ClauseForm) (name : List ℕ) (keys : L
     (ts : List Token)
     → FollowsTarget (token.Sign sign.Equal ∷ token.Word (word.Function fn) ∷ token.Sign sign.OpenParen ∷ []) ts
     cs c name keys
-    → Read (given cs c name keys fn) ts
+    → Read (function_given cs c name keys fn) ts
 read_given cs c name keys function.Count ts h = counting_closes cs c name keys ts h
 read_given cs c name keys function.Sum ts h = value_opens cs c name keys _ ts (λ e. cc) h
 read_given cs c name keys function.Avg ts h = value_opens cs c name keys _ ts (λ e. cc) h
@@ -591,8 +595,9 @@ sound_bounded cs c name keys f (at_upper lower) z ts t next h k =
 sound_bounded cs c name keys f (at_step lower upper) z ts t next h k =
     sound_at_step cs c name keys f lower upper z ts t next h k
 
-sound_from : (cs : List ClauseForm) (c : ClauseForm) (p : Place) (ts : List Token) (t : Token) (next : ProgramState)
-    → ReadAt cs c p ts → step_from cs c p t ≡ Some next → Read next (ts ++ (t ∷ []))
+sound_from : (cs : List ClauseForm) (c : ClauseForm) (p : PlaceForm) (ts : List Token) (t : Token)
+    (next : ProgramState)
+    → ReadAt cs c p ts → program_step_from cs c p t ≡ Some next → Read next (ts ++ (t ∷ []))
 sound_from cs c outside ts t next h k = sound_outside cs ts t next h k
 sound_from cs c described ts t next h k = sound_described cs c ts t next h k
 sound_from cs c listed ts t next h k = sound_listed cs c ts t next h k
@@ -633,5 +638,5 @@ sound_run (t ∷ us) ts s next h k =
     sound_then s next (step s t) ts us t refl h k (λ m r q. sound_run us (ts ++ (t ∷ [])) m next r q)
 
 -- before the first token nothing is read
-pub starts : Read start []
+pub starts : Read program_start []
 starts = grammar.nothing

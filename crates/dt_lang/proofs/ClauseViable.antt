@@ -16,9 +16,10 @@ use Rattle.dt_lang.specs.ExpressionState.{IsRead, ends_argument}
 use Rattle.dt_lang.specs.Grammar.{Spot, begins, ends}
 use Rattle.dt_lang.specs.Program.{ArgForm, number, StatementForm, ClauseForm}
 use Rattle.dt_lang.specs.Stand.{Slot, predicate, traced, exited, key, value, divides_in, SlotOpens, a_value}
-use Rattle.dt_lang.specs.ClauseState.{BoundForm, at_lower, at_upper, at_step, Place, outside, described, listed}
+use Rattle.dt_lang.specs.ClauseState.{BoundForm, at_lower, at_upper, at_step, PlaceForm, outside, described, listed}
 use Rattle.dt_lang.specs.ClauseState.{guarded, body, called, framed, closing, named, keyed, assigned, applied, within}
-use Rattle.dt_lang.specs.ClauseState.{bounding, negating, bounded, ProgramState, state, entered, given, shut, step}
+use Rattle.dt_lang.specs.ClauseState.{bounding, negating, bounded, ProgramState, program_at}
+use Rattle.dt_lang.specs.ClauseState.{entered, function_given, shut, step}
 use Rattle.dt_lang.specs.ClauseState.{run}
 use Rattle.dt_lang.proofs.ExpressionLaws.{complete, run_beginning}
 use Rattle.dt_lang.proofs.ExpressionLaws as laws
@@ -31,7 +32,7 @@ pub record Completes (s : ProgramState) : Type 0 where
   pub more : List Token
   pub clauses : List ClauseForm
   pub clause : ClauseForm
-  pub runs : run s more ≡ Some (state clauses clause outside)
+  pub runs : run s more ≡ Some (program_at clauses clause outside)
   pub some : clauses ≢ []
 
 -- one token before
@@ -50,7 +51,7 @@ some_clauses [] c e = cc
 some_clauses (first ∷ cs) c e = cc
 
 module _ (cs : List ClauseForm) (c : ClauseForm) where
-  whole_clause : (before : ClauseForm) → Completes (state (cs ++ (c ∷ [])) before outside)
+  whole_clause : (before : ClauseForm) → Completes (program_at (cs ++ (c ∷ [])) before outside)
   unfolding run
   whole_clause before = record {
     more = [];
@@ -60,20 +61,21 @@ module _ (cs : List ClauseForm) (c : ClauseForm) where
     some = some_clauses cs c;
   }
 
-  body_completes : (spot : Spot) → Completes (state cs c (body spot))
+  body_completes : (spot : Spot) → Completes (program_at cs c (body spot))
   unfolding step
   body_completes begins = back _ _ (token.Sign sign.CloseBrace) refl (whole_clause _)
   body_completes ends = back _ _ (token.Sign sign.CloseBrace) refl (whole_clause _)
 
-closing_completes : (cs : List ClauseForm) (c : ClauseForm) (s : StatementForm) → Completes (state cs c (closing s))
+closing_completes : (cs : List ClauseForm) (c : ClauseForm) (s : StatementForm)
+    → Completes (program_at cs c (closing s))
 unfolding step
 closing_completes cs c s = back _ _ (token.Sign sign.CloseParen) refl (body_completes cs _ ends)
 
-guarded_completes : (cs : List ClauseForm) (c : ClauseForm) → Completes (state cs c guarded)
+guarded_completes : (cs : List ClauseForm) (c : ClauseForm) → Completes (program_at cs c guarded)
 unfolding step
 guarded_completes cs c = back _ _ (token.Sign sign.OpenBrace) refl (body_completes cs c begins)
 
-described_completes : (cs : List ClauseForm) (c : ClauseForm) → Completes (state cs c described)
+described_completes : (cs : List ClauseForm) (c : ClauseForm) → Completes (program_at cs c described)
 unfolding step
 described_completes cs c = back _ _ (token.Sign sign.OpenBrace) refl (body_completes cs c begins)
 
@@ -81,60 +83,61 @@ described_completes cs c = back _ _ (token.Sign sign.OpenBrace) refl (body_compl
 all_probes : Description
 all_probes = record { provider = []; «module» = []; function = []; name = [] }
 
-listed_completes : (cs : List ClauseForm) (c : ClauseForm) → Completes (state cs c listed)
+listed_completes : (cs : List ClauseForm) (c : ClauseForm) → Completes (program_at cs c listed)
 unfolding step
 listed_completes cs c = back _ _ (token.Description (Some all_probes)) refl (described_completes cs _)
 
-outside_completes : (cs : List ClauseForm) (c : ClauseForm) → Completes (state cs c outside)
+outside_completes : (cs : List ClauseForm) (c : ClauseForm) → Completes (program_at cs c outside)
 unfolding step
 outside_completes cs c = back _ _ (token.Description (Some all_probes)) refl (described_completes cs _)
 
-framed_completes : (cs : List ClauseForm) (c : ClauseForm) (process : Bool) → Completes (state cs c (framed process))
+framed_completes : (cs : List ClauseForm) (c : ClauseForm) (process : Bool)
+    → Completes (program_at cs c (framed process))
 unfolding step
 framed_completes cs c process = back _ _ (token.Number (pos 1)) refl (closing_completes cs c _)
 
 -- aggregations
 applied_completes : (cs : List ClauseForm) (c : ClauseForm) (name : List ℕ) (keys : List ArgForm)
-    → Completes (state cs c (applied name keys function.Count))
+    → Completes (program_at cs c (applied name keys function.Count))
 unfolding step
 applied_completes cs c name keys = back _ _ (token.Sign sign.OpenParen) refl (closing_completes cs c _)
 
 assigned_completes : (cs : List ClauseForm) (c : ClauseForm) (name : List ℕ) (keys : List ArgForm)
-    → Completes (state cs c (assigned name keys))
+    → Completes (program_at cs c (assigned name keys))
 unfolding step
 assigned_completes cs c name keys =
     back _ _ (token.Word (word.Function function.Count)) refl (applied_completes cs c name keys)
 
 keyed_completes : (cs : List ClauseForm) (c : ClauseForm) (name : List ℕ) (keys : List ArgForm)
-    → Completes (state cs c (keyed name keys))
+    → Completes (program_at cs c (keyed name keys))
 unfolding step
 keyed_completes cs c name keys = back _ _ (token.Sign sign.Equal) refl (assigned_completes cs c name keys)
 
-named_completes : (cs : List ClauseForm) (c : ClauseForm) (name : List ℕ) → Completes (state cs c (named name))
+named_completes : (cs : List ClauseForm) (c : ClauseForm) (name : List ℕ) → Completes (program_at cs c (named name))
 unfolding step
 named_completes cs c name = back _ _ (token.Sign sign.Equal) refl (assigned_completes cs c name [])
 
 -- bounds
 module _ (cs : List ClauseForm) (c : ClauseForm) (name : List ℕ) (keys : List ArgForm) (f : Form) where
-  upper_completes : (lower z : ℤ) → Completes (state cs c (bounded name keys f (at_upper lower) z))
+  upper_completes : (lower z : ℤ) → Completes (program_at cs c (bounded name keys f (at_upper lower) z))
   unfolding step
   upper_completes lower z = back _ _ (token.Sign sign.CloseParen) refl (body_completes cs _ ends)
 
-  next_completes : (lower : ℤ) → Completes (state cs c (bounding name keys f (at_upper lower)))
+  next_completes : (lower : ℤ) → Completes (program_at cs c (bounding name keys f (at_upper lower)))
   unfolding step
   next_completes lower = back _ _ (token.Number (pos 0)) refl (upper_completes lower (pos 0))
 
-  bounded_completes : (b : BoundForm) (z : ℤ) → Completes (state cs c (bounded name keys f b z))
+  bounded_completes : (b : BoundForm) (z : ℤ) → Completes (program_at cs c (bounded name keys f b z))
   unfolding step
   bounded_completes at_lower z = back _ _ (token.Sign sign.Comma) refl (next_completes z)
   bounded_completes (at_upper lower) z = upper_completes lower z
   bounded_completes (at_step lower upper) z = back _ _ (token.Sign sign.CloseParen) refl (body_completes cs _ ends)
 
-  bounding_completes : (b : BoundForm) → Completes (state cs c (bounding name keys f b))
+  bounding_completes : (b : BoundForm) → Completes (program_at cs c (bounding name keys f b))
   unfolding step
   bounding_completes b = back _ _ (token.Number (pos 0)) refl (bounded_completes b (pos 0))
 
-  negating_completes : (b : BoundForm) → Completes (state cs c (negating name keys f b))
+  negating_completes : (b : BoundForm) → Completes (program_at cs c (negating name keys f b))
   unfolding step
   negating_completes b = back _ _ (token.Number (pos 0)) refl (bounded_completes b _)
 
@@ -151,7 +154,7 @@ value_shuts : (cs : List ClauseForm) (c : ClauseForm) (name : List ℕ) (keys : 
 value_shuts cs c name keys function.Count f n = absurd (n refl)
 value_shuts cs c name keys function.Lquantize f n = record {
   end = token.Sign sign.Comma;
-  next = state cs c (bounding name keys f at_lower);
+  next = program_at cs c (bounding name keys f at_lower);
   ends_it = refl;
   leads = refl;
   completes = bounding_completes cs c name keys f at_lower;
@@ -202,7 +205,7 @@ slot_shuts ts cs c (value name keys fn) f h = value_shuts cs c name keys fn f (t
 
 -- what was read for a slot goes on to a whole number, and this ends
 within_completes : (cs : List ClauseForm) (c : ClauseForm) (slot : Slot) (n : ℕ) (e : expression.State)
-    (ts : List Token) → Within ts cs c slot n e → Completes (state cs c (within slot n e))
+    (ts : List Token) → Within ts cs c slot n e → Completes (program_at cs c (within slot n e))
 unfolding run
 within_completes cs c slot n e ts h =
     let v = laws.viable (divides_in slot) h.back e h.runs in
@@ -224,20 +227,21 @@ within_completes cs c slot n e ts h =
 
 -- what a word or a name leads to goes on where what its `(` leads to does
 called_completes : (cs : List ClauseForm) (c : ClauseForm) (a : Action) (ts : List Token)
-    → Read (state cs c (called a)) ts → Completes (state cs c (called a))
+    → Read (program_at cs c (called a)) ts → Completes (program_at cs c (called a))
 unfolding step
 called_completes cs c action.Trace ts h =
-    let r = sound_step (state cs c (called action.Trace)) (entered cs c traced) ts
+    let r = sound_step (program_at cs c (called action.Trace)) (entered cs c traced) ts
     (token.Sign sign.OpenParen) h refl in
     back _ _ (token.Sign sign.OpenParen) refl (within_completes cs c traced 0 _ _ r)
 called_completes cs c action.Exit ts h =
-    let r = sound_step (state cs c (called action.Exit)) (entered cs c exited) ts (token.Sign sign.OpenParen) h refl in
+    let r = sound_step (program_at cs c (called action.Exit)) (entered cs c exited) ts (token.Sign sign.OpenParen)
+    h refl in
     back _ _ (token.Sign sign.OpenParen) refl (within_completes cs c exited 0 _ _ r)
 called_completes cs c action.Stack ts h = back _ _ (token.Sign sign.OpenParen) refl (framed_completes cs c false)
 called_completes cs c action.Ustack ts h = back _ _ (token.Sign sign.OpenParen) refl (framed_completes cs c true)
 
 given_completes : (cs : List ClauseForm) (c : ClauseForm) (name : List ℕ) (keys : List ArgForm) (fn : Function)
-    (ts : List Token) → Read (given cs c name keys fn) ts → Completes (given cs c name keys fn)
+    (ts : List Token) → Read (function_given cs c name keys fn) ts → Completes (function_given cs c name keys fn)
 given_completes cs c name keys function.Count ts h = closing_completes cs c _
 given_completes cs c name keys function.Sum ts h = within_completes cs c _ 0 _ ts h
 given_completes cs c name keys function.Avg ts h = within_completes cs c _ 0 _ ts h
@@ -247,15 +251,16 @@ given_completes cs c name keys function.Quantize ts h = within_completes cs c _ 
 given_completes cs c name keys function.Lquantize ts h = within_completes cs c _ 0 _ ts h
 
 function_completes : (cs : List ClauseForm) (c : ClauseForm) (name : List ℕ) (keys : List ArgForm) (fn : Function)
-    (ts : List Token) → Read (state cs c (applied name keys fn)) ts → Completes (state cs c (applied name keys fn))
+    (ts : List Token) → Read (program_at cs c (applied name keys fn)) ts
+    → Completes (program_at cs c (applied name keys fn))
 unfolding step
 function_completes cs c name keys fn ts h =
-    let r = sound_step (state cs c (applied name keys fn)) (given cs c name keys fn) ts
+    let r = sound_step (program_at cs c (applied name keys fn)) (function_given cs c name keys fn) ts
     (token.Sign sign.OpenParen) h refl in
     back _ _ (token.Sign sign.OpenParen) refl (given_completes cs c name keys fn _ r)
 
-place_completes : (cs : List ClauseForm) (c : ClauseForm) (p : Place) (ts : List Token) → ReadAt cs c p ts
-    → Completes (state cs c p)
+place_completes : (cs : List ClauseForm) (c : ClauseForm) (p : PlaceForm) (ts : List Token) → ReadAt cs c p ts
+    → Completes (program_at cs c p)
 place_completes cs c outside ts h = outside_completes cs c
 place_completes cs c described ts h = described_completes cs c
 place_completes cs c listed ts h = listed_completes cs c

@@ -15,10 +15,10 @@ use Rattle.dt_lang.specs.ExpressionState as expression
 use Rattle.dt_lang.specs.Grammar.{begins}
 use Rattle.dt_lang.specs.Program.{ArgForm, ClauseForm}
 use Rattle.dt_lang.specs.Refused.{Cause}
-use Rattle.dt_lang.specs.ClauseState.{Place, body, assigned, within, ProgramState, step_from, step}
-use Rattle.dt_lang.specs.Cause.{is_word, names_no_variable, is_no_description, name_at, operand_at, destroys_at}
+use Rattle.dt_lang.specs.ClauseState.{PlaceForm, body, assigned, within, ProgramState, program_step_from, step}
+use Rattle.dt_lang.specs.Cause.{is_word, names_no_variable, is_no_description, name_may_stand, operand_at, destroys_at}
 use Rattle.dt_lang.specs.Cause.{too_long_at, out_of_range_at, first_cause, cause_of}
-use Rattle.dt_lang.specs.Early.{cause_of_refusal, early_elsewhere, early_within, early_at, Outcome, Answers}
+use Rattle.dt_lang.specs.Early.{cause_of_refusal, early_elsewhere, early_within, early_at, Outcome, AnswersToken}
 use Rattle.dt_lang.specs.Fits.{Fits}
 use Rattle.dt_lang.proofs.ClauseSound.{none_some}
 use Rattle.dt_lang.proofs.FitsLaws.{fits_step}
@@ -47,7 +47,8 @@ within_is true _ = refl
 
 begins_is : (cs : List ClauseForm) (c : ClauseForm) (t : Token) → early_at (body begins) t
     ≡ first_cause false (destroys_at (body begins) t) (is_no_description t)
-    (is_word t && (true && not (is_some (step_from cs c (body begins) t)))) (names_no_variable t && false) false false
+    (is_word t && (true && not (is_some (program_step_from cs c (body begins) t)))) (names_no_variable t && false)
+    false false
 begins_is cs c (token.Description None) = refl
 begins_is cs c (token.Description (Some d)) = refl
 begins_is cs c (token.Word (word.Number v)) = refl
@@ -59,7 +60,8 @@ begins_is cs c _ = refl
 assigned_is : (cs : List ClauseForm) (c : ClauseForm) (name : List ℕ) (keys : List ArgForm) (t : Token)
     → early_at (assigned name keys) t
     ≡ first_cause false None (is_no_description t)
-    (is_word t && (true && not (is_some (step_from cs c (assigned name keys) t)))) (names_no_variable t && false)
+    (is_word t && (true && not (is_some (program_step_from cs c (assigned name keys) t))))
+    (names_no_variable t && false)
     false false
 assigned_is cs c name keys (token.Description None) = refl
 assigned_is cs c name keys (token.Description (Some d)) = refl
@@ -69,9 +71,10 @@ assigned_is cs c name keys (token.Word (word.Function fn)) = refl
 assigned_is cs c name keys _ = refl
 
 -- the causes that a token shows at its place
-early_is : (cs : List ClauseForm) (c : ClauseForm) (p : Place) (t : Token) → early_at p t
+early_is : (cs : List ClauseForm) (c : ClauseForm) (p : PlaceForm) (t : Token) → early_at p t
     ≡ first_cause false (destroys_at p t) (is_no_description t)
-    (is_word t && (name_at p && not (is_some (step_from cs c p t)))) (names_no_variable t && operand_at p) false false
+    (is_word t && (name_may_stand p && not (is_some (program_step_from cs c p t))))
+    (names_no_variable t && operand_at p) false false
 early_is cs c (body begins) t = begins_is cs c t
 early_is cs c (assigned name keys) t = assigned_is cs c name keys t
 early_is cs c (within slot n e) t = within_is (expression.wants e) t
@@ -113,7 +116,7 @@ module _ (s : ProgramState) (t : Token) (short : too_long_at s.clauses s.clause 
 
   -- a token that shows a cause is refused for it
   pub answers_early : (r : Refusal) (new : ProgramState) → early_at s.place t ≡ Some (cause_of_refusal r)
-      → Answers s t (Some r) new
+      → AnswersToken s t (Some r) new
   answers_early r new e = cause_early (cause_of_refusal r) e
 
   late_is : (range : Bool) (next : Option ProgramState) → out_of_range_at s.place t ≡ range → step s t ≡ next
@@ -122,7 +125,7 @@ module _ (s : ProgramState) (t : Token) (short : too_long_at s.clauses s.clause 
 
   -- what comes of any other says the cause
   pub answers_late : (why : Option Why) (new : ProgramState) → Fits s → early_at s.place t ≡ None
-      → Outcome (step s t) (out_of_range_at s.place t) why new → Answers s t (option_map refusal.Why why) new
+      → Outcome (step s t) (out_of_range_at s.place t) why new → AnswersToken s t (option_map refusal.Why why) new
   unfolding late
   answers_late None new f e o =
       (late_is false (Some new) o.1 o.0 e, o.0, fits_step s new t f short o.0)
@@ -136,7 +139,7 @@ module _ (s : ProgramState) (t : Token) (short : too_long_at s.clauses s.clause 
 -- a token that is one too many
 pub answers_too_long : (s : ProgramState) (t : Token) (over : Bool) (new : ProgramState)
     → too_long_at s.clauses s.clause s.place t ≡ over → over ≡ true
-    → Answers s t (Some (refusal.Why why.TooLong)) new
+    → AnswersToken s t (Some (refusal.Why why.TooLong)) new
 unfolding cause_of
 answers_too_long s t over new e k = rw (e, k) refl
 
@@ -144,13 +147,14 @@ answers_too_long s t over new e k = rw (e, k) refl
 module _ (s middle : ProgramState) (t : Token) (over : Bool)
     (e : too_long_at s.clauses s.clause s.place t ≡ over) (k : over ≡ false) (same : over ≡ false → middle ≡ s) where
   pub push_early : (r : Refusal) (new : ProgramState) → Some (cause_of_refusal r) ≡ early_at middle.place t
-      → Answers s t (Some r) new
+      → AnswersToken s t (Some r) new
   push_early r new h =
       let i : early_at middle.place t ≡ early_at s.place t = ap (λ (x : ProgramState). early_at x.place t) (same k) in
       answers_early s t (e ∙ k) r new (sym i ∙ sym h)
 
   pub push_late : (w : Option Why) (new : ProgramState) → Fits s → None ≡ early_at middle.place t
-      → Outcome (step middle t) (out_of_range_at middle.place t) w new → Answers s t (option_map refusal.Why w) new
+      → Outcome (step middle t) (out_of_range_at middle.place t) w new
+      → AnswersToken s t (option_map refusal.Why w) new
   push_late w new f h o =
       let i : early_at middle.place t ≡ early_at s.place t = ap (λ (x : ProgramState). early_at x.place t) (same k) in
       let o2 : Outcome (step s t) (out_of_range_at s.place t) w new =

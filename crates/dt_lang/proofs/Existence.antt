@@ -11,9 +11,9 @@ use Rattle.dt_lang.specs.Description.{DescForm, form_of_description, ReadsDescri
 use Rattle.dt_lang.specs.declared.description.Description.{Description}
 use Rattle.dt_lang.specs.Class.{is_word_byte, is_text_byte, is_description_byte}
 use Rattle.dt_lang.specs.Number.{IsNumber, IsDecimal, IsOctal, IsHexadecimal}
-use Rattle.dt_lang.specs.Piece.{start_of, identifier_at, NumberOf, text_of, aggregation_of, BeginsWith, FindsSign}
+use Rattle.dt_lang.specs.Piece.{start_of, identifier_at, NumberOf, text_piece, aggregation_read, BeginsWith, FindsSign}
 use Rattle.dt_lang.specs.Piece.{FindsAs, FindsInBody, head_sign, FindsRun, FindsInHead, FindsInMode, FindsUncommented}
-use Rattle.dt_lang.specs.Piece.{Finds, opens_comment}
+use Rattle.dt_lang.specs.Piece.{FindsPiece, opens_comment}
 use Rattle.dt_lang.specs.Spelling.{spelling}
 use Rattle.dt_lang.specs.Word.{name_of_word, IsWord}
 use Rattle.dt_lang.specs.declared.mode.Mode.{Mode}
@@ -219,8 +219,8 @@ some_as start.Letter text =
     let word = some_word (identifier_at text) in
     (piece.Token (token.Word word.0) (length (identifier_at text)), (word.0, word.1, refl))
 some_as start.Digit text = number_found (take_while is_word_byte text) (some_number (take_while is_word_byte text))
-some_as start.Quote text = (text_of (take_while is_text_byte (drop 1 text)) (drop 1 text), refl)
-some_as start.At text = (aggregation_of (identifier_at (drop 1 text)), refl)
+some_as start.Quote text = (text_piece (take_while is_text_byte (drop 1 text)) (drop 1 text), refl)
+some_as start.At text = (aggregation_read (identifier_at (drop 1 text)), refl)
 some_as start.Other text = some_sign text
 
 some_in_body : (text : List ℕ) → (found : Piece) × FindsInBody text found
@@ -258,6 +258,6 @@ module _ (some_description : (text : List ℕ) → (reading : Option DescForm) �
   some_uncommented true m text = (piece.Stray, refl)
   some_uncommented false m text = some_in_mode m text
 
-  pub some_piece : (m : Mode) (text : List ℕ) → (found : Piece) × Finds m text found
+  pub some_piece : (m : Mode) (text : List ℕ) → (found : Piece) × FindsPiece m text found
   some_piece m [] = (piece.End, refl)
   some_piece m (byte ∷ rest) = some_uncommented (opens_comment (byte ∷ rest)) m (byte ∷ rest)

@@ -10,7 +10,7 @@ use Rattle.dt_lang.specs.declared.token.Sign.{Sign}
 use Rattle.dt_lang.specs.declared.token.Sign.TheVariants as sign
 use Rattle.dt_lang.specs.declared.token.Token.{Token}
 use Rattle.dt_lang.specs.declared.token.Token.TheVariants as token
-use Rattle.dt_lang.specs.Expression.{binding, OPERAND, comparison_of, EQUALITY, text_of, IsOperator, ReadsExpr}
+use Rattle.dt_lang.specs.Expression.{binding, OPERAND, comparison_of, EQUALITY, text_token, IsOperator, ReadsExpr}
 use Rattle.dt_lang.specs.Expression.{a_number, a_variable, prefixed, grouped, compared, looser, joined}
 use Rattle.dt_lang.specs.ExpressionState.{FrameForm, opened, before, after, nothing, whole, lone, compares, level_next}
 use Rattle.dt_lang.specs.ExpressionState.{Closed, close, state, wait, leave, step, run}
@@ -74,7 +74,7 @@ arrives_grouped divides frames ts f a = record {
 }
 
 arrives_compared : (divides : Bool) (frames : List FrameForm) (s : Sign) (op : TextOp) (left right : Token)
-    (a b : Text) → comparison_of s ≡ Some op → text_of left ≡ Some a → text_of right ≡ Some b
+    (a b : Text) → comparison_of s ≡ Some op → text_token left ≡ Some a → text_token right ≡ Some b
     → level_next frames ≤ EQUALITY → Arrives divides frames EQUALITY (Compared op a b)
     (left ∷ token.Sign s ∷ right ∷ [])
 unfolding step

@@ -41,7 +41,8 @@ use Rattle.dt_lang.specs.declared.token.Sign.TheVariants as sign
 use Rattle.dt_lang.specs.declared.token.Token.{Token}
 use Rattle.dt_lang.specs.declared.token.Token.TheVariants as token
 use Rattle.dt_lang.specs.declared.word.Word.TheVariants as word
-use Rattle.dt_lang.specs.Expression.{BeginsExpr, OPERAND, EQUALITY, text_of, comparison_of, ReadsExpr, ReadsArgument}
+use Rattle.dt_lang.specs.Expression.{BeginsExpr, OPERAND, EQUALITY, text_token}
+use Rattle.dt_lang.specs.Expression.{comparison_of, ReadsExpr, ReadsArgument}
 use Rattle.dt_lang.specs.Expression.{a_text, an_expression}
 use Rattle.dt_lang.specs.ExpressionState.{IsRead, IsReadBy, IsOneText, RunsBy, is_operand, FrameForm, opened, before}
 use Rattle.dt_lang.specs.ExpressionState.{after, HandForm, nothing, whole, lone, compares, State, level_next, Closed}
@@ -294,7 +295,7 @@ no_foreign_comparison sign.EqualEqual h = cc
 no_foreign_comparison sign.BangEqual h = cc
 no_foreign_comparison _ h = refl
 
-no_foreign_text : (t : Token) → is_foreign t ≡ true → text_of t ≡ None
+no_foreign_text : (t : Token) → is_foreign t ≡ true → text_token t ≡ None
 no_foreign_text (token.Text bytes) h = cc
 no_foreign_text (token.Word (word.Text v)) h = cc
 no_foreign_text _ h = refl
@@ -334,7 +335,7 @@ is_some_if : (b : Bool) (s : State) → is_some (if b then Some s else None) ≡
 is_some_if true s = refl
 is_some_if false s = refl
 
-text_from : (divides : Bool) (frames : List FrameForm) (hand : HandForm) (t : Token) (a : Text) → text_of t ≡ Some a
+text_from : (divides : Bool) (frames : List FrameForm) (hand : HandForm) (t : Token) (a : Text) → text_token t ≡ Some a
     → is_some (step_from divides frames hand t) ≡ takes_text_at frames hand
 text_from divides frames nothing (token.Text bytes) a h = is_some_if (leb (level_next frames) EQUALITY) _
 text_from divides frames nothing (token.Word (word.Text v)) a h = is_some_if (leb (level_next frames) EQUALITY) _
@@ -346,7 +347,7 @@ text_from divides frames (lone b) (token.Text bytes) a h = refl
 text_from divides frames (lone b) (token.Word (word.Text v)) a h = refl
 text_from divides frames _ _ a h = cc
 
-pub text_goes_on : (s : State) (t : Token) (a : Text) → text_of t ≡ Some a → is_some (step s t) ≡ takes_text s
+pub text_goes_on : (s : State) (t : Token) (a : Text) → text_token t ≡ Some a → is_some (step s t) ≡ takes_text s
 unfolding step
 text_goes_on s t a h = text_from s.divides s.frames s.hand t a h
 

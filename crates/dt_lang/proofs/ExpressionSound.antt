@@ -12,7 +12,7 @@ use Rattle.dt_lang.specs.declared.token.Sign.TheVariants as sign
 use Rattle.dt_lang.specs.declared.token.Token.{Token}
 use Rattle.dt_lang.specs.declared.token.Token.TheVariants as token
 use Rattle.dt_lang.specs.declared.word.Word.TheVariants as word
-use Rattle.dt_lang.specs.Expression.{prefix_of, binding, OPERAND, comparison_of, EQUALITY, text_of, IsOperator}
+use Rattle.dt_lang.specs.Expression.{prefix_of, binding, OPERAND, comparison_of, EQUALITY, text_token, IsOperator}
 use Rattle.dt_lang.specs.Expression.{ReadsExpr, a_number, a_variable, prefixed, grouped, compared, looser, joined}
 use Rattle.dt_lang.specs.ExpressionState.{FrameForm, opened, before, after, HandForm, nothing, whole, lone, compares}
 use Rattle.dt_lang.specs.ExpressionState.{State, level_next, Closed, close, state, start, begin_sign, begin_text}
@@ -50,7 +50,7 @@ pub record HoldsText (outer divides : Bool) (frames : List FrameForm) (a : Text)
   pub t : Token
   pub waits : Waits outer divides frames front
   pub loose : level_next frames ≤ EQUALITY
-  pub is_text : text_of t ≡ Some a
+  pub is_text : text_token t ≡ Some a
   pub tokens : ts ≡ front ++ (t ∷ [])
 
 pub record HoldsCompare (outer divides : Bool) (frames : List FrameForm) (op : TextOp) (a : Text) (ts : List Token)
@@ -60,7 +60,7 @@ pub record HoldsCompare (outer divides : Bool) (frames : List FrameForm) (op : T
   pub s : Sign
   pub waits : Waits outer divides frames front
   pub loose : level_next frames ≤ EQUALITY
-  pub is_text : text_of t ≡ Some a
+  pub is_text : text_token t ≡ Some a
   pub is_comparison : comparison_of s ≡ Some op
   pub tokens : ts ≡ front ++ (t ∷ token.Sign s ∷ [])
 
@@ -176,7 +176,8 @@ abbrev pub Leads : (outer : Bool) → List Token → Option State → Type 0
 Leads outer ts next = IfSome next (Reaches outer ts)
 
 begin_text_holds : (outer divides : Bool) (frames : List FrameForm) (t : Token) (a : Text) (ts : List Token)
-    → text_of t ≡ Some a → Waits outer divides frames ts → Leads outer (ts ++ (t ∷ [])) (begin_text divides frames a)
+    → text_token t ≡ Some a → Waits outer divides frames ts
+    → Leads outer (ts ++ (t ∷ [])) (begin_text divides frames a)
 begin_text_holds outer divides frames t a ts h w = go (leb (level_next frames) EQUALITY) refl
   where
     go : (x : Bool) → leb (level_next frames) EQUALITY ≡ x
@@ -304,10 +305,10 @@ compare_holds outer divides frames a _ ts h = tt
 second_holds : (outer divides : Bool) (frames : List FrameForm) (op : TextOp) (a : Text) (t : Token) (ts : List Token)
     → HoldsCompare outer divides frames op a ts
     → Leads outer (ts ++ (t ∷ []))
-    (option_map (λ b. state divides frames (whole EQUALITY (Compared op a b))) (text_of t))
-second_holds outer divides frames op a t ts h = go (text_of t) refl
+    (option_map (λ b. state divides frames (whole EQUALITY (Compared op a b))) (text_token t))
+second_holds outer divides frames op a t ts h = go (text_token t) refl
   where
-    go : (o : Option Text) → text_of t ≡ o
+    go : (o : Option Text) → text_token t ≡ o
         → Leads outer (ts ++ (t ∷ [])) (option_map (λ b. state divides frames (whole EQUALITY (Compared op a b))) o)
     go None q = tt
     go (Some b) q = record {

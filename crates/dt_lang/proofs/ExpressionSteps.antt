@@ -12,7 +12,7 @@ use Rattle.dt_lang.specs.declared.token.Sign.TheVariants as sign
 use Rattle.dt_lang.specs.declared.token.Token.{Token}
 use Rattle.dt_lang.specs.declared.token.Token.TheVariants as token
 use Rattle.dt_lang.specs.declared.word.Word.TheVariants as word
-use Rattle.dt_lang.specs.Expression.{prefix_of, binding, OPERAND, text_of, IsOperator}
+use Rattle.dt_lang.specs.Expression.{prefix_of, binding, OPERAND, text_token, IsOperator}
 use Rattle.dt_lang.specs.ExpressionState.{FrameForm, opened, before, after, nothing, whole, State, level_next, binds}
 use Rattle.dt_lang.specs.ExpressionState.{around, close, state, begin_text, operator_in, wait, join, leave, step, run}
 
@@ -76,7 +76,7 @@ unfolding step
 begins_sign divides frames sign.OpenParen op h = cc
 begins_sign divides frames s op h = ap (option_map (λ (o : UnaryOp). state divides (before o ∷ frames) nothing)) h
 
-pub begins_text : (divides : Bool) (frames : List FrameForm) (t : Token) (a : Text) → text_of t ≡ Some a
+pub begins_text : (divides : Bool) (frames : List FrameForm) (t : Token) (a : Text) → text_token t ≡ Some a
     → step (state divides frames nothing) t ≡ begin_text divides frames a
 unfolding step
 begins_text divides frames (token.Text bytes) a h = ap (begin_text divides frames) (cc)

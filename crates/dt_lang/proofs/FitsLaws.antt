@@ -18,15 +18,17 @@ use Rattle.dt_lang.specs.ExpressionState as expression
 use Rattle.dt_lang.specs.Grammar.{call_of, begins, ends}
 use Rattle.dt_lang.specs.Program.{ArgForm, number, CallForm, StatementForm, aggregate, ClauseForm}
 use Rattle.dt_lang.specs.Stand.{Slot, predicate, traced, exited, key, value}
-use Rattle.dt_lang.specs.ClauseState.{BoundForm, at_lower, at_upper, at_step, Place, outside, described, listed}
+use Rattle.dt_lang.specs.ClauseState.{BoundForm, at_lower, at_upper, at_step, PlaceForm, outside, described, listed}
 use Rattle.dt_lang.specs.ClauseState.{guarded, body, called, framed, closing, named, keyed, assigned, applied, within}
-use Rattle.dt_lang.specs.ClauseState.{bounding, negating, bounded, ProgramState, state, ended, entered, from_outside}
+use Rattle.dt_lang.specs.ClauseState.{bounding, negating, bounded, ProgramState}
+use Rattle.dt_lang.specs.ClauseState.{program_at, ended, entered, from_outside}
 use Rattle.dt_lang.specs.ClauseState.{from_described, from_listed, from_guarded, from_begins, from_ends, opened}
 use Rattle.dt_lang.specs.ClauseState.{from_called, stack_of, from_framed, from_closing, from_named, from_keyed}
-use Rattle.dt_lang.specs.ClauseState.{from_assigned, given, from_applied, shut_predicate, shut_traced, shut_exited}
+use Rattle.dt_lang.specs.ClauseState.{from_assigned, function_given, from_applied}
+use Rattle.dt_lang.specs.ClauseState.{shut_predicate, shut_traced, shut_exited}
 use Rattle.dt_lang.specs.ClauseState.{shut_key, shut_levels, shut_value, shut, go_on, from_within, from_bounding}
-use Rattle.dt_lang.specs.ClauseState.{from_negating, from_bounded, step_from, step}
-use Rattle.dt_lang.specs.Cause.{takes, full, too_long_at}
+use Rattle.dt_lang.specs.ClauseState.{from_negating, from_bounded, program_step_from, step}
+use Rattle.dt_lang.specs.Cause.{takes_token, full, too_long_at}
 use Rattle.dt_lang.specs.Fits.{FitsClause, FitsStatement, FitsTarget, FitsKey, FitsSlot, FitsWithin, FitsAt, Fits}
 use Rattle.dt_lang.proofs.ClauseSound.{none_some, same_some}
 use Rattle.dt_lang.proofs.TakesLaws.{or_left}
@@ -111,7 +113,7 @@ module _ (cs : List ClauseForm) (c : ClauseForm) where
   fits_called a _ next h e = absurd (none_some e)
 
   fits_frames : (process : Bool) (n : ℕ) (few : Bool) (next : ProgramState) → FitsStatement cs c
-      → (if few then Some (state cs c (closing (stack_of process n))) else None) ≡ Some next → Fits next
+      → (if few then Some (program_at cs c (closing (stack_of process n))) else None) ≡ Some next → Fits next
   fits_frames process n true next h e = landed _ _ e h
   fits_frames process n false next h e = absurd (none_some e)
 
@@ -148,7 +150,7 @@ module _ (cs : List ClauseForm) (c : ClauseForm) where
   fits_assigned name keys _ next h e = absurd (none_some e)
 
   fits_given : (name : List ℕ) (keys : List ArgForm) (fn : Function) → FitsTarget cs c keys
-      → Fits (given cs c name keys fn)
+      → Fits (function_given cs c name keys fn)
   fits_given name keys function.Count h = h.statement
   fits_given name keys function.Sum h = record { fits = h; few = omega arith }
   fits_given name keys function.Avg h = record { fits = h; few = omega arith }
@@ -256,15 +258,15 @@ module _ (cs : List ClauseForm) (c : ClauseForm) where
 
   fits_go_on : (slot : Slot) (n : ℕ) (x : expression.State) (t : Token) (next : ProgramState)
       (o : Option expression.State) → expression.step x t ≡ o → FitsWithin cs c slot n x
-      → full slot n && takes x t ≡ false → go_on cs c slot n x t o ≡ Some next → Fits next
+      → full slot n && takes_token x t ≡ false → go_on cs c slot n x t o ≡ Some next → Fits next
   fits_go_on slot n x t next (Some m) k h l e =
-      let i : takes x t ≡ true = or_left (is_some (expression.step x t)) _ (ap is_some k) in
+      let i : takes_token x t ≡ true = or_left (is_some (expression.step x t)) _ (ap is_some k) in
       let j : full slot n ≡ false = left_false (full slot n) (rw i at l) in
       landed _ _ e (record { fits = fits_more_of slot n x m h.fits j; few = few_more slot n j })
   fits_go_on slot n x t next None k h l e = fits_done slot n x t next (expression.done x) refl h.fits e
 
   fits_within : (slot : Slot) (n : ℕ) (x : expression.State) (t : Token) (next : ProgramState)
-      → FitsWithin cs c slot n x → full slot n && takes x t ≡ false → from_within cs c slot n x t
+      → FitsWithin cs c slot n x → full slot n && takes_token x t ≡ false → from_within cs c slot n x t
       ≡ Some next → Fits next
   fits_within slot n x t next h l e = fits_go_on slot n x t next (expression.step x t) refl h l e
 
@@ -288,8 +290,8 @@ module _ (cs : List ClauseForm) (c : ClauseForm) where
     fits_bounded (at_step lower upper) z (token.Sign sign.CloseParen) next e = landed _ _ e (fits_ended _ h.statement)
     fits_bounded _ z _ next e = absurd (none_some e)
 
-  fits_from : (p : Place) (t : Token) (next : ProgramState) → FitsAt cs c p → too_long_at cs c p t ≡ false
-      → step_from cs c p t ≡ Some next → Fits next
+  fits_from : (p : PlaceForm) (t : Token) (next : ProgramState) → FitsAt cs c p → too_long_at cs c p t ≡ false
+      → program_step_from cs c p t ≡ Some next → Fits next
   fits_from outside t next h l e = fits_outside cs t next c l e
   fits_from described t next h l e = fits_described t next h e
   fits_from listed t next h l e = fits_listed t next h l e

@@ -7,9 +7,9 @@ use Rattle.std.specs.List.{AllPass}
 use Rattle.std.specs.Str.Parse.{AllDigits}
 use Rattle.dt_names.specs.declared.short_text.TheConstants.{SHORT_TEXT_MAX}
 use Rattle.dt_lang.specs.Class.{is_word_byte, is_text_byte}
-use Rattle.dt_lang.specs.Lexeme.{IsIdentifier, IsName, OPENING, IsBodyPiece}
+use Rattle.dt_lang.specs.Lexeme.{IsIdentifier, IsAggregationName, OPENING, IsBodyPiece}
 use Rattle.dt_lang.specs.Number.{IsNumber, IsDecimal, IsOctal}
-use Rattle.dt_lang.specs.Piece.{start_of, NumberOf, aggregation_of}
+use Rattle.dt_lang.specs.Piece.{start_of, NumberOf, aggregation_read}
 use Rattle.dt_lang.specs.Spelling.{spelling}
 use Rattle.dt_lang.specs.Word.{IsWord}
 use Rattle.dt_lang.specs.declared.piece.Piece.{Piece}
@@ -44,7 +44,7 @@ Fits start.Digit bytes found = AllPass is_word_byte bytes × NumberOf bytes foun
 Fits start.Quote bytes found =
     (inside : List ℕ) × AllPass is_text_byte inside × (Closed bytes inside found ⊎ Open bytes inside found)
 Fits start.At bytes found =
-    (name : List ℕ) × (bytes ≡ 64 ∷ name) × IsName name × (found ≡ aggregation_of name)
+    (name : List ℕ) × (bytes ≡ 64 ∷ name) × IsAggregationName name × (found ≡ aggregation_read name)
 Fits start.Other bytes found =
     ((s : Sign) × (bytes ≡ spelling s) × (found ≡ piece.Token (token.Sign s) (length bytes)))
     ⊎ ((bytes ≡ OPENING) × (found ≡ piece.Stray))
@@ -140,12 +140,12 @@ is_long : (n m : ℕ) → m < n → ltb m n ≡ true
 is_long n m h = grind (arith, nat_tests)
 
 pub short_aggregation : (name : List ℕ) → length name ≤ SHORT_TEXT_MAX
-    → aggregation_of name ≡ piece.Token (token.Aggregation name) (length name + 1)
+    → aggregation_read name ≡ piece.Token (token.Aggregation name) (length name + 1)
 short_aggregation name h =
     ap (λ b. cond b piece.Overlong (piece.Token (token.Aggregation name) (length name + 1)))
     (not_long (length name) SHORT_TEXT_MAX h)
 
-pub long_aggregation : (name : List ℕ) → SHORT_TEXT_MAX < length name → aggregation_of name ≡ piece.Overlong
+pub long_aggregation : (name : List ℕ) → SHORT_TEXT_MAX < length name → aggregation_read name ≡ piece.Overlong
 long_aggregation name h =
     ap (λ b. cond b piece.Overlong (piece.Token (token.Aggregation name) (length name + 1)))
     (is_long (length name) SHORT_TEXT_MAX h)

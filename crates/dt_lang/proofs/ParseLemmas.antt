@@ -10,8 +10,8 @@ use Rattle.dt_lang.specs.declared.lexer.Lexeme.TheVariants as lexeme
 use Rattle.dt_lang.specs.declared.mode.Mode.{Mode}
 use Rattle.dt_lang.specs.declared.program.Program.{Program}
 use Rattle.dt_lang.specs.declared.token.Token.{Token}
-use Rattle.dt_lang.specs.ClauseState.{ProgramState, start, finished}
-use Rattle.dt_lang.specs.Early.{Answers}
+use Rattle.dt_lang.specs.ClauseState.{ProgramState, program_start, finished}
+use Rattle.dt_lang.specs.Early.{AnswersToken}
 use Rattle.dt_lang.specs.Fault.{fault_at}
 use Rattle.dt_lang.specs.Fits.{Fits}
 use Rattle.dt_lang.specs.Lexeme.{Lexes, LiesWithin}
@@ -29,12 +29,12 @@ pub record SoFar (text : List ℕ) (mode : Mode) (from : ℕ) (s : ProgramState)
   pub fits : Fits s
   pub within : from ≤ length text
 
-pub so_far_first : (text : List ℕ) → SoFar text Head 0 start
+pub so_far_first : (text : List ℕ) → SoFar text Head 0 program_start
 so_far_first text = record { tokens = []; going = going_first text; fits = omega arith; within = omega arith }
 
 module _ (text : List ℕ) (mode : Mode) (from : ℕ) (s : ProgramState) (h : SoFar text mode from s) where
   pub so_far_on : (t : Token) (at to : ℕ) (new : ProgramState) → Lexes text mode from (lexeme.Token at t to)
-      → LiesWithin from (lexeme.Token at t to) (length text) → Answers s t None new
+      → LiesWithin from (lexeme.Token at t to) (length text) → AnswersToken s t None new
       → SoFar text (mode_after mode t) to new
   so_far_on t at to new l w a = record {
     tokens = h.tokens ++ (t ∷ []);
@@ -44,7 +44,8 @@ module _ (text : List ℕ) (mode : Mode) (from : ℕ) (s : ProgramState) (h : So
   }
 
   pub so_far_refused : (t : Token) (at to : ℕ) (r : Refusal) (new : ProgramState)
-      → Lexes text mode from (lexeme.Token at t to) → Answers s t (Some r) new → Answered text (Err (fault_at at r))
+      → Lexes text mode from (lexeme.Token at t to) → AnswersToken s t (Some r) new
+      → Answered text (Err (fault_at at r))
   so_far_refused t at to (refusal.Why why) new l a = refused_at text mode h.tokens from s h.going t at to _ l a
   so_far_refused t at to (refusal.Destructive what) new l a =
       refused_at text mode h.tokens from s h.going t at to _ l a
@@ -70,6 +71,6 @@ module _ (text : List ℕ) (mode : Mode) (from : ℕ) (s : ProgramState) (h : So
   so_far_end at None l e = so_far_early at l e
 
 -- what was answered of a token
-pub answers_is : (s new : ProgramState) (t : Token) (v w : Option Refusal) → v ≡ w → Answers s t v new
-    → Answers s t w new
-answers_is s new t v w e a = subst (λ (x : Option Refusal). Answers s t x new) e a
+pub answers_is : (s new : ProgramState) (t : Token) (v w : Option Refusal) → v ≡ w → AnswersToken s t v new
+    → AnswersToken s t w new
+answers_is s new t v w e a = subst (λ (x : Option Refusal). AnswersToken s t x new) e a

@@ -8,7 +8,7 @@ use Rattle.dt_lang.specs.Description.{DescForm, form_of_description, DescribesPa
 use Rattle.dt_lang.specs.declared.description.Description.{Description}
 use Rattle.dt_lang.specs.Class.{is_description_byte}
 use Rattle.dt_lang.specs.Piece.{FindsRun, FindsInHead, FindsInBody, FindsInMode, FindsUncommented, opens_comment}
-use Rattle.dt_lang.specs.Piece.{Finds}
+use Rattle.dt_lang.specs.Piece.{FindsPiece}
 use Rattle.dt_lang.specs.declared.mode.Mode.{Mode}
 use Rattle.dt_lang.specs.declared.mode.Mode.TheVariants as mode
 use Rattle.dt_lang.specs.declared.piece.Piece.{Piece}
@@ -38,12 +38,12 @@ described text run d is some found none =
 
 -- what stands where there is more, and no comment begins
 pub finds : (m : Mode) (text : List ℕ) (found : Piece) → eqb (length text) 0 ≡ false → opens_comment text ≡ false
-    → FindsInMode m text found → Finds m text found
+    → FindsInMode m text found → FindsPiece m text found
 finds m [] found some shut h = absurd (false≢true (sym some))
 finds m (byte ∷ rest) found some shut h = subst (λ o. FindsUncommented o m (byte ∷ rest) found) (sym shut) h
 
 pub commented : (m : Mode) (text : List ℕ) → eqb (length text) 0 ≡ false → opens_comment text ≡ true
-    → Finds m text piece.Stray
+    → FindsPiece m text piece.Stray
 commented m [] some begun = absurd (false≢true (sym some))
 commented m (byte ∷ rest) some begun =
     subst (λ o. FindsUncommented o m (byte ∷ rest) piece.Stray) (sym begun) refl

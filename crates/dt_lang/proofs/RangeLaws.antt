@@ -14,8 +14,9 @@ use Rattle.dt_lang.specs.Grammar.{ReadsConstant, plain, negative, ReadsBounds, b
 use Rattle.dt_lang.specs.Program.{ArgForm, number, ClauseForm}
 use Rattle.dt_lang.specs.Stand.{value}
 use Rattle.dt_lang.specs.Refused.{IsOutOfRange}
-use Rattle.dt_lang.specs.ClauseState.{BoundForm, at_lower, at_upper, at_step, Place, bounding, bounded, ProgramState}
-use Rattle.dt_lang.specs.ClauseState.{state, entered, step, run, start}
+use Rattle.dt_lang.specs.ClauseState.{BoundForm, at_lower, at_upper, at_step}
+use Rattle.dt_lang.specs.ClauseState.{PlaceForm, bounding, bounded, ProgramState}
+use Rattle.dt_lang.specs.ClauseState.{program_at, entered, step, run, program_start}
 use Rattle.dt_lang.specs.Cause.{are_bounds, no_levels, out_of_range_at}
 use Rattle.dt_lang.specs.ExpressionState.{IsRead}
 use Rattle.dt_lang.proofs.ExpressionLaws.{complete}
@@ -118,7 +119,8 @@ bounded_out_at : (ts : List Token) (cs : List ClauseForm) (c : ClauseForm) (name
 bounded_out_at ts cs c name keys f b z (token.Sign sign.CloseParen) h e = bounded_out ts cs c name keys f b z h e
 bounded_out_at ts cs c name keys f b z t h e = cc
 
-out_of_range_is : (ts : List Token) (cs : List ClauseForm) (c : ClauseForm) (p : Place) (t : Token) → ReadAt cs c p ts
+out_of_range_is : (ts : List Token) (cs : List ClauseForm) (c : ClauseForm) (p : PlaceForm) (t : Token)
+    → ReadAt cs c p ts
     → out_of_range_at p t ≡ true → IsOutOfRange ts t
 out_of_range_is ts cs c (bounded name keys f b z) t h e = bounded_out_at ts cs c name keys f b z t h e
 out_of_range_is ts cs c _ t h e = cc
@@ -130,11 +132,11 @@ pub record BoundsLead (cs : List ClauseForm) (c : ClauseForm) (name : List ℕ) 
   pub last : ℤ
   pub levels : no_levels bound last ≡ not (are_bounds lower upper by)
   pub runs : run (entered cs c (value name keys function.Lquantize)) ts
-      ≡ Some (state cs c (bounded name keys f bound last))
+      ≡ Some (program_at cs c (bounded name keys f bound last))
 
 constant_lead : (cs : List ClauseForm) (c : ClauseForm) (name : List ℕ) (keys : List ArgForm) (f : Form)
     (b : BoundForm) (ts : List Token) (z : ℤ) → ReadsConstant ts z
-    → run (state cs c (bounding name keys f b)) ts ≡ Some (state cs c (bounded name keys f b z))
+    → run (program_at cs c (bounding name keys f b)) ts ≡ Some (program_at cs c (bounded name keys f b z))
 unfolding run step
 constant_lead cs c name keys f b _ _ (plain n) = refl
 constant_lead cs c name keys f b _ _ (negative n) = refl
@@ -161,20 +163,22 @@ bounds_lead cs c name keys f ts _ _ _ _ r (stepped vs ws xs lower upper by h k l
       ∙ constant_lead cs c name keys f (at_step lower upper) xs by l;
 }
 
-out_of_range_true : (ts : List Token) (t : Token) (s : ProgramState) → run start ts ≡ Some s → IsOutOfRange ts t
+out_of_range_true : (ts : List Token) (t : Token) (s : ProgramState) → run program_start ts ≡ Some s
+    → IsOutOfRange ts t
     → out_of_range_at s.place t ≡ true
 out_of_range_true ts t s h k =
     let r = complete true k.expression k.form k.reads in
     let l = bounds_lead k.clauses k.clause k.name k.keys k.form k.expression k.bounds k.lower k.upper k.step r
     k.reads_bounds in
     let first = slot_leads (value k.name k.keys function.Lquantize) k.front k.clauses k.clause k.opens in
-    let all : run start ts ≡ Some (state k.clauses k.clause (bounded k.name k.keys k.form l.bound l.last))
+    let all : run program_start ts ≡ Some (program_at k.clauses k.clause (bounded k.name k.keys k.form l.bound l.last))
     = rw k.split (run_on _ _ _ k.front (k.expression ++ k.bounds) first l.runs) in
-    let same : state k.clauses k.clause (bounded k.name k.keys k.form l.bound l.last) ≡ s = same_some (sym all ∙ h) in
+    let same : program_at k.clauses k.clause (bounded k.name k.keys k.form l.bound l.last)
+    ≡ s = same_some (sym all ∙ h) in
     let there : no_levels l.bound l.last ≡ true = l.levels ∙ bounds_wrong k.lower k.upper k.step k.wrong in
     rw k.ends (subst (λ (x : ProgramState). out_of_range_at x.place (token.Sign sign.CloseParen) ≡ true) same there)
 
-pub out_of_range_decides : (ts : List Token) (t : Token) (s : ProgramState) → run start ts ≡ Some s
+pub out_of_range_decides : (ts : List Token) (t : Token) (s : ProgramState) → run program_start ts ≡ Some s
     → Decides (out_of_range_at s.place t) (IsOutOfRange ts t)
 out_of_range_decides ts t s h =
     (λ e. out_of_range_is ts s.clauses s.clause s.place t (read ts s h) e, λ k. out_of_range_true ts t s h k)

@@ -19,7 +19,7 @@ use Rattle.dt_lang.specs.Grammar.{ReadsBody, nothing, stated, separated, ReadsCl
 use Rattle.dt_lang.specs.Grammar as grammar
 use Rattle.dt_lang.specs.Program.{ArgForm, StatementForm, ClauseForm}
 use Rattle.dt_lang.specs.Stand.{HeadStands, BodyStands, TargetStands, Slot, value, divides_in, SlotOpens}
-use Rattle.dt_lang.specs.ClauseState.{BoundForm, at_lower, at_upper, at_step, Place, headed, with_description}
+use Rattle.dt_lang.specs.ClauseState.{BoundForm, at_lower, at_upper, at_step, PlaceForm, headed, with_description}
 use Rattle.dt_lang.specs.ClauseState.{with_statement}
 use Rattle.dt_lang.specs.ClauseState as place
 
@@ -108,7 +108,7 @@ stack_action true = action.Ustack
 stack_action false = action.Stack
 
 -- the tokens that were read
-abbrev pub ReadAt : List ClauseForm → ClauseForm → Place → List Token → Type 0
+abbrev pub ReadAt : List ClauseForm → ClauseForm → PlaceForm → List Token → Type 0
 ReadAt cs c place.outside ts = ReadsClauses ts cs
 ReadAt cs c place.described ts = HeadRead ts cs c
 ReadAt cs c place.listed ts = ListRead ts cs c

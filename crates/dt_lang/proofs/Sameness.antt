@@ -12,7 +12,7 @@ use Rattle.dt_lang.specs.declared.description.Description.{Description}
 use Rattle.dt_lang.specs.Class.{is_text_byte, is_description_byte}
 use Rattle.dt_lang.specs.Lexeme.{IsBodyPiece, IsHeadPiece, IsPiece, Stands}
 use Rattle.dt_lang.specs.Number.{IsNumber, IsDecimal, IsOctal, IsHexadecimal}
-use Rattle.dt_lang.specs.Piece.{start_of, NumberOf, aggregation_of}
+use Rattle.dt_lang.specs.Piece.{start_of, NumberOf, aggregation_read}
 use Rattle.dt_lang.specs.declared.mode.Mode.{Mode}
 use Rattle.dt_lang.specs.declared.mode.Mode.TheVariants as mode
 use Rattle.dt_lang.specs.declared.piece.Piece.{Piece}
@@ -138,7 +138,7 @@ same_fits start.Letter bytes f g (p, (w, isw, e)) (q, (v, isv, d)) =
 same_fits start.Digit bytes f g (p, h) (q, k) = same_number bytes f g h k
 same_fits start.Quote bytes f g (a, p, h) (b, q, k) = same_text bytes a b f g p q h k
 same_fits start.At bytes f g (a, cut, p, e) (b, also, q, d) =
-    e ∙ ap aggregation_of (tails 64 64 a b (sym cut ∙ also)).1 ∙ sym d
+    e ∙ ap aggregation_read (tails 64 64 a b (sym cut ∙ also)).1 ∙ sym d
 same_fits start.Other bytes f g (inl (s, cut, e)) (inl (t, also, d)) =
     e ∙ ap (λ x. piece.Token (token.Sign x) (length bytes)) (same_sign s t (sym cut ∙ also)) ∙ sym d
 same_fits start.Other bytes f g (inl (s, cut, e)) (inr (also, d)) = absurd (no_opening s (sym cut ∙ also))

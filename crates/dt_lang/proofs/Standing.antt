@@ -3,7 +3,7 @@ use Rattle.std.proofs.Common.{◌≡◌, ℕ, inl, inr, Bool, true, false, eqb, 
 use Rattle.std.proofs.Common.{arith}
 use Rattle.std.proofs.lemmas.Bool.{false≢true, eqb-true}
 use Rattle.dt_lang.specs.Lexeme.{IsPiece, OPENING, IsLongest, Stands}
-use Rattle.dt_lang.specs.Piece.{FindsInMode, FindsUncommented, Finds, opens_comment}
+use Rattle.dt_lang.specs.Piece.{FindsInMode, FindsUncommented, FindsPiece, opens_comment}
 use Rattle.dt_lang.specs.declared.mode.Mode.{Mode}
 use Rattle.dt_lang.specs.declared.mode.Mode.TheVariants as mode
 use Rattle.dt_lang.specs.declared.piece.Piece.{Piece}
@@ -61,6 +61,6 @@ uncommented true m byte rest found b e =
     inl (subst (IsLongest m (byte ∷ rest)) (sym e) (in_comment m (byte ∷ rest) cut.0 cut.1))
 uncommented false m byte rest found b h = in_mode m byte rest found (sym b) h
 
-pub stands_found : (m : Mode) (text : List ℕ) (found : Piece) → Finds m text found → Stands m text found
+pub stands_found : (m : Mode) (text : List ℕ) (found : Piece) → FindsPiece m text found → Stands m text found
 stands_found m [] found h = h
 stands_found m (byte ∷ rest) found h = uncommented (opens_comment (byte ∷ rest)) m byte rest found refl h

@@ -10,7 +10,7 @@ use Rattle.dt_lang.specs.declared.word.Word.TheVariants as word
 use Rattle.dt_lang.specs.Expression.{BeginsExpr}
 use Rattle.dt_lang.specs.ExpressionState.{State, is_operand, start, step, run, wants, takes_number, takes_text}
 use Rattle.dt_lang.specs.Refused.{OperandStands, a_number, a_text, IsOperand, GoesOn, fits, taken}
-use Rattle.dt_lang.specs.Cause.{takes}
+use Rattle.dt_lang.specs.Cause.{takes_token}
 use Rattle.dt_lang.proofs.ExpressionLaws.{complete, viable, number_goes_on, text_goes_on, wants_operand, run_beginning}
 use Rattle.dt_lang.proofs.ClauseSound.{none_some, run_last}
 
@@ -104,7 +104,7 @@ is_operand_is _ h = cc
 pub record TakesThere (divides : Bool) (ts : List Token) (t : Token) : Type 0 where
   pub at : State
   pub runs : run (start divides) ts ≡ Some at
-  pub takes_it : takes at t ≡ true
+  pub takes_it : takes_token at t ≡ true
 
 pub goes_on_takes : (divides : Bool) (ts : List Token) (t : Token) → GoesOn divides ts t → TakesThere divides ts t
 goes_on_takes divides ts t (fits b) =
@@ -143,7 +143,7 @@ both_right true b e = e
 both_right false b e = cc
 
 pub takes_goes_on : (divides : Bool) (ts : List Token) (s : State) (t : Token) → run (start divides) ts ≡ Some s
-    → takes s t ≡ true → GoesOn divides ts t
+    → takes_token s t ≡ true → GoesOn divides ts t
 takes_goes_on divides ts s t h k = elim (one_of (is_some (step s t)) (is_operand t && wants s) k) [
   | inl i ↦ let n = some_state State (step s t) i in
       fits (viable divides _ n.0 (run_last s (start divides) n.0 ts t h n.1))

@@ -12,10 +12,11 @@ use Rattle.dt_lang.specs.Lexeme.{Lexes, LiesWithin}
 use Rattle.dt_lang.specs.Mode.{mode_after}
 use Rattle.dt_lang.specs.Program.{ClauseForm}
 use Rattle.dt_lang.specs.Grammar.{ReadsProgram}
-use Rattle.dt_lang.specs.Refused.{Cause, because, destroys, Holds, Refused, NoneRefused}
-use Rattle.dt_lang.specs.Reads.{TokensTo, none, another, IsRefused, a_token, overlong, stray, unfinished, IsProgram}
+use Rattle.dt_lang.specs.Refused.{Cause, because, destroys, CauseHolds, Refused, NoneRefused}
+use Rattle.dt_lang.specs.Reads.{TokensTo, none, another, IsRefusedProgram, a_token}
+use Rattle.dt_lang.specs.Reads.{overlong, stray, unfinished, IsProgram}
 use Rattle.dt_lang.specs.Reads.{Reading, program, fault, destructive, Reads}
-use Rattle.dt_lang.specs.ClauseState.{ProgramState, step, run, start, finished}
+use Rattle.dt_lang.specs.ClauseState.{ProgramState, step, run, program_start, finished}
 use Rattle.dt_lang.specs.Cause.{cause_of}
 use Rattle.dt_lang.proofs.ClauseSound.{none_some, same_some}
 use Rattle.dt_lang.proofs.ClauseComplete.{run_step, program_leads}
@@ -54,7 +55,7 @@ pub record Stopped (text : List ℕ) (reading : Reading) : Type 0 where
   pub unrefused : NoneRefused tokens
   pub stops : Stops text mode tokens from reading
 
-stopped_refusal : {text : List ℕ} {at : ℕ} {cause : Cause} → IsRefused text at cause
+stopped_refusal : {text : List ℕ} {at : ℕ} {cause : Cause} → IsRefusedProgram text at cause
     → Stopped text (refusal at cause)
 stopped_refusal (a_token mode ts t from at to cause k n l r) = record {
   mode = mode;
@@ -214,7 +215,7 @@ module _ (text : List ℕ) (laws : LexemeLaws text) where
 pub record Going (text : List ℕ) (mode : Mode) (ts : List Token) (from : ℕ) (s : ProgramState) : Type 0 where
   pub stand : TokensTo text mode ts from
   pub unrefused : NoneRefused ts
-  pub runs : run start ts ≡ Some s
+  pub runs : run program_start ts ≡ Some s
 
 -- a token of some tokens and one more is one of these, or the last
 split_end : (before ts after : List Token) (t u : Token) → ts ++ (t ∷ []) ≡ before ++ (u ∷ after)
@@ -238,21 +239,21 @@ none_refused : NoneRefused []
 none_refused [] after t cause e h = cc
 none_refused (x ∷ before) after t cause e h = cc
 
-one_unrefused : (ts : List Token) (t : Token) → NoneRefused ts → ((cause : Cause) → Holds ts t cause → ⊥)
+one_unrefused : (ts : List Token) (t : Token) → NoneRefused ts → ((cause : Cause) → CauseHolds ts t cause → ⊥)
     → NoneRefused (ts ++ (t ∷ []))
 one_unrefused ts t n m before after u cause e h = elim (split_end before ts after t u e) [
   | inl k ↦ m cause (moved k.0 k.1 h)
   | inr k ↦ n before k.0 u cause k.1 h
 ]
   where
-    moved : before ≡ ts → u ≡ t → Holds before u cause → Holds ts t cause
+    moved : before ≡ ts → u ≡ t → CauseHolds before u cause → CauseHolds ts t cause
     moved p q h =
-        let first : Holds ts u cause = subst (λ (x : List Token). Holds x u cause) p h in
-        subst (λ (x : Token). Holds ts x cause) q first
+        let first : CauseHolds ts u cause = subst (λ (x : List Token). CauseHolds x u cause) p h in
+        subst (λ (x : Token). CauseHolds ts x cause) q first
 
 module _ (text : List ℕ) where
   -- nothing was read
-  pub going_first : Going text Head [] 0 start
+  pub going_first : Going text Head [] 0 program_start
   unfolding run
   going_first = record { stand = none; unrefused = none_refused; runs = refl }
 
@@ -263,19 +264,19 @@ module _ (text : List ℕ) where
     going_on t at to next l e k = record {
       stand = another mode ts t from at to g.stand l;
       unrefused = one_unrefused ts t g.unrefused (unrefused ts t s g.runs e);
-      runs = run_step start s next ts t g.runs k;
+      runs = run_step program_start s next ts t g.runs k;
     }
 
     -- a token that is refused
     pub refused_at : (t : Token) (at to : ℕ) (cause : Cause) → Lexes text mode from (lexeme.Token at t to)
-        → cause_of s t ≡ Some cause → IsRefused text at cause
+        → cause_of s t ≡ Some cause → IsRefusedProgram text at cause
     refused_at t at to cause l e =
         a_token mode ts t from at to cause g.stand g.unrefused l (refused ts t s g.runs cause e)
 
-    pub overlong_at : (at : ℕ) → Lexes text mode from (lexeme.Overlong at) → IsRefused text at (because TooLong)
+    pub overlong_at : (at : ℕ) → Lexes text mode from (lexeme.Overlong at) → IsRefusedProgram text at (because TooLong)
     overlong_at at l = overlong mode ts from at g.stand g.unrefused l
 
-    pub stray_at : (at : ℕ) → Lexes text mode from (lexeme.Stray at) → IsRefused text at (because Syntax)
+    pub stray_at : (at : ℕ) → Lexes text mode from (lexeme.Stray at) → IsRefusedProgram text at (because Syntax)
     stray_at at l = stray mode ts from at g.stand g.unrefused l
 
     -- the text's end
@@ -293,7 +294,7 @@ module _ (text : List ℕ) where
     }
 
     pub ended_early : (at : ℕ) → Lexes text mode from (lexeme.End at) → finished s ≡ None
-        → IsRefused text at (because Syntax)
+        → IsRefusedProgram text at (because Syntax)
     ended_early at l e = unfinished mode ts from at g.stand g.unrefused l none_read
       where
         none_read : (cs : List ClauseForm) → ReadsProgram ts cs → ⊥
@@ -306,7 +307,7 @@ module _ (text : List ℕ) where
 SomeReading : List ℕ → Type 0
 SomeReading text = (r : Reading) × Reads text r
 
-reads_refusal : (text : List ℕ) (at : ℕ) (cause : Cause) → IsRefused text at cause → SomeReading text
+reads_refusal : (text : List ℕ) (at : ℕ) (cause : Cause) → IsRefusedProgram text at cause → SomeReading text
 unfolding SomeReading
 reads_refusal text at (because why) h = (fault at why, h)
 reads_refusal text at (destroys what) h = (destructive at what, h)
@@ -353,4 +354,4 @@ module _ (text : List ℕ) (laws : LexemeLaws text) where
   -- A text has a reading.
   pub some_reading : (r : Reading) × Reads text r
   unfolding SomeReading
-  some_reading = read_rest (length text) Head [] 0 start (omega arith) (omega arith) (going_first text)
+  some_reading = read_rest (length text) Head [] 0 program_start (omega arith) (omega arith) (going_first text)

@@ -13,10 +13,11 @@ use Rattle.dt_lang.specs.Stand.{BodyStands, Slot, predicate, traced, exited, key
 use Rattle.dt_lang.specs.Stand.{first_key, a_key}
 use Rattle.dt_lang.specs.Refused.{GoesOn, IsForStatement, IsTooLong, a_clause, a_description, a_statement, a_token}
 use Rattle.dt_lang.specs.Refused as refused
-use Rattle.dt_lang.specs.ClauseState.{Place, outside, described, listed, guarded, body, called, framed, closing, named}
+use Rattle.dt_lang.specs.ClauseState.{PlaceForm, outside, described, listed, guarded}
+use Rattle.dt_lang.specs.ClauseState.{body, called, framed, closing, named}
 use Rattle.dt_lang.specs.ClauseState.{keyed, assigned, applied, within, bounding, negating, bounded, ProgramState}
-use Rattle.dt_lang.specs.ClauseState.{state, headed, step, run, start}
-use Rattle.dt_lang.specs.Cause.{is_for_statement, takes, keys_full, full, too_long_at}
+use Rattle.dt_lang.specs.ClauseState.{program_at, headed, step, run, program_start}
+use Rattle.dt_lang.specs.Cause.{is_for_statement, takes_token, keys_full, full, too_long_at}
 use Rattle.dt_lang.proofs.Reading.{ListRead, Within, ReadAt}
 use Rattle.dt_lang.proofs.ClauseSound.{same_some}
 use Rattle.dt_lang.proofs.ClauseComplete.{run_on, run_step, run_within, clauses_lead, head_stands_lead}
@@ -76,7 +77,8 @@ slot_too_long ts back cs c exited t h e k g = cc
 slot_too_long ts back cs c (value name keys fn) t h e k g = cc
 
 within_too_long : (ts : List Token) (cs : List ClauseForm) (c : ClauseForm) (slot : Slot) (n : ℕ)
-    (e : expression.State) (t : Token) → Within ts cs c slot n e → full slot n && takes e t ≡ true → IsTooLong ts t
+    (e : expression.State) (t : Token) → Within ts cs c slot n e → full slot n && takes_token e t ≡ true
+    → IsTooLong ts t
 within_too_long ts cs c slot n e t h k =
     let g = takes_goes_on (divides_in slot) h.back e t h.runs (both_right (full slot n) _ k) in
     elim (one_of (leb TOKENS_MAX n) (eqb n 0 && keys_full slot) (both_left _ _ k)) [
@@ -86,7 +88,7 @@ within_too_long ts cs c slot n e t h k =
           rw h.split (slot_too_long h.front h.back cs c slot t h.opens z (both_right (eqb n 0) _ i) g)
     ]
 
-too_long_is : (ts : List Token) (cs : List ClauseForm) (c : ClauseForm) (p : Place) (t : Token) → ReadAt cs c p ts
+too_long_is : (ts : List Token) (cs : List ClauseForm) (c : ClauseForm) (p : PlaceForm) (t : Token) → ReadAt cs c p ts
     → too_long_at cs c p t ≡ true → IsTooLong ts t
 too_long_is ts cs c outside t h e = outside_too_long ts cs c t h e
 too_long_is ts cs c listed t h e = listed_too_long ts cs c t h e
@@ -107,25 +109,26 @@ too_long_is ts cs c (negating name keys f b) t h e = cc
 too_long_is ts cs c (bounded name keys f b z) t h e = cc
 
 -- what holds the state says: the state that was reached is the one that these tokens lead to
-there : (ts : List Token) (t : Token) (s at : ProgramState) → run start ts ≡ Some s → run start ts ≡ Some at
+there : (ts : List Token) (t : Token) (s at : ProgramState) → run program_start ts ≡ Some s → run program_start ts
+    ≡ Some at
     → too_long_at at.clauses at.clause at.place t ≡ true → too_long_at s.clauses s.clause s.place t ≡ true
 there ts t s at h k e =
     subst (λ (x : ProgramState). too_long_at x.clauses x.clause x.place t ≡ true) (same_some (sym k ∙ h)) e
 
 listed_step : (cs : List ClauseForm) (c : ClauseForm)
-    → step (state cs c described) (token.Sign sign.Comma) ≡ Some (state cs c listed)
+    → step (program_at cs c described) (token.Sign sign.Comma) ≡ Some (program_at cs c listed)
 unfolding step
 listed_step cs c = refl
 
 -- what is taken before anything was read
-takes_first : (t : Token) → GoesOn true [] t → takes (expression.start true) t ≡ true
+takes_first : (t : Token) → GoesOn true [] t → takes_token (expression.start true) t ≡ true
 unfolding expression.run
 takes_first t g =
     let k = goes_on_takes true [] t g in
     let same : expression.start true ≡ k.at = same_some k.runs in
     rw (sym same) at k.takes_it
 
-too_long_true : (ts : List Token) (t : Token) (s : ProgramState) → run start ts ≡ Some s → IsTooLong ts t
+too_long_true : (ts : List Token) (t : Token) (s : ProgramState) → run program_start ts ≡ Some s → IsTooLong ts t
     → too_long_at s.clauses s.clause s.place t ≡ true
 unfolding run
 too_long_true _ _ s h (a_clause ts cs d r n) =
@@ -145,7 +148,7 @@ too_long_true _ _ s h (a_token slot ts us cs c t r n g) =
     let m : leb TOKENS_MAX (0 + length us) ≡ true = le-leb TOKENS_MAX (0 + length us) (omega arith) in
     there _ t s _ h (run_on _ _ _ ts us (slot_leads slot ts cs c r) w) (rw (m, k.takes_it) refl)
 
-pub too_long_decides : (ts : List Token) (t : Token) (s : ProgramState) → run start ts ≡ Some s
+pub too_long_decides : (ts : List Token) (t : Token) (s : ProgramState) → run program_start ts ≡ Some s
     → Decides (too_long_at s.clauses s.clause s.place t) (IsTooLong ts t)
 too_long_decides ts t s h =
     (λ e. too_long_is ts s.clauses s.clause s.place t (read ts s h) e, λ k. too_long_true ts t s h k)

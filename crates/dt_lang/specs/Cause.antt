@@ -11,7 +11,7 @@ use Rattle.dt_lang.specs.declared.word.Destructive.{Destructive}
 use Rattle.dt_lang.specs.declared.word.Word.TheVariants as word
 use Rattle.dt_lang.specs.ExpressionState as expression
 use Rattle.dt_lang.specs.ExpressionState.{is_operand}
-use Rattle.dt_lang.specs.ClauseState.{BoundForm, at_lower, at_upper, at_step, Place, outside, listed, body, assigned, within, bounded, ProgramState, step}
+use Rattle.dt_lang.specs.ClauseState.{BoundForm, at_lower, at_upper, at_step, PlaceForm, outside, listed, body, assigned, within, bounded, ProgramState, step}
 use Rattle.dt_lang.specs.Grammar.{begins}
 use Rattle.dt_lang.specs.Program.{ClauseForm}
 use Rattle.dt_lang.specs.Refused.{Cause, because, destroys}
@@ -50,8 +50,8 @@ is_no_description (token.Description None) = true
 is_no_description _ = false
 
 -- whether a token is one more of an expression
-abbrev pub takes : expression.State → Token → Bool
-takes e t = is_some (expression.step e t) || (is_operand t && expression.wants e)
+abbrev pub takes_token : expression.State → Token → Bool
+takes_token e t = is_some (expression.step e t) || (is_operand t && expression.wants e)
 
 -- whether a further key would be one too many
 abbrev pub keys_full : Slot → Bool
@@ -62,26 +62,26 @@ keys_full _ = false
 abbrev pub full : Slot → ℕ → Bool
 full slot n = leb TOKENS_MAX n || ((n == 0) && keys_full slot)
 
-abbrev pub too_long_at : List ClauseForm → ClauseForm → Place → Token → Bool
+abbrev pub too_long_at : List ClauseForm → ClauseForm → PlaceForm → Token → Bool
 too_long_at cs c outside t = is_description t && leb CLAUSES_MAX (length cs)
 too_long_at cs c listed t = is_description t && leb DESCRIPTIONS_MAX (length c.descriptions)
 too_long_at cs c (body begins) t = leb STATEMENTS_MAX (length c.statements) && is_for_statement t
-too_long_at cs c (within slot n e) t = full slot n && takes e t
+too_long_at cs c (within slot n e) t = full slot n && takes_token e t
 too_long_at cs c _ _ = false
 
 -- where a statement may begin
-abbrev pub statement_at : Place → Bool
+abbrev pub statement_at : PlaceForm → Bool
 statement_at (body begins) = true
 statement_at _ = false
 
 -- where a statement may begin, or an aggregating function's name stands
-abbrev pub name_at : Place → Bool
-name_at (body begins) = true
-name_at (assigned name keys) = true
-name_at _ = false
+abbrev pub name_may_stand : PlaceForm → Bool
+name_may_stand (body begins) = true
+name_may_stand (assigned name keys) = true
+name_may_stand _ = false
 
 -- where an operand stands
-abbrev pub operand_at : Place → Bool
+abbrev pub operand_at : PlaceForm → Bool
 operand_at (within slot n e) = expression.wants e
 operand_at _ = false
 
@@ -97,7 +97,7 @@ no_levels at_lower z = false
 no_levels (at_upper lower) z = not (are_bounds lower z (pos 1))
 no_levels (at_step lower upper) z = not (are_bounds lower upper z)
 
-abbrev pub out_of_range_at : Place → Token → Bool
+abbrev pub out_of_range_at : PlaceForm → Token → Bool
 out_of_range_at (bounded name keys f b z) (token.Sign sign.CloseParen) = no_levels b z
 out_of_range_at _ _ = false
 
@@ -114,7 +114,7 @@ first_cause false None false false false false true = Some (because Syntax)
 first_cause false None false false false false false = None
 
 -- the destructive action that a token names, where a statement may begin
-abbrev pub destroys_at : Place → Token → Option Destructive
+abbrev pub destroys_at : PlaceForm → Token → Option Destructive
 destroys_at (body begins) t = destructive_of t
 destroys_at _ t = None
 
@@ -123,5 +123,5 @@ unfoldable pub cause_of : ProgramState → Token → Option Cause
 cause_of s t =
     let fits = is_some (step s t) in
     first_cause (too_long_at s.clauses s.clause s.place t) (destroys_at s.place t) (is_no_description t)
-    (is_word t && (name_at s.place && not fits)) (names_no_variable t && operand_at s.place)
+    (is_word t && (name_may_stand s.place && not fits)) (names_no_variable t && operand_at s.place)
     (out_of_range_at s.place t) (not fits)

@@ -10,7 +10,7 @@ use Rattle.dt_lang.specs.declared.word.Word.TheVariants as word
 use Rattle.dt_lang.specs.ExpressionState as expression
 use Rattle.dt_lang.specs.Grammar.{begins}
 use Rattle.dt_lang.specs.Cause.{cause_of}
-use Rattle.dt_lang.specs.ClauseState.{Place, body, assigned, within, ProgramState, step}
+use Rattle.dt_lang.specs.ClauseState.{PlaceForm, body, assigned, within, ProgramState, step}
 use Rattle.dt_lang.specs.Fits.{Fits}
 use Rattle.dt_lang.specs.Refused.{Cause, because, destroys}
 
@@ -48,7 +48,7 @@ abbrev pub early_within : (wants : Bool) → Token → Option Cause
 early_within true t = early_operand t
 early_within false t = early_elsewhere t
 
-abbrev pub early_at : Place → Token → Option Cause
+abbrev pub early_at : PlaceForm → Token → Option Cause
 early_at (body begins) t = early_begins t
 early_at (assigned name keys) t = early_assigned t
 early_at (within slot n e) t = early_within (expression.wants e) t
@@ -63,6 +63,6 @@ Outcome next range (Some why.Range) new = range ≡ true
 Outcome next range (Some _) new = ⊥
 
 -- What came of a token: it is refused, or it leads to this state.
-abbrev pub Answers : (old : ProgramState) → Token → Option Refusal → (new : ProgramState) → Type 0
-Answers old t (Some refusal) new = cause_of old t ≡ Some (cause_of_refusal refusal)
-Answers old t None new = (cause_of old t ≡ None) × (step old t ≡ Some new) × Fits new
+abbrev pub AnswersToken : (old : ProgramState) → Token → Option Refusal → (new : ProgramState) → Type 0
+AnswersToken old t (Some refusal) new = cause_of old t ≡ Some (cause_of_refusal refusal)
+AnswersToken old t None new = (cause_of old t ≡ None) × (step old t ≡ Some new) × Fits new

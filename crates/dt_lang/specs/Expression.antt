@@ -85,10 +85,10 @@ abbrev pub EQUALITY : ℕ
 EQUALITY = 6
 
 -- the text that a token is
-abbrev pub text_of : Token → Option Text
-text_of (token.Text bytes) = Some (operand.Literal bytes)
-text_of (token.Word (word.Text variable)) = Some (operand.Variable variable)
-text_of _ = None
+abbrev pub text_token : Token → Option Text
+text_token (token.Text bytes) = Some (operand.Literal bytes)
+text_token (token.Word (word.Text variable)) = Some (operand.Variable variable)
+text_token _ = None
 
 -- A sign is this operator; where `/` ends a predicate, it isn't one.
 pub record IsOperator (divides : Bool) (s : Sign) (op : BinaryOp) : Type 0 where
@@ -107,7 +107,7 @@ pub data ReadsExpr : Bool → ℕ → List Token → Form → Type 0 where
   grouped : (divides : Bool) (ts : List Token) (f : Form) → ReadsExpr true 0 ts f
       → ReadsExpr divides OPERAND (token.Sign sign.OpenParen ∷ (ts ++ (token.Sign sign.CloseParen ∷ []))) f
   compared : (divides : Bool) (s : Sign) (op : TextOp) (left right : Token) (a b : Text)
-      → comparison_of s ≡ Some op → text_of left ≡ Some a → text_of right ≡ Some b
+      → comparison_of s ≡ Some op → text_token left ≡ Some a → text_token right ≡ Some b
       → ReadsExpr divides EQUALITY (left ∷ token.Sign s ∷ right ∷ []) (Compared op a b)
   looser : (divides : Bool) (level : ℕ) (ts : List Token) (f : Form) → level < OPERAND
       → ReadsExpr divides (level + 1) ts f → ReadsExpr divides level ts f
@@ -117,7 +117,7 @@ pub data ReadsExpr : Bool → ℕ → List Token → Form → Type 0 where
 
 -- The tokens are what `trace` and a key take: an expression, or one text.
 pub data ReadsArgument : List Token → ArgForm → Type 0 where
-  a_text : (t : Token) (a : Text) → text_of t ≡ Some a → ReadsArgument (t ∷ []) (text a)
+  a_text : (t : Token) (a : Text) → text_token t ≡ Some a → ReadsArgument (t ∷ []) (text a)
   an_expression : (ts : List Token) (f : Form) → ReadsExpr true 0 ts f → ReadsArgument ts (number f)
 
 -- An expression begins with these tokens.

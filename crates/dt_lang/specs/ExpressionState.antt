@@ -15,7 +15,7 @@ use Rattle.dt_lang.specs.declared.token.Token.{Token}
 use Rattle.dt_lang.specs.declared.token.Token.TheVariants as token
 use Rattle.dt_lang.specs.declared.word.Word.{Word}
 use Rattle.dt_lang.specs.declared.word.Word.TheVariants as word
-use Rattle.dt_lang.specs.Expression.{prefix_of, operator_of, binding, OPERAND, comparison_of, EQUALITY, text_of}
+use Rattle.dt_lang.specs.Expression.{prefix_of, operator_of, binding, OPERAND, comparison_of, EQUALITY, text_token}
 use Rattle.dt_lang.specs.Program.{ArgForm, number, text}
 
 -- What waits for its right side: an open parenthesis (and whether `/` divides outside of it), an operator before its
@@ -137,7 +137,7 @@ compare divides frames a _ = None
 -- a text and its comparison are at hand
 abbrev pub compare_with : Bool → List FrameForm → TextOp → Text → Token → Option State
 compare_with divides frames op a t =
-    option_map (λ b. state divides frames (whole EQUALITY (Compared op a b))) (text_of t)
+    option_map (λ b. state divides frames (whole EQUALITY (Compared op a b))) (text_token t)
 
 abbrev pub step_from : Bool → List FrameForm → HandForm → Token → Option State
 step_from divides frames nothing t = begin divides frames t
@@ -256,7 +256,7 @@ pub record IsRead (divides : Bool) (ts : List Token) (a : ArgForm) : Type 0 wher
 -- The tokens are one, which is this text.
 pub record IsOneText (ts : List Token) (a : Text) : Type 0 where
   pub t : Token
-  pub is_text : text_of t ≡ Some a
+  pub is_text : text_token t ≡ Some a
   pub alone : ts ≡ t ∷ []
 
 -- The first tokens lead somewhere, and the others on from there.

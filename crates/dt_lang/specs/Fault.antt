@@ -8,13 +8,13 @@ use Rattle.dt_lang.specs.declared.fault.Why.{Why}
 use Rattle.dt_lang.specs.declared.fault.Why.TheVariants.{Syntax, Probe, Action, Variable, TooLong, Range}
 
 -- the word for a cause
-abbrev pub word_of : Why → List ℕ
-word_of Syntax = codes "Syntax"
-word_of Probe = codes "Probe"
-word_of Action = codes "Action"
-word_of Variable = codes "Variable"
-word_of TooLong = codes "TooLong"
-word_of Range = codes "Range"
+abbrev pub why_word : Why → List ℕ
+why_word Syntax = codes "Syntax"
+why_word Probe = codes "Probe"
+why_word Action = codes "Action"
+why_word Variable = codes "Variable"
+why_word TooLong = codes "TooLong"
+why_word Range = codes "Range"
 
 -- the fault of a token at this offset that is refused so
 abbrev pub fault_at : ℕ → Refusal → LangFault

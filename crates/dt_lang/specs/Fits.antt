@@ -2,7 +2,7 @@
 use Rattle.std.specs.Prelude.{◌≡◌, ◌⊎◌, ℕ, ◌<◌, ◌≤◌, List, length, None}
 use Rattle.dt_lang.specs.declared.program.TheConstants.{CLAUSES_MAX, DESCRIPTIONS_MAX, STATEMENTS_MAX, KEYS_MAX, TOKENS_MAX}
 use Rattle.dt_lang.specs.ExpressionState as expression
-use Rattle.dt_lang.specs.ClauseState.{Place, outside, described, listed, guarded, body, called, framed, closing, named, keyed, assigned, applied, within, bounding, negating, bounded, ProgramState}
+use Rattle.dt_lang.specs.ClauseState.{PlaceForm, outside, described, listed, guarded, body, called, framed, closing, named, keyed, assigned, applied, within, bounding, negating, bounded, ProgramState}
 use Rattle.dt_lang.specs.Program.{ArgForm, ClauseForm}
 use Rattle.dt_lang.specs.Stand.{Slot, predicate, traced, exited, key, value}
 
@@ -37,17 +37,17 @@ FitsSlot cs c (key name keys) n e = FitsKey cs c keys n e
 FitsSlot cs c (value name keys fn) n e = FitsTarget cs c keys
 
 -- what was read for a slot may be kept
-abbrev pub HasRoom : Slot → Type 0
-HasRoom (key name keys) = length keys < KEYS_MAX
-HasRoom (value name keys fn) = length keys ≤ KEYS_MAX
-HasRoom _ = Unit {0}
+abbrev pub SlotHasRoom : Slot → Type 0
+SlotHasRoom (key name keys) = length keys < KEYS_MAX
+SlotHasRoom (value name keys fn) = length keys ≤ KEYS_MAX
+SlotHasRoom _ = Unit {0}
 
 -- within what is read for a slot
 pub record FitsWithin (cs : List ClauseForm) (c : ClauseForm) (slot : Slot) (n : ℕ) (e : expression.State) : Type 0 where
   pub fits : FitsSlot cs c slot n e
   pub few : n ≤ TOKENS_MAX
 
-abbrev pub FitsAt : List ClauseForm → ClauseForm → Place → Type 0
+abbrev pub FitsAt : List ClauseForm → ClauseForm → PlaceForm → Type 0
 FitsAt cs c outside = length cs ≤ CLAUSES_MAX
 FitsAt cs c described = FitsClause cs c
 FitsAt cs c listed = FitsClause cs c

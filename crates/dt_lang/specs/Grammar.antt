@@ -81,7 +81,7 @@ pub data ReadsCall : List Token → CallForm → Type 0 where
       ∷ (ts ++ (us ++ (token.Sign sign.CloseParen ∷ [])))) (lquantize f lower upper step)
 
 -- some frames of a stack: 1 to 8
-pub record AreFrames (n : ℕ) : Type 0 where
+pub record IsFrameCount (n : ℕ) : Type 0 where
   pub some : 1 ≤ n
   pub few : n ≤ FRAMES_MAX
 
@@ -91,11 +91,11 @@ pub data ReadsStatement : List Token → StatementForm → Type 0 where
       → ReadsStatement
       (token.Word (word.Action action.Trace) ∷ token.Sign sign.OpenParen ∷ (ts ++ (token.Sign sign.CloseParen ∷ [])))
       (trace a)
-  of_stack : (n : ℕ) → AreFrames n
+  of_stack : (n : ℕ) → IsFrameCount n
       → ReadsStatement
       (token.Word (word.Action action.Stack) ∷ token.Sign sign.OpenParen ∷ token.Number (pos n)
       ∷ token.Sign sign.CloseParen ∷ []) (stack n)
-  of_ustack : (n : ℕ) → AreFrames n
+  of_ustack : (n : ℕ) → IsFrameCount n
       → ReadsStatement
       (token.Word (word.Action action.Ustack) ∷ token.Sign sign.OpenParen ∷ token.Number (pos n)
       ∷ token.Sign sign.CloseParen ∷ []) (ustack n)

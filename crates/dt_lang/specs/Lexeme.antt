@@ -36,8 +36,8 @@ pub record IsDigitRun (bytes : List ℕ) : Type 0 where
   pub all : AllPass is_word_byte bytes
 
 -- an aggregation's name, which may be empty
-abbrev pub IsName : List ℕ → Type 0
-IsName name = (name ≡ []) ⊎ IsIdentifier name
+abbrev pub IsAggregationName : List ℕ → Type 0
+IsAggregationName name = (name ≡ []) ⊎ IsIdentifier name
 
 -- The bytes are this token of a predicate or a body.
 abbrev pub IsBodyToken : List ℕ → Token → Type 0
@@ -45,7 +45,7 @@ IsBodyToken bytes (token.Word w) = IsIdentifier bytes × IsWord bytes w
 IsBodyToken bytes (token.Number z) = (n : ℕ) × IsNumber bytes n × (z ≡ wrapped (pos n))
 IsBodyToken bytes (token.Text t) = (bytes ≡ 34 ∷ (t ++ (34 ∷ []))) × AllPass is_text_byte t
     × (length t ≤ SHORT_TEXT_MAX)
-IsBodyToken bytes (token.Aggregation name) = (bytes ≡ 64 ∷ name) × IsName name × (length name ≤ SHORT_TEXT_MAX)
+IsBodyToken bytes (token.Aggregation name) = (bytes ≡ 64 ∷ name) × IsAggregationName name × (length name ≤ SHORT_TEXT_MAX)
 IsBodyToken bytes (token.Sign s) = bytes ≡ spelling s
 IsBodyToken bytes (token.Description d) = ⊥
 

@@ -43,14 +43,14 @@ NumberOf run piece.Stray = (n : ℕ) → IsNumber run n → ⊥
 NumberOf run _ = ⊥
 
 -- a text behind its opening `"`, whose bytes these are
-abbrev pub text_of : List ℕ → List ℕ → Piece
-text_of bytes rest = if nat_lt SHORT_TEXT_MAX (length bytes) then piece.Overlong
+abbrev pub text_piece : List ℕ → List ℕ → Piece
+text_piece bytes rest = if nat_lt SHORT_TEXT_MAX (length bytes) then piece.Overlong
     else (if slice_index rest (length bytes) == 34 then piece.Token (token.Text bytes) (length bytes + 2)
     else piece.Stray)
 
 -- an aggregation's name behind its `@`
-abbrev pub aggregation_of : List ℕ → Piece
-aggregation_of name = if nat_lt SHORT_TEXT_MAX (length name) then piece.Overlong
+abbrev pub aggregation_read : List ℕ → Piece
+aggregation_read name = if nat_lt SHORT_TEXT_MAX (length name) then piece.Overlong
     else piece.Token (token.Aggregation name) (length name + 1)
 
 abbrev pub BeginsWith : List ℕ → List ℕ → Type 0
@@ -70,8 +70,8 @@ FindsSign text _ = ⊥
 abbrev pub FindsAs : Start → List ℕ → Piece → Type 0
 FindsAs start.Letter text found = FindsWord text found
 FindsAs start.Digit text found = NumberOf (take_while is_word_byte text) found
-FindsAs start.Quote text found = found ≡ text_of (take_while is_text_byte (drop 1 text)) (drop 1 text)
-FindsAs start.At text found = found ≡ aggregation_of (identifier_at (drop 1 text))
+FindsAs start.Quote text found = found ≡ text_piece (take_while is_text_byte (drop 1 text)) (drop 1 text)
+FindsAs start.At text found = found ≡ aggregation_read (identifier_at (drop 1 text))
 FindsAs start.Other text found = FindsSign text found
 
 -- in a predicate or a body
@@ -113,6 +113,6 @@ FindsUncommented true mode text found = found ≡ piece.Stray
 FindsUncommented false mode text found = FindsInMode mode text found
 
 -- What stands at the front of a text, read in this mode, where no blanks stand there.
-abbrev pub Finds : Mode → List ℕ → Piece → Type 0
-Finds mode [] found = found ≡ piece.End
-Finds mode (byte ∷ rest) found = FindsUncommented (opens_comment (byte ∷ rest)) mode (byte ∷ rest) found
+abbrev pub FindsPiece : Mode → List ℕ → Piece → Type 0
+FindsPiece mode [] found = found ≡ piece.End
+FindsPiece mode (byte ∷ rest) found = FindsUncommented (opens_comment (byte ∷ rest)) mode (byte ∷ rest) found

@@ -4,9 +4,9 @@ use Rattle.std.specs.Option.{option_map}
 use Rattle.dt_expr.specs.Form.{form_of}
 use Rattle.dt_lang.specs.Description.{form_of_description}
 use Rattle.dt_lang.specs.declared.reader.ProgramReader.{ProgramReader}
-use Rattle.dt_lang.specs.ClauseState.{ProgramState, state}
+use Rattle.dt_lang.specs.ClauseState.{ProgramState, program_at}
 use Rattle.dt_lang.specs.ExpressionView.{state_of}
-use Rattle.dt_lang.specs.PlaceView.{place_of}
+use Rattle.dt_lang.specs.PlaceView.{place_form}
 use Rattle.dt_lang.specs.Program.{ClauseForm, form_of_clause, form_of_statement}
 
 -- the whole clauses
@@ -23,7 +23,7 @@ clause_of r = record {
 
 -- the state of a reader
 abbrev pub program_state_of : ProgramReader → ProgramState
-program_state_of r = state (clauses_of r) (clause_of r) (place_of (state_of r.expression) r.place)
+program_state_of r = program_at (clauses_of r) (clause_of r) (place_form (state_of r.expression) r.place)
 
 -- The token leads to this state, or says that it leads nowhere.
 abbrev pub Leads : Option ProgramState → Bool → ProgramState → Type 0

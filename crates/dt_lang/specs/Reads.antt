@@ -24,20 +24,20 @@ pub data TokensTo (text : List ℕ) : Mode → List Token → ℕ → Type 0 whe
       → Lexes text mode from (lexeme.Token at t to) → TokensTo text (mode_after mode t) (ts ++ (t ∷ [])) to
 
 -- Where the text is no program, at which byte that shows, and the cause.
-pub data IsRefused (text : List ℕ) : (at : ℕ) → Cause → Type 0 where
+pub data IsRefusedProgram (text : List ℕ) : (at : ℕ) → Cause → Type 0 where
   -- a token that is refused after those before it
   a_token : (mode : Mode) (ts : List Token) (t : Token) (from at to : ℕ) (cause : Cause) → TokensTo text mode ts from
-      → NoneRefused ts → Lexes text mode from (lexeme.Token at t to) → Refused ts t cause → IsRefused text at cause
+      → NoneRefused ts → Lexes text mode from (lexeme.Token at t to) → Refused ts t cause → IsRefusedProgram text at cause
   -- a text or an aggregation's name with too many bytes
   overlong : (mode : Mode) (ts : List Token) (from at : ℕ) → TokensTo text mode ts from → NoneRefused ts
-      → Lexes text mode from (lexeme.Overlong at) → IsRefused text at (because TooLong)
+      → Lexes text mode from (lexeme.Overlong at) → IsRefusedProgram text at (because TooLong)
   -- bytes that are no token
   stray : (mode : Mode) (ts : List Token) (from at : ℕ) → TokensTo text mode ts from → NoneRefused ts
-      → Lexes text mode from (lexeme.Stray at) → IsRefused text at (because Syntax)
+      → Lexes text mode from (lexeme.Stray at) → IsRefusedProgram text at (because Syntax)
   -- the end of what only begins a program
   unfinished : (mode : Mode) (ts : List Token) (from at : ℕ) → TokensTo text mode ts from → NoneRefused ts
       → Lexes text mode from (lexeme.End at) → ((cs : List ClauseForm) → ReadsProgram ts cs → ⊥)
-      → IsRefused text at (because Syntax)
+      → IsRefusedProgram text at (because Syntax)
 
 -- The text is tokens to its end, none of them is refused, and they are this program.
 pub record IsProgram (text : List ℕ) (cs : List ClauseForm) : Type 0 where
@@ -59,8 +59,8 @@ pub data Reading : Type 0 where
 -- A text is read as the program that it is, or as refused at the first token for which a cause holds.
 abbrev pub Reads : List ℕ → Reading → Type 0
 Reads text (program cs) = IsProgram text cs
-Reads text (fault at why) = IsRefused text at (because why)
-Reads text (destructive at what) = IsRefused text at (destroys what)
+Reads text (fault at why) = IsRefusedProgram text at (because why)
+Reads text (destructive at what) = IsRefusedProgram text at (destroys what)
 
 -- what a reader of texts answers: the program or the fault as which the text is read, or that memory ran out
 abbrev pub Answered : List ℕ → Result Program LangFault → Type 0

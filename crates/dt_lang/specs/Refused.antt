@@ -135,21 +135,21 @@ pub record IsOutOfRange (ts : List Token) (t : Token) : Type 0 where
   pub wrong : AreBounds lower upper step → ⊥
 
 -- This cause holds of the token after those before it.
-abbrev pub Holds : List Token → Token → Cause → Type 0
-Holds ts t (because TooLong) = IsTooLong ts t
-Holds ts t (destroys what) = IsDestructive ts t what
-Holds ts t (because Probe) = t ≡ token.Description None
-Holds ts t (because Action) = IsNoAction ts t
-Holds ts t (because Variable) = IsNoVariable ts t
-Holds ts t (because Range) = IsOutOfRange ts t
-Holds ts t (because Syntax) = Begins (ts ++ (t ∷ [])) → ⊥
+abbrev pub CauseHolds : List Token → Token → Cause → Type 0
+CauseHolds ts t (because TooLong) = IsTooLong ts t
+CauseHolds ts t (destroys what) = IsDestructive ts t what
+CauseHolds ts t (because Probe) = t ≡ token.Description None
+CauseHolds ts t (because Action) = IsNoAction ts t
+CauseHolds ts t (because Variable) = IsNoVariable ts t
+CauseHolds ts t (because Range) = IsOutOfRange ts t
+CauseHolds ts t (because Syntax) = Begins (ts ++ (t ∷ [])) → ⊥
 
 -- The token is refused for this cause: it is the first that holds.
 pub record Refused (ts : List Token) (t : Token) (cause : Cause) : Type 0 where
-  pub holds : Holds ts t cause
-  pub first : (other : Cause) → rank other < rank cause → Holds ts t other → ⊥
+  pub holds : CauseHolds ts t cause
+  pub first : (other : Cause) → rank other < rank cause → CauseHolds ts t other → ⊥
 
 -- None of the tokens is refused after those before it.
 abbrev pub NoneRefused : List Token → Type 0
 NoneRefused ts = (before after : List Token) (t : Token) (cause : Cause) → ts ≡ before ++ (t ∷ after)
-    → Holds before t cause → ⊥
+    → CauseHolds before t cause → ⊥

@@ -1,7 +1,7 @@
 //! The reader of expressions: a token at a time, with what waits for its right side on a stack.
 ghost use Rattle.std.specs.Prelude.{◌≡◌, IfOk, option_map, true};
 ghost use Rattle.dt_expr.specs.Form.{form_of};
-ghost use Rattle.dt_lang.specs.Expression.{prefix_of, comparison_of, text_of};
+ghost use Rattle.dt_lang.specs.Expression.{prefix_of, comparison_of, text_token};
 ghost use Rattle.dt_lang.specs.ExpressionState.{nothing, whole, lone, compares, state, operator_in, begin_sign, begin_text, begin, leave, follow_sign, follow, compare, compare_with, close, start, step, done, wants, Goes};
 ghost use Rattle.dt_lang.specs.ExpressionView.{frames_of, hand_of, state_of};
 ghost use Rattle.dt_lang.specs.Program.{form_of_argument};
@@ -98,7 +98,7 @@ fn comparison_of(sign: Sign) -> Option<TextOp>
 
 /// The text that a token is.
 fn text_of(token: &Token) -> Option<Text>
-    ensures { result ≡ text_of token.now }
+    ensures { result ≡ text_token token.now }
 {
     match token {
         Token::Text(text) => Some(Text::Literal(*text)),

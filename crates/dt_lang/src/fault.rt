@@ -1,6 +1,6 @@
 //! Why a text is not read as a program.
 ghost use Rattle.std.specs.Prelude.{◌≡◌};
-ghost use Rattle.dt_lang.specs.Fault.{fault_at, word_of};
+ghost use Rattle.dt_lang.specs.Fault.{fault_at, why_word};
 ghost use Rattle.dt_lang.specs.declared.fault.LangFault.TheVariants.{Memory};
 
 use crate::word::Destructive;
@@ -28,7 +28,7 @@ pub enum Why {
 impl Why {
     /// The word for the cause, as it is printed and as replies carry it.
     pub fn word(self) -> &'static str
-        ensures { result.now ≡ word_of self }
+        ensures { result.now ≡ why_word self }
     {
         match self {
             Why::Syntax => "Syntax",
@@ -43,9 +43,9 @@ impl Why {
 
 impl fmt::Display for Why {
     ghost use Rattle.std.specs.Prelude.{Some};
-    ghost use Rattle.dt_lang.specs.Fault.{word_of};
+    ghost use Rattle.dt_lang.specs.Fault.{why_word};
 
-    ghost output = { λ why. Some (word_of why) };
+    ghost output = { λ why. Some (why_word why) };
 
     fn fmt<W: fmt::Write>(&self, f: &mut fmt::Formatter<W>) -> fmt::Result {
         f.write_str(self.word())

@@ -1,6 +1,6 @@
 //! A text is read as a program, or refused with the place and the cause.
 ghost use Rattle.std.specs.Prelude.{◌≡◌, ℕ, Err, IfOk, List};
-ghost use Rattle.dt_lang.specs.ClauseState.{start};
+ghost use Rattle.dt_lang.specs.ClauseState.{program_start};
 ghost use Rattle.dt_lang.specs.Program.{form_of_program};
 ghost use Rattle.dt_lang.specs.ReaderView.{program_state_of};
 ghost use Rattle.dt_lang.specs.Reads.{Answered, Reading, Reads, destructive, fault, program};
@@ -32,7 +32,7 @@ impl Program {
 
 /// Reads a program by a reader that has read nothing.
 fn read(alloc: Global, reader: &mut ProgramReader, text: &[u8]) -> Result<Program, LangFault>
-    requires { program_state_of reader.old ≡ start }
+    requires { program_state_of reader.old ≡ program_start }
     ensures { Answered text.now result }
 {
     let mut mode = Mode::Head;

@@ -3,7 +3,7 @@ ghost use Rattle.std.specs.Prelude.{◌≡◌, ℕ, ◌<◌, List, length};
 ghost use Rattle.std.specs.List.{take_while};
 ghost use Rattle.dt_lang.specs.Class.{is_text_byte};
 ghost use Rattle.dt_lang.specs.Lexeme.{Stands};
-ghost use Rattle.dt_lang.specs.Piece.{start_of, identifier_at, FindsWord, NumberOf, text_of, aggregation_of, FindsSign, FindsInBody, FindsInHead, opens_comment};
+ghost use Rattle.dt_lang.specs.Piece.{start_of, identifier_at, FindsWord, NumberOf, text_piece, aggregation_read, FindsSign, FindsInBody, FindsInHead, opens_comment};
 
 use crate::class::Class;
 use crate::description::Description;
@@ -144,7 +144,7 @@ fn number(run: &[u8]) -> Piece
 
 /// A text, behind its opening `"`.
 fn short_text(rest: &[u8]) -> Piece
-    ensures { result ≡ text_of (take_while is_text_byte rest.now) rest.now }
+    ensures { result ≡ text_piece (take_while is_text_byte rest.now) rest.now }
 {
     let bytes = Class::Text.run(rest);
     match ShortText::new(bytes) {
@@ -159,7 +159,7 @@ fn short_text(rest: &[u8]) -> Piece
 
 /// An aggregation, behind its `@`.
 fn aggregation(rest: &[u8]) -> Piece
-    ensures { result ≡ aggregation_of (identifier_at rest.now) }
+    ensures { result ≡ aggregation_read (identifier_at rest.now) }
 {
     let name = identifier_at(rest);
     match ShortText::new(name) {

@@ -3,7 +3,7 @@ ghost use Rattle.std.specs.Prelude.{◌≡◌, ◌≤◌, option_map, vec_len};
 ghost use Rattle.dt_expr.specs.Form.{form_of};
 ghost use Rattle.dt_lang.specs.Cause.{full, keys_full};
 ghost use Rattle.dt_lang.specs.Grammar.{call_of};
-ghost use Rattle.dt_lang.specs.PlaceView.{keys_of, slot_of};
+ghost use Rattle.dt_lang.specs.PlaceView.{key_forms, slot_form};
 ghost use Rattle.dt_lang.specs.Program.{aggregate, form_of_call, form_of_statement};
 ghost use Rattle.dt_lang.specs.Stand.{divides_in};
 
@@ -23,7 +23,7 @@ impl Target {
     /// The statement that gives a value to this aggregation.
     pub(crate) fn aggregate(self, call: Call) -> Statement
         requires { vec_len self.keys ≤ KEYS_MAX }
-        ensures { form_of_statement result ≡ aggregate self.name (keys_of self) (form_of_call call) }
+        ensures { form_of_statement result ≡ aggregate self.name (key_forms self) (form_of_call call) }
     {
         Statement::Aggregate(Aggregation {
             name: self.name,
@@ -51,21 +51,21 @@ pub(crate) enum Slot {
 impl Slot {
     /// Whether `/` is an operator there, outside parentheses.
     pub(crate) fn divides(&self) -> bool
-        ensures { result ≡ divides_in (slot_of self.now) }
+        ensures { result ≡ divides_in (slot_form self.now) }
     {
         !matches!(self, Slot::Predicate)
     }
 
     /// Whether a further token would be one too many, or the first of one key too many.
     pub(crate) fn is_full(&self, count: usize) -> bool
-        ensures { result ≡ full (slot_of self.now) count }
+        ensures { result ≡ full (slot_form self.now) count }
     {
         count >= TOKENS_MAX || (count == 0 && self.keys_are_full())
     }
 
     /// Whether a further key would be one too many.
     fn keys_are_full(&self) -> bool
-        ensures { result ≡ keys_full (slot_of self.now) }
+        ensures { result ≡ keys_full (slot_form self.now) }
     {
         match self {
             Slot::Key(target) => target.keys.len() >= KEYS_MAX,

@@ -1,12 +1,12 @@
 //! The reader of programs: a token at a time.
 ghost use Rattle.std.specs.Prelude.{◌≡◌, ◌≤◌, ◌<◌, IfOk, None, Some, false, if◌then◌else◌, not, option_map, length, List, [], ◌∷◌, ◌++◌, vec_len};
 ghost use Rattle.dt_expr.specs.Form.{form_of};
-ghost use Rattle.dt_lang.specs.ClauseState.{ProgramState, step, body, bounded, bounding, from_bounded, ended, entered, finished, from_applied, from_assigned, from_begins, from_bounding, from_called, from_closing, from_described, from_ends, from_framed, from_guarded, from_keyed, from_listed, from_named, from_negating, from_outside, given, headed, opened, outside, shut, shut_key, shut_predicate, shut_value, state, start, from_within};
-ghost use Rattle.dt_lang.specs.Cause.{are_bounds, out_of_range_at, takes, too_long_at};
-ghost use Rattle.dt_lang.specs.Early.{Answers, Outcome, cause_of_refusal, early_at};
-ghost use Rattle.dt_lang.specs.Fits.{Fits, FitsClause, FitsWithin, HasRoom};
+ghost use Rattle.dt_lang.specs.ClauseState.{ProgramState, step, body, bounded, bounding, from_bounded, ended, entered, finished, from_applied, from_assigned, from_begins, from_bounding, from_called, from_closing, from_described, from_ends, from_framed, from_guarded, from_keyed, from_listed, from_named, from_negating, from_outside, function_given, headed, opened, outside, shut, shut_key, shut_predicate, shut_value, program_at, program_start, from_within};
+ghost use Rattle.dt_lang.specs.Cause.{are_bounds, out_of_range_at, takes_token, too_long_at};
+ghost use Rattle.dt_lang.specs.Early.{AnswersToken, Outcome, cause_of_refusal, early_at};
+ghost use Rattle.dt_lang.specs.Fits.{Fits, FitsClause, FitsWithin, SlotHasRoom};
 ghost use Rattle.dt_lang.specs.ExpressionView.{state_of};
-ghost use Rattle.dt_lang.specs.PlaceView.{bound_of, keys_of, place_of, slot_of};
+ghost use Rattle.dt_lang.specs.PlaceView.{bound_of, key_forms, place_form, slot_form};
 ghost use Rattle.dt_lang.specs.Program.{aggregate, form_of_argument, form_of_program, lquantize, form_of_clause, form_of_statement, number};
 ghost use Rattle.dt_lang.specs.ReaderView.{Leads, clause_of, clauses_of, program_state_of};
 ghost use Rattle.dt_lang.specs.declared.program.TheConstants.{DESCRIPTIONS_MAX, KEYS_MAX, STATEMENTS_MAX};
@@ -43,7 +43,7 @@ pub(crate) struct ProgramReader {
 impl ProgramReader {
     /// A reader that has read nothing.
     pub(crate) fn new(alloc: Global) -> Self
-        ensures { program_state_of result ≡ start }
+        ensures { program_state_of result ≡ program_start }
     {
         ProgramReader {
             clauses: Vec::new(alloc),
@@ -62,7 +62,7 @@ impl ProgramReader {
         token: Token,
     ) -> Result<Option<Refusal>, AllocError>
         requires { Fits (program_state_of self.old) }
-        ensures { IfOk result (λ refused. Answers (program_state_of self.old) token refused
+        ensures { IfOk result (λ refused. AnswersToken (program_state_of self.old) token refused
             (program_state_of self.new)) }
     {
         if self.exceeds(alloc, &token)? {
@@ -93,7 +93,7 @@ impl ProgramReader {
 
     /// Begins what is read for a slot.
     fn enter(&mut self, slot: Slot)
-        ensures { program_state_of self.new ≡ entered (clauses_of self.old) (clause_of self.old) (slot_of slot) }
+        ensures { program_state_of self.new ≡ entered (clauses_of self.old) (clause_of self.old) (slot_form slot) }
     {
         self.expression.begin(slot.divides());
         self.place = Place::Within { slot, count: 0 };
@@ -113,7 +113,7 @@ impl ProgramReader {
     fn end_clause(&mut self, alloc: Global) -> Result<(), AllocError>
         requires { FitsClause (clauses_of self.old) (clause_of self.old) }
         ensures { IfOk result (λ _. program_state_of self.new
-            ≡ state (clauses_of self.old ++ (clause_of self.old ∷ [])) (headed []) outside) }
+            ≡ program_at (clauses_of self.old ++ (clause_of self.old ∷ [])) (headed []) outside) }
     {
         let clause = Clause {
             descriptions: mem::replace(&mut self.descriptions, Vec::new(alloc)),
@@ -302,7 +302,7 @@ impl ProgramReader {
 
     /// Reads a token behind an aggregation's keys.
     fn from_keyed(&mut self, target: Target, token: &Token) -> bool
-        ensures { Leads (from_keyed (clauses_of self.old) (clause_of self.old) target.name (keys_of target) token.now)
+        ensures { Leads (from_keyed (clauses_of self.old) (clause_of self.old) target.name (key_forms target) token.now)
             result (program_state_of self.new) }
     {
         match token {
@@ -317,7 +317,7 @@ impl ProgramReader {
     /// Reads a token behind the `=` of an aggregation.
     fn from_assigned(&mut self, target: Target, token: &Token) -> bool
         ensures { Leads
-            (from_assigned (clauses_of self.old) (clause_of self.old) target.name (keys_of target) token.now) result
+            (from_assigned (clauses_of self.old) (clause_of self.old) target.name (key_forms target) token.now) result
             (program_state_of self.new) }
     {
         match token {
@@ -333,7 +333,7 @@ impl ProgramReader {
     fn from_applied(&mut self, target: Target, function: Function, token: &Token) -> bool
         requires { vec_len target.keys ≤ KEYS_MAX }
         ensures { Leads
-            (from_applied (clauses_of self.old) (clause_of self.old) target.name (keys_of target) function token.now)
+            (from_applied (clauses_of self.old) (clause_of self.old) target.name (key_forms target) function token.now)
             result (program_state_of self.new) }
     {
         match token {
@@ -356,10 +356,10 @@ impl ProgramReader {
         count: usize,
         token: &Token,
     ) -> Result<bool, AllocError>
-        requires { FitsWithin (clauses_of self.old) (clause_of self.old) (slot_of slot) count
+        requires { FitsWithin (clauses_of self.old) (clause_of self.old) (slot_form slot) count
             (state_of self.old.expression) }
         ensures { IfOk result (λ on. Leads
-            (from_within (clauses_of self.old) (clause_of self.old) (slot_of slot) count
+            (from_within (clauses_of self.old) (clause_of self.old) (slot_form slot) count
             (state_of self.old.expression) token.now) on (program_state_of self.new)) }
     {
         if self.expression.push(alloc, token)? {
@@ -377,9 +377,9 @@ impl ProgramReader {
 
     /// Ends what was read for a slot.
     fn shut(&mut self, slot: Slot, argument: Argument, token: &Token) -> Result<bool, AllocError>
-        requires { HasRoom (slot_of slot) }
+        requires { SlotHasRoom (slot_form slot) }
         ensures { IfOk result (λ on. Leads
-            (shut (clauses_of self.old) (clause_of self.old) (slot_of slot) token.now (form_of_argument argument)) on
+            (shut (clauses_of self.old) (clause_of self.old) (slot_form slot) token.now (form_of_argument argument)) on
             (program_state_of self.new)) }
     {
         match (slot, argument) {
@@ -419,7 +419,7 @@ impl ProgramReader {
         token: &Token,
     ) -> Result<bool, AllocError>
         ensures { IfOk result (λ on. Leads
-            (shut_key (clauses_of self.old) (clause_of self.old) target.name (keys_of target)
+            (shut_key (clauses_of self.old) (clause_of self.old) target.name (key_forms target)
             (form_of_argument argument) token.now) on (program_state_of self.new)) }
     {
         let mut target = target;
@@ -442,7 +442,7 @@ impl ProgramReader {
     ) -> Result<bool, AllocError>
         requires { vec_len target.keys ≤ KEYS_MAX }
         ensures { IfOk result (λ on. Leads
-            (shut_value (clauses_of self.old) (clause_of self.old) target.name (keys_of target) function
+            (shut_value (clauses_of self.old) (clause_of self.old) target.name (key_forms target) function
             (number (form_of value)) token.now) on (program_state_of self.new)) }
     {
         match token {
@@ -468,7 +468,7 @@ impl ProgramReader {
     /// Reads a token where a bound stands.
     fn from_bounding(&mut self, levels: Levels, token: &Token) -> bool
         ensures { Leads
-            (from_bounding (clauses_of self.old) (clause_of self.old) levels.target.name (keys_of levels.target)
+            (from_bounding (clauses_of self.old) (clause_of self.old) levels.target.name (key_forms levels.target)
             (form_of levels.value) (bound_of levels.bound) token.now) result (program_state_of self.new) }
     {
         match token {
@@ -487,7 +487,7 @@ impl ProgramReader {
     /// Reads a token behind the `-` of a bound.
     fn from_negating(&mut self, levels: Levels, token: &Token) -> bool
         ensures { Leads
-            (from_negating (clauses_of self.old) (clause_of self.old) levels.target.name (keys_of levels.target)
+            (from_negating (clauses_of self.old) (clause_of self.old) levels.target.name (key_forms levels.target)
             (form_of levels.value) (bound_of levels.bound) token.now) result (program_state_of self.new) }
     {
         match token {
@@ -508,9 +508,9 @@ impl ProgramReader {
     ) -> Result<Option<Why>, AllocError>
         requires { vec_len levels.target.keys ≤ KEYS_MAX }
         ensures { IfOk result (λ why. Outcome
-            (from_bounded (clauses_of self.old) (clause_of self.old) levels.target.name (keys_of levels.target)
+            (from_bounded (clauses_of self.old) (clause_of self.old) levels.target.name (key_forms levels.target)
             (form_of levels.value) (bound_of levels.bound) last token.now)
-            (out_of_range_at (bounded levels.target.name (keys_of levels.target) (form_of levels.value)
+            (out_of_range_at (bounded levels.target.name (key_forms levels.target) (form_of levels.value)
             (bound_of levels.bound) last) token.now) why (program_state_of self.new)) }
     {
         let Levels {
@@ -539,8 +539,8 @@ impl ProgramReader {
 
     /// Begins a bound.
     fn begin_bound(&mut self, target: Target, value: Expr, bound: Bound)
-        ensures { program_state_of self.new ≡ state (clauses_of self.old) (clause_of self.old)
-            (bounding target.name (keys_of target) (form_of value) (bound_of bound)) }
+        ensures { program_state_of self.new ≡ program_at (clauses_of self.old) (clause_of self.old)
+            (bounding target.name (key_forms target) (form_of value) (bound_of bound)) }
     {
         self.place = Place::Bounding(Levels {
             target,
@@ -561,7 +561,7 @@ impl ProgramReader {
         requires { vec_len target.keys ≤ KEYS_MAX }
         ensures { IfOk result (λ why. Outcome
             (Some (ended (clauses_of self.old) (clause_of self.old)
-            (aggregate target.name (keys_of target) (lquantize (form_of value) lower upper step))))
+            (aggregate target.name (key_forms target) (lquantize (form_of value) lower upper step))))
             (not (are_bounds lower upper step)) why (program_state_of self.new)) }
     {
         match Bounds::new(lower, upper, step) {
@@ -578,7 +578,7 @@ impl ProgramReader {
     fn exceeds(&mut self, alloc: Global, token: &Token) -> Result<bool, AllocError>
         ensures told { IfOk result (λ over.
             too_long_at (clauses_of self.old) (clause_of self.old)
-            (place_of (state_of self.old.expression) self.old.place) token.now ≡ over) }
+            (place_form (state_of self.old.expression) self.old.place) token.now ≡ over) }
         ensures kept { IfOk result (λ over. over ≡ false
             → program_state_of self.new ≡ program_state_of self.old) }
     {
@@ -597,7 +597,7 @@ impl ProgramReader {
 
     /// Whether a token is one more of what is read for a slot. If it isn't, nothing is changed.
     fn takes(&mut self, alloc: Global, token: &Token) -> Result<bool, AllocError>
-        ensures told { IfOk result (λ on. takes (state_of self.old.expression) token.now ≡ on) }
+        ensures told { IfOk result (λ on. takes_token (state_of self.old.expression) token.now ≡ on) }
         ensures kept { IfOk result (λ on. on ≡ false → program_state_of self.new ≡ program_state_of self.old) }
     {
         let wants = self.expression.wants_operand();
@@ -608,7 +608,7 @@ impl ProgramReader {
     /// The cause that a token shows at its place, before it is known whether it goes on.
     fn early(&self, token: &Token) -> Option<Refusal>
         ensures { option_map cause_of_refusal result
-            ≡ early_at (place_of (state_of self.now.expression) self.now.place) token.now }
+            ≡ early_at (place_form (state_of self.now.expression) self.now.place) token.now }
     {
         match &self.place {
             Place::Begins => early_begins(token),
@@ -623,7 +623,7 @@ impl ProgramReader {
     fn step(&mut self, alloc: Global, token: Token) -> Result<Option<Why>, AllocError>
         requires { Fits (program_state_of self.old) }
         ensures { IfOk result (λ why. Outcome (step (program_state_of self.old) token)
-            (out_of_range_at (place_of (state_of self.old.expression) self.old.place) token) why
+            (out_of_range_at (place_form (state_of self.old.expression) self.old.place) token) why
             (program_state_of self.new)) }
     {
         match mem::replace(&mut self.place, Place::Outside) {

@@ -15,7 +15,7 @@ use Rattle.std.proofs.lemmas.List.Folds.{find-append}
 use Rattle.std.specs.List.{list_any}
 use Rattle.std.specs.Option.{option_or, option_copied}
 use Rattle.dt_cred.specs.declared.account.Process.{Process}
-use Rattle.dt_machine.specs.Rows.{ProcessRow, process, number_in, IsBelow}
+use Rattle.dt_machine.specs.Rows.{ProcessRow, process, number_in, IsGivenBelow}
 use Rattle.dt_machine.proofs.Lists.{any_false, any_true, list_any-map}
 
 some_step : {A : Type 0} (b : Bool) (y : A) (o : Option A) (any : Bool) → is_some o ≡ any
@@ -33,7 +33,7 @@ pub looked_up : {A : Type 0} (r : Option (Bor A)) (o : Option A) (b : Bool) → 
 looked_up None o b e h = ap is_some (sym e) ∙ h
 looked_up (Some x) o b e h = ap is_some (sym e) ∙ h
 
-pub below_some : (limit : ℕ) (number : Option ℕ) → IsBelow limit number → number ≡ Some (number_in number)
+pub below_some : (limit : ℕ) (number : Option ℕ) → IsGivenBelow limit number → number ≡ Some (number_in number)
 below_some limit None h = absurd h
 below_some limit (Some n) h = refl
 
@@ -159,7 +159,7 @@ below_or_not : (n limit : ℕ) → (n < limit) ⊎ (limit ≤ n)
 below_or_not n limit = grind arith
 
 pub unknown : (processes : List Process) (number : Option ℕ) → All (λ p. p.pid < 2 ^ 32) processes
-    → (IsBelow (2 ^ 32) number → ⊥) → IsSomeAnd number (λ pid. IsSome (find (at_pid pid) processes)) → ⊥
+    → (IsGivenBelow (2 ^ 32) number → ⊥) → IsSomeAnd number (λ pid. IsSome (find (at_pid pid) processes)) → ⊥
 unknown processes None small large known = known
 unknown processes (Some n) small large known = elim (below_or_not n (2 ^ 32)) [
   | inl less ↦ large less

@@ -16,7 +16,7 @@ use Rattle.dt_machine.specs.Reading.{AllRight, AllRightIn, Passes, Registers, ac
 use Rattle.dt_machine.specs.Reading.{scripts_in}
 use Rattle.dt_machine.specs.Registry.{Registry, Belongs, IsSound, IsNumbered, IsPlaced, probe_of, firing_at}
 use Rattle.dt_machine.specs.Rows.{AccountRow, ProcessRow, FiringRow, account, process, firing, script, scripts}
-use Rattle.dt_machine.specs.Rows.{number_in, AreProbes, IsBelow, IsRightAccount, IsRightProcess, HasRoom}
+use Rattle.dt_machine.specs.Rows.{number_in, AreProbes, IsGivenBelow, IsRightAccount, IsRightProcess, HasRoom}
 use Rattle.dt_machine.specs.Sections.{AreSections, registry_of}
 use Rattle.dt_machine.specs.declared.sections.Sections.{Sections}
 use Rattle.dt_machine.proofs.ByPid.{at_pid, below_some}
@@ -69,7 +69,7 @@ pids_apart rows right =
     (before_at rows i j x (λ (e : ProcessRow). e.pid ≢ y.pid) less there (omega arith) right_y.new))
 
 -- the number of every process is of six digits at most
-below_value : (number : Option ℕ) → IsBelow 1000000 number → number_in number ≤ 999999
+below_value : (number : Option ℕ) → IsGivenBelow 1000000 number → number_in number ≤ 999999
 below_value None h = absurd h
 below_value (Some n) h = omega arith
 

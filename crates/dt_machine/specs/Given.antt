@@ -32,8 +32,8 @@ abbrev pub is_list_of : (Data → Bool) → Data → Bool
 is_list_of test d = option_map_or (list_all test) (items d) false
 
 -- the key is there, with a value that passes
-abbrev pub has : List ℕ → (Data → Bool) → Data → Bool
-has key test d = option_map_or test (get key d) false
+abbrev pub has_field : List ℕ → (Data → Bool) → Data → Bool
+has_field key test d = option_map_or test (get key d) false
 
 -- the key is not there, or its value passes
 abbrev pub may_have : List ℕ → (Data → Bool) → Data → Bool

@@ -7,6 +7,6 @@ abbrev pub contents_of : Inside → Contents
 contents_of a = contents_with (registry_of a.sections) a.scripts.items
 
 -- The machine is sound, and its processes are found by their numbers.
-pub record IsKept (a : Inside) : Type 0 where
+pub record IsSoundInside (a : Inside) : Type 0 where
   pub sound : IsSound (contents_of a)
   pub ready : IsReady a.sections

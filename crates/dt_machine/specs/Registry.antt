@@ -9,7 +9,7 @@ use Rattle.dt_cred.specs.declared.account.Process.{Process}
 use Rattle.dt_cred.specs.declared.class.Class.TheVariants.{Pid}
 use Rattle.dt_cred.specs.declared.probe.Probe.{Probe}
 use Rattle.dt_machine.specs.declared.firing.Firing.{Firing}
-use Rattle.dt_machine.specs.declared.limits.TheConstants.{CPUS_MAX, ACCOUNTS_MAX, PROCESSES_MAX, PID_MAX, PROBE_ID_MAX, SCRIPT_MAX}
+use Rattle.dt_machine.specs.declared.limits.TheConstants.{CPUS_MAX, ACCOUNTS_MAX, FIRST_PROBE_ID, PROCESSES_MAX, PID_MAX, PROBE_ID_MAX, SCRIPT_MAX}
 
 -- what every run on a machine has in common: all of its file but the scripts
 pub record Registry : Type 0 where
@@ -44,7 +44,7 @@ firing_at scripts cpu place = option_and_then (λ script. slice_get script place
 -- and the process is the one that the probe's `pid` provider names, where it has such a provider.
 pub record Belongs (registry : Registry) (firing : Firing) : Type 0 where
   pub cpu : firing.cpu < registry.cpus
-  pub of_file : 3 ≤ firing.probe
+  pub of_file : FIRST_PROBE_ID ≤ firing.probe
   pub probe : IsSome (probe_of registry firing.probe)
   pub process : IsSome (process_of registry firing.pid)
   pub traced : IfSome (probe_of registry firing.probe) (λ probe. (pid : ℕ) → probe.class ≡ Pid pid → firing.pid ≡ pid)

@@ -17,7 +17,7 @@ use Rattle.dt_cred.specs.declared.rights.Mode.TheVariants.{User, Kernel}
 use Rattle.dt_machine.specs.declared.firing.Firing.{Firing}
 use Rattle.dt_machine.specs.Given.{unsigned, signed, unsigned_at, text_of, text_at, items_of, list_at}
 use Rattle.dt_machine.specs.Registry.{Registry, probe_of, process_of}
-use Rattle.dt_machine.specs.declared.limits.TheConstants.{ACCOUNTS_MAX, ARGS, SCRIPT_MAX, FRAMES, PID_MAX, PROBES_MAX, PROCESSES_MAX}
+use Rattle.dt_machine.specs.declared.limits.TheConstants.{ACCOUNTS_MAX, FIRST_PROBE_ID, ARGS, SCRIPT_MAX, FRAMES, PID_MAX, PROBES_MAX, PROCESSES_MAX}
 
 -- The rows. A number that is None is one that no such number can be: negative, or past 64 bits.
 pub record AccountRow : Type 0 where
@@ -135,8 +135,8 @@ AreProbes id (text ∷ texts) (probe ∷ probes) = (probe.id ≡ id) × SpellsTu
     × IsClassOf probe.tuple.provider probe.class × AreProbes (id + 1) texts probes
 
 -- Where a row is right, given the rows before it.
-abbrev pub IsBelow : ℕ → Option ℕ → Type 0
-IsBelow limit number = IsSomeAnd number (λ n. n < limit)
+abbrev pub IsGivenBelow : ℕ → Option ℕ → Type 0
+IsGivenBelow limit number = IsSomeAnd number (λ n. n < limit)
 
 -- a small letter, a digit, an underscore or a hyphen
 abbrev pub IsAccountByte : ℕ → Type 0
@@ -155,7 +155,7 @@ pub record IsRightAccount (before : List AccountRow) (row : AccountRow) : Type 0
   pub few : length before < ACCOUNTS_MAX
   pub named : IsAccountName row.name
   pub new : All (λ earlier. earlier.name ≢ row.name) before
-  pub uid : IsBelow (2 ^ 32) row.uid
+  pub uid : IsGivenBelow (2 ^ 32) row.uid
   pub privs : All IsPriv row.privs
 
 -- visible ASCII characters and spaces
@@ -165,9 +165,9 @@ pub record IsExecname (text : List ℕ) : Type 0 where
 
 pub record IsRightProcess (before : List ProcessRow) (row : ProcessRow) : Type 0 where
   pub few : length before < PROCESSES_MAX
-  pub pid : IsBelow (PID_MAX + 1) row.pid
+  pub pid : IsGivenBelow (PID_MAX + 1) row.pid
   pub new : All (λ earlier. earlier.pid ≢ row.pid) before
-  pub uid : IsBelow (2 ^ 32) row.uid
+  pub uid : IsGivenBelow (2 ^ 32) row.uid
   pub named : IsExecname row.execname
 
 -- A probe is not of the provider `dtrace`, and its `pid` provider names one of the processes, if it has one.
@@ -186,7 +186,7 @@ pub record AreArguments (given : List (Option ℤ)) : Type 0 where
   pub few : length given ≤ ARGS
   pub each : All IsSome given
 
-pub record AreFrames (given : List (Option ℕ)) : Type 0 where
+pub record AreGivenFrames (given : List (Option ℕ)) : Type 0 where
   pub few : length given ≤ FRAMES
   pub each : All IsSome given
 
@@ -195,14 +195,14 @@ HasRoom before row = length before < SCRIPT_MAX
 
 -- the identifier of one of the file's probes
 abbrev pub IsGivenProbe : Registry → ℕ → Type 0
-IsGivenProbe registry id = (3 ≤ id) × IsSome (probe_of registry id)
+IsGivenProbe registry id = (FIRST_PROBE_ID ≤ id) × IsSome (probe_of registry id)
 
 pub record IsRightFiring (registry : Registry) (before : List FiringRow) (row : FiringRow) : Type 0 where
   pub probe : IsSomeAnd row.probe (IsGivenProbe registry)
   pub pid : IsSomeAnd row.pid (λ pid. IsSome (process_of registry pid))
-  pub tid : IsBelow (2 ^ 32) row.tid
+  pub tid : IsGivenBelow (2 ^ 32) row.tid
   pub mode : IsMode row.mode
-  pub timestamp : IsBelow (2 ^ 63) row.timestamp
+  pub timestamp : IsGivenBelow (2 ^ 63) row.timestamp
   pub args : AreArguments row.args
-  pub kstack : AreFrames row.kstack
-  pub ustack : AreFrames row.ustack
+  pub kstack : AreGivenFrames row.kstack
+  pub ustack : AreGivenFrames row.ustack

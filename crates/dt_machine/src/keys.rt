@@ -2,7 +2,7 @@
 ghost use Rattle.std.specs.Prelude.{◌≡◌, ◌^◌, ℕ, List, Some, map, option_map, is_some, codes, MatchOption};
 ghost use Rattle.serde_json.specs.View.{view};
 ghost use Rattle.dt_machine.specs.Given.{items, is_integer, is_text, unsigned, signed, unsigned_at, text_of, text_at, items_of, list_at};
-ghost use Rattle.dt_machine.specs.Rows.{IsBelow, number_in};
+ghost use Rattle.dt_machine.specs.Rows.{IsGivenBelow, number_in};
 
 use serde_json::Value;
 
@@ -68,8 +68,8 @@ pub(crate) fn unsigned_at(value: &Value, key: &str, other: Option<u64>) -> Optio
 
 /// A number of 32 bits.
 pub(crate) fn u32_of(number: Option<u64>) -> Option<u32>
-    ensures { MatchOption result (IsBelow (2 ^ 32) number → ⊥)
-        (λ found. IsBelow (2 ^ 32) number × (found ≡ number_in number)) }
+    ensures { MatchOption result (IsGivenBelow (2 ^ 32) number → ⊥)
+        (λ found. IsGivenBelow (2 ^ 32) number × (found ≡ number_in number)) }
 {
     match number {
         Some(number) if number <= 0xffff_ffff => Some(number as u32),

@@ -31,7 +31,7 @@ pub use firing::Firing;
 pub use interest::Interest;
 pub use law::one_answer;
 pub use limits::{
-    ACCOUNTS_MAX, ARGS, CPUS_MAX, FRAMES, PID_MAX, PROBE_ID_MAX, PROBES_MAX, PROCESSES_MAX,
-    SCRIPT_MAX,
+    ACCOUNTS_MAX, ARGS, CPUS_MAX, FIRST_PROBE_ID, FRAMES, PID_MAX, PROBE_ID_MAX, PROBES_MAX,
+    PROCESSES_MAX, SCRIPT_MAX,
 };
 pub use machine::Machine;

@@ -15,7 +15,10 @@ pub const PID_MAX: u32 = 999_999;
 /// The most probes of the file.
 pub const PROBES_MAX: usize = 4096;
 
-/// The greatest identifier of a probe: `BEGIN` and `END` have 1 and 2, and the file's probes follow.
+/// The identifier of the file's first probe: `BEGIN` and `END` have 1 and 2, and the file's probes follow.
+pub const FIRST_PROBE_ID: u32 = 3;
+
+/// The greatest identifier of a probe: that of the last of the file, where it has as many as it may.
 pub const PROBE_ID_MAX: u32 = 4098;
 
 /// The most firings of a processor's script.

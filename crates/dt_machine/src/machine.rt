@@ -32,11 +32,11 @@ impl Model for Machine {
 
     ghost Value = { Contents };
 
-    ghost use Rattle.dt_machine.specs.Inside.{contents_of, IsKept};
+    ghost use Rattle.dt_machine.specs.Inside.{contents_of, IsSoundInside};
 
     ghost view = { contents_of };
 
-    ghost invariant = { IsKept };
+    ghost invariant = { IsSoundInside };
 }
 
 impl Machine {

@@ -2,7 +2,7 @@
 ghost use Rattle.std.specs.Prelude.{◌≡◌, List, map, MatchOption};
 ghost use Rattle.serde_json.specs.View.{view};
 ghost use Rattle.dt_machine.specs.Given.{signed, unsigned};
-ghost use Rattle.dt_machine.specs.Rows.{arguments, frames, AreArguments, AreFrames};
+ghost use Rattle.dt_machine.specs.Rows.{arguments, frames, AreArguments, AreGivenFrames};
 
 use crate::limits::{ARGS, FRAMES};
 use serde_json::Value;
@@ -25,8 +25,8 @@ pub(crate) fn arguments_of(list: &[Value]) -> Option<[i64; ARGS]>
 
 /// The frames, if there are not too many, and zeros after them.
 pub(crate) fn frames_of(list: &[Value]) -> Option<[u64; FRAMES]>
-    ensures { MatchOption result (AreFrames (map unsigned (map view list.now)) → ⊥)
-        (λ found. AreFrames (map unsigned (map view list.now)) × (found ≡ frames (map unsigned (map view list.now)))) }
+    ensures { MatchOption result (AreGivenFrames (map unsigned (map view list.now)) → ⊥)
+        (λ found. AreGivenFrames (map unsigned (map view list.now)) × (found ≡ frames (map unsigned (map view list.now)))) }
 {
     if list.len() > FRAMES {
         return None;

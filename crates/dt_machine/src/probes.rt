@@ -4,13 +4,14 @@ ghost use Rattle.std.specs.List.{list_any};
 ghost use Rattle.dt_names.specs.Tuple.{SpellsTuple};
 ghost use Rattle.dt_cred.specs.Class.{IsClassOf};
 ghost use Rattle.dt_cred.specs.declared.probe.Probe.{Probe};
+ghost use Rattle.dt_machine.specs.declared.limits.TheConstants.{FIRST_PROBE_ID};
 ghost use Rattle.dt_machine.specs.Rows.{AreProbes, IsRightProbe};
 ghost use Rattle.dt_machine.specs.Reading.{AllRight};
 ghost use Rattle.dt_machine.specs.Sections.{NowhereIfMemory, UnlessMemory, IsMiss, IsTraced, eq_tuples, texts};
 
 use crate::fault::{FaultNumber, MachineFault};
 use crate::keys::text_of;
-use crate::limits::PROBES_MAX;
+use crate::limits::{FIRST_PROBE_ID, PROBES_MAX};
 use dt_cred::{Class, Probe, Process};
 use dt_names::ProbeTuple;
 use serde_json::Value;
@@ -61,10 +62,10 @@ fn own_probes(alloc: Global) -> Result<Vec<Probe>, AllocError>
 
 /// The probe of a row, if it is right after these of the file.
 fn probe_of(before: &[Probe], processes: &[Process], text: &[u8]) -> Option<Probe>
-    ensures { (rows : List (List ℕ)) → AreProbes 3 rows before.now
+    ensures { (rows : List (List ℕ)) → AreProbes FIRST_PROBE_ID rows before.now
         → MatchOption result (IsRightProbe processes.now rows text.now → ⊥)
         (λ probe. IsRightProbe processes.now rows text.now
-        × (probe.id ≡ length before.now + 3) × SpellsTuple text.now probe.tuple
+        × (probe.id ≡ length before.now + FIRST_PROBE_ID) × SpellsTuple text.now probe.tuple
         × IsClassOf probe.tuple.provider probe.class) }
 {
     if before.len() >= PROBES_MAX {
@@ -74,7 +75,7 @@ fn probe_of(before: &[Probe], processes: &[Process], text: &[u8]) -> Option<Prob
     if is_taken(before, &tuple) {
         return None;
     }
-    let probe = Probe::new(before.len() as u32 + 3, tuple);
+    let probe = Probe::new(before.len() as u32 + FIRST_PROBE_ID, tuple);
     if !is_traced(probe.class, processes) {
         return None;
     }

@@ -1,7 +1,7 @@
 //! The processes of the file.
 ghost use Rattle.std.specs.Prelude.{◌≡◌, ◌≢◌, ◌^◌, ◌+◌, ◌↔◌, ◌≤◌, ◌<◌, All, List, Some, None, IsTrue, IsSome, IfOk, IfErr, MatchOption, map, length, find, ◌==◌};
 ghost use Rattle.serde_json.specs.View.{view};
-ghost use Rattle.dt_machine.specs.Rows.{ProcessRow, process_row, process, number_in, IsBelow, IsExecname, IsRightProcess};
+ghost use Rattle.dt_machine.specs.Rows.{ProcessRow, process_row, process, number_in, IsGivenBelow, IsExecname, IsRightProcess};
 ghost use Rattle.dt_machine.specs.Reading.{AllRight};
 ghost use Rattle.dt_machine.specs.Sections.{NowhereIfMemory, UnlessMemory, IsMiss, Indexes, process_rows};
 
@@ -69,8 +69,8 @@ fn process_of(before: usize, by_pid: &HashMap<u32, usize>, row: &Value) -> Optio
 }
 
 fn pid_of(number: Option<u64>) -> Option<u32>
-    ensures { MatchOption result (IsBelow (PID_MAX + 1) number → ⊥)
-        (λ found. IsBelow (PID_MAX + 1) number × (found ≡ number_in number)) }
+    ensures { MatchOption result (IsGivenBelow (PID_MAX + 1) number → ⊥)
+        (λ found. IsGivenBelow (PID_MAX + 1) number × (found ≡ number_in number)) }
 {
     match number {
         Some(number) if number <= u64::from(PID_MAX) => Some(number as u32),

@@ -3,14 +3,14 @@ ghost use Rattle.std.specs.Prelude.{◌≡◌, ◌≢◌, ◌^◌, ◌↔◌, �
 ghost use Rattle.serde_json.specs.View.{view};
 ghost use Rattle.dt_machine.specs.Given.{items_of};
 ghost use Rattle.dt_machine.specs.Registry.{process_of};
-ghost use Rattle.dt_machine.specs.Rows.{FiringRow, firing_row, firing, script, scripts as scripts_of, mode, number_in, IsBelow, IsMode, HasRoom, IsGivenProbe, IsRightFiring};
+ghost use Rattle.dt_machine.specs.Rows.{FiringRow, firing_row, firing, script, scripts as scripts_of, mode, number_in, IsGivenBelow, IsMode, HasRoom, IsGivenProbe, IsRightFiring};
 ghost use Rattle.dt_machine.specs.Reading.{AllRight, AllRightIn, IsFirstWrong, IsFirstWrongIn};
 ghost use Rattle.dt_machine.specs.Sections.{NowhereIfMemory, UnlessMemory, IsReady, firing_rows, scripts_rows, registry_of};
 
 use crate::fault::{FaultNumber, MachineFault};
 use crate::firing::Firing;
 use crate::keys::{items_of, list_at, text_at, u32_of, unsigned_at};
-use crate::limits::{CPUS_MAX, SCRIPT_MAX};
+use crate::limits::{CPUS_MAX, FIRST_PROBE_ID, SCRIPT_MAX};
 use crate::numbers::{arguments_of, frames_of};
 use crate::sections::Sections;
 use dt_cred::Mode;
@@ -122,7 +122,7 @@ fn probe_of(sections: &Sections, number: Option<u64>) -> Option<u32>
         (λ id. IsSomeAnd number (IsGivenProbe (registry_of sections.now)) × (id ≡ number_in number)) }
 {
     let number = number?;
-    if number < 3 || number > sections.probes.len() as u64 {
+    if number < u64::from(FIRST_PROBE_ID) || number > sections.probes.len() as u64 {
         return None;
     }
     Some(number as u32)
@@ -153,8 +153,8 @@ fn mode_of(text: &str) -> Option<Mode>
 }
 
 fn timestamp_of(number: Option<u64>) -> Option<i64>
-    ensures { MatchOption result (IsBelow (2 ^ 63) number → ⊥)
-        (λ found. IsBelow (2 ^ 63) number × (found ≡ pos (number_in number))) }
+    ensures { MatchOption result (IsGivenBelow (2 ^ 63) number → ⊥)
+        (λ found. IsGivenBelow (2 ^ 63) number × (found ≡ pos (number_in number))) }
 {
     match number {
         Some(number) if number <= 0x7fff_ffff_ffff_ffff => Some(number as i64),

@@ -10,7 +10,7 @@ use crate::accounts::read_accounts;
 use crate::fault::{FaultNumber, MachineFault};
 use crate::firing::Firing;
 use crate::keys::{list_at, unsigned_at};
-use crate::limits::{CPUS_MAX, SCRIPT_MAX};
+use crate::limits::{CPUS_MAX, FIRST_PROBE_ID, SCRIPT_MAX};
 use crate::probes::read_probes;
 use crate::processes::read_processes;
 use crate::scripts::first_long;
@@ -93,7 +93,7 @@ impl Sections {
             × (process_of (registry_of self.now) firing.now.pid ≡ Some found.1.now)) }
     {
         // BEGIN and END are no probes of scripts
-        if firing.cpu >= self.cpus || firing.probe < 3 {
+        if firing.cpu >= self.cpus || firing.probe < FIRST_PROBE_ID {
             return None;
         }
         let probe = self.probe(firing.probe)?;

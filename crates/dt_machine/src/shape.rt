@@ -2,7 +2,7 @@
 ghost use Rattle.std.specs.Prelude.{◌≡◌};
 ghost use Rattle.std.specs.List.{list_all};
 ghost use Rattle.serde_json.specs.View.{view};
-ghost use Rattle.dt_machine.specs.Given.{is_integer, is_text, is_list_of, has, may_have};
+ghost use Rattle.dt_machine.specs.Given.{is_integer, is_text, is_list_of, has_field, may_have};
 ghost use Rattle.dt_machine.specs.Shape.{is_account, is_process, is_numbers, has_details, has_numbers, is_firing, is_machine};
 
 use crate::keys::items;
@@ -123,7 +123,7 @@ fn has_numbers(value: &Value) -> bool
 }
 
 fn has_integer(value: &Value, key: &str) -> bool
-    ensures { result ≡ has key.now is_integer (view value.now) }
+    ensures { result ≡ has_field key.now is_integer (view value.now) }
 {
     match value.get(key) {
         Some(found) => is_integer(found),
@@ -132,7 +132,7 @@ fn has_integer(value: &Value, key: &str) -> bool
 }
 
 fn has_text(value: &Value, key: &str) -> bool
-    ensures { result ≡ has key.now is_text (view value.now) }
+    ensures { result ≡ has_field key.now is_text (view value.now) }
 {
     match value.get(key) {
         Some(found) => found.is_string(),

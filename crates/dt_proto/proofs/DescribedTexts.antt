@@ -10,9 +10,9 @@ use Rattle.serde_json.specs.View.{items_of}
 use Rattle.serde_json.specs.Written.{compact_text, items_text}
 use Rattle.serde_json.proofs.OnLiterals.{serde_json_on_literals}
 use Rattle.dt_cred.specs.declared.probe.Probe.{Probe}
-use Rattle.dt_record.specs.Layout.{FieldForm, number, text, stack, ustack, size_of}
+use Rattle.dt_record.specs.Layout.{FieldForm, number, text, stack, ustack, layout_size}
 use Rattle.dt_consumer.specs.Answer.{described}
-use Rattle.dt_proto.specs.Reply.{describe_text, field_data, field_text, reply_text, tuple_text}
+use Rattle.dt_proto.specs.Reply.{describe_text, field_data, quoted_word, reply_text, tuple_text}
 use Rattle.dt_proto.proofs.ItemTexts.{items_written}
 use Rattle.dt_proto.proofs.Texts.{IsPlain}
 
@@ -57,7 +57,7 @@ decimal_plain : (n : ℕ) → IsWrittenPlain (decimal n)
 unfolding digits
 decimal_plain n = onto_plain 64 n [] refl
 
-field_written : (field : FieldForm) → compact_text (field_data field) ≡ field_text field
+field_written : (field : FieldForm) → compact_text (field_data field) ≡ quoted_word field
 unfolding serde_json_on_literals
 field_written number = refl
 field_written text = refl
@@ -86,18 +86,18 @@ rounded epid probe words size =
     (codes "}") (10 ∷ []) (93 ∷ [])
 
 parts : (epid : ℕ) (probe : Probe) (fields : List FieldForm) → reply_text (described epid probe (Some fields))
-    ≡ round epid probe (items_text false (items_of (map field_data fields))) (decimal (size_of (Some fields)))
+    ≡ round epid probe (items_text false (items_of (map field_data fields))) (decimal (layout_size (Some fields)))
 unfolding serde_json_on_literals round
 parts epid probe fields = refl
 
 pub text-described : (epid : ℕ) (probe : Probe) (fields : List FieldForm)
     → reply_text (described epid probe (Some fields))
-    ≡ describe_text epid probe (join_with_byte 44 (map field_text fields)) (decimal (size_of (Some fields)))
+    ≡ describe_text epid probe (join_with_byte 44 (map quoted_word fields)) (decimal (layout_size (Some fields)))
 text-described epid probe fields =
     parts epid probe fields
-    ∙ ap (λ words. round epid probe words (decimal (size_of (Some fields))))
-    (items_written FieldForm field_data field_text field_written fields)
-    ∙ rounded epid probe (join_with_byte 44 (map field_text fields)) (decimal (size_of (Some fields)))
+    ∙ ap (λ words. round epid probe words (decimal (layout_size (Some fields))))
+    (items_written FieldForm field_data quoted_word field_written fields)
+    ∙ rounded epid probe (join_with_byte 44 (map quoted_word fields)) (decimal (layout_size (Some fields)))
 
 zero_written : decimal 0 ≡ codes "0"
 unfolding digits

@@ -4,7 +4,7 @@ use Rattle.std.proofs.Common.{ap, ◌∙◌, inl, inr, ◌⊎◌, arith, append_
 use Rattle.std.proofs.lemmas.List.{length-append, length-take, take_at}
 use Rattle.std.proofs.lemmas.List.Elements.{All-append}
 use Rattle.std.proofs.Math.Seq.{take-length}
-use Rattle.dt_proto.specs.Lines.{LineForm, all_but_last, last_of, parts_of, form_of, lines_of, rest_of}
+use Rattle.dt_proto.specs.Lines.{LineForm, all_but_last, last_of, parts_of, line_form, lines_of, rest_of}
 use Rattle.dt_proto.specs.Splits.{HasNoNewline, with_newline, IsCut}
 use Rattle.dt_proto.specs.HasRead.{HasRead, is_whole, form_held}
 use Rattle.dt_proto.specs.declared.lines.Lines.{Lines}
@@ -22,7 +22,7 @@ parts-more input bytes none = parts-none (rest_of input ++ bytes) (unmarked_behi
 pub lines-more : (input bytes : List ℕ) → HasNoNewline bytes → lines_of (input ++ bytes) ≡ lines_of input ++ []
 lines-more input bytes none =
     lines-append input bytes
-    ∙ ap (λ parts. lines_of input ++ map form_of (all_but_last parts)) (parts-more input bytes none)
+    ∙ ap (λ parts. lines_of input ++ map line_form (all_but_last parts)) (parts-more input bytes none)
 
 pub rest-more : (input bytes : List ℕ) → HasNoNewline bytes → rest_of (input ++ bytes) ≡ rest_of input ++ bytes
 rest-more input bytes none = rest-append input bytes ∙ ap last_of (parts-more input bytes none)
@@ -35,10 +35,10 @@ parts-end input line none =
     ∙ parts-line (rest_of input ++ line) [] (unmarked_behind input line none)
 
 pub lines-end : (input line : List ℕ) → HasNoNewline line
-    → lines_of (input ++ with_newline line) ≡ lines_of input ++ form_of (rest_of input ++ line) ∷ []
+    → lines_of (input ++ with_newline line) ≡ lines_of input ++ line_form (rest_of input ++ line) ∷ []
 lines-end input line none =
     lines-append input (with_newline line)
-    ∙ ap (λ parts. lines_of input ++ map form_of (all_but_last parts)) (parts-end input line none)
+    ∙ ap (λ parts. lines_of input ++ map line_form (all_but_last parts)) (parts-end input line none)
 
 pub rest-end : (input line : List ℕ) → HasNoNewline line → rest_of (input ++ with_newline line) ≡ []
 rest-end input line none = rest-append input (with_newline line) ∙ ap last_of (parts-end input line none)
@@ -52,16 +52,16 @@ take-cut piece line rest at is cut =
 
 -- where a line begins, the rest is held
 pub begun : (input : List ℕ) (old now : Lines) → HasRead input old
-    → ((is_whole old ≡ true) × (form_held now ≡ form_of [])) ⊎ ((is_whole old ≡ false) × (now ≡ old))
-    → form_held now ≡ form_of (rest_of input)
+    → ((is_whole old ≡ true) × (form_held now ≡ line_form [])) ⊎ ((is_whole old ≡ false) × (now ≡ old))
+    → form_held now ≡ line_form (rest_of input)
 begun input old now read (inl begins) =
-    let ends = rw begins.0 at read in begins.1 ∙ ap form_of (sym ends.nothing_after)
+    let ends = rw begins.0 at read in begins.1 ∙ ap line_form (sym ends.nothing_after)
 begun input old now read (inr goes_on) =
     let holds = rw goes_on.0 at read in ap form_held goes_on.1 ∙ holds
 
 -- a piece whose first newline stands here was fed, as far as that newline
 pub fed_line : (input piece : List ℕ) (at : ℕ) (form : LineForm) → at < length piece
-    → IsCut piece (take at piece) (drop (at + 1) piece) → form ≡ form_of (rest_of input ++ take at piece)
+    → IsCut piece (take at piece) (drop (at + 1) piece) → form ≡ line_form (rest_of input ++ take at piece)
     → (lines_of (input ++ take (at + 1) piece) ≡ lines_of input ++ form ∷ [])
     × (rest_of (input ++ take (at + 1) piece) ≡ [])
 fed_line input piece at form inside cut is =
@@ -73,13 +73,13 @@ fed_line input piece at form inside cut is =
     )
 
 -- no line is whole, and the rest is held
-pub still_read : (input : List ℕ) (now : Lines) → is_whole now ≡ false → form_held now ≡ form_of (rest_of input)
+pub still_read : (input : List ℕ) (now : Lines) → is_whole now ≡ false → form_held now ≡ line_form (rest_of input)
     → HasRead input now
 still_read input now open_line holds = rw open_line holds
 
 -- a piece without a newline was fed
 pub fed_more : (input piece : List ℕ) (now : Lines) → HasNoNewline piece → is_whole now ≡ false
-    → form_held now ≡ form_of (rest_of input ++ piece) → HasRead (input ++ take (length piece) piece) now
+    → form_held now ≡ line_form (rest_of input ++ piece) → HasRead (input ++ take (length piece) piece) now
 fed_more input piece now none open_line holds =
     rw (take-length piece)
-    (still_read (input ++ piece) now open_line (holds ∙ ap form_of (sym (rest-more input piece none))))
+    (still_read (input ++ piece) now open_line (holds ∙ ap line_form (sym (rest-more input piece none))))

@@ -5,7 +5,7 @@ use Rattle.std.specs.List.{count_by, onto_first}
 use Rattle.std.proofs.lemmas.Bool.Decides.{eqb_tells}
 use Rattle.std.proofs.lemmas.List.{length-append, map-append}
 use Rattle.std.proofs.lemmas.List.Splits.{length-slice_split, slice_split-cons_yes, slice_split-cons_no}
-use Rattle.dt_proto.specs.Lines.{is_newline, all_but_last, last_of, parts_of, form_of, lines_of, rest_of}
+use Rattle.dt_proto.specs.Lines.{is_newline, all_but_last, last_of, parts_of, line_form, lines_of, rest_of}
 
 pub some_part : (input : List ℕ) → 1 ≤ length (parts_of input)
 some_part input =
@@ -78,10 +78,10 @@ parts-append (byte ∷ a) b =
 
 pub lines-append : (a b : List ℕ) → lines_of (a ++ b) ≡ lines_of a ++ lines_of (rest_of a ++ b)
 lines-append a b =
-    ap (λ parts. map form_of (all_but_last parts)) (parts-append a b)
-    ∙ ap (map form_of)
+    ap (λ parts. map line_form (all_but_last parts)) (parts-append a b)
+    ∙ ap (map line_form)
     (all_but_last-append (all_but_last (parts_of a)) (parts_of (rest_of a ++ b)) (some_part (rest_of a ++ b)))
-    ∙ map-append form_of (all_but_last (parts_of a)) (all_but_last (parts_of (rest_of a ++ b)))
+    ∙ map-append line_form (all_but_last (parts_of a)) (all_but_last (parts_of (rest_of a ++ b)))
 
 pub rest-append : (a b : List ℕ) → rest_of (a ++ b) ≡ rest_of (rest_of a ++ b)
 rest-append a b =

@@ -1,6 +1,6 @@
 -- What is held after some bytes were fed.
 use Rattle.std.specs.Prelude.{◌≡◌, ℕ, Bool, true, false, List, [], ◌∷◌, ◌++◌, MatchBool, if◌then◌else◌}
-use Rattle.dt_proto.specs.Lines.{LineForm, short_line, long_line, form_of, lines_of, rest_of}
+use Rattle.dt_proto.specs.Lines.{LineForm, short_line, long_line, line_form, lines_of, rest_of}
 use Rattle.dt_proto.specs.declared.lines.Lines.{Lines}
 
 abbrev pub is_whole : Lines → Bool
@@ -19,7 +19,7 @@ pub record EndsWithLine (input : List ℕ) (form : LineForm) : Type 0 where
 -- The bytes fed so far are these: the line that has become whole with the last of them is held, or else the rest.
 abbrev pub HasRead : List ℕ → Lines → Type 0
 HasRead input lines =
-    MatchBool (is_whole lines) (EndsWithLine input (form_held lines)) (form_held lines ≡ form_of (rest_of input))
+    MatchBool (is_whole lines) (EndsWithLine input (form_held lines)) (form_held lines ≡ line_form (rest_of input))
 
 -- the line that has become whole, where one has
 abbrev pub line_given : Bool → LineForm → List LineForm

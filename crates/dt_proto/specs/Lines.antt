@@ -15,8 +15,8 @@ pub data LineForm : Type 0 where
   long_line : LineForm
 
 -- a line of more than LINE_MAX bytes is long, whatever they are
-abbrev pub form_of : List ℕ → LineForm
-form_of bytes = if nat_lt LINE_MAX (length bytes) then long_line else short_line bytes
+abbrev pub line_form : List ℕ → LineForm
+line_form bytes = if nat_lt LINE_MAX (length bytes) then long_line else short_line bytes
 
 -- what stands between the newlines: one part more than there are newlines
 abbrev pub parts_of : List ℕ → List (List ℕ)
@@ -34,12 +34,12 @@ last_of (part ∷ next ∷ parts) = last_of (next ∷ parts)
 
 -- the parts before each newline, each in its form
 abbrev pub lines_of : List ℕ → List LineForm
-lines_of input = map form_of (all_but_last (parts_of input))
+lines_of input = map line_form (all_but_last (parts_of input))
 
 -- what stands after the last newline, which is no line
 abbrev pub rest_of : List ℕ → List ℕ
 rest_of input = last_of (parts_of input)
 
 -- how many bytes of a piece go to one line: up to and including the first newline, or all where there is none
-abbrev pub taken_of : List ℕ → ℕ
-taken_of piece = min (position_or_len is_newline piece + 1) (length piece)
+abbrev pub taken_bytes : List ℕ → ℕ
+taken_bytes piece = min (position_or_len is_newline piece + 1) (length piece)

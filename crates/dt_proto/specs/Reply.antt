@@ -7,10 +7,10 @@ use Rattle.serde_json.specs.View.{items_of}
 use Rattle.serde_json.specs.Written.{compact_text}
 use Rattle.dt_cred.specs.declared.probe.Probe.{Probe}
 use Rattle.dt_names.specs.declared.tuple.ProbeTuple.{ProbeTuple}
-use Rattle.dt_lang.specs.Fault.{word_of}
+use Rattle.dt_lang.specs.Fault.{why_word}
 use Rattle.dt_lang.specs.Word.{name_of_destructive}
-use Rattle.dt_ecb.specs.Fault.{word_of as word_of_action}
-use Rattle.dt_record.specs.Layout.{FieldForm, number, text, stack, ustack, size_of}
+use Rattle.dt_ecb.specs.Fault.{action_word as word_of_action}
+use Rattle.dt_record.specs.Layout.{FieldForm, number, text, stack, ustack, layout_size}
 use Rattle.dt_consumer.specs.Phase.{phase_word, cause_word}
 use Rattle.dt_consumer.specs.Refusal.{refusal_number, refusal_name}
 use Rattle.dt_consumer.specs.Answer.{Answer, done, enabled, snapped, aggregated, status, listed, described, refused}
@@ -32,7 +32,7 @@ coded refusal more =
 -- other has its number and name alone.
 abbrev pub refusal_members : Refusal → Members
 refusal_members (Program at why) =
-    member (codes "at") (of_number at) (coded (Program at why) (member (codes "why") (string (word_of why))
+    member (codes "at") (of_number at) (coded (Program at why) (member (codes "why") (string (why_word why))
     no_members))
 refusal_members (Privilege clause what) = member (codes "clause") (of_number clause)
     (coded (Privilege clause what) (member (codes "what") (string (word_of_action what)) no_members))
@@ -97,7 +97,7 @@ reply_members (described epid probe layout) =
     member (codes "epid") (of_number epid) (member (codes "id") (of_number probe.id)
     (member (codes "layout") (array (items_of (map field_data (fields_in layout))))
     (ok_and (member (codes "probe") (string (tuple_text probe.tuple))
-    (member (codes "size") (of_number (size_of layout)) no_members)))))
+    (member (codes "size") (of_number (layout_size layout)) no_members)))))
 reply_members (listed probes) = ok_and (member (codes "probes") (array (items_of (map probe_data probes))) no_members)
 reply_members (refused refusal) = refusal_members refusal
 
@@ -126,8 +126,8 @@ describe_text epid probe values size =
     (string (tuple_text probe.tuple)) ++ codes ",\"size\":" ++ size ++ codes "}\n"
 
 -- a value's word in quotes
-abbrev pub field_text : FieldForm → List ℕ
-field_text field = codes "\"" ++ field_word field ++ codes "\""
+abbrev pub quoted_word : FieldForm → List ℕ
+quoted_word field = codes "\"" ++ field_word field ++ codes "\""
 
 -- the line with its newline
 abbrev pub reply_text : Answer → List ℕ

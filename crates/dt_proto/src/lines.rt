@@ -1,7 +1,7 @@
 //! The lines of an input that comes in pieces.
 ghost use Rattle.std.specs.Prelude.{◌≡◌, ◌+◌, ◌<◌, ◌≤◌, ◌↔◌, ℕ, List, [], ◌++◌, false, IsTrue, IfOk, IfSome, IfNone, take, drop, length, vec_len, vec_capacity};
 ghost use Rattle.std.specs.List.{position};
-ghost use Rattle.dt_proto.specs.Lines.{is_newline, HasNewline, form_of, lines_of, taken_of};
+ghost use Rattle.dt_proto.specs.Lines.{is_newline, HasNewline, line_form, lines_of, taken_bytes};
 ghost use Rattle.dt_proto.specs.Splits.{HasNoNewline, IsCut};
 ghost use Rattle.dt_proto.specs.declared.limits.TheConstants.{LINE_MAX};
 
@@ -58,7 +58,7 @@ impl Lines {
     /// Takes the next bytes of the input: of the piece those up to and including its first newline, or all where it has
     /// none. After a whole line they begin the next one. It takes no memory.
     pub fn feed(&mut self, piece: &[u8]) -> Fed
-        ensures used { result.used ≡ taken_of piece.now }
+        ensures used { result.used ≡ taken_bytes piece.now }
         ensures whole { IsTrue result.whole ↔ HasNewline piece.now }
         ensures is_whole { is_whole self.new ≡ result.whole }
         ensures stands { (input : List ℕ) → HasRead input self.old
@@ -108,7 +108,7 @@ impl Lines {
 
     /// Lets go of the line.
     fn begin_line(&mut self)
-        ensures held { form_held self.new ≡ form_of [] }
+        ensures held { form_held self.new ≡ line_form [] }
         ensures whole { is_whole self.new ≡ false }
     {
         self.kept.clear();
@@ -118,8 +118,8 @@ impl Lines {
 
     /// The line goes on with these bytes. A long line's bytes are let go.
     fn keep(&mut self, bytes: &[u8])
-        ensures held { (line : List ℕ) → form_held self.old ≡ form_of line
-            → form_held self.new ≡ form_of (line ++ bytes.now) }
+        ensures held { (line : List ℕ) → form_held self.old ≡ line_form line
+            → form_held self.new ≡ line_form (line ++ bytes.now) }
         ensures whole { is_whole self.new ≡ is_whole self.old }
     {
         if self.long || LINE_MAX - self.kept.len() < bytes.len() {

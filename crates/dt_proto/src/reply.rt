@@ -11,15 +11,15 @@ ghost use Rattle.serde_json.specs.View.{view};
 ghost use Rattle.hex.specs.Hex.{encode_lower};
 ghost use Rattle.dt_consumer.specs.Answer.{done, enabled, snapped, aggregated, status, listed, described, refused, answer_of};
 ghost use Rattle.dt_consumer.specs.declared.phase.End.TheVariants.{Stop, Exit, History};
-ghost use Rattle.dt_lang.specs.Fault.{word_of};
+ghost use Rattle.dt_lang.specs.Fault.{why_word};
 ghost use Rattle.dt_lang.specs.Word.{name_of_destructive};
 ghost use Rattle.dt_lang.specs.declared.fault.Why.{Why};
 ghost use Rattle.dt_lang.specs.declared.word.Destructive.{Destructive};
 ghost use Rattle.dt_ecb.specs.declared.fault.RestrictedAction.TheVariants.{Stack};
 ghost use Rattle.serde_json.specs.Written.{compact_text};
 ghost use Rattle.dt_record.specs.Fields.{form_of_field, form_of_layout};
-ghost use Rattle.dt_record.specs.Layout.{FieldForm, size_of};
-ghost use Rattle.dt_proto.specs.Reply.{cause_data, describe_text, exit_data, field_data, field_text, fields_in, refusal_members, probe_data, probe_text, reply_members, reply_text, status_text};
+ghost use Rattle.dt_record.specs.Layout.{FieldForm, layout_size};
+ghost use Rattle.dt_proto.specs.Reply.{cause_data, describe_text, exit_data, field_data, quoted_word, fields_in, refusal_members, probe_data, probe_text, reply_members, reply_text, status_text};
 ghost use Rattle.dt_proto.specs.Rows.{function_word, row_text};
 ghost use Rattle.dt_proto.specs.Scalars.{characters, of_number};
 
@@ -271,7 +271,7 @@ pub fn reply_texts()
         ≡ status_text (codes "null") (codes "null") (codes "stopped") seen errors aggdrops }
     ensures described { (epid : ℕ) (probe : Probe) (fields : List FieldForm)
         → reply_text (described epid probe (Some fields))
-        ≡ describe_text epid probe (join_with_byte 44 (map field_text fields)) (decimal (size_of (Some fields))) }
+        ≡ describe_text epid probe (join_with_byte 44 (map quoted_word fields)) (decimal (layout_size (Some fields))) }
     ensures described_unrecorded { (epid : ℕ) (probe : Probe) → reply_text (described epid probe None)
         ≡ describe_text epid probe [] (codes "0") }
 
@@ -279,7 +279,7 @@ pub fn reply_texts()
     ensures request { reply_text (refused Refusal.Request) ≡ codes "{\"error\":2,\"name\":\"Request\"}\n" }
     ensures line_long { reply_text (refused Refusal.LineLong) ≡ codes "{\"error\":3,\"name\":\"LineLong\"}\n" }
     ensures program { (at : ℕ) (why : Why) → reply_text (refused (Refusal.Program at why))
-        ≡ codes "{\"at\":" ++ decimal at ++ codes ",\"error\":4,\"name\":\"Program\",\"why\":\"" ++ word_of why ++ codes "\"}\n" }
+        ≡ codes "{\"at\":" ++ decimal at ++ codes ",\"error\":4,\"name\":\"Program\",\"why\":\"" ++ why_word why ++ codes "\"}\n" }
     ensures no_match { (clause : ℕ) → reply_text (refused (Refusal.NoMatch clause))
         ≡ codes "{\"clause\":" ++ decimal clause ++ codes ",\"error\":5,\"name\":\"NoMatch\"}\n" }
     ensures privilege { (clause : ℕ) → reply_text (refused (Refusal.Privilege clause Stack))

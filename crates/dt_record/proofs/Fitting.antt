@@ -12,12 +12,12 @@ use Rattle.dt_record.specs.Fields.{form_of_field}
 use Rattle.dt_record.specs.Layout.{FieldForm, field_size}
 use Rattle.dt_record.specs.Layout as layout
 use Rattle.dt_record.specs.Split as split
-use Rattle.dt_record.specs.Split.{RecordedForm, Fits, FitAll, recorded_bytes}
+use Rattle.dt_record.specs.Split.{RecordedForm, FitsField, FitAll, recorded_bytes}
 use Rattle.dt_record.specs.Taking.{epid_bytes}
 use Rattle.dt_record.specs.declared.layout.Field.{Field}
 
 fit-more : (fields : List FieldForm) (values : List RecordedForm) (field : FieldForm) (value : RecordedForm)
-    → FitAll fields values → Fits field value → FitAll (fields ++ field ∷ []) (values ++ value ∷ [])
+    → FitAll fields values → FitsField field value → FitAll (fields ++ field ∷ []) (values ++ value ∷ [])
 fit-more [] [] field value all one = (one, tt)
 fit-more [] (v ∷ values) field value all one = elim all [ ]
 fit-more (f ∷ fields) [] field value all one = elim all [ ]
@@ -26,7 +26,7 @@ fit-more (f ∷ fields) (v ∷ values) field value all one = (all.0, fit-more fi
 -- one field more
 pub fit-turn : (fields : List Field) (i : ℕ) (field : Field) → i < length fields → field ≡ get_or fields i field
     → (old new : List RecordedForm) (value : RecordedForm) → new ≡ old ++ value ∷ []
-    → FitAll (map form_of_field (take i fields)) old → Fits (form_of_field field) value
+    → FitAll (map form_of_field (take i fields)) old → FitsField (form_of_field field) value
     → FitAll (map form_of_field (take (i + 1) fields)) new
 fit-turn fields i field inside is old new value pushed all one =
     let more : map form_of_field (take i fields) ++ form_of_field field ∷ []
@@ -69,7 +69,7 @@ frames_long (frame ∷ list) =
     omega (arith, front, eight, more)
 
 -- a value that fits takes as many bytes as its field says
-pub fits-long : (field : FieldForm) (value : RecordedForm) → Fits field value
+pub fits-long : (field : FieldForm) (value : RecordedForm) → FitsField field value
     → length (recorded_bytes value) ≡ field_size field
 fits-long layout.number (split.number z) fit = length-bytes_high_first 8 (cast_unsigned w64 z)
 fits-long layout.number (split.text bytes) fit = elim fit [ ]

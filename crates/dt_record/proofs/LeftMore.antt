@@ -8,7 +8,8 @@ use Rattle.std.specs.List.{flat_map}
 use Rattle.std.specs.Option.{option_map, option_or}
 use Rattle.dt_lang.specs.Program.{StatementForm}
 use Rattle.dt_record.specs.Forms.{form_of_taken}
-use Rattle.dt_record.specs.Taking.{Effect, TakenForm, recorded, contributed, exit_of, first_exit, epid_bytes}
+use Rattle.dt_record.specs.Taking.{Effect, TakenForm, recorded, contributed}
+use Rattle.dt_record.specs.Taking.{effect_exit, first_effect_exit, epid_bytes}
 use Rattle.dt_record.specs.Taking.{leaves_record, taken_of}
 use Rattle.dt_record.specs.declared.parts.Taken.{Taken}
 use Rattle.dt_record.proofs.Each.{or_none}
@@ -23,11 +24,11 @@ or_or None b c = refl
 or_or (Some x) b c = refl
 
 exit_more : (effects : List Effect) (effect : Effect)
-    → option_or (first_exit effects) (exit_of effect) ≡ first_exit (effects ++ effect ∷ [])
-exit_more [] effect = sym (or_none (exit_of effect))
+    → option_or (first_effect_exit effects) (effect_exit effect) ≡ first_effect_exit (effects ++ effect ∷ [])
+exit_more [] effect = sym (or_none (effect_exit effect))
 exit_more (first ∷ effects) effect =
-    or_or (exit_of first) (first_exit effects) (exit_of effect)
-    ∙ ap (option_or (exit_of first)) (exit_more effects effect)
+    or_or (effect_exit first) (first_effect_exit effects) (effect_exit effect)
+    ∙ ap (option_or (effect_exit first)) (exit_more effects effect)
 
 -- the record, where there is one
 bytes_more : (leaves : Bool) (epid : ℕ) (effects : List Effect) (effect : Effect)
@@ -52,14 +53,14 @@ pub left-more : (epid : ℕ) (statements : List StatementForm) (effects : List E
     → (form_of_taken new).record_bytes
     ≡ option_map (λ bytes. bytes ++ recorded effect) (form_of_taken old).record_bytes
     → new.values.items ≡ old.values.items ++ contributed effect
-    → new.exit ≡ option_or old.exit (exit_of effect)
+    → new.exit ≡ option_or old.exit (effect_exit effect)
     → form_of_taken new ≡ taken_of epid statements (effects ++ effect ∷ [])
 left-more epid statements effects effect old new left bytes values exit =
     by_parts (form_of_taken new) (taken_of epid statements (effects ++ effect ∷ []))
     (bytes ∙ ap (λ (f : TakenForm). option_map (λ bytes. bytes ++ recorded effect) f.record_bytes) left
     ∙ bytes_more (leaves_record statements) epid effects effect)
     (values ∙ ap (λ (f : TakenForm). f.values ++ contributed effect) left ∙ flat_more contributed effects effect)
-    (exit ∙ ap (λ (f : TakenForm). option_or f.exit (exit_of effect)) left ∙ exit_more effects effect)
+    (exit ∙ ap (λ (f : TakenForm). option_or f.exit (effect_exit effect)) left ∙ exit_more effects effect)
 
 -- a statement that records nothing
 pub no-bytes : (o : Option (List ℕ)) → o ≡ option_map (λ bytes. bytes ++ []) o

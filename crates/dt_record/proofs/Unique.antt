@@ -12,7 +12,7 @@ use Rattle.dt_expr.specs.Operators.{wrapped}
 use Rattle.dt_record.specs.Layout.{FieldForm}
 use Rattle.dt_record.specs.Layout as layout
 use Rattle.dt_record.specs.Split as split
-use Rattle.dt_record.specs.Split.{RecordedForm, RecordForm, AreFrames, Fits, FitAll, IsFrame, IsRecordOf, IsSplit}
+use Rattle.dt_record.specs.Split.{RecordedForm, RecordForm, AreFrames, FitsField, FitAll, IsFrame, IsRecordOf, IsSplit}
 use Rattle.dt_record.specs.Split.{recorded_bytes, record_bytes}
 use Rattle.dt_record.specs.Taking.{epid_bytes, number_bytes}
 use Rattle.dt_record.proofs.Fitting.{cut, fits-long, epid-read}
@@ -44,7 +44,7 @@ frames-unique n (x ∷ xs) (y ∷ ys) a b e =
     ∙ ap (λ l. y ∷ l) (frames-unique (length xs) xs ys (record { many = refl; each = a.each.1 })
     (record { many = sym same; each = b.each.1 }) both.1)
 
-value-unique : (field : FieldForm) (v w : RecordedForm) → Fits field v → Fits field w
+value-unique : (field : FieldForm) (v w : RecordedForm) → FitsField field v → FitsField field w
     → recorded_bytes v ≡ recorded_bytes w → v ≡ w
 value-unique layout.number (split.number y) (split.number z) a b e = ap split.number (number-unique y z a b e)
 value-unique layout.number (split.number y) (split.text t) a b e = elim b [ ]

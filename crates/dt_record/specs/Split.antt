@@ -29,17 +29,17 @@ pub record AreFrames (n : ℕ) (list : List ℕ) : Type 0 where
   pub each : AllByRecursion IsFrame list
 
 -- A value is one of its field: a signed number of 64 bits, a text with its zeros, so many frames.
-abbrev pub Fits : FieldForm → RecordedForm → Type 0
-Fits layout.number (number z) = wrapped z ≡ z
-Fits layout.text (text bytes) = length bytes ≡ PADDED_SIZE
-Fits (layout.stack n) (frames list) = AreFrames n list
-Fits (layout.ustack n) (frames list) = AreFrames n list
-Fits _ _ = ⊥
+abbrev pub FitsField : FieldForm → RecordedForm → Type 0
+FitsField layout.number (number z) = wrapped z ≡ z
+FitsField layout.text (text bytes) = length bytes ≡ PADDED_SIZE
+FitsField (layout.stack n) (frames list) = AreFrames n list
+FitsField (layout.ustack n) (frames list) = AreFrames n list
+FitsField _ _ = ⊥
 
 -- as many values as fields, each one of its field
 abbrev pub FitAll : List FieldForm → List RecordedForm → Type 0
 FitAll [] [] = Unit {0}
-FitAll (field ∷ fields) (value ∷ values) = Fits field value × FitAll fields values
+FitAll (field ∷ fields) (value ∷ values) = FitsField field value × FitAll fields values
 FitAll _ _ = ⊥
 
 -- a record: its EPID, and its values

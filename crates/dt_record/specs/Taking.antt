@@ -12,6 +12,7 @@ use Rattle.dt_expr.specs.declared.text.Value.{Value}
 use Rattle.dt_expr.specs.declared.text.Value.TheVariants as val
 use Rattle.dt_lang.specs.Program.{ArgForm, CallForm, ClauseForm, StatementForm}
 use Rattle.dt_lang.specs.Program as program
+use Rattle.dt_record.specs.declared.limits.TheConstants.{EPID_SIZE}
 
 -- a number in a record: eight bytes, two's complement, the highest first
 abbrev pub number_bytes : ℤ → List ℕ
@@ -19,7 +20,7 @@ number_bytes z = big_bytes 8 (cast_unsigned w64 z)
 
 -- an EPID in a record: four bytes, the highest first
 abbrev pub epid_bytes : ℕ → List ℕ
-epid_bytes epid = big_bytes 4 epid
+epid_bytes epid = big_bytes EPID_SIZE epid
 
 -- the first frames of a stack in a record: eight bytes each, the highest first
 abbrev pub frames_bytes : ℕ → List ℕ → List ℕ
@@ -77,14 +78,14 @@ contributed (gives values) = values
 contributed _ = []
 
 -- the status with which it ends tracing
-abbrev pub exit_of : Effect → Option ℤ
-exit_of (exits status) = Some status
-exit_of _ = None
+abbrev pub effect_exit : Effect → Option ℤ
+effect_exit (exits status) = Some status
+effect_exit _ = None
 
 -- the status of the first exit
-abbrev pub first_exit : List Effect → Option ℤ
-first_exit [] = None
-first_exit (effect ∷ effects) = option_or (exit_of effect) (first_exit effects)
+abbrev pub first_effect_exit : List Effect → Option ℤ
+first_effect_exit [] = None
+first_effect_exit (effect ∷ effects) = option_or (effect_exit effect) (first_effect_exit effects)
 
 -- a statement that puts something into the record
 abbrev pub is_recording : StatementForm → Bool
@@ -108,7 +109,7 @@ abbrev pub taken_of : ℕ → List StatementForm → List Effect → TakenForm
 taken_of epid statements effects = record {
   record_bytes = if leaves_record statements then Some (epid_bytes epid ++ flat_map recorded effects) else None;
   values = flat_map contributed effects;
-  exit = first_exit effects;
+  exit = first_effect_exit effects;
 }
 
 -- the predicate's value; where there is none, it holds

@@ -11,8 +11,7 @@ ghost use Rattle.dt_record.specs.Left.{bytes_of, record_len};
 ghost use Rattle.dt_record.specs.Taking.{argument_value, epid_bytes, frames_bytes, number_bytes, value_bytes};
 ghost use Rattle.dt_record.specs.declared.limits.TheConstants.{RECORD_MAX};
 
-use crate::layout::EPID_SIZE;
-use crate::limits::RECORD_MAX;
+use crate::limits::{EPID_SIZE, RECORD_MAX};
 use crate::values::shown;
 use arrayvec::ArrayVec;
 use byteorder::{BigEndian, ByteOrder};

@@ -1,11 +1,13 @@
 //! What a clause's statements do, one after another.
-ghost use Rattle.std.specs.Prelude.{◌≡◌, ◌+◌, ◌≤◌, ◌++◌, Some, None, OnOk, OnErr, [], if◌then◌else◌};
+ghost use Rattle.std.specs.Prelude.{◌≡◌, ◌+◌, ◌*◌, ◌≤◌, ◌++◌, Some, None, OnOk, OnErr, [], if◌then◌else◌};
 ghost use Rattle.std.specs.Option.{option_map, option_or};
 ghost use Rattle.arrayvec.specs.ArrayVec.{array_vec_len};
 ghost use Rattle.dt_expr.specs.Scene.{scene_of};
 ghost use Rattle.dt_lang.specs.Program.{form_of_statement};
+ghost use Rattle.dt_lang.specs.declared.program.TheConstants.{KEYS_MAX};
+ghost use Rattle.dt_machine.specs.declared.limits.TheConstants.{FRAMES};
 ghost use Rattle.dt_record.specs.Left.{bytes_of, record_len};
-ghost use Rattle.dt_record.specs.Taking.{Effect, effect, recorded, contributed, exit_of, epid_bytes};
+ghost use Rattle.dt_record.specs.Taking.{Effect, effect, recorded, contributed, effect_exit, epid_bytes};
 ghost use Rattle.dt_record.specs.declared.limits.TheConstants.{RECORD_MAX, VALUES_MAX};
 
 use crate::building::{begin, put_argument, put_stack};
@@ -28,15 +30,15 @@ impl Taken {
 
     /// Adds what a statement does in a scene.
     pub(crate) fn add(&mut self, statement: &Statement, scene: &Scene) -> Result<(), EvalFault>
-        requires record_room { record_len self.old.bytes + 64 ≤ RECORD_MAX }
-        requires values_room { array_vec_len self.old.values + 5 ≤ VALUES_MAX }
+        requires record_room { record_len self.old.bytes + 8 * FRAMES ≤ RECORD_MAX }
+        requires values_room { array_vec_len self.old.values + KEYS_MAX + 1 ≤ VALUES_MAX }
         ensures done { OnOk result ((done : Effect)
             × (effect (scene_of scene.now) (form_of_statement statement.now) ≡ Some done)
             × (bytes_of self.new.bytes ≡ option_map (λ bytes. bytes ++ recorded done) (bytes_of self.old.bytes))
             × (self.new.values.items ≡ self.old.values.items ++ contributed done)
-            × (self.new.exit ≡ option_or self.old.exit (exit_of done))) }
-        ensures record_grows { OnOk result (record_len self.new.bytes ≤ record_len self.old.bytes + 64) }
-        ensures values_grow { OnOk result (array_vec_len self.new.values ≤ array_vec_len self.old.values + 5) }
+            × (self.new.exit ≡ option_or self.old.exit (effect_exit done))) }
+        ensures record_grows { OnOk result (record_len self.new.bytes ≤ record_len self.old.bytes + 8 * FRAMES) }
+        ensures values_grow { OnOk result (array_vec_len self.new.values ≤ array_vec_len self.old.values + KEYS_MAX + 1) }
         ensures fault { OnErr result (effect (scene_of scene.now) (form_of_statement statement.now) ≡ None) }
     {
         match statement {

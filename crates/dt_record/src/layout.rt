@@ -4,17 +4,16 @@ ghost use Rattle.arrayvec.specs.ArrayVec.{array_vec_len};
 ghost use Rattle.std.specs.Option.{option_map};
 ghost use Rattle.dt_lang.specs.Program.{form_of_clause, form_of_statement};
 ghost use Rattle.dt_lang.specs.declared.program.TheConstants.{STATEMENTS_MAX};
+ghost use Rattle.dt_machine.specs.declared.limits.TheConstants.{FRAMES};
 ghost use Rattle.dt_record.specs.Fields.{form_of_field, form_of_layout};
 ghost use Rattle.dt_record.specs.Layout as spec;
-ghost use Rattle.dt_record.specs.Layout.{layout_of, fields_of, field_size, size_of};
+ghost use Rattle.dt_record.specs.Layout.{layout_of, fields_of, field_size, layout_size};
 
+use crate::limits::EPID_SIZE;
 use crate::recording::leaves_record;
 use arrayvec::ArrayVec;
 use dt_lang::{Argument, Clause, Frames, STATEMENTS_MAX, Statement};
 use dt_names::PADDED_SIZE;
-
-/// How many bytes an EPID takes in a record.
-pub(crate) const EPID_SIZE: usize = 4;
 
 /// A value of a record.
 #[derive(Clone, Copy, Debug, Default, PartialEq, Eq)]
@@ -52,7 +51,7 @@ impl Layout {
 
     /// The length of the record in bytes: the EPID's four, and those of the values; 0 where there is none.
     pub fn size(&self) -> usize
-        ensures { result ≡ size_of (form_of_layout self.now) }
+        ensures { result ≡ layout_size (form_of_layout self.now) }
     {
         match &self.fields {
             Some(fields) => EPID_SIZE + total(fields),
@@ -65,7 +64,7 @@ impl Field {
     /// How many bytes the value takes: 8, 32, or 8 for each frame.
     pub fn size(self) -> usize
         ensures size { result ≡ field_size (form_of_field self) }
-        ensures small { result ≤ 64 }
+        ensures small { result ≤ 8 * FRAMES }
     {
         match self {
             Field::Number => 8,
@@ -106,7 +105,7 @@ fn fields(statements: &[Statement]) -> ArrayVec<Field, STATEMENTS_MAX>
 pub(crate) fn total(fields: &[Field]) -> usize
     requires { length fields.now ≤ STATEMENTS_MAX }
     ensures total { result ≡ sum (map field_size (map form_of_field fields.now)) }
-    ensures small { result ≤ 64 * length fields.now }
+    ensures small { result ≤ 8 * FRAMES * length fields.now }
 {
     let mut total = 0;
     for field in fields {

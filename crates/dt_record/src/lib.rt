@@ -21,7 +21,7 @@ mod values;
 
 pub use laws::one_split;
 pub use layout::{Field, Layout};
-pub use limits::{RECORD_MAX, VALUES_MAX};
+pub use limits::{EPID_SIZE, RECORD_MAX, VALUES_MAX};
 pub use parts::Taken;
 pub use recorded::{Record, Recorded};
 pub use splitting::split;

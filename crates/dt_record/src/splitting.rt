@@ -5,10 +5,11 @@ ghost use Rattle.dt_lang.specs.declared.program.TheConstants.{FRAMES_MAX, STATEM
 ghost use Rattle.dt_record.specs.Fields.{form_of_field, form_of_layout};
 ghost use Rattle.dt_record.specs.Layout.{FieldForm, field_size};
 ghost use Rattle.dt_record.specs.Records.{form_of_record, form_of_recorded};
-ghost use Rattle.dt_record.specs.Split.{AreFrames, FitAll, Fits, IsRecordOf, IsSplit, RecordForm, record_bytes, recorded_bytes};
+ghost use Rattle.dt_record.specs.Split.{AreFrames, FitAll, FitsField, IsRecordOf, IsSplit, RecordForm, record_bytes, recorded_bytes};
 ghost use Rattle.byteorder.specs.Endian.{big_bytes};
 
-use crate::layout::{EPID_SIZE, Field, Layout, total};
+use crate::layout::{Field, Layout, total};
+use crate::limits::EPID_SIZE;
 use crate::recorded::{Record, Recorded};
 use byteorder::{BigEndian, ByteOrder};
 use dt_names::PADDED_SIZE;
@@ -107,7 +108,7 @@ fn values_of(alloc: Global, fields: &[Field], bytes: &[u8]) -> Result<Vec<Record
 /// The value that bytes are.
 fn value_of(alloc: Global, field: Field, bytes: &[u8]) -> Result<Recorded, AllocError>
     requires { length bytes.now ≡ field_size (form_of_field field) }
-    ensures fits { IfOk result (λ value. Fits (form_of_field field) (form_of_recorded value)) }
+    ensures fits { IfOk result (λ value. FitsField (form_of_field field) (form_of_recorded value)) }
     ensures same { IfOk result (λ value. recorded_bytes (form_of_recorded value) ≡ bytes.now) }
 {
     match field {

@@ -4,7 +4,7 @@ use Rattle.std.proofs.Common.{subst}
 use Rattle.dt_machine.specs.Registry.{Contents}
 use Rattle.dt_world.specs.Progress.{IsAfter, with_world}
 use Rattle.dt_world.specs.Replay.{Replayed}
-use Rattle.dt_world.specs.Stands.{IsAt}
+use Rattle.dt_world.specs.Stands.{EngineIsAt}
 use Rattle.dt_world.specs.Told.{IsTold, Tells}
 use Rattle.dt_world.specs.World.{World}
 use Rattle.dt_world.specs.declared.output.Wanted.{Wanted}
@@ -13,7 +13,7 @@ use Rattle.dt_world.proofs.Silences.{SameViews}
 use Rattle.dt_world.proofs.Trails.{told-silent}
 
 module _ (wanted : Wanted) (contents : Contents) (now : Replayed) (world : World) (before after : Progress)
-    (h : IsAfter wanted contents now before) (at : IsAt contents.registry world after.engine)
+    (h : IsAfter wanted contents now before) (at : EngineIsAt contents.registry world after.engine)
     (taken : after.taken ≡ before.taken) where
   -- a step of which this is told
   pub after-told : (more : Wanted → List ℕ) → Tells before.output after.output (more before.output.wanted)

@@ -6,7 +6,7 @@ use Rattle.std.specs.Option.{option_map, option_map_or, option_and_then}
 use Rattle.dt_cred.specs.declared.account.Account.{Account}
 use Rattle.dt_machine.specs.Registry.{Registry}
 use Rattle.dt_machine.specs.declared.firing.Firing.{Firing}
-use Rattle.dt_chain.specs.Writes.{Entry}
+use Rattle.dt_chain.specs.Writes.{Published}
 use Rattle.dt_consumer.specs.Life.{is_over}
 use Rattle.dt_proto.specs.Alone.{Reached, firing_made}
 use Rattle.dt_proto.specs.Lines.{LineForm}
@@ -18,13 +18,13 @@ use Rattle.dt_world.specs.Stands.{first_account, sees_on}
 use Rattle.dt_world.specs.Steps.{passed, offered}
 use Rattle.dt_world.specs.Tests.{is_seen, is_named}
 use Rattle.dt_world.specs.Told.{answer_told}
-use Rattle.dt_world.specs.World.{Session, Place, Due, life_in, numbered, sessions_on, reached, answered}
+use Rattle.dt_world.specs.World.{Session, Place, Due, life_in, session_numbered, sessions_on, reached, answered}
 use Rattle.dt_world.proofs.Standing.{unseen_unless_named}
 use Rattle.dt_world.proofs.Telling.{trail-answered, trail-seen, trail-unseen}
 
 -- the first session on a seat
 abbrev pub first_on : Place → Option Session
-first_on place = numbered (sessions_on place) 0
+first_on place = session_numbered (sessions_on place) 0
 
 -- whose a session is, and what reached it
 abbrev pub seen_as : Option Session → Option (Account × List Reached)
@@ -53,8 +53,8 @@ module _ (place : Place) (session : Session) (is : place.present ≡ Some sessio
   pub first-same : (new : Session) → new.account ≡ session.account → new.view ≡ session.view
       → seen_as (first_on (record { present = Some new; earlier = place.earlier })) ≡ seen_as (first_on place)
   first-same new account view = rw is (by_number (length place.earlier == 0)) where
-    by_number : (b : Bool) → seen_as (cond b (Some new) (numbered place.earlier 0))
-        ≡ seen_as (cond b (Some session) (numbered place.earlier 0))
+    by_number : (b : Bool) → seen_as (cond b (Some new) (session_numbered place.earlier 0))
+        ≡ seen_as (cond b (Some session) (session_numbered place.earlier 0))
     by_number true = rw (account, view) refl
     by_number false = refl
 
@@ -66,8 +66,8 @@ module _ (place : Place) (session : Session) (is : place.present ≡ Some sessio
       (text ++ cond (is_some (first_account place)) more [])
   changed registry new text more does h =
       rw first_known (by_number (length place.earlier == 0) (rw is at h)) where
-        by_number : (b : Bool) → IsTrailText registry (cond b (Some session) (numbered place.earlier 0)) text
-            → IsTrailText registry (cond b (Some new) (numbered place.earlier 0)) (text ++ cond b more [])
+        by_number : (b : Bool) → IsTrailText registry (cond b (Some session) (session_numbered place.earlier 0)) text
+            → IsTrailText registry (cond b (Some new) (session_numbered place.earlier 0)) (text ++ cond b more [])
         by_number true told = does told
         by_number false told = rw (append-nil text) told
 
@@ -97,8 +97,9 @@ module _ (place : Place) (session : Session) (is : place.present ≡ Some sessio
       (record { present = Some (reached session (firing_made firing)); earlier = place.earlier })) text
   first-unseen registry firing text unseen h =
       by_number (length place.earlier == 0) (rw is at h) where
-        by_number : (b : Bool) → IsTrailText registry (cond b (Some session) (numbered place.earlier 0)) text
-            → IsTrailText registry (cond b (Some (reached session (firing_made firing))) (numbered place.earlier 0))
+        by_number : (b : Bool) → IsTrailText registry (cond b (Some session) (session_numbered place.earlier 0)) text
+            → IsTrailText registry (cond b (Some (reached session (firing_made firing)))
+            (session_numbered place.earlier 0))
             text
         by_number true told = trail-unseen session.account registry session.view firing text unseen told
         by_number false told = told
@@ -146,11 +147,11 @@ module _ (registry : Registry) where
     session_case None is seen = h
     session_case (Some session) is seen = life_case session (due.life == length place.earlier) is seen
 
-  abbrev life_named : Firing → Option Entry → Option ℕ
+  abbrev life_named : Firing → Option Published → Option ℕ
   life_named firing entry = option_and_then (λ one. cond (is_named registry one firing) (Some one.life) None) entry
 
   -- a look passes a seat: who isn't named doesn't see the firing
-  pub passed-trail : (seat : ℕ) (entry : Option Entry) (place : Place) (firing : Firing) (text : List ℕ)
+  pub passed-trail : (seat : ℕ) (entry : Option Published) (place : Place) (firing : Firing) (text : List ℕ)
       → IsSoundSeat registry seat entry place → IsTrailText registry (first_on place) text
       → IsTrailText registry (first_on (passed firing (option_and_then
       (λ one. cond (is_named registry one firing) (Some one.life) None) entry) place)) text

@@ -15,7 +15,7 @@ use Rattle.dt_consumer.specs.Draft.{after_line}
 use Rattle.dt_consumer.specs.Life.{Item, asked, fired, SetUp, with_event, is_over, set_up, phase_of, ecbs, is_active}
 use Rattle.dt_consumer.specs.Life.{is_inactive, is_stopped, is_readable, has_room, accepts, happens, end_by}
 use Rattle.dt_consumer.specs.Life.{after_item, since_then, shapes_in}
-use Rattle.dt_consumer.specs.Takings.{Event, began, seen, read, truncated, ended}
+use Rattle.dt_consumer.specs.Takings.{TracingEvent, began, seen, read, truncated, ended}
 use Rattle.dt_consumer.specs.declared.phase.End.{End}
 use Rattle.dt_consumer.specs.declared.phase.Phase.{Phase}
 use Rattle.dt_consumer.specs.declared.phase.Phase.TheVariants.{Inactive, Active, Stopped}
@@ -44,13 +44,13 @@ no_longer_inactive Active h k = cc
 no_longer_inactive (Stopped cause) h k = cc
 
 module _ (account : Account) (registry : Registry) where
-  happens_clauses : (s : SetUp) (event : Event) (end : Option End)
+  happens_clauses : (s : SetUp) (event : TracingEvent) (end : Option End)
       → (option_map_or (λ why. with_event (with_event s event) (ended why)) end (with_event s event)).clauses
       ≡ s.clauses
   happens_clauses s event None = refl
   happens_clauses s event (Some why) = refl
 
-  pub clauses-happens : (s : SetUp) (event : Event) → (happens account registry s event).clauses ≡ s.clauses
+  pub clauses-happens : (s : SetUp) (event : TracingEvent) → (happens account registry s event).clauses ≡ s.clauses
   clauses-happens s event = happens_clauses s event (end_by account registry (with_event s event) event)
 
   abbrev pub may_begin : SetUp → Bool

@@ -7,10 +7,10 @@ use Rattle.std.proofs.lemmas.List.Sums.{fold-append}
 use Rattle.std.proofs.Math.Seq.{take-append_seam}
 use Rattle.std.proofs.lemmas.List.Elements.{filter-append}
 use Rattle.dt_machine.specs.Registry.{Registry, Contents}
-use Rattle.dt_world.specs.Input.{AreStepLines, IsLineOn, IsRefused, is_written, lines_of}
-use Rattle.dt_world.specs.Progress.{HasTaken}
-use Rattle.dt_world.specs.Replay.{replayed, after_line, beginning}
-use Rattle.dt_world.specs.StepLine.{StepLineForm, spelling, SpellsStepLine, IsWritable}
+use Rattle.dt_world.specs.Input.{AreStepLines, IsLineOn, IsRefused, is_written, input_lines}
+use Rattle.dt_world.specs.Progress.{HasTakenLines}
+use Rattle.dt_world.specs.Replay.{replayed, after_step_line, beginning}
+use Rattle.dt_world.specs.StepLine.{StepLineForm, step_line_text, SpellsStepLine, IsWritableStep}
 use Rattle.dt_world.specs.Told.{IsOutput}
 use Rattle.dt_world.specs.declared.progress.Progress.{Progress}
 use Rattle.dt_world.specs.declared.output.Wanted.{Wanted}
@@ -18,14 +18,14 @@ use Rattle.dt_world.specs.declared.output.Wanted.TheVariants as wanted
 use Rattle.dt_world.proofs.StepLines.{one_step_line}
 
 -- Writable step lines of one spelling are the same.
-pub same_forms : (a b : List StepLineForm) → AllByRecursion IsWritable a → AllByRecursion IsWritable b
-    → map spelling a ≡ map spelling b → a ≡ b
+pub same_forms : (a b : List StepLineForm) → AllByRecursion IsWritableStep a → AllByRecursion IsWritableStep b
+    → map step_line_text a ≡ map step_line_text b → a ≡ b
 same_forms [] [] p q e = refl
 same_forms [] (y ∷ b) p q e = cc
 same_forms (x ∷ a) [] p q e = cc
 same_forms (x ∷ a) (y ∷ b) p q e =
-    let first : spelling x ≡ spelling y = cc in
-    let one : x ≡ y = one_step_line (spelling x) x y (record { writable = p.0; spelled = refl }) (record {
+    let first : step_line_text x ≡ step_line_text y = cc in
+    let one : x ≡ y = one_step_line (step_line_text x) x y (record { writable = p.0; spelled = refl }) (record {
       writable = q.0;
       spelled = first;
     }) in
@@ -68,8 +68,9 @@ pub lines-one_more : (registry : Registry) (lines : List (List ℕ)) (forms : Li
     → IsLineOn registry form → AreStepLines registry (lines ++ line ∷ []) (forms ++ form ∷ [])
 lines-one_more registry lines forms line form h written spells known = record {
   spelled = written-one_more lines line written ∙ ap (λ before. before ++ line ∷ []) h.spelled
-      ∙ ap (λ last. map spelling forms ++ last ∷ []) spells.spelled ∙ sym (map-append spelling forms (form ∷ []));
-  writable = all-one_more IsWritable forms form h.writable spells.writable;
+      ∙ ap (λ last. map step_line_text forms ++ last ∷ []) spells.spelled
+      ∙ sym (map-append step_line_text forms (form ∷ []));
+  writable = all-one_more IsWritableStep forms form h.writable spells.writable;
   known = all-one_more (IsLineOn registry) forms form h.known known;
 }
 
@@ -78,11 +79,11 @@ record IsCutAtLast (forms : List StepLineForm) (lines : List (List ℕ)) (line :
   before : List StepLineForm
   last : StepLineForm
   whole : forms ≡ before ++ last ∷ []
-  spelled : map spelling before ≡ lines
-  is : spelling last ≡ line
+  spelled : map step_line_text before ≡ lines
+  is : step_line_text last ≡ line
 
 cut_at_last : (forms : List StepLineForm) (lines : List (List ℕ)) (line : List ℕ)
-    → map spelling forms ≡ lines ++ line ∷ [] → IsCutAtLast forms lines line
+    → map step_line_text forms ≡ lines ++ line ∷ [] → IsCutAtLast forms lines line
 cut_at_last [] [] line e = cc
 cut_at_last [] (x ∷ lines) line e = cc
 cut_at_last (a ∷ []) [] line e = record { before = []; last = a; whole = refl; spelled = refl; is = cc }
@@ -93,7 +94,7 @@ cut_at_last (a ∷ forms) (x ∷ lines) line e =
       before = a ∷ more.before;
       last = more.last;
       whole = ap (λ more_forms. a ∷ more_forms) more.whole;
-      spelled = let first : spelling a ≡ x = cc in rw (first, more.spelled) refl;
+      spelled = let first : step_line_text a ≡ x = cc in rw (first, more.spelled) refl;
       is = more.is;
     }
 
@@ -111,7 +112,8 @@ last_line registry lines all line written more =
     record {
       form = cut.last;
       spells = record {
-        writable = of_last IsWritable cut.before cut.last (subst (AllByRecursion IsWritable) cut.whole more.writable);
+        writable = of_last IsWritableStep cut.before cut.last
+            (subst (AllByRecursion IsWritableStep) cut.whole more.writable);
         spelled = sym cut.is;
       };
       known = of_last (IsLineOn registry) cut.before cut.last (subst (AllByRecursion (IsLineOn registry)) cut.whole
@@ -141,8 +143,8 @@ fewer_written (line ∷ lines) = fewer_at line lines (is_written line) refl (few
 pub fewer_forms : (registry : Registry) (lines : List (List ℕ)) (forms : List StepLineForm)
     → AreStepLines registry lines forms → length forms ≤ length lines
 fewer_forms registry lines forms h =
-    let same : length (filter is_written lines) ≡ length (map spelling forms) = ap length h.spelled in
-    omega (arith, same, length-map forms spelling, fewer_written lines)
+    let same : length (filter is_written lines) ≡ length (map step_line_text forms) = ap length h.spelled in
+    omega (arith, same, length-map forms step_line_text, fewer_written lines)
 
 pub refused_here : (registry : Registry) (all lines others : List (List ℕ)) (line : List ℕ) (number : ℕ)
     (forms : List StepLineForm)
@@ -168,12 +170,12 @@ refused_here registry all lines others line number forms whole is steps none =
 
 -- where a replay stands after one line more
 pub replayed-one_more : (contents : Contents) (forms : List StepLineForm) (form : StepLineForm)
-    → replayed contents (forms ++ form ∷ []) ≡ after_line contents (replayed contents forms) form
-replayed-one_more contents forms form = fold-append (after_line contents) beginning forms (form ∷ [])
+    → replayed contents (forms ++ form ∷ []) ≡ after_step_line contents (replayed contents forms) form
+replayed-one_more contents forms form = fold-append (after_step_line contents) beginning forms (form ∷ [])
 
 -- all lines were taken
 pub finished : (wanted : Wanted) (contents : Contents) (text : List ℕ) (lines : List (List ℕ)) (progress : Progress)
-    → lines_of text ≡ lines → HasTaken wanted contents lines progress
+    → input_lines text ≡ lines → HasTakenLines wanted contents lines progress
     → IsOutput wanted contents text progress.output.text.items
 finished wanted.Replies contents text lines progress whole taken = record {
   forms = taken.forms;

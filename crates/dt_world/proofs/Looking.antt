@@ -9,8 +9,8 @@ use Rattle.std.specs.Option.{option_and_then}
 use Rattle.dt_machine.specs.Interest as interest
 use Rattle.dt_machine.specs.Registry.{Registry}
 use Rattle.dt_machine.specs.declared.firing.Firing.{Firing}
-use Rattle.dt_chain.specs.Look.{Names, IsLook}
-use Rattle.dt_chain.specs.Writes.{Write, Entry, state}
+use Rattle.dt_chain.specs.Look.{NamesFiring, IsLook}
+use Rattle.dt_chain.specs.Writes.{Write, Published, published_on}
 use Rattle.dt_ecb.specs.Ecbs.{EcbForm}
 use Rattle.dt_world.specs.Tests.{is_wanted, is_named, beyond, interest_of, mask_of}
 use Rattle.dt_world.proofs.Seeing.{belongs_from, belongs_to, shown_from, shown_to}
@@ -19,8 +19,8 @@ flag_from : (o : Option Bool) → unwrap_or o false ≡ true → o ≡ Some true
 flag_from None h = cc
 flag_from (Some flag) h = ap Some h
 
-module _ (registry : Registry) (entry : Entry) (firing : Firing) where
-  named_from : is_named registry entry firing ≡ true → Names registry entry firing
+module _ (registry : Registry) (entry : Published) (firing : Firing) where
+  named_from : is_named registry entry firing ≡ true → NamesFiring registry entry firing
   unfolding is_named
   named_from h =
       let a = and_parts _ _ h in
@@ -31,7 +31,7 @@ module _ (registry : Registry) (entry : Entry) (firing : Firing) where
         admitted = shown_from entry.account registry firing b.1;
       }
 
-  named_to : Names registry entry firing → is_named registry entry firing ≡ true
+  named_to : NamesFiring registry entry firing → is_named registry entry firing ≡ true
   unfolding is_named
   named_to h =
       let flag : unwrap_or (slice_get entry.probes firing.probe) false ≡ true =
@@ -39,7 +39,7 @@ module _ (registry : Registry) (entry : Entry) (firing : Firing) where
       and_from _ _ (belongs_to registry firing h.belongs)
       (and_from _ _ flag (shown_to entry.account registry firing h.admitted))
 
-abbrev life_named : Registry → Firing → Option Entry → Option ℕ
+abbrev life_named : Registry → Firing → Option Published → Option ℕ
 life_named registry firing entry = option_and_then
     (λ one. cond (is_named registry one firing) (Some one.life) None) entry
 
@@ -50,16 +50,16 @@ some_from false own life h = cc
 some_to : (named : Bool) (own life : ℕ) → named ≡ true → own ≡ life → cond named (Some own) None ≡ Some life
 some_to named own life h e = rw h (ap Some e)
 
-look_from : (registry : Registry) (firing : Firing) (entry : Option Entry) (life : ℕ)
+look_from : (registry : Registry) (firing : Firing) (entry : Option Published) (life : ℕ)
     → life_named registry firing entry ≡ Some life
-    → IsSomeAnd entry (λ one. (one.life ≡ life) × Names registry one firing)
+    → IsSomeAnd entry (λ one. (one.life ≡ life) × NamesFiring registry one firing)
 look_from registry firing None life h = cc
 look_from registry firing (Some one) life h =
     let is = some_from (is_named registry one firing) one.life life h in
     (is.1, named_from registry one firing is.0)
 
-look_to : (registry : Registry) (firing : Firing) (entry : Option Entry) (life : ℕ)
-    → IsSomeAnd entry (λ one. (one.life ≡ life) × Names registry one firing)
+look_to : (registry : Registry) (firing : Firing) (entry : Option Published) (life : ℕ)
+    → IsSomeAnd entry (λ one. (one.life ≡ life) × NamesFiring registry one firing)
     → life_named registry firing entry ≡ Some life
 look_to registry firing None life h = absurd h
 look_to registry firing (Some one) life h =
@@ -70,8 +70,8 @@ pub mask_is_look : (registry : Registry) (writes : List Write) (firing : Firing)
 unfolding mask_of
 mask_is_look registry writes firing = record {
   exactly = λ seat life. (
-    look_from registry firing (state writes seat) life,
-    look_to registry firing (state writes seat) life,
+    look_from registry firing (published_on writes seat) life,
+    look_to registry firing (published_on writes seat) life,
   );
 }
 

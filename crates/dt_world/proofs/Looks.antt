@@ -13,7 +13,7 @@ use Rattle.dt_chain.specs.declared.seat_mask.SeatMask.{SeatMask}
 use Rattle.dt_machine.specs.Registry.{Registry, Contents, IsSound, IsPlaced, firing_at}
 use Rattle.dt_machine.specs.declared.limits.TheConstants.{SCRIPT_MAX}
 use Rattle.dt_machine.specs.declared.firing.Firing.{Firing}
-use Rattle.dt_world.specs.Replay.{Replayed, after_line, next_of}
+use Rattle.dt_world.specs.Replay.{Replayed, after_step_line, next_of}
 use Rattle.dt_world.specs.Stands.{IsLooked}
 use Rattle.dt_world.specs.StepLine.{look_line}
 use Rattle.dt_world.specs.Steps.{looking, looking_at, is_done}
@@ -100,11 +100,11 @@ module _ (contents : Contents) (now : Replayed) (cpu : ℕ) where
   next_done firing is at = rw is at
 
   -- where the replay stands after a look that takes nothing, and after one that takes a firing
-  pub look_none : next_of contents now cpu ≡ None → after_line contents now (look_line cpu) ≡ now
+  pub look_none : next_of contents now cpu ≡ None → after_step_line contents now (look_line cpu) ≡ now
   look_none is = rw is refl
 
   pub look_some : (firing : Firing) → next_of contents now cpu ≡ Some firing
-      → after_line contents now (look_line cpu)
+      → after_step_line contents now (look_line cpu)
       ≡ record {
         world = looking contents.registry now.world cpu firing;
         taken = λ other. cond (other == cpu) (now.taken other + 1) (now.taken other);

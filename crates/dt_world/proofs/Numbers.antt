@@ -6,13 +6,13 @@ use Rattle.std.specs.Option.{option_map_or}
 use Rattle.dt_machine.specs.Registry.{Registry, Contents}
 use Rattle.dt_machine.specs.declared.firing.Firing.{Firing}
 use Rattle.dt_chain.specs.declared.seat.TheConstants.{SEATS}
-use Rattle.dt_proto.specs.Lines.{LineForm, form_of}
+use Rattle.dt_proto.specs.Lines.{LineForm, line_form}
 use Rattle.dt_proto.specs.Session.{session_account}
-use Rattle.dt_world.specs.Replay.{Replayed, after_line, replayed, acts_of, firing_acts, next_of, seats_due, waits}
+use Rattle.dt_world.specs.Replay.{Replayed, after_step_line, replayed, acts_of, firing_acts, next_of, seats_due, waits}
 use Rattle.dt_world.specs.Replay.{has_closed, beginning}
 use Rattle.dt_world.specs.StepLine.{StepLineForm, open_line, close_line, withdraw_line, ask_line, publish_line}
 use Rattle.dt_world.specs.StepLine.{finish_line, look_line, offer_line, call_line, fire_line}
-use Rattle.dt_world.specs.Steps.{Act, opens, asks, publishes, finishes, withdraws, looks, offers, closes, happens}
+use Rattle.dt_world.specs.Steps.{Act, opens, asks, publishes, finishes, withdraws, looks, offers, closes, after_act}
 use Rattle.dt_world.specs.Steps.{with_place, with_session, answering, opening, asking, publishing, publishing_of}
 use Rattle.dt_world.specs.Steps.{finishing, withdrawing, passed, looking_at, looking, is_done, offered, offering_of}
 use Rattle.dt_world.specs.Steps.{offering, closing}
@@ -138,7 +138,7 @@ module _ (world : World) (seat : ℕ) where
       either (AtMost 1) _ world (world.places at).present (omega arith)
       (λ session. placed at (record { present = None; earlier = session ∷ (world.places at).earlier }) 1 (omega arith))
 
-  after-act : (registry : Registry) (act : Act) → AtMost (adds act) (happens registry world act)
+  after-act : (registry : Registry) (act : Act) → AtMost (adds act) (after_act registry world act)
   after-act registry (opens at name) = after-opening registry at name
   after-act registry (asks at line) = after-asking registry at line
   after-act registry (publishes at) = after-publishing registry at
@@ -149,11 +149,11 @@ module _ (world : World) (seat : ℕ) where
   after-act registry (closes at) = after-closing at
 
 after-acts : (registry : Registry) (seat : ℕ) (world : World) (acts : List Act)
-    → number_on (fold (happens registry) world acts) seat ≤ number_on world seat + all_add acts
+    → number_on (fold (after_act registry) world acts) seat ≤ number_on world seat + all_add acts
 after-acts registry seat world [] = omega arith
 after-acts registry seat world (act ∷ acts) =
     let one = after-act world seat registry act in
-    let more = after-acts registry seat (happens registry world act) acts in
+    let more = after-acts registry seat (after_act registry world act) acts in
     omega (arith, one, more)
 
 offers_add : (cpu : ℕ) (seats : List ℕ) → all_add (map (offers cpu) seats) ≡ 0
@@ -173,13 +173,13 @@ module _ (contents : Contents) where
       (λ firing. omega arith)
   line_adds now (offer_line cpu seat) = omega arith
   line_adds now (call_line seat line) =
-      let world = asking contents.registry now.world seat (form_of line) in
+      let world = asking contents.registry now.world seat (line_form line) in
       cond_both (waits (world.places seat)) (publishes seat ∷ finishes seat ∷ [])
       (cond (has_closed contents.registry (world.places seat)) (withdraws seat ∷ closes seat ∷ []) [])
-      (λ acts. all_add (asks seat (form_of line) ∷ acts) ≤ 1)
+      (λ acts. all_add (asks seat (line_form line) ∷ acts) ≤ 1)
       (λ _. omega arith)
       (λ _. cond_both (has_closed contents.registry (world.places seat)) (withdraws seat ∷ closes seat ∷ []) []
-      (λ acts. all_add (asks seat (form_of line) ∷ acts) ≤ 1) (λ _. omega arith) (λ _. omega arith))
+      (λ acts. all_add (asks seat (line_form line) ∷ acts) ≤ 1) (λ _. omega arith) (λ _. omega arith))
   line_adds now (fire_line cpu) =
       either (λ acts. all_add acts ≤ 1) (firing_acts contents.registry now.world cpu) [] (next_of contents now cpu)
       (omega arith)
@@ -187,12 +187,12 @@ module _ (contents : Contents) where
       omega (arith, none))
 
   from : (seat : ℕ) (now : Replayed) (forms : List StepLineForm)
-      → number_on (fold (after_line contents) now forms).world seat ≤ number_on now.world seat + length forms
+      → number_on (fold (after_step_line contents) now forms).world seat ≤ number_on now.world seat + length forms
   from seat now [] = omega arith
   from seat now (form ∷ forms) =
       let one = after-acts contents.registry seat now.world (acts_of contents now form) in
       let adds_one = line_adds now form in
-      let more = from seat (after_line contents now form) forms in
+      let more = from seat (after_step_line contents now form) forms in
       omega (arith, one, adds_one, more)
 
   -- no more sessions were closed on a seat than there were lines

@@ -12,9 +12,9 @@ use Rattle.dt_chain.specs.declared.seat.TheConstants.{SEATS}
 use Rattle.dt_chain.specs.declared.seat_mask.SeatMask.{SeatMask}
 use Rattle.dt_machine.specs.Registry.{Contents}
 use Rattle.dt_machine.specs.declared.firing.Firing.{Firing}
-use Rattle.dt_world.specs.Replay.{Replayed, after_line, next_of, seats_due, firing_acts}
+use Rattle.dt_world.specs.Replay.{Replayed, after_step_line, next_of, seats_due, firing_acts}
 use Rattle.dt_world.specs.StepLine.{look_line, fire_line}
-use Rattle.dt_world.specs.Steps.{looks, offers, happens, offering, looking}
+use Rattle.dt_world.specs.Steps.{looks, offers, after_act, offering, looking}
 
 -- the seats that a mask names, by rising seat
 unfoldable pub named_by : SeatMask → List ℕ
@@ -75,8 +75,8 @@ named_none mask h =
 -- where a replay stands after a look and offers to some seats
 abbrev pub offered_to : Contents → Replayed → (cpu : ℕ) → List ℕ → Replayed
 offered_to contents now cpu seats =
-    let looked = after_line contents now (look_line cpu) in record {
-      world = fold (happens contents.registry) looked.world (map (offers cpu) seats);
+    let looked = after_step_line contents now (look_line cpu) in record {
+      world = fold (after_act contents.registry) looked.world (map (offers cpu) seats);
       taken = looked.taken;
     }
 
@@ -84,9 +84,9 @@ pub one_more_offer : (contents : Contents) (now : Replayed) (cpu : ℕ) (seats :
     → (offered_to contents now cpu (seats ++ seat ∷ [])).world
     ≡ offering (offered_to contents now cpu seats).world cpu seat
 one_more_offer contents now cpu seats seat =
-    let looked = (after_line contents now (look_line cpu)).world in
-    ap (fold (happens contents.registry) looked) (map-append (offers cpu) seats (seat ∷ []))
-    ∙ fold-append (happens contents.registry) looked (map (offers cpu) seats) (offers cpu seat ∷ [])
+    let looked = (after_step_line contents now (look_line cpu)).world in
+    ap (fold (after_act contents.registry) looked) (map-append (offers cpu) seats (seat ∷ []))
+    ∙ fold-append (after_act contents.registry) looked (map (offers cpu) seats) (offers cpu seat ∷ [])
 
 module _ (contents : Contents) (now : Replayed) (cpu : ℕ) where
   abbrev taken_at : Option Firing → ℕ → ℕ
@@ -94,20 +94,20 @@ module _ (contents : Contents) (now : Replayed) (cpu : ℕ) where
 
   abbrev looked_at : Option Firing → Replayed
   looked_at o = record {
-    world = fold (happens contents.registry) now.world (option_map_or (λ firing. looks cpu firing ∷ []) o []);
+    world = fold (after_act contents.registry) now.world (option_map_or (λ firing. looks cpu firing ∷ []) o []);
     taken = taken_at o;
   }
 
   abbrev fired_at : Option Firing → Replayed
   fired_at o = record {
-    world = fold (happens contents.registry) now.world
+    world = fold (after_act contents.registry) now.world
         (option_map_or (firing_acts contents.registry now.world cpu) o []);
     taken = taken_at o;
   }
 
   abbrev offers_at : Option Firing → Replayed
   offers_at o = record {
-    world = fold (happens contents.registry) (looked_at o).world
+    world = fold (after_act contents.registry) (looked_at o).world
         (map (offers cpu) (seats_due (looked_at o).world cpu));
     taken = taken_at o;
   }
@@ -118,19 +118,19 @@ module _ (contents : Contents) (now : Replayed) (cpu : ℕ) where
 
   -- a `fire` that took a firing is its look, and then its offers
   pub fired_all : (firing : Firing) → next_of contents now cpu ≡ Some firing
-      → after_line contents now (fire_line cpu)
-      ≡ offered_to contents now cpu (seats_due (after_line contents now (look_line cpu)).world cpu)
+      → after_step_line contents now (fire_line cpu)
+      ≡ offered_to contents now cpu (seats_due (after_step_line contents now (look_line cpu)).world cpu)
   fired_all firing is = all_at (next_of contents now cpu) firing is
 
   pub fired_none : next_of contents now cpu ≡ None
-      → after_line contents now (fire_line cpu) ≡ after_line contents now (look_line cpu)
+      → after_step_line contents now (fire_line cpu) ≡ after_step_line contents now (look_line cpu)
   fired_none is = rw is refl
 
   -- the mask of a look names the seats to which offers are due
   pub named_due : (firing : Firing) (mask : SeatMask) → next_of contents now cpu ≡ Some firing
       → ((seat : ℕ) → is_some (life_at mask seat)
       ≡ is_some ((looking contents.registry now.world cpu firing).due cpu seat))
-      → named_by mask ≡ seats_due (after_line contents now (look_line cpu)).world cpu
+      → named_by mask ≡ seats_due (after_step_line contents now (look_line cpu)).world cpu
   unfolding named_by seats_due
   named_due firing mask is h =
       rw is (filter_same (λ s. is_some (life_at mask s))

@@ -18,24 +18,25 @@ use Rattle.dt_proto.specs.Line.{ask_in}
 use Rattle.dt_proto.specs.Lines.{LineForm, short_line, long_line}
 use Rattle.dt_proto.specs.Reply.{reply_text}
 use Rattle.dt_proto.specs.Splits.{with_newline}
-use Rattle.dt_proto.specs.Trail.{Entry, line_asked, long_asked, IsEntryOf, IsTold, IsToldFiring, IsTrailOf, trail_text}
+use Rattle.dt_proto.specs.Trail.{TrailEntry, line_asked, long_asked, IsEntryOf}
+use Rattle.dt_proto.specs.Trail.{IsLineTold, IsToldFiring, IsTrailOf, trail_text}
 use Rattle.dt_world.specs.Ran.{Told, IsReply, AreReplies}
 use Rattle.dt_world.specs.Replay as replay
 use Rattle.dt_world.specs.Replay.{Replayed, IsReplay, IsTrailReplay, IsTrailText, replayed, acts_of, acts_from}
 use Rattle.dt_world.specs.Replay.{beginning, told_line}
 use Rattle.dt_world.specs.StepLine.{StepLineForm}
-use Rattle.dt_world.specs.Steps.{happens, world_after}
+use Rattle.dt_world.specs.Steps.{after_act, world_after}
 use Rattle.dt_world.specs.World.{Session, Question, session_of}
 use Rattle.dt_world.proofs.LineLists.{same_forms}
 
 from : (contents : Contents) (now : Replayed) (forms : List StepLineForm)
-    → (fold (replay.after_line contents) now forms).world
-    ≡ fold (happens contents.registry) now.world (acts_from contents now forms)
+    → (fold (replay.after_step_line contents) now forms).world
+    ≡ fold (after_act contents.registry) now.world (acts_from contents now forms)
 from contents now [] = refl
 from contents now (form ∷ forms) =
-    from contents (replay.after_line contents now form) forms
-    ∙ sym (fold-append (happens contents.registry) now.world (acts_of contents now form)
-    (acts_from contents (replay.after_line contents now form) forms))
+    from contents (replay.after_step_line contents now form) forms
+    ∙ sym (fold-append (after_act contents.registry) now.world (acts_of contents now form)
+    (acts_from contents (replay.after_step_line contents now form) forms))
 
 pub is_run : (contents : Contents) (forms : List StepLineForm)
     → (replayed contents forms).world ≡ world_after contents.registry (acts_from contents beginning forms)
@@ -45,7 +46,7 @@ is_run contents forms = from contents beginning forms
 same_reply : (a b : List ℕ) → with_newline a ≡ with_newline b → a ≡ b
 same_reply a b e = append_cancel_right a b (10 ∷ []) e
 
-same_entry : (line : LineForm) (answer : Answer) (a b : Entry) → IsEntryOf line answer a
+same_entry : (line : LineForm) (answer : Answer) (a b : TrailEntry) → IsEntryOf line answer a
     → IsEntryOf line answer b → a ≡ b
 same_entry (short_line line) answer a b h k =
     h.1 ∙ ap (line_asked line) (same_reply h.0 k.0 (h.2 ∙ sym k.2)) ∙ sym k.1
@@ -80,11 +81,11 @@ module _ (one_reply : (account : Account) (registry : Registry) (life : List Ite
         (subst (λ l. Replies account registry l (ask_in line) b) life k.2)
 
     -- what a line adds to a trail is one
-    told_same_at : (life : List Item) (line : LineForm) (over : Bool) (a b : List Entry)
-        → MatchBool over (a ≡ []) ((answer : Answer) × (entry : Entry)
+    told_same_at : (life : List Item) (line : LineForm) (over : Bool) (a b : List TrailEntry)
+        → MatchBool over (a ≡ []) ((answer : Answer) × (entry : TrailEntry)
         × Replies account registry life (ask_in line) answer
         × IsEntryOf line answer entry × (a ≡ entry ∷ []))
-        → MatchBool over (b ≡ []) ((answer : Answer) × (entry : Entry)
+        → MatchBool over (b ≡ []) ((answer : Answer) × (entry : TrailEntry)
         × Replies account registry life (ask_in line) answer
         × IsEntryOf line answer entry × (b ≡ entry ∷ []))
         → a ≡ b
@@ -95,12 +96,12 @@ module _ (one_reply : (account : Account) (registry : Registry) (life : List Ite
         same_entry line h.0 h.1 k.1 h.3 (subst (λ one. IsEntryOf line one k.1) answer k.3) in
         h.4 ∙ ap (λ one. one ∷ []) entry ∙ sym k.4
 
-    told_same : (life : List Item) (line : LineForm) (a b : List Entry) → IsTold account registry life line a
-        → IsTold account registry life line b → a ≡ b
+    told_same : (life : List Item) (line : LineForm) (a b : List TrailEntry) → IsLineTold account registry life line a
+        → IsLineTold account registry life line b → a ≡ b
     told_same life line a b h k = told_same_at life line (is_over life) a b h k
 
     -- what a firing adds to a trail is one
-    told_firing_same : (life : List Item) (firing : Firing) (a b : List Entry)
+    told_firing_same : (life : List Item) (firing : Firing) (a b : List TrailEntry)
         → IsToldFiring account registry life firing a → IsToldFiring account registry life firing b → a ≡ b
     told_firing_same life firing a b h k =
         ⊎_elim
@@ -108,14 +109,14 @@ module _ (one_reply : (account : Account) (registry : Registry) (life : List Ite
         (λ unseen. ⊎_elim (λ seen. absurd (unseen.0 seen.0)) (λ too. unseen.1 ∙ sym too.1) k)
         h
 
-    same_trail : (view : List Reached) (a b : List Entry) → IsTrailOf account registry view a
+    same_trail : (view : List Reached) (a b : List TrailEntry) → IsTrailOf account registry view a
         → IsTrailOf account registry view b → a ≡ b
     same_trail [] a b h k = h ∙ sym k
     same_trail (own_line line ∷ view) a b h k =
         let life : k.0 ≡ h.0 = same_life view k.0 h.0 k.3 h.3 in
         let earlier : h.1 ≡ k.1 = same_trail view h.1 k.1 h.4 k.4 in
         let new : h.2 ≡ k.2 =
-        told_same h.0 line h.2 k.2 h.5 (subst (λ l. IsTold account registry l line k.2) life k.5) in
+        told_same h.0 line h.2 k.2 h.5 (subst (λ l. IsLineTold account registry l line k.2) life k.5) in
         h.6 ∙ ap (λ before. before ++ h.2) earlier ∙ ap (λ more. k.1 ++ more) new ∙ sym k.6
     same_trail (firing_made firing ∷ view) a b h k =
         let life : k.0 ≡ h.0 = same_life view k.0 h.0 k.3 h.3 in

@@ -7,8 +7,8 @@ use Rattle.dt_cred.specs.declared.account.Account.{Account}
 use Rattle.dt_machine.specs.Interest as interest
 use Rattle.dt_machine.specs.Registry.{Registry}
 use Rattle.dt_chain.specs.IsAt as chain
-use Rattle.dt_chain.specs.Kept.{is_listed, slot_of}
-use Rattle.dt_chain.specs.Writes.{Write, Entry, published, state}
+use Rattle.dt_chain.specs.Kept.{is_seat_listed, slot_of}
+use Rattle.dt_chain.specs.Writes.{Write, Published, published, published_on}
 use Rattle.dt_chain.specs.declared.entries.Entries.{Entries}
 use Rattle.dt_chain.specs.declared.entries.Slot.{Slot}
 use Rattle.dt_ecb.specs.Ecbs.{EcbForm, of_probe}
@@ -23,32 +23,34 @@ use Rattle.dt_world.proofs.Looking.{interest_from, interest_to}
 use Rattle.dt_world.proofs.Seeing.{wanted_from, wanted_to}
 
 -- entries see what was published by the probes that it names
-slot_at : (n : ℕ) (account : Account) (probes others : List Bool) (before : Option Entry) (same : Bool)
+slot_at : (n : ℕ) (account : Account) (probes others : List Bool) (before : Option Published) (same : Bool)
     (slot : Option Slot)
     → slot ≡ option_map slot_of (cond same (Some (record { life = n; account = account; probes = probes })) before)
     → slot ≡ option_map slot_of (cond same (Some (record { life = n; account = account; probes = others })) before)
 slot_at n account probes others before true slot h = h
 slot_at n account probes others before false slot h = h
 
-listed_at : (n : ℕ) (account : Account) (probes others : List Bool) (before : Option Entry) (same : Bool) (probe : ℕ)
+listed_at : (n : ℕ) (account : Account) (probes others : List Bool) (before : Option Published) (same : Bool)
+    (probe : ℕ)
     (listed : Bool) → interest.Names probes probe ↔ interest.Names others probe
     → IsTrue listed ↔ IsSomeAnd (cond same (Some (record { life = n; account = account; probes = probes })) before)
-    (λ (entry : Entry). interest.Names entry.probes probe)
+    (λ (entry : Published). interest.Names entry.probes probe)
     → IsTrue listed ↔ IsSomeAnd (cond same (Some (record { life = n; account = account; probes = others })) before)
-    (λ (entry : Entry). interest.Names entry.probes probe)
+    (λ (entry : Published). interest.Names entry.probes probe)
 listed_at n account probes others before true probe listed alike h =
     (λ e. alike.0 (h.0 e), λ names. h.1 (alike.1 names))
 listed_at n account probes others before false probe listed alike h = h
 
 entered_alike : (seat n : ℕ) (account : Account) (probes others : List Bool) (writes : List Write) (entries : Entries)
     → ((id : ℕ) → interest.Names probes id ↔ interest.Names others id)
-    → chain.IsAt (published seat n account probes ∷ writes) entries
-    → chain.IsAt (published seat n account others ∷ writes) entries
+    → chain.EntriesAreAt (published seat n account probes ∷ writes) entries
+    → chain.EntriesAreAt (published seat n account others ∷ writes) entries
 entered_alike seat n account probes others writes entries alike h = record {
-  kept = λ at. slot_at n account probes others (state writes at) (seat == at) (slice_index_or entries.slots at None)
+  kept = λ at. slot_at n account probes others (published_on writes at) (seat == at)
+      (slice_index_or entries.slots at None)
       (h.kept at);
-  listed = λ probe at. listed_at n account probes others (state writes at) (seat == at) probe
-      (is_listed entries.lists.items probe at) (alike probe) (h.listed probe at);
+  listed = λ probe at. listed_at n account probes others (published_on writes at) (seat == at) probe
+      (is_seat_listed entries.lists.items probe at) (alike probe) (h.listed probe at);
 }
 
 -- the probes that ECBs name are those of their interest
@@ -89,7 +91,7 @@ module _ (registry : Registry) (place : Place) (held : Held) (h : IsHeld registr
   abbrev Later : Held → Entries → Session → Pending → Type 0
   Later after later session pending =
       IsHeld registry (with_present place (waiting session pending.line true)) after
-      × chain.IsAt (published seat (length place.earlier) session.account
+      × chain.EntriesAreAt (published seat (length place.earlier) session.account
       (interest_of (ecbs session.account registry (life_in registry session))) ∷ writes) later
 
   pub published-now : (later : Entries) (served after : Served) (flags : List Bool) → held.present ≡ Some served
@@ -98,20 +100,22 @@ module _ (registry : Registry) (place : Place) (held : Held) (h : IsHeld registr
       → IsSession registry (waiting session pending.line true) after)
       → ((session : Session) → IsSession registry session served → (id : ℕ)
       → interest.Names flags id ↔ (of_probe id (ecbs session.account registry (life_in registry session)) ≢ []))
-      → chain.IsAt (published seat held.earlier served.account flags ∷ writes) later
+      → chain.EntriesAreAt (published seat held.earlier served.account flags ∷ writes) later
       → IsPublishedOn registry seat place writes (record { present = Some after; earlier = held.earlier }) later
   published-now later served after flags is due sets named at =
       let s = serves registry place held h served is in
       let session = s.session in
       let own = ecbs session.account registry (life_in registry session) in
-      let entered : chain.IsAt (published seat (length place.earlier) session.account (interest_of own) ∷ writes)
+      let entered : chain.EntriesAreAt (published seat (length place.earlier) session.account
+      (interest_of own) ∷ writes)
       later =
       entered_alike seat (length place.earlier) session.account flags (interest_of own) writes later
       (interest_alike own flags (named session s.kept))
-      (subst (λ n. chain.IsAt (published seat n session.account flags ∷ writes) later) h.counted
-      (subst (λ a. chain.IsAt (published seat held.earlier a flags ∷ writes) later) s.kept.owner at)) in
+      (subst (λ n. chain.EntriesAreAt (published seat n session.account flags ∷ writes) later) h.counted
+      (subst (λ a. chain.EntriesAreAt (published seat held.earlier a flags ∷ writes) later) s.kept.owner at)) in
       present_does
-      (IsHeld registry place (record { present = Some after; earlier = held.earlier }) × chain.IsAt writes later)
+      (IsHeld registry place (record { present = Some after; earlier = held.earlier })
+      × chain.EntriesAreAt writes later)
       (Later (record { present = Some after; earlier = held.earlier }) later) place.present session s.is
       (due session s.kept)
       (λ pending waits. (record { counted = h.counted; present = sets session pending s.kept waits }, entered))

@@ -16,11 +16,12 @@ use Rattle.dt_proto.specs.Lines.{LineForm}
 use Rattle.dt_proto.specs.Reply.{reply_text}
 use Rattle.dt_proto.specs.Session.{session_account}
 use Rattle.dt_world.specs.Ran.{Told, IsText, IsReply, AreReplies, is_of, told_to, IsAnsweredAlone}
-use Rattle.dt_world.specs.Steps.{Act, opens, asks, publishes, finishes, withdraws, looks, offers, closes, happens}
+use Rattle.dt_world.specs.Steps.{Act, opens, asks, publishes, finishes, withdraws, looks, offers, closes, after_act}
 use Rattle.dt_world.specs.Steps.{with_session, question_of, answering, opening, asking, publishing, finishing}
 use Rattle.dt_world.specs.Steps.{withdrawing, passed, looking, is_done, offered, offering, closing, world_after}
 use Rattle.dt_world.specs.Tests.{mask_of}
-use Rattle.dt_world.specs.World.{World, Session, Place, Due, Question, start, number_on, numbered, sessions_on}
+use Rattle.dt_world.specs.World.{World, Session, Place, Due, Question}
+use Rattle.dt_world.specs.World.{new_world, number_on, session_numbered, sessions_on}
 use Rattle.dt_world.specs.World.{session_of, new_session, reached, answered, waiting, may_ask, begins, may_withdraw}
 use Rattle.dt_world.proofs.Soundness.{updated, updated_others, option_case}
 
@@ -38,20 +39,20 @@ asked_of seat n session = option_map_or (λ s. asked_by seat n s.account s.view)
 -- on a seat, the questions of each session are the lines of its view
 abbrev pub AreAskedOn : List Question → (seat : ℕ) → Place → Type 0
 AreAskedOn questions seat place = (n : ℕ) → filter (is_of seat n) questions
-    ≡ asked_of seat n (numbered (sessions_on place) n)
+    ≡ asked_of seat n (session_numbered (sessions_on place) n)
 
 abbrev pub AreAsked : World → Type 0
 AreAsked world = (seat : ℕ) → AreAskedOn world.questions seat (world.places seat)
 
 -- there is no session of a number that none has yet
 unnumbered_at : (session : Session) (earlier : List Session) (n : ℕ) (same : Bool) → (length earlier == n) ≡ same
-    → length (session ∷ earlier) ≤ n → numbered earlier n ≡ None
-    → cond same (Some session) (numbered earlier n) ≡ None
+    → length (session ∷ earlier) ≤ n → session_numbered earlier n ≡ None
+    → cond same (Some session) (session_numbered earlier n) ≡ None
 unnumbered_at session earlier n true is high none =
     let bad : length earlier ≡ n = eqb-true (length earlier) n is in absurd (omega arith)
 unnumbered_at session earlier n false is high none = none
 
-unnumbered : (sessions : List Session) (n : ℕ) → length sessions ≤ n → numbered sessions n ≡ None
+unnumbered : (sessions : List Session) (n : ℕ) → length sessions ≤ n → session_numbered sessions n ≡ None
 unnumbered [] n high = refl
 unnumbered (session ∷ earlier) n high =
     unnumbered_at session earlier n (length earlier == n) refl high (unnumbered earlier n (omega arith))
@@ -59,24 +60,24 @@ unnumbered (session ∷ earlier) n high =
 -- the newest session of a seat is another, of which the same was asked
 changed_at : (seat n : ℕ) (before after : Session) (earlier : List Session) (asked : List Question) (same : Bool)
     → asked_by seat n after.account after.view ≡ asked_by seat n before.account before.view
-    → asked ≡ asked_of seat n (cond same (Some before) (numbered earlier n))
-    → asked ≡ asked_of seat n (cond same (Some after) (numbered earlier n))
+    → asked ≡ asked_of seat n (cond same (Some before) (session_numbered earlier n))
+    → asked ≡ asked_of seat n (cond same (Some after) (session_numbered earlier n))
 changed_at seat n before after earlier asked true alike h = h ∙ sym alike
 changed_at seat n before after earlier asked false alike h = h
 
 opened_at : (seat n : ℕ) (session : Session) (earlier : List Session) (asked : List Question) (same : Bool)
-    → (length earlier == n) ≡ same → session.view ≡ [] → asked ≡ asked_of seat n (numbered earlier n)
-    → asked ≡ asked_of seat n (cond same (Some session) (numbered earlier n))
+    → (length earlier == n) ≡ same → session.view ≡ [] → asked ≡ asked_of seat n (session_numbered earlier n)
+    → asked ≡ asked_of seat n (cond same (Some session) (session_numbered earlier n))
 opened_at seat n session earlier asked true is new h =
     let at : length earlier ≡ n = eqb-true (length earlier) n is in
-    let none : numbered earlier n ≡ None = unnumbered earlier n (omega arith) in
+    let none : session_numbered earlier n ≡ None = unnumbered earlier n (omega arith) in
     h ∙ ap (asked_of seat n) none ∙ ap (asked_by seat n session.account) (sym new)
 opened_at seat n session earlier asked false is new h = h
 
 -- one question more, at its session and at the others
 told_at : (seat n : ℕ) (session : Session) (line : LineForm) (earlier : List Session) (questions : List Question)
     (same : Bool) → (length earlier == n) ≡ same
-    → filter (is_of seat n) questions ≡ asked_of seat n (cond same (Some session) (numbered earlier n))
+    → filter (is_of seat n) questions ≡ asked_of seat n (cond same (Some session) (session_numbered earlier n))
     → filter (is_of seat n) questions
     ++ cond same (record {
       seat = seat;
@@ -85,7 +86,7 @@ told_at : (seat n : ℕ) (session : Session) (line : LineForm) (earlier : List S
       view = session.view;
       line = line;
     } ∷ []) []
-    ≡ asked_of seat n (cond same (Some (answered session line)) (numbered earlier n))
+    ≡ asked_of seat n (cond same (Some (answered session line)) (session_numbered earlier n))
 told_at seat n session line earlier questions true is h =
     let at : length earlier ≡ n = eqb-true (length earlier) n is in
     ap (λ before. before ++ record {
@@ -121,7 +122,7 @@ module _ (registry : Registry) (world : World) (h : AreAsked world) where
   asked_at : (seat : ℕ) (session : Session) → (world.places seat).present ≡ Some session → (n : ℕ)
       → filter (is_of seat n) world.questions
       ≡ asked_of seat n (cond (length (world.places seat).earlier == n) (Some session)
-      (numbered (world.places seat).earlier n))
+      (session_numbered (world.places seat).earlier n))
   asked_at seat session is n = rw is at (h seat n)
 
   -- the newest session changes, and no question is added
@@ -165,7 +166,7 @@ module _ (registry : Registry) (world : World) (h : AreAsked world) where
       (record { present = Some (new_session account); earlier = (world.places seat).earlier }) h
       (λ n. opened_at seat n (new_session account) (world.places seat).earlier (filter (is_of seat n) world.questions)
       (length (world.places seat).earlier == n) refl refl
-      (h seat n ∙ ap (λ sessions. asked_of seat n (numbered sessions n)) free))))
+      (h seat n ∙ ap (λ sessions. asked_of seat n (session_numbered sessions n)) free))))
       (λ no. h)
 
   asked-asking : (seat : ℕ) (line : LineForm) → AreAsked (asking registry world seat line)
@@ -244,7 +245,7 @@ module _ (registry : Registry) (world : World) (h : AreAsked world) where
       (record { present = None; earlier = session ∷ (world.places seat).earlier }) h (asked_at seat session is))
 
 asked-happens : (registry : Registry) (world : World) (act : Act) → AreAsked world
-    → AreAsked (happens registry world act)
+    → AreAsked (after_act registry world act)
 asked-happens registry world (opens seat name) h = asked-opening registry world h seat name
 asked-happens registry world (asks seat line) h = asked-asking registry world h seat line
 asked-happens registry world (publishes seat) h = asked-publishing registry world h seat
@@ -255,14 +256,14 @@ asked-happens registry world (offers cpu seat) h = asked-offering registry world
 asked-happens registry world (closes seat) h = asked-closing registry world h seat
 
 asked-fold : (registry : Registry) (world : World) (acts : List Act) → AreAsked world
-    → AreAsked (fold (happens registry) world acts)
+    → AreAsked (fold (after_act registry) world acts)
 asked-fold registry world [] h = h
 asked-fold registry world (act ∷ acts) h =
-    asked-fold registry (happens registry world act) acts (asked-happens registry world act h)
+    asked-fold registry (after_act registry world act) acts (asked-happens registry world act h)
 
 -- in every world
 pub all_asked : (registry : Registry) (acts : List Act) → AreAsked (world_after registry acts)
-all_asked registry acts = asked-fold registry start acts (λ seat n. refl)
+all_asked registry acts = asked-fold registry new_world acts (λ seat n. refl)
 
 -- the texts of the replies to questions
 abbrev IsTextOf : Registry → Question → List ℕ → Type 0

@@ -5,10 +5,10 @@ use Rattle.std.proofs.lemmas.Bool.{cond_both, eqb-true}
 use Rattle.std.specs.Option.{option_map_or}
 use Rattle.dt_machine.specs.Registry.{Registry, Contents}
 use Rattle.dt_chain.specs.declared.seat.TheConstants.{SEATS}
-use Rattle.dt_proto.specs.Lines.{form_of}
+use Rattle.dt_proto.specs.Lines.{line_form}
 use Rattle.dt_proto.specs.Session.{session_account}
 use Rattle.dt_world.specs.Progress.{with_world}
-use Rattle.dt_world.specs.Replay.{Replayed, after_line, waits, has_closed}
+use Rattle.dt_world.specs.Replay.{Replayed, after_step_line, waits, has_closed}
 use Rattle.dt_world.specs.StepLine.{call_line}
 use Rattle.dt_world.specs.Steps.{with_place, with_session, asking, finishing, opening, publishing, publishing_of}
 use Rattle.dt_world.specs.Steps.{withdrawing, offering, offering_of, closing}
@@ -106,13 +106,13 @@ module _ (world : World) where
 module _ (contents : Contents) (now : Replayed) (seat : ℕ) (line : List ℕ) where
   -- the world after the ask of a `call`
   abbrev pub asked_in : World
-  asked_in = asking contents.registry now.world seat (form_of line)
+  asked_in = asking contents.registry now.world seat (line_form line)
 
-  pub called_waiting : waits (asked_in.places seat) ≡ true → after_line contents now (call_line seat line)
+  pub called_waiting : waits (asked_in.places seat) ≡ true → after_step_line contents now (call_line seat line)
       ≡ with_world now (finishing (publishing contents.registry asked_in seat) seat)
   called_waiting is = rw is refl
 
   pub called_closed : waits (asked_in.places seat) ≡ false → has_closed contents.registry (asked_in.places seat) ≡ true
-      → after_line contents now (call_line seat line)
+      → after_step_line contents now (call_line seat line)
       ≡ with_world now (closing (withdrawing contents.registry asked_in seat) seat)
   called_closed is closed = rw (is, closed) refl

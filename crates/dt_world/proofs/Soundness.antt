@@ -6,7 +6,7 @@ use Rattle.std.specs.Option.{option_map, option_map_or}
 use Rattle.dt_cred.specs.declared.account.Account.{Account}
 use Rattle.dt_machine.specs.Registry.{Registry}
 use Rattle.dt_machine.specs.declared.firing.Firing.{Firing}
-use Rattle.dt_chain.specs.Writes.{Entry, state}
+use Rattle.dt_chain.specs.Writes.{Published, published_on}
 use Rattle.dt_chain.specs.declared.seat.TheConstants.{SEATS}
 use Rattle.dt_ecb.specs.Ecbs.{EcbForm, ecbs_of}
 use Rattle.dt_consumer.specs.Ask.{Ask, go}
@@ -18,12 +18,12 @@ use Rattle.dt_proto.specs.Alone.{firing_made}
 use Rattle.dt_proto.specs.Line.{ask_in}
 use Rattle.dt_proto.specs.Lines.{LineForm}
 use Rattle.dt_proto.specs.Session.{session_account}
-use Rattle.dt_world.specs.Sound.{entry_of, IsEntered, IsSoundSeat, IsSound}
-use Rattle.dt_world.specs.Steps.{Act, opens, asks, publishes, finishes, withdraws, looks, offers, closes, happens}
+use Rattle.dt_world.specs.Sound.{publication_of, IsEntered, IsSoundSeat, IsSoundWorld}
+use Rattle.dt_world.specs.Steps.{Act, opens, asks, publishes, finishes, withdraws, looks, offers, closes, after_act}
 use Rattle.dt_world.specs.Steps.{world_after, with_session, answering, opening, asking, publishing, finishing}
 use Rattle.dt_world.specs.Steps.{withdrawing, passed, looking, is_done, offered, offering, closing}
 use Rattle.dt_world.specs.Tests.{is_seen, interest_of, mask_of}
-use Rattle.dt_world.specs.World.{World, Session, Place, Pending, Due, start, number_on, life_in, is_tracing}
+use Rattle.dt_world.specs.World.{World, Session, Place, Pending, Due, new_world, number_on, life_in, is_tracing}
 use Rattle.dt_world.specs.World.{new_session, reached, answered, waiting, may_ask, begins, may_withdraw}
 use Rattle.dt_world.proofs.Beginning.{begins_from, begins_to, inactive_from}
 use Rattle.dt_world.proofs.Keeping.{Keeps, may_begin, life-after_line, life-fired, ecbs-go}
@@ -50,29 +50,30 @@ updated P places seat place before now other =
     updated_at P places seat other place (seat == other) refl (λ no. before other) now
 
 -- the same where an entry changes as well
-both_at : (P : ℕ → Option Entry → Place → Type 0) (places : ℕ → Place) (entries : ℕ → Option Entry)
-    (seat other : ℕ) (place : Place) (entry : Option Entry) (same : Bool) → (seat == other) ≡ same
+both_at : (P : ℕ → Option Published → Place → Type 0) (places : ℕ → Place) (entries : ℕ → Option Published)
+    (seat other : ℕ) (place : Place) (entry : Option Published) (same : Bool) → (seat == other) ≡ same
     → P other (entries other) (places other) → P seat entry place
     → P other (cond same entry (entries other)) (cond same place (places other))
 both_at P places entries seat other place entry true is before now =
     let at : seat ≡ other = eqb-true seat other is in subst (λ o. P o entry place) at now
 both_at P places entries seat other place entry false is before now = before
 
-both_updated : (P : ℕ → Option Entry → Place → Type 0) (places : ℕ → Place) (entries : ℕ → Option Entry)
-    (seat : ℕ) (place : Place) (entry : Option Entry)
+both_updated : (P : ℕ → Option Published → Place → Type 0) (places : ℕ → Place) (entries : ℕ → Option Published)
+    (seat : ℕ) (place : Place) (entry : Option Published)
     → ((other : ℕ) → P other (entries other) (places other)) → P seat entry place
     → (other : ℕ) → P other (cond (seat == other) entry (entries other)) (cond (seat == other) place (places other))
 both_updated P places entries seat place entry before now other =
     both_at P places entries seat other place entry (seat == other) refl (before other) now
 
-entry_updated_at : (P : ℕ → Option Entry → Type 0) (entries : ℕ → Option Entry)
-    (seat other : ℕ) (entry : Option Entry) (same : Bool) → (seat == other) ≡ same
+entry_updated_at : (P : ℕ → Option Published → Type 0) (entries : ℕ → Option Published)
+    (seat other : ℕ) (entry : Option Published) (same : Bool) → (seat == other) ≡ same
     → P other (entries other) → P seat entry → P other (cond same entry (entries other))
 entry_updated_at P entries seat other entry true is before now =
     let at : seat ≡ other = eqb-true seat other is in subst (λ o. P o entry) at now
 entry_updated_at P entries seat other entry false is before now = before
 
-entry_updated : (P : ℕ → Option Entry → Type 0) (entries : ℕ → Option Entry) (seat : ℕ) (entry : Option Entry)
+entry_updated : (P : ℕ → Option Published → Type 0) (entries : ℕ → Option Published) (seat : ℕ)
+    (entry : Option Published)
     → ((other : ℕ) → P other (entries other)) → P seat entry
     → (other : ℕ) → P other (cond (seat == other) entry (entries other))
 entry_updated P entries seat entry before now other =
@@ -93,14 +94,14 @@ unfolding is_published
 none_published line other e = let bad : false ≡ true = ap is_published e in cc
 
 -- a session on a seat, and nothing else, changes
-module _ (registry : Registry) (account : Account) (n : ℕ) (entry : Option Entry) where
+module _ (registry : Registry) (account : Account) (n : ℕ) (entry : Option Published) where
   abbrev Entered : List Item → Option Pending → Type 0
   Entered life waits = IsEntered registry account life waits n entry
 
   -- what is entered of a life stays where a later one traces
   kept_entry : (life later : List Item) (go : Option Pending)
       → Keeps (set_up account registry life) (set_up account registry later) → Entered life go
-      → is_active (phase account registry later) ≡ true → entry ≡ Some (entry_of registry account later n)
+      → is_active (phase account registry later) ≡ true → entry ≡ Some (publication_of registry account later n)
   kept_entry life later waits keeps h a =
       h.traces (keeps.traced a)
       ∙ ap (λ clauses. Some (record {
@@ -175,10 +176,10 @@ module _ (registry : Registry) (account : Account) (n : ℕ) (entry : Option Ent
   }
 
 -- its interest is published
-entered-published : (registry : Registry) (account : Account) (n : ℕ) (entry : Option Entry) (life : List Item)
+entered-published : (registry : Registry) (account : Account) (n : ℕ) (entry : Option Published) (life : List Item)
     (line : LineForm) → IsEntered registry account life (Some (record { line = line; published = false })) n entry
     → IsEntered registry account life (Some (record { line = line; published = true })) n
-    (Some (entry_of registry account life n))
+    (Some (publication_of registry account life n))
 entered-published registry account n entry life line h = record {
   accepted = λ pending e.
       let same : record { line = line; published = true } ≡ pending = cc in
@@ -198,14 +199,14 @@ entered-withdrawn registry account n life quiet = record {
 }
 
 module _ (registry : Registry) where
-  no_entry : (seat : ℕ) (entry : Option Entry) (place : Place) (present : Option Session) → place.present ≡ present
+  no_entry : (seat : ℕ) (entry : Option Published) (place : Place) (present : Option Session) → place.present ≡ present
       → IsSoundSeat registry seat entry place → SEATS ≤ seat → entry ≡ None
   no_entry seat entry place None is h past = (rw is at h) past
   no_entry seat entry place (Some session) is h past =
       let low : seat < SEATS = (rw is at h).0 in absurd (omega arith)
 
   -- a seat after a firing reached its session
-  sound-reached : (seat : ℕ) (entry : Option Entry) (place : Place) (session : Session) (firing : Firing)
+  sound-reached : (seat : ℕ) (entry : Option Published) (place : Place) (session : Session) (firing : Firing)
       → place.present ≡ Some session → IsSoundSeat registry seat entry place
       → IsSoundSeat registry seat entry (record place { present = Some (reached session (firing_made firing)) })
   sound-reached seat entry place session firing is h =
@@ -216,7 +217,7 @@ module _ (registry : Registry) where
             (is_seen session.account registry (life_in registry session) firing) refl before.1,
       )
 
-  sound-passed : (seat : ℕ) (entry : Option Entry) (place : Place) (firing : Firing) (named : Option ℕ)
+  sound-passed : (seat : ℕ) (entry : Option Published) (place : Place) (firing : Firing) (named : Option ℕ)
       → IsSoundSeat registry seat entry place → IsSoundSeat registry seat entry (passed firing named place)
   sound-passed seat entry place firing named h =
       option_case (IsSoundSeat registry seat entry) _ place place.present h (λ session is.
@@ -224,45 +225,46 @@ module _ (registry : Registry) where
       (IsSoundSeat registry seat entry)
       (λ own. h) (λ other. sound-reached seat entry place session firing is h))
 
-  sound-offered : (seat : ℕ) (entry : Option Entry) (place : Place) (due : Due)
+  sound-offered : (seat : ℕ) (entry : Option Published) (place : Place) (due : Due)
       → IsSoundSeat registry seat entry place → IsSoundSeat registry seat entry (offered due place)
   sound-offered seat entry place due h =
       option_case (IsSoundSeat registry seat entry) _ place place.present h (λ session is.
       cond_both (due.life == length place.earlier) _ _ (IsSoundSeat registry seat entry)
       (λ own. sound-reached seat entry place session due.firing is h) (λ other. h))
 
-  module _ (world : World) (h : IsSound registry world) where
+  module _ (world : World) (h : IsSoundWorld registry world) where
     -- the session on a seat
     at_session : (seat : ℕ) (session : Session) → (world.places seat).present ≡ Some session
         → (seat < SEATS) × IsEntered registry session.account (life_in registry session) session.go
-        (number_on world seat) (state world.writes seat)
+        (number_on world seat) (published_on world.writes seat)
     at_session seat session is = rw is at (h.seats seat)
 
     sound-with_session : (seat : ℕ) (session : Session) → seat < SEATS
         → IsEntered registry session.account (life_in registry session) session.go (number_on world seat)
-        (state world.writes seat)
-        → IsSound registry (with_session world seat session)
+        (published_on world.writes seat)
+        → IsSoundWorld registry (with_session world seat session)
     sound-with_session seat session low entered = record {
-      seats = updated (λ other place. IsSoundSeat registry other (state world.writes other) place) world.places seat
+      seats = updated (λ other place. IsSoundSeat registry other (published_on world.writes other) place)
+          world.places seat
           (record { present = Some session; earlier = (world.places seat).earlier }) h.seats (low, entered);
       due = h.due;
     }
 
     sound-answering : (seat : ℕ) (session : Session) (line : LineForm) → seat < SEATS
         → IsEntered registry session.account (life_in registry (answered session line)) None (number_on world seat)
-        (state world.writes seat)
-        → IsSound registry (answering world seat session line)
+        (published_on world.writes seat)
+        → IsSoundWorld registry (answering world seat session line)
     sound-answering seat session line low entered =
         let one = sound-with_session seat (answered session line) low entered in
         record { seats = one.seats; due = one.due }
 
-    pub sound-opening : (seat : ℕ) (name : List ℕ) → IsSound registry (opening registry world seat name)
+    pub sound-opening : (seat : ℕ) (name : List ℕ) → IsSoundWorld registry (opening registry world seat name)
     unfolding opening
     sound-opening seat name =
-        cond_both (nat_lt seat SEATS && is_none (world.places seat).present) _ world (IsSound registry)
-        (λ may. option_case (IsSound registry) _ world (session_account registry name) h (λ account is.
+        cond_both (nat_lt seat SEATS && is_none (world.places seat).present) _ world (IsSoundWorld registry)
+        (λ may. option_case (IsSoundWorld registry) _ world (session_account registry name) h (λ account is.
         sound-with_session seat (new_session account) (ltb-true seat SEATS ((and_parts _ _ may).0))
-        (entered-new registry account (number_on world seat) (state world.writes seat))))
+        (entered-new registry account (number_on world seat) (published_on world.writes seat))))
         (λ no. h)
 
     none_pending : (go : Option Pending) → is_none go ≡ true → go ≡ None
@@ -273,66 +275,70 @@ module _ (registry : Registry) where
     unfolding may_ask
     may_ask_none session may = none_pending session.go ((and_parts _ _ may).0)
 
-    pub sound-asking : (seat : ℕ) (line : LineForm) → IsSound registry (asking registry world seat line)
+    pub sound-asking : (seat : ℕ) (line : LineForm) → IsSoundWorld registry (asking registry world seat line)
     unfolding asking
     sound-asking seat line =
-        option_case (IsSound registry) _ world (world.places seat).present h (λ session is.
-        cond_both (may_ask registry session) _ world (IsSound registry)
+        option_case (IsSoundWorld registry) _ world (world.places seat).present h (λ session is.
+        cond_both (may_ask registry session) _ world (IsSoundWorld registry)
         (λ may.
         let at = at_session seat session is in
         let idle : IsEntered registry session.account (life_in registry session) None (number_on world seat)
-        (state world.writes seat) = rw (may_ask_none session may) at at.1 in
-        cond_both (begins registry session line) _ _ (IsSound registry)
+        (published_on world.writes seat) = rw (may_ask_none session may) at at.1 in
+        cond_both (begins registry session line) _ _ (IsSoundWorld registry)
         (λ begun. sound-with_session seat (waiting session line false) at.0
-        (entered-waiting registry session.account (number_on world seat) (state world.writes seat)
+        (entered-waiting registry session.account (number_on world seat) (published_on world.writes seat)
         (life_in registry session) line (begins_from registry session line begun) idle))
         (λ no. sound-answering seat session line at.0
-        (entered-answered registry session.account (number_on world seat) (state world.writes seat)
+        (entered-answered registry session.account (number_on world seat) (published_on world.writes seat)
         (life_in registry session) (ask_in line)
         (λ is_go. both_ways (begins registry session line) no (begins_to registry session line is_go)) idle)))
         (λ no. h))
 
-    pub sound-publishing : (seat : ℕ) → IsSound registry (publishing registry world seat)
+    pub sound-publishing : (seat : ℕ) → IsSoundWorld registry (publishing registry world seat)
     unfolding publishing
     sound-publishing seat =
-        option_case (IsSound registry) _ world (world.places seat).present h (λ session is.
-        option_case (IsSound registry) _ world session.go h (λ pending pends.
-        cond_both pending.published _ _ (IsSound registry) (λ done. h) (λ due.
+        option_case (IsSoundWorld registry) _ world (world.places seat).present h (λ session is.
+        option_case (IsSoundWorld registry) _ world session.go h (λ pending pends.
+        cond_both pending.published _ _ (IsSoundWorld registry) (λ done. h) (λ due.
         let at = at_session seat session is in
         let before : IsEntered registry session.account (life_in registry session)
-        (Some (record { line = pending.line; published = false })) (number_on world seat) (state world.writes seat) =
+        (Some (record { line = pending.line; published = false })) (number_on world seat)
+        (published_on world.writes seat) =
         subst (λ waits. IsEntered registry session.account (life_in registry session) waits (number_on world seat)
-        (state world.writes seat)) (pends ∙ ap (λ b. Some (record { line = pending.line; published = b })) due) at.1 in
+        (published_on world.writes seat))
+        (pends ∙ ap (λ b. Some (record { line = pending.line; published = b })) due) at.1 in
         record {
-          seats = both_updated (IsSoundSeat registry) world.places (state world.writes) seat
+          seats = both_updated (IsSoundSeat registry) world.places (published_on world.writes) seat
               (record { present = Some (waiting session pending.line true); earlier = (world.places seat).earlier })
-              (Some (entry_of registry session.account (life_in registry session) (number_on world seat)))
+              (Some (publication_of registry session.account (life_in registry session) (number_on world seat)))
               h.seats (
                 at.0,
                 entered-published registry session.account (number_on world seat)
-                    (state world.writes seat) (life_in registry session) pending.line before,
+                    (published_on world.writes seat) (life_in registry session) pending.line before,
               );
           due = h.due;
         })))
 
-    pub sound-finishing : (seat : ℕ) → IsSound registry (finishing world seat)
+    pub sound-finishing : (seat : ℕ) → IsSoundWorld registry (finishing world seat)
     unfolding finishing
     sound-finishing seat =
-        option_case (IsSound registry) _ world (world.places seat).present h (λ session is.
-        option_case (IsSound registry) _ world session.go h (λ pending pends.
-        cond_both pending.published _ _ (IsSound registry) (λ due.
+        option_case (IsSoundWorld registry) _ world (world.places seat).present h (λ session is.
+        option_case (IsSoundWorld registry) _ world session.go h (λ pending pends.
+        cond_both pending.published _ _ (IsSoundWorld registry) (λ due.
         let at = at_session seat session is in
         let before : IsEntered registry session.account (life_in registry session)
-        (Some (record { line = pending.line; published = true })) (number_on world seat) (state world.writes seat) =
+        (Some (record { line = pending.line; published = true })) (number_on world seat)
+        (published_on world.writes seat) =
         subst (λ waits. IsEntered registry session.account (life_in registry session) waits (number_on world seat)
-        (state world.writes seat)) (pends ∙ ap (λ b. Some (record { line = pending.line; published = b })) due) at.1 in
+        (published_on world.writes seat))
+        (pends ∙ ap (λ b. Some (record { line = pending.line; published = b })) due) at.1 in
         sound-answering seat session pending.line at.0
-        (entered-finished registry session.account (number_on world seat) (state world.writes seat)
+        (entered-finished registry session.account (number_on world seat) (published_on world.writes seat)
         (life_in registry session) pending.line before))
         (λ no. h)))
 
     -- a seat whose entry is withdrawn
-    withdrawn_seat : (seat : ℕ) (place : Place) (entry : Option Entry) (present : Option Session)
+    withdrawn_seat : (seat : ℕ) (place : Place) (entry : Option Published) (present : Option Session)
         → place.present ≡ present → option_map_or (may_withdraw registry) place.present true ≡ true
         → IsSoundSeat registry seat entry place → IsSoundSeat registry seat None place
     unfolding may_withdraw
@@ -348,14 +354,16 @@ module _ (registry : Registry) where
               (life_in registry session) quiet),
         )
 
-    pub sound-withdrawing : (seat : ℕ) → IsSound registry (withdrawing registry world seat)
+    pub sound-withdrawing : (seat : ℕ) → IsSoundWorld registry (withdrawing registry world seat)
     unfolding withdrawing
     sound-withdrawing seat =
-        cond_both (option_map_or (may_withdraw registry) (world.places seat).present true) _ world (IsSound registry)
+        cond_both (option_map_or (may_withdraw registry) (world.places seat).present true) _ world
+        (IsSoundWorld registry)
         (λ may. record {
           seats = entry_updated (λ other entry. IsSoundSeat registry other entry (world.places other))
-              (state world.writes) seat None h.seats
-              (withdrawn_seat seat (world.places seat) (state world.writes seat) (world.places seat).present refl may
+              (published_on world.writes) seat None h.seats
+              (withdrawn_seat seat (world.places seat) (published_on world.writes seat) (world.places seat).present
+              refl may
               (h.seats seat));
           due = h.due;
         })
@@ -364,7 +372,7 @@ module _ (registry : Registry) where
     none_named : (firing : Firing) (seat : ℕ) → SEATS ≤ seat → mask_of registry world.writes firing seat ≡ None
     unfolding mask_of
     none_named firing seat past =
-        rw (no_entry seat (state world.writes seat) (world.places seat) (world.places seat).present refl
+        rw (no_entry seat (published_on world.writes seat) (world.places seat) (world.places seat).present refl
         (h.seats seat) past)
         refl
 
@@ -373,13 +381,13 @@ module _ (registry : Registry) where
     due_at true cpu seat firing named none past = rw none refl
     due_at false cpu seat firing named none past = h.due cpu seat past
 
-    pub sound-looking : (cpu : ℕ) (firing : Firing) → IsSound registry (looking registry world cpu firing)
+    pub sound-looking : (cpu : ℕ) (firing : Firing) → IsSoundWorld registry (looking registry world cpu firing)
     unfolding looking
     sound-looking cpu firing =
         cond_both (nat_lt cpu registry.cpus && (firing.cpu == cpu && is_done (world.due cpu))) _ world
-        (IsSound registry)
+        (IsSoundWorld registry)
         (λ may. record {
-          seats = λ seat. sound-passed seat (state world.writes seat) (world.places seat) firing
+          seats = λ seat. sound-passed seat (published_on world.writes seat) (world.places seat) firing
               (mask_of registry world.writes firing seat) (h.seats seat);
           due = λ other seat past. due_at (other == cpu) other seat firing (mask_of registry world.writes firing seat)
               (none_named firing seat past) past;
@@ -390,34 +398,34 @@ module _ (registry : Registry) where
     no_due_at true cpu seat past = refl
     no_due_at false cpu seat past = h.due cpu seat past
 
-    pub sound-offering : (cpu seat : ℕ) → IsSound registry (offering world cpu seat)
+    pub sound-offering : (cpu seat : ℕ) → IsSoundWorld registry (offering world cpu seat)
     unfolding offering
     sound-offering cpu seat =
-        option_case (IsSound registry) _ world (world.due cpu seat) h (λ due is. record {
-          seats = updated (λ other place. IsSoundSeat registry other (state world.writes other) place)
+        option_case (IsSoundWorld registry) _ world (world.due cpu seat) h (λ due is. record {
+          seats = updated (λ other place. IsSoundSeat registry other (published_on world.writes other) place)
               world.places seat
               (offered due (world.places seat)) h.seats
-              (sound-offered seat (state world.writes seat) (world.places seat) due (h.seats seat));
+              (sound-offered seat (published_on world.writes seat) (world.places seat) due (h.seats seat));
           due = λ other at past. no_due_at (other == cpu && at == seat) other at past;
         })
 
-    pub sound-closing : (seat : ℕ) → IsSound registry (closing world seat)
+    pub sound-closing : (seat : ℕ) → IsSoundWorld registry (closing world seat)
     unfolding closing
     sound-closing seat =
-        option_case (IsSound registry) _ world (world.places seat).present h (λ session is. record {
-          seats = updated (λ other place. IsSoundSeat registry other (state world.writes other) place)
+        option_case (IsSoundWorld registry) _ world (world.places seat).present h (λ session is. record {
+          seats = updated (λ other place. IsSoundSeat registry other (published_on world.writes other) place)
               world.places seat
               (record { present = None; earlier = session ∷ (world.places seat).earlier }) h.seats
-              (no_entry seat (state world.writes seat) (world.places seat) (world.places seat).present refl
+              (no_entry seat (published_on world.writes seat) (world.places seat) (world.places seat).present refl
               (h.seats seat));
           due = h.due;
         })
 
-  pub sound-start : IsSound registry start
+  pub sound-start : IsSoundWorld registry new_world
   sound-start = record { seats = λ seat past. refl; due = λ cpu seat past. refl }
 
-  pub sound-happens : (world : World) (act : Act) → IsSound registry world
-      → IsSound registry (happens registry world act)
+  pub sound-happens : (world : World) (act : Act) → IsSoundWorld registry world
+      → IsSoundWorld registry (after_act registry world act)
   sound-happens world (opens seat name) h = sound-opening world h seat name
   sound-happens world (asks seat line) h = sound-asking world h seat line
   sound-happens world (publishes seat) h = sound-publishing world h seat
@@ -427,10 +435,10 @@ module _ (registry : Registry) where
   sound-happens world (offers cpu seat) h = sound-offering world h cpu seat
   sound-happens world (closes seat) h = sound-closing world h seat
 
-  sound-fold : (world : World) (acts : List Act) → IsSound registry world
-      → IsSound registry (fold (happens registry) world acts)
+  sound-fold : (world : World) (acts : List Act) → IsSoundWorld registry world
+      → IsSoundWorld registry (fold (after_act registry) world acts)
   sound-fold world [] h = h
-  sound-fold world (act ∷ acts) h = sound-fold (happens registry world act) acts (sound-happens world act h)
+  sound-fold world (act ∷ acts) h = sound-fold (after_act registry world act) acts (sound-happens world act h)
 
-  pub sound-after : (acts : List Act) → IsSound registry (world_after registry acts)
-  sound-after acts = sound-fold start acts sound-start
+  pub sound-after : (acts : List Act) → IsSoundWorld registry (world_after registry acts)
+  sound-after acts = sound-fold new_world acts sound-start

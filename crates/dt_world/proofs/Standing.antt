@@ -14,7 +14,7 @@ use Rattle.dt_machine.specs.declared.firing.Firing.{Firing}
 use Rattle.dt_chain.specs.IsAt as chain
 use Rattle.dt_chain.specs.Look.{IsLook}
 use Rattle.dt_chain.specs.Seats.{life_at}
-use Rattle.dt_chain.specs.Writes.{Write, Entry, published, withdrawn, state}
+use Rattle.dt_chain.specs.Writes.{Write, Published, published, withdrawn, published_on}
 use Rattle.dt_chain.specs.declared.entries.Entries.{Entries}
 use Rattle.dt_chain.specs.declared.seat.TheConstants.{SEATS}
 use Rattle.dt_chain.specs.declared.seat_mask.SeatMask.{SeatMask}
@@ -22,9 +22,9 @@ use Rattle.dt_consumer.specs.Life.{Item, phase, ecbs, is_active}
 use Rattle.dt_proto.specs.Alone.{firing_made}
 use Rattle.dt_proto.specs.Lines.{LineForm}
 use Rattle.dt_proto.specs.Session.{session_account}
-use Rattle.dt_world.specs.Sound.{entry_of, IsEntered, IsSoundSeat, IsSound}
+use Rattle.dt_world.specs.Sound.{publication_of, IsEntered, IsSoundSeat, IsSoundWorld}
 use Rattle.dt_world.specs.Stands.{IsSession, IsPresent, IsHeld, IsAsked, IsAskedOn, IsFinishing, IsFinishedOn}
-use Rattle.dt_world.specs.Stands.{IsPublishedOn, IsKept, IsAnswered, IsLooked, with_present, opened_on, closed_on}
+use Rattle.dt_world.specs.Stands.{IsPublishedOn, WorldIsKept, IsAnswered, IsLooked, with_present, opened_on, closed_on}
 use Rattle.dt_world.specs.Stands.{due_of, due_in, sees_on, seen_in}
 use Rattle.dt_world.specs.Steps.{with_place, with_session, question_of, answering, opening, asking, publishing}
 use Rattle.dt_world.specs.Steps.{publishing_of, finishing, withdrawing, passed, looking, is_done, offered, offering}
@@ -106,7 +106,7 @@ module _ (registry : Registry) where
     present_same present served_ e f kept = rw (e, f) kept
 
   module _ (world : World) (seats : List Held) (entries : Entries) (processors : List (Option Looked))
-      (kept : IsKept registry world seats entries processors) where
+      (kept : WorldIsKept registry world seats entries processors) where
     module _ (at seat : ℕ) (held : Held) (found : Found seats at seat held) where
       seat_low : seat < SEATS
       seat_low = let is = found.is in let low = found.low in omega arith
@@ -139,7 +139,7 @@ module _ (registry : Registry) where
 
       -- the session on this seat is another, or what is on it
       kept-with_place : (place : Place) (after : Held) → IsHeld registry place after
-          → IsKept registry (with_place world seat place) (set seats at after) entries processors
+          → WorldIsKept registry (with_place world seat place) (set seats at after) entries processors
       kept-with_place place after h = record {
         all = set_all after;
         held = kept_seat world.places place after kept.held h;
@@ -162,7 +162,7 @@ module _ (registry : Registry) where
           (λ same. kept.held other)
 
       kept_same : (after : Held) → IsHeld registry (world.places seat) after
-          → IsKept registry world (set seats at after) entries processors
+          → WorldIsKept registry world (set seats at after) entries processors
       kept_same after h = record {
         all = set_all after;
         held = λ other. kept_same_at after other h;
@@ -173,7 +173,7 @@ module _ (registry : Registry) where
 
       kept-answering : (session : Session) (line : LineForm) (after : Held)
           → IsHeld registry (with_present (world.places seat) (answered session line)) after
-          → IsKept registry (answering world seat session line) (set seats at after) entries processors
+          → WorldIsKept registry (answering world seat session line) (set seats at after) entries processors
       kept-answering session line after h =
           let one = kept-with_place (with_present (world.places seat) (answered session line)) after h in
           record { all = one.all; held = one.held; entered = one.entered; cpus = one.cpus; due = one.due }
@@ -181,7 +181,7 @@ module _ (registry : Registry) where
       -- Open
       pub kept-opening : (name : List ℕ) (after : Held)
           → ((place : Place) → IsHeld registry place held → IsHeld registry (opened_on registry place name) after)
-          → IsKept registry (opening registry world seat name) (set seats at after) entries processors
+          → WorldIsKept registry (opening registry world seat name) (set seats at after) entries processors
       unfolding opening
       kept-opening name after opens =
           let here : nat_lt seat SEATS ≡ true = lt-ltb seat SEATS seat_low in
@@ -190,7 +190,7 @@ module _ (registry : Registry) where
             opened_at : (taken : Bool) (account : Option Account) → is_some (world.places seat).present ≡ taken
                 → session_account registry name ≡ account → nat_lt seat SEATS ≡ true → (after : Held)
                 → IsHeld registry (opened_on registry (world.places seat) name) after
-                → IsKept registry (cond (nat_lt seat SEATS && not (is_some (world.places seat).present))
+                → WorldIsKept registry (cond (nat_lt seat SEATS && not (is_some (world.places seat).present))
                 (option_map_or (λ own. with_session world seat (new_session own))
                 (session_account registry name) world)
                 world) (set seats at after) entries processors
@@ -205,7 +205,8 @@ module _ (registry : Registry) where
       -- Ask
       Asked : LineForm → Option (List ℕ) → Held → World → Type 0
       Asked line reply after later =
-          IsKept registry later (set seats at after) entries processors × IsAnswered registry world later seat reply
+          WorldIsKept registry later (set seats at after) entries processors
+          × IsAnswered registry world later seat reply
 
       asked_begun : (session : Session) (line : LineForm) (reply : Option (List ℕ)) (after : Held) (served : Served)
           → after.earlier ≡ length (world.places seat).earlier → after.present ≡ Some served
@@ -226,7 +227,7 @@ module _ (registry : Registry) where
 
       pub kept-asking : (line : LineForm) (reply : Option (List ℕ)) (after : Held)
           → ((place : Place) → IsHeld registry place held → IsAskedOn registry place line reply after)
-          → IsKept registry (asking registry world seat line) (set seats at after) entries processors
+          → WorldIsKept registry (asking registry world seat line) (set seats at after) entries processors
           × IsAnswered registry world (asking registry world seat line) seat reply
       unfolding asking Asked
       kept-asking line reply after asks =
@@ -258,7 +259,8 @@ module _ (registry : Registry) where
       -- Finish
       Finished : Option (List ℕ) → Held → World → Type 0
       Finished reply after later =
-          IsKept registry later (set seats at after) entries processors × IsAnswered registry world later seat reply
+          WorldIsKept registry later (set seats at after) entries processors
+          × IsAnswered registry world later seat reply
 
       finished_on : (session : Session) (reply : Option (List ℕ)) (after : Held) (served : Served)
           → (world.places seat).present ≡ Some session
@@ -286,7 +288,7 @@ module _ (registry : Registry) where
 
       pub kept-finishing : (reply : Option (List ℕ)) (after : Held)
           → ((place : Place) → IsHeld registry place held → IsFinishedOn registry place reply after)
-          → IsKept registry (finishing world seat) (set seats at after) entries processors
+          → WorldIsKept registry (finishing world seat) (set seats at after) entries processors
           × IsAnswered registry world (finishing world seat) seat reply
       unfolding finishing Finished
       kept-finishing reply after finishes =
@@ -305,14 +307,14 @@ module _ (registry : Registry) where
           → ((place : Place) → length place.earlier + 1 < 2 ^ 64 → IsHeld registry place held
           → IsHeld registry (closed_on place) after)
           → number_on world seat + 1 < 2 ^ 64
-          → IsKept registry (closing world seat) (set seats at after) entries processors
+          → WorldIsKept registry (closing world seat) (set seats at after) entries processors
       unfolding closing
       kept-closing after closes few =
           closed_case (λ session. record { present = None; earlier = session ∷ (world.places seat).earlier })
           (world.places seat).present (closes (world.places seat) few held_at) where
             closed_case : (f : Session → Place) (present : Option Session)
                 → IsHeld registry (option_map_or f present (world.places seat)) after
-                → IsKept registry (option_map_or (λ session. with_place world seat (f session)) present world)
+                → WorldIsKept registry (option_map_or (λ session. with_place world seat (f session)) present world)
                 (set seats at after) entries processors
             closed_case f None h = kept_same after h
             closed_case f (Some session) h = kept-with_place (f session) after h
@@ -320,59 +322,62 @@ module _ (registry : Registry) where
       -- Publish
       kept_published : (session : Session) (pending : Pending) (after : Held) (later : Entries)
           → IsHeld registry (with_present (world.places seat) (waiting session pending.line true)) after
-          → chain.IsAt (published seat (number_on world seat) session.account
+          → chain.EntriesAreAt (published seat (number_on world seat) session.account
           (interest_of (ecbs session.account registry (life_in registry session))) ∷ world.writes) later
-          → IsKept registry (publishing_of registry world seat session pending) (set seats at after) later processors
+          → WorldIsKept registry (publishing_of registry world seat session pending) (set seats at after) later
+          processors
       kept_published session pending after later h entered =
           let one = kept-with_place (with_present (world.places seat) (waiting session pending.line true)) after h in
           record { all = one.all; held = one.held; entered = entered; cpus = one.cpus; due = one.due }
 
       kept_entries : (after : Held) (later : Entries) → IsHeld registry (world.places seat) after
-          → chain.IsAt world.writes later → IsKept registry world (set seats at after) later processors
+          → chain.EntriesAreAt world.writes later → WorldIsKept registry world (set seats at after) later processors
       kept_entries after later h entered =
           let one = kept_same after h in
           record { all = one.all; held = one.held; entered = entered; cpus = one.cpus; due = one.due }
 
       pub kept-publishing : (after : Held) (later : Entries)
-          → ((place : Place) (writes : List Write) → IsHeld registry place held → chain.IsAt writes entries
+          → ((place : Place) (writes : List Write) → IsHeld registry place held → chain.EntriesAreAt writes entries
           → IsPublishedOn registry seat place writes after later)
-          → IsKept registry (publishing registry world seat) (set seats at after) later processors
+          → WorldIsKept registry (publishing registry world seat) (set seats at after) later processors
       unfolding publishing
       kept-publishing after later publishes =
           published_case (world.places seat).present
           (publishes (world.places seat) world.writes held_at kept.entered) where
             pending_case : (session : Session) (pending : Pending) (done : Bool)
-                → MatchBool done (IsHeld registry (world.places seat) after × chain.IsAt world.writes later)
+                → MatchBool done (IsHeld registry (world.places seat) after × chain.EntriesAreAt world.writes later)
                 (IsHeld registry (with_present (world.places seat) (waiting session pending.line true)) after
-                × chain.IsAt (published seat (number_on world seat) session.account
+                × chain.EntriesAreAt (published seat (number_on world seat) session.account
                 (interest_of (ecbs session.account registry (life_in registry session))) ∷ world.writes) later)
-                → IsKept registry (cond done world (publishing_of registry world seat session pending))
+                → WorldIsKept registry (cond done world (publishing_of registry world seat session pending))
                 (set seats at after) later processors
             pending_case session pending true h = kept_entries after later h.0 h.1
             pending_case session pending false h = kept_published session pending after later h.0 h.1
 
             go_case : (session : Session) (go : Option Pending)
-                → MatchOption go (IsHeld registry (world.places seat) after × chain.IsAt world.writes later)
+                → MatchOption go (IsHeld registry (world.places seat) after × chain.EntriesAreAt world.writes later)
                 (λ pending. MatchBool pending.published
-                (IsHeld registry (world.places seat) after × chain.IsAt world.writes later)
+                (IsHeld registry (world.places seat) after × chain.EntriesAreAt world.writes later)
                 (IsHeld registry (with_present (world.places seat) (waiting session pending.line true)) after
-                × chain.IsAt (published seat (number_on world seat) session.account
+                × chain.EntriesAreAt (published seat (number_on world seat) session.account
                 (interest_of (ecbs session.account registry (life_in registry session))) ∷ world.writes) later))
-                → IsKept registry (option_map_or (λ pending. cond pending.published world
+                → WorldIsKept registry (option_map_or (λ pending. cond pending.published world
                 (publishing_of registry world seat session pending)) go world) (set seats at after) later processors
             go_case session None h = kept_entries after later h.0 h.1
             go_case session (Some pending) h = pending_case session pending pending.published h
 
             published_case : (present : Option Session)
-                → MatchOption present (IsHeld registry (world.places seat) after × chain.IsAt world.writes later)
+                → MatchOption present (IsHeld registry (world.places seat) after
+                × chain.EntriesAreAt world.writes later)
                 (λ session. MatchOption session.go
-                (IsHeld registry (world.places seat) after × chain.IsAt world.writes later)
+                (IsHeld registry (world.places seat) after × chain.EntriesAreAt world.writes later)
                 (λ pending. MatchBool pending.published
-                (IsHeld registry (world.places seat) after × chain.IsAt world.writes later)
+                (IsHeld registry (world.places seat) after × chain.EntriesAreAt world.writes later)
                 (IsHeld registry (with_present (world.places seat) (waiting session pending.line true)) after
-                × chain.IsAt (published seat (number_on world seat) session.account
+                × chain.EntriesAreAt (published seat (number_on world seat) session.account
                 (interest_of (ecbs session.account registry (life_in registry session))) ∷ world.writes) later)))
-                → IsKept registry (option_map_or (λ session. option_map_or (λ pending. cond pending.published world
+                → WorldIsKept registry (option_map_or
+                (λ session. option_map_or (λ pending. cond pending.published world
                 (publishing_of registry world seat session pending)) session.go world) present world)
                 (set seats at after) later processors
             published_case None h = kept_entries after later h.0 h.1
@@ -382,19 +387,19 @@ module _ (registry : Registry) where
       pub kept-withdrawing : (told : Bool) (later : Entries)
           → ((place : Place) → IsHeld registry place held → told
           ≡ option_map_or (may_withdraw registry) place.present true)
-          → (told ≡ true → (writes : List Write) → chain.IsAt writes entries
-          → chain.IsAt (withdrawn seat ∷ writes) later)
+          → (told ≡ true → (writes : List Write) → chain.EntriesAreAt writes entries
+          → chain.EntriesAreAt (withdrawn seat ∷ writes) later)
           → (told ≡ false → later ≡ entries)
-          → IsKept registry (withdrawing registry world seat) seats later processors
+          → WorldIsKept registry (withdrawing registry world seat) seats later processors
       unfolding withdrawing
       kept-withdrawing told later tells does not_ =
           may_case told (option_map_or (may_withdraw registry) (world.places seat).present true)
           (tells (world.places seat) held_at) does not_ where
             may_case : (told_ may : Bool) → told_ ≡ may
-                → (told_ ≡ true → (writes : List Write) → chain.IsAt writes entries
-                → chain.IsAt (withdrawn seat ∷ writes) later)
+                → (told_ ≡ true → (writes : List Write) → chain.EntriesAreAt writes entries
+                → chain.EntriesAreAt (withdrawn seat ∷ writes) later)
                 → (told_ ≡ false → later ≡ entries)
-                → IsKept registry (cond may (record world { writes = withdrawn seat ∷ world.writes }) world) seats
+                → WorldIsKept registry (cond may (record world { writes = withdrawn seat ∷ world.writes }) world) seats
                 later processors
             may_case told_ true is does_ none_ = record {
               all = kept.all;
@@ -406,7 +411,7 @@ module _ (registry : Registry) where
             may_case told_ false is does_ none_ = record {
               all = kept.all;
               held = kept.held;
-              entered = subst (λ e. chain.IsAt world.writes e) (sym (none_ is)) kept.entered;
+              entered = subst (λ e. chain.EntriesAreAt world.writes e) (sym (none_ is)) kept.entered;
               cpus = kept.cpus;
               due = kept.due;
             }
@@ -414,7 +419,7 @@ module _ (registry : Registry) where
 -- a session that a look doesn't name doesn't see the firing
 module _ (registry : Registry) (account : Account) (life : List Item) (n : ℕ) (firing : Firing) where
   named_own : is_seen account registry life firing ≡ true
-      → is_named registry (entry_of registry account life n) firing ≡ true
+      → is_named registry (publication_of registry account life n) firing ≡ true
   unfolding is_seen is_named
   named_own h =
       let a = and_parts _ _ h in
@@ -426,14 +431,15 @@ module _ (registry : Registry) (account : Account) (life : List Item) (n : ℕ) 
   unfolding is_seen
   seen_active h = (and_parts _ _ h).0
 
-  abbrev pub named_by : Option Entry → Option ℕ
+  abbrev pub named_by : Option Published → Option ℕ
   named_by entry = option_and_then (λ one. cond (is_named registry one firing) (Some one.life) None) entry
 
-  pub unseen_unless_named : (go : Option Pending) (entry : Option Entry) → IsEntered registry account life go n entry
+  pub unseen_unless_named : (go : Option Pending) (entry : Option Published)
+      → IsEntered registry account life go n entry
       → option_map_or (λ own. own == n) (named_by entry) false ≡ false → is_seen account registry life firing ≡ false
   unseen_unless_named go entry entered unnamed =
       false_from_ne_true (is_seen account registry life firing) (λ seen.
-      let own : entry ≡ Some (entry_of registry account life n) = entered.traces (seen_active seen) in
+      let own : entry ≡ Some (publication_of registry account life n) = entered.traces (seen_active seen) in
       let named : named_by entry ≡ Some n =
       ap named_by own ∙ ap (λ b. cond b (Some n) None) (named_own seen) in
       let yes : option_map_or (λ m. m == n) (named_by entry) false ≡ true =
@@ -464,7 +470,7 @@ unseen_present registry session firing None unseen h = h
 unseen_present registry session firing (Some served) unseen h = rw unseen h
 
 module _ (registry : Registry) where
-  passed_held : (seat : ℕ) (entry : Option Entry) (place : Place) (held : Held) (firing : Firing)
+  passed_held : (seat : ℕ) (entry : Option Published) (place : Place) (held : Held) (firing : Firing)
       → IsSoundSeat registry seat entry place → IsHeld registry place held
       → IsHeld registry (passed firing (option_and_then
       (λ one. cond (is_named registry one firing) (Some one.life) None) entry) place) held
@@ -496,7 +502,7 @@ module _ (registry : Registry) where
   held_each seats places later seat (Some held) is keeps h = keeps held h
 
   module _ (world : World) (seats : List Held) (entries : Entries) (processors : List (Option Looked))
-      (sound : IsSound registry world) (kept : IsKept registry world seats entries processors) where
+      (sound : IsSoundWorld registry world) (kept : WorldIsKept registry world seats entries processors) where
     -- whether a look is enabled
     done_all : (due : ℕ → Option Due) (from count : ℕ) → ((seat : ℕ) → due seat ≡ None)
         → list_all (λ seat. is_none (due seat)) (range_with_len from count) ≡ true
@@ -615,7 +621,7 @@ module _ (registry : Registry) where
         → IsLook registry world.writes firing (life_at left)
         → ((at : ℕ) → due_in (Some looked) at
         ≡ option_map (λ life. record { life = life; firing = firing }) (life_at left at))
-        → IsKept registry (looking registry world cpu firing) seats entries (set processors cpu looked)
+        → WorldIsKept registry (looking registry world cpu firing) seats entries (set processors cpu looked)
         × IsLooked world (looking registry world cpu firing) (Some left)
     unfolding looking mask_of
     kept-looking cpu firing left looked own enabled look owes =
@@ -629,7 +635,7 @@ module _ (registry : Registry) where
             held = λ seat. held_each seats world.places
                 (λ at. passed firing (mask_of registry world.writes firing at) (world.places at)) seat
                 (slice_get seats seat) refl
-                (λ held h. passed_held seat (state world.writes seat) (world.places seat) held firing
+                (λ held h. passed_held seat (published_on world.writes seat) (world.places seat) held firing
                 (sound.seats seat) h)
                 (kept.held seat);
             entered = kept.entered;
@@ -701,7 +707,7 @@ module _ (registry : Registry) where
         → due_of before seat ≡ Some due
         → ((one : ℕ) → due_of left one ≡ cond (one == seat) None (due_of before one))
         → ((place : Place) → IsHeld registry place held → IsHeld registry (offered due place) after)
-        → IsKept registry (offering world cpu seat) (set seats at after) entries (set processors cpu (Some left))
+        → WorldIsKept registry (offering world cpu seat) (set seats at after) entries (set processors cpu (Some left))
     unfolding offering
     kept-offering cpu at seat held after before left due found is owes taken delivers =
         let own : world.due cpu seat ≡ Some due = kept.due cpu seat ∙ ap (λ o. due_in o seat) is ∙ owes in
@@ -719,19 +725,19 @@ module _ (registry : Registry) where
     -- nothing was taken
     pub kept-offering-none : (cpu seat : ℕ) (value changed : Option Looked) → cpu < length processors
         → value ≡ get_or processors cpu value → changed ≡ value → due_in (Some value) seat ≡ None
-        → IsKept registry (offering world cpu seat) seats entries (set processors cpu changed)
+        → WorldIsKept registry (offering world cpu seat) seats entries (set processors cpu changed)
     kept-offering-none cpu seat value changed low read same none =
         let found : slice_get processors cpu ≡ Some value =
         slice_get-get_or processors cpu value low ∙ ap Some (sym read) in
         let off : offering world cpu seat ≡ world = offering-none cpu seat (ap (λ o. due_in o seat) found ∙ none) in
         let all_same : set processors cpu changed ≡ processors =
         ap (set processors cpu) (same ∙ read) ∙ set-get_or processors cpu value in
-        subst (λ w. IsKept registry w seats entries (set processors cpu changed)) (sym off)
-        (subst (λ ps. IsKept registry world seats entries ps) (sym all_same) kept)
+        subst (λ w. WorldIsKept registry w seats entries (set processors cpu changed)) (sym off)
+        (subst (λ ps. WorldIsKept registry world seats entries ps) (sym all_same) kept)
 
     pub kept-offering-past : (cpu seat : ℕ) → length processors ≤ cpu
-        → IsKept registry (offering world cpu seat) seats entries processors
+        → WorldIsKept registry (offering world cpu seat) seats entries processors
     kept-offering-past cpu seat high =
         let off : offering world cpu seat ≡ world =
         offering-none cpu seat (ap (λ o. due_in o seat) (slice_get_past processors cpu high)) in
-        subst (λ w. IsKept registry w seats entries processors) (sym off) kept
+        subst (λ w. WorldIsKept registry w seats entries processors) (sym off) kept

@@ -1,12 +1,12 @@
 -- One text, one step line.
 use Rattle.std.proofs.Common.{◌≡◌, ℕ, List, decimal, drop, get_or, sym, ap, ◌∙◌, arith}
 use Rattle.dt_world.specs.StepLine.{StepLineForm, open_line, close_line, withdraw_line, ask_line, publish_line}
-use Rattle.dt_world.specs.StepLine.{finish_line, look_line, offer_line, call_line, fire_line, IsWritable}
-use Rattle.dt_world.specs.StepLine.{SpellsStepLine, spelling}
+use Rattle.dt_world.specs.StepLine.{finish_line, look_line, offer_line, call_line, fire_line, IsWritableStep}
+use Rattle.dt_world.specs.StepLine.{SpellsStepLine, step_line_text}
 use Rattle.dt_world.proofs.Behind.{same_parts}
 use Rattle.dt_world.proofs.Decimals.{one_number}
 
-same_line : (a b : StepLineForm) → IsWritable a → IsWritable b → spelling a ≡ spelling b → a ≡ b
+same_line : (a b : StepLineForm) → IsWritableStep a → IsWritableStep b → step_line_text a ≡ step_line_text b → a ≡ b
 same_line (open_line x r) (open_line y s) p q e =
     let parts = same_parts x y r s (omega arith) (omega arith) (ap (drop 5) e) in
     ap (λ n. open_line n r) parts.0 ∙ ap (open_line y) parts.1

@@ -3,11 +3,11 @@ use Rattle.std.proofs.Common.{◌≡◌, ℕ, zero, suc, ◌+◌, ◌<◌, ◌^�
 use Rattle.std.proofs.Common.{refl, sym, subst, arith}
 use Rattle.dt_machine.specs.Registry.{Registry, Contents}
 use Rattle.dt_world.specs.Input.{AreStepLines, IsLineOn, is_written}
-use Rattle.dt_world.specs.Progress.{IsAfter, HasTaken}
-use Rattle.dt_world.specs.Replay.{replayed, after_line}
+use Rattle.dt_world.specs.Progress.{IsAfter, HasTakenLines}
+use Rattle.dt_world.specs.Replay.{replayed, after_step_line}
 use Rattle.dt_world.specs.StepLine.{StepLineForm, SpellsStepLine}
 use Rattle.dt_world.specs.Told.{IsTold}
-use Rattle.dt_world.specs.World.{number_on, start}
+use Rattle.dt_world.specs.World.{number_on, new_world}
 use Rattle.dt_world.specs.declared.progress.Progress.{Progress}
 use Rattle.dt_world.specs.declared.output.Wanted.{Wanted}
 use Rattle.dt_world.specs.declared.output.Wanted.TheVariants as wanted
@@ -16,17 +16,17 @@ use Rattle.dt_world.proofs.Numbers.{few_closed}
 
 -- at first nothing is told
 pub nothing_told : (wanted : Wanted) (registry : Registry) (text : List ℕ) → text ≡ []
-    → IsTold wanted registry start text
+    → IsTold wanted registry new_world text
 nothing_told wanted.Replies registry text is = ([], tt, is)
 nothing_told (wanted.Trail own) registry text is = is
 
 pub taken-one_more : (wanted : Wanted) (contents : Contents) (lines : List (List ℕ)) (line : List ℕ)
     (form : StepLineForm)
-    (before after : Progress) → (h : HasTaken wanted contents lines before) → is_written line ≡ true
+    (before after : Progress) → (h : HasTakenLines wanted contents lines before) → is_written line ≡ true
     → SpellsStepLine line form
     → IsLineOn contents.registry form
-    → IsAfter wanted contents (after_line contents (replayed contents h.forms) form) after
-    → HasTaken wanted contents (lines ++ line ∷ []) after
+    → IsAfter wanted contents (after_step_line contents (replayed contents h.forms) form) after
+    → HasTakenLines wanted contents (lines ++ line ∷ []) after
 taken-one_more wanted contents lines line form before after h written spells known now = record {
   forms = h.forms ++ form ∷ [];
   steps = lines-one_more contents.registry lines h.forms line form h.steps written spells known;
@@ -35,7 +35,7 @@ taken-one_more wanted contents lines line form before after h written spells kno
 
 -- there is room for one closed session more on each seat
 pub room : (wanted : Wanted) (contents : Contents) (lines : List (List ℕ)) (progress : Progress)
-    → (h : HasTaken wanted contents lines progress)
+    → (h : HasTakenLines wanted contents lines progress)
     → length lines + 1 < 2 ^ 64 → (seat : ℕ) → number_on (replayed contents h.forms).world seat + 1 < 2 ^ 64
 room wanted contents lines progress h small seat =
     omega (arith, small, few_closed contents seat h.forms, fewer_forms contents.registry lines h.forms h.steps)

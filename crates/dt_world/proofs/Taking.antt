@@ -12,13 +12,13 @@ use Rattle.dt_proto.specs.Lines.{LineForm}
 use Rattle.dt_proto.specs.Session.{session_account}
 use Rattle.dt_world.specs.Ran.{Told, IsReply, AreReplies, AreMasks, HasTold}
 use Rattle.dt_world.specs.Stands.{IsAnswered, IsLooked}
-use Rattle.dt_world.specs.Steps.{Act, opens, asks, publishes, finishes, withdraws, looks, offers, closes, happens}
+use Rattle.dt_world.specs.Steps.{Act, opens, asks, publishes, finishes, withdraws, looks, offers, closes, after_act}
 use Rattle.dt_world.specs.Steps.{world_after, with_session, answering, opening, asking, publishing, publishing_of}
 use Rattle.dt_world.specs.Steps.{finishing, withdrawing, passed, looking_at, looking, is_done, offered, offering}
 use Rattle.dt_world.specs.Steps.{closing}
 use Rattle.dt_world.specs.Telling.{IsTelling}
 use Rattle.dt_world.specs.Tests.{mask_of}
-use Rattle.dt_world.specs.World.{World, Place, Due, Question, start, number_on, new_session, answered, waiting}
+use Rattle.dt_world.specs.World.{World, Place, Due, Question, new_world, number_on, new_session, answered, waiting}
 use Rattle.dt_world.specs.World.{may_ask, begins, may_withdraw}
 use Rattle.dt_world.specs.declared.outcome.Outcome.TheVariants.{Quiet, Replied, Looked}
 use Rattle.dt_world.proofs.Soundness.{updated, option_case}
@@ -185,7 +185,7 @@ module _ (registry : Registry) (world : World) where
       option_case Grows _ world (world.places seat).present grows_same (λ session is.
       grows_place seat (record { present = None; earlier = session ∷ (world.places seat).earlier }) (omega arith))
 
-  grows-happens : (act : Act) → Grows (happens registry world act)
+  grows-happens : (act : Act) → Grows (after_act registry world act)
   grows-happens (opens seat name) = grows-opening seat name
   grows-happens (asks seat line) = grows-asking seat line
   grows-happens (publishes seat) = grows-publishing seat
@@ -196,27 +196,28 @@ module _ (registry : Registry) (world : World) where
   grows-happens (closes seat) = grows-closing seat
 
 few_fold : (registry : Registry) (world : World) (acts : List Act) (seat : ℕ)
-    → number_on (fold (happens registry) world acts) seat ≤ number_on world seat + length acts
+    → number_on (fold (after_act registry) world acts) seat ≤ number_on world seat + length acts
 few_fold registry world [] seat = omega arith
 few_fold registry world (act ∷ acts) seat =
     let one = grows-happens registry world act seat in
-    let more = few_fold registry (happens registry world act) acts seat in
+    let more = few_fold registry (after_act registry world act) acts seat in
     omega (arith, one, more)
 
 -- no more sessions on a seat than there were steps
 pub few_after : (registry : Registry) (acts : List Act) (seat : ℕ)
     → number_on (world_after registry acts) seat ≤ length acts
-few_after registry acts seat = let h = few_fold registry start acts seat in omega (arith, h)
+few_after registry acts seat = let h = few_fold registry new_world acts seat in omega (arith, h)
 
 fold_end : (registry : Registry) (world : World) (acts : List Act) (act : Act)
-    → fold (happens registry) world (acts ++ act ∷ []) ≡ happens registry (fold (happens registry) world acts) act
+    → fold (after_act registry) world (acts ++ act ∷ [])
+    ≡ after_act registry (fold (after_act registry) world acts) act
 fold_end registry world [] act = refl
-fold_end registry world (first ∷ acts) act = fold_end registry (happens registry world first) acts act
+fold_end registry world (first ∷ acts) act = fold_end registry (after_act registry world first) acts act
 
 -- one step more
 pub world_after-end : (registry : Registry) (acts : List Act) (act : Act)
-    → world_after registry (acts ++ act ∷ []) ≡ happens registry (world_after registry acts) act
-world_after-end registry acts act = fold_end registry start acts act
+    → world_after registry (acts ++ act ∷ []) ≡ after_act registry (world_after registry acts) act
+world_after-end registry acts act = fold_end registry new_world acts act
 
 -- a reply, if there is one, and a mask, if there is one
 pub telling_replied : {A : Type 0} (text_of : A → Vec ℕ Global) (registry : Registry) (before after : World) (seat : ℕ)

@@ -16,8 +16,8 @@ use Rattle.dt_proto.specs.Line.{ask_in}
 use Rattle.dt_proto.specs.Lines.{LineForm, short_line, long_line}
 use Rattle.dt_proto.specs.Reply.{reply_text}
 use Rattle.dt_proto.specs.Splits.{with_newline}
-use Rattle.dt_proto.specs.Trail.{Entry, line_asked, long_asked, fired_at, entry_text, IsEntryOf, IsTrailOf}
-use Rattle.dt_proto.specs.Trail.{IsTold as IsTrailOfLine, trail_text}
+use Rattle.dt_proto.specs.Trail.{TrailEntry, line_asked, long_asked, fired_at, entry_text, IsEntryOf, IsTrailOf}
+use Rattle.dt_proto.specs.Trail.{IsLineTold as IsTrailOfLine, trail_text}
 use Rattle.dt_proto.proofs.Entries.{reply_line_of}
 use Rattle.dt_world.specs.Ran.{IsText}
 use Rattle.dt_world.specs.Told.{line_told, answer_told}
@@ -29,10 +29,10 @@ use Rattle.dt_world.proofs.Seeing.{seen_from, seen_to}
 -- The text is the trail of this view.
 abbrev pub IsTrail : Account → Registry → List Reached → List ℕ → Type 0
 IsTrail account registry view text =
-    (entries : List Entry) × IsTrailOf account registry view entries × (text ≡ trail_text account.name entries)
+    (entries : List TrailEntry) × IsTrailOf account registry view entries × (text ≡ trail_text account.name entries)
 
 -- the text of a trail with entries added
-trail_text-append : (name : List ℕ) (earlier new : List Entry)
+trail_text-append : (name : List ℕ) (earlier new : List TrailEntry)
     → trail_text name (earlier ++ new) ≡ trail_text name earlier ++ flat_map entry_text new
 trail_text-append name earlier new =
     ap (λ more. with_newline (codes "account " ++ name) ++ more) (flat_map-append entry_text earlier new)
@@ -40,7 +40,7 @@ trail_text-append name earlier new =
     (flat_map entry_text new))
 
 -- the entry of a line and its reply
-abbrev entry_of : LineForm → (reply : List ℕ) → Entry
+abbrev entry_of : LineForm → (reply : List ℕ) → TrailEntry
 entry_of (short_line line) reply = line_asked line reply
 entry_of long_line reply = long_asked reply
 
@@ -79,7 +79,7 @@ module _ (account : Account) (registry : Registry) (view : List Reached) where
       let reply = reply_line_of answer in
       let entry = entry_of line reply.0 in
       let new : IsTrailOfLine account registry life line (entry ∷ []) =
-      subst (λ is_full. MatchBool is_full (entry ∷ [] ≡ []) ((told_answer : Answer) × (told_entry : Entry)
+      subst (λ is_full. MatchBool is_full (entry ∷ [] ≡ []) ((told_answer : Answer) × (told_entry : TrailEntry)
       × Replies account registry life (ask_in line) told_answer × IsEntryOf line told_answer told_entry
       × (entry ∷ [] ≡ told_entry ∷ []))) full
       (answer, entry, replies, is_entry line answer reply.0 reply.1, refl) in (

@@ -8,7 +8,7 @@ use Rattle.std.specs.Option.{option_map, option_map_or, option_and_then}
 use Rattle.dt_cred.specs.declared.account.Account.{Account}
 use Rattle.dt_machine.specs.Registry.{Registry}
 use Rattle.dt_machine.specs.declared.firing.Firing.{Firing}
-use Rattle.dt_chain.specs.Writes.{state}
+use Rattle.dt_chain.specs.Writes.{published_on}
 use Rattle.dt_chain.specs.declared.seat.TheConstants.{SEATS}
 use Rattle.dt_consumer.specs.Life.{is_over}
 use Rattle.dt_proto.specs.Lines.{LineForm}
@@ -20,11 +20,11 @@ use Rattle.dt_world.specs.Replay.{IsTrailText, told_line}
 use Rattle.dt_world.specs.Stands.{IsAnswered, first_account, place_of, sees_on, seen_in}
 use Rattle.dt_world.specs.Steps.{with_session, question_of, answering, opening, asking, finishing, offered, offering}
 use Rattle.dt_world.specs.Steps.{offering_of, looking, looking_at, is_done}
-use Rattle.dt_world.specs.Sound.{IsSound}
+use Rattle.dt_world.specs.Sound.{IsSoundWorld}
 use Rattle.dt_world.specs.Tests.{mask_of}
 use Rattle.dt_world.specs.Told.{IsTold, IsToldText, opening_text, reply_told, answer_told, firing_told}
 use Rattle.dt_world.specs.World.{World, Session, Pending, Place, Due, Question, life_in, session_of, new_session}
-use Rattle.dt_world.specs.World.{answered, waiting, may_ask, begins, numbered}
+use Rattle.dt_world.specs.World.{answered, waiting, may_ask, begins, session_numbered}
 use Rattle.dt_world.specs.declared.looked.ScriptPlace.{ScriptPlace}
 use Rattle.dt_world.specs.declared.output.Wanted.{Wanted}
 use Rattle.dt_world.specs.declared.output.Wanted.TheVariants as wanted
@@ -266,7 +266,7 @@ module _ (registry : Registry) (world : World) where
 
   -- A pending `go` was accepted, so its line is within the quota.
   pub within_quota : (at : ℕ) (session : Session) (pending : Pending) → (world.places at).present ≡ Some session
-      → session.go ≡ Some pending → IsSound registry world → false ≡ is_over (life_in registry session)
+      → session.go ≡ Some pending → IsSoundWorld registry world → false ≡ is_over (life_in registry session)
   within_quota at session pending is go sound =
       let seat = sound.seats at in
       let entered = rw is at seat in
@@ -302,7 +302,7 @@ module _ (registry : Registry) (world : World) where
   opened_on at account = record { present = Some (new_session account); earlier = (world.places at).earlier }
 
   free_first : (at : ℕ) → (world.places at).present ≡ None → first_on (world.places at)
-      ≡ numbered (world.places at).earlier 0
+      ≡ session_numbered (world.places at).earlier 0
   free_first at free = rw free refl
 
   here_is : (at : ℕ) (later : World) → (opens : Opens later at)
@@ -320,12 +320,13 @@ module _ (registry : Registry) (world : World) where
       by_number (length (world.places at).earlier == 0) refl (sym (here_is at later opens) ∙ first) where
         by_number : (b : Bool) → (length (world.places at).earlier == 0) ≡ b
             → cond b (Some opens.account) None ≡ Some account
-            → IsTrailText registry (cond b (Some (new_session opens.account)) (numbered (world.places at).earlier 0))
+            → IsTrailText registry (cond b (Some (new_session opens.account))
+            (session_numbered (world.places at).earlier 0))
             (text ++ with_newline (codes "account " ++ account.name))
         by_number true is same =
             let one : opens.account ≡ account = cc in
             let none : first_on (world.places at) ≡ None =
-            free_first at opens.free ∙ ap (λ xs. numbered xs 0) (empty_is (world.places at).earlier is) in
+            free_first at opens.free ∙ ap (λ xs. session_numbered xs 0) (empty_is (world.places at).earlier is) in
             let empty : text ≡ [] = subst (λ session. IsTrailText registry session text) none h in
             rw (empty, one) (trail-opened account registry [])
         by_number false is same = cc
@@ -364,8 +365,8 @@ module _ (registry : Registry) (world : World) where
       (by_number (length (world.places at).earlier == 0) (sym (here_is at later opens) ∙ none)
       ∙ ap seen_as (sym (free_first at opens.free)))) where
         by_number : (b : Bool) → cond b (Some opens.account) None ≡ None
-            → seen_as (cond b (Some (new_session opens.account)) (numbered (world.places at).earlier 0))
-            ≡ seen_as (numbered (world.places at).earlier 0)
+            → seen_as (cond b (Some (new_session opens.account)) (session_numbered (world.places at).earlier 0))
+            ≡ seen_as (session_numbered (world.places at).earlier 0)
         by_number true is = cc
         by_number false is = refl
 
@@ -474,7 +475,7 @@ module _ (registry : Registry) (world : World) where
     by_seen (Some firing) is e = cc
 
   -- Look
-  pub told-looked : (wanted : Wanted) (cpu : ℕ) (firing : Firing) (text : List ℕ) → IsSound registry world
+  pub told-looked : (wanted : Wanted) (cpu : ℕ) (firing : Firing) (text : List ℕ) → IsSoundWorld registry world
       → IsTold wanted registry world text → IsTold wanted registry (looking registry world cpu firing) text
   unfolding looking mask_of
   told-looked wanted.Replies cpu firing text sound told =
@@ -483,5 +484,6 @@ module _ (registry : Registry) (world : World) where
       cond_both (nat_lt cpu registry.cpus && (firing.cpu == cpu && is_done (world.due cpu)))
       (looking_at world cpu firing (mask_of registry world.writes firing)) world
       (λ w. IsTrailText registry (session_of w own 0) text)
-      (λ _. passed-trail registry own (state world.writes own) (world.places own) firing text (sound.seats own) told)
+      (λ _. passed-trail registry own (published_on world.writes own) (world.places own) firing text
+      (sound.seats own) told)
       (λ _. told)

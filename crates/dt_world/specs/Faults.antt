@@ -1,7 +1,7 @@
 -- Which faults the parts of a replay may have.
 use Rattle.std.specs.Prelude.{ℕ, List}
 use Rattle.dt_machine.specs.Registry.{Contents}
-use Rattle.dt_world.specs.Input.{lines_of, IsRefused}
+use Rattle.dt_world.specs.Input.{input_lines, IsRefused}
 use Rattle.dt_world.specs.declared.replays.ReplayFault.{ReplayFault}
 use Rattle.dt_world.specs.declared.replays.ReplayFault.TheVariants.{Machine, Read, Line, Memory}
 
@@ -19,5 +19,5 @@ IsFaultOfReading _ = ⊥
 -- its lines are not all taken where one is refused, or where memory runs out
 abbrev pub IsFaultOfLines : Contents → List ℕ → ReplayFault → Type 0
 IsFaultOfLines contents text Memory = Unit {0}
-IsFaultOfLines contents text (Line n) = IsRefused contents.registry (lines_of text) n
+IsFaultOfLines contents text (Line n) = IsRefused contents.registry (input_lines text) n
 IsFaultOfLines contents text _ = ⊥

@@ -3,11 +3,11 @@ use Rattle.std.specs.Prelude.{◌≡◌, ℕ, ◌-◌, ◌<◌, ◌≤◌, Bool,
 use Rattle.std.specs.List.{AllByRecursion}
 use Rattle.dt_machine.specs.Registry.{Registry, account_of}
 use Rattle.dt_proto.specs.Lines.{all_but_last, parts_of}
-use Rattle.dt_world.specs.StepLine.{StepLineForm, open_line, look_line, offer_line, fire_line, spelling, IsWritable}
+use Rattle.dt_world.specs.StepLine.{StepLineForm, open_line, look_line, offer_line, fire_line, step_line_text, IsWritableStep}
 
 -- what stands before each newline; what stands after the last one is no line
-abbrev pub lines_of : List ℕ → List (List ℕ)
-lines_of text = all_but_last (parts_of text)
+abbrev pub input_lines : List ℕ → List (List ℕ)
+input_lines text = all_but_last (parts_of text)
 
 abbrev pub is_written : List ℕ → Bool
 is_written [] = false
@@ -23,8 +23,8 @@ IsLineOn registry _ = Unit {0}
 
 -- The lines that aren't empty are these step lines, in order.
 pub record AreStepLines (registry : Registry) (lines : List (List ℕ)) (forms : List StepLineForm) : Type 0 where
-  pub spelled : filter is_written lines ≡ map spelling forms
-  pub writable : AllByRecursion IsWritable forms
+  pub spelled : filter is_written lines ≡ map step_line_text forms
+  pub writable : AllByRecursion IsWritableStep forms
   pub known : AllByRecursion (IsLineOn registry) forms
 
 -- The n-th line is the first that is refused: the lines before it are step lines, and with it they are none.

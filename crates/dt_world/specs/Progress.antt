@@ -7,7 +7,7 @@ use Rattle.dt_machine.specs.declared.firing.Firing.{Firing}
 use Rattle.dt_machine.specs.declared.limits.TheConstants.{CPUS_MAX}
 use Rattle.dt_world.specs.Input.{AreStepLines}
 use Rattle.dt_world.specs.Replay.{Replayed, replayed, next_of}
-use Rattle.dt_world.specs.Stands.{IsAt}
+use Rattle.dt_world.specs.Stands.{EngineIsAt}
 use Rattle.dt_world.specs.StepLine.{StepLineForm}
 use Rattle.dt_world.specs.Steps.{looking}
 use Rattle.dt_world.specs.Told.{IsTold}
@@ -18,7 +18,7 @@ use Rattle.dt_world.specs.declared.output.Wanted.{Wanted}
 -- What is kept is that of where the replay stands: the seats with their consumers, how many firings of each script
 -- were taken, and what is to be written, as it is wanted.
 pub record IsAfter (wanted : Wanted) (contents : Contents) (now : Replayed) (progress : Progress) : Type 0 where
-  pub at : IsAt contents.registry now.world progress.engine
+  pub at : EngineIsAt contents.registry now.world progress.engine
   pub taken : (cpu : ℕ) → cpu < CPUS_MAX → slice_index progress.taken cpu ≡ now.taken cpu
   pub same : progress.output.wanted ≡ wanted
   pub told : IsTold wanted contents.registry now.world progress.output.text.items
@@ -28,7 +28,7 @@ abbrev pub with_world : Replayed → World → Replayed
 with_world now world = record { world = world; taken = now.taken }
 
 -- The lines so far are step lines, and this is how far a replay of them came.
-pub record HasTaken (wanted : Wanted) (contents : Contents) (lines : List (List ℕ)) (progress : Progress)
+pub record HasTakenLines (wanted : Wanted) (contents : Contents) (lines : List (List ℕ)) (progress : Progress)
     : Type 0 where
   pub forms : List StepLineForm
   pub steps : AreStepLines contents.registry lines forms

@@ -5,13 +5,13 @@ use Rattle.std.specs.Option.{option_map_or}
 use Rattle.dt_chain.specs.declared.seat.TheConstants.{SEATS}
 use Rattle.dt_machine.specs.Registry.{Registry, Contents, firing_at}
 use Rattle.dt_machine.specs.declared.firing.Firing.{Firing}
-use Rattle.dt_proto.specs.Lines.{form_of}
-use Rattle.dt_proto.specs.Trail.{Entry, IsTrailOf, trail_text}
-use Rattle.dt_world.specs.Input.{AreStepLines, lines_of}
+use Rattle.dt_proto.specs.Lines.{line_form}
+use Rattle.dt_proto.specs.Trail.{TrailEntry, IsTrailOf, trail_text}
+use Rattle.dt_world.specs.Input.{AreStepLines, input_lines}
 use Rattle.dt_world.specs.Ran.{Told, AreReplies}
 use Rattle.dt_world.specs.StepLine.{StepLineForm, open_line, close_line, withdraw_line, ask_line, publish_line, finish_line, look_line, offer_line, call_line, fire_line}
-use Rattle.dt_world.specs.Steps.{Act, opens, asks, publishes, finishes, withdraws, looks, offers, closes, happens, asking, looking, is_done}
-use Rattle.dt_world.specs.World.{World, Session, Place, start, life_in, session_of, is_closing}
+use Rattle.dt_world.specs.Steps.{Act, opens, asks, publishes, finishes, withdraws, looks, offers, closes, after_act, asking, looking, is_done}
+use Rattle.dt_world.specs.World.{World, Session, Place, new_world, life_in, session_of, is_closing}
 
 -- Where a replay stands: the world, and how many firings of each processor's script were taken.
 pub record Replayed : Type 0 where
@@ -19,7 +19,7 @@ pub record Replayed : Type 0 where
   pub taken : (cpu : ℕ) → ℕ
 
 abbrev pub beginning : Replayed
-beginning = record { world = start; taken = λ cpu. 0 }
+beginning = record { world = new_world; taken = λ cpu. 0 }
 
 -- a `go` of the session on a seat is pending
 abbrev pub waits : Place → Bool
@@ -55,36 +55,36 @@ module _ (contents : Contents) where
   acts_of now (open_line seat account) = opens seat account ∷ []
   acts_of now (close_line seat) = closes seat ∷ []
   acts_of now (withdraw_line seat) = withdraws seat ∷ []
-  acts_of now (ask_line seat line) = asks seat (form_of line) ∷ []
+  acts_of now (ask_line seat line) = asks seat (line_form line) ∷ []
   acts_of now (publish_line seat) = publishes seat ∷ []
   acts_of now (finish_line seat) = finishes seat ∷ []
   acts_of now (look_line cpu) = option_map_or (λ firing. looks cpu firing ∷ []) (next_of now cpu) []
   acts_of now (offer_line cpu seat) = offers cpu seat ∷ []
-  acts_of now (call_line seat line) = asks seat (form_of line)
-      ∷ after_ask contents.registry (asking contents.registry now.world seat (form_of line)) seat
+  acts_of now (call_line seat line) = asks seat (line_form line)
+      ∷ after_ask contents.registry (asking contents.registry now.world seat (line_form line)) seat
   acts_of now (fire_line cpu) = option_map_or (firing_acts contents.registry now.world cpu) (next_of now cpu) []
 
   -- the line takes a firing of this processor's script
-  abbrev pub takes : Replayed → StepLineForm → (cpu : ℕ) → Bool
-  takes now (look_line cpu) other = is_some (next_of now cpu) && other == cpu
-  takes now (fire_line cpu) other = is_some (next_of now cpu) && other == cpu
-  takes now _ other = false
+  abbrev pub takes_firing : Replayed → StepLineForm → (cpu : ℕ) → Bool
+  takes_firing now (look_line cpu) other = is_some (next_of now cpu) && other == cpu
+  takes_firing now (fire_line cpu) other = is_some (next_of now cpu) && other == cpu
+  takes_firing now _ other = false
 
   -- where a replay stands after a line more
-  abbrev pub after_line : Replayed → StepLineForm → Replayed
-  after_line now line = record {
-    world = fold (happens contents.registry) now.world (acts_of now line);
-    taken = λ cpu. if takes now line cpu then now.taken cpu + 1 else now.taken cpu;
+  abbrev pub after_step_line : Replayed → StepLineForm → Replayed
+  after_step_line now line = record {
+    world = fold (after_act contents.registry) now.world (acts_of now line);
+    taken = λ cpu. if takes_firing now line cpu then now.taken cpu + 1 else now.taken cpu;
   }
 
   -- where a replay stands after these lines, the oldest first
   abbrev pub replayed : List StepLineForm → Replayed
-  replayed forms = fold after_line beginning forms
+  replayed forms = fold after_step_line beginning forms
 
   -- all steps of these lines, from where the replay stands
   abbrev pub acts_from : Replayed → List StepLineForm → List Act
   acts_from now [] = []
-  acts_from now (line ∷ forms) = acts_of now line ++ acts_from (after_line now line) forms
+  acts_from now (line ∷ forms) = acts_of now line ++ acts_from (after_step_line now line) forms
 
 -- the line that is written for a reply: the seat, a blank, the reply
 abbrev pub told_line : Told → List ℕ
@@ -93,19 +93,19 @@ told_line told = decimal told.0 ++ (codes " " ++ told.1)
 -- the trail of a session; without one there is nothing
 abbrev pub IsTrailText : Registry → Option Session → List ℕ → Type 0
 IsTrailText registry session output = MatchOption session (output ≡ [])
-    (λ s. (entries : List Entry) × IsTrailOf s.account registry s.view entries
+    (λ s. (entries : List TrailEntry) × IsTrailOf s.account registry s.view entries
     × (output ≡ trail_text s.account.name entries))
 
 -- What is written for an input on a machine: the replies, each on a line of its own.
 pub record IsReplay (contents : Contents) (text output : List ℕ) : Type 0 where
   pub forms : List StepLineForm
   pub told : List Told
-  pub lines : AreStepLines contents.registry (lines_of text) forms
+  pub lines : AreStepLines contents.registry (input_lines text) forms
   pub replies : AreReplies contents.registry (replayed contents forms).world.questions told
   pub written : output ≡ flat_map told_line told
 
 -- What is written where the trail of a seat is wanted: that of the first session on it.
 pub record IsTrailReplay (contents : Contents) (text : List ℕ) (seat : ℕ) (output : List ℕ) : Type 0 where
   pub forms : List StepLineForm
-  pub lines : AreStepLines contents.registry (lines_of text) forms
+  pub lines : AreStepLines contents.registry (input_lines text) forms
   pub trail : IsTrailText contents.registry (session_of (replayed contents forms).world seat 0) output

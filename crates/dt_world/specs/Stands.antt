@@ -19,7 +19,7 @@ use Rattle.dt_proto.specs.Line.{ask_in}
 use Rattle.dt_proto.specs.Lines.{LineForm}
 use Rattle.dt_proto.specs.Session.{session_account}
 use Rattle.dt_world.specs.Ran.{IsText, IsReply}
-use Rattle.dt_world.specs.Sound.{IsSound}
+use Rattle.dt_world.specs.Sound.{IsSoundWorld}
 use Rattle.dt_world.specs.Tests.{is_seen, interest_of}
 use Rattle.dt_world.specs.World.{World, Session, Place, Pending, Due, Question, life_in, is_closing, new_session, answered, waiting, may_ask, begins}
 use Rattle.dt_world.specs.declared.engine.Engine.{Engine}
@@ -147,25 +147,25 @@ module _ (registry : Registry) where
   -- The interest of the session on a seat was published, if its pending `go` wasn't yet.
   abbrev pub IsPublishedOn : (seat : ℕ) → Place → List Write → Held → Entries → Type 0
   IsPublishedOn seat place writes held entries =
-      let same = IsHeld place held × chain.IsAt writes entries in
+      let same = IsHeld place held × chain.EntriesAreAt writes entries in
       MatchOption place.present same (λ session. MatchOption session.go same (λ pending. MatchBool pending.published same
       (IsHeld (with_present place (waiting session pending.line true)) held
-      × chain.IsAt (published seat (length place.earlier) session.account
+      × chain.EntriesAreAt (published seat (length place.earlier) session.account
       (interest_of (ecbs session.account registry (life_in registry session))) ∷ writes) entries)))
 
   -- What is kept is that of a world: of each seat, of each processor, and the entries.
-  pub record IsKept (world : World) (seats : List Held) (entries : Entries) (processors : List (Option Looked))
+  pub record WorldIsKept (world : World) (seats : List Held) (entries : Entries) (processors : List (Option Looked))
       : Type 0 where
     pub all : length seats ≡ SEATS
     pub held : (seat : ℕ) → IfSome (slice_get seats seat) (IsHeld (world.places seat))
-    pub entered : chain.IsAt world.writes entries
+    pub entered : chain.EntriesAreAt world.writes entries
     pub cpus : length processors ≡ registry.cpus
     pub due : (cpu seat : ℕ) → world.due cpu seat ≡ due_in (slice_get processors cpu) seat
 
   -- The seats with their consumers stand for a world: it is sound, and what is kept is the world's.
-  abbrev pub IsAt : World → Engine → Type 0
-  IsAt world engine = IsSound registry world
-      × IsKept world engine.seats.items engine.entries engine.processors.items
+  abbrev pub EngineIsAt : World → Engine → Type 0
+  EngineIsAt world engine = IsSoundWorld registry world
+      × WorldIsKept world engine.seats.items engine.entries engine.processors.items
 
   -- A step answered this at a seat, or nothing: one question more, and its reply; or none more.
   abbrev pub IsAnswered : (before after : World) → (seat : ℕ) → (reply : Option (List ℕ)) → Type 0

@@ -31,32 +31,32 @@ form_of_step_line (Fire cpu) = fire_line cpu
 
 -- The words stand one blank apart. The account and the consumer's line are the rest, whatever its bytes; a number is
 -- decimal, without a leading zero.
-abbrev pub spelling : StepLineForm → List ℕ
-spelling (open_line seat account) = codes "open " ++ (decimal seat ++ (codes " " ++ account))
-spelling (close_line seat) = codes "close " ++ decimal seat
-spelling (withdraw_line seat) = codes "withdraw " ++ decimal seat
-spelling (ask_line seat line) = codes "ask " ++ (decimal seat ++ (codes " " ++ line))
-spelling (publish_line seat) = codes "publish " ++ decimal seat
-spelling (finish_line seat) = codes "finish " ++ decimal seat
-spelling (look_line cpu) = codes "look " ++ decimal cpu
-spelling (offer_line cpu seat) = codes "offer " ++ (decimal cpu ++ (codes " " ++ decimal seat))
-spelling (call_line seat line) = codes "call " ++ (decimal seat ++ (codes " " ++ line))
-spelling (fire_line cpu) = codes "fire " ++ decimal cpu
+abbrev pub step_line_text : StepLineForm → List ℕ
+step_line_text (open_line seat account) = codes "open " ++ (decimal seat ++ (codes " " ++ account))
+step_line_text (close_line seat) = codes "close " ++ decimal seat
+step_line_text (withdraw_line seat) = codes "withdraw " ++ decimal seat
+step_line_text (ask_line seat line) = codes "ask " ++ (decimal seat ++ (codes " " ++ line))
+step_line_text (publish_line seat) = codes "publish " ++ decimal seat
+step_line_text (finish_line seat) = codes "finish " ++ decimal seat
+step_line_text (look_line cpu) = codes "look " ++ decimal cpu
+step_line_text (offer_line cpu seat) = codes "offer " ++ (decimal cpu ++ (codes " " ++ decimal seat))
+step_line_text (call_line seat line) = codes "call " ++ (decimal seat ++ (codes " " ++ line))
+step_line_text (fire_line cpu) = codes "fire " ++ decimal cpu
 
 -- a seat is one that there is, a processor has a number of 32 bits
-abbrev pub IsWritable : StepLineForm → Type 0
-IsWritable (open_line seat account) = seat < SEATS
-IsWritable (close_line seat) = seat < SEATS
-IsWritable (withdraw_line seat) = seat < SEATS
-IsWritable (ask_line seat line) = seat < SEATS
-IsWritable (publish_line seat) = seat < SEATS
-IsWritable (finish_line seat) = seat < SEATS
-IsWritable (look_line cpu) = cpu < 2 ^ 32
-IsWritable (offer_line cpu seat) = (cpu < 2 ^ 32) × (seat < SEATS)
-IsWritable (call_line seat line) = seat < SEATS
-IsWritable (fire_line cpu) = cpu < 2 ^ 32
+abbrev pub IsWritableStep : StepLineForm → Type 0
+IsWritableStep (open_line seat account) = seat < SEATS
+IsWritableStep (close_line seat) = seat < SEATS
+IsWritableStep (withdraw_line seat) = seat < SEATS
+IsWritableStep (ask_line seat line) = seat < SEATS
+IsWritableStep (publish_line seat) = seat < SEATS
+IsWritableStep (finish_line seat) = seat < SEATS
+IsWritableStep (look_line cpu) = cpu < 2 ^ 32
+IsWritableStep (offer_line cpu seat) = (cpu < 2 ^ 32) × (seat < SEATS)
+IsWritableStep (call_line seat line) = seat < SEATS
+IsWritableStep (fire_line cpu) = cpu < 2 ^ 32
 
 -- The text is the line of this step.
 pub record SpellsStepLine (text : List ℕ) (line : StepLineForm) : Type 0 where
-  pub writable : IsWritable line
-  pub spelled : text ≡ spelling line
+  pub writable : IsWritableStep line
+  pub spelled : text ≡ step_line_text line

@@ -12,7 +12,7 @@ use Rattle.dt_proto.specs.Asked.{form_asked}
 use Rattle.dt_proto.specs.Lines.{LineForm}
 use Rattle.dt_proto.specs.Session.{session_account}
 use Rattle.dt_world.specs.Tests.{interest_of, mask_of}
-use Rattle.dt_world.specs.World.{World, Session, Place, Pending, Due, Question, start, number_on, life_in, new_session, reached, answered, waiting, may_ask, begins, may_withdraw}
+use Rattle.dt_world.specs.World.{World, Session, Place, Pending, Due, Question, new_world, number_on, life_in, new_session, reached, answered, waiting, may_ask, begins, may_withdraw}
 use Rattle.dt_world.specs.declared.step.Step.{Step}
 use Rattle.dt_world.specs.declared.step.Step.TheVariants.{Open, Ask, Publish, Finish, Withdraw, Look, Offer, Close}
 
@@ -158,16 +158,16 @@ closing world seat = option_map_or
     (world.places seat).present world
 
 -- what a step does
-abbrev pub happens : Registry → World → Act → World
-happens registry world (opens seat name) = opening registry world seat name
-happens registry world (asks seat line) = asking registry world seat line
-happens registry world (publishes seat) = publishing registry world seat
-happens registry world (finishes seat) = finishing world seat
-happens registry world (withdraws seat) = withdrawing registry world seat
-happens registry world (looks cpu firing) = looking registry world cpu firing
-happens registry world (offers cpu seat) = offering world cpu seat
-happens registry world (closes seat) = closing world seat
+abbrev pub after_act : Registry → World → Act → World
+after_act registry world (opens seat name) = opening registry world seat name
+after_act registry world (asks seat line) = asking registry world seat line
+after_act registry world (publishes seat) = publishing registry world seat
+after_act registry world (finishes seat) = finishing world seat
+after_act registry world (withdraws seat) = withdrawing registry world seat
+after_act registry world (looks cpu firing) = looking registry world cpu firing
+after_act registry world (offers cpu seat) = offering world cpu seat
+after_act registry world (closes seat) = closing world seat
 
 -- the world after these steps, the oldest first
 abbrev pub world_after : Registry → List Act → World
-world_after registry acts = fold (happens registry) start acts
+world_after registry acts = fold (after_act registry) new_world acts

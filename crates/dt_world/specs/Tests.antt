@@ -9,7 +9,7 @@ use Rattle.dt_cred.specs.declared.class.Class.{Class}
 use Rattle.dt_cred.specs.declared.class.Class.TheVariants.{Pid}
 use Rattle.dt_machine.specs.Registry.{Registry, probe_of, process_of}
 use Rattle.dt_machine.specs.declared.firing.Firing.{Firing}
-use Rattle.dt_chain.specs.Writes.{Write, Entry, state}
+use Rattle.dt_chain.specs.Writes.{Write, Published, published_on}
 use Rattle.dt_ecb.specs.Ecbs.{EcbForm}
 use Rattle.dt_consumer.specs.Life.{Item, phase, ecbs, is_active}
 
@@ -50,7 +50,7 @@ unfoldable pub interest_of : List EcbForm → List Bool
 interest_of ecbs = map (is_wanted ecbs) (range_with_len 0 (beyond ecbs))
 
 -- the entry names the firing
-unfoldable pub is_named : Registry → Entry → Firing → Bool
+unfoldable pub is_named : Registry → Published → Firing → Bool
 is_named registry entry firing =
     belongs registry firing && (unwrap_or (slice_get entry.probes firing.probe) false
     && is_shown entry.account registry firing)
@@ -58,4 +58,4 @@ is_named registry entry firing =
 -- what a look names after these writes: the life of each seat whose entry names the firing
 unfoldable pub mask_of : Registry → List Write → Firing → ℕ → Option ℕ
 mask_of registry writes firing seat = option_and_then
-    (λ entry. if is_named registry entry firing then Some entry.life else None) (state writes seat)
+    (λ entry. if is_named registry entry firing then Some entry.life else None) (published_on writes seat)

@@ -54,8 +54,8 @@ pub record World : Type 0 where
   pub questions : List Question
   pub looks : List (ℕ → Option ℕ)
 
-abbrev pub start : World
-start = record {
+abbrev pub new_world : World
+new_world = record {
   places = λ seat. record { present = None; earlier = [] };
   writes = [];
   due = λ cpu seat. None;
@@ -68,16 +68,16 @@ start = record {
 abbrev pub number_on : World → (seat : ℕ) → ℕ
 number_on world seat = length (world.places seat).earlier
 
-abbrev pub numbered : List Session → ℕ → Option Session
-numbered [] n = None
-numbered (session ∷ earlier) n = if length earlier == n then Some session else numbered earlier n
+abbrev pub session_numbered : List Session → ℕ → Option Session
+session_numbered [] n = None
+session_numbered (session ∷ earlier) n = if length earlier == n then Some session else session_numbered earlier n
 
 abbrev pub sessions_on : Place → List Session
 sessions_on place = option_map_or (λ session. session ∷ place.earlier) place.present place.earlier
 
 -- the session of a seat and a number, if there was one
 abbrev pub session_of : World → (seat n : ℕ) → Option Session
-session_of world seat n = numbered (sessions_on (world.places seat)) n
+session_of world seat n = session_numbered (sessions_on (world.places seat)) n
 
 abbrev pub new_session : Account → Session
 new_session account = record { account = account; view = []; go = None }

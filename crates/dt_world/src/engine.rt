@@ -27,16 +27,16 @@ impl Engine {
     ghost use Rattle.dt_machine.specs.Registry.{Registry};
     ghost use Rattle.dt_consumer.specs.Life.{is_over};
     ghost use Rattle.dt_proto.specs.Asked.{form_lent, form_asked};
-    ghost use Rattle.dt_world.specs.Stands.{IsAt, IsAnswered, IsLooked, first_account, place_of, seen_in};
+    ghost use Rattle.dt_world.specs.Stands.{EngineIsAt, IsAnswered, IsLooked, first_account, place_of, seen_in};
     ghost use Rattle.dt_world.specs.Replay as replay;
     ghost use Rattle.dt_world.specs.Steps as steps;
     ghost use Rattle.dt_world.specs.Telling.{IsTelling};
-    ghost use Rattle.dt_world.specs.Steps.{act_of, happens, opening, asking, publishing, finishing, withdrawing, looking, offering, closing};
-    ghost use Rattle.dt_world.specs.World.{World, Session, Pending, number_on, life_in, start};
+    ghost use Rattle.dt_world.specs.Steps.{act_of, after_act, opening, asking, publishing, finishing, withdrawing, looking, offering, closing};
+    ghost use Rattle.dt_world.specs.World.{World, Session, Pending, number_on, life_in, new_world};
 
     /// All seats are free, nothing is published, and no processor looked for anything.
     pub(crate) fn new(alloc: Global, machine: &Machine) -> Result<Engine, AllocError>
-        ensures { IfOk result (IsAt machine.now.registry start) }
+        ensures { IfOk result (EngineIsAt machine.now.registry new_world) }
     {
         Ok(Engine {
             seats: free_seats(alloc)?,
@@ -53,8 +53,8 @@ impl Engine {
         seat: Seat,
         name: &[u8],
     ) -> Result<(), AllocError>
-        ensures { OnOk result ((world : World) → IsAt machine.now.registry world self.old
-            → IsAt machine.now.registry (opening machine.now.registry world seat name.now) self.new) }
+        ensures { OnOk result ((world : World) → EngineIsAt machine.now.registry world self.old
+            → EngineIsAt machine.now.registry (opening machine.now.registry world seat name.now) self.new) }
     {
         self.seats[seat.number() as usize].open(alloc, machine, name)
     }
@@ -67,13 +67,13 @@ impl Engine {
         seat: Seat,
         line: WholeLine<'_>,
     ) -> Result<Option<Answered>, AllocError>
-        ensures at { OnOk result ((world : World) → IsAt machine.now.registry world self.old
-            → IsAt machine.now.registry (asking machine.now.registry world seat (form_lent line.entry)) self.new) }
-        ensures answer { IfOk result (λ reply. (world : World) → IsAt machine.now.registry world self.old
+        ensures at { OnOk result ((world : World) → EngineIsAt machine.now.registry world self.old
+            → EngineIsAt machine.now.registry (asking machine.now.registry world seat (form_lent line.entry)) self.new) }
+        ensures answer { IfOk result (λ reply. (world : World) → EngineIsAt machine.now.registry world self.old
             → IsAnswered machine.now.registry world (asking machine.now.registry world seat (form_lent line.entry)) seat
             (option_map (λ answered. answered.text.items) reply)) }
         ensures over { IfOk result (λ reply. IfSome reply (λ answered. (world : World) (session : Session)
-            → IsAt machine.now.registry world self.old → (world.places seat).present ≡ Some session
+            → EngineIsAt machine.now.registry world self.old → (world.places seat).present ≡ Some session
             → answered.is_over ≡ is_over (life_in machine.now.registry session))) }
     {
         self.seats[seat.number() as usize].ask(alloc, machine, line)
@@ -81,8 +81,8 @@ impl Engine {
 
     /// Publishes the interest of the session on a seat.
     pub(crate) fn publish(&mut self, machine: &Machine, seat: Seat) -> Result<(), AllocError>
-        ensures { OnOk result ((world : World) → IsAt machine.now.registry world self.old
-            → IsAt machine.now.registry (publishing machine.now.registry world seat) self.new) }
+        ensures { OnOk result ((world : World) → EngineIsAt machine.now.registry world self.old
+            → EngineIsAt machine.now.registry (publishing machine.now.registry world seat) self.new) }
     {
         self.seats[seat.number() as usize].publish(&mut self.entries, seat)
     }
@@ -94,12 +94,12 @@ impl Engine {
         machine: &Machine,
         seat: Seat,
     ) -> Result<Option<Finished>, AllocError>
-        ensures at { OnOk result ((world : World) → IsAt machine.now.registry world self.old
-            → IsAt machine.now.registry (finishing world seat) self.new) }
-        ensures answer { IfOk result (λ reply. (world : World) → IsAt machine.now.registry world self.old
+        ensures at { OnOk result ((world : World) → EngineIsAt machine.now.registry world self.old
+            → EngineIsAt machine.now.registry (finishing world seat) self.new) }
+        ensures answer { IfOk result (λ reply. (world : World) → EngineIsAt machine.now.registry world self.old
             → IsAnswered machine.now.registry world (finishing world seat) seat (option_map (λ finished. finished.text.items) reply)) }
         ensures line { IfOk result (λ reply. IfSome reply (λ finished. (world : World) (session : Session) (pending : Pending)
-            → IsAt machine.now.registry world self.old → (world.places seat).present ≡ Some session
+            → EngineIsAt machine.now.registry world self.old → (world.places seat).present ≡ Some session
             → session.go ≡ Some pending → form_asked finished.line ≡ pending.line)) }
     {
         self.seats[seat.number() as usize].finish(alloc, machine)
@@ -107,8 +107,8 @@ impl Engine {
 
     /// Withdraws the entry of a seat.
     pub(crate) fn withdraw(&mut self, machine: &Machine, seat: Seat)
-        ensures { (world : World) → IsAt machine.now.registry world self.old
-            → IsAt machine.now.registry (withdrawing machine.now.registry world seat) self.new }
+        ensures { (world : World) → EngineIsAt machine.now.registry world self.old
+            → EngineIsAt machine.now.registry (withdrawing machine.now.registry world seat) self.new }
     {
         if self.seats[seat.number() as usize].may_withdraw() {
             self.entries.withdraw(seat);
@@ -117,9 +117,9 @@ impl Engine {
 
     /// Looks whom a firing of a processor is to be offered to. `None`: the look is not enabled.
     pub(crate) fn look(&mut self, machine: &Machine, cpu: u32, firing: &Firing) -> Option<SeatMask>
-        ensures at { (world : World) → IsAt machine.now.registry world self.old
-            → IsAt machine.now.registry (looking machine.now.registry world cpu firing.now) self.new }
-        ensures answer { (world : World) → IsAt machine.now.registry world self.old
+        ensures at { (world : World) → EngineIsAt machine.now.registry world self.old
+            → EngineIsAt machine.now.registry (looking machine.now.registry world cpu firing.now) self.new }
+        ensures answer { (world : World) → EngineIsAt machine.now.registry world self.old
             → IsLooked world (looking machine.now.registry world cpu firing.now) result }
     {
         if firing.cpu != cpu {
@@ -136,7 +136,7 @@ impl Engine {
     /// Whether there is such a processor, and none of its offers is left.
     fn is_done(&self, cpu: u32) -> bool
         ensures there { IsTrue result → cpu < vec_len self.now.processors }
-        ensures done { (registry : Registry) (world : World) → IsAt registry world self.now
+        ensures done { (registry : Registry) (world : World) → EngineIsAt registry world self.now
             → result ≡ (nat_lt cpu registry.cpus && steps.is_done (world.due cpu)) }
     {
         match self.processors.get(cpu as usize) {
@@ -149,9 +149,9 @@ impl Engine {
     /// Offers the firing that a processor looked for to a seat. Answers where the firing stands, where the session on the
     /// seat saw it.
     pub(crate) fn offer(&mut self, machine: &Machine, cpu: u32, seat: Seat) -> Option<ScriptPlace>
-        ensures at { (world : World) → IsAt machine.now.registry world self.old
-            → IsAt machine.now.registry (offering world cpu seat) self.new }
-        ensures seen { (world : World) → IsAt machine.now.registry world self.old
+        ensures at { (world : World) → EngineIsAt machine.now.registry world self.old
+            → EngineIsAt machine.now.registry (offering world cpu seat) self.new }
+        ensures seen { (world : World) → EngineIsAt machine.now.registry world self.old
             → result ≡ option_map place_of (seen_in machine.now.registry world cpu seat) }
     {
         if (cpu as usize) < self.processors.len() {
@@ -173,14 +173,14 @@ impl Engine {
     /// Ends the session on a seat.
     pub(crate) fn close(&mut self, seat: Seat)
         ensures { (registry : Registry) (world : World) → number_on world seat + 1 < 2 ^ 64
-            → IsAt registry world self.old → IsAt registry (closing world seat) self.new }
+            → EngineIsAt registry world self.old → EngineIsAt registry (closing world seat) self.new }
     {
         self.seats[seat.number() as usize].close();
     }
 
     /// Whether a `go` of the session on a seat is pending.
     pub(crate) fn waits(&self, seat: Seat) -> bool
-        ensures { (registry : Registry) (world : World) → IsAt registry world self.now
+        ensures { (registry : Registry) (world : World) → EngineIsAt registry world self.now
             → result ≡ replay.waits (world.places seat) }
     {
         match &self.seats[seat.number() as usize].present {
@@ -191,7 +191,7 @@ impl Engine {
 
     /// Whether a `close` of the session on a seat was accepted.
     pub(crate) fn has_closed(&self, seat: Seat) -> bool
-        ensures { (registry : Registry) (world : World) → IsAt registry world self.now
+        ensures { (registry : Registry) (world : World) → EngineIsAt registry world self.now
             → result ≡ replay.has_closed registry (world.places seat) }
     {
         match &self.seats[seat.number() as usize].present {
@@ -202,7 +202,7 @@ impl Engine {
 
     /// Whether the session on a seat is there, and the first.
     pub(crate) fn is_first(&self, seat: Seat) -> bool
-        ensures { (registry : Registry) (world : World) → IsAt registry world self.now
+        ensures { (registry : Registry) (world : World) → EngineIsAt registry world self.now
             → result ≡ is_some (first_account (world.places seat)) }
     {
         self.seats[seat.number() as usize].is_first()
@@ -210,7 +210,7 @@ impl Engine {
 
     /// The account of the session on a seat, where that is the first session there.
     pub(crate) fn first(&self, seat: Seat) -> Option<Account>
-        ensures { (registry : Registry) (world : World) → IsAt registry world self.now
+        ensures { (registry : Registry) (world : World) → EngineIsAt registry world self.now
             → result ≡ first_account (world.places seat) }
     {
         self.seats[seat.number() as usize].first()
@@ -224,9 +224,9 @@ impl Engine {
         step: &Step,
     ) -> Result<Outcome, AllocError>
         ensures { IfOk result (λ outcome. (world : World) → ((seat : ℕ) → number_on world seat + 1 < 2 ^ 64)
-            → IsAt machine.now.registry world self.old
-            → IsAt machine.now.registry (happens machine.now.registry world (act_of step.now)) self.new
-            × IsTelling machine.now.registry world (happens machine.now.registry world (act_of step.now)) outcome) }
+            → EngineIsAt machine.now.registry world self.old
+            → EngineIsAt machine.now.registry (after_act machine.now.registry world (act_of step.now)) self.new
+            × IsTelling machine.now.registry world (after_act machine.now.registry world (act_of step.now)) outcome) }
     {
         match step {
             Step::Open(seat, name) => {

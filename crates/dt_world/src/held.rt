@@ -22,7 +22,7 @@ pub(crate) struct Held {
 impl Held {
     ghost use Rattle.std.specs.Prelude.{◌+◌, ◌<◌, ◌^◌, ◌∷◌, OnOk, List, Some, true, length, is_some, option_map};
     ghost use Rattle.std.specs.Option.{option_map_or};
-    ghost use Rattle.dt_chain.specs.IsAt.{IsAt};
+    ghost use Rattle.dt_chain.specs.IsAt.{EntriesAreAt};
     ghost use Rattle.dt_chain.specs.Writes.{Write};
     ghost use Rattle.dt_consumer.specs.Life.{is_over};
     ghost use Rattle.dt_proto.specs.Asked.{form_lent, form_asked};
@@ -104,7 +104,7 @@ impl Held {
     /// Publishes the interest of its session, where a `go` of that is pending and not published.
     pub(crate) fn publish(&mut self, entries: &mut Entries, seat: Seat) -> Result<(), AllocError>
         ensures { OnOk result ((registry : Registry) (place : Place) (writes : List Write)
-            → IsHeld registry place self.old → IsAt writes entries.old
+            → IsHeld registry place self.old → EntriesAreAt writes entries.old
             → IsPublishedOn registry seat place writes self.new entries.new) }
     {
         match &mut self.present {

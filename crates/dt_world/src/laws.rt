@@ -15,7 +15,7 @@ ghost use Rattle.dt_proto.specs.Alone.{Reached, IsLifeOf, Alone};
 ghost use Rattle.dt_proto.specs.Line.{ask_in};
 ghost use Rattle.dt_proto.specs.Lines.{LineForm};
 ghost use Rattle.dt_world.specs.Ran.{Told, AreReplies, told_to, IsAnsweredAlone};
-ghost use Rattle.dt_world.specs.Sound.{IsSound};
+ghost use Rattle.dt_world.specs.Sound.{IsSoundWorld};
 ghost use Rattle.dt_world.specs.Steps.{Act, world_after};
 ghost use Rattle.dt_world.specs.Tests.{is_seen, interest_of, mask_of};
 ghost use Rattle.dt_world.specs.Views.{life_of, seen_view};
@@ -74,5 +74,5 @@ pub fn told_alone()
 /// Law: every world is sound. A session that traces is published with exactly its own interest, so one that a look
 /// doesn't name doesn't see the firing.
 pub fn worlds_are_sound()
-    ensures { (registry : Registry) (acts : List Act) → IsSound registry (world_after registry acts) }
+    ensures { (registry : Registry) (acts : List Act) → IsSoundWorld registry (world_after registry acts) }
 {}

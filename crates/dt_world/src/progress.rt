@@ -1,9 +1,9 @@
 //! The lines of a replay, taken one by one.
 ghost use Rattle.std.specs.Prelude.{◌≡◌, ◌+◌, ◌<◌, ◌^◌, ◌↔◌, ◌++◌, ◌∷◌, ℕ, List, [], Ok, true, false, IsTrue, IfOk, OnOk, length};
-ghost use Rattle.dt_proto.specs.Lines.{form_of};
+ghost use Rattle.dt_proto.specs.Lines.{line_form};
 ghost use Rattle.dt_world.specs.Input.{AreStepLines, IsLineOn};
-ghost use Rattle.dt_world.specs.Progress.{IsAfter, HasTaken, IsNamed, with_world};
-ghost use Rattle.dt_world.specs.Replay.{Replayed, after_line};
+ghost use Rattle.dt_world.specs.Progress.{IsAfter, HasTakenLines, IsNamed, with_world};
+ghost use Rattle.dt_world.specs.Replay.{Replayed, after_step_line};
 ghost use Rattle.dt_world.specs.StepLine.{StepLineForm, look_line, call_line, fire_line, form_of_step_line};
 ghost use Rattle.dt_world.specs.Steps.{opening, asking, finishing, offering};
 ghost use Rattle.dt_world.specs.World.{number_on};
@@ -28,7 +28,7 @@ pub(crate) struct Progress {
 impl Progress {
     /// A replay of which no line was taken.
     pub(crate) fn new(alloc: Global, wanted: Wanted, machine: &Machine) -> Result<Self, AllocError>
-        ensures { IfOk result (HasTaken wanted machine.now []) }
+        ensures { IfOk result (HasTakenLines wanted machine.now []) }
     {
         Ok(Progress {
             engine: Engine::new(alloc, machine)?,
@@ -49,9 +49,9 @@ impl Progress {
         line: &[u8],
     ) -> Result<bool, AllocError>
         ensures taken { result ≡ Ok true → (wanted : Wanted) (lines : List (List ℕ)) → length lines + 1 < 2 ^ 64
-            → HasTaken wanted machine.now lines self.old → HasTaken wanted machine.now (lines ++ line.now ∷ []) self.new }
+            → HasTakenLines wanted machine.now lines self.old → HasTakenLines wanted machine.now (lines ++ line.now ∷ []) self.new }
         ensures refused { result ≡ Ok false → (wanted : Wanted) (lines : List (List ℕ))
-            → HasTaken wanted machine.now lines self.old
+            → HasTakenLines wanted machine.now lines self.old
             → (forms : List StepLineForm) → AreStepLines machine.now.registry (lines ++ line.now ∷ []) forms → ⊥ }
     {
         if line.is_empty() {
@@ -76,7 +76,7 @@ impl Progress {
     ) -> Result<(), AllocError>
         ensures { OnOk result ((wanted : Wanted) (now : Replayed) → ((seat : ℕ) → number_on now.world seat + 1 < 2 ^ 64)
             → IsLineOn machine.now.registry (form_of_step_line step.entry) → IsAfter wanted machine.now now self.old
-            → IsAfter wanted machine.now (after_line machine.now now (form_of_step_line step.entry)) self.new) }
+            → IsAfter wanted machine.now (after_step_line machine.now now (form_of_step_line step.entry)) self.new) }
     {
         match step {
             StepLine::Open { seat, account } => self.open(alloc, machine, seat, account),
@@ -132,7 +132,7 @@ impl Progress {
         line: &[u8],
     ) -> Result<(), AllocError>
         ensures { OnOk result ((wanted : Wanted) (now : Replayed) → IsAfter wanted machine.now now self.old
-            → IsAfter wanted machine.now (with_world now (asking machine.now.registry now.world seat (form_of line.now))) self.new) }
+            → IsAfter wanted machine.now (with_world now (asking machine.now.registry now.world seat (line_form line.now))) self.new) }
     {
         let is_first = self.engine.is_first(seat);
         let line = WholeLine::Bytes(line);
@@ -178,7 +178,7 @@ impl Progress {
     ) -> Result<(), AllocError>
         ensures { OnOk result ((wanted : Wanted) (now : Replayed) → number_on now.world seat + 1 < 2 ^ 64
             → IsAfter wanted machine.now now self.old
-            → IsAfter wanted machine.now (after_line machine.now now (call_line seat line.now)) self.new) }
+            → IsAfter wanted machine.now (after_step_line machine.now now (call_line seat line.now)) self.new) }
     {
         self.ask(alloc, machine, seat, line)?;
         if self.engine.waits(seat) {
@@ -197,7 +197,7 @@ impl Progress {
     /// it is to be offered to.
     fn look(&mut self, machine: &Machine, cpu: u32) -> Option<SeatMask>
         ensures after { (wanted : Wanted) (now : Replayed) → cpu < machine.now.registry.cpus → IsAfter wanted machine.now now self.old
-            → IsAfter wanted machine.now (after_line machine.now now (look_line cpu)) self.new }
+            → IsAfter wanted machine.now (after_step_line machine.now now (look_line cpu)) self.new }
         ensures answer { (wanted : Wanted) (now : Replayed) → cpu < machine.now.registry.cpus → IsAfter wanted machine.now now self.old
             → IsNamed machine.now now cpu result }
     {
@@ -215,7 +215,7 @@ impl Progress {
     fn fire(&mut self, alloc: Global, machine: &Machine, cpu: u32) -> Result<(), AllocError>
         ensures { OnOk result ((wanted : Wanted) (now : Replayed) → cpu < machine.now.registry.cpus
             → IsAfter wanted machine.now now self.old
-            → IsAfter wanted machine.now (after_line machine.now now (fire_line cpu)) self.new) }
+            → IsAfter wanted machine.now (after_step_line machine.now now (fire_line cpu)) self.new) }
     {
         let Some(mask) = self.look(machine, cpu) else {
             return Ok(());

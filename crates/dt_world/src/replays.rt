@@ -7,7 +7,7 @@ ghost use Rattle.dt_machine.specs.Sections.{NowhereIfMemory, UnlessMemory};
 ghost use Rattle.dt_machine.specs.declared.fault.MachineFault.{MachineFault};
 ghost use Rattle.dt_proto.specs.Splits.{HasNoNewline, IsCut};
 ghost use Rattle.dt_world.specs.Faults.{IsFaultOfReading, IsFaultOfLines, IsOfMachine};
-ghost use Rattle.dt_world.specs.Input.{lines_of, IsRefused};
+ghost use Rattle.dt_world.specs.Input.{input_lines, IsRefused};
 ghost use Rattle.dt_world.specs.Replay.{IsReplay, IsTrailReplay};
 ghost use Rattle.dt_world.specs.Told.{IsOutput};
 
@@ -70,7 +70,7 @@ pub fn replay<R: Read, W: Write>(
     // A line is named where it is the first that is refused.
     ensures line { IfErr result (λ fault. (n : ℕ) → fault ≡ ReplayFault.Line n
         → IfSome (R.remaining reader.old) (λ input.
-        (contents : Contents) × IsDescribed machine.now contents × IsRefused contents.registry (lines_of input) n)) }
+        (contents : Contents) × IsDescribed machine.now contents × IsRefused contents.registry (input_lines input) n)) }
 
     // Only a write that fails leaves anything written: a beginning of what would have been.
     ensures nothing_written { IfErr result (λ fault. fault ≢ ReplayFault.Write
@@ -109,7 +109,7 @@ pub fn replay_trail<R: Read, W: Write>(
     // A line is named where it is the first that is refused.
     ensures line { IfErr result (λ fault. (n : ℕ) → fault ≡ ReplayFault.Line n
         → IfSome (R.remaining reader.old) (λ input.
-        (contents : Contents) × IsDescribed machine.now contents × IsRefused contents.registry (lines_of input) n)) }
+        (contents : Contents) × IsDescribed machine.now contents × IsRefused contents.registry (input_lines input) n)) }
 
     // Only a write that fails leaves anything written: a beginning of what would have been.
     ensures nothing_written { IfErr result (λ fault. fault ≢ ReplayFault.Write
@@ -146,7 +146,7 @@ fn replay_as<R: Read, W: Write>(
     // A line is named where it is the first that is refused.
     ensures line { IfErr result (λ fault. (n : ℕ) → fault ≡ ReplayFault.Line n
         → IfSome (R.remaining reader.old) (λ input.
-        (contents : Contents) × IsDescribed machine.now contents × IsRefused contents.registry (lines_of input) n)) }
+        (contents : Contents) × IsDescribed machine.now contents × IsRefused contents.registry (input_lines input) n)) }
 
     // Only a write that fails leaves anything written: a beginning of what would have been.
     ensures nothing_written { IfErr result (λ fault. fault ≢ ReplayFault.Write

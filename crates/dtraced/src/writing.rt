@@ -6,7 +6,7 @@ ghost use Rattle.dt_machine.specs.Registry.{Contents};
 ghost use Rattle.dt_machine.specs.Sections.{NowhereIfMemory, UnlessMemory};
 ghost use Rattle.dt_machine.specs.declared.fault.MachineFault.{MachineFault};
 ghost use Rattle.dt_world.specs.Faults.{IsOfMachine};
-ghost use Rattle.dt_world.specs.Input.{lines_of, IsRefused};
+ghost use Rattle.dt_world.specs.Input.{input_lines, IsRefused};
 ghost use Rattle.dtraced.specs.Writing.{IsWritten};
 
 use dt_chain::Seat;
@@ -38,7 +38,7 @@ pub fn write_replay<R: Read, W: Write>(
     // A line is named where it is the first that is refused.
     ensures line { IfErr result (λ fault. (n : ℕ) → fault ≡ ReplayFault.Line n
         → IfSome (R.remaining reader.old) (λ input.
-        (contents : Contents) × IsDescribed machine.now contents × IsRefused contents.registry (lines_of input) n)) }
+        (contents : Contents) × IsDescribed machine.now contents × IsRefused contents.registry (input_lines input) n)) }
 
     // Only a write that fails leaves anything written: a beginning of what would have been.
     ensures nothing_written { IfErr result (λ fault. fault ≢ ReplayFault.Write

@@ -1,6 +1,6 @@
 -- What is to be shown of `judge`.
 use Rattle.std.proofs.Common.{◌+◌, ◌<◌, [], length, get_or, take, drop, reverse, sym, ap, arith}
-use Rattle.dt_alone.specs.Lent.{entry_of, entries_of}
+use Rattle.dt_alone.specs.Lent.{form_of_lent, entries_of}
 use Rattle.dt_alone.specs.declared.entry.Entry.{Entry}
 use Rattle.dt_alone.specs.declared.entry.Entry.TheVariants.{Line}
 use Rattle.dt_alone.proofs.SoFar.{so_far_more, cut_here, length_so_far}
@@ -18,7 +18,7 @@ loop-index-preserved c =
     let within : here < length entries = omega arith in
     let ruling = rw c.in-Right.is at (c.in_ok-take.ensures c.args.account.now
     (reverse (entries_of (take here entries))) before.after) in
-    let more = so_far_more entry_of entries here past_end within in
+    let more = so_far_more form_of_lent entries here past_end within in
     record { agreed = rw more (before.agreed, ruling.0, ruling.1); after = rw more ruling.2 }
 
 pub returns-in-Wrong : goal.returns-in-Wrong
@@ -31,8 +31,8 @@ returns-in-Wrong c =
     (reverse (entries_of (take here entries))) before.after) in (
       entries_of (take here entries),
       entries_of (drop (here + 1) entries),
-      entry_of (get_or entries here past_end),
-      cut_here entry_of entries here past_end within,
+      form_of_lent (get_or entries here past_end),
+      cut_here form_of_lent entries here past_end within,
       before.agreed,
       ruling.0,
       ruling.1,
@@ -47,11 +47,11 @@ returns-in-OutOfPlace c =
     let within : here < length entries = omega arith in
     let ruling = rw c.in-OutOfPlace.is at (c.in_ok-take.ensures c.args.account.now
     (reverse (entries_of (take here entries))) before.after) in
-    let so_far = length_so_far entry_of entries here within in (
+    let so_far = length_so_far form_of_lent entries here within in (
       entries_of (take here entries),
       entries_of (drop (here + 1) entries),
-      entry_of (get_or entries here past_end),
-      cut_here entry_of entries here past_end within,
+      form_of_lent (get_or entries here past_end),
+      cut_here form_of_lent entries here past_end within,
       before.agreed,
       ruling,
       ap (λ n. n + 1) (sym so_far),

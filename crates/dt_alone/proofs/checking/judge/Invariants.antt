@@ -1,6 +1,6 @@
 -- What holds at each turn of a loop of `judge`.
 use Rattle.std.proofs.Common.{take, reverse}
-use Rattle.dt_alone.specs.Judging.{IsAfter}
+use Rattle.dt_alone.specs.Judging.{HasJudged}
 use Rattle.dt_alone.specs.Legal.{Agrees}
 use Rattle.dt_alone.specs.Lent.{entries_of}
 use Rattle.dt_alone.proofs.checking.judge.Given as goal
@@ -9,5 +9,5 @@ use Rattle.dt_alone.proofs.checking.judge.Given as goal
 abbrev pub invariant-loop-index : goal.invariant-loop-index
 invariant-loop-index l = record {
   agreed : Agrees l.account l.machine (reverse (entries_of (take l.index l.entries)));
-  after : IsAfter l.account l.machine (reverse (entries_of (take l.index l.entries))) l.judge;
+  after : HasJudged l.account l.machine (reverse (entries_of (take l.index l.entries))) l.judge;
 }

@@ -7,7 +7,7 @@ use Rattle.dt_proto.specs.Alone.{own_line, firing_made}
 use Rattle.dt_proto.specs.Line.{ask_in}
 use Rattle.dt_proto.specs.Reply.{reply_text}
 use Rattle.dt_proto.specs.Asked.{form_asked}
-use Rattle.dt_alone.specs.Answered.{IsAnswered}
+use Rattle.dt_alone.specs.Answered.{AnswersAsk}
 use Rattle.dt_alone.specs.Items.{form_of_item, view_of}
 use Rattle.dt_alone.proofs.SoFar.{so_far_more, after_offer}
 use Rattle.dt_alone.proofs.replies.alone.Goals as goal
@@ -28,7 +28,7 @@ loop-item-preserved c =
           ∙ ap (λ item. form_of_item item ∷ view_of (take here items)) (sym c.item-item.is ∙ w.in-Line.is) in
           let bytes = w.in_ok-answer-in-Line.field-0 in
           let answered = subst
-          (λ form. IsAnswered c.args.account.now c.args.machine.now.registry before.life (ask_in form)
+          (λ form. AnswersAsk c.args.account.now c.args.machine.now.registry before.life (ask_in form)
           w.answer.new.runner bytes.items)
           w.lent.ensures (w.in_ok-answer-in-Line.ensures c.args.account.now before.life before.runs) in
           let replies : c.match-item.replies.items ≡ c.loop-item.replies.items ++ bytes ∷ [] =

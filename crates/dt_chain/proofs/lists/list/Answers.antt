@@ -2,7 +2,7 @@
 use Rattle.std.proofs.Common.{◌≡◌, ◌≢◌, ◌<◌, ◌≤◌, true, false, arith, ⊎_elim, ◌∙◌, sym}
 use Rattle.std.proofs.lemmas.Bool.{cases_lt, false≢true}
 use borrow.Author.Count.{below_more}
-use Rattle.dt_chain.specs.Kept.{is_listed}
+use Rattle.dt_chain.specs.Kept.{is_seat_listed}
 use Rattle.dt_chain.proofs.Listing.{along, changed_one, listed_past}
 use Rattle.dt_chain.proofs.lists.list.Goals as goal
 use Rattle.dt_chain.proofs.lists.list.Goals.{then-contains, else-contains}
@@ -43,7 +43,7 @@ returns-clause-own c = λ probe.
     ⊎_elim
     (λ (within : probe < 4099). done.invariant.own probe (omega arith))
     (λ (past : 4099 ≤ probe).
-    let none : is_listed done.lists probe c.args.seat ≡ false =
+    let none : is_seat_listed done.lists probe c.args.seat ≡ false =
     listed_past done.lists probe c.args.seat (omega arith) in (
       λ t. absurd (false≢true (sym none ∙ t)),
       λ names. absurd (omega (arith, done.invariant.bounded (omega arith) probe names)),

@@ -9,7 +9,8 @@ use Rattle.serde_json.specs.View.{view}
 use Rattle.dt_cred.specs.declared.account.Account.{Account}
 use Rattle.dt_cred.specs.declared.account.Privs.{Privs}
 use Rattle.dt_machine.specs.Given.{text_of}
-use Rattle.dt_machine.specs.Rows.{AccountRow, account_row, account, privs, number_in, IsPriv, IsAccountName, IsBelow}
+use Rattle.dt_machine.specs.Rows.{AccountRow, account_row, account, privs}
+use Rattle.dt_machine.specs.Rows.{number_in, IsPriv, IsAccountName, IsGivenBelow}
 use Rattle.dt_machine.proofs.Lists.{any_true, any_false, list_any-map}
 use Rattle.dt_machine.proofs.accounts.account_of.Goals as goal
 
@@ -54,7 +55,8 @@ returns c rows e =
         new = any_false (λ (earlier : AccountRow). bytes_eq earlier.name row.name)
             (λ earlier. earlier.name ≢ row.name) (λ earlier ne. other_text earlier.name row.name (sym ne)) rows
             missing;
-        uid = (let U : Option ℕ → Type 0 = IsBelow (2 ^ 32) in subst U c.unsigned_at.ensures c.in_ok-uid.ensures.0);
+        uid = (let U : Option ℕ → Type 0 = IsGivenBelow (2 ^ 32) in subst U c.unsigned_at.ensures
+            c.in_ok-uid.ensures.0);
         privs = subst P held c.in_ok-privs.ensures.0;
       },
       same (c.in_ok-name.ensures.1 ∙ given) (c.in_ok-uid.ensures.1 ∙ ap number_in c.unsigned_at.ensures)

@@ -2,7 +2,7 @@
 use Rattle.std.proofs.Common.{◌≡◌, ◌≢◌, ◌∙◌, ◌^◌, ℕ, true, false, List, Option, Some, All, ap, sym, subst, map, arith}
 use Rattle.serde_json.specs.View.{view}
 use Rattle.dt_cred.specs.declared.account.Process.{Process}
-use Rattle.dt_machine.specs.Rows.{ProcessRow, process_row, process, number_in, IsBelow, IsExecname}
+use Rattle.dt_machine.specs.Rows.{ProcessRow, process_row, process, number_in, IsGivenBelow, IsExecname}
 use Rattle.dt_machine.proofs.ByPid.{indexed, seen, unseen, looked_up, below_some, none_of}
 use Rattle.dt_machine.proofs.processes.process_of.Goals as goal
 
@@ -31,8 +31,8 @@ returns c rows e known indexes =
     let missing = sym (indexed c.args.by_pid.now (map process rows) indexes pid)
     ∙ looked_up c.get.result _ false c.get.ensures.value (sym c.is_some.ensures ∙ c.if-is_some.false) in
     let P : Option ℕ → Type 0 = λ number. All (λ (earlier : ProcessRow). earlier.pid ≢ number) rows in
-    let B : Option ℕ → Type 0 = IsBelow 1000000 in
-    let U : Option ℕ → Type 0 = IsBelow (2 ^ 32) in
+    let B : Option ℕ → Type 0 = IsGivenBelow 1000000 in
+    let U : Option ℕ → Type 0 = IsGivenBelow (2 ^ 32) in
     let N : List ℕ → Type 0 = IsExecname in
     let name : c.as_bytes.result.now ≡ row.execname = c.as_bytes.ensures.value ∙ c.text_at.ensures in (
       record {

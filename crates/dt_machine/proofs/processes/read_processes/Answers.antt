@@ -6,18 +6,18 @@ use Rattle.std.proofs.lemmas.List.Elements.{All-push}
 use Rattle.serde_json.specs.View.{view}
 use Rattle.dt_cred.specs.declared.account.Process.{Process}
 use Rattle.dt_machine.specs.Reading.{IsFirstWrong}
-use Rattle.dt_machine.specs.Rows.{ProcessRow, process_row, process, number_in, IsBelow, IsRightProcess}
+use Rattle.dt_machine.specs.Rows.{ProcessRow, process_row, process, number_in, IsGivenBelow, IsRightProcess}
 use Rattle.dt_machine.specs.Sections.{process_rows, Indexes}
 use Rattle.dt_machine.proofs.ByPid.{at_pid, indexes_more}
 use Rattle.dt_machine.proofs.Searching.{row_at, first_wrong, right_more, right_all, map_next, take_next, length-front}
 use Rattle.dt_machine.proofs.Searching.{length-rows}
 use Rattle.dt_machine.proofs.processes.read_processes.Goals as goal
 
-some_below : (limit : ℕ) (number : Option ℕ) → IsBelow limit number → IsSome number
+some_below : (limit : ℕ) (number : Option ℕ) → IsGivenBelow limit number → IsSome number
 some_below limit None h = absurd h
 some_below limit (Some n) h = refl
 
-small_pid : (p : Process) (number : Option ℕ) → p.pid ≡ number_in number → IsBelow 1000000 number → p.pid < 2 ^ 32
+small_pid : (p : Process) (number : Option ℕ) → p.pid ≡ number_in number → IsGivenBelow 1000000 number → p.pid < 2 ^ 32
 small_pid p None e h = absurd h
 small_pid p (Some n) e h = omega arith
 

@@ -1,7 +1,7 @@
 -- What is to be shown of `reply_texts`.
 use Rattle.std.proofs.Common.{◌≡◌, ℕ, ◌++◌, codes, decimal, append_assoc, refl}
 use Rattle.std.specs.Fmt.{digits}
-use Rattle.dt_lang.specs.Fault.{word_of}
+use Rattle.dt_lang.specs.Fault.{why_word}
 use Rattle.dt_lang.specs.Word.{name_of_destructive}
 use Rattle.dt_lang.specs.declared.fault.Why.{Why}
 use Rattle.dt_lang.specs.declared.fault.Why.TheVariants.{Syntax, Probe, Action, Variable, TooLong, Range}
@@ -53,7 +53,7 @@ returns-clause-snapped c = text-snapped
 
 by_why : (at : ℕ) (why : Why) → reply_text (refused (Refusal.Program at why))
     ≡ codes "{\"at\":" ++ decimal at
-    ++ codes ",\"error\":4,\"name\":\"Program\",\"why\":\"" ++ word_of why ++ codes "\"}\n"
+    ++ codes ",\"error\":4,\"name\":\"Program\",\"why\":\"" ++ why_word why ++ codes "\"}\n"
 unfolding serde_json_on_literals
 by_why at Syntax = simp (four, append_assoc)
 by_why at Probe = simp (four, append_assoc)

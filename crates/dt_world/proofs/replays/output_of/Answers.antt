@@ -1,7 +1,7 @@
 -- What is to be shown of `output_of`.
 use Rattle.std.proofs.Common.{◌≡◌, ◌∷◌, ◌++◌, [], length, refl, arith, rules, ◌+◌}
 use Rattle.std.proofs.lemmas.List.{length-append}
-use Rattle.dt_world.specs.Input.{lines_of}
+use Rattle.dt_world.specs.Input.{input_lines}
 use Rattle.dt_world.proofs.LineCuts.{lines-one_more, length-cut, lines-all}
 use Rattle.dt_world.proofs.LineLists.{refused_here, finished}
 use Rattle.dt_world.proofs.replays.output_of.Goals as goal
@@ -29,7 +29,7 @@ pub returns-in-Ok-false-clause-err : goal.returns-in-Ok-false-clause-err
 returns-in-Ok-false-clause-err c =
     let before = c.loop-line.invariant in
     let taken = before.4 in
-    refused_here c.args.machine.now.registry (lines_of c.args.input.now) before.0 (lines_of c.in-Some.more.now)
+    refused_here c.args.machine.now.registry (input_lines c.args.input.now) before.0 (input_lines c.in-Some.more.now)
     c.in-Some.line.now c.loop-line.number taken.forms
     (lines-one_more c.args.input.now c.loop-line.rest.now c.in-Some.line.now c.in-Some.more.now before.0
     before.1 c.in-Some.ensures.found) before.2 taken.steps

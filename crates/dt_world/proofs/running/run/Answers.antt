@@ -3,8 +3,8 @@ use Rattle.std.proofs.Common.{◌≡◌, ◌∙◌, ◌+◌, ◌^◌, ◌<◌, �
 use Rattle.std.proofs.Math.Seq.{take-length}
 use Rattle.std.proofs.lemmas.List.{map-append, length-map, length-take-le, take_more}
 use Rattle.dt_world.specs.Ran.{HasTold, AreReplies}
-use Rattle.dt_world.specs.Stands.{IsAt}
-use Rattle.dt_world.specs.Steps.{act_of, happens, world_after}
+use Rattle.dt_world.specs.Stands.{EngineIsAt}
+use Rattle.dt_world.specs.Steps.{act_of, after_act, world_after}
 use Rattle.dt_world.specs.World.{number_on}
 use Rattle.dt_world.proofs.Questions.{told_alone}
 use Rattle.dt_world.proofs.Taking.{few_after, world_after-end}
@@ -21,7 +21,7 @@ loop-step-preserved c =
     let low : i < length steps = omega arith in
     let more : take (i + 1) steps ≡ take i steps ++ item ∷ [] =
     take_more steps i item low ∙ ap (λ x. take i steps ++ x ∷ []) (sym c.step-item.is) in
-    let later : world_after registry (map act_of (take (i + 1) steps)) ≡ happens registry world (act_of item) =
+    let later : world_after registry (map act_of (take (i + 1) steps)) ≡ after_act registry world (act_of item) =
     ap (λ xs. world_after registry (map act_of xs)) more
     ∙ ap (world_after registry) (map-append act_of (take i steps) (item ∷ []))
     ∙ world_after-end registry past (act_of item) in
@@ -30,10 +30,10 @@ loop-step-preserved c =
     let h = few_after registry past seat in omega (arith, h, counted) in
     let did = c.in_ok-outcome.ensures world few c.loop-step.invariant.at in
     record {
-      at = subst (λ w. IsAt registry w c.take.new.self) (sym later) did.0;
+      at = subst (λ w. EngineIsAt registry w c.take.new.self) (sym later) did.0;
       told = subst (λ w. HasTold registry w (map (λ reply. (reply.0, reply.1.items)) c.tell.new.self.replies.items)
           c.tell.new.self.masks.items) (sym later)
-          (c.in_ok-tell.ensures registry world (happens registry world (act_of item)) did.1
+          (c.in_ok-tell.ensures registry world (after_act registry world (act_of item)) did.1
           c.loop-step.invariant.told);
     }
 

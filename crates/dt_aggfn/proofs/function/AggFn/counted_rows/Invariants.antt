@@ -1,9 +1,9 @@
 -- The rows so far are those before the index that count something.
 use Rattle.std.proofs.Common.{◌≡◌, map}
 use Rattle.dt_aggfn.specs.Cells.{rows_of}
-use Rattle.dt_aggfn.specs.Answers.{form_of_row}
+use Rattle.dt_aggfn.specs.Answers.{form_of_counted_row}
 use Rattle.dt_aggfn.proofs.AnswerLemmas.{counted_to}
 use Rattle.dt_aggfn.proofs.function.AggFn.counted_rows.Given as goal
 
 abbrev pub invariant-loop-index : goal.invariant-loop-index
-invariant-loop-index l = map form_of_row l.counted.items ≡ counted_to (rows_of l.fn.self) l.cell l.index
+invariant-loop-index l = map form_of_counted_row l.counted.items ≡ counted_to (rows_of l.fn.self) l.cell l.index

@@ -9,7 +9,7 @@ use Rattle.std.proofs.lemmas.List.{with_items_is}
 use Rattle.dt_aggfn.specs.Cells.{cell_words, cell_of}
 use Rattle.dt_aggstore.specs.Indexed.{Indexed}
 use Rattle.dt_aggstore.specs.Keys.{Entry, entry_cost, cost_of}
-use Rattle.dt_aggstore.specs.History.{Past, after, given, contributions}
+use Rattle.dt_aggstore.specs.History.{Past, after, given, contribution_count}
 use Rattle.dt_aggstore.specs.Held.{entry_of, bag}
 use Rattle.dt_aggstore.specs.Entries.{names_of}
 use Rattle.dt_aggstore.specs.IsAt.{IsAt, Makes}
@@ -45,7 +45,7 @@ returns-in-Some-clause-stands c = λ past at.
     let lies = c.in-Some.ensures.found in
     let then : c.deref_mut.result.now ≡ self.cells.items = c.deref_mut.ensures.value in
     let bag = bag past.events at.chosen c.args.aggregation key in
-    let few : contributions past.events ≤ ADDED_LIMIT = omega (arith, at.added, self.few) in
+    let few : contribution_count past.events ≤ ADDED_LIMIT = omega (arith, at.added, self.few) in
     let added = c.add_at.ensures bag
     (given_bag past self at c.args.aggregation key c.args.value lengths c.in-Some.place lies few)
     (ap (λ xs. slice_range xs c.in-Some.place (c.in-Some.place + words)) then

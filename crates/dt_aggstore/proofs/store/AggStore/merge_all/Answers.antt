@@ -4,7 +4,7 @@ use Rattle.std.specs.Prelude.{map, IfOk}
 use Rattle.dt_aggfn.specs.declared.limits.TheConstants.{BAG_LIMIT}
 use Rattle.dt_aggfn.specs.declared.function.AggFn.{AggFn}
 use Rattle.dt_aggstore.specs.Entries.{form_of_row}
-use Rattle.dt_aggstore.specs.Table.{joined}
+use Rattle.dt_aggstore.specs.Table.{joined_bag}
 use Rattle.dt_aggstore.specs.Joining.{AreJoined, MakesRows}
 use Rattle.std.proofs.lemmas.Result.{IfOk-weaker}
 use Rattle.std.specs.Global.{Vec}
@@ -52,7 +52,7 @@ returns-clause-table c = λ pasts at.
     IfOk-weaker c.rows_of.result _ _
     (λ made m. table_is aggregation pasts choices rows (map form_of_row made.items)
     (choices_are pasts stores at) j m)
-    (answers (λ key. joined aggregation key pasts choices) j
+    (answers (λ key. joined_bag aggregation key pasts choices) j
     (λ key. omega (arith, c.requires, all_short aggregation pasts stores at key)))
 
 pub returns-clause-value : goal.returns-clause-value

@@ -3,7 +3,7 @@ use Rattle.std.proofs.Common.{◌≡◌, Some, sym, ◌∙◌, subst, arith, rul
 use Rattle.std.proofs.lemmas.Bool.{true≢false}
 use Rattle.dt_machine.specs.declared.firing.Firing.{Firing}
 use Rattle.dt_consumer.specs.Sees.{Sees}
-use Rattle.dt_alone.specs.Legal.{life_in}
+use Rattle.dt_alone.specs.Legal.{life_of_trail}
 use Rattle.dt_alone.proofs.Judging.{inside, least_more}
 use Rattle.dt_alone.proofs.judge.Judge.take_firing.Goals as goal
 
@@ -32,7 +32,7 @@ returns-then-branch c = λ account past after.
     let contents = c.args.machine.now in
     let is = sym c.in-Some.ensures.value in
     let within = inside contents c.args.cpu c.args.place c.in-Some.firing.now c.firing.ensures.sound is in
-    let life = life_in account contents past in
+    let life = life_of_trail account contents past in
     let seen = c.in_ok-offer.ensures.sees account life after.runs in
     let runs = rw c.if-branch.true at (c.in_ok-offer.ensures.after account life after.runs) in (
       (
@@ -53,7 +53,7 @@ some_same a b e = cc
 pub returns-else-branch : goal.returns-else-branch
 returns-else-branch c = λ account past after may.
     let contents = c.args.machine.now in
-    let life = life_in account contents past in
+    let life = life_of_trail account contents past in
     let seen = c.in_ok-offer.ensures.sees account life after.runs in
     let same = some_same may.1.0 c.in-Some.firing.now (sym may.1.1 ∙ sym c.in-Some.ensures.value) in
     let sees = subst (λ firing. Sees account contents.registry life firing) same may.1.2 in

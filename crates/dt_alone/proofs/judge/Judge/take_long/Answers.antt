@@ -3,20 +3,20 @@ use Rattle.std.proofs.Common.{refl, sym, subst, ◌∙◌}
 use Rattle.std.proofs.lemmas.Bool.{true≢false}
 use Rattle.dt_proto.specs.Splits.{with_newline}
 use Rattle.dt_alone.specs.Compared.{IsCompared}
-use Rattle.dt_alone.specs.Legal.{life_in}
+use Rattle.dt_alone.specs.Legal.{life_of_trail}
 use Rattle.dt_alone.proofs.Judging.{long_ruled}
 use Rattle.dt_alone.proofs.judge.Judge.take_long.Goals as goal
 
 pub returns-then-is_over : goal.returns-then-is_over
 returns-then-is_over c = λ account past after quota.
     let contents = c.args.machine.now in
-    let over = c.is_over.ensures.over account contents.registry (life_in account contents past) after.runs in
+    let over = c.is_over.ensures.over account contents.registry (life_of_trail account contents past) after.runs in
     true≢false (sym c.if-is_over.true ∙ over ∙ quota)
 
 pub returns : goal.returns
 returns c = λ account past after.
     let contents = c.args.machine.now in
-    let life = life_in account contents past in
+    let life = life_of_trail account contents past in
     let over = c.is_over.ensures.over account contents.registry life after.runs in
     long_ruled c.one_reply.ensures account contents past c.args.self.now _ c.args.reply.now
     c.in_ok-due.due.items c.compared.result after refl (sym over ∙ c.if-is_over.false)

@@ -8,7 +8,7 @@ use Rattle.std.proofs.lemmas.Bool.{eq-eqb}
 use Rattle.dt_ecb.specs.Forms.{form_of_ecb, no_clause}
 use Rattle.dt_ecb.specs.declared.parts.Ecb.{Ecb}
 use Rattle.dt_lang.specs.Program.{ClauseForm, form_of_clause}
-use Rattle.dt_record.specs.Layout.{layout_of, size_of}
+use Rattle.dt_record.specs.Layout.{layout_of, layout_size}
 use Rattle.dt_alone.specs.declared.limits.TheConstants.{END}
 use Rattle.dt_consumer.proofs.Sizes.{end_sizes, one_size, size_by, sizes_more, sizes_few}
 use Rattle.dt_consumer.proofs.Takings.{clause_found, there_at}
@@ -38,8 +38,8 @@ returns-in_err-left-clause-left c = λ clauses own placed.
     (subst (λ es. All (λ (e : Ecb). e.clause < length clauses) es) (sym c.deref-ecb-items.ensures.value) placed)
     c.loop-ecb-test.true c.ecb-item.is in
     let found : c.size.result ≡ size_by (form_of_ecb clauses ecb) =
-    c.size.ensures ∙ ap size_of c.of.ensures
-    ∙ ap (λ f. size_of (layout_of f))
+    c.size.ensures ∙ ap layout_size c.of.ensures
+    ∙ ap (λ f. layout_size (layout_of f))
     (sym (clause_found c.args.self.now.clauses.items ecb.clause clause
     (omega (arith, inside, sym (ap length own), length-map c.args.self.now.clauses.items form_of_clause))
     (c.in_ok-clause.ensures.lookup.3.1 clause

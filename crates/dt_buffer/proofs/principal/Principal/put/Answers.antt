@@ -2,9 +2,9 @@
 use Rattle.std.proofs.Common.{Bool, sym, subst, true, false}
 use Rattle.dt_buffer.proofs.Pasts.{put_switch, answer_switch, put_ring, answer_ring, put_ordinary_past}
 use Rattle.dt_buffer.proofs.Pasts.{answer_ordinary, put_end_past, answer_end}
-use Rattle.dt_buffer.specs.History.{attempt, after, attempts, ordinary, of_end, since_swap}
+use Rattle.dt_buffer.specs.History.{attempt, buffer_after, attempts, ordinary, of_end, since_swap}
 use Rattle.dt_buffer.specs.IsAt.{StoreIsAt}
-use Rattle.dt_buffer.specs.Shows.{Answers, EndLast}
+use Rattle.dt_buffer.specs.Shows.{PutAnswers, EndLast}
 use Rattle.dt_buffer.specs.declared.policy.Put.{Put}
 use Rattle.dt_buffer.specs.declared.principal.Store.{Store}
 use Rattle.dt_buffer.specs.declared.principal.Store.TheVariants.{Fill}
@@ -19,7 +19,7 @@ returns-in-Switch-clause-stands c = λ past s last.
 pub returns-in-Switch-clause-answers : goal.returns-in-Switch-clause-answers
 returns-in-Switch-clause-answers c = λ past s last.
     let P : Store → Type 0 = λ x. StoreIsAt past x in
-    let A : Put → Type 0 = λ p. Answers past c.args.bytes.now c.args.in_end p in
+    let A : Put → Type 0 = λ p. PutAnswers past c.args.bytes.now c.args.in_end p in
     subst A (sym c.put_or_dropped.ensures)
     (answer_switch past c.args.bytes.now c.args.in_end c.put.result c.in-Switch.store c.put.new.self
     (subst P c.in-Switch.is s) (c.put.ensures.shows past.size (since_swap past.events)) c.put.ensures.kept)
@@ -27,7 +27,8 @@ returns-in-Switch-clause-answers c = λ past s last.
 pub returns-then-in_end-clause-stands : goal.returns-then-in_end-clause-stands
 returns-then-in_end-clause-stands c = λ past s last.
     let P : Store → Type 0 = λ x. StoreIsAt past x in
-    let E : Bool → Type 0 = λ e. StoreIsAt (after past (attempt c.args.bytes.now e)) (Fill c.put_of_end.new.self) in
+    let E : Bool → Type 0 = λ e. StoreIsAt (buffer_after past (attempt c.args.bytes.now e))
+    (Fill c.put_of_end.new.self) in
     subst E (sym c.if-in_end.true)
     (put_end_past past c.args.bytes.now c.put_of_end.result c.in-Fill.store c.put_of_end.new.self
     (subst P c.in-Fill.is s)
@@ -36,9 +37,9 @@ returns-then-in_end-clause-stands c = λ past s last.
 pub returns-then-in_end-clause-answers : goal.returns-then-in_end-clause-answers
 returns-then-in_end-clause-answers c = λ past s last.
     let P : Store → Type 0 = λ x. StoreIsAt past x in
-    let A : Put → Type 0 = λ p. Answers past c.args.bytes.now c.args.in_end p in
-    let E : Bool → Type 0 = λ e. Answers past c.args.bytes.now e c.put_or_filled.result in
-    let T : Put → Type 0 = λ p. Answers past c.args.bytes.now true p in
+    let A : Put → Type 0 = λ p. PutAnswers past c.args.bytes.now c.args.in_end p in
+    let E : Bool → Type 0 = λ e. PutAnswers past c.args.bytes.now e c.put_or_filled.result in
+    let T : Put → Type 0 = λ p. PutAnswers past c.args.bytes.now true p in
     subst E (sym c.if-in_end.true)
     (subst T (sym c.put_or_filled.ensures)
     (answer_end past c.args.bytes.now c.put_of_end.result c.in-Fill.store c.put_of_end.new.self
@@ -49,7 +50,8 @@ pub returns-else-in_end-clause-stands : goal.returns-else-in_end-clause-stands
 returns-else-in_end-clause-stands c = λ past s last.
     let P : Store → Type 0 = λ x. StoreIsAt past x in
     let L : Bool → Type 0 = λ e. EndLast past e in
-    let E : Bool → Type 0 = λ e. StoreIsAt (after past (attempt c.args.bytes.now e)) (Fill c.put_ordinary.new.self) in
+    let E : Bool → Type 0 = λ e. StoreIsAt (buffer_after past (attempt c.args.bytes.now e))
+    (Fill c.put_ordinary.new.self) in
     subst E (sym c.if-in_end.false)
     (put_ordinary_past past c.args.bytes.now c.put_ordinary.result c.in-Fill.store c.put_ordinary.new.self
     (subst P c.in-Fill.is s) (subst L c.if-in_end.false last)
@@ -59,8 +61,8 @@ pub returns-else-in_end-clause-answers : goal.returns-else-in_end-clause-answers
 returns-else-in_end-clause-answers c = λ past s last.
     let P : Store → Type 0 = λ x. StoreIsAt past x in
     let L : Bool → Type 0 = λ e. EndLast past e in
-    let E : Bool → Type 0 = λ e. Answers past c.args.bytes.now e c.put_or_filled-else-in_end.result in
-    let T : Put → Type 0 = λ p. Answers past c.args.bytes.now false p in
+    let E : Bool → Type 0 = λ e. PutAnswers past c.args.bytes.now e c.put_or_filled-else-in_end.result in
+    let T : Put → Type 0 = λ p. PutAnswers past c.args.bytes.now false p in
     subst E (sym c.if-in_end.false)
     (subst T (sym c.put_or_filled-else-in_end.ensures)
     (answer_ordinary past c.args.bytes.now c.put_ordinary.result c.in-Fill.store c.put_ordinary.new.self
@@ -76,7 +78,7 @@ returns-in-Ring-clause-stands c = λ past s last.
 pub returns-in-Ring-clause-answers : goal.returns-in-Ring-clause-answers
 returns-in-Ring-clause-answers c = λ past s last.
     let P : Store → Type 0 = λ x. StoreIsAt past x in
-    let A : Put → Type 0 = λ p. Answers past c.args.bytes.now c.args.in_end p in
+    let A : Put → Type 0 = λ p. PutAnswers past c.args.bytes.now c.args.in_end p in
     subst A (sym c.put_or_dropped-in-Ring.ensures)
     (answer_ring past c.args.bytes.now c.args.in_end c.put-in-Ring.result c.in-Ring.store c.put-in-Ring.new.self
     (subst P c.in-Ring.is s) (c.put-in-Ring.ensures.shows past.size (attempts past.events)) c.put-in-Ring.ensures.kept)

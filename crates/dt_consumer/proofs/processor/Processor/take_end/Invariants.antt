@@ -7,7 +7,7 @@ use Rattle.dt_ecb.specs.Shapes.{ShapeForm}
 use Rattle.dt_lang.specs.declared.program.TheConstants.{STATEMENTS_MAX}
 use Rattle.dt_consumer.specs.Aggregations.{contributions}
 use Rattle.dt_consumer.specs.Uses.{AreUses, given_then}
-use Rattle.dt_buffer.specs.History.{Past}
+use Rattle.dt_buffer.specs.History.{BufferPast}
 use Rattle.dt_lang.specs.Program.{form_of_clause}
 use Rattle.dt_consumer.specs.Buffers.{attempts_of}
 use Rattle.dt_consumer.specs.Counts.{AtMostMore}
@@ -20,7 +20,7 @@ invariant-loop-ecb l = record {
   taken :
       let new = map (taking_by true (form_of_moment l.moment) (map form_of_clause l.clauses))
       (take l.ecb-index l.ecb-items) in
-      All (λ ecb. ecb.clause < length l.clauses) l.ecb-items → (past : Past) (errors : ℕ)
+      All (λ ecb. ecb.clause < length l.clauses) l.ecb-items → (past : BufferPast) (errors : ℕ)
       → HasTaken past errors l.fn.self
       → HasTaken (followed_by past (attempts_of new)) (errors + faults new) l.self;
   counts : AtMostMore l.ecb-index l.fn.self l.self;

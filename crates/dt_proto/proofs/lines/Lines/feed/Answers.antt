@@ -1,7 +1,7 @@
 -- The line goes on, and ends where a newline came.
 use Rattle.std.proofs.Common.{◌≡◌, false, ◌++◌, ap, ◌∙◌, inl, inr}
 use Rattle.std.proofs.Math.Seq.{take-length}
-use Rattle.dt_proto.specs.Lines.{form_of, lines_of, rest_of}
+use Rattle.dt_proto.specs.Lines.{line_form, lines_of, rest_of}
 use Rattle.dt_proto.specs.HasRead.{form_held, is_whole}
 use Rattle.dt_proto.proofs.Feeding.{begun, fed_line, fed_more, lines-more}
 use Rattle.dt_proto.proofs.lines.Lines.feed.Goals as goal
@@ -9,7 +9,7 @@ use Rattle.dt_proto.proofs.lines.Lines.feed.Goals.{then-self, else-self}
 
 pub returns-in-Some-clause-stands : goal.returns-in-Some-clause-stands
 returns-in-Some-clause-stands c = λ input read.
-    let begins : form_held c.if-self.self ≡ form_of (rest_of input) =
+    let begins : form_held c.if-self.self ≡ line_form (rest_of input) =
     begun input c.args.self.now c.if-self.self read (elim c.if-self.branch [
       | then-self w ↦ inl (w.if-self.true, ap form_held w.self-is ∙ w.begin_line.ensures.held)
       | else-self w ↦ inr (w.if-self.false, w.self-is)
@@ -24,7 +24,7 @@ returns-in-Some-clause-lines c = λ input read. (returns-in-Some-clause-stands c
 
 pub returns-in-None-clause-stands : goal.returns-in-None-clause-stands
 returns-in-None-clause-stands c = λ input read.
-    let begins : form_held c.if-self.self ≡ form_of (rest_of input) =
+    let begins : form_held c.if-self.self ≡ line_form (rest_of input) =
     begun input c.args.self.now c.if-self.self read (elim c.if-self.branch [
       | then-self w ↦ inl (w.if-self.true, ap form_held w.self-is ∙ w.begin_line.ensures.held)
       | else-self w ↦ inr (w.if-self.false, w.self-is)

@@ -3,9 +3,12 @@ use Rattle.std.proofs.Common.{◌≡◌, ◌+◌, ◌*◌, ◌≤◌, List, Some
 use Rattle.arrayvec.specs.ArrayVec.{array_vec_len}
 use Rattle.dt_expr.specs.Scene.{scene_of}
 use Rattle.dt_lang.specs.Program.{form_of_statement}
+use Rattle.dt_lang.specs.declared.program.TheConstants.{KEYS_MAX}
+use Rattle.dt_machine.specs.declared.limits.TheConstants.{FRAMES}
 use Rattle.dt_record.specs.Forms.{form_of_taken}
 use Rattle.dt_record.specs.Left.{record_len}
 use Rattle.dt_record.specs.Taking.{Effect, each, effect, taken_of}
+use Rattle.dt_record.specs.declared.limits.TheConstants.{EPID_SIZE}
 use Rattle.dt_record.proofs.parts.Taken.take_statements.Given as goal
 
 abbrev pub invariant-loop-statement : goal.invariant-loop-statement
@@ -13,6 +16,6 @@ invariant-loop-statement l = record {
   left : (effects : List Effect)
       × (each (effect (scene_of l.scene)) (map form_of_statement (take l.statement-index l.statements)) ≡ Some effects)
       × (form_of_taken l.self ≡ taken_of l.fn.epid (map form_of_statement l.statements) effects);
-  record_room : record_len l.self.bytes ≤ 4 + 64 * l.statement-index;
-  values_room : array_vec_len l.self.values ≤ 5 * l.statement-index;
+  record_room : record_len l.self.bytes ≤ EPID_SIZE + 8 * FRAMES * l.statement-index;
+  values_room : array_vec_len l.self.values ≤ (KEYS_MAX + 1) * l.statement-index;
 }

@@ -1,8 +1,8 @@
 -- Look.
 use Rattle.std.proofs.Common.{◌≡◌, ◌∙◌, ◌&&◌, ◌==◌, nat_lt, true, false, rules, sym, ap, subst}
 use Rattle.std.proofs.lemmas.Bool.{eq-eqb, ne_eqb, and_left, and_right}
-use Rattle.dt_world.specs.Stands.{IsKept}
-use Rattle.dt_world.specs.Sound.{IsSound}
+use Rattle.dt_world.specs.Stands.{WorldIsKept}
+use Rattle.dt_world.specs.Sound.{IsSoundWorld}
 use Rattle.dt_world.specs.Steps.{is_done, looking}
 use Rattle.dt_world.specs.World.{World}
 use Rattle.dt_world.proofs.Soundness.{sound-looking}
@@ -42,8 +42,8 @@ returns-then-firing-cpu-clause-at c = λ world at.
     c.args.self.now.processors.items at.0 at.1 c.args.cpu c.args.firing.now
     (and_left (c.args.firing.now.cpu == c.args.cpu)
     (nat_lt c.args.cpu registry.cpus && is_done (world.due c.args.cpu)) other) in
-    subst (λ w. IsSound registry w
-    × IsKept registry w c.args.self.now.seats.items c.args.self.now.entries c.args.self.now.processors.items)
+    subst (λ w. IsSoundWorld registry w
+    × WorldIsKept registry w c.args.self.now.seats.items c.args.self.now.entries c.args.self.now.processors.items)
     (sym same) at
 
 pub returns-then-firing-cpu-clause-answer : goal.returns-then-firing-cpu-clause-answer
@@ -67,8 +67,8 @@ returns-then-not-is_done-clause-at c = λ world at.
     c.args.self.now.processors.items at.0 at.1 c.args.cpu c.args.firing.now
     (and_right (c.args.firing.now.cpu == c.args.cpu)
     (nat_lt c.args.cpu registry.cpus && is_done (world.due c.args.cpu)) off) in
-    subst (λ w. IsSound registry w
-    × IsKept registry w c.args.self.now.seats.items c.args.self.now.entries c.args.self.now.processors.items)
+    subst (λ w. IsSoundWorld registry w
+    × WorldIsKept registry w c.args.self.now.seats.items c.args.self.now.entries c.args.self.now.processors.items)
     (sym same) at
 
 pub returns-then-not-is_done-clause-answer : goal.returns-then-not-is_done-clause-answer

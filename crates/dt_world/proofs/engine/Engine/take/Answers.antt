@@ -1,8 +1,8 @@
 -- Each step in turn.
 use Rattle.std.proofs.Common.{option_map, sym, ap, subst}
 use Rattle.dt_proto.specs.Asked.{form_asked}
-use Rattle.dt_world.specs.Stands.{IsAt, IsAnswered}
-use Rattle.dt_world.specs.Steps.{act_of, happens, opening, asking, finishing, looking}
+use Rattle.dt_world.specs.Stands.{EngineIsAt, IsAnswered}
+use Rattle.dt_world.specs.Steps.{act_of, after_act, opening, asking, finishing, looking}
 use Rattle.dt_world.specs.Telling.{IsTelling}
 use Rattle.dt_world.specs.declared.outcome.Outcome.TheVariants.{Quiet}
 use Rattle.dt_world.specs.declared.served.Answered.{Answered}
@@ -14,10 +14,11 @@ use Rattle.dt_world.proofs.engine.Engine.take.Goals as goal
 pub returns-in_ok-open-in-Open : goal.returns-in_ok-open-in-Open
 returns-in_ok-open-in-Open c = λ world few at.
     let registry = c.args.machine.now.registry in
-    subst (λ act. IsAt registry (happens registry world act) c.open.new.self
-    × IsTelling registry world (happens registry world act) Quiet)
+    subst (λ act. EngineIsAt registry (after_act registry world act) c.open.new.self
+    × IsTelling registry world (after_act registry world act) Quiet)
     (sym (ap act_of c.in-Open.is)) (
-      subst (λ name. IsAt registry (opening registry world c.in-Open.seat name) c.open.new.self) c.deref.ensures.value
+      subst (λ name. EngineIsAt registry (opening registry world c.in-Open.seat name) c.open.new.self)
+          c.deref.ensures.value
           (c.in_ok-open-in-Open.ensures world at),
       quiet-opening registry world c.in-Open.seat c.in-Open.name.items,
     )
@@ -25,10 +26,10 @@ returns-in_ok-open-in-Open c = λ world few at.
 pub returns-in_ok-reply-in-Ask : goal.returns-in_ok-reply-in-Ask
 returns-in_ok-reply-in-Ask c = λ world few at.
     let registry = c.args.machine.now.registry in
-    subst (λ act. IsAt registry (happens registry world act) c.ask.new.self
-    × IsTelling registry world (happens registry world act) c.replied.result)
+    subst (λ act. EngineIsAt registry (after_act registry world act) c.ask.new.self
+    × IsTelling registry world (after_act registry world act) c.replied.result)
     (sym (ap act_of c.in-Ask.is)) (
-      subst (λ line. IsAt registry (asking registry world c.in-Ask.seat line) c.ask.new.self) c.lent.ensures
+      subst (λ line. EngineIsAt registry (asking registry world c.in-Ask.seat line) c.ask.new.self) c.lent.ensures
           (c.in_ok-reply-in-Ask.ensures.at world at),
       subst (IsTelling registry world (asking registry world c.in-Ask.seat (form_asked c.in-Ask.line)))
           (sym c.replied.ensures)
@@ -44,8 +45,8 @@ returns-in_ok-reply-in-Ask c = λ world few at.
 pub returns-in_ok-publish-in-Publish : goal.returns-in_ok-publish-in-Publish
 returns-in_ok-publish-in-Publish c = λ world few at.
     let registry = c.args.machine.now.registry in
-    subst (λ act. IsAt registry (happens registry world act) c.publish.new.self
-    × IsTelling registry world (happens registry world act) Quiet)
+    subst (λ act. EngineIsAt registry (after_act registry world act) c.publish.new.self
+    × IsTelling registry world (after_act registry world act) Quiet)
     (sym (ap act_of c.in-Publish.is)) (
       c.in_ok-publish-in-Publish.ensures world at,
       quiet-publishing registry world c.in-Publish.seat,
@@ -54,8 +55,8 @@ returns-in_ok-publish-in-Publish c = λ world few at.
 pub returns-in_ok-reply-in-Finish : goal.returns-in_ok-reply-in-Finish
 returns-in_ok-reply-in-Finish c = λ world few at.
     let registry = c.args.machine.now.registry in
-    subst (λ act. IsAt registry (happens registry world act) c.finish.new.self
-    × IsTelling registry world (happens registry world act) c.finished.result)
+    subst (λ act. EngineIsAt registry (after_act registry world act) c.finish.new.self
+    × IsTelling registry world (after_act registry world act) c.finished.result)
     (sym (ap act_of c.in-Finish.is)) (
       c.in_ok-reply-in-Finish.ensures.at world at,
       subst (IsTelling registry world (finishing world c.in-Finish.seat)) (sym c.finished.ensures)
@@ -68,8 +69,8 @@ returns-in_ok-reply-in-Finish c = λ world few at.
 pub returns-in-Withdraw : goal.returns-in-Withdraw
 returns-in-Withdraw c = λ world few at.
     let registry = c.args.machine.now.registry in
-    subst (λ act. IsAt registry (happens registry world act) c.withdraw.new.self
-    × IsTelling registry world (happens registry world act) Quiet)
+    subst (λ act. EngineIsAt registry (after_act registry world act) c.withdraw.new.self
+    × IsTelling registry world (after_act registry world act) Quiet)
     (sym (ap act_of c.in-Withdraw.is)) (
       c.withdraw.ensures world at,
       quiet-withdrawing registry world c.in-Withdraw.seat,
@@ -78,8 +79,8 @@ returns-in-Withdraw c = λ world few at.
 pub returns-in-Look : goal.returns-in-Look
 returns-in-Look c = λ world few at.
     let registry = c.args.machine.now.registry in
-    subst (λ act. IsAt registry (happens registry world act) c.look.new.self
-    × IsTelling registry world (happens registry world act) c.looked.result)
+    subst (λ act. EngineIsAt registry (after_act registry world act) c.look.new.self
+    × IsTelling registry world (after_act registry world act) c.looked.result)
     (sym (ap act_of c.in-Look.is)) (
       c.look.ensures.at world at,
       subst (IsTelling registry world (looking registry world c.in-Look.cpu c.in-Look.firing)) (sym c.looked.ensures)
@@ -90,8 +91,8 @@ returns-in-Look c = λ world few at.
 pub returns-in-Offer : goal.returns-in-Offer
 returns-in-Offer c = λ world few at.
     let registry = c.args.machine.now.registry in
-    subst (λ act. IsAt registry (happens registry world act) c.offer.new.self
-    × IsTelling registry world (happens registry world act) Quiet)
+    subst (λ act. EngineIsAt registry (after_act registry world act) c.offer.new.self
+    × IsTelling registry world (after_act registry world act) Quiet)
     (sym (ap act_of c.in-Offer.is)) (
       c.offer.ensures.at world at,
       quiet-offering registry world c.in-Offer.cpu c.in-Offer.seat,
@@ -100,8 +101,8 @@ returns-in-Offer c = λ world few at.
 pub returns-in-Close : goal.returns-in-Close
 returns-in-Close c = λ world few at.
     let registry = c.args.machine.now.registry in
-    subst (λ act. IsAt registry (happens registry world act) c.close.new.self
-    × IsTelling registry world (happens registry world act) Quiet)
+    subst (λ act. EngineIsAt registry (after_act registry world act) c.close.new.self
+    × IsTelling registry world (after_act registry world act) Quiet)
     (sym (ap act_of c.in-Close.is)) (
       c.close.ensures registry world (few c.in-Close.seat) at,
       quiet-closing registry world c.in-Close.seat,

@@ -1,7 +1,7 @@
 -- A line is asked, and its reply told.
 use Rattle.std.proofs.Common.{◌≡◌, Some, None, option_map, is_some, subst, ap, refl}
 use Rattle.std.proofs.lemmas.Result.{on_ok_weaker}
-use Rattle.dt_proto.specs.Lines.{form_of}
+use Rattle.dt_proto.specs.Lines.{line_form}
 use Rattle.dt_world.specs.Stands.{IsAnswered, first_account}
 use Rattle.dt_world.specs.Steps.{asking}
 use Rattle.dt_world.specs.Told.{reply_told}
@@ -16,7 +16,7 @@ returns-in-Some c =
     (λ tells wanted now before.
     let registry = c.args.machine.now.registry in
     let seat = c.args.seat in
-    let line = form_of c.args.line.now in
+    let line = line_form c.args.line.now in
     let world = asking registry now.world seat line in
     let answered = c.in-Some.answered in
     let answers : IsAnswered registry now.world world seat (Some answered.text.items) =
@@ -40,7 +40,7 @@ pub returns-in-None : goal.returns-in-None
 returns-in-None c = λ wanted now before.
     let registry = c.args.machine.now.registry in
     let seat = c.args.seat in
-    let line = form_of c.args.line.now in
+    let line = line_form c.args.line.now in
     let world = asking registry now.world seat line in
     let none : IsAnswered registry now.world world seat None =
     subst (IsAnswered registry now.world world seat) (ap (option_map (λ one. one.text.items)) c.in-None.is)

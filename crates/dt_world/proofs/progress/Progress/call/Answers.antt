@@ -9,7 +9,7 @@ use Rattle.dt_world.proofs.Numbers.{after-asking, after-withdrawing}
 use Rattle.dt_world.proofs.After.{after-silent}
 use Rattle.dt_world.proofs.Silences.{asked_in, called_waiting, called_closed, publishing_silent, publishing_views}
 use Rattle.dt_world.proofs.Silences.{withdrawing_silent, withdrawing_views, closing_silent, closing_views}
-use Rattle.dt_proto.specs.Lines.{form_of}
+use Rattle.dt_proto.specs.Lines.{line_form}
 use Rattle.dt_world.proofs.progress.Progress.call.Goals as goal
 
 pub returns-in_ok-publish : goal.returns-in_ok-publish
@@ -47,7 +47,7 @@ returns-then-has_closed c = λ wanted now few before.
     omega (
       arith,
       few,
-      after-asking now.world seat contents.registry seat (form_of c.args.line.now),
+      after-asking now.world seat contents.registry seat (line_form c.args.line.now),
       after-withdrawing world seat contents.registry seat,
     ) in
     let closed = c.close.ensures contents.registry withdrawn fewer (c.withdraw.ensures world asked.at) in

@@ -3,7 +3,7 @@ use Rattle.std.proofs.Common.{◌≡◌, ◌<◌, ◌++◌, ◌∷◌, [], lengt
 use Rattle.std.proofs.lemmas.List.{append-nil}
 use Rattle.dt_chain.specs.declared.seat.TheConstants.{SEATS}
 use Rattle.dt_world.specs.Progress.{IsAfter, with_world}
-use Rattle.dt_world.specs.Replay.{after_line, seats_due}
+use Rattle.dt_world.specs.Replay.{after_step_line, seats_due}
 use Rattle.dt_world.specs.StepLine.{look_line}
 use Rattle.dt_world.proofs.Offers.{named_by, named_first, named_none, named_due, offered_to, one_more_offer, fired_all}
 use Rattle.dt_world.proofs.progress.Progress.fire.Goals as goal
@@ -52,7 +52,7 @@ returns c = λ wanted now there before.
     let answer = c.in-Some.ensures.answer wanted now there before in
     let so = c.loop-first.invariant wanted now there before in
     let none = named_none c.loop-first.left c.in_default-first.ensures in
-    let all : so.0 ≡ seats_due (after_line contents now (look_line cpu)).world cpu =
+    let all : so.0 ≡ seats_due (after_step_line contents now (look_line cpu)).world cpu =
     sym (append-nil so.0) ∙ ap (λ rest. so.0 ++ rest) (sym none) ∙ so.1 in
     subst (λ at. IsAfter wanted contents at c.loop-first.self) (sym (fired_all contents now cpu answer.0 answer.1))
     (subst (λ seats. IsAfter wanted contents (offered_to contents now cpu seats) c.loop-first.self) all so.2)

@@ -1,7 +1,7 @@
 -- What holds at each turn of a loop of `fire`.
 use Rattle.std.proofs.Common.{◌≡◌, ◌<◌, ◌++◌, ℕ, List, length}
 use Rattle.dt_world.specs.Progress.{IsAfter}
-use Rattle.dt_world.specs.Replay.{Replayed, after_line, seats_due}
+use Rattle.dt_world.specs.Replay.{Replayed, after_step_line, seats_due}
 use Rattle.dt_world.specs.StepLine.{look_line}
 use Rattle.dt_world.specs.declared.output.Wanted.{Wanted}
 use Rattle.dt_world.proofs.Offers.{named_by, offered_to}
@@ -12,7 +12,7 @@ abbrev pub invariant-loop-first : goal.invariant-loop-first
 invariant-loop-first l = (wanted : Wanted) (now : Replayed) → l.cpu < l.machine.registry.cpus
     → IsAfter wanted l.machine now l.fn.self
     → (seats : List ℕ)
-    × (seats ++ named_by l.left ≡ seats_due (after_line l.machine now (look_line l.cpu)).world l.cpu)
+    × (seats ++ named_by l.left ≡ seats_due (after_step_line l.machine now (look_line l.cpu)).world l.cpu)
     × IsAfter wanted l.machine (offered_to l.machine now l.cpu seats) l.self
 
 abbrev pub decreases-loop-first : goal.decreases-loop-first

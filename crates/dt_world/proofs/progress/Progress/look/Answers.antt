@@ -2,7 +2,7 @@
 use Rattle.std.proofs.Common.{◌≡◌, ◌+◌, ◌<◌, Some, set, sym, ap, ◌∙◌, subst, arith, rules}
 use Rattle.dt_machine.specs.Registry.{firing_at}
 use Rattle.dt_world.specs.Progress.{IsAfter}
-use Rattle.dt_world.specs.Stands.{IsAt}
+use Rattle.dt_world.specs.Stands.{EngineIsAt}
 use Rattle.dt_world.proofs.Looks.{not_done, done, next_not_done, next_done, look_none, look_some, counted, own_firing}
 use Rattle.dt_world.proofs.Looks.{low_place}
 use Rattle.dt_world.proofs.Trails.{told-looked}
@@ -24,7 +24,7 @@ returns-in_err-mask-clause-after c = λ wanted now there before.
     (record { engine = c.look.new.self; taken = c.args.self.now.taken; output = c.args.self.now.output }))
     (sym (look_none contents now cpu (next_not_done contents now cpu left.0)))
     (record {
-      at = subst (λ world. IsAt contents.registry world c.look.new.self) left.1
+      at = subst (λ world. EngineIsAt contents.registry world c.look.new.self) left.1
           (c.in_err-mask.ensures.at now.world before.at);
       taken = before.taken;
       same = before.same;

@@ -2,7 +2,7 @@
 use Rattle.std.proofs.Common.{sym, subst, refl}
 use Rattle.std.proofs.lemmas.Result.{on_ok_weaker}
 use Rattle.dt_world.specs.Progress.{IsAfter}
-use Rattle.dt_world.specs.Replay.{after_line}
+use Rattle.dt_world.specs.Replay.{after_step_line}
 use Rattle.dt_world.specs.StepLine.{form_of_step_line}
 use Rattle.dt_world.specs.Steps.{publishing, withdrawing, closing}
 use Rattle.dt_world.proofs.After.{after-silent}
@@ -14,7 +14,7 @@ pub returns-in-Close : goal.returns-in-Close
 returns-in-Close c = λ wanted now few known before.
     let contents = c.args.machine.now in
     subst
-    (λ step. IsAfter wanted contents (after_line contents now (form_of_step_line step))
+    (λ step. IsAfter wanted contents (after_step_line contents now (form_of_step_line step))
     (record { engine = c.close.new.self; taken = c.args.self.now.taken; output = c.args.self.now.output }))
     (sym c.in-Close.is)
     (after-silent wanted contents now (closing now.world c.in-Close.seat) c.args.self.now
@@ -27,7 +27,7 @@ pub returns-in-Withdraw : goal.returns-in-Withdraw
 returns-in-Withdraw c = λ wanted now few known before.
     let contents = c.args.machine.now in
     subst
-    (λ step. IsAfter wanted contents (after_line contents now (form_of_step_line step))
+    (λ step. IsAfter wanted contents (after_step_line contents now (form_of_step_line step))
     (record { engine = c.withdraw.new.self; taken = c.args.self.now.taken; output = c.args.self.now.output }))
     (sym c.in-Withdraw.is)
     (after-silent wanted contents now (withdrawing contents.registry now.world c.in-Withdraw.seat) c.args.self.now
@@ -41,7 +41,7 @@ returns-in-Publish c =
     (λ does wanted now few known before.
     let contents = c.args.machine.now in
     subst
-    (λ step. IsAfter wanted contents (after_line contents now (form_of_step_line step))
+    (λ step. IsAfter wanted contents (after_step_line contents now (form_of_step_line step))
     (record { engine = c.publish.new.self; taken = c.args.self.now.taken; output = c.args.self.now.output }))
     (sym c.in-Publish.is)
     (after-silent wanted contents now (publishing contents.registry now.world c.in-Publish.seat) c.args.self.now
