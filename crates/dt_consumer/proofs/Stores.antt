@@ -1,6 +1,6 @@
--- What comes to the stores of all processors.
-use Rattle.std.proofs.Common.{◌≡◌, ◌≢◌, ℕ, zero, suc, ◌+◌, ◌<◌, ◌≤◌, ◌==◌, Bool, true, false, cond, List, [], ◌∷◌}
-use Rattle.std.proofs.Common.{◌++◌, length, get_or, Some, map, refl, sym, ap, ◌∙◌, subst, ⊎_elim, arith}
+-- What comes to the stores of all processors, and what a firing makes of both.
+use Rattle.std.proofs.Common.{◌≡◌, ◌≢◌, ℕ, ℤ, zero, suc, ◌+◌, ◌<◌, ◌≤◌, ◌==◌, Bool, true, false, cond, List, [], ◌∷◌}
+use Rattle.std.proofs.Common.{◌++◌, length, get_or, Option, Some, map, refl, sym, ap, ◌∙◌, subst, ⊎_elim, arith}
 use Rattle.std.specs.Bool.{nat_lt}
 use Rattle.std.specs.List.{slice_get, slice_set, All, AllZip, range_with_len}
 use Rattle.std.specs.Option.{IfSome, IsSomeAnd, option_map, option_to_list}
@@ -11,6 +11,8 @@ use Rattle.dt_aggstore.specs.History as store
 use Rattle.dt_aggstore.specs.IsAt.{IsAt}
 use Rattle.dt_aggstore.specs.declared.key.Aggregation.{Aggregation}
 use Rattle.dt_aggstore.specs.declared.store.AggStore.{AggStore}
+use Rattle.dt_buffer.specs.History.{BufferPast, of_end}
+use Rattle.dt_buffer.specs.Shows.{EndLast}
 use Rattle.dt_cred.specs.declared.account.Account.{Account}
 use Rattle.dt_ecb.specs.Ecbs.{EcbForm}
 use Rattle.dt_ecb.specs.Shapes.{ShapeForm}
@@ -18,20 +20,24 @@ use Rattle.dt_lang.specs.Program.{form_of_clause}
 use Rattle.dt_lang.specs.declared.program.Clause.{Clause}
 use Rattle.dt_machine.specs.Registry.{Registry}
 use Rattle.dt_consumer.specs.Aggregations.{aggregation_of, contributions}
-use Rattle.dt_consumer.specs.Keeps.{taking_by, where_taken}
+use Rattle.dt_consumer.specs.Buffers.{errors_in, past_in}
+use Rattle.dt_consumer.specs.Keeps.{AreTaken, errors_and, pasts_and, taking_by, where_taken}
 use Rattle.dt_consumer.specs.Life.{SetUp, ecbs_in, shapes_in, since_then, with_event}
 use Rattle.dt_consumer.specs.Stores.{given_in, given_on}
 use Rattle.dt_consumer.specs.Takings.{TracingEvent, began, seen, read, truncated, ended, is_end, Taking, MomentForm}
-use Rattle.dt_consumer.specs.Takings.{moment_at, own_moment, taken_at, taken_on, through_exit, closed}
+use Rattle.dt_consumer.specs.Takings.{first_exit, moment_at, own_moment, taken_at, taken_by, taken_on, through_exit}
+use Rattle.dt_consumer.specs.Takings.{closed}
 use Rattle.dt_consumer.specs.Uses.{AreGiven, AreUses, given_and, given_then}
 use Rattle.dt_consumer.specs.declared.limits.TheConstants.{END}
 use Rattle.dt_consumer.specs.declared.phase.End.{End}
+use Rattle.dt_consumer.specs.declared.processors.Processors.{Processors}
 use Rattle.dt_consumer.specs.declared.rows.Row.{Row}
 use Rattle.dt_consumer.specs.declared.uses.Uses.{Uses}
 use Rattle.dt_consumer.proofs.Giving.{given_none, same_at}
 use Rattle.dt_consumer.proofs.Lists.{found_at, nothing_past, replaced}
 use Rattle.dt_consumer.proofs.Taken.{if_some_map}
-use Rattle.dt_consumer.proofs.Tracings.{IsFiring, RowOf, on_is, own_found, row_placed, row_taken}
+use Rattle.dt_consumer.proofs.Tracings.{IsFiring, RowOf, all_last, exit_is, grown as taken_grown, on_is, own_found}
+use Rattle.dt_consumer.proofs.Tracings.{row_placed, row_taken, still_open}
 
 module _ (shapes : List ShapeForm) (pasts : ℕ → store.Past) (stores : List AggStore) (there : ℕ) (new : List Taking)
     (at : AreGiven pasts stores) where
@@ -98,24 +104,50 @@ own_uses : (s : SetUp) (clauses : List Clause) (uses : List Uses) → map form_o
     → AreUses (shapes_in s) s.clauses uses → AreUses (shapes_in s) (map form_of_clause clauses) uses
 own_uses s clauses uses own are = subst (λ cs. AreUses (shapes_in s) cs uses) (sym own) are
 
--- a firing was taken
-pub gave_at : (account : Account) (registry : Registry) (s : SetUp) (event : TracingEvent) (m : MomentForm) (row : Row)
-    (clauses : List Clause) (uses : List Uses) (old new : List AggStore)
+-- what a firing made of the processors and their stores, and the status that it exited with
+pub record Fired (account : Account) (registry : Registry) (s : SetUp) (event : TracingEvent) (new : Processors)
+    (exit : Option ℤ) : Type 0 where
+  pub taken : AreTaken (past_in account registry (with_event s event))
+      (errors_in account registry (with_event s event)) new.all.items
+  pub given : AreGiven (given_in account registry (with_event s event)) new.stores.items
+  pub exited : first_exit (taken_by account registry (ecbs_in account registry s) event) ≡ exit
+  pub still : (cpu : ℕ) → of_end (past_in account registry (with_event s event) cpu).events ≡ []
+
+pub fired_at : (account : Account) (registry : Registry) (s : SetUp) (event : TracingEvent) (m : MomentForm)
+    (row : Row) (clauses : List Clause) (uses : List Uses) (old new : Processors) (exit : Option ℤ)
     → IsFiring event → moment_at account registry event ≡ Some m → is_end event ≡ false
     → map form_of_clause clauses ≡ s.clauses → AreUses (shapes_in s) s.clauses uses
     → RowOf account registry s m.firing.probe row
-    → ((shapes : List ShapeForm) → AreUses shapes (map form_of_clause clauses) uses
-    → All (λ ecb. ecb.clause < length clauses) row.ecbs.items → (pasts : ℕ → store.Past) → AreGiven pasts old
+    → ((cpu : ℕ) → of_end (past_in account registry s cpu).events ≡ [])
+    → AreTaken (past_in account registry s) (errors_in account registry s) old.all.items
+    → AreGiven (given_in account registry s) old.stores.items
+    → (All (λ ecb. ecb.clause < length clauses) row.ecbs.items → (pasts : ℕ → BufferPast) (errors : ℕ → ℕ)
+    → ((cpu : ℕ) → EndLast (pasts cpu) false) → AreTaken pasts errors old.all.items
     → (let taken = through_exit (map (taking_by false m (map form_of_clause clauses)) row.ecbs.items) in
-    AreGiven (given_and shapes pasts (where_taken m.firing.cpu taken)) new))
-    → AreGiven (given_in account registry s) old
-    → AreGiven (given_in account registry (with_event s event)) new
-gave_at account registry s event m row clauses uses old new fires at ordinary own are r gave was =
+    AreTaken (pasts_and pasts (where_taken m.firing.cpu taken))
+    (errors_and errors (where_taken m.firing.cpu taken)) new.all.items))
+    → (All (λ ecb. ecb.clause < length clauses) row.ecbs.items
+    → exit ≡ first_exit (map (taking_by false m (map form_of_clause clauses)) row.ecbs.items))
+    → ((shapes : List ShapeForm) → AreUses shapes (map form_of_clause clauses) uses
+    → All (λ ecb. ecb.clause < length clauses) row.ecbs.items → (pasts : ℕ → store.Past)
+    → AreGiven pasts old.stores.items
+    → (let taken = through_exit (map (taking_by false m (map form_of_clause clauses)) row.ecbs.items) in
+    AreGiven (given_and shapes pasts (where_taken m.firing.cpu taken)) new.stores.items))
+    → Fired account registry s event new exit
+fired_at account registry s event m row clauses uses old new exit fires at ordinary own are r none was had took left
+    gave =
+    let placed = row_placed account registry s m.firing.probe row r clauses own in
     let same = row_taken account registry s m.firing.probe row r clauses own false m in
-    grown account registry s event m fires at new _
-    (ap through_exit same ∙ ap (λ b. taken_at b (ecbs_in account registry s) m) (sym ordinary))
-    (gave (shapes_in s) (own_uses s clauses uses own are)
-    (row_placed account registry s m.firing.probe row r clauses own) (given_in account registry s) was)
+    let through = ap through_exit same ∙ ap (λ b. taken_at b (ecbs_in account registry s) m) (sym ordinary) in
+    record {
+      taken = taken_grown account registry s event m fires at new.all.items _ through
+          (took placed (past_in account registry s) (errors_in account registry s) (all_last account registry s none)
+          was);
+      given = grown account registry s event m fires at new.stores.items _ through
+          (gave (shapes_in s) (own_uses s clauses uses own are) placed (given_in account registry s) had);
+      exited = exit_is account registry s row clauses event m exit fires at ordinary same (left placed);
+      still = still_open account registry s event m fires at ordinary none;
+    }
 
 -- END fired
 pub end_gave : (account : Account) (registry : Registry) (s : SetUp) (end : End) (row : Row) (uses : List Uses)
@@ -136,21 +168,15 @@ end_gave account registry s end row uses clauses old new own are r gave was =
     (row_taken account registry s END row r clauses own true _)
     found.holds
 
--- a close gives nothing
-pub close_given : (account : Account) (registry : Registry) (s : SetUp) (stores : List AggStore)
-    → AreGiven (given_in account registry s) stores → AreGiven (given_in account registry (with_event s closed)) stores
-close_given account registry s stores h = λ cpu.
-    if_some_map _ _ (slice_get stores cpu)
-    (λ st. given_none (given_in account registry s cpu) st)
-    (h cpu)
-
--- a reading gives nothing
-pub read_given : (account : Account) (registry : Registry) (s : SetUp) (n : ℕ) (stores : List AggStore)
+-- an event that gives nothing
+pub gave_none : (account : Account) (registry : Registry) (s : SetUp) (event : TracingEvent) (stores : List AggStore)
+    → ((cpu : ℕ) → given_on account registry (shapes_in s) (ecbs_in account registry s) cpu event ≡ [])
     → AreGiven (given_in account registry s) stores
-    → AreGiven (given_in account registry (with_event s (read n))) stores
-read_given account registry s n stores h = λ cpu.
+    → AreGiven (given_in account registry (with_event s event)) stores
+gave_none account registry s event stores none h = λ cpu.
     if_some_map _ _ (slice_get stores cpu)
-    (λ st. given_none (given_in account registry s cpu) st)
+    (λ st had. same_at _ _ st (ap (given_then (given_in account registry s cpu)) (sym (none cpu)))
+    (given_none (given_in account registry s cpu) st had))
     (h cpu)
 
 -- an aggregation was truncated

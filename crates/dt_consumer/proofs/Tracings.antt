@@ -5,7 +5,7 @@ use Rattle.std.specs.List.{slice_get, All, AllByRecursion}
 use Rattle.std.proofs.lemmas.List.Elements.{All-from_recursion, recursion_from_All}
 use Rattle.std.specs.Option.{IfSome, IsSomeAnd, is_some, option_and_then, option_map, option_map_or, option_or}
 use Rattle.std.proofs.lemmas.List.{length-map}
-use Rattle.dt_buffer.specs.History.{BufferPast, new_buffer_past, of_end}
+use Rattle.dt_buffer.specs.History.{new_buffer_past, of_end}
 use Rattle.dt_buffer.specs.Shows.{EndLast}
 use Rattle.dt_cred.specs.declared.account.Account.{Account}
 use Rattle.dt_cred.specs.declared.probe.Probe.{Probe}
@@ -233,42 +233,6 @@ exit_is account registry s row clauses event m exit fires at ordinary same e =
     ∙ ap (λ b. first_exit (taken_at b es m)) ordinary
     ∙ first_through (map (taking_of false m) (of_probe m.firing.probe es))
     ∙ sym (e ∙ ap first_exit same)
-
--- a firing was taken
-pub record TookAt (account : Account) (registry : Registry) (s : SetUp) (event : TracingEvent) (all : List Processor)
-    (exit : Option ℤ) : Type 0 where
-  pub taken : AreTaken (past_in account registry (with_event s event))
-      (errors_in account registry (with_event s event))
-      all
-  pub exited : first_exit (taken_by account registry (ecbs_in account registry s) event) ≡ exit
-  pub still : (cpu : ℕ) → of_end (past_in account registry (with_event s event) cpu).events ≡ []
-
-pub took_at : (account : Account) (registry : Registry) (s : SetUp) (event : TracingEvent) (m : MomentForm) (row : Row)
-    (clauses : List Clause) (old new : List Processor) (exit : Option ℤ)
-    → IsFiring event → moment_at account registry event ≡ Some m → is_end event ≡ false
-    → map form_of_clause clauses ≡ s.clauses → RowOf account registry s m.firing.probe row
-    → ((cpu : ℕ) → of_end (past_in account registry s cpu).events ≡ [])
-    → (All (λ ecb. ecb.clause < length clauses) row.ecbs.items → (pasts : ℕ → BufferPast) (errors : ℕ → ℕ)
-    → ((cpu : ℕ) → EndLast (pasts cpu) false) → AreTaken pasts errors old
-    → (let taken = through_exit (map (taking_by false m (map form_of_clause clauses)) row.ecbs.items) in
-    AreTaken (pasts_and pasts (where_taken m.firing.cpu taken))
-    (errors_and errors (where_taken m.firing.cpu taken)) new))
-    → (All (λ ecb. ecb.clause < length clauses) row.ecbs.items → exit
-    ≡ first_exit (map (taking_by false m (map form_of_clause clauses)) row.ecbs.items))
-    → AreTaken (past_in account registry s) (errors_in account registry s) old
-    → TookAt account registry s event new exit
-took_at account registry s event m row clauses old new exit fires at ordinary own r none took left was =
-    let placed = row_placed account registry s m.firing.probe row r clauses own in
-    let same = row_taken account registry s m.firing.probe row r clauses own false m in
-    let es = ecbs_in account registry s in
-    record {
-      taken = grown account registry s event m fires at new _
-          (ap through_exit same ∙ ap (λ b. taken_at b es m) (sym ordinary))
-          (took placed (past_in account registry s) (errors_in account registry s) (all_last account registry s none)
-          was);
-      exited = exit_is account registry s row clauses event m exit fires at ordinary same (left placed);
-      still = still_open account registry s event m fires at ordinary none;
-    }
 
 -- the same set-up, written in another way
 pub becomes : (account : Account) (registry : Registry) (s s' : SetUp) (t : Tracing) → s' ≡ s

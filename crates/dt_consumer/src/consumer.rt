@@ -98,6 +98,7 @@ impl Consumer {
         if !tracing.wants(firing.probe) {
             return false;
         }
+        // a foreign firing, or one that the account isn't shown, changes nothing for its consumer
         let Some(moment) = shown(&self.account, machine, firing) else {
             return false;
         };

@@ -164,6 +164,7 @@ impl Consumer {
         machine: &Machine,
         program: Program,
     ) -> Result<Draft, AllocError>
+        // for each life after which it may ask and is inactive: the draft of an `enable` of this program
         ensures { IfOk result (λ draft. (account : Account) (life : List Item)
             → MayAsk account machine.now.registry self.now life
             → phase account machine.now.registry life ≡ Inactive
@@ -232,6 +233,7 @@ impl Consumer {
         if self.is_late() {
             return Ok(Draft::refused(Refusal::Busy));
         }
+        // under fill END's records always fit: a `go` without room for them on processor 0 is refused
         let Some(reserve) = self.reserve() else {
             return Ok(Draft::refused(Refusal::Limit));
         };
@@ -287,6 +289,7 @@ impl Consumer {
             return Ok(Draft::refused(Refusal::NoCpu));
         }
         let cpu = cpu as u32;
+        // before `go` there is nothing to read, and a ring isn't read while it is written
         if !self.is_readable() {
             return Ok(Draft::refused(Refusal::Busy));
         }
@@ -316,6 +319,7 @@ impl Consumer {
             → StandsFor account machine.now.registry self.now life
             → Accepted account machine.now.registry life (snap cpu) (answer_of reply)) }
     {
+        // closed before its `go`, the consumer has no buffer, and a `snap` tells of an empty one
         let Some(processor) = self.processor(machine, cpu) else {
             return Ok(Reply::Snapped {
                 cpu,
@@ -350,6 +354,7 @@ impl Consumer {
             → MayAsk account machine.now.registry self.now life
             → IsDraftOf account machine.now.registry life (Ok (agg name.now)) draft) }
     {
+        // only a name that an accepted program uses is an aggregation's, whatever the phase
         let Some(known) = Known::of(&self.programs.shapes, name) else {
             return Ok(Draft::refused(Refusal::NoAgg));
         };
@@ -387,6 +392,7 @@ impl Consumer {
         ensures { (account : Account) (life : List Item) → MayAsk account _machine.now.registry self.now life
             → IsDraftOf account _machine.now.registry life (Ok (trunc name.now)) result }
     {
+        // as for an `agg`, the name must be one that an accepted program uses, in whatever phase
         let Some(known) = Known::of(&self.programs.shapes, name) else {
             return Draft::refused(Refusal::NoAgg);
         };
@@ -468,6 +474,7 @@ impl Consumer {
             → IsDraftOf account machine.now.registry life (Ok (list (description_of text.now))) draft) }
     {
         one_description();
+        // the text is one description and nothing else, so its fault is told at its first byte
         let Some(description) = Description::parse(text) else {
             return Ok(Draft::refused(Refusal::Program {
                 at: 0,

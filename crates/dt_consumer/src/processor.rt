@@ -66,6 +66,7 @@ impl Processor {
     ) -> Option<i64>
         requires counts { AtMost (DROPS_LIMIT - ECBS_MAX) self.old }
         requires gives { GivenAtMost (ADDED_LIMIT - GIVES_MAX) store.old }
+        // up to the first exit: records are attempted in the buffer, divisions by zero counted as errors
         ensures taken { All (λ ecb. ecb.clause < length clauses.now) row.now.ecbs.items
             → (past : BufferPast) (errors : ℕ) → EndLast past false → HasTaken past errors self.old
             → (let new = through_exit
@@ -74,6 +75,7 @@ impl Processor {
         ensures exit { All (λ ecb. ecb.clause < length clauses.now) row.now.ecbs.items → result ≡ first_exit
             (map (taking_by false (form_of_moment moment.now) (map form_of_clause clauses.now)) row.now.ecbs.items) }
         ensures counts { AtMostMore ECBS_MAX self.old self.new }
+        // up to the first exit: the store is given what these takings give to aggregations, in order
         ensures given { (shapes : List ShapeForm) → AreUses shapes (map form_of_clause clauses.now) uses.now
             → All (λ ecb. ecb.clause < length clauses.now) row.now.ecbs.items
             → (past : stores.Past) → IsAt past store.old
@@ -84,6 +86,7 @@ impl Processor {
     {
         for ecb in &row.ecbs {
             let exit = self.take_one(store, clauses, uses, *ecb, moment, false);
+            // an exit ends tracing at this firing: the later ECBs of the probe aren't taken
             if exit.is_some() {
                 return exit;
             }
@@ -102,12 +105,14 @@ impl Processor {
     )
         requires counts { AtMost (DROPS_LIMIT - ECBS_MAX) self.old }
         requires gives { GivenAtMost (ADDED_LIMIT - GIVES_MAX) store.old }
+        // of all of END's ECBs: records are attempted in the buffer, divisions by zero counted as errors
         ensures taken { All (λ ecb. ecb.clause < length clauses.now) row.now.ecbs.items
             → (past : BufferPast) (errors : ℕ) → HasTaken past errors self.old
             → (let new = map (taking_by true (form_of_moment moment.now) (map form_of_clause clauses.now))
             row.now.ecbs.items in
             HasTaken (followed_by past (attempts_of new)) (errors + faults new) self.new) }
         ensures counts { AtMostMore ECBS_MAX self.old self.new }
+        // of all of END's ECBs: the store is given what these takings give to aggregations, in order
         ensures given { (shapes : List ShapeForm) → AreUses shapes (map form_of_clause clauses.now) uses.now
             → All (λ ecb. ecb.clause < length clauses.now) row.now.ecbs.items
             → (past : stores.Past) → IsAt past store.old
@@ -140,6 +145,7 @@ impl Processor {
         ensures exit { ecb.clause < length clauses.now
             → result ≡ exit_of (taking_by in_end (form_of_moment moment.now) (map form_of_clause clauses.now) ecb) }
         ensures counts { AtMostMore 1 self.old self.new }
+        // the store is given what this one taking gives to aggregations, in order
         ensures given { ecb.clause < length clauses.now
             → (shapes : List ShapeForm) → AreUses shapes (map form_of_clause clauses.now) uses.now
             → (past : stores.Past) → IsAt past store.old

@@ -114,6 +114,7 @@ impl Processors {
         ensures len { vec_len self.new.all ≡ vec_len self.old.all }
         ensures counts { (n : ℕ) → All (AtMost n) self.old.all.items
             → All (AtMost (n + ECBS_MAX)) self.new.all.items }
+        // the firing's processor takes these ECBs up to the first exit, and no other takes anything
         ensures taken { All (λ ecb. ecb.clause < length clauses.now) row.now.ecbs.items
             → (pasts : ℕ → BufferPast) (errors : ℕ → ℕ) → ((cpu : ℕ) → EndLast (pasts cpu) false)
             → AreTaken pasts errors self.old.all.items
@@ -125,6 +126,7 @@ impl Processors {
             → moment.now.firing.now.cpu < vec_len self.old.all
             → (let m = form_of_moment moment.now in
             result ≡ first_exit (map (taking_by false m (map form_of_clause clauses.now)) row.now.ecbs.items)) }
+        // the store of the firing's processor is given what they give, and no other is given anything
         ensures given { (shapes : List ShapeForm) → AreUses shapes (map form_of_clause clauses.now) uses.now
             → All (λ ecb. ecb.clause < length clauses.now) row.now.ecbs.items
             → (pasts : ℕ → stores.Past) → AreGiven pasts self.old.stores.items
@@ -156,12 +158,14 @@ impl Processors {
         ensures len { vec_len self.new.all ≡ vec_len self.old.all }
         ensures counts { (n : ℕ) → All (AtMost n) self.old.all.items
             → All (AtMost (n + ECBS_MAX)) self.new.all.items }
+        // processor 0 takes all of END's ECBs, and no other takes anything
         ensures taken { All (λ ecb. ecb.clause < length clauses.now) row.now.ecbs.items
             → (pasts : ℕ → BufferPast) (errors : ℕ → ℕ) → AreTaken pasts errors self.old.all.items
             → IsSomeAnd (own_moment account.now machine.now.registry END)
             (λ m. let new = map (taking_by true m (map form_of_clause clauses.now)) row.now.ecbs.items in
             AreTaken (pasts_and pasts (where_taken 0 new)) (errors_and errors (where_taken 0 new))
             self.new.all.items) }
+        // processor 0's store is given what they give, and no other is given anything
         ensures given { (shapes : List ShapeForm) → AreUses shapes (map form_of_clause clauses.now) uses.now
             → All (λ ecb. ecb.clause < length clauses.now) row.now.ecbs.items
             → (pasts : ℕ → stores.Past) → AreGiven pasts self.old.stores.items
@@ -182,6 +186,7 @@ impl Processors {
             self.all[0].take_end(&mut self.stores[0], clauses, uses, row, &moment);
         }
     }
+
     /// Forgets what was given to an aggregation, on every processor. It takes no memory.
     pub(crate) fn trunc(&mut self, aggregation: Aggregation)
         ensures all { self.new.all ≡ self.old.all }

@@ -80,6 +80,7 @@ impl Programs {
     /// What is left of so many bytes after one record of each of END's ECBs, or `None` where they don't suffice.
     pub(crate) fn left_by_end(&self, size: usize) -> Option<usize>
         ensures within { IfSome result (λ left. left ≤ size) }
+        // none where one record of each of END's ECBs doesn't fit the size, else what these leave of it
         ensures left { (clauses : List ClauseForm) → map form_of_clause self.now.clauses.items ≡ clauses
             → All (λ ecb. ecb.clause < length clauses) self.now.ecbs.items
             → (let sizes = sum (map (λ ecb. layout_size (layout_of ecb.clause))

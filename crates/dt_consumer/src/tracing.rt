@@ -52,10 +52,10 @@ impl Tracing {
     ghost use Rattle.dt_consumer.specs.Buffers.{reserve_on};
     ghost use Rattle.dt_consumer.specs.Life.{SetUp, ecbs_in, shapes_in, phase_of, with_event, since_then, happens, is_stopped};
     ghost use Rattle.dt_consumer.specs.declared.phase.Phase.TheVariants.{Active};
-    ghost use Rattle.dt_consumer.specs.Takings.{began, seen as sees, read, truncated, ended as ends, closed, moment_of};
+    ghost use Rattle.dt_consumer.specs.Takings.{began, seen as sees, read, truncated, ended as ends, closed, first_exit, moment_of, taken_by};
 
-    /// Begins to trace: makes all the room that tracing needs, and fires BEGIN. The reserve is that of the first
-    /// processor's buffer.
+    /// Begins to trace: makes all the room that tracing needs, fires BEGIN, and ends where one of its clauses exits. The
+    /// reserve is that of the first processor's buffer.
     pub(crate) fn begin(
         alloc: Global,
         account: &Account,
@@ -65,6 +65,7 @@ impl Tracing {
         reserve: usize,
     ) -> Result<Self, AllocError>
         requires { reserve ≤ options.bufsize }
+        // for each set-up with these options, clauses and ECBs: BEGIN fired in it, and END where BEGIN exits
         ensures { IfOk result (λ tracing. (s : SetUp) → form_of_options options ≡ s.options
             → map form_of_clause programs.now.clauses.items ≡ s.clauses
             → AreEcbs s.clauses (ecbs_in account.now machine.now.registry s) programs.now.ecbs.items
@@ -72,6 +73,39 @@ impl Tracing {
             → reserve ≡ reserve_on account.now machine.now.registry s 0
             → IsTracing account.now machine.now.registry
             (happens account.now machine.now.registry (since_then s []) began) tracing) }
+    {
+        let (mut tracing, exit) = Tracing::begun(
+            alloc, account, machine, options, programs, reserve,
+        )?;
+        // BEGIN is no seen firing, so tracing goes on unless one of BEGIN's clauses exits
+        let Some(end) = end_after(exit, 0, options.histsize) else {
+            return Ok(tracing);
+        };
+        tracing.finish(end, account, machine, programs.clauses());
+        Ok(tracing)
+    }
+
+    /// Tracing once BEGIN has fired, still running, and the status of the first of BEGIN's clauses that exited, if one
+    /// did. The error is that memory ran out.
+    fn begun(
+        alloc: Global,
+        account: &Account,
+        machine: &Machine,
+        options: Options,
+        programs: &Programs,
+        reserve: usize,
+    ) -> Result<(Self, Option<i64>), AllocError>
+        requires { reserve ≤ options.bufsize }
+        ensures running { IfOk result (λ begun. begun.0.course ≡ Course.Running) }
+        // for each set-up with these options, clauses and ECBs: BEGIN fired in it, and the status it exited with
+        ensures fired { IfOk result (λ begun. (s : SetUp) → form_of_options options ≡ s.options
+            → map form_of_clause programs.now.clauses.items ≡ s.clauses
+            → AreEcbs s.clauses (ecbs_in account.now machine.now.registry s) programs.now.ecbs.items
+            → shapes_of programs.now.shapes ≡ shapes_in s
+            → reserve ≡ reserve_on account.now machine.now.registry s 0
+            → IsTracing account.now machine.now.registry (with_event (since_then s []) began) begun.0
+            × (first_exit (taken_by account.now machine.now.registry
+            (ecbs_in account.now machine.now.registry s) began) ≡ begun.1)) }
     {
         let probes = machine.probes().len() as u32;
         let rows = Row::for_each(alloc, programs.ecbs(), probes + 1)?;
@@ -83,7 +117,7 @@ impl Tracing {
             firing: &own_firing(BEGIN),
         };
         let exit = processors.take(programs.clauses(), &uses, &rows[BEGIN as usize], &moment);
-        let mut tracing = Tracing {
+        let tracing = Tracing {
             rows,
             uses,
             processors,
@@ -91,11 +125,7 @@ impl Tracing {
             seen: 0,
             course: Course::Running,
         };
-        let Some(end) = end_after(exit, 0, options.histsize) else {
-            return Ok(tracing);
-        };
-        tracing.finish(end, account, machine, programs.clauses());
-        Ok(tracing)
+        Ok((tracing, exit))
     }
 
     /// How far tracing has come.
@@ -141,6 +171,7 @@ impl Tracing {
     )
         requires going { self.old.course ≡ Course.Running }
         requires known { moment.now.firing.now.probe < vec_len self.old.rows }
+        // for each set-up that it traces: the firing is seen in it, and END fired where tracing ends by it
         ensures { (s : SetUp) (firing : Firing) → IsTracing account.now machine.now.registry s self.old
             → map form_of_clause clauses.now ≡ s.clauses
             → moment.now.firing.now.cpu < machine.now.registry.cpus

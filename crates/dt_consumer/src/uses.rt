@@ -99,6 +99,7 @@ impl Use {
             → IsAt (given_then past (contribution_at (form_of_use self.now) (drop place values.now))) store.new }
         ensures counts { added_of store.new ≤ added_of store.old + 1 }
     {
+        // each aggregation that an accepted program names is known, so this end is never met
         let Some(aggregation) = self.aggregation else {
             return;
         };

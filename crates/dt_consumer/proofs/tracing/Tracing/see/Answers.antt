@@ -10,9 +10,8 @@ use Rattle.dt_consumer.specs.Counts.{AtMost, GivenAtMost, GIVES_MAX, must_be_lef
 use Rattle.dt_consumer.specs.Uses.{AreUses}
 use Rattle.dt_consumer.proofs.Counted.{below_limit, counted_on, given_below, given_more, given_on, left_on, none_more}
 use Rattle.dt_consumer.proofs.Counted.{no_more, one_left, one_more}
-use Rattle.dt_consumer.proofs.Stores.{end_gave, gave_at}
+use Rattle.dt_consumer.proofs.Stores.{end_gave, fired_at}
 use Rattle.dt_consumer.proofs.Tracings.{becomes, end_fired, end_is, happens_last, happens_on, row_at, row_placed}
-use Rattle.dt_consumer.proofs.Tracings.{took_at}
 use Rattle.dt_consumer.proofs.tracing.Tracing.see.Goals as goal
 
 counted_is : (a b c d : ℕ) → a ≡ b → c ≡ d → (b + 1 == d) ≡ (a + 1 == c)
@@ -24,23 +23,18 @@ returns-in-Some c = λ s firing t own on at.
     let registry = c.args.machine.now.registry in
     let m = form_of_moment c.args.moment.now in
     let row = c.index-row.result.now in
-    let took = took_at account registry s (seen firing) m row c.args.clauses.now
-    c.args.self.now.processors.all.items c.take-exit.new.self.all.items c.take-exit.result tt at refl own
-    (row_at account registry s c.args.self.now.rows.items m.firing.probe row t.rows (omega (arith, c.requires.known))
-    c.index-row.ensures)
-    (t.end_last c.requires.going) c.take-exit.ensures.taken
-    (λ placed. c.take-exit.ensures.exit placed (omega (arith, t.all_processors, on))) t.processors in
-    let gave = gave_at account registry s (seen firing) m row c.args.clauses.now c.deref.result.now
-    c.args.self.now.processors.stores.items c.take-exit.new.self.stores.items tt at refl own
+    let fired = fired_at account registry s (seen firing) m row c.args.clauses.now c.deref.result.now
+    c.args.self.now.processors c.take-exit.new.self c.take-exit.result tt at refl own
     (subst (AreUses (shapes_in s) s.clauses) (sym c.deref.ensures.value) t.uses)
     (row_at account registry s c.args.self.now.rows.items m.firing.probe row t.rows (omega (arith, c.requires.known))
     c.index-row.ensures)
-    c.take-exit.ensures.given t.stores in
+    (t.end_last c.requires.going) t.processors t.stores c.take-exit.ensures.taken
+    (λ placed. c.take-exit.ensures.exit placed (omega (arith, t.all_processors, on))) c.take-exit.ensures.given in
     let next = with_event s (seen firing) in
     let end_row = c.index-row-in-Some.result.now in
     let its = row_at account registry next c.args.self.now.rows.items END end_row t.rows (omega arith)
     c.index-row-in-Some.ensures in
-    let ends = end_is account registry next (seen firing) c.take-exit.result _ took.exited
+    let ends = end_is account registry next (seen firing) c.take-exit.result _ fired.exited
     (counted_is c.args.self.now.seen _ c.args.self.now.history _ t.seen t.history)
     ∙ sym c.end_after.ensures ∙ c.in-Some.is in
     becomes account registry _ _ _ (happens_last account registry s (seen firing) c.in-Some.end ends)
@@ -50,13 +44,13 @@ returns-in-Some c = λ s firing t own on at.
       processors = end_fired account registry next c.in-Some.end end_row c.fire_end.new.self.all.items
           c.args.clauses.now own its
           (c.fire_end.ensures.taken (row_placed account registry next END end_row its c.args.clauses.now own) _ _
-          took.taken);
+          fired.taken);
       all_processors = omega (arith, c.fire_end.ensures.len, c.take-exit.ensures.len, t.all_processors);
       uses = t.uses;
       stores = end_gave account registry next c.in-Some.end end_row c.deref-in-Some.result.now c.args.clauses.now
           c.take-exit.new.self.stores.items c.fire_end.new.self.stores.items own
           (subst (AreUses (shapes_in s) s.clauses) (sym c.deref-in-Some.ensures.value) t.uses) its
-          c.fire_end.ensures.given gave;
+          c.fire_end.ensures.given fired.given;
       history = t.history;
       seen = omega (arith, t.seen);
       standing = refl;
@@ -69,34 +63,29 @@ returns-in_default c = λ s firing t own on at.
     let registry = c.args.machine.now.registry in
     let m = form_of_moment c.args.moment.now in
     let row = c.index-row.result.now in
-    let took = took_at account registry s (seen firing) m row c.args.clauses.now
-    c.args.self.now.processors.all.items c.take-exit.new.self.all.items c.take-exit.result tt at refl own
-    (row_at account registry s c.args.self.now.rows.items m.firing.probe row t.rows (omega (arith, c.requires.known))
-    c.index-row.ensures)
-    (t.end_last c.requires.going) c.take-exit.ensures.taken
-    (λ placed. c.take-exit.ensures.exit placed (omega (arith, t.all_processors, on))) t.processors in
-    let gave = gave_at account registry s (seen firing) m row c.args.clauses.now c.deref.result.now
-    c.args.self.now.processors.stores.items c.take-exit.new.self.stores.items tt at refl own
+    let fired = fired_at account registry s (seen firing) m row c.args.clauses.now c.deref.result.now
+    c.args.self.now.processors c.take-exit.new.self c.take-exit.result tt at refl own
     (subst (AreUses (shapes_in s) s.clauses) (sym c.deref.ensures.value) t.uses)
     (row_at account registry s c.args.self.now.rows.items m.firing.probe row t.rows (omega (arith, c.requires.known))
     c.index-row.ensures)
-    c.take-exit.ensures.given t.stores in
+    (t.end_last c.requires.going) t.processors t.stores c.take-exit.ensures.taken
+    (λ placed. c.take-exit.ensures.exit placed (omega (arith, t.all_processors, on))) c.take-exit.ensures.given in
     let next = with_event s (seen firing) in
-    let stays = end_is account registry next (seen firing) c.take-exit.result _ took.exited
+    let stays = end_is account registry next (seen firing) c.take-exit.result _ fired.exited
     (counted_is c.args.self.now.seen _ c.args.self.now.history _ t.seen t.history)
     ∙ sym c.end_after.ensures ∙ c.in_default.is in
     becomes account registry _ _ _ (happens_on account registry s (seen firing) stays)
     (record {
       rows = t.rows;
       all_rows = t.all_rows;
-      processors = took.taken;
+      processors = fired.taken;
       all_processors = omega (arith, c.take-exit.ensures.len, t.all_processors);
       uses = t.uses;
-      stores = gave;
+      stores = fired.given;
       history = t.history;
       seen = omega (arith, t.seen);
       standing = ap phase_by (sym c.requires.going);
-      end_last = λ e. took.still;
+      end_last = λ e. fired.still;
     })
 
 pub fire_end-requires-clause-counts : goal.fire_end-requires-clause-counts
