@@ -122,9 +122,11 @@ impl Engine {
         ensures answer { (world : World) → EngineIsAt machine.now.registry world self.old
             → IsLooked world (looking machine.now.registry world cpu firing.now) result }
     {
+        // a processor looks for its own firings alone: for another's the look isn't enabled
         if firing.cpu != cpu {
             return None;
         }
+        // nor is it on a processor that isn't there, or while an offer of the last look is still due
         if !self.is_done(cpu) {
             return None;
         }
@@ -149,22 +151,21 @@ impl Engine {
     /// Offers the firing that a processor looked for to a seat. Answers where the firing stands, where the session on the
     /// seat saw it.
     pub(crate) fn offer(&mut self, machine: &Machine, cpu: u32, seat: Seat) -> Option<ScriptPlace>
-        ensures at { (world : World) → EngineIsAt machine.now.registry world self.old
-            → EngineIsAt machine.now.registry (offering world cpu seat) self.new }
-        ensures seen { (world : World) → EngineIsAt machine.now.registry world self.old
-            → result ≡ option_map place_of (seen_in machine.now.registry world cpu seat) }
+        ensures { (world : World) → EngineIsAt machine.now.registry world self.old
+            → EngineIsAt machine.now.registry (offering world cpu seat) self.new
+            × (result ≡ option_map place_of (seen_in machine.now.registry world cpu seat)) }
     {
         if (cpu as usize) < self.processors.len() {
             if let Some(looked) = &mut self.processors[cpu as usize] {
-                if let Some(life) = looked.take(seat) {
-                    let held = &mut self.seats[seat.number() as usize];
-                    if held.deliver(machine, life, &looked.firing) {
-                        return Some(ScriptPlace {
-                            cpu: looked.firing.cpu,
-                            place: looked.firing.place,
-                        });
-                    }
-                }
+                // nothing that it looked for is due to this seat
+                let life = looked.take(seat)?;
+                let held = &mut self.seats[seat.number() as usize];
+                let place = ScriptPlace {
+                    cpu: looked.firing.cpu,
+                    place: looked.firing.place,
+                };
+                // the place is told where the session saw the firing: a trail has seen firings alone
+                return held.deliver(machine, life, &looked.firing).then_some(place);
             }
         }
         None

@@ -24,9 +24,10 @@ ghost use Rattle.dt_world.specs.World.{Session, session_of, life_in, begins};
 use dt_consumer::one_reply;
 
 /// Law: two sessions on behalf of equal accounts, of two worlds on equal registries, whose seen views are equal, are
-/// answered alike, whatever else happened in the two worlds: on other seats, with other lives, other scripts and
+/// answered alike, whatever else happened in the two worlds: on other seats, with other numbers, other scripts and
 /// other consumers.
 pub fn agree_alike()
+    // two sessions of any two worlds on one registry: equal accounts and seen views have equal answers
     ensures { (registry : Registry) (acts others : List Act) (seat n other_seat other_n : ℕ) (a b : Session)
         → session_of (world_after registry acts) seat n ≡ Some a
         → session_of (world_after registry others) other_seat other_n ≡ Some b

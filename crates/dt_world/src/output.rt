@@ -45,6 +45,7 @@ impl Output {
     pub(crate) fn open(&mut self, seat: Seat, account: &Account) -> Result<(), AllocError>
         ensures { OnOk result (Tells self.old self.new (opening_text self.old.wanted seat account.now)) }
     {
+        // that a session begins is told only at the head of the trail that is wanted
         if !self.wanted.follows(seat, true) {
             return Ok(());
         }
@@ -74,6 +75,7 @@ impl Output {
                 self.text.extend_from_slice(front.as_bytes())?;
             }
             Wanted::Trail(_) => {
+                // a trail has the lines of its own session within the quota, and no others
                 if is_over || !self.wanted.follows(seat, is_first) {
                     return Ok(());
                 }
@@ -109,6 +111,7 @@ impl Output {
     ) -> Result<(), AllocError>
         ensures { OnOk result (Tells self.old self.new (firing_told self.old.wanted seat is_first at.cpu at.place)) }
     {
+        // a firing is told only in the trail of its own session: among replies it never stands
         if !self.wanted.follows(seat, is_first) {
             return Ok(());
         }

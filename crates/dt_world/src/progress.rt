@@ -54,12 +54,15 @@ impl Progress {
             → HasTakenLines wanted machine.now lines self.old
             → (forms : List StepLineForm) → AreStepLines machine.now.registry (lines ++ line.now ∷ []) forms → ⊥ }
     {
+        // an empty line is skipped, and only counted
         if line.is_empty() {
             return Ok(true);
         }
+        // a line of another form refuses the whole input
         let Some(step) = StepLine::parse(line) else {
             return Ok(false);
         };
+        // so does one with an account or a processor that the machine lacks
         if !is_known(machine, &step) {
             return Ok(false);
         }
@@ -114,6 +117,7 @@ impl Progress {
     {
         let was_there = self.engine.is_first(seat);
         self.engine.open(alloc, machine, seat, name)?;
+        // the seat's first session sits there still: the step did nothing, and there is no beginning to tell
         if was_there {
             return Ok(());
         }
@@ -201,6 +205,7 @@ impl Progress {
         ensures answer { (wanted : Wanted) (now : Replayed) → cpu < machine.now.registry.cpus → IsAfter wanted machine.now now self.old
             → IsNamed machine.now now cpu result }
     {
+        // a line with such a processor was refused before, so this end is never met
         if cpu >= machine.cpus() {
             return None;
         }
@@ -217,6 +222,7 @@ impl Progress {
             → IsAfter wanted machine.now now self.old
             → IsAfter wanted machine.now (after_step_line machine.now now (fire_line cpu)) self.new) }
     {
+        // at the script's end, or with offers left, no firing is taken, and there is none to offer
         let Some(mask) = self.look(machine, cpu) else {
             return Ok(());
         };

@@ -156,6 +156,7 @@ fn replay_as<R: Read, W: Write>(
         (contents : Contents) × (output : List ℕ) × (count : ℕ) × IsDescribed machine.now contents
         × IsOutput wanted contents input output × Appends (W.contents writer.old) (W.contents writer.new) (take count output))) }
 {
+    // the machine file goes first: where it is refused, nothing is read of the input
     let machine = match Machine::read(alloc, machine) {
         Ok(machine) => machine,
         Err(fault) => return Err(ReplayFault::Machine(fault)),
@@ -174,12 +175,15 @@ fn read_input<R: Read>(alloc: Global, reader: &mut R) -> Result<Vec<u8>, ReplayF
     let mut chunk = [0; CHUNK];
     for _read in 0..READS_MAX {
         match reader.read(&mut chunk) {
+            // a read of no bytes is the end of the input
             Ok(0) => return Ok(input),
             Ok(count) => match input.extend_from_slice(&chunk[..count]) {
                 Ok(()) => {}
+                // a replay gives the whole answer or none, so a lack of memory ends it
                 Err(_) => return Err(ReplayFault::Memory),
             },
             Err(fault) if fault.kind() == ErrorKind::Interrupted => {}
+            // only an interrupted read is tried again: an input is replayed whole or not at all
             Err(_) => return Err(ReplayFault::Read),
         }
     }
@@ -196,6 +200,7 @@ fn output_of(
     ensures ok { IfOk result (λ output. IsOutput wanted machine.now input.now output.items) }
     ensures err { IfErr result (IsFaultOfLines machine.now input.now) }
 {
+    // a lack of memory ends the replay, here and at each line: it gives the whole answer or none
     let mut progress = match Progress::new(alloc, wanted, machine) {
         Ok(progress) => progress,
         Err(AllocError) => return Err(ReplayFault::Memory),
@@ -207,6 +212,7 @@ fn output_of(
         number += 1;
         match progress.take_line(alloc, machine, line) {
             Ok(true) => {}
+            // the first line that is refused is named, and the replies so far are never written
             Ok(false) => return Err(ReplayFault::Line(number)),
             Err(AllocError) => return Err(ReplayFault::Memory),
         }
@@ -231,13 +237,16 @@ fn write_output<W: Write>(writer: &mut W, output: &[u8]) -> Result<(), ReplayFau
 {
     let mut rest = output;
     for _write in 0..u64::MAX {
+        // all bytes were given, and they count as written once they are flushed
         if rest.is_empty() {
             return writer.flush().map_err(|_| ReplayFault::Write);
         }
         match writer.write(rest) {
+            // a writer that takes none of what is left has failed: to ask it again might never end
             Ok(0) => return Err(ReplayFault::Write),
             Ok(count) => rest = &rest[count..],
             Err(fault) if fault.kind() == ErrorKind::Interrupted => {}
+            // only an interrupted write is tried again: after any other a beginning is all that is written
             Err(_) => return Err(ReplayFault::Write),
         }
     }

@@ -31,6 +31,7 @@ pub fn run(alloc: Global, machine: &Machine, steps: &[Step]) -> Result<Ran, Allo
         (map (λ reply. (reply.0, reply.1.items)) ran.replies.items)) }
     ensures masks { IfOk result (λ ran. AreMasks
         (world_after machine.now.registry (map act_of steps.now)).looks ran.masks.items) }
+    // a session was told what its view is answered alone; where there was none, nothing was told
     ensures alone { IfOk result (λ ran. (seat n : ℕ)
         → IsAnsweredAlone machine.now.registry
         (session_of (world_after machine.now.registry (map act_of steps.now)) seat n)

@@ -95,6 +95,7 @@ impl Served {
     {
         let asked = read_line(alloc, line)?;
         let draft = self.consumer.draft(alloc, machine, &asked)?;
+        // an accepted `go` waits for its publication, and is answered at its finish
         if draft.publishes() {
             let line = line.to_asked(alloc)?;
             self.go = Some(Waiting {
@@ -146,13 +147,16 @@ impl Served {
             → IsSession machine.now.registry session self.old → session.go ≡ Some pending
             → form_asked finished.line ≡ pending.line)) }
     {
+        // with no `go` pending a finish isn't enabled: nothing happens, and nothing is answered
         let Some(waiting) = &self.go else {
             return Ok(None);
         };
+        // as long as its interest isn't published no look names the session, so the `go` waits on
         if !waiting.is_published {
             return Ok(None);
         }
         let text = reply_bytes(alloc, waiting.draft.reply())?;
+        // the `go` was only lent for its reply and is still there, so this end is never met
         let Some(waiting) = self.go.take() else {
             return Ok(None);
         };

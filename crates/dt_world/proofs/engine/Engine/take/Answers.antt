@@ -94,7 +94,7 @@ returns-in-Offer c = λ world few at.
     subst (λ act. EngineIsAt registry (after_act registry world act) c.offer.new.self
     × IsTelling registry world (after_act registry world act) Quiet)
     (sym (ap act_of c.in-Offer.is)) (
-      c.offer.ensures.at world at,
+      (c.offer.ensures world at).0,
       quiet-offering registry world c.in-Offer.cpu c.in-Offer.seat,
     )
 

@@ -21,11 +21,11 @@ returns-in-Some c =
     let at = c.in-Some.at in
     after-told wanted c.args.machine.now now world c.args.self.now
     (record { engine = c.offer.new.self; taken = c.args.self.now.taken; output = c.fire.new.self })
-    before (c.offer.ensures.at now.world before.at) refl
+    before (c.offer.ensures now.world before.at).0 refl
     (λ w. firing_told w seat (is_some (first_account (now.world.places seat))) at.cpu at.place)
     (rw (← first) tells)
     (told-seen-at registry now.world wanted cpu seat at c.args.self.now.output.text.items
-    (sym c.in-Some.is ∙ c.offer.ensures.seen now.world before.at)))
+    (sym c.in-Some.is ∙ (c.offer.ensures now.world before.at).1)))
     c.fire.ensures
 
 pub returns-in-None : goal.returns-in-None
@@ -34,6 +34,6 @@ returns-in-None c = λ wanted now before.
     let world = offering now.world c.args.cpu c.args.seat in
     after-untold wanted c.args.machine.now now world c.args.self.now
     (record { engine = c.offer.new.self; taken = c.args.self.now.taken; output = c.args.self.now.output })
-    before (c.offer.ensures.at now.world before.at) refl refl
+    before (c.offer.ensures now.world before.at).0 refl refl
     (told-unseen-at registry now.world wanted c.args.cpu c.args.seat c.args.self.now.output.text.items
-    (sym (c.offer.ensures.seen now.world before.at) ∙ c.in-None.is))
+    (sym ((c.offer.ensures now.world before.at).1) ∙ c.in-None.is))
