@@ -11,7 +11,7 @@ use Rattle.dt_lang.specs.declared.mode.Mode.{Mode}
 use Rattle.dt_lang.specs.declared.program.Program.{Program}
 use Rattle.dt_lang.specs.declared.token.Token.{Token}
 use Rattle.dt_lang.specs.ClauseState.{ProgramState, program_start, finished}
-use Rattle.dt_lang.specs.Early.{AnswersToken}
+use Rattle.dt_lang.specs.EarlyCause.{AnswersToken}
 use Rattle.dt_lang.specs.Fault.{fault_at}
 use Rattle.dt_lang.specs.Fits.{Fits}
 use Rattle.dt_lang.specs.Lexeme.{Lexes, LiesWithin}

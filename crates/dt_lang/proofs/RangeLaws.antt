@@ -20,7 +20,7 @@ use Rattle.dt_lang.specs.ClauseState.{program_at, entered, step, run, program_st
 use Rattle.dt_lang.specs.Cause.{are_bounds, no_levels, out_of_range_at}
 use Rattle.dt_lang.specs.ExpressionState.{IsRead}
 use Rattle.dt_lang.proofs.ExpressionLaws.{complete}
-use Rattle.dt_lang.proofs.Reading.{Bounded, ReadAt}
+use Rattle.dt_lang.proofs.Reading.{Levels, Bounded, ReadAt}
 use Rattle.dt_lang.proofs.ClauseSound.{same_some}
 use Rattle.dt_lang.proofs.ClauseComplete.{run_on, slot_over, constant_over, slot_leads}
 use Rattle.dt_lang.proofs.ClauseLaws.{read}
@@ -58,60 +58,47 @@ wrong_bounds lower upper by e h = not_true (are_bounds lower upper by) e (are_bo
 bounds_wrong : (lower upper by : ℤ) → (AreBounds lower upper by → ⊥) → not (are_bounds lower upper by) ≡ true
 bounds_wrong lower upper by n = not_from (are_bounds lower upper by) (λ e. n (are_bounds_is lower upper by e))
 
+-- an `lquantize` whose constants are no bounds is wrong at its `)`
+out_with : {ts tail : List Token} {cs : List ClauseForm} {c : ClauseForm} {name : List ℕ} {keys : List ArgForm}
+    {f : Form} {b : BoundForm} (lower upper by : ℤ) (l : Levels tail ts cs c name keys f b)
+    → ReadsBounds (l.back ++ tail) lower upper by → not (are_bounds lower upper by) ≡ true
+    → IsOutOfRange ts (token.Sign sign.CloseParen)
+out_with {tail = tail} {cs = cs} {c = c} {name = name} {keys = keys} {f = f} lower upper by l reads e = record {
+  front = l.front;
+  expression = l.middle;
+  bounds = l.back ++ tail;
+  split = l.split;
+  ends = refl;
+  clauses = cs;
+  clause = c;
+  name = name;
+  keys = keys;
+  opens = l.opens;
+  form = f;
+  reads = l.reads;
+  lower = lower;
+  upper = upper;
+  step = by;
+  reads_bounds = reads;
+  wrong = wrong_bounds lower upper by e;
+}
+
 -- what the state says holds
 bounded_out : (ts : List Token) (cs : List ClauseForm) (c : ClauseForm) (name : List ℕ) (keys : List ArgForm)
     (f : Form) (b : BoundForm) (z : ℤ) → Bounded ts cs c name keys f b z → no_levels b z ≡ true
     → IsOutOfRange ts (token.Sign sign.CloseParen)
 bounded_out ts cs c name keys f at_lower z h e = cc
 bounded_out ts cs c name keys f (at_upper lower) z h e =
-    let l = h.levels in
-    let (us, k, r) = l.bounds in
-    let i : l.back ++ h.tail ≡ token.Sign sign.Comma ∷ (us ++ (token.Sign sign.Comma ∷ h.tail)) =
+    let (us, k, r) = h.levels.bounds in
+    let i : h.levels.back ++ h.tail ≡ token.Sign sign.Comma ∷ (us ++ (token.Sign sign.Comma ∷ h.tail)) =
     rw k (simp append_assoc) in
-    record {
-      front = l.front;
-      expression = l.middle;
-      bounds = l.back ++ h.tail;
-      split = l.split;
-      ends = refl;
-      clauses = cs;
-      clause = c;
-      name = name;
-      keys = keys;
-      opens = l.opens;
-      form = f;
-      reads = l.reads;
-      lower = lower;
-      upper = z;
-      step = pos 1;
-      reads_bounds = rw i (by_one us h.tail lower z r h.reads);
-      wrong = wrong_bounds lower z (pos 1) e;
-    }
+    out_with lower z (pos 1) h.levels (rw i (by_one us h.tail lower z r h.reads)) e
 bounded_out ts cs c name keys f (at_step lower upper) z h e =
-    let l = h.levels in
-    let (us, vs, k, r, q) = l.bounds in
-    let i : l.back ++ h.tail
+    let (us, vs, k, r, q) = h.levels.bounds in
+    let i : h.levels.back ++ h.tail
     ≡ token.Sign sign.Comma ∷ (us ++ (token.Sign sign.Comma ∷ (vs ++ (token.Sign sign.Comma ∷ h.tail))))
     = rw k (simp append_assoc) in
-    record {
-      front = l.front;
-      expression = l.middle;
-      bounds = l.back ++ h.tail;
-      split = l.split;
-      ends = refl;
-      clauses = cs;
-      clause = c;
-      name = name;
-      keys = keys;
-      opens = l.opens;
-      form = f;
-      reads = l.reads;
-      lower = lower;
-      upper = upper;
-      step = z;
-      reads_bounds = rw i (stepped us vs h.tail lower upper z r q h.reads);
-      wrong = wrong_bounds lower upper z e;
-    }
+    out_with lower upper z h.levels (rw i (stepped us vs h.tail lower upper z r q h.reads)) e
 
 bounded_out_at : (ts : List Token) (cs : List ClauseForm) (c : ClauseForm) (name : List ℕ) (keys : List ArgForm)
     (f : Form) (b : BoundForm) (z : ℤ) (t : Token) → Bounded ts cs c name keys f b z

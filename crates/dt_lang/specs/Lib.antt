@@ -12,7 +12,7 @@ pub mod Reads
 pub mod ClauseState
 pub mod Cause
 pub mod Fits
-pub mod Early
+pub mod EarlyCause
 pub mod ExpressionView
 pub mod Lexeme
 pub mod Mode

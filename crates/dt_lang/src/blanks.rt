@@ -35,6 +35,7 @@ fn behind_comment(text: &[u8]) -> Option<&[u8]>
 {
     let mut rest = text;
     while let Some((_, behind)) = rest.split_first() {
+        // comments don't nest: the first `*/` ends this one
         if let Some(after) = strip_end(rest) {
             return Some(after);
         }

@@ -33,6 +33,7 @@ impl Class {
         ensures { result.now ≡ take_while (members self) text.now }
     {
         for (len, byte) in text.iter().enumerate() {
+            // the first byte of another kind ends the run
             if !self.has(*byte) {
                 return &text[..len];
             }

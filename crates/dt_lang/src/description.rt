@@ -25,6 +25,7 @@ impl Description {
         ensures none { IfNone result ((form : DescForm) → DescribesPatterns text.now form → ⊥) }
     {
         dt_names::one_answer();
+        // which fault it is isn't told: a text that is no description is refused as Probe
         let Ok(fields) = ProbeDesc::parse(text) else {
             return None;
         };

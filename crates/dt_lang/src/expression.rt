@@ -215,6 +215,7 @@ impl ExpressionReader {
         ensures { IfOk result (λ on. Goes (state_of self.old)
             (begin_sign self.old.divides (frames_of self.old.frames) sign) on (state_of self.new)) }
     {
+        // it is no operator: it waits for its `)`, and up to there a `/` divides in a predicate too
         if sign == Sign::OpenParen {
             self.frames.push(Frame::Opened(self.divides))?;
             self.divides = true;
@@ -264,6 +265,7 @@ impl ExpressionReader {
             (follow_sign self.old.divides (frames_of self.old.frames) level (form_of form) sign) on
             (state_of self.new)) }
     {
+        // it is no operator: it ends parentheses, or what the expression is read for
         if sign == Sign::CloseParen {
             return self.leave(alloc, level, form);
         }
@@ -288,6 +290,7 @@ impl ExpressionReader {
             (let closed = close 0 (frames_of self.old.frames) (form_of form) in leave closed.frames closed.form) on
             (state_of self.new)) }
     {
+        // no `(` of the expression is open: this `)` ends what it is read for, as in `trace(1)`
         if !self.frames.has_opened() {
             self.hand = Hand::Whole(level, form);
             return Ok(false);

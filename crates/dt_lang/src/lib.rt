@@ -8,7 +8,7 @@
 mod blanks;
 mod class;
 mod description;
-mod early;
+mod early_cause;
 mod expression;
 mod expression_laws;
 mod fault;

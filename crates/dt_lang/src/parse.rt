@@ -41,6 +41,7 @@ fn read(alloc: Global, reader: &mut ProgramReader, text: &[u8]) -> Result<Progra
         match next(text, mode, from) {
             Lexeme::Token { at, token, end } => {
                 let after = mode.after(&token);
+                // the first token for which a cause holds decides: nothing after it is read
                 if let Some(refusal) = reader.push(alloc, token)? {
                     return Err(refusal.fault(at));
                 }
@@ -48,18 +49,21 @@ fn read(alloc: Global, reader: &mut ProgramReader, text: &[u8]) -> Result<Progra
                 from = end;
             }
             Lexeme::Overlong { at } => {
+                // a text or a name that is too long is refused for its length, and not for its syntax
                 return Err(LangFault::Program {
                     at,
                     why: Why::TooLong,
                 });
             }
             Lexeme::Stray { at } => {
+                // no program goes on with bytes that are no token
                 return Err(LangFault::Program {
                     at,
                     why: Why::Syntax,
                 });
             }
             Lexeme::End { at } => {
+                // a text that only begins a program is refused at its end
                 return reader.finish(alloc).ok_or(LangFault::Program {
                     at,
                     why: Why::Syntax,

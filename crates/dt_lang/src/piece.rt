@@ -42,9 +42,11 @@ impl Piece {
     pub(crate) fn of(text: &[u8], mode: Mode) -> Piece
         ensures { Stands mode text.now result }
     {
+        // whether the program is whole is for its reader to say
         if text.is_empty() {
             return Piece::End;
         }
+        // closed comments are blanks and were skipped: one that still stands here isn't closed
         if opens_comment(text) {
             return Piece::Stray;
         }
@@ -68,6 +70,7 @@ fn in_head(text: &[u8]) -> Piece
     ensures { FindsInHead text.now result }
 {
     let run = Class::Description.run(text);
+    // the longest run is the description, also where it is none: a program is then refused as Probe
     if !run.is_empty() {
         return Piece::Token {
             token: Token::Description(Description::parse(run)),
@@ -78,6 +81,7 @@ fn in_head(text: &[u8]) -> Piece
         b',' => Sign::Comma,
         b'/' => Sign::Slash,
         b'{' => Sign::OpenBrace,
+        // no other sign stands in a head
         _ => return Piece::Stray,
     };
     Piece::Token {

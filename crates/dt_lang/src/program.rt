@@ -60,14 +60,17 @@ impl Bounds {
             × (bounds.step ≡ step)) }
         ensures none { IfNone result (AreBounds lower upper step → ⊥) }
     {
+        // no level rises from the lower bound to the upper one
         if lower >= upper || step <= 0 {
             return None;
         }
         let width = i128::from(upper) - i128::from(lower);
         let each = i128::from(step);
+        // the levels must end exactly at the upper bound
         if width % each != 0 {
             return None;
         }
+        // each level is a word of every entry, so there may not be too many
         if width / each > i128::from(LEVELS_MAX) {
             return None;
         }
@@ -82,6 +85,7 @@ impl Frames {
         ensures none { IfNone result ((n : ℕ) → count ≡ pos n → 1 ≤ n → n ≤ FRAMES_MAX → ⊥) }
     {
         let count = u8::try_from(count).ok()?;
+        // a stack is recorded with one frame at least, and a firing has no more than eight
         if count == 0 || count > FRAMES_MAX {
             return None;
         }

@@ -3,7 +3,7 @@ ghost use Rattle.std.specs.Prelude.{◌≡◌, ◌≤◌, ◌<◌, IfOk, None, S
 ghost use Rattle.dt_expr.specs.Form.{form_of};
 ghost use Rattle.dt_lang.specs.ClauseState.{ProgramState, step, body, bounded, bounding, from_bounded, ended, entered, finished, from_applied, from_assigned, from_begins, from_bounding, from_called, from_closing, from_described, from_ends, from_framed, from_guarded, from_keyed, from_listed, from_named, from_negating, from_outside, function_given, headed, opened, outside, shut, shut_key, shut_predicate, shut_value, program_at, program_start, from_within};
 ghost use Rattle.dt_lang.specs.Cause.{are_bounds, out_of_range_at, takes_token, too_long_at};
-ghost use Rattle.dt_lang.specs.Early.{AnswersToken, Outcome, cause_of_refusal, early_at};
+ghost use Rattle.dt_lang.specs.EarlyCause.{AnswersToken, Outcome, cause_of_refusal, early_at};
 ghost use Rattle.dt_lang.specs.Fits.{Fits, FitsClause, FitsWithin, SlotHasRoom};
 ghost use Rattle.dt_lang.specs.ExpressionView.{state_of};
 ghost use Rattle.dt_lang.specs.PlaceView.{bound_of, key_forms, place_form, slot_form};
@@ -12,7 +12,7 @@ ghost use Rattle.dt_lang.specs.ReaderView.{Leads, clause_of, clauses_of, program
 ghost use Rattle.dt_lang.specs.declared.program.TheConstants.{DESCRIPTIONS_MAX, KEYS_MAX, STATEMENTS_MAX};
 
 use crate::description::Description;
-use crate::early::{early_assigned, early_begins, early_elsewhere, early_operand};
+use crate::early_cause::{early_assigned, early_begins, early_elsewhere, early_operand};
 use crate::expression::ExpressionReader;
 use crate::fault::{Refusal, Why};
 use crate::place::{Bound, Levels, Place, Slot, Target, call_of};
@@ -65,9 +65,11 @@ impl ProgramReader {
         ensures { IfOk result (λ refused. AnswersToken (program_state_of self.old) token refused
             (program_state_of self.new)) }
     {
+        // of the causes of one token TooLong goes before all others
         if self.exceeds(alloc, &token)? {
             return Ok(Some(Refusal::Why(Why::TooLong)));
         }
+        // next come the causes that the token shows at its place: they go before Range and Syntax
         if let Some(refusal) = self.early(&token) {
             return Ok(Some(refusal));
         }
@@ -205,6 +207,7 @@ impl ProgramReader {
             Token::Sign(Sign::CloseBrace) => self.end_clause(alloc)?,
             Token::Word(Word::Action(action)) => self.place = Place::Called(*action),
             Token::Aggregation(name) => self.place = Place::Named(*name),
+            // nothing else begins a statement or ends the clause
             _ => return Ok(false),
         }
         Ok(true)
@@ -219,6 +222,7 @@ impl ProgramReader {
         match token {
             Token::Sign(Sign::Semicolon) => self.place = Place::Begins,
             Token::Sign(Sign::CloseBrace) => self.end_clause(alloc)?,
+            // after a statement stands a `;` or the clause's end
             _ => return Ok(false),
         }
         Ok(true)
@@ -248,9 +252,11 @@ impl ProgramReader {
         ensures { Leads (from_framed (clauses_of self.old) (clause_of self.old) process token.now) result
             (program_state_of self.new) }
     {
+        // how many frames is written as a number, and is no expression
         let Token::Number(count) = token else {
             return false;
         };
+        // a stack of no frames or of more than eight is refused for its syntax, at the number
         let Some(frames) = Frames::new(*count) else {
             return false;
         };
@@ -362,6 +368,7 @@ impl ProgramReader {
             (from_within (clauses_of self.old) (clause_of self.old) (slot_form slot) count
             (state_of self.old.expression) token.now) on (program_state_of self.new)) }
     {
+        // the longest expression is read: the slot ends at the first token that doesn't go on with it
         if self.expression.push(alloc, token)? {
             self.place = Place::Within {
                 slot,
@@ -427,6 +434,7 @@ impl ProgramReader {
         match token {
             Token::Sign(Sign::Comma) => self.enter(Slot::Key(target)),
             Token::Sign(Sign::CloseBracket) => self.place = Place::Keyed(target),
+            // after a key stands a further one or the keys' end
             _ => return Ok(false),
         }
         Ok(true)
@@ -507,6 +515,7 @@ impl ProgramReader {
         token: &Token,
     ) -> Result<Option<Why>, AllocError>
         requires { vec_len levels.target.keys ≤ KEYS_MAX }
+        // goes on, or is refused: for Range where bounds of an `lquantize` make no levels, else Syntax
         ensures { IfOk result (λ why. Outcome
             (from_bounded (clauses_of self.old) (clause_of self.old) levels.target.name (key_forms levels.target)
             (form_of levels.value) (bound_of levels.bound) last token.now)

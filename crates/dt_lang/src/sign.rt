@@ -63,6 +63,7 @@ fn first_of(signs: &[Sign], text: &[u8]) -> Option<Sign>
     ensures none { IfNone result (All (λ sign. BeginsWith text.now (spelling sign) → ⊥) signs.now) }
 {
     for sign in signs {
+        // these signs have one length, so no other of them stands here
         if text.starts_with(spelling(*sign)) {
             return Some(*sign);
         }

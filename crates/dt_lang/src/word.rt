@@ -238,6 +238,7 @@ impl Word {
         ensures none { IfNone result (All (λ word. name_of_word word ≢ Some name.now) words.now) }
     {
         for word in words {
+            // a name is that of one word only, so no later one has it
             if word.is_named(name) {
                 return Some(*word);
             }
@@ -255,6 +256,7 @@ impl Word {
             Word::Destructive(destructive) => destructive.name(),
             Word::Number(variable) => name_of_number(variable),
             Word::Text(variable) => name_of_text(variable),
+            // it stands for all names that the language doesn't know, and has none of its own
             Word::Unknown => return false,
         };
         own.as_bytes() == name

@@ -1,6 +1,6 @@
 //! The causes that a token shows at its place, before it is known whether it goes on.
 ghost use Rattle.std.specs.Prelude.{◌≡◌, option_map};
-ghost use Rattle.dt_lang.specs.Early.{cause_of_refusal, early_assigned, early_begins, early_elsewhere, early_operand};
+ghost use Rattle.dt_lang.specs.EarlyCause.{cause_of_refusal, early_assigned, early_begins, early_elsewhere, early_operand};
 
 use crate::fault::{Refusal, Why};
 use crate::token::Token;
