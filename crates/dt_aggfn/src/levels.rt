@@ -25,14 +25,17 @@ impl Bounds {
         ensures none { IfNone result (AreBounds lower upper step → ⊥) }
         ensures value { result ≡ bounds_of lower upper step }
     {
+        // no level rises from the lower bound to the upper one
         if lower >= upper || step <= 0 {
             return None;
         }
         let width = i128::from(upper) - i128::from(lower);
         let each = i128::from(step);
+        // the levels must end exactly at the upper bound
         if width % each != 0 {
             return None;
         }
+        // each level is a word of the cell, and a cell has a greatest size
         if width / each > i128::from(LEVELS_MAX) {
             return None;
         }
@@ -65,6 +68,7 @@ impl Bounds {
         requires { index < levels_of self + 2 }
         ensures { result ≡ name_at (lquantize_rows self) index }
     {
+        // a row is named by its least value, and the row below all levels has none
         if index == 0 {
             return None;
         }

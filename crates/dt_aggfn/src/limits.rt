@@ -1,4 +1,5 @@
 //! The limits of cells and bags.
+
 /// The most levels of an `lquantize`.
 pub const LEVELS_MAX: u64 = 512;
 

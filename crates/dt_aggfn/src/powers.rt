@@ -11,6 +11,7 @@ const ZERO_ROW: usize = 63;
 pub(crate) fn row_of(value: i64) -> usize
     ensures { IsRowOf quantize_rows value result }
 {
+    // 0 has no power of two: its row lies between the powers and their opposites
     if value == 0 {
         return ZERO_ROW;
     }

@@ -42,7 +42,7 @@ values_fewer entry c contributions = ⊎_elim
     (yes_or_no (same_entry entry c.entry))
 
 pub few_values : (entry : Entry) (events : List Event) (chosen : List Bool)
-    → length (values_of entry (counted events chosen)) ≤ contributions events
+    → length (values_of entry (counted events chosen)) ≤ contribution_count events
 few_values entry [] chosen = omega arith
 few_values entry (given a k v ∷ events) [] = omega arith
 few_values entry (truncated a ∷ events) [] = omega arith

@@ -63,6 +63,7 @@ impl Entries {
         ensures none { IfNone result (Contains (names_of self.old.items) (entry_of aggregation key.now.parts.items) → ⊥) }
     {
         let place = recent_place(&self.index, self.recent, aggregation, key);
+        // mostly the entry that was found last is meant again, and then no name is hashed
         if place.is_some() {
             return place;
         }

@@ -30,6 +30,7 @@ impl Joining {
     pub(crate) fn join(&mut self, alloc: Global, key: &Key, cell: &[u64]) -> Result<(), AllocError>
         requires { length cell.now ≡ cell_words self.old.function }
         ensures function { self.new.function ≡ self.old.function }
+        // on success rows joined from bags are those of the same bags with this one added at its key
         ensures joins { (bags : List KeyPart → List ℤ) (bag : List ℤ)
             → AreJoined self.old.function bags self.old.rows.items → length (bags key.now.parts.items) < BAG_LIMIT
             → IsBag bag → cell.now ≡ cell_of self.old.function bag
@@ -37,6 +38,7 @@ impl Joining {
             self.new.rows.items) }
     {
         let place = self.place_of(key);
+        // the key has its row, so its cell is merged in place: only a new row takes memory
         if place < self.rows.len() && self.rows[place].key.is(key) {
             let function = self.function;
             let row = &mut self.rows[place];
@@ -59,6 +61,7 @@ impl Joining {
         ensures { IsPlaceOf (keys_of self.now.rows.items) key.now.parts.items result }
     {
         for (place, row) in self.rows.iter().enumerate() {
+            // rows rise by key: from here on none comes before it
             if row.key.order(key).is_ge() {
                 return place;
             }

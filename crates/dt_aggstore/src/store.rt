@@ -146,6 +146,7 @@ impl AggStore {
         cell_length();
         let cost = held.cost();
         if self.size - self.spent < cost {
+            // no entry is let go to make room: a contribution whose new entry doesn't fit is a drop
             self.dropped += 1;
             return false;
         }

@@ -61,6 +61,7 @@ impl AggStore {
     ) -> Result<(), AllocError>
         requires { joining.old.function ≡ aggregation.function }
         ensures function { joining.new.function ≡ joining.old.function }
+        // on success rows joined from bags are those of the same bags with what this store keeps of each key
         ensures joins { (past : Past) (at : IsAt past self.now) (bags : List KeyPart → List ℤ)
             → AreJoined aggregation.function bags joining.old.rows.items
             → ((key : List KeyPart) → length (bags key) < BAG_LIMIT)

@@ -60,6 +60,7 @@ fn judge(
     for (index, entry) in entries.iter().enumerate() {
         match judge.take(alloc, machine, entry)? {
             Ruling::Right => {}
+            // the earliest entry that isn't in order decides, and what comes after it isn't judged
             Ruling::Wrong => return Ok(Verdict::Differs(replies_in(&entries[..index]) + 1)),
             Ruling::OutOfPlace => return Ok(Verdict::Illegal(index + 1)),
         }

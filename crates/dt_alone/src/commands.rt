@@ -100,6 +100,7 @@ impl Runner {
             → HasAsked account machine.now.registry self.old life
             → Answers account machine.now.registry life (enable (reading_of text.now)) reply self.new) }
     {
+        // after tracing began nothing more is enabled, and the text isn't even read
         if !self.is_inactive() {
             return Ok(Reply::Refused(Refusal::Busy));
         }
@@ -161,9 +162,11 @@ impl Runner {
             → HasAsked account machine.now.registry self.old life
             → Answers account machine.now.registry life go reply self.new) }
     {
+        // tracing begins once
         if !self.is_inactive() {
             return Ok(Reply::Refused(Refusal::Busy));
         }
+        // under fill END's records always fit: a `go` without room for them on processor 0 is refused
         if self.reserve().is_none() {
             return Ok(Reply::Refused(Refusal::Limit));
         }
@@ -212,6 +215,7 @@ impl Runner {
             → HasAsked account machine.now.registry self.old life
             → Answers account machine.now.registry life stop reply self.new) }
     {
+        // before the `go` there is nothing to stop, and after the end the first cause stays
         if !matches!(self.phase, Phase::Active) {
             return Ok(Reply::Refused(Refusal::Busy));
         }
@@ -227,10 +231,12 @@ impl Runner {
             → HasAsked account machine.now.registry self.old life
             → Answers account machine.now.registry life (snap cpu) reply self.new) }
     {
+        // that there is no such processor is told in every phase
         if cpu >= u64::from(machine.cpus()) {
             return Ok(Reply::Refused(Refusal::NoCpu));
         }
         let cpu = cpu as u32;
+        // before `go` there is nothing to read, and a ring isn't read while it is written
         if !self.is_readable() {
             return Ok(Reply::Refused(Refusal::Busy));
         }
@@ -267,6 +273,7 @@ impl Runner {
             → Has account machine.now.registry (set_up account machine.now.registry life) self.now
             → RepliesInQuota account machine.now.registry life (Ok (agg name.now)) (answer_of reply)) }
     {
+        // only a name that an accepted program uses is an aggregation's, whatever the phase
         let Some(known) = Known::of(&self.programs.shapes, name) else {
             return Ok(Reply::Refused(Refusal::NoAgg));
         };
@@ -295,6 +302,7 @@ impl Runner {
             → HasAsked account _machine.now.registry self.old life
             → Answers account _machine.now.registry life (trunc name.now) reply self.new) }
     {
+        // as for an `agg`, the name must be one that an accepted program uses, in whatever phase
         let Some(known) = Known::of(&self.programs.shapes, name) else {
             return Ok(Reply::Refused(Refusal::NoAgg));
         };
@@ -363,6 +371,7 @@ impl Runner {
             (answer_of reply)) }
     {
         one_description();
+        // the text is one description and nothing else, so its fault is told at its first byte
         let Some(description) = Description::parse(text) else {
             return Ok(Reply::Refused(Refusal::Program {
                 at: 0,
@@ -387,6 +396,7 @@ impl Runner {
 
     /// What is told of the ECB of a number, if there is one.
     fn description(&self, machine: &Machine, epid: u64) -> Option<Reply>
+        // none where there is no such ECB; else its EPID, its probe, and what its records are made of
         ensures { (account : Account) (life : List Item)
             → Has account machine.now.registry (set_up account machine.now.registry life) self.now
             → MatchOption (ecb_of account machine.now.registry life epid) (result ≡ None)

@@ -81,6 +81,7 @@ impl Judge {
             → IsRuling account machine.now past (line_asked line.now reply.now) self.new ruling) }
     {
         one_reply();
+        // a trail has no line over the quota: one is out of place before its reply is looked at
         if self.runner.is_over() {
             return Ok(Ruling::OutOfPlace);
         }
@@ -100,6 +101,7 @@ impl Judge {
             → IsRuling account machine.now past (long_asked reply.now) self.new ruling) }
     {
         one_reply();
+        // a long line counts as any other, so over the quota it is out of place too
         if self.runner.is_over() {
             return Ok(Ruling::OutOfPlace);
         }
@@ -119,9 +121,11 @@ impl Judge {
             → HasJudged account machine.now past self.old
             → IsRuling account machine.now past (fired_at cpu place) self.new ruling) }
     {
+        // the scripts lack that processor or place: the text is a trail, but none of this machine's
         let Some(firing) = machine.firing(cpu, place) else {
             return Ok(Ruling::OutOfPlace);
         };
+        // a script is worked through in order, so the places of a processor's firings rise
         if place < self.least[cpu as usize] {
             return Ok(Ruling::OutOfPlace);
         }

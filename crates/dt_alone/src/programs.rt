@@ -67,6 +67,7 @@ impl Programs {
     /// What is left of so many bytes after one record of each of END's ECBs, or `None` where they don't suffice.
     pub(crate) fn left_by_end(&self, size: usize) -> Option<usize>
         ensures within { IfSome result (λ left. left ≤ size) }
+        // none where one record of each of END's ECBs doesn't fit the size, else what these leave of it
         ensures left { (clauses : List ClauseForm) → map form_of_clause self.now.clauses.items ≡ clauses
             → All (λ ecb. ecb.clause < length clauses) self.now.ecbs.items
             → (let sizes = sum (map (λ ecb. layout_size (layout_of ecb.clause))
@@ -115,6 +116,7 @@ impl Programs {
         moment: &Moment,
         in_end: bool,
     ) -> Result<Option<i64>, AllocError>
+        // listed on the firing's processor is what is taken there: up to the first exit, in END all
         ensures taken { All (λ ecb. ecb.clause < length self.now.clauses.items) self.now.ecbs.items
             → (let m = form_of_own_moment moment.now in
             IfOk result (λ _. Adds (shapes_of self.now.shapes) m.firing.cpu (taken_at in_end
@@ -154,6 +156,7 @@ impl Programs {
         ensures few { vec_len happened.new ≤ vec_len happened.old + 1 }
     {
         let cpu = moment.firing.cpu;
+        // each ECB has the place of a clause that was accepted with it, so this end is never met
         let Some(clause) = self.clauses.get(ecb.clause) else {
             return Ok(None);
         };

@@ -91,6 +91,7 @@ impl Runner {
             → Replies account machine.now.registry life (line_asks line.now) (answer_of reply)
             × Runs account machine.now.registry self.new (after_line life (line_asks line.now))) }
     {
+        // over the quota a line is refused whatever it asks, and is no part of the life
         if self.is_over() {
             return Ok(Reply::Refused(Refusal::Quota));
         }
@@ -116,13 +117,16 @@ impl Runner {
             → Runs account machine.now.registry self.old life
             → Runs account machine.now.registry self.new (if seen then fired firing.now ∷ life else life)) }
     {
+        // before its `go` and after its end a consumer sees nothing
         if !matches!(self.phase, Phase::Active) {
             return Ok(false);
         }
+        // where no ECB names the probe there is nothing to take, and the firing is no part of the life
         if !self.programs.has(firing.probe) {
             return Ok(false);
         }
         let account = self.account;
+        // a foreign firing, or one that the account isn't shown, is no part of the life either
         let Some(moment) = shown(&account, machine, firing) else {
             return Ok(false);
         };
@@ -142,6 +146,7 @@ impl Runner {
         requires in_history { seen ≤ self.old.options.histsize }
         requires room { vec_len self.old.since + 2 * ECBS_MAX ≤ 2 * ECBS_MAX * (self.old.lines + seen) }
         requires forward { self.old.seen ≤ seen }
+        // for each set-up that it has: it then has the one with this firing, and END's where tracing ends
         ensures happens { IfOk result (λ _. (account : Account) (s : SetUp) (event : TracingEvent)
             → Has account machine.now.registry s self.old → IsFiring event
             → moment_at account machine.now.registry event ≡ Some (form_of_own_moment moment.now)
@@ -151,7 +156,7 @@ impl Runner {
     {
         let history = self.options.histsize;
         self.seen = seen;
-        // where an exit is taken it isn't the last word, but it is one that the runner's bounds allow
+        // for now, until the exit is known: a phase that fits the count of seen firings
         self.phase = if seen < history {
             Phase::Active
         } else {

@@ -68,6 +68,7 @@ pub(crate) fn shown_on(
     cpu: u32,
 ) -> Result<Shown, AllocError>
     requires { room ≤ options.now.bufsize }
+    // for the reserve that leaves this room: what a buffer of this policy shows of all that came to it
     ensures { IfOk result (λ shown. (reserve : ℕ) → room ≡ options.now.bufsize - reserve → Shows (record {
       policy = options.now.bufpolicy;
       size = options.now.bufsize;
@@ -194,6 +195,7 @@ fn start_of_end(size: usize, happened: &[Happened], cpu: u32) -> usize
     for later in 0..happened.len() {
         let start = happened.len() - later;
         let length = fitting_length(size, &happened[start - 1], cpu);
+        // with this record the newer ones don't fit together: the longest end that does begins after it
         if room < length {
             return start;
         }

@@ -22,6 +22,7 @@ pub(crate) fn shown<'a>(
         × (spec.moment_of machine.now.registry firing.now ≡ Some (form_of_own_moment moment))) }
 {
     let (probe, process) = machine.belonging(firing)?;
+    // an enabled probe also fires where its account may not look: in others' processes, in kernel mode
     if !admits(account, probe, firing.mode, process) {
         return None;
     }

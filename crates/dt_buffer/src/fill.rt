@@ -41,6 +41,7 @@ impl FillStore {
             × (IsTrue result ↔ KeepsOrdinary size reserve ordinary bytes.now) }
     {
         let room = (self.size - self.reserve).saturating_sub(self.kept.len());
+        // filled for good: no later ordinary record is kept, not even one that would fit
         if self.ordinary_filled || room < bytes.len() {
             self.ordinary_filled = true;
             return false;
@@ -55,6 +56,7 @@ impl FillStore {
             → FillIsAt size reserve ordinary (of_end ++ bytes.now ∷ []) self.new
             × (IsTrue result ↔ KeepsOfEnd size reserve ordinary of_end bytes.now) }
     {
+        // filled for good for END too; its records may take all that is left, not the reserve alone
         if self.end_filled || self.size - self.kept.len() < bytes.len() {
             self.end_filled = true;
             return false;

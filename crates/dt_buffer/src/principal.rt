@@ -138,6 +138,7 @@ impl Principal {
     pub fn filled(&self) -> bool
         ensures { (past : BufferPast) → BufferIsAt past self.now → IsFilled past result }
     {
+        // only fill stops keeping records for good: under switch and ring what isn't kept is a drop
         let Store::Fill(store) = &self.store else {
             return false;
         };

@@ -40,6 +40,7 @@ impl RingStore {
         ensures shows { (size : ℕ) (attempts : List (List ℕ)) → RingIsAt size attempts self.old
             → RingIsAt size (attempts ++ bytes.now ∷ []) self.new }
     {
+        // longer than the whole ring: letting older records go would make no room for it, so they stay
         if self.bytes.capacity() < bytes.len() {
             self.drops += 1;
             return false;

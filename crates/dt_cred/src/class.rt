@@ -47,11 +47,13 @@ fn decimal(digits: &[u8]) -> Option<u128>
     ensures { MatchOption result (WritesDecimal digits.now → ⊥)
         (λ number. WritesDecimal digits.now × (number_of digits.now ≡ number)) }
 {
+    // `pid` and `pid01` name no process: they are providers like any other
     if digits.is_empty() || (digits[0] == b'0' && digits.len() != 1) {
         return None;
     }
     let mut number = 0;
     for digit in digits {
+        // `pidx` names no process either
         if !digit.is_ascii_digit() {
             return None;
         }

@@ -19,6 +19,7 @@ pub(crate) fn first_clash(accepted: &Shapes, all: &Shapes) -> Option<ShortText>
     let uses = all.uses.as_slice();
     for place in accepted.uses.len()..uses.len() {
         let one = &uses[place];
+        // the first use in order of the text that clashes is told, and no later one
         if is_clashing(&uses[..place], one) {
             return Some(one.name);
         }

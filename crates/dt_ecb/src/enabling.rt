@@ -47,6 +47,7 @@ pub fn enable(
         return Err(EnableFault::Privilege { clause, what });
     }
     let all = shapes.after(alloc, program)?;
+    // a consumer's aggregation has one function, one set of bounds and one row of key kinds in all programs
     if let Some(what) = first_clash(shapes, &all) {
         return Err(EnableFault::AggClash { what });
     }
@@ -55,6 +56,7 @@ pub fn enable(
         return Err(EnableFault::NoMatch { clause });
     }
     let ecbs = ecbs_of(alloc, account, machine, program, next_epid)?;
+    // the limits are the consumer's: what its earlier programs added counts too
     if is_too_much(&all, next_epid, ecbs.len()) {
         return Err(EnableFault::Limit);
     }

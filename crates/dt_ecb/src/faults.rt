@@ -31,6 +31,7 @@ fn first_with_stack(program: &Program) -> Option<u32>
         (IsFirstSuch spec.has_stack (form_of_program program.now)) }
 {
     for (place, clause) in program.clauses.iter().enumerate() {
+        // the refusal names the first such clause, and no later one
         if has_stack(clause) {
             return Some(place as u32 + 1);
         }
@@ -49,6 +50,7 @@ pub(crate) fn first_unmatched(
         (IsFirstSuch fails (form_of_program program.now)) }
 {
     for (place, clause) in program.clauses.iter().enumerate() {
+        // one clause that matches no probe refuses the whole program, and the first is told
         if !takes_effect(account, machine, clause) {
             return Some(place as u32 + 1);
         }

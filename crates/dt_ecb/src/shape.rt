@@ -153,10 +153,12 @@ impl Shape {
 fn same_kinds(kinds: &[KeyKind], others: &[KeyKind]) -> bool
     ensures { result ≡ spec.same_kinds (map form_of_kind kinds.now) (map form_of_kind others.now) }
 {
+    // an aggregation has as many keys wherever its name stands
     if kinds.len() != others.len() {
         return false;
     }
     for (i, kind) in kinds.iter().enumerate() {
+        // and at each place a key of the same kind
         if !kind.is_same(others[i]) {
             return false;
         }

@@ -57,6 +57,7 @@ impl Shapes {
             (named (shapes_of self.now) name.now) }
     {
         for (number, one) in self.uses.iter().enumerate() {
+            // the first use gives number and function: they stay the same whatever is accepted later
             if one.name.as_bytes() == name {
                 return Some(Named {
                     number,

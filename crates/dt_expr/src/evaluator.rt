@@ -31,6 +31,7 @@ pub fn eval(expr: &Expr, scene: &Scene) -> Result<i64, EvalFault>
         Expr::Unary(op, operand) => Ok(op.apply(eval(operand, scene)?)),
         Expr::Binary(op, left, right) => {
             let left = eval(left, scene)?;
+            // the left side decides: the right one isn't evaluated, and a division by zero in it is no fault
             if let Some(number) = op.decided(left) {
                 return Ok(number);
             }

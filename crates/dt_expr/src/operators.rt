@@ -161,6 +161,7 @@ fn quotient(dividend: i64, divisor: i64) -> Result<i64, EvalFault>
     ensures { MatchResult result (λ number. quotient dividend divisor ≡ Some number)
         (λ _. quotient dividend divisor ≡ None) }
 {
+    // there is no value to go on with: the clause is abandoned whole
     if divisor == 0 {
         return Err(EvalFault::DivZero);
     }
@@ -171,6 +172,7 @@ fn remainder(dividend: i64, divisor: i64) -> Result<i64, EvalFault>
     ensures { MatchResult result (λ number. remainder dividend divisor ≡ Some number)
         (λ _. remainder dividend divisor ≡ None) }
 {
+    // a remainder by zero has no value either: the clause is abandoned whole
     if divisor == 0 {
         return Err(EvalFault::DivZero);
     }

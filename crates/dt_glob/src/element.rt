@@ -27,9 +27,11 @@ impl Element {
     {
         let (first, rest) = Sign::split_first(text)?;
         let single = Element::Single(first.byte());
+        // where an element begins, a plain `-` is the byte itself and begins no range
         if first.is_plain(b'-') {
             return Some((single, rest));
         }
+        // only a `-` after the byte makes a range of it
         let Some(behind) = strip_byte(rest, b'-') else {
             return Some((single, rest));
         };
@@ -64,6 +66,7 @@ pub(crate) fn some_element_holds(inside: &[u8], byte: u8) -> bool
 {
     let mut rest = inside;
     while let Some((element, behind)) = Element::split_first(rest) {
+        // one element that holds the byte puts it into the set, whatever the others hold
         if element.holds(byte) {
             return true;
         }

@@ -102,6 +102,7 @@ fn check(text: &[u8]) -> Result<(), GlobFault>
         place = place.step(sign)?;
         rest = behind;
     }
+    // a last `\` has nothing to take as itself, and goes before Unclosed where the text ends in a set
     if !rest.is_empty() {
         return Err(GlobFault::LoneEscape);
     }
@@ -123,6 +124,7 @@ fn matches_text(pattern: &[u8], text: &[u8]) -> bool
     let mut behind_star = false;
     loop {
         match Run::of(unread, left) {
+            // no star is left, and the items have taken the text to its end
             Run::Matched => return true,
             Run::Star { behind, rest } => {
                 behind_star = true;
@@ -130,9 +132,11 @@ fn matches_text(pattern: &[u8], text: &[u8]) -> bool
                 left = rest;
             }
             Run::Failed => {
+                // before the first star there is one way only to lay the items on the text, and it failed
                 if !behind_star {
                     return false;
                 }
+                // the star has taken all that was left, and what comes after it still doesn't fit
                 let Some((_, rest)) = left.split_first() else {
                     return false;
                 };

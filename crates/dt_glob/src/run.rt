@@ -28,12 +28,15 @@ impl<'a> Run<'a> {
         let mut unread = pattern;
         let mut left = text;
         while let Some((token, behind)) = Token::split_first(unread) {
+            // how much the star takes is for the caller to try
             if let Token::Star = token {
                 return Run::Star { behind, rest: left };
             }
+            // every item but a star takes a byte, and none is left
             let Some((byte, rest)) = left.split_first() else {
                 return Run::Failed;
             };
+            // up to a star each item takes the next byte, so there is no other way to try
             if !token.takes(*byte) {
                 return Run::Failed;
             }

@@ -91,6 +91,7 @@ fn split_at_closing(text: &[u8]) -> (&[u8], &[u8])
     let mut inside = 0;
     let mut rest = text;
     while let Some((sign, behind)) = Sign::split_first(rest) {
+        // the first plain `]` ends the set: an escaped one is a byte of it
         if sign.is_plain(b']') {
             return (&text[..inside], behind);
         }

@@ -29,6 +29,7 @@ pub(crate) fn read_accounts(alloc: Global, rows: &[Value]) -> Result<Vec<Account
         match account_of(accounts.as_slice(), value) {
             Some(account) => accounts.push(account)?,
             None => {
+                // the first row that isn't right decides: no later one is read
                 return Err(MachineFault {
                     number: FaultNumber::Account,
                     cpu: 0,
@@ -49,9 +50,11 @@ fn account_of(before: &[Account], row: &Value) -> Option<Account>
     let name = account_name(text_at(row, "name", "").as_bytes())?;
     let uid = u32_of(unsigned_at(row, "uid", None))?;
     let privs = privs_of(list_at(row, "privs"))?;
+    // one account more than a machine may have isn't right, whatever its row says
     if before.len() >= ACCOUNTS_MAX {
         return None;
     }
+    // a session is opened by the name of its account, so no two may have one
     if is_taken(before, name.as_bytes()) {
         return None;
     }
@@ -70,6 +73,7 @@ fn is_taken(accounts: &[Account], name: &[u8]) -> bool
 fn account_name(text: &[u8]) -> Option<Name>
     ensures { MatchOption result (IsAccountName text.now → ⊥) (λ name. IsAccountName text.now × (name ≡ text.now)) }
 {
+    // an account's name is a plain word of step lines and trails
     if text.is_empty() || !text.iter().all(|byte| is_account_byte(*byte)) {
         return None;
     }
@@ -87,6 +91,7 @@ fn privs_of(list: &[Value]) -> Option<Privs>
     ensures { MatchOption result (All IsPriv (texts list.now) → ⊥)
         (λ found. All IsPriv (texts list.now) × (found ≡ privs (texts list.now))) }
 {
+    // an unknown privilege is refused with its account, and never passed over
     if !are_privs(list) {
         return None;
     }

@@ -19,6 +19,7 @@ pub(crate) fn first_foreign(sections: &Sections, scripts: &[Vec<Firing>]) -> Opt
         (map (λ s. s.items) scripts.now) at.0 at.1) }
 {
     for (cpu, script) in scripts.iter().enumerate() {
+        // the fault names the least processor with a foreign firing, and there the first row
         if let Some(row) = first_foreign_in(sections, script.as_slice()) {
             return Some((cpu as u32, row));
         }
@@ -33,6 +34,7 @@ fn first_foreign_in(sections: &Sections, script: &[Firing]) -> Option<u32>
         (λ row. IsFirstWrong (λ _ firing. Belongs (registry_of sections.now) firing) script.now row) }
 {
     for (place, firing) in script.iter().enumerate() {
+        // the first foreign firing of a script is the one that is told
         if sections.belonging(firing).is_none() {
             return Some(place as u32);
         }

@@ -13,6 +13,7 @@ pub(crate) fn arguments_of(list: &[Value]) -> Option<[i64; ARGS]>
         (λ found. AreArguments (map signed (map view list.now))
         × (found ≡ arguments (map signed (map view list.now)))) }
 {
+    // a firing has ten arguments: a longer list is refused, and not cut
     if list.len() > ARGS {
         return None;
     }
@@ -28,6 +29,7 @@ pub(crate) fn frames_of(list: &[Value]) -> Option<[u64; FRAMES]>
     ensures { MatchOption result (AreGivenFrames (map unsigned (map view list.now)) → ⊥)
         (λ found. AreGivenFrames (map unsigned (map view list.now)) × (found ≡ frames (map unsigned (map view list.now)))) }
 {
+    // a stack has eight frames: a longer list is refused, and not cut
     if list.len() > FRAMES {
         return None;
     }

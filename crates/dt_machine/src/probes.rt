@@ -39,6 +39,7 @@ pub(crate) fn read_probes(
         ) {
             Some(probe) => probes.push(probe)?,
             None => {
+                // the first row that isn't right decides; `BEGIN` and `END` are no rows of the file
                 return Err(MachineFault {
                     number: FaultNumber::Probe,
                     cpu: 0,
@@ -62,20 +63,24 @@ fn own_probes(alloc: Global) -> Result<Vec<Probe>, AllocError>
 
 /// The probe of a row, if it is right after these of the file.
 fn probe_of(before: &[Probe], processes: &[Process], text: &[u8]) -> Option<Probe>
+    // `None` exactly where the row isn't right; else its probe, with the next identifier and its class
     ensures { (rows : List (List ℕ)) → AreProbes FIRST_PROBE_ID rows before.now
         → MatchOption result (IsRightProbe processes.now rows text.now → ⊥)
         (λ probe. IsRightProbe processes.now rows text.now
         × (probe.id ≡ length before.now + FIRST_PROBE_ID) × SpellsTuple text.now probe.tuple
         × IsClassOf probe.tuple.provider probe.class) }
 {
+    // one probe more than a machine may have isn't right, whatever its text says
     if before.len() >= PROBES_MAX {
         return None;
     }
     let tuple = ProbeTuple::parse(text)?;
+    // no two probes are alike: a repeated one is told at its later row
     if is_taken(before, &tuple) {
         return None;
     }
     let probe = Probe::new(before.len() as u32 + FIRST_PROBE_ID, tuple);
+    // the provider `dtrace` has `BEGIN` and `END` alone, and a `pid` provider needs its process in the file
     if !is_traced(probe.class, processes) {
         return None;
     }
@@ -88,6 +93,7 @@ fn is_taken(probes: &[Probe], tuple: &ProbeTuple) -> bool
         (All (λ probe. probe.tuple ≢ tuple.now) probes.now) }
 {
     for probe in probes {
+        // one probe with these four names takes them: no other needs to be asked
         if is_same(&probe.tuple, tuple) {
             return true;
         }

@@ -36,6 +36,7 @@ pub(crate) fn read_processes(
                 processes.push(process)?;
             }
             None => {
+                // the first row that isn't right decides: no later one is read
                 return Err(MachineFault {
                     number: FaultNumber::Process,
                     cpu: 0,
@@ -49,6 +50,7 @@ pub(crate) fn read_processes(
 
 /// The process of a row, if it is right after this many processes, of which the map gives the places.
 fn process_of(before: usize, by_pid: &HashMap<u32, usize>, row: &Value) -> Option<Process>
+    // `None` exactly where the row isn't right; else its process, whose number no earlier one has
     ensures { (rows : List ProcessRow) → before ≡ length rows → All (λ r. IsSome r.pid) rows
         → Indexes by_pid.now (map process rows)
         → MatchOption result (IsRightProcess rows (process_row (view row.now)) → ⊥)
@@ -59,9 +61,11 @@ fn process_of(before: usize, by_pid: &HashMap<u32, usize>, row: &Value) -> Optio
     let pid = pid_of(unsigned_at(row, "pid", None))?;
     let uid = u32_of(unsigned_at(row, "uid", None))?;
     let execname = execname_of(text_at(row, "execname", "").as_bytes())?;
+    // one process more than a machine may have isn't right, whatever its row says
     if before >= PROCESSES_MAX {
         return None;
     }
+    // a firing names its process by the number, so no two may have one
     if by_pid.get(&pid).is_some() {
         return None;
     }
@@ -81,6 +85,7 @@ fn pid_of(number: Option<u64>) -> Option<u32>
 fn execname_of(text: &[u8]) -> Option<ShortText>
     ensures { MatchOption result (IsExecname text.now → ⊥) (λ found. IsExecname text.now × (found ≡ text.now)) }
 {
+    // an execname is a text of visible ASCII characters and spaces
     if !text.iter().all(|byte| *byte >= b' ' && *byte <= b'~') {
         return None;
     }

@@ -24,6 +24,7 @@ pub(crate) fn first_long(scripts: &[Value]) -> Option<u32>
         (λ cpu. IsFirstWrongIn HasRoom (scripts_rows scripts.now) cpu SCRIPT_MAX) }
 {
     for (cpu, script) in scripts.iter().enumerate() {
+        // the fault names the least processor whose script is too long
         if items_of(script).len() > SCRIPT_MAX {
             return Some(cpu as u32);
         }
@@ -75,6 +76,7 @@ fn read_script(
         match firing_of(sections, cpu, place as u32, row) {
             Some(firing) => found.push(firing)?,
             None => {
+                // the first firing that isn't right decides: no later one is read
                 return Err(MachineFault {
                     number: FaultNumber::Firing,
                     cpu,
@@ -122,6 +124,7 @@ fn probe_of(sections: &Sections, number: Option<u64>) -> Option<u32>
         (λ id. IsSomeAnd number (IsGivenProbe (registry_of sections.now)) × (id ≡ number_in number)) }
 {
     let number = number?;
+    // `BEGIN` and `END` fire for one consumer alone and stand in no script; past the last there is no probe
     if number < u64::from(FIRST_PROBE_ID) || number > sections.probes.len() as u64 {
         return None;
     }

@@ -68,6 +68,7 @@ impl Sections {
         ensures { option_copied result ≡ probe_of (registry_of self.now) id }
     {
         let probes = self.probes.as_slice();
+        // identifiers count from 1, which is `BEGIN`
         if id == 0 {
             return None;
         }
@@ -92,7 +93,7 @@ impl Sections {
             × (probe_of (registry_of self.now) firing.now.probe ≡ Some found.0.now)
             × (process_of (registry_of self.now) firing.now.pid ≡ Some found.1.now)) }
     {
-        // BEGIN and END are no probes of scripts
+        // the machine has that processor, and BEGIN and END are no probes of scripts
         if firing.cpu >= self.cpus || firing.probe < FIRST_PROBE_ID {
             return None;
         }
@@ -135,6 +136,7 @@ fn script_fault(cpus: u32, scripts: &[Value]) -> Option<MachineFault>
         (λ fault. (fault.number ≡ FaultNumber.Script)
         × IsScriptFault cpus (map script_rows (map view scripts.now)) fault.cpu fault.row) }
 {
+    // how many scripts there are goes before how long one is, and names no processor
     if scripts.len() != cpus as usize {
         return Some(FaultNumber::Script.nowhere());
     }

@@ -87,6 +87,7 @@ fn first_fault(text: &[u8]) -> Option<NameFault>
     let mut colons = 0;
     let mut field_len = 0;
     for byte in text {
+        // the first byte from the left that shows a fault decides: what comes after it isn't looked at
         if *byte == b':' {
             if colons == FIELDS_MAX - 1 {
                 return Some(NameFault::TooManyFields);
@@ -94,6 +95,7 @@ fn first_fault(text: &[u8]) -> Option<NameFault>
             colons += 1;
             field_len = 0;
         } else if !is_name_byte(*byte) {
+            // asked before the length: a byte that no name has goes before the other faults of that byte
             return Some(NameFault::BadByte);
         } else if field_len == FIELD_MAX {
             return Some(NameFault::TooLong);

@@ -47,6 +47,7 @@ impl Name {
         ensures value { IfSome result (λ name. name ≡ bytes.now) }
     {
         let text = ShortText::new(bytes)?;
+        // in the head of a clause any other byte ends the name
         if !bytes.iter().all(|byte| is_name_byte(*byte)) {
             return None;
         }

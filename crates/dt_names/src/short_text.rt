@@ -44,6 +44,7 @@ impl ShortText {
         ensures fits { IsSome result ↔ (length bytes.now ≤ SHORT_TEXT_MAX) }
         ensures value { IfSome result (λ text. text ≡ bytes.now) }
     {
+        // a record shows a text in 32 bytes with a zero after it at least, so a longer one has no room
         if bytes.len() > SHORT_TEXT_MAX {
             return None;
         }

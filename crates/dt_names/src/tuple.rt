@@ -26,6 +26,7 @@ impl ProbeTuple {
         ensures none { IfNone result ((tuple : ProbeTuple) → SpellsTuple text.now tuple → ⊥) }
     {
         let fields = ProbeDesc::aligned(text);
+        // a description may leave fields out, a probe may not, and only its module and function may be empty
         if count_of_colons(text) != 3 || fields.provider.is_empty() || fields.name.is_empty() {
             return None;
         }

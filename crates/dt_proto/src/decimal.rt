@@ -7,6 +7,7 @@ pub fn number_of(digits: &[u8]) -> Option<u32>
     ensures found { IfSome result (λ number. (number < 2 ^ 32) × (digits.now ≡ decimal number)) }
     ensures none { IfNone result ((number : ℕ) → number < 2 ^ 32 → digits.now ≢ decimal number) }
 {
+    // a number has one spelling: a plus or a leading zero, which `parse` would let pass, makes it none
     if has_sign_or_zero(digits) {
         return None;
     }

@@ -239,6 +239,7 @@ pub fn reply_texts()
     ensures done { reply_text done ≡ codes "{\"ok\":true}\n" }
     ensures enabled { (count first : ℕ) → reply_text (enabled count first)
         ≡ codes "{\"count\":" ++ decimal count ++ codes ",\"first\":" ++ decimal first ++ codes ",\"ok\":true}\n" }
+    // the reply to a `snap`: its data is two lower case digits for each byte of the records
     ensures snapped { (cpu drops : ℕ) (bytes : List ℕ) (filled : Bool) → AllByRecursion (λ byte. byte < 256) bytes
         → reply_text (snapped cpu bytes drops filled)
         ≡ codes "{\"cpu\":" ++ decimal cpu ++ codes ",\"data\":\"" ++ encode_lower bytes
@@ -247,6 +248,7 @@ pub fn reply_texts()
     ensures listed { (probes : List Probe) → reply_text (listed probes)
         ≡ codes "{\"ok\":true,\"probes\":[" ++ join_with_byte 44 (map probe_text probes) ++ codes "]}\n" }
 
+    // the reply to an `agg`: the name as JSON quotes it, the rows with commas between them
     ensures aggregated { (name : List ℕ) (function : AggFn) (rows : List RowForm)
         → reply_text (aggregated name function rows)
         ≡ codes "{\"fn\":\"" ++ function_word function ++ codes "\",\"name\":"

@@ -1,8 +1,8 @@
 //! The rows of an aggregation as JSON.
 ghost use Rattle.std.specs.Prelude.{◌≡◌, IfOk, map};
 ghost use Rattle.serde_json.specs.View.{view};
-ghost use Rattle.dt_aggfn.specs.Answers.{form_of_answer, form_of_counted_row as form_of_counted};
-ghost use Rattle.dt_aggstore.specs.Entries.{form_of_counted_row};
+ghost use Rattle.dt_aggfn.specs.Answers.{form_of_answer, form_of_counted_row};
+ghost use Rattle.dt_aggstore.specs.Entries.{form_of_row};
 ghost use Rattle.dt_proto.specs.Rows.{counted_data, function_word, least_data, part_data, row_data, value_data};
 
 use crate::text::{before_zeros, text_of};
@@ -28,7 +28,7 @@ pub(crate) fn word_of(function: AggFn) -> &'static str
 
 /// Each row as an object of its key and its value.
 pub(crate) fn row_values(alloc: Global, rows: &[Row]) -> Result<Vec<Value>, AllocError>
-    ensures { IfOk result (λ values. map view values.items ≡ map row_data (map form_of_counted_row rows.now)) }
+    ensures { IfOk result (λ values. map view values.items ≡ map row_data (map form_of_row rows.now)) }
 {
     let mut values = Vec::new(alloc);
     for row in rows {
@@ -38,7 +38,7 @@ pub(crate) fn row_values(alloc: Global, rows: &[Row]) -> Result<Vec<Value>, Allo
 }
 
 fn row_value(alloc: Global, row: &Row) -> Result<Value, AllocError>
-    ensures { IfOk result (λ value. view value ≡ row_data (form_of_counted_row row.now)) }
+    ensures { IfOk result (λ value. view value ≡ row_data (form_of_row row.now)) }
 {
     let key = part_values(alloc, row.key.parts.as_slice())?;
     let value = answer_value(alloc, &row.value)?;
@@ -74,7 +74,7 @@ fn answer_value(alloc: Global, answer: &Answer) -> Result<Value, AllocError>
 }
 
 fn counted_values(alloc: Global, rows: &[CountedRow]) -> Result<Vec<Value>, AllocError>
-    ensures { IfOk result (λ values. map view values.items ≡ map counted_data (map form_of_counted rows.now)) }
+    ensures { IfOk result (λ values. map view values.items ≡ map counted_data (map form_of_counted_row rows.now)) }
 {
     let mut values = Vec::new(alloc);
     for row in rows {
@@ -84,7 +84,7 @@ fn counted_values(alloc: Global, rows: &[CountedRow]) -> Result<Vec<Value>, Allo
 }
 
 fn counted_value(alloc: Global, row: CountedRow) -> Result<Value, AllocError>
-    ensures { IfOk result (λ value. view value ≡ counted_data (form_of_counted row)) }
+    ensures { IfOk result (λ value. view value ≡ counted_data (form_of_counted_row row)) }
 {
     let least = least_value(row.least);
     json!(in alloc; [least, row.count])

@@ -32,6 +32,7 @@ impl Taken {
     pub(crate) fn add(&mut self, statement: &Statement, scene: &Scene) -> Result<(), EvalFault>
         requires record_room { record_len self.old.bytes + 8 * FRAMES ≤ RECORD_MAX }
         requires values_room { array_vec_len self.old.values + KEYS_MAX + 1 ≤ VALUES_MAX }
+        // without a fault: the record gets its bytes, the values what it gives; a first exit's status stays
         ensures done { OnOk result ((done : Effect)
             × (effect (scene_of scene.now) (form_of_statement statement.now) ≡ Some done)
             × (bytes_of self.new.bytes ≡ option_map (λ bytes. bytes ++ recorded done) (bytes_of self.old.bytes))

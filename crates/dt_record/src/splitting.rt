@@ -36,6 +36,7 @@ pub fn split(
                 records.push(record)?;
                 rest = after;
             }
+            // bytes are records to their end or not at all: a rest that is none isn't let through
             None => return Ok(None),
         }
     }
@@ -48,21 +49,25 @@ fn record_at<'a>(
     layouts: &[Layout],
     bytes: &'a [u8],
 ) -> Result<Option<(Record, &'a [u8])>, AllocError>
+    // `None` exactly where no record of the layouts stands in front; else that record and what is after it
     ensures { IfOk result (λ found. MatchOption found
         ((one : RecordForm) (after : List ℕ) → IsRecordOf (map form_of_layout layouts.now) one
         → bytes.now ≡ record_bytes one ++ after → ⊥)
         (λ found. IsRecordOf (map form_of_layout layouts.now) (form_of_record found.0)
         × (bytes.now ≡ record_bytes (form_of_record found.0) ++ found.1.now))) }
 {
+    // a record begins with its EPID, and here that is cut off
     if bytes.len() < EPID_SIZE {
         return Ok(None);
     }
     let (head, rest) = bytes.split_at(EPID_SIZE);
     let epid = BigEndian::read_u32(head);
+    // the consumer has no ECB of this EPID, or its clause leaves no record
     let Some(fields) = fields_of(layouts, epid) else {
         return Ok(None);
     };
     let size = total(fields);
+    // the layout says how long the record is, and here its values are cut off
     if rest.len() < size {
         return Ok(None);
     }
@@ -73,6 +78,7 @@ fn record_at<'a>(
 
 /// The fields of the record of an EPID, where there is one. EPIDs count from 1.
 fn fields_of(layouts: &[Layout], epid: u32) -> Option<&[Field]>
+    // `None` exactly where the EPID names no layout of a record; else the fields of the one that it names
     ensures named { MatchOption result
         ((place : ℕ) (fields : List FieldForm) → epid ≡ place + 1
         → slice_get (map form_of_layout layouts.now) place ≡ Some (Some fields) → ⊥)

@@ -61,6 +61,7 @@ impl Taken {
             ≡ Some (if held then Some (form_of_taken self.new) else None))
             (λ _. taking epid (scene_of scene.now) (form_of_clause clause.now) ≡ None) }
     {
+        // where the predicate is 0 the clause does nothing: no expression of its statements is evaluated
         if !predicate_holds(&clause.predicate, scene)? {
             return Ok(false);
         }
@@ -76,6 +77,7 @@ impl Taken {
         scene: &Scene,
     ) -> Result<(), EvalFault>
         requires { length statements.now ≤ STATEMENTS_MAX }
+        // what is left comes of all statements' effects; a fault exactly where one of them has no effect
         ensures { MatchResult result
             (λ _. (effects : List Effect)
             × (each (effect (scene_of scene.now)) (map form_of_statement statements.now) ≡ Some effects)

@@ -36,6 +36,7 @@ fn main(rt: HostRuntime) -> ExitCode {
 /// Does what the program's words ask for, on the real files and streams, and gives the status where nothing failed.
 fn execute(rt: &HostRuntime) -> Result<ExitCode, Fault> {
     let args = env::args(rt).map_err(|error| Fault::of_words(&error))?;
+    // a lack of memory for the words, here and below, is told as a device that failed
     let Ok(args) = args.collect::<Vec<String>>(rt.alloc()) else {
         return Err(Fault::Device);
     };

@@ -50,6 +50,7 @@ impl<'a> Words<'a> {
             .map_err(|error| WordsFault::of(&error))?;
         let (word, found) = matches.subcommand().ok_or(WordsFault::Usage)?;
         let machine = found.get_str("machine").ok_or(WordsFault::Usage)?;
+        // in a check `trail` names a file, in a replay a seat, so each is read in its own way
         if word == "check" {
             let trail = found.get_str("trail").ok_or(WordsFault::Usage)?;
             return Ok(Words::Check { machine, trail });

@@ -43,6 +43,7 @@ pub fn write_replay<R: Read, W: Write>(
     // Only a write that fails leaves anything written: a beginning of what would have been.
     ensures nothing_written { IfErr result (λ fault. fault ≢ ReplayFault.Write
         → Keeps (W.contents writer.old) (W.contents writer.new)) }
+    // What a failed write leaves are the first bytes of what the definition gives, and no others.
     ensures beginning_written { IfErr result (λ fault. fault ≡ ReplayFault.Write
         → IfSome (R.remaining reader.old) (λ input.
         (contents : Contents) × (output : List ℕ) × (count : ℕ) × IsDescribed machine.now contents

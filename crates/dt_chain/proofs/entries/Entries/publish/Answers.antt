@@ -11,7 +11,12 @@ use Rattle.dt_chain.proofs.entries.Entries.publish.Goals as goal
 pub returns-clause-ok : goal.returns-clause-ok
 returns-clause-ok c = λ writes at.
     let old = c.args.self.now in
-    let entry : Published = record { life = c.args.life; account = c.args.account.now; probes = c.args.interest.now } in
+    let entry : Published = record {
+      life = c.args.life;
+      account = c.args.account.now;
+      probes =
+          c.args.interest.now;
+    } in
     let within : c.number.result < length old.slots = search rules in
     let whole : take 4099 old.lists.items ≡ old.lists.items =
     take_all 4099 old.lists.items (omega (arith, old.few, old.lists.ok.0)) in
