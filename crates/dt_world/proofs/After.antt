@@ -4,9 +4,9 @@ use Rattle.std.proofs.Common.{subst}
 use Rattle.dt_machine.specs.Registry.{Contents}
 use Rattle.dt_world.specs.Progress.{IsAfter, with_world}
 use Rattle.dt_world.specs.Replay.{Replayed}
-use Rattle.dt_world.specs.Stands.{EngineIsAt}
+use Rattle.dt_steps.specs.Stands.{EngineIsAt}
 use Rattle.dt_world.specs.Told.{IsTold, Tells}
-use Rattle.dt_world.specs.World.{World}
+use Rattle.dt_steps.specs.World.{World}
 use Rattle.dt_world.specs.declared.output.Wanted.{Wanted}
 use Rattle.dt_world.specs.declared.progress.Progress.{Progress}
 use Rattle.dt_world.proofs.Silences.{SameViews}

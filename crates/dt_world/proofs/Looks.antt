@@ -14,11 +14,11 @@ use Rattle.dt_machine.specs.Registry.{Registry, Contents, IsSound, IsPlaced, fir
 use Rattle.dt_machine.specs.declared.limits.TheConstants.{SCRIPT_MAX}
 use Rattle.dt_machine.specs.declared.firing.Firing.{Firing}
 use Rattle.dt_world.specs.Replay.{Replayed, after_step_line, next_of}
-use Rattle.dt_world.specs.Stands.{IsLooked}
+use Rattle.dt_steps.specs.Stands.{IsLooked}
 use Rattle.dt_world.specs.StepLine.{look_line}
-use Rattle.dt_world.specs.Steps.{looking, looking_at, is_done}
-use Rattle.dt_world.specs.Tests.{mask_of}
-use Rattle.dt_world.specs.World.{World}
+use Rattle.dt_steps.specs.Steps.{looking, looking_at, is_done}
+use Rattle.dt_steps.specs.Tests.{mask_of}
+use Rattle.dt_steps.specs.World.{World}
 
 module _ (registry : Registry) (world : World) (cpu : ℕ) (firing : Firing) where
   pub looking_keeps : (looking registry world cpu firing).questions ≡ world.questions

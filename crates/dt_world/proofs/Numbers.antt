@@ -8,17 +8,17 @@ use Rattle.dt_machine.specs.declared.firing.Firing.{Firing}
 use Rattle.dt_chain.specs.declared.seat.TheConstants.{SEATS}
 use Rattle.dt_proto.specs.Lines.{LineForm, line_form}
 use Rattle.dt_proto.specs.Session.{session_account}
-use Rattle.dt_world.specs.Replay.{Replayed, after_step_line, replayed, acts_of, firing_acts, next_of, seats_due, waits}
-use Rattle.dt_world.specs.Replay.{has_closed, beginning}
+use Rattle.dt_world.specs.Replay.{Replayed, after_step_line, replayed, acts_of, firing_acts, next_of, seats_due}
+use Rattle.dt_world.specs.Replay.{beginning}
 use Rattle.dt_world.specs.StepLine.{StepLineForm, open_line, close_line, withdraw_line, ask_line, publish_line}
 use Rattle.dt_world.specs.StepLine.{finish_line, look_line, offer_line, call_line, fire_line}
-use Rattle.dt_world.specs.Steps.{Act, opens, asks, publishes, finishes, withdraws, looks, offers, closes, after_act}
-use Rattle.dt_world.specs.Steps.{with_place, with_session, answering, opening, asking, publishing, publishing_of}
-use Rattle.dt_world.specs.Steps.{finishing, withdrawing, passed, looking_at, looking, is_done, offered, offering_of}
-use Rattle.dt_world.specs.Steps.{offering, closing}
-use Rattle.dt_world.specs.Tests.{mask_of}
-use Rattle.dt_world.specs.World.{World, Session, Place, Due, number_on, new_session, answered, waiting, may_ask}
-use Rattle.dt_world.specs.World.{begins, may_withdraw}
+use Rattle.dt_steps.specs.Steps.{Act, opens, asks, publishes, finishes, withdraws, looks, offers, closes, after_act}
+use Rattle.dt_steps.specs.Steps.{with_place, with_session, answering, opening, asking, publishing, publishing_of}
+use Rattle.dt_steps.specs.Steps.{finishing, withdrawing, passed, looking_at, looking, is_done, offered, offering_of}
+use Rattle.dt_steps.specs.Steps.{offering, closing}
+use Rattle.dt_steps.specs.Tests.{mask_of}
+use Rattle.dt_steps.specs.World.{World, Session, Place, Due, number_on, new_session, answered, waiting, may_ask}
+use Rattle.dt_steps.specs.World.{begins, may_withdraw, waits, has_closed}
 
 -- what a step adds to the number of closed sessions, at most
 abbrev adds : Act → ℕ

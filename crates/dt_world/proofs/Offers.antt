@@ -14,7 +14,7 @@ use Rattle.dt_machine.specs.Registry.{Contents}
 use Rattle.dt_machine.specs.declared.firing.Firing.{Firing}
 use Rattle.dt_world.specs.Replay.{Replayed, after_step_line, next_of, seats_due, firing_acts}
 use Rattle.dt_world.specs.StepLine.{look_line, fire_line}
-use Rattle.dt_world.specs.Steps.{looks, offers, after_act, offering, looking}
+use Rattle.dt_steps.specs.Steps.{looks, offers, after_act, offering, looking}
 
 -- the seats that a mask names, by rising seat
 unfoldable pub named_by : SeatMask → List ℕ

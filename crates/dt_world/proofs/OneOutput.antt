@@ -20,13 +20,13 @@ use Rattle.dt_proto.specs.Reply.{reply_text}
 use Rattle.dt_proto.specs.Splits.{with_newline}
 use Rattle.dt_proto.specs.Trail.{TrailEntry, line_asked, long_asked, IsEntryOf}
 use Rattle.dt_proto.specs.Trail.{IsLineTold, IsToldFiring, IsTrailOf, trail_text}
-use Rattle.dt_world.specs.Ran.{Told, IsReply, AreReplies}
+use Rattle.dt_steps.specs.Ran.{Told, IsReply, AreReplies}
 use Rattle.dt_world.specs.Replay as replay
 use Rattle.dt_world.specs.Replay.{Replayed, IsReplay, IsTrailReplay, IsTrailText, replayed, acts_of, acts_from}
 use Rattle.dt_world.specs.Replay.{beginning, told_line}
 use Rattle.dt_world.specs.StepLine.{StepLineForm}
-use Rattle.dt_world.specs.Steps.{after_act, world_after}
-use Rattle.dt_world.specs.World.{Session, Question, session_of}
+use Rattle.dt_steps.specs.Steps.{after_act, world_after}
+use Rattle.dt_steps.specs.World.{Session, Question, session_of}
 use Rattle.dt_world.proofs.LineLists.{same_forms}
 
 from : (contents : Contents) (now : Replayed) (forms : List StepLineForm)

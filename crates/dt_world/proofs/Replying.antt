@@ -4,10 +4,10 @@ use Rattle.std.specs.List.{flat_map}
 use Rattle.std.proofs.lemmas.List.{append-nil}
 use Rattle.std.proofs.lemmas.List.Concat.{flat_map-append}
 use Rattle.dt_machine.specs.Registry.{Registry}
-use Rattle.dt_world.specs.Ran.{Told, IsReply, AreReplies}
+use Rattle.dt_steps.specs.Ran.{Told, IsReply, AreReplies}
 use Rattle.dt_world.specs.Replay.{told_line}
 use Rattle.dt_world.specs.Told.{IsToldText}
-use Rattle.dt_world.specs.World.{Question}
+use Rattle.dt_steps.specs.World.{Question}
 
 replies-one_more : (registry : Registry) (questions : List Question) (told : List Told) (question : Question)
     (one : Told) → AreReplies registry questions told → IsReply registry question one

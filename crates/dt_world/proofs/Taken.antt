@@ -7,7 +7,7 @@ use Rattle.dt_world.specs.Progress.{IsAfter, HasTakenLines}
 use Rattle.dt_world.specs.Replay.{replayed, after_step_line}
 use Rattle.dt_world.specs.StepLine.{StepLineForm, SpellsStepLine}
 use Rattle.dt_world.specs.Told.{IsTold}
-use Rattle.dt_world.specs.World.{number_on, new_world}
+use Rattle.dt_steps.specs.World.{number_on, new_world}
 use Rattle.dt_world.specs.declared.progress.Progress.{Progress}
 use Rattle.dt_world.specs.declared.output.Wanted.{Wanted}
 use Rattle.dt_world.specs.declared.output.Wanted.TheVariants as wanted

@@ -19,12 +19,12 @@ use Rattle.dt_proto.specs.Splits.{with_newline}
 use Rattle.dt_proto.specs.Trail.{TrailEntry, line_asked, long_asked, fired_at, entry_text, IsEntryOf, IsTrailOf}
 use Rattle.dt_proto.specs.Trail.{IsLineTold as IsTrailOfLine, trail_text}
 use Rattle.dt_proto.proofs.Entries.{reply_line_of}
-use Rattle.dt_world.specs.Ran.{IsText}
+use Rattle.dt_steps.specs.Ran.{IsText}
 use Rattle.dt_world.specs.Told.{line_told, answer_told}
-use Rattle.dt_world.specs.Tests.{is_seen}
-use Rattle.dt_world.specs.Views.{life_of}
-use Rattle.dt_world.proofs.Lives.{is_life, reply_from}
-use Rattle.dt_world.proofs.Seeing.{seen_from, seen_to}
+use Rattle.dt_steps.specs.Tests.{is_seen}
+use Rattle.dt_steps.specs.Views.{life_of}
+use Rattle.dt_steps.proofs.Lives.{is_life, reply_from}
+use Rattle.dt_steps.proofs.Seeing.{seen_from, seen_to}
 
 -- The text is the trail of this view.
 abbrev pub IsTrail : Account → Registry → List Reached → List ℕ → Type 0

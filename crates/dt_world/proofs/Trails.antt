@@ -15,17 +15,17 @@ use Rattle.dt_proto.specs.Lines.{LineForm}
 use Rattle.dt_proto.specs.Session.{session_account}
 use Rattle.dt_proto.specs.Splits.{with_newline}
 use Rattle.dt_proto.specs.Trail.{fired_at, entry_text}
-use Rattle.dt_world.specs.Ran.{IsText}
+use Rattle.dt_steps.specs.Ran.{IsText}
 use Rattle.dt_world.specs.Replay.{IsTrailText, told_line}
-use Rattle.dt_world.specs.Stands.{IsAnswered, first_account, place_of, sees_on, seen_in}
-use Rattle.dt_world.specs.Steps.{with_session, question_of, answering, opening, asking, finishing, offered, offering}
-use Rattle.dt_world.specs.Steps.{offering_of, looking, looking_at, is_done}
-use Rattle.dt_world.specs.Sound.{IsSoundWorld}
-use Rattle.dt_world.specs.Tests.{mask_of}
+use Rattle.dt_steps.specs.Stands.{IsAnswered, first_account, place_of, sees_on, seen_in}
+use Rattle.dt_steps.specs.Steps.{with_session, question_of, answering, opening, asking, finishing, offered, offering}
+use Rattle.dt_steps.specs.Steps.{offering_of, looking, looking_at, is_done}
+use Rattle.dt_steps.specs.Sound.{IsSoundWorld}
+use Rattle.dt_steps.specs.Tests.{mask_of}
 use Rattle.dt_world.specs.Told.{IsTold, IsToldText, opening_text, reply_told, answer_told, firing_told}
-use Rattle.dt_world.specs.World.{World, Session, Pending, Place, Due, Question, life_in, session_of, new_session}
-use Rattle.dt_world.specs.World.{answered, waiting, may_ask, begins, session_numbered}
-use Rattle.dt_world.specs.declared.looked.ScriptPlace.{ScriptPlace}
+use Rattle.dt_steps.specs.World.{World, Session, Pending, Place, Due, Question, life_in, session_of, new_session}
+use Rattle.dt_steps.specs.World.{answered, waiting, may_ask, begins, session_numbered}
+use Rattle.dt_steps.specs.declared.looked.ScriptPlace.{ScriptPlace}
 use Rattle.dt_world.specs.declared.output.Wanted.{Wanted}
 use Rattle.dt_world.specs.declared.output.Wanted.TheVariants as wanted
 use Rattle.dt_world.proofs.Firsts.{first_on, seen_as, text-same, first-same, first-answered, offered-seen}

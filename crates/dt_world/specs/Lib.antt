@@ -1,12 +1,8 @@
--- The world of many consumers: what its steps do, what a run of them answers, and the lines of a replay.
-pub mod Tests
-pub mod Views
-pub mod World
-pub mod Steps
-pub mod Sound
-pub mod Ran
-pub mod Stands
-pub mod Telling
+-- The lines of a replay, and what it writes. The world of its steps is dt_steps', shown again.
+pub use Rattle.dt_steps.specs.Views
+pub use Rattle.dt_steps.specs.World
+pub use Rattle.dt_steps.specs.Steps
+pub use Rattle.dt_steps.specs.Ran
 pub mod Words
 pub mod StepLine
 pub mod Input

@@ -7,11 +7,11 @@ use Rattle.dt_machine.specs.declared.firing.Firing.{Firing}
 use Rattle.dt_machine.specs.declared.limits.TheConstants.{CPUS_MAX}
 use Rattle.dt_world.specs.Input.{AreStepLines}
 use Rattle.dt_world.specs.Replay.{Replayed, replayed, next_of}
-use Rattle.dt_world.specs.Stands.{EngineIsAt}
+use Rattle.dt_steps.specs.Stands.{EngineIsAt}
 use Rattle.dt_world.specs.StepLine.{StepLineForm}
-use Rattle.dt_world.specs.Steps.{looking}
+use Rattle.dt_steps.specs.Steps.{looking}
 use Rattle.dt_world.specs.Told.{IsTold}
-use Rattle.dt_world.specs.World.{World}
+use Rattle.dt_steps.specs.World.{World}
 use Rattle.dt_world.specs.declared.progress.Progress.{Progress}
 use Rattle.dt_world.specs.declared.output.Wanted.{Wanted}
 

@@ -1,6 +1,6 @@
 -- What a replay does, line by line, and what it writes.
 use Rattle.std.specs.Prelude.{◌≡◌, ℕ, ◌+◌, ◌==◌, ◌&&◌, Bool, false, List, [], ◌∷◌, ◌++◌, codes, decimal, Option, None, is_some, MatchOption, filter, fold, map, if◌then◌else◌}
-use Rattle.std.specs.List.{flat_map, list_any, range_with_len}
+use Rattle.std.specs.List.{flat_map, range_with_len}
 use Rattle.std.specs.Option.{option_map_or}
 use Rattle.dt_chain.specs.declared.seat.TheConstants.{SEATS}
 use Rattle.dt_machine.specs.Registry.{Registry, Contents, firing_at}
@@ -8,10 +8,10 @@ use Rattle.dt_machine.specs.declared.firing.Firing.{Firing}
 use Rattle.dt_proto.specs.Lines.{line_form}
 use Rattle.dt_proto.specs.Trail.{TrailEntry, IsTrailOf, trail_text}
 use Rattle.dt_world.specs.Input.{AreStepLines, input_lines}
-use Rattle.dt_world.specs.Ran.{Told, AreReplies}
+use Rattle.dt_steps.specs.Ran.{Told, AreReplies}
 use Rattle.dt_world.specs.StepLine.{StepLineForm, open_line, close_line, withdraw_line, ask_line, publish_line, finish_line, look_line, offer_line, call_line, fire_line}
-use Rattle.dt_world.specs.Steps.{Act, opens, asks, publishes, finishes, withdraws, looks, offers, closes, after_act, asking, looking, is_done}
-use Rattle.dt_world.specs.World.{World, Session, Place, new_world, life_in, session_of, is_closing}
+use Rattle.dt_steps.specs.Steps.{Act, opens, asks, publishes, finishes, withdraws, looks, offers, closes, after_act, asking, looking, is_done}
+use Rattle.dt_steps.specs.World.{World, Session, new_world, session_of, waits, has_closed}
 
 -- Where a replay stands: the world, and how many firings of each processor's script were taken.
 pub record Replayed : Type 0 where
@@ -20,15 +20,6 @@ pub record Replayed : Type 0 where
 
 abbrev pub beginning : Replayed
 beginning = record { world = new_world; taken = λ cpu. 0 }
-
--- a `go` of the session on a seat is pending
-abbrev pub waits : Place → Bool
-waits place = option_map_or (λ session. is_some session.go) place.present false
-
--- a `close` of the session on a seat was accepted
-abbrev pub has_closed : Registry → Place → Bool
-has_closed registry place =
-    option_map_or (λ session. list_any is_closing (life_in registry session)) place.present false
 
 -- the seats to which a processor owes an offer, by rising seat
 unfoldable pub seats_due : World → (cpu : ℕ) → List ℕ

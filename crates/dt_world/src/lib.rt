@@ -1,33 +1,23 @@
-//! The world of many consumers: what its steps do to each session, and that what a session is answered is what it would
-//! be answered alone.
+//! The world of many consumers, and replays of it: from a machine's bytes and an input's bytes to the bytes of the replies.
 //!
-//! Consumers trace one machine together, each in a session of its own, on one of 64 seats. The world is a function of
-//! the list of steps ([`Step`], `specs/Steps.antt`), and no consumer is in it: what reached each session
-//! (`specs/World.antt`), what was published, which offers are due. [`run`] takes the steps with the consumers, and
-//! answers each session what its own view is answered alone; [`agree_alike`] says that equal seen views are answered
-//! alike, whatever else happened.
+//! The world itself, its steps and the isolation theorem are `dt_steps`', and shown here as this crate's own: [`run`] takes
+//! steps, and answers each session what its own view is answered alone; [`agree_alike`] says that equal seen views are
+//! answered alike, whatever else happened.
 //!
-//! [`replay`] takes the steps from bytes, and writes the replies; [`replay_trail`] writes the trail of one session.
+//! [`replay`] takes the steps from bytes, and writes the replies; [`replay_trail`] writes the trail of one session. A line
+//! is read by [`StepLine::parse`]; what a replay does, line by line, stands in `specs/Replay.antt`.
 #![tactic(auto)]
 
-mod engine;
-mod held;
-mod laws;
-mod looked;
-mod outcome;
 mod output;
 mod progress;
 mod replay_laws;
 mod replays;
-mod running;
-mod served;
-mod step;
 mod step_line;
 mod words;
 
-pub use laws::{agree_alike, seen_alike, tests_agree, told_alone, worlds_are_sound};
+pub use dt_steps::{
+    Ran, Step, agree_alike, run, seen_alike, tests_agree, told_alone, worlds_are_sound,
+};
 pub use replay_laws::{one_output, one_trail, replays_are_runs};
 pub use replays::{ReplayFault, replay, replay_trail};
-pub use running::{Ran, run};
-pub use step::Step;
 pub use step_line::{StepLine, one_step_line};

@@ -1,7 +1,7 @@
 //! What is written while the steps are taken: the replies of all sessions, or the trail of one.
 ghost use Rattle.std.specs.Prelude.{◌≡◌, true, OnOk};
 
-use crate::looked::ScriptPlace;
+use dt_steps::ScriptPlace;
 use dt_chain::Seat;
 use dt_cred::Account;
 use dt_proto::{LINE_MAX, WholeLine};

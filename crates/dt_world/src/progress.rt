@@ -5,16 +5,16 @@ ghost use Rattle.dt_world.specs.Input.{AreStepLines, IsLineOn};
 ghost use Rattle.dt_world.specs.Progress.{IsAfter, HasTakenLines, IsNamed, with_world};
 ghost use Rattle.dt_world.specs.Replay.{Replayed, after_step_line};
 ghost use Rattle.dt_world.specs.StepLine.{StepLineForm, look_line, call_line, fire_line, form_of_step_line};
-ghost use Rattle.dt_world.specs.Steps.{opening, asking, finishing, offering};
-ghost use Rattle.dt_world.specs.World.{number_on};
+ghost use Rattle.dt_steps.specs.Steps.{opening, asking, finishing, offering};
+ghost use Rattle.dt_steps.specs.World.{number_on};
 ghost use Rattle.dt_world.specs.declared.output.Wanted.{Wanted};
 
-use crate::engine::Engine;
 use crate::output::{Output, Wanted};
 use crate::step_line::StepLine;
 use dt_chain::{Seat, SeatMask};
 use dt_machine::{CPUS_MAX, Machine};
 use dt_proto::WholeLine;
+use dt_steps::Engine;
 use std::alloc::{AllocError, Global};
 
 /// The seats with their consumers, how many firings of each processor's script were taken, and what is to be written.

@@ -3,7 +3,7 @@ ghost use Rattle.std.specs.Prelude.{◌≡◌, ℕ, List};
 ghost use Rattle.dt_machine.specs.Registry.{Contents};
 ghost use Rattle.dt_world.specs.Replay.{IsReplay, IsTrailReplay, replayed, acts_from, beginning};
 ghost use Rattle.dt_world.specs.StepLine.{StepLineForm};
-ghost use Rattle.dt_world.specs.Steps.{world_after};
+ghost use Rattle.dt_steps.specs.Steps.{world_after};
 
 use dt_consumer::one_reply;
 

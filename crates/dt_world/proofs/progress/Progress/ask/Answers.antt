@@ -2,11 +2,11 @@
 use Rattle.std.proofs.Common.{◌≡◌, Some, None, option_map, is_some, subst, ap, refl}
 use Rattle.std.proofs.lemmas.Result.{on_ok_weaker}
 use Rattle.dt_proto.specs.Lines.{line_form}
-use Rattle.dt_world.specs.Stands.{IsAnswered, first_account}
-use Rattle.dt_world.specs.Steps.{asking}
+use Rattle.dt_steps.specs.Stands.{IsAnswered, first_account}
+use Rattle.dt_steps.specs.Steps.{asking}
 use Rattle.dt_world.specs.Told.{reply_told}
 use Rattle.dt_world.proofs.After.{after-told, after-untold}
-use Rattle.dt_world.proofs.Holding.{some_of}
+use Rattle.dt_steps.proofs.Holding.{some_of}
 use Rattle.dt_world.proofs.Trails.{told-answered, asking-answers, told-unasked}
 use Rattle.dt_world.proofs.progress.Progress.ask.Goals as goal
 

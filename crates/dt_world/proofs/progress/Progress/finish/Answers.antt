@@ -2,11 +2,11 @@
 use Rattle.std.proofs.Common.{◌≡◌, Some, None, false, option_map, is_some, subst, sym, ap, ◌++◌, refl}
 use Rattle.std.proofs.lemmas.Result.{on_ok_weaker}
 use Rattle.dt_proto.specs.Asked.{form_asked}
-use Rattle.dt_world.specs.Stands.{IsAnswered, first_account}
-use Rattle.dt_world.specs.Steps.{finishing}
+use Rattle.dt_steps.specs.Stands.{IsAnswered, first_account}
+use Rattle.dt_steps.specs.Steps.{finishing}
 use Rattle.dt_world.specs.Told.{IsTold, reply_told}
 use Rattle.dt_world.proofs.After.{after-told, after-untold}
-use Rattle.dt_world.proofs.Holding.{some_of}
+use Rattle.dt_steps.proofs.Holding.{some_of}
 use Rattle.dt_world.proofs.Trails.{told-answered, finishing-answers, told-unfinished, within_quota}
 use Rattle.dt_world.proofs.progress.Progress.finish.Goals as goal
 

@@ -2,7 +2,7 @@
 use Rattle.std.proofs.Common.{◌≡◌, ◌+◌, ◌<◌, Some, set, sym, ap, ◌∙◌, subst, arith, rules}
 use Rattle.dt_machine.specs.Registry.{firing_at}
 use Rattle.dt_world.specs.Progress.{IsAfter}
-use Rattle.dt_world.specs.Stands.{EngineIsAt}
+use Rattle.dt_steps.specs.Stands.{EngineIsAt}
 use Rattle.dt_world.proofs.Looks.{not_done, done, next_not_done, next_done, look_none, look_some, counted, own_firing}
 use Rattle.dt_world.proofs.Looks.{low_place}
 use Rattle.dt_world.proofs.Trails.{told-looked}

@@ -1,8 +1,8 @@
 -- An offer, and the firing told where it is seen.
 use Rattle.std.proofs.Common.{◌≡◌, is_some, sym, ◌∙◌, refl}
 use Rattle.std.proofs.lemmas.Result.{on_ok_weaker}
-use Rattle.dt_world.specs.Stands.{first_account}
-use Rattle.dt_world.specs.Steps.{offering}
+use Rattle.dt_steps.specs.Stands.{first_account}
+use Rattle.dt_steps.specs.Steps.{offering}
 use Rattle.dt_world.specs.Told.{firing_told}
 use Rattle.dt_world.proofs.After.{after-told, after-untold}
 use Rattle.dt_world.proofs.Trails.{told-seen-at, told-unseen-at}

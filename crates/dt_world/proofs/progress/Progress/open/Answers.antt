@@ -1,8 +1,8 @@
 -- A session is opened, and told where it is the first.
 use Rattle.std.proofs.Common.{◌≡◌, Some, None, true, false, inl, inr, rules, sym, ◌∙◌, refl}
 use Rattle.std.proofs.lemmas.Result.{on_ok_weaker}
-use Rattle.dt_world.specs.Stands.{first_account}
-use Rattle.dt_world.specs.Steps.{opening}
+use Rattle.dt_steps.specs.Stands.{first_account}
+use Rattle.dt_steps.specs.Steps.{opening}
 use Rattle.dt_world.specs.Told.{opening_text}
 use Rattle.dt_world.proofs.After.{after-told, after-untold, none_there}
 use Rattle.dt_world.proofs.Trails.{told-opened, told-unopened}

@@ -4,7 +4,7 @@ use Rattle.std.proofs.lemmas.Result.{on_ok_weaker}
 use Rattle.dt_world.specs.Progress.{IsAfter}
 use Rattle.dt_world.specs.Replay.{after_step_line}
 use Rattle.dt_world.specs.StepLine.{form_of_step_line}
-use Rattle.dt_world.specs.Steps.{publishing, withdrawing, closing}
+use Rattle.dt_steps.specs.Steps.{publishing, withdrawing, closing}
 use Rattle.dt_world.proofs.After.{after-silent}
 use Rattle.dt_world.proofs.Silences.{publishing_silent, publishing_views, withdrawing_silent, withdrawing_views}
 use Rattle.dt_world.proofs.Silences.{closing_silent, closing_views}

@@ -1,0 +1,75 @@
+-- A seat after each of its calls.
+use Rattle.std.proofs.Common.{◌≡◌, ℕ, ◌+◌, true, false, List, Option, Some, None, IfSome, is_some, refl, sym, ap, ◌∙◌}
+use Rattle.std.proofs.Common.{subst, arith}
+use Rattle.dt_machine.specs.Registry.{Registry}
+use Rattle.dt_proto.specs.Lines.{LineForm}
+use Rattle.dt_steps.specs.Stands.{IsSession, IsPresent, IsHeld, IsAsked, IsAskedOn, IsFinishing, IsFinishedOn}
+use Rattle.dt_steps.specs.Stands.{closed_on}
+use Rattle.dt_steps.specs.World.{Session, Place, may_ask}
+use Rattle.dt_steps.specs.declared.held.Held.{Held}
+use Rattle.dt_steps.specs.declared.served.Served.{Served}
+
+module _ (registry : Registry) where
+  present_known : (session : Option Session) (served : Option Served) → IsPresent registry session served
+      → is_some served ≡ is_some session
+  present_known None None h = refl
+  present_known None (Some served) h = absurd h
+  present_known (Some session) None h = absurd h
+  present_known (Some session) (Some served) h = refl
+
+  -- the session that is served
+  pub record Serves (place : Place) (served : Served) : Type 0 where
+    pub session : Session
+    pub is : place.present ≡ Some session
+    pub kept : IsSession registry session served
+
+  serves_at : (place : Place) (present : Option Session) (served : Served) → place.present ≡ present
+      → IsPresent registry present (Some served) → Serves place served
+  serves_at place None served is h = absurd h
+  serves_at place (Some session) served is h = record { session = session; is = is; kept = h }
+
+  module _ (place : Place) (held : Held) (h : IsHeld registry place held) where
+    pub serves : (served : Served) → held.present ≡ Some served → Serves place served
+    serves served is = serves_at place place.present served refl (rw is at h.present)
+
+    -- the session that is there is the one that is served
+    pub served_session : (served : Served) (session : Session) → held.present ≡ Some served
+        → place.present ≡ Some session → IsSession registry session served
+    served_session served session is at = rw (is, at) at h.present
+
+    known : is_some held.present ≡ is_some place.present
+    known = present_known place.present held.present h.present
+
+    -- its session was asked a line
+    pub asked-session : (line : LineForm) (reply : Option (List ℕ)) (served after : Served)
+        → held.present ≡ Some served → ((session : Session) → IsSession registry session served
+        → (may_ask registry session ≡ true) × IsAsked registry session line reply after)
+        → IsAskedOn registry place line reply (record { present = Some after; earlier = held.earlier })
+    asked-session line reply served after is asks =
+        let s = serves served is in
+        let a = asks s.session s.kept in
+        rw (s.is, a.0) (after, h.counted, refl, a.1)
+
+    pub finished-session : (reply : Option (List ℕ)) (served after : Served) → held.present ≡ Some served
+        → ((session : Session) → IsSession registry session served → IsFinishing registry session reply after)
+        → IsFinishedOn registry place reply (record { present = Some after; earlier = held.earlier })
+    finished-session reply served after is does =
+        let s = serves served is in
+        rw s.is (after, h.counted, refl, does s.session s.kept)
+
+    -- its session ends
+    pub closed-session : (earlier : ℕ) → is_some held.present ≡ true → earlier ≡ held.earlier + 1
+        → IsHeld registry (closed_on place) (record { present = None; earlier = earlier })
+    closed-session earlier some is = closed_at place.present refl (sym known ∙ some) where
+      closed_at : (present : Option Session) → place.present ≡ present → is_some place.present ≡ true
+          → IsHeld registry (closed_on place) (record { present = None; earlier = earlier })
+      closed_at None at taken = let bad : false ≡ true = sym (ap is_some at) ∙ taken in cc
+      closed_at (Some session) at taken =
+          rw at (record { counted = is ∙ omega (arith, h.counted); present = tt })
+
+pub some_weaker : {A : Type 0} (o : Option A) (P Q : A → Type 0) → ((a : A) → P a → Q a) → IfSome o P → IfSome o Q
+some_weaker None P Q f h = h
+some_weaker (Some a) P Q f h = f a h
+
+pub some_of : {A : Type 0} (o : Option A) (a : A) (P : A → Type 0) → o ≡ Some a → IfSome o P → P a
+some_of o a P is h = subst (λ x. IfSome x P) is h

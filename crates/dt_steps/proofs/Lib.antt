@@ -1,0 +1,14 @@
+-- The lemmas of the crate, lowest first.
+pub mod Seeing
+pub mod Looking
+pub mod Lives
+pub mod Beginning
+pub mod Keeping
+pub mod Soundness
+pub mod Questions
+pub mod Serving
+pub mod Holding
+pub mod Publishing
+pub mod FreeSeats
+pub mod Taking
+pub mod Standing

@@ -1,0 +1,121 @@
+-- A seat after its interest was published.
+use Rattle.std.proofs.Common.{◌≡◌, ◌≢◌, ℕ, ◌==◌, Bool, true, false, cond, not, List, [], ◌∷◌, Option, Some, None}
+use Rattle.std.proofs.Common.{IsSomeAnd, IsTrue, ◌↔◌, MatchOption, MatchBool, length, refl, sym, subst}
+use Rattle.std.specs.List.{slice_index_or}
+use Rattle.std.specs.Option.{option_map, option_map_or}
+use Rattle.dt_cred.specs.declared.account.Account.{Account}
+use Rattle.dt_machine.specs.Interest as interest
+use Rattle.dt_machine.specs.Registry.{Registry}
+use Rattle.dt_chain.specs.IsAt as chain
+use Rattle.dt_chain.specs.Kept.{is_seat_listed, slot_of}
+use Rattle.dt_chain.specs.Writes.{Write, Published, published, published_on}
+use Rattle.dt_chain.specs.declared.entries.Entries.{Entries}
+use Rattle.dt_chain.specs.declared.entries.Slot.{Slot}
+use Rattle.dt_ecb.specs.Ecbs.{EcbForm, of_probe}
+use Rattle.dt_consumer.specs.Life.{ecbs}
+use Rattle.dt_steps.specs.Stands.{IsSession, IsHeld, IsPublishedOn, is_unpublished, with_present}
+use Rattle.dt_steps.specs.Tests.{interest_of}
+use Rattle.dt_steps.specs.World.{Session, Place, Pending, life_in, waiting}
+use Rattle.dt_steps.specs.declared.held.Held.{Held}
+use Rattle.dt_steps.specs.declared.served.Served.{Served}
+use Rattle.dt_steps.proofs.Holding.{serves}
+use Rattle.dt_steps.proofs.Looking.{interest_from, interest_to}
+use Rattle.dt_steps.proofs.Seeing.{wanted_from, wanted_to}
+
+-- entries see what was published by the probes that it names
+slot_at : (n : ℕ) (account : Account) (probes others : List Bool) (before : Option Published) (same : Bool)
+    (slot : Option Slot)
+    → slot ≡ option_map slot_of (cond same (Some (record { life = n; account = account; probes = probes })) before)
+    → slot ≡ option_map slot_of (cond same (Some (record { life = n; account = account; probes = others })) before)
+slot_at n account probes others before true slot h = h
+slot_at n account probes others before false slot h = h
+
+listed_at : (n : ℕ) (account : Account) (probes others : List Bool) (before : Option Published) (same : Bool)
+    (probe : ℕ)
+    (listed : Bool) → interest.Names probes probe ↔ interest.Names others probe
+    → IsTrue listed ↔ IsSomeAnd (cond same (Some (record { life = n; account = account; probes = probes })) before)
+    (λ (entry : Published). interest.Names entry.probes probe)
+    → IsTrue listed ↔ IsSomeAnd (cond same (Some (record { life = n; account = account; probes = others })) before)
+    (λ (entry : Published). interest.Names entry.probes probe)
+listed_at n account probes others before true probe listed alike h =
+    (λ e. alike.0 (h.0 e), λ names. h.1 (alike.1 names))
+listed_at n account probes others before false probe listed alike h = h
+
+entered_alike : (seat n : ℕ) (account : Account) (probes others : List Bool) (writes : List Write) (entries : Entries)
+    → ((id : ℕ) → interest.Names probes id ↔ interest.Names others id)
+    → chain.EntriesAreAt (published seat n account probes ∷ writes) entries
+    → chain.EntriesAreAt (published seat n account others ∷ writes) entries
+entered_alike seat n account probes others writes entries alike h = record {
+  kept = λ at. slot_at n account probes others (published_on writes at) (seat == at)
+      (slice_index_or entries.slots at None)
+      (h.kept at);
+  listed = λ probe at. listed_at n account probes others (published_on writes at) (seat == at) probe
+      (is_seat_listed entries.lists.items probe at) (alike probe) (h.listed probe at);
+}
+
+-- the probes that ECBs name are those of their interest
+interest_alike : (own : List EcbForm) (flags : List Bool)
+    → ((id : ℕ) → interest.Names flags id ↔ (of_probe id own ≢ []))
+    → (id : ℕ) → interest.Names flags id ↔ interest.Names (interest_of own) id
+interest_alike own flags named id = (
+  λ h. interest_to own id (wanted_to own id ((named id).0 h)),
+  λ h. (named id).1 (wanted_from own id (interest_from own id h)),
+)
+
+-- the pending `go` of a session is to be published
+module _ (Same : Type 0) (Later : Session → Pending → Type 0) where
+  pending_does : (session : Session) (pending : Pending) (done : Bool) → not done ≡ true → Later session pending
+      → MatchBool done Same (Later session pending)
+  pending_does session pending true is h = cc
+  pending_does session pending false is h = h
+
+  go_does : (session : Session) (waits : Option Pending)
+      → option_map_or (λ (pending : Pending). not pending.published) waits false ≡ true
+      → ((pending : Pending) → waits ≡ Some pending → Later session pending)
+      → MatchOption waits Same (λ pending. MatchBool pending.published Same (Later session pending))
+  go_does session None is h = cc
+  go_does session (Some pending) is h = pending_does session pending pending.published is (h pending refl)
+
+  present_does : (present : Option Session) (session : Session) → present ≡ Some session
+      → is_unpublished session ≡ true
+      → ((pending : Pending) → session.go ≡ Some pending → Later session pending)
+      → MatchOption present Same (λ own. MatchOption own.go Same
+      (λ pending. MatchBool pending.published Same (Later own pending)))
+  present_does present session at is h =
+      subst (λ o. MatchOption o Same (λ own. MatchOption own.go Same
+      (λ pending. MatchBool pending.published Same (Later own pending)))) (sym at)
+      (go_does session session.go is h)
+
+module _ (registry : Registry) (place : Place) (held : Held) (h : IsHeld registry place held) (seat : ℕ)
+    (writes : List Write) where
+  abbrev Later : Held → Entries → Session → Pending → Type 0
+  Later after later session pending =
+      IsHeld registry (with_present place (waiting session pending.line true)) after
+      × chain.EntriesAreAt (published seat (length place.earlier) session.account
+      (interest_of (ecbs session.account registry (life_in registry session))) ∷ writes) later
+
+  pub published-now : (later : Entries) (served after : Served) (flags : List Bool) → held.present ≡ Some served
+      → ((session : Session) → IsSession registry session served → is_unpublished session ≡ true)
+      → ((session : Session) (pending : Pending) → IsSession registry session served → session.go ≡ Some pending
+      → IsSession registry (waiting session pending.line true) after)
+      → ((session : Session) → IsSession registry session served → (id : ℕ)
+      → interest.Names flags id ↔ (of_probe id (ecbs session.account registry (life_in registry session)) ≢ []))
+      → chain.EntriesAreAt (published seat held.earlier served.account flags ∷ writes) later
+      → IsPublishedOn registry seat place writes (record { present = Some after; earlier = held.earlier }) later
+  published-now later served after flags is due sets named at =
+      let s = serves registry place held h served is in
+      let session = s.session in
+      let own = ecbs session.account registry (life_in registry session) in
+      let entered : chain.EntriesAreAt (published seat (length place.earlier) session.account
+      (interest_of own) ∷ writes)
+      later =
+      entered_alike seat (length place.earlier) session.account flags (interest_of own) writes later
+      (interest_alike own flags (named session s.kept))
+      (subst (λ n. chain.EntriesAreAt (published seat n session.account flags ∷ writes) later) h.counted
+      (subst (λ a. chain.EntriesAreAt (published seat held.earlier a flags ∷ writes) later) s.kept.owner at)) in
+      present_does
+      (IsHeld registry place (record { present = Some after; earlier = held.earlier })
+      × chain.EntriesAreAt writes later)
+      (Later (record { present = Some after; earlier = held.earlier }) later) place.present session s.is
+      (due session s.kept)
+      (λ pending waits. (record { counted = h.counted; present = sets session pending s.kept waits }, entered))

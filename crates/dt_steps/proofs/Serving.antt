@@ -1,0 +1,320 @@
+-- A session after each of its calls.
+use Rattle.std.proofs.Common.{◌≡◌, ℕ, ◌&&◌, ◌||◌, Bool, true, false, cond, not, List, ◌∷◌, Option, Some, None, is_some}
+use Rattle.std.proofs.Common.{is_none, Result, Ok, Err, IsTrue, ◌↔◌, refl, sym, ap, ◌∙◌, subst}
+use Rattle.std.proofs.lemmas.Bool.{both_ways, and_parts, not-true, false_from_ne_true}
+use Rattle.std.specs.List.{list_any}
+use Rattle.std.specs.Option.{option_map_or}
+use Rattle.dt_cred.specs.declared.account.Account.{Account}
+use Rattle.dt_machine.specs.Registry.{Registry}
+use Rattle.dt_machine.specs.declared.firing.Firing.{Firing}
+use Rattle.dt_consumer.specs.Answer.{Answer}
+use Rattle.dt_consumer.specs.Ask as ask
+use Rattle.dt_consumer.specs.Ask.{Ask}
+use Rattle.dt_consumer.specs.Draft.{IsAcceptedGo, IsAcceptedClose, IsDraftOf, after_line, is_close}
+use Rattle.dt_consumer.specs.Life.{Item, asked, fired, is_over, is_active}
+use Rattle.dt_consumer.specs.Reply.{Replies}
+use Rattle.dt_consumer.specs.Sees.{Sees}
+use Rattle.dt_consumer.specs.StandsFor.{StandsFor}
+use Rattle.dt_consumer.specs.declared.consumer.Consumer.{Consumer}
+use Rattle.dt_consumer.specs.declared.draft.Draft.{Draft}
+use Rattle.dt_consumer.specs.declared.phase.Phase.{Phase}
+use Rattle.dt_consumer.specs.declared.phase.Phase.TheVariants.{Inactive, Active, Stopped}
+use Rattle.dt_consumer.specs.declared.refusal.Refusal.{Refusal}
+use Rattle.dt_proto.specs.Asked.{form_asked}
+use Rattle.dt_proto.specs.Line.{ask_in}
+use Rattle.dt_proto.specs.Lines.{LineForm}
+use Rattle.dt_proto.specs.Reply.{reply_text}
+use Rattle.dt_proto.specs.declared.asked.Asked.{Asked}
+use Rattle.dt_steps.specs.Stands.{IsWaiting, IsPending, IsServed, IsSession, IsAsked, IsFinishing}
+use Rattle.dt_steps.specs.Tests.{is_seen}
+use Rattle.dt_steps.specs.World.{Session, Pending, life_in, is_closing, is_tracing, may_ask, begins, may_withdraw}
+use Rattle.dt_steps.specs.declared.served.Served.{Served}
+use Rattle.dt_steps.specs.declared.served.Waiting.{Waiting}
+use Rattle.dt_steps.proofs.Beginning.{begins_from, begins_to}
+use Rattle.dt_steps.proofs.Lives.{reply_to}
+use Rattle.dt_steps.proofs.Seeing.{seen_to, unseen_to}
+
+module _ (registry : Registry) (account : Account) (life : List Item) where
+  -- where one has a pending `go`, so has the other
+  pending_known : (pending : Option Pending) (held : Option Waiting) → IsPending registry account life pending held
+      → is_some held ≡ is_some pending
+  pending_known None None h = refl
+  pending_known None (Some held) h = absurd h
+  pending_known (Some pending) None h = absurd h
+  pending_known (Some pending) (Some held) h = refl
+
+  pending_none : (held : Option Waiting) → IsPending registry account life None held → held ≡ None
+  pending_none None h = refl
+  pending_none (Some held) h = absurd h
+
+  -- the pending `go` of which this is kept
+  record Waits (pending : Option Pending) (held : Waiting) : Type 0 where
+    pub own : Pending
+    pub is : pending ≡ Some own
+    pub kept : IsWaiting registry account life own held
+
+  waits_for : (pending : Option Pending) (held : Waiting) → IsPending registry account life pending (Some held)
+      → Waits pending held
+  waits_for None held h = absurd h
+  waits_for (Some own) held h = record { own = own; is = refl; kept = h }
+
+none_without : {A B : Type 0} (a : Option A) (b : Option B) → is_some b ≡ is_some a → a ≡ None → b ≡ None
+none_without a None h is = refl
+none_without a (Some b) h is = let bad : true ≡ false = h ∙ ap is_some is in cc
+
+none_pending : (pending : Option Pending) → is_none pending ≡ true → pending ≡ None
+none_pending None h = refl
+none_pending (Some own) h = cc
+
+no_line_kept : (registry : Registry) (account : Account) (life later : List Item) (held : Option Waiting)
+    → IsPending registry account life None held → IsPending registry account later None held
+no_line_kept registry account life later None h = h
+no_line_kept registry account life later (Some held) h = h
+
+module _ (registry : Registry) (session : Session) (served : Served) (h : IsSession registry session served) where
+  known : is_some served.go ≡ is_some session.go
+  known = pending_known registry session.account (life_in registry session) session.go served.go h.pending
+
+  pub asks_free : is_some served.go ≡ false → not served.is_closed ≡ may_ask registry session
+  unfolding may_ask
+  asks_free none =
+      ap not h.closed
+      ∙ ap (λ b. not b && not (list_any is_closing (life_in registry session))) (sym none ∙ known)
+
+  pub asks_not : is_some served.go ≡ true → false ≡ may_ask registry session
+  unfolding may_ask
+  asks_not some = ap (λ b. not b && not (list_any is_closing (life_in registry session))) (sym some ∙ known)
+
+  pub withdraws_free : (tracing : Bool) → is_some served.go ≡ false → tracing ≡ is_tracing registry session
+      → not tracing ≡ may_withdraw registry session
+  unfolding may_withdraw
+  withdraws_free tracing none is =
+      ap not is ∙ ap (λ b. not b && not (is_tracing registry session)) (sym none ∙ known)
+
+  pub withdraws_not : is_some served.go ≡ true → false ≡ may_withdraw registry session
+  unfolding may_withdraw
+  withdraws_not some = ap (λ b. not b && not (is_tracing registry session)) (sym some ∙ known)
+
+pub not_active : (phase : Phase) → (phase ≡ Active → ⊥) → is_active phase ≡ false
+not_active Inactive h = refl
+not_active Active h = absurd (h refl)
+not_active (Stopped cause) h = refl
+
+close_from : (line : Result Ask Refusal) → is_close line ≡ true → line ≡ Ok ask.close
+close_from (Err refusal) h = cc
+close_from (Ok (ask.option setting)) h = cc
+close_from (Ok (ask.enable reading)) h = cc
+close_from (Ok ask.go) h = cc
+close_from (Ok ask.stop) h = cc
+close_from (Ok (ask.snap cpu)) h = cc
+close_from (Ok (ask.agg name)) h = cc
+close_from (Ok (ask.trunc name)) h = cc
+close_from (Ok ask.status) h = cc
+close_from (Ok (ask.list desc)) h = cc
+close_from (Ok (ask.describe epid)) h = cc
+close_from (Ok ask.close) h = refl
+
+same_test : (a b : Bool) → (a ≡ true → b ≡ true) → (b ≡ true → a ≡ true) → a ≡ b
+same_test true b h k = sym (h refl)
+same_test false true h k = k refl
+same_test false false h k = refl
+
+or_none : (a b : Bool) → b ≡ false → (a || b) ≡ a
+or_none true b h = refl
+or_none false b h = h
+
+module _ (registry : Registry) (account : Account) (life : List Item) where
+  -- a line closes the session where it is an accepted `close`
+  closed_at : (line : Result Ask Refusal) (over closes : Bool) → is_over life ≡ over
+      → list_any is_closing life ≡ false → IsTrue closes ↔ IsAcceptedClose account registry life line
+      → closes ≡ list_any is_closing (cond over life (asked line ∷ life))
+  closed_at line true closes is open_ h =
+      false_from_ne_true closes (λ yes. both_ways (is_over life) ((h.0 yes).0) is) ∙ sym open_
+  closed_at line false closes is open_ h =
+      same_test closes (is_close line) (λ yes. ap is_close ((h.0 yes).1)) (λ yes. h.1 (is, close_from line yes))
+      ∙ sym (or_none (is_close line) (list_any is_closing life) open_)
+
+  go_open_at : (line : Result Ask Refusal) (over : Bool) → line ≡ Ok ask.go
+      → list_any is_closing life ≡ list_any is_closing (cond over life (asked line ∷ life))
+  go_open_at line true is = refl
+  go_open_at line false is = ap (λ own. is_close own || list_any is_closing life) (sym is)
+
+module _ (registry : Registry) (session : Session) (line : LineForm) (served : Served)
+    (h : IsSession registry session served) where
+  -- an accepted `go` is kept
+  pub asked_go : (kept : Asked) (draft : Draft) → form_asked kept ≡ line
+      → IsDraftOf session.account registry (life_in registry session) (ask_in line) draft
+      → IsAcceptedGo session.account registry (life_in registry session) (ask_in line)
+      → IsAsked registry session line None (record {
+        account = served.account;
+        consumer = served.consumer;
+        go = Some (record { line = kept; draft = draft; is_published = false });
+        is_closed = served.is_closed;
+      })
+  asked_go kept draft same drafted is = (
+    begins_to registry session line is,
+    record {
+      owner = h.owner;
+      stands = h.stands;
+      closed = h.closed;
+      pending = record { line = same; published = refl; accepted = is; drafted = drafted };
+    },
+  )
+
+  may_ask_parts : may_ask registry session ≡ true
+      → (session.go ≡ None) × (list_any is_closing (life_in registry session) ≡ false)
+  unfolding may_ask
+  may_ask_parts may =
+      let parts = and_parts _ _ may in
+      (none_pending session.go parts.0, not-true (list_any is_closing (life_in registry session)) parts.1)
+
+  -- any other line is answered
+  pub asked_other : (consumer : Consumer) (closes : Bool) (answer : Answer) (text : List ℕ)
+      → may_ask registry session ≡ true
+      → (IsAcceptedGo session.account registry (life_in registry session) (ask_in line) → ⊥)
+      → IsTrue closes ↔ IsAcceptedClose session.account registry (life_in registry session) (ask_in line)
+      → StandsFor session.account registry consumer (after_line (life_in registry session) (ask_in line))
+      → Replies session.account registry (life_in registry session) (ask_in line) answer → text ≡ reply_text answer
+      → IsAsked registry session line (Some text) (record {
+        account = served.account;
+        consumer = consumer;
+        go = served.go;
+        is_closed = closes;
+      })
+  asked_other consumer closes answer text may none closing stands replies is =
+      let parts = may_ask_parts may in
+      let idle : IsPending registry session.account (life_in registry session) None served.go =
+      rw parts.0 at h.pending in (
+        false_from_ne_true (begins registry session line) (λ go. none (begins_from registry session line go)),
+        record {
+          owner = h.owner;
+          stands = stands;
+          closed = closed_at registry session.account (life_in registry session) (ask_in line)
+              (is_over (life_in registry session)) closes refl parts.1 closing;
+          pending = no_line_kept registry session.account (life_in registry session)
+              (after_line (life_in registry session) (ask_in line)) served.go idle;
+        },
+        (answer, reply_to session.account registry session.view line answer replies, is),
+      )
+
+-- what is pending of a session, as it is kept
+pub record Finishes (registry : Registry) (session : Session) (held : Waiting) : Type 0 where
+  pub own : Pending
+  pub is : session.go ≡ Some own
+  pub line : form_asked held.line ≡ own.line
+  pub published : held.is_published ≡ own.published
+  pub accepted : IsAcceptedGo session.account registry (life_in registry session) (ask_in own.line)
+  pub drafted : IsDraftOf session.account registry (life_in registry session) (ask_in own.line) held.draft
+
+not_published_at : (registry : Registry) (account : Account) (life : List Item) (pending : Option Pending)
+    (held : Option Waiting) → IsPending registry account life pending held
+    → option_map_or (λ (one : Waiting). one.is_published) held false ≡ false
+    → option_map_or (λ (own : Pending). own.published) pending false ≡ false
+not_published_at registry account life None None h not_yet = refl
+not_published_at registry account life None (Some held) h not_yet = refl
+not_published_at registry account life (Some own) None h not_yet = absurd h
+not_published_at registry account life (Some own) (Some held) h not_yet = sym h.published ∙ not_yet
+
+module _ (registry : Registry) (session : Session) (served : Served) (h : IsSession registry session served) where
+  pub finishes : (held : Waiting) → served.go ≡ Some held → Finishes registry session held
+  finishes held is =
+      let w = waits_for registry session.account (life_in registry session) session.go held (rw is at h.pending) in
+      record {
+        own = w.own;
+        is = w.is;
+        line = w.kept.line;
+        published = w.kept.published;
+        accepted = w.kept.accepted;
+        drafted = w.kept.drafted;
+      }
+
+  -- the line that is kept is that of the pending `go`
+  pub kept_line : (held : Waiting) → served.go ≡ Some held → (pending : Pending) → session.go ≡ Some pending
+      → form_asked held.line ≡ pending.line
+  kept_line held is pending waits =
+      let f = finishes held is in
+      let own : Some f.own ≡ Some pending = sym f.is ∙ waits in
+      let same : f.own ≡ pending = cc in
+      f.line ∙ ap (λ (p : Pending). p.line) same
+
+  -- nothing is pending, or it isn't published
+  pub not_finishing : option_map_or (λ (held : Waiting). held.is_published) served.go false ≡ false
+      → IsFinishing registry session None served
+  not_finishing unpublished = (
+    not_published_at registry session.account (life_in registry session) session.go served.go h.pending unpublished,
+    h,
+  )
+
+  -- it takes effect, and is answered
+  pub finishing : (held : Waiting) (consumer : Consumer) (kept : Option Waiting) (answer : Answer) (text : List ℕ)
+      → served.go ≡ Some held → kept ≡ None
+      → held.is_published ≡ true
+      → ((line : LineForm) → IsDraftOf session.account registry (life_in registry session) (ask_in line) held.draft
+      → StandsFor session.account registry consumer (after_line (life_in registry session) (ask_in line))
+      × Replies session.account registry (life_in registry session) (ask_in line) answer)
+      → text ≡ reply_text answer
+      → IsFinishing registry session (Some text) (record {
+        account = served.account;
+        consumer = consumer;
+        go = kept;
+        is_closed = served.is_closed;
+      })
+  finishing held consumer kept answer text is emptied published does text_is =
+      let w = finishes held is in
+      let done = does w.own.line w.drafted in (
+        w.own,
+        w.is,
+        sym w.published ∙ published,
+        (answer, reply_to session.account registry session.view w.own.line answer done.1, text_is),
+        record {
+          owner = h.owner;
+          stands = done.0;
+          closed = h.closed ∙ go_open_at registry session.account (life_in registry session) (ask_in w.own.line)
+              (is_over (life_in registry session)) w.accepted.3;
+          pending = rw emptied tt;
+        },
+      )
+
+-- what an offer does to a consumer
+pub record IsOffered (account : Account) (registry : Registry) (consumer after : Consumer) (firing : Firing)
+    (seen : Bool) (life : List Item) : Type 0 where
+  pub sees : IsTrue seen ↔ Sees account registry life firing
+  pub stands : IsTrue seen → StandsFor account registry after (fired firing ∷ life)
+  pub unseen : seen ≡ false → after ≡ consumer
+
+module _ (registry : Registry) (account : Account) (life : List Item) (firing : Firing) where
+  -- nothing is pending of a session that sees a firing
+  kept_seen : (pending : Option Pending) (held : Option Waiting) → Sees account registry life firing
+      → IsPending registry account life pending held → IsPending registry account (fired firing ∷ life) pending held
+  kept_seen None None sees h = h
+  kept_seen None (Some held) sees h = h
+  kept_seen (Some own) None sees h = h
+  kept_seen (Some own) (Some held) sees h =
+      let both : Active ≡ Inactive = sym sees.active ∙ h.accepted.1 in cc
+
+  pub served_offered : (pending : Option Pending) (served : Served) (consumer : Consumer) (seen : Bool)
+      → IsServed registry account life pending served
+      → IsOffered account registry served.consumer consumer firing seen life
+      → IsServed registry account (cond (is_seen account registry life firing) (fired firing ∷ life) life) pending
+      (record {
+        account = served.account;
+        consumer = consumer;
+        go = served.go;
+        is_closed = served.is_closed;
+      })
+  served_offered pending served consumer true h offered =
+      let sees = offered.sees.0 refl in
+      rw (seen_to account registry life firing sees) (record {
+        owner = h.owner;
+        stands = offered.stands refl;
+        closed = h.closed;
+        pending = kept_seen pending served.go sees h.pending;
+      })
+  served_offered pending served consumer false h offered =
+      let unseen : Sees account registry life firing → ⊥ = λ sees. let bad = offered.sees.1 sees in cc in
+      rw (unseen_to account registry life firing unseen) (record {
+        owner = h.owner;
+        stands = subst (λ c. StandsFor account registry c life) (sym (offered.unseen refl)) h.stands;
+        closed = h.closed;
+        pending = h.pending;
+      })

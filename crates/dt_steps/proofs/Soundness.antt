@@ -1,0 +1,444 @@
+-- Each step keeps what is published sound.
+use Rattle.std.proofs.Common.{◌≡◌, ℕ, ◌<◌, ◌≤◌, ◌&&◌, ◌==◌, Bool, true, false, cond, List, [], ◌∷◌, Option, Some, None}
+use Rattle.std.proofs.Common.{Result, Ok, is_none, nat_lt, fold, length, refl, sym, ap, ◌∙◌, subst, arith}
+use Rattle.std.proofs.lemmas.Bool.{eqb-true, ltb-true, and_parts, not-true, both_ways, cond_both, false_from_ne_true}
+use Rattle.std.specs.Option.{option_map, option_map_or}
+use Rattle.dt_cred.specs.declared.account.Account.{Account}
+use Rattle.dt_machine.specs.Registry.{Registry}
+use Rattle.dt_machine.specs.declared.firing.Firing.{Firing}
+use Rattle.dt_chain.specs.Writes.{Published, published_on}
+use Rattle.dt_chain.specs.declared.seat.TheConstants.{SEATS}
+use Rattle.dt_ecb.specs.Ecbs.{EcbForm, ecbs_of}
+use Rattle.dt_consumer.specs.Ask.{Ask, go}
+use Rattle.dt_consumer.specs.Draft.{IsAcceptedGo, after_line}
+use Rattle.dt_consumer.specs.Life.{Item, asked, fired, set_up, is_over, phase, ecbs, is_active}
+use Rattle.dt_consumer.specs.declared.phase.Phase.TheVariants.{Inactive, Active}
+use Rattle.dt_consumer.specs.declared.refusal.Refusal.{Refusal}
+use Rattle.dt_proto.specs.Alone.{firing_made}
+use Rattle.dt_proto.specs.Line.{ask_in}
+use Rattle.dt_proto.specs.Lines.{LineForm}
+use Rattle.dt_proto.specs.Session.{session_account}
+use Rattle.dt_steps.specs.Sound.{publication_of, IsEntered, IsSoundSeat, IsSoundWorld}
+use Rattle.dt_steps.specs.Steps.{Act, opens, asks, publishes, finishes, withdraws, looks, offers, closes, after_act}
+use Rattle.dt_steps.specs.Steps.{world_after, with_session, answering, opening, asking, publishing, finishing}
+use Rattle.dt_steps.specs.Steps.{withdrawing, passed, looking, is_done, offered, offering, closing}
+use Rattle.dt_steps.specs.Tests.{is_seen, interest_of, mask_of}
+use Rattle.dt_steps.specs.World.{World, Session, Place, Pending, Due, new_world, number_on, life_in, is_tracing}
+use Rattle.dt_steps.specs.World.{new_session, reached, answered, waiting, may_ask, begins, may_withdraw}
+use Rattle.dt_steps.proofs.Beginning.{begins_from, begins_to, inactive_from}
+use Rattle.dt_steps.proofs.Keeping.{Keeps, may_begin, life-after_line, life-fired, ecbs-go}
+use Rattle.dt_steps.proofs.Seeing.{seen_from}
+
+-- what holds at each seat, where what is on one of them changes
+updated_at : (P : ℕ → Place → Type 0) (places : ℕ → Place) (seat other : ℕ) (place : Place) (same : Bool)
+    → (seat == other) ≡ same → ((seat == other) ≡ false → P other (places other)) → P seat place
+    → P other (cond same place (places other))
+updated_at P places seat other place true is before now =
+    let at : seat ≡ other = eqb-true seat other is in subst (λ o. P o place) at now
+updated_at P places seat other place false is before now = before is
+
+pub updated_others : (P : ℕ → Place → Type 0) (places : ℕ → Place) (seat : ℕ) (place : Place)
+    → ((other : ℕ) → (seat == other) ≡ false → P other (places other)) → P seat place
+    → (other : ℕ) → P other (cond (seat == other) place (places other))
+updated_others P places seat place before now other =
+    updated_at P places seat other place (seat == other) refl (before other) now
+
+pub updated : (P : ℕ → Place → Type 0) (places : ℕ → Place) (seat : ℕ) (place : Place)
+    → ((other : ℕ) → P other (places other)) → P seat place
+    → (other : ℕ) → P other (cond (seat == other) place (places other))
+updated P places seat place before now other =
+    updated_at P places seat other place (seat == other) refl (λ no. before other) now
+
+-- the same where an entry changes as well
+both_at : (P : ℕ → Option Published → Place → Type 0) (places : ℕ → Place) (entries : ℕ → Option Published)
+    (seat other : ℕ) (place : Place) (entry : Option Published) (same : Bool) → (seat == other) ≡ same
+    → P other (entries other) (places other) → P seat entry place
+    → P other (cond same entry (entries other)) (cond same place (places other))
+both_at P places entries seat other place entry true is before now =
+    let at : seat ≡ other = eqb-true seat other is in subst (λ o. P o entry place) at now
+both_at P places entries seat other place entry false is before now = before
+
+both_updated : (P : ℕ → Option Published → Place → Type 0) (places : ℕ → Place) (entries : ℕ → Option Published)
+    (seat : ℕ) (place : Place) (entry : Option Published)
+    → ((other : ℕ) → P other (entries other) (places other)) → P seat entry place
+    → (other : ℕ) → P other (cond (seat == other) entry (entries other)) (cond (seat == other) place (places other))
+both_updated P places entries seat place entry before now other =
+    both_at P places entries seat other place entry (seat == other) refl (before other) now
+
+entry_updated_at : (P : ℕ → Option Published → Type 0) (entries : ℕ → Option Published)
+    (seat other : ℕ) (entry : Option Published) (same : Bool) → (seat == other) ≡ same
+    → P other (entries other) → P seat entry → P other (cond same entry (entries other))
+entry_updated_at P entries seat other entry true is before now =
+    let at : seat ≡ other = eqb-true seat other is in subst (λ o. P o entry) at now
+entry_updated_at P entries seat other entry false is before now = before
+
+entry_updated : (P : ℕ → Option Published → Type 0) (entries : ℕ → Option Published) (seat : ℕ)
+    (entry : Option Published)
+    → ((other : ℕ) → P other (entries other)) → P seat entry
+    → (other : ℕ) → P other (cond (seat == other) entry (entries other))
+entry_updated P entries seat entry before now other =
+    entry_updated_at P entries seat other entry (seat == other) refl (before other) now
+
+-- what holds of what a step leaves, where it depends on a session
+pub option_case : {A B : Type 0} (P : B → Type 0) (f : A → B) (b : B) (o : Option A) → P b
+    → ((a : A) → o ≡ Some a → P (f a)) → P (option_map_or f o b)
+option_case P f b None h k = h
+option_case P f b (Some a) h k = k a refl
+
+is_published : Option Pending → Bool
+is_published pending = option_map_or (λ p. p.published) pending false
+
+none_published : (line other : LineForm) → ◌≡◌ {A = Option Pending} (Some (record { line = line; published = false }))
+    (Some (record { line = other; published = true })) → ⊥
+unfolding is_published
+none_published line other e = let bad : false ≡ true = ap is_published e in cc
+
+-- a session on a seat, and nothing else, changes
+module _ (registry : Registry) (account : Account) (n : ℕ) (entry : Option Published) where
+  abbrev Entered : List Item → Option Pending → Type 0
+  Entered life waits = IsEntered registry account life waits n entry
+
+  -- what is entered of a life stays where a later one traces
+  kept_entry : (life later : List Item) (go : Option Pending)
+      → Keeps (set_up account registry life) (set_up account registry later) → Entered life go
+      → is_active (phase account registry later) ≡ true → entry ≡ Some (publication_of registry account later n)
+  kept_entry life later waits keeps h a =
+      h.traces (keeps.traced a)
+      ∙ ap (λ clauses. Some (record {
+        life = n;
+        account = account;
+        probes = interest_of (ecbs_of account registry clauses);
+      }))
+      (sym (keeps.clauses a))
+
+  entered-new : Entered [] None
+  entered-new = record { accepted = λ pending e. cc; traces = λ h. cc; published = λ line e. cc }
+
+  not_begun : (life : List Item) (line : Result Ask Refusal)
+      → (IsAcceptedGo account registry life line → ⊥) → is_over life ≡ false → line ≡ Ok go
+      → may_begin account registry (set_up account registry life) ≡ false
+  not_begun life line none over is =
+      false_from_ne_true (may_begin account registry (set_up account registry life)) (λ may.
+      let parts = and_parts _ _ may in
+      none (over, inactive_from (phase account registry life) parts.0, parts.1, is))
+
+  -- a line that is answered, and is no accepted `go`
+  entered-answered : (life : List Item) (line : Result Ask Refusal)
+      → (IsAcceptedGo account registry life line → ⊥) → Entered life None → Entered (after_line life line) None
+  entered-answered life line none h = record {
+    accepted = λ pending e. cc;
+    traces = kept_entry life (after_line life line) None
+        (life-after_line account registry life line (not_begun life line none)) h;
+    published = λ other e. cc;
+  }
+
+  entered-waiting : (life : List Item) (line : LineForm) → IsAcceptedGo account registry life (ask_in line)
+      → Entered life None → Entered life (Some (record { line = line; published = false }))
+  entered-waiting life line is h = record {
+    accepted = λ pending e.
+        let same : record { line = line; published = false } ≡ pending = cc in
+        subst (λ p. IsAcceptedGo account registry life (ask_in p.line)) same is;
+    traces = h.traces;
+    published = λ other e. absurd (none_published line other e);
+  }
+
+  -- a published `go` takes effect
+  entered-finished : (life : List Item) (line : LineForm)
+      → Entered life (Some (record { line = line; published = true })) → Entered (after_line life (ask_in line)) None
+  entered-finished life line h =
+      let is = h.accepted (record { line = line; published = true }) refl in
+      let later : after_line life (ask_in line) ≡ asked (Ok go) ∷ life =
+      ap (λ over. cond over life (asked (ask_in line) ∷ life)) is.0 ∙ ap (λ own. asked own ∷ life) is.3 in
+      record {
+        accepted = λ pending e. cc;
+        traces = λ _. h.published line refl
+            ∙ ap (λ (own : List EcbForm). Some (record { life = n; account = account; probes = interest_of own }))
+            (sym (ap (ecbs account registry) later ∙ ecbs-go account registry life));
+        published = λ other e. cc;
+      }
+
+  no_go : (life : List Item) (firing : Firing) (line : Result Ask Refusal)
+      → is_seen account registry life firing ≡ true
+      → IsAcceptedGo account registry life line → ⊥
+  no_go life firing line seen is =
+      let active = (seen_from account registry life firing seen).active in
+      let both : Active ≡ Inactive = sym active ∙ is.1 in cc
+
+  -- a firing reaches a session
+  entered-fired : (life : List Item) (go : Option Pending) (firing : Firing) (seen : Bool)
+      → is_seen account registry life firing ≡ seen → Entered life go
+      → Entered (cond seen (fired firing ∷ life) life) go
+  entered-fired life waits firing false is h = h
+  entered-fired life waits firing true is h = record {
+    accepted = λ pending e. absurd (no_go life firing (ask_in pending.line) is (h.accepted pending e));
+    traces = kept_entry life (fired firing ∷ life) waits (life-fired account registry life firing) h;
+    published = λ line e. absurd (no_go life firing (ask_in line) is (h.accepted _ e));
+  }
+
+-- its interest is published
+entered-published : (registry : Registry) (account : Account) (n : ℕ) (entry : Option Published) (life : List Item)
+    (line : LineForm) → IsEntered registry account life (Some (record { line = line; published = false })) n entry
+    → IsEntered registry account life (Some (record { line = line; published = true })) n
+    (Some (publication_of registry account life n))
+entered-published registry account n entry life line h = record {
+  accepted = λ pending e.
+      let same : record { line = line; published = true } ≡ pending = cc in
+      subst (λ p. IsAcceptedGo account registry life (ask_in p.line)) same
+      (h.accepted (record { line = line; published = false }) refl);
+  traces = λ _. refl;
+  published = λ other e. refl;
+}
+
+-- its entry is withdrawn, where it doesn't trace
+entered-withdrawn : (registry : Registry) (account : Account) (n : ℕ) (life : List Item)
+    → is_active (phase account registry life) ≡ false → IsEntered registry account life None n None
+entered-withdrawn registry account n life quiet = record {
+  accepted = λ pending e. cc;
+  traces = λ a. absurd (both_ways (is_active (phase account registry life)) quiet a);
+  published = λ line e. cc;
+}
+
+module _ (registry : Registry) where
+  no_entry : (seat : ℕ) (entry : Option Published) (place : Place) (present : Option Session) → place.present ≡ present
+      → IsSoundSeat registry seat entry place → SEATS ≤ seat → entry ≡ None
+  no_entry seat entry place None is h past = (rw is at h) past
+  no_entry seat entry place (Some session) is h past =
+      let low : seat < SEATS = (rw is at h).0 in absurd (omega arith)
+
+  -- a seat after a firing reached its session
+  sound-reached : (seat : ℕ) (entry : Option Published) (place : Place) (session : Session) (firing : Firing)
+      → place.present ≡ Some session → IsSoundSeat registry seat entry place
+      → IsSoundSeat registry seat entry (record place { present = Some (reached session (firing_made firing)) })
+  sound-reached seat entry place session firing is h =
+      let before = rw is at h in (
+        before.0,
+        entered-fired registry session.account (length place.earlier) entry (life_in registry session)
+            session.go firing
+            (is_seen session.account registry (life_in registry session) firing) refl before.1,
+      )
+
+  sound-passed : (seat : ℕ) (entry : Option Published) (place : Place) (firing : Firing) (named : Option ℕ)
+      → IsSoundSeat registry seat entry place → IsSoundSeat registry seat entry (passed firing named place)
+  sound-passed seat entry place firing named h =
+      option_case (IsSoundSeat registry seat entry) _ place place.present h (λ session is.
+      cond_both (option_map_or (λ life. life == length place.earlier) named false) _ _
+      (IsSoundSeat registry seat entry)
+      (λ own. h) (λ other. sound-reached seat entry place session firing is h))
+
+  sound-offered : (seat : ℕ) (entry : Option Published) (place : Place) (due : Due)
+      → IsSoundSeat registry seat entry place → IsSoundSeat registry seat entry (offered due place)
+  sound-offered seat entry place due h =
+      option_case (IsSoundSeat registry seat entry) _ place place.present h (λ session is.
+      cond_both (due.life == length place.earlier) _ _ (IsSoundSeat registry seat entry)
+      (λ own. sound-reached seat entry place session due.firing is h) (λ other. h))
+
+  module _ (world : World) (h : IsSoundWorld registry world) where
+    -- the session on a seat
+    at_session : (seat : ℕ) (session : Session) → (world.places seat).present ≡ Some session
+        → (seat < SEATS) × IsEntered registry session.account (life_in registry session) session.go
+        (number_on world seat) (published_on world.writes seat)
+    at_session seat session is = rw is at (h.seats seat)
+
+    sound-with_session : (seat : ℕ) (session : Session) → seat < SEATS
+        → IsEntered registry session.account (life_in registry session) session.go (number_on world seat)
+        (published_on world.writes seat)
+        → IsSoundWorld registry (with_session world seat session)
+    sound-with_session seat session low entered = record {
+      seats = updated (λ other place. IsSoundSeat registry other (published_on world.writes other) place)
+          world.places seat
+          (record { present = Some session; earlier = (world.places seat).earlier }) h.seats (low, entered);
+      due = h.due;
+    }
+
+    sound-answering : (seat : ℕ) (session : Session) (line : LineForm) → seat < SEATS
+        → IsEntered registry session.account (life_in registry (answered session line)) None (number_on world seat)
+        (published_on world.writes seat)
+        → IsSoundWorld registry (answering world seat session line)
+    sound-answering seat session line low entered =
+        let one = sound-with_session seat (answered session line) low entered in
+        record { seats = one.seats; due = one.due }
+
+    pub sound-opening : (seat : ℕ) (name : List ℕ) → IsSoundWorld registry (opening registry world seat name)
+    unfolding opening
+    sound-opening seat name =
+        cond_both (nat_lt seat SEATS && is_none (world.places seat).present) _ world (IsSoundWorld registry)
+        (λ may. option_case (IsSoundWorld registry) _ world (session_account registry name) h (λ account is.
+        sound-with_session seat (new_session account) (ltb-true seat SEATS ((and_parts _ _ may).0))
+        (entered-new registry account (number_on world seat) (published_on world.writes seat))))
+        (λ no. h)
+
+    none_pending : (go : Option Pending) → is_none go ≡ true → go ≡ None
+    none_pending None h = refl
+    none_pending (Some pending) h = cc
+
+    may_ask_none : (session : Session) → may_ask registry session ≡ true → session.go ≡ None
+    unfolding may_ask
+    may_ask_none session may = none_pending session.go ((and_parts _ _ may).0)
+
+    pub sound-asking : (seat : ℕ) (line : LineForm) → IsSoundWorld registry (asking registry world seat line)
+    unfolding asking
+    sound-asking seat line =
+        option_case (IsSoundWorld registry) _ world (world.places seat).present h (λ session is.
+        cond_both (may_ask registry session) _ world (IsSoundWorld registry)
+        (λ may.
+        let at = at_session seat session is in
+        let idle : IsEntered registry session.account (life_in registry session) None (number_on world seat)
+        (published_on world.writes seat) = rw (may_ask_none session may) at at.1 in
+        cond_both (begins registry session line) _ _ (IsSoundWorld registry)
+        (λ begun. sound-with_session seat (waiting session line false) at.0
+        (entered-waiting registry session.account (number_on world seat) (published_on world.writes seat)
+        (life_in registry session) line (begins_from registry session line begun) idle))
+        (λ no. sound-answering seat session line at.0
+        (entered-answered registry session.account (number_on world seat) (published_on world.writes seat)
+        (life_in registry session) (ask_in line)
+        (λ is_go. both_ways (begins registry session line) no (begins_to registry session line is_go)) idle)))
+        (λ no. h))
+
+    pub sound-publishing : (seat : ℕ) → IsSoundWorld registry (publishing registry world seat)
+    unfolding publishing
+    sound-publishing seat =
+        option_case (IsSoundWorld registry) _ world (world.places seat).present h (λ session is.
+        option_case (IsSoundWorld registry) _ world session.go h (λ pending pends.
+        cond_both pending.published _ _ (IsSoundWorld registry) (λ done. h) (λ due.
+        let at = at_session seat session is in
+        let before : IsEntered registry session.account (life_in registry session)
+        (Some (record { line = pending.line; published = false })) (number_on world seat)
+        (published_on world.writes seat) =
+        subst (λ waits. IsEntered registry session.account (life_in registry session) waits (number_on world seat)
+        (published_on world.writes seat))
+        (pends ∙ ap (λ b. Some (record { line = pending.line; published = b })) due) at.1 in
+        record {
+          seats = both_updated (IsSoundSeat registry) world.places (published_on world.writes) seat
+              (record { present = Some (waiting session pending.line true); earlier = (world.places seat).earlier })
+              (Some (publication_of registry session.account (life_in registry session) (number_on world seat)))
+              h.seats (
+                at.0,
+                entered-published registry session.account (number_on world seat)
+                    (published_on world.writes seat) (life_in registry session) pending.line before,
+              );
+          due = h.due;
+        })))
+
+    pub sound-finishing : (seat : ℕ) → IsSoundWorld registry (finishing world seat)
+    unfolding finishing
+    sound-finishing seat =
+        option_case (IsSoundWorld registry) _ world (world.places seat).present h (λ session is.
+        option_case (IsSoundWorld registry) _ world session.go h (λ pending pends.
+        cond_both pending.published _ _ (IsSoundWorld registry) (λ due.
+        let at = at_session seat session is in
+        let before : IsEntered registry session.account (life_in registry session)
+        (Some (record { line = pending.line; published = true })) (number_on world seat)
+        (published_on world.writes seat) =
+        subst (λ waits. IsEntered registry session.account (life_in registry session) waits (number_on world seat)
+        (published_on world.writes seat))
+        (pends ∙ ap (λ b. Some (record { line = pending.line; published = b })) due) at.1 in
+        sound-answering seat session pending.line at.0
+        (entered-finished registry session.account (number_on world seat) (published_on world.writes seat)
+        (life_in registry session) pending.line before))
+        (λ no. h)))
+
+    -- a seat whose entry is withdrawn
+    withdrawn_seat : (seat : ℕ) (place : Place) (entry : Option Published) (present : Option Session)
+        → place.present ≡ present → option_map_or (may_withdraw registry) place.present true ≡ true
+        → IsSoundSeat registry seat entry place → IsSoundSeat registry seat None place
+    unfolding may_withdraw
+    withdrawn_seat seat place entry None is may at = rw is (λ past. refl)
+    withdrawn_seat seat place entry (Some session) is may at =
+        let before = rw is at at in
+        let parts = and_parts _ _ (rw is at may) in
+        let none : session.go ≡ None = none_pending session.go parts.0 in
+        let quiet : is_tracing registry session ≡ false = not-true (is_tracing registry session) parts.1 in
+        rw is (
+          before.0,
+          rw none (entered-withdrawn registry session.account (length place.earlier)
+              (life_in registry session) quiet),
+        )
+
+    pub sound-withdrawing : (seat : ℕ) → IsSoundWorld registry (withdrawing registry world seat)
+    unfolding withdrawing
+    sound-withdrawing seat =
+        cond_both (option_map_or (may_withdraw registry) (world.places seat).present true) _ world
+        (IsSoundWorld registry)
+        (λ may. record {
+          seats = entry_updated (λ other entry. IsSoundSeat registry other entry (world.places other))
+              (published_on world.writes) seat None h.seats
+              (withdrawn_seat seat (world.places seat) (published_on world.writes seat) (world.places seat).present
+              refl may
+              (h.seats seat));
+          due = h.due;
+        })
+        (λ no. h)
+
+    none_named : (firing : Firing) (seat : ℕ) → SEATS ≤ seat → mask_of registry world.writes firing seat ≡ None
+    unfolding mask_of
+    none_named firing seat past =
+        rw (no_entry seat (published_on world.writes seat) (world.places seat) (world.places seat).present refl
+        (h.seats seat) past)
+        refl
+
+    due_at : (same : Bool) (cpu seat : ℕ) (firing : Firing) (named : Option ℕ) → named ≡ None → SEATS ≤ seat
+        → cond same (option_map (λ life. record { life = life; firing = firing }) named) (world.due cpu seat) ≡ None
+    due_at true cpu seat firing named none past = rw none refl
+    due_at false cpu seat firing named none past = h.due cpu seat past
+
+    pub sound-looking : (cpu : ℕ) (firing : Firing) → IsSoundWorld registry (looking registry world cpu firing)
+    unfolding looking
+    sound-looking cpu firing =
+        cond_both (nat_lt cpu registry.cpus && (firing.cpu == cpu && is_done (world.due cpu))) _ world
+        (IsSoundWorld registry)
+        (λ may. record {
+          seats = λ seat. sound-passed seat (published_on world.writes seat) (world.places seat) firing
+              (mask_of registry world.writes firing seat) (h.seats seat);
+          due = λ other seat past. due_at (other == cpu) other seat firing (mask_of registry world.writes firing seat)
+              (none_named firing seat past) past;
+        })
+        (λ no. h)
+
+    no_due_at : (taken : Bool) (cpu seat : ℕ) → SEATS ≤ seat → cond taken None (world.due cpu seat) ≡ None
+    no_due_at true cpu seat past = refl
+    no_due_at false cpu seat past = h.due cpu seat past
+
+    pub sound-offering : (cpu seat : ℕ) → IsSoundWorld registry (offering world cpu seat)
+    unfolding offering
+    sound-offering cpu seat =
+        option_case (IsSoundWorld registry) _ world (world.due cpu seat) h (λ due is. record {
+          seats = updated (λ other place. IsSoundSeat registry other (published_on world.writes other) place)
+              world.places seat
+              (offered due (world.places seat)) h.seats
+              (sound-offered seat (published_on world.writes seat) (world.places seat) due (h.seats seat));
+          due = λ other at past. no_due_at (other == cpu && at == seat) other at past;
+        })
+
+    pub sound-closing : (seat : ℕ) → IsSoundWorld registry (closing world seat)
+    unfolding closing
+    sound-closing seat =
+        option_case (IsSoundWorld registry) _ world (world.places seat).present h (λ session is. record {
+          seats = updated (λ other place. IsSoundSeat registry other (published_on world.writes other) place)
+              world.places seat
+              (record { present = None; earlier = session ∷ (world.places seat).earlier }) h.seats
+              (no_entry seat (published_on world.writes seat) (world.places seat) (world.places seat).present refl
+              (h.seats seat));
+          due = h.due;
+        })
+
+  pub sound-start : IsSoundWorld registry new_world
+  sound-start = record { seats = λ seat past. refl; due = λ cpu seat past. refl }
+
+  pub sound-happens : (world : World) (act : Act) → IsSoundWorld registry world
+      → IsSoundWorld registry (after_act registry world act)
+  sound-happens world (opens seat name) h = sound-opening world h seat name
+  sound-happens world (asks seat line) h = sound-asking world h seat line
+  sound-happens world (publishes seat) h = sound-publishing world h seat
+  sound-happens world (finishes seat) h = sound-finishing world h seat
+  sound-happens world (withdraws seat) h = sound-withdrawing world h seat
+  sound-happens world (looks cpu firing) h = sound-looking world h cpu firing
+  sound-happens world (offers cpu seat) h = sound-offering world h cpu seat
+  sound-happens world (closes seat) h = sound-closing world h seat
+
+  sound-fold : (world : World) (acts : List Act) → IsSoundWorld registry world
+      → IsSoundWorld registry (fold (after_act registry) world acts)
+  sound-fold world [] h = h
+  sound-fold world (act ∷ acts) h = sound-fold (after_act registry world act) acts (sound-happens world act h)
+
+  pub sound-after : (acts : List Act) → IsSoundWorld registry (world_after registry acts)
+  sound-after acts = sound-fold new_world acts sound-start

@@ -1,0 +1,16 @@
+-- At the start.
+use Rattle.std.proofs.Common.{◌∙◌, sym}
+use Rattle.dt_steps.proofs.Soundness.{sound-start}
+use Rattle.dt_steps.proofs.engine.Engine.new.Goals as goal
+
+pub returns : goal.returns
+returns c = (
+  sound-start c.args.machine.now.registry,
+  record {
+    all = sym c.in_ok-free_seats.field-0.ok.0 ∙ c.in_ok-free_seats.ensures.all;
+    held = c.in_ok-free_seats.ensures.free c.args.machine.now.registry;
+    entered = c.new.ensures;
+    cpus = sym c.in_ok-idle_processors.field-0.ok.0 ∙ c.in_ok-idle_processors.ensures.all ∙ c.cpus.ensures.value;
+    due = c.in_ok-idle_processors.ensures.idle;
+  },
+)

@@ -1,0 +1,37 @@
+-- What holds of every world, by its steps alone: what is published of a session that traces is its own interest. So a
+-- session that a look doesn't name doesn't see the firing.
+use Rattle.std.specs.Prelude.{◌≡◌, ℕ, ◌<◌, ◌≤◌, true, List, Option, Some, None, length, MatchOption}
+use Rattle.dt_cred.specs.declared.account.Account.{Account}
+use Rattle.dt_machine.specs.Registry.{Registry}
+use Rattle.dt_chain.specs.Writes.{Published, published_on}
+use Rattle.dt_chain.specs.declared.seat.TheConstants.{SEATS}
+use Rattle.dt_consumer.specs.Draft.{IsAcceptedGo}
+use Rattle.dt_consumer.specs.Life.{Item, phase, ecbs, is_active}
+use Rattle.dt_proto.specs.Line.{ask_in}
+use Rattle.dt_proto.specs.Lines.{LineForm}
+use Rattle.dt_steps.specs.Tests.{interest_of}
+use Rattle.dt_steps.specs.World.{World, Place, Pending, life_in}
+
+module _ (registry : Registry) where
+  -- what a session of this number and this life publishes
+  abbrev pub publication_of : Account → List Item → (n : ℕ) → Published
+  publication_of account life n = record { life = n; account = account; probes = interest_of (ecbs account registry life) }
+
+  -- A session is soundly entered: its pending `go` is an accepted one, and its entry is its own where it traces, and
+  -- where its pending `go` is published.
+  pub record IsEntered (account : Account) (life : List Item) (go : Option Pending) (n : ℕ) (entry : Option Published)
+      : Type 0 where
+    pub accepted : (pending : Pending) → go ≡ Some pending → IsAcceptedGo account registry life (ask_in pending.line)
+    pub traces : is_active (phase account registry life) ≡ true → entry ≡ Some (publication_of account life n)
+    pub published : (line : LineForm) → go ≡ Some (record { line = line; published = true })
+        → entry ≡ Some (publication_of account life n)
+
+  -- A seat is sound: its session is soundly entered. What is no seat has neither a session nor an entry.
+  abbrev pub IsSoundSeat : (seat : ℕ) → Option Published → Place → Type 0
+  IsSoundSeat seat entry place = MatchOption place.present (SEATS ≤ seat → entry ≡ None)
+      (λ session. (seat < SEATS)
+      × IsEntered session.account (life_in registry session) session.go (length place.earlier) entry)
+
+  pub record IsSoundWorld (world : World) : Type 0 where
+    pub seats : (seat : ℕ) → IsSoundSeat seat (published_on world.writes seat) (world.places seat)
+    pub due : (cpu seat : ℕ) → SEATS ≤ seat → world.due cpu seat ≡ None

@@ -1,0 +1,181 @@
+-- When the seats with their consumers stand for a world.
+use Rattle.std.specs.Prelude.{◌≡◌, ◌==◌, ◌&&◌, ℕ, Bool, true, false, not, List, [], ◌∷◌, ◌++◌, Option, Some, None, IfSome, MatchOption, MatchBool, is_some, length, slice_get, if◌then◌else◌}
+use Rattle.std.specs.List.{list_any}
+use Rattle.std.specs.Option.{option_map, option_map_or, option_and_then}
+use Rattle.dt_cred.specs.declared.account.Account.{Account}
+use Rattle.dt_machine.specs.Registry.{Registry}
+use Rattle.dt_machine.specs.declared.firing.Firing.{Firing}
+use Rattle.dt_chain.specs.IsAt as chain
+use Rattle.dt_chain.specs.Seats.{life_at}
+use Rattle.dt_chain.specs.Writes.{Write, published}
+use Rattle.dt_chain.specs.declared.entries.Entries.{Entries}
+use Rattle.dt_chain.specs.declared.seat.TheConstants.{SEATS}
+use Rattle.dt_chain.specs.declared.seat_mask.SeatMask.{SeatMask}
+use Rattle.dt_consumer.specs.Draft.{IsAcceptedGo, IsDraftOf}
+use Rattle.dt_consumer.specs.Life.{Item, ecbs}
+use Rattle.dt_consumer.specs.StandsFor.{StandsFor}
+use Rattle.dt_proto.specs.Asked.{form_asked}
+use Rattle.dt_proto.specs.Line.{ask_in}
+use Rattle.dt_proto.specs.Lines.{LineForm}
+use Rattle.dt_proto.specs.Session.{session_account}
+use Rattle.dt_steps.specs.Ran.{IsText, IsReply}
+use Rattle.dt_steps.specs.Sound.{IsSoundWorld}
+use Rattle.dt_steps.specs.Tests.{is_seen, interest_of}
+use Rattle.dt_steps.specs.World.{World, Session, Place, Pending, Due, Question, life_in, is_closing, new_session, answered, waiting, may_ask, begins}
+use Rattle.dt_steps.specs.declared.engine.Engine.{Engine}
+use Rattle.dt_steps.specs.declared.held.Held.{Held}
+use Rattle.dt_steps.specs.declared.looked.Looked.{Looked}
+use Rattle.dt_steps.specs.declared.looked.ScriptPlace.{ScriptPlace}
+use Rattle.dt_steps.specs.declared.served.Served.{Served}
+use Rattle.dt_steps.specs.declared.served.Waiting.{Waiting}
+
+-- a `go` is pending, and its interest is published; or it isn't yet
+abbrev pub is_published : Session → Bool
+is_published session = option_map_or (λ pending. pending.published) session.go false
+
+abbrev pub is_unpublished : Session → Bool
+is_unpublished session = option_map_or (λ pending. not pending.published) session.go false
+
+-- the seat with this session
+abbrev pub with_present : Place → Session → Place
+with_present place session = record place { present = Some session }
+
+-- what is on a seat after its session was closed
+abbrev pub closed_on : Place → Place
+closed_on place = option_map_or
+    (λ session. record { present = None; earlier = session ∷ place.earlier }) place.present place
+
+-- the account of the session on a seat, where that is the first there
+abbrev pub first_account : Place → Option Account
+first_account place = option_and_then
+    (λ session. if length place.earlier == 0 then Some session.account else None) place.present
+
+-- where a firing stands in the scripts
+abbrev pub place_of : Firing → ScriptPlace
+place_of firing = record { cpu = firing.cpu; place = firing.place }
+
+-- what a processor owes to a seat of what it looked for
+abbrev pub due_of : Looked → (seat : ℕ) → Option Due
+due_of looked seat = option_map (λ life. record { life = life; firing = looked.firing }) (life_at looked.left seat)
+
+abbrev pub due_in : Option (Option Looked) → (seat : ℕ) → Option Due
+due_in (Some (Some looked)) seat = due_of looked seat
+due_in _ seat = None
+
+module _ (registry : Registry) where
+  -- What is kept of a pending `go`, which is an accepted one: its line, whether it is published, and the draft.
+  pub record IsWaiting (account : Account) (life : List Item) (pending : Pending) (waiting : Waiting) : Type 0 where
+    pub line : form_asked waiting.line ≡ pending.line
+    pub published : waiting.is_published ≡ pending.published
+    pub accepted : IsAcceptedGo account registry life (ask_in pending.line)
+    pub drafted : IsDraftOf account registry life (ask_in pending.line) waiting.draft
+
+  abbrev pub IsPending : Account → List Item → Option Pending → Option Waiting → Type 0
+  IsPending account life None None = Unit {0}
+  IsPending account life None (Some waiting) = ⊥
+  IsPending account life (Some pending) None = ⊥
+  IsPending account life (Some pending) (Some waiting) = IsWaiting account life pending waiting
+
+  -- What is kept of a session of this account, this life and this pending `go`: its consumer stands for the life.
+  pub record IsServed (account : Account) (life : List Item) (go : Option Pending) (served : Served) : Type 0 where
+    pub owner : served.account ≡ account
+    pub stands : StandsFor account registry served.consumer life
+    pub closed : served.is_closed ≡ list_any is_closing life
+    pub pending : IsPending account life go served.go
+
+  -- the session on a seat sees the firing that is due to it
+  abbrev pub sees_on : Due → Place → Bool
+  sees_on due place = option_map_or
+      (λ session. (due.life == length place.earlier)
+      && is_seen session.account registry (life_in registry session) due.firing) place.present false
+
+  -- the firing that an offer brings to the session on a seat, where it is seen
+  abbrev pub seen_in : World → (cpu seat : ℕ) → Option Firing
+  seen_in world cpu seat = option_and_then
+      (λ due. if sees_on due (world.places seat) then Some due.firing else None) (world.due cpu seat)
+
+  abbrev pub IsSession : Session → Served → Type 0
+  IsSession session served = IsServed session.account (life_in registry session) session.go served
+
+  abbrev pub IsPresent : Option Session → Option Served → Type 0
+  IsPresent None None = Unit {0}
+  IsPresent None (Some served) = ⊥
+  IsPresent (Some session) None = ⊥
+  IsPresent (Some session) (Some served) = IsSession session served
+
+  -- What is kept of a seat: its session, and how many were there before it.
+  pub record IsHeld (place : Place) (held : Held) : Type 0 where
+    pub counted : held.earlier ≡ length place.earlier
+    pub present : IsPresent place.present held.present
+
+  -- A line was asked of a session that may ask: an accepted `go` is pending without a reply, any other is answered.
+  abbrev pub IsAsked : Session → LineForm → (reply : Option (List ℕ)) → Served → Type 0
+  IsAsked session line None served =
+      (begins registry session line ≡ true) × IsSession (waiting session line false) served
+  IsAsked session line (Some text) served =
+      (begins registry session line ≡ false) × IsSession (answered session line) served
+      × IsText session.account registry session.view line text
+
+  -- A published `go` took effect, and is answered; or none is pending, and nothing happened.
+  abbrev pub IsFinishing : Session → (reply : Option (List ℕ)) → Served → Type 0
+  IsFinishing session None served = (is_published session ≡ false) × IsSession session served
+  IsFinishing session (Some text) served =
+      (pending : Pending) × (session.go ≡ Some pending) × (pending.published ≡ true)
+      × IsText session.account registry session.view pending.line text
+      × IsSession (answered session pending.line) served
+
+  -- what is on a seat after an account opens a session there
+  abbrev pub opened_on : Place → (name : List ℕ) → Place
+  opened_on place name =
+      if is_some place.present then place else
+      option_map_or (λ account. with_present place (new_session account)) (session_account registry name) place
+
+  -- A line was asked on a seat.
+  abbrev pub IsAskedOn : Place → LineForm → (reply : Option (List ℕ)) → Held → Type 0
+  IsAskedOn place line reply held = MatchOption place.present ((reply ≡ None) × IsHeld place held)
+      (λ session. MatchBool (may_ask registry session)
+      ((served : Served) × (held.earlier ≡ length place.earlier) × (held.present ≡ Some served)
+      × IsAsked session line reply served)
+      ((reply ≡ None) × IsHeld place held))
+
+  -- A published `go` took effect on a seat, if there was one.
+  abbrev pub IsFinishedOn : Place → (reply : Option (List ℕ)) → Held → Type 0
+  IsFinishedOn place reply held = MatchOption place.present ((reply ≡ None) × IsHeld place held)
+      (λ session. (served : Served) × (held.earlier ≡ length place.earlier) × (held.present ≡ Some served)
+      × IsFinishing session reply served)
+
+  -- The interest of the session on a seat was published, if its pending `go` wasn't yet.
+  abbrev pub IsPublishedOn : (seat : ℕ) → Place → List Write → Held → Entries → Type 0
+  IsPublishedOn seat place writes held entries =
+      let same = IsHeld place held × chain.EntriesAreAt writes entries in
+      MatchOption place.present same (λ session. MatchOption session.go same (λ pending. MatchBool pending.published same
+      (IsHeld (with_present place (waiting session pending.line true)) held
+      × chain.EntriesAreAt (published seat (length place.earlier) session.account
+      (interest_of (ecbs session.account registry (life_in registry session))) ∷ writes) entries)))
+
+  -- What is kept is that of a world: of each seat, of each processor, and the entries.
+  pub record WorldIsKept (world : World) (seats : List Held) (entries : Entries) (processors : List (Option Looked))
+      : Type 0 where
+    pub all : length seats ≡ SEATS
+    pub held : (seat : ℕ) → IfSome (slice_get seats seat) (IsHeld (world.places seat))
+    pub entered : chain.EntriesAreAt world.writes entries
+    pub cpus : length processors ≡ registry.cpus
+    pub due : (cpu seat : ℕ) → world.due cpu seat ≡ due_in (slice_get processors cpu) seat
+
+  -- The seats with their consumers stand for a world: it is sound, and what is kept is the world's.
+  abbrev pub EngineIsAt : World → Engine → Type 0
+  EngineIsAt world engine = IsSoundWorld registry world
+      × WorldIsKept world engine.seats.items engine.entries engine.processors.items
+
+  -- A step answered this at a seat, or nothing: one question more, and its reply; or none more.
+  abbrev pub IsAnswered : (before after : World) → (seat : ℕ) → (reply : Option (List ℕ)) → Type 0
+  IsAnswered before after seat None = after.questions ≡ before.questions
+  IsAnswered before after seat (Some text) =
+      (question : Question) × (after.questions ≡ before.questions ++ question ∷ [])
+      × IsReply registry question (seat, text)
+
+-- A look named these lives, or it wasn't enabled.
+abbrev pub IsLooked : (before after : World) → Option SeatMask → Type 0
+IsLooked before after None = after.looks ≡ before.looks
+IsLooked before after (Some mask) =
+    (look : ℕ → Option ℕ) × (after.looks ≡ before.looks ++ look ∷ []) × ((seat : ℕ) → life_at mask seat ≡ look seat)

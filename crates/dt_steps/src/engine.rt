@@ -1,0 +1,263 @@
+//! The seats with their consumers, what is published, and the offers that are left: each step in turn.
+ghost use Rattle.std.specs.Prelude.{◌≡◌, vec_len};
+ghost use Rattle.dt_chain.specs.declared.seat.TheConstants.{SEATS};
+
+use crate::held::{Held, free_seats};
+use crate::looked::{Looked, ScriptPlace, idle_processors};
+use crate::outcome::Outcome;
+use crate::served::{Answered, Finished};
+use crate::step::Step;
+use dt_chain::{Entries, SEATS, Seat, SeatMask};
+use dt_cred::Account;
+use dt_machine::{Firing, Machine};
+use dt_proto::WholeLine;
+use std::alloc::{AllocError, Global};
+
+/// All seats, what is published, and what each processor looked for.
+#[derive(Drop)]
+pub struct Engine {
+    pub(crate) seats: Vec<Held>,
+    pub(crate) entries: Entries,
+    pub(crate) processors: Vec<Option<Looked>>,
+    ghost all: { vec_len seats ≡ SEATS },
+}
+
+impl Engine {
+    ghost use Rattle.std.specs.Prelude.{ℕ, ◌+◌, ◌<◌, ◌^◌, ◌&&◌, Some, IsTrue, IfOk, IfSome, OnOk, is_some, option_map, nat_lt};
+    ghost use Rattle.dt_machine.specs.Registry.{Registry};
+    ghost use Rattle.dt_consumer.specs.Life.{is_over};
+    ghost use Rattle.dt_proto.specs.Asked.{form_lent, form_asked};
+    ghost use Rattle.dt_steps.specs.Stands.{EngineIsAt, IsAnswered, IsLooked, first_account, place_of, seen_in};
+    ghost use Rattle.dt_steps.specs.Steps as steps;
+    ghost use Rattle.dt_steps.specs.Telling.{IsTelling};
+    ghost use Rattle.dt_steps.specs.Steps.{act_of, after_act, opening, asking, publishing, finishing, withdrawing, looking, offering, closing};
+    ghost use Rattle.dt_steps.specs.World.{World, Session, Pending, number_on, life_in, new_world, waits as waits_on, has_closed as has_closed_on};
+
+    /// All seats are free, nothing is published, and no processor looked for anything.
+    pub fn new(alloc: Global, machine: &Machine) -> Result<Engine, AllocError>
+        ensures { IfOk result (EngineIsAt machine.now.registry new_world) }
+    {
+        Ok(Engine {
+            seats: free_seats(alloc)?,
+            entries: Entries::new(alloc),
+            processors: idle_processors(alloc, machine.cpus())?,
+        })
+    }
+
+    /// Opens a session on a free seat for the machine's account of this name, if that has a dtrace privilege.
+    pub fn open(
+        &mut self,
+        alloc: Global,
+        machine: &Machine,
+        seat: Seat,
+        name: &[u8],
+    ) -> Result<(), AllocError>
+        ensures { OnOk result ((world : World) → EngineIsAt machine.now.registry world self.old
+            → EngineIsAt machine.now.registry (opening machine.now.registry world seat name.now) self.new) }
+    {
+        self.seats[seat.number() as usize].open(alloc, machine, name)
+    }
+
+    /// Asks a line of the session on a seat, and answers the reply's bytes.
+    pub fn ask(
+        &mut self,
+        alloc: Global,
+        machine: &Machine,
+        seat: Seat,
+        line: WholeLine<'_>,
+    ) -> Result<Option<Answered>, AllocError>
+        ensures at { OnOk result ((world : World) → EngineIsAt machine.now.registry world self.old
+            → EngineIsAt machine.now.registry (asking machine.now.registry world seat (form_lent line.entry)) self.new) }
+        ensures answer { IfOk result (λ reply. (world : World) → EngineIsAt machine.now.registry world self.old
+            → IsAnswered machine.now.registry world (asking machine.now.registry world seat (form_lent line.entry)) seat
+            (option_map (λ answered. answered.text.items) reply)) }
+        ensures over { IfOk result (λ reply. IfSome reply (λ answered. (world : World) (session : Session)
+            → EngineIsAt machine.now.registry world self.old → (world.places seat).present ≡ Some session
+            → answered.is_over ≡ is_over (life_in machine.now.registry session))) }
+    {
+        self.seats[seat.number() as usize].ask(alloc, machine, line)
+    }
+
+    /// Publishes the interest of the session on a seat.
+    pub fn publish(&mut self, machine: &Machine, seat: Seat) -> Result<(), AllocError>
+        ensures { OnOk result ((world : World) → EngineIsAt machine.now.registry world self.old
+            → EngineIsAt machine.now.registry (publishing machine.now.registry world seat) self.new) }
+    {
+        self.seats[seat.number() as usize].publish(&mut self.entries, seat)
+    }
+
+    /// Lets the published `go` of the session on a seat take effect, and answers the reply's bytes.
+    pub fn finish(
+        &mut self,
+        alloc: Global,
+        machine: &Machine,
+        seat: Seat,
+    ) -> Result<Option<Finished>, AllocError>
+        ensures at { OnOk result ((world : World) → EngineIsAt machine.now.registry world self.old
+            → EngineIsAt machine.now.registry (finishing world seat) self.new) }
+        ensures answer { IfOk result (λ reply. (world : World) → EngineIsAt machine.now.registry world self.old
+            → IsAnswered machine.now.registry world (finishing world seat) seat (option_map (λ finished. finished.text.items) reply)) }
+        ensures line { IfOk result (λ reply. IfSome reply (λ finished. (world : World) (session : Session) (pending : Pending)
+            → EngineIsAt machine.now.registry world self.old → (world.places seat).present ≡ Some session
+            → session.go ≡ Some pending → form_asked finished.line ≡ pending.line)) }
+    {
+        self.seats[seat.number() as usize].finish(alloc, machine)
+    }
+
+    /// Withdraws the entry of a seat.
+    pub fn withdraw(&mut self, machine: &Machine, seat: Seat)
+        ensures { (world : World) → EngineIsAt machine.now.registry world self.old
+            → EngineIsAt machine.now.registry (withdrawing machine.now.registry world seat) self.new }
+    {
+        if self.seats[seat.number() as usize].may_withdraw() {
+            self.entries.withdraw(seat);
+        }
+    }
+
+    /// Looks whom a firing of a processor is to be offered to. `None`: the look is not enabled.
+    pub fn look(&mut self, machine: &Machine, cpu: u32, firing: &Firing) -> Option<SeatMask>
+        ensures at { (world : World) → EngineIsAt machine.now.registry world self.old
+            → EngineIsAt machine.now.registry (looking machine.now.registry world cpu firing.now) self.new }
+        ensures answer { (world : World) → EngineIsAt machine.now.registry world self.old
+            → IsLooked world (looking machine.now.registry world cpu firing.now) result }
+    {
+        // a processor looks for its own firings alone: for another's the look isn't enabled
+        if firing.cpu != cpu {
+            return None;
+        }
+        // nor is it on a processor that isn't there, or while an offer of the last look is still due
+        if !self.is_done(cpu) {
+            return None;
+        }
+        let mask = self.entries.look(machine, firing);
+        self.processors[cpu as usize] = Looked::unless_empty(firing, &mask);
+        Some(mask)
+    }
+
+    /// Whether there is such a processor, and none of its offers is left.
+    fn is_done(&self, cpu: u32) -> bool
+        ensures there { IsTrue result → cpu < vec_len self.now.processors }
+        ensures done { (registry : Registry) (world : World) → EngineIsAt registry world self.now
+            → result ≡ (nat_lt cpu registry.cpus && steps.is_done (world.due cpu)) }
+    {
+        match self.processors.get(cpu as usize) {
+            Some(Some(looked)) => looked.left.is_empty(),
+            Some(None) => true,
+            None => false,
+        }
+    }
+
+    /// Offers the firing that a processor looked for to a seat. Answers where the firing stands, where the session on the
+    /// seat saw it.
+    pub fn offer(&mut self, machine: &Machine, cpu: u32, seat: Seat) -> Option<ScriptPlace>
+        ensures { (world : World) → EngineIsAt machine.now.registry world self.old
+            → EngineIsAt machine.now.registry (offering world cpu seat) self.new
+            × (result ≡ option_map place_of (seen_in machine.now.registry world cpu seat)) }
+    {
+        if (cpu as usize) < self.processors.len() {
+            if let Some(looked) = &mut self.processors[cpu as usize] {
+                // nothing that it looked for is due to this seat
+                let life = looked.take(seat)?;
+                let held = &mut self.seats[seat.number() as usize];
+                let place = ScriptPlace {
+                    cpu: looked.firing.cpu,
+                    place: looked.firing.place,
+                };
+                // the place is told where the session saw the firing: a trail has seen firings alone
+                return held.deliver(machine, life, &looked.firing).then_some(place);
+            }
+        }
+        None
+    }
+
+    /// Ends the session on a seat.
+    pub fn close(&mut self, seat: Seat)
+        ensures { (registry : Registry) (world : World) → number_on world seat + 1 < 2 ^ 64
+            → EngineIsAt registry world self.old → EngineIsAt registry (closing world seat) self.new }
+    {
+        self.seats[seat.number() as usize].close();
+    }
+
+    /// Whether a `go` of the session on a seat is pending.
+    pub fn waits(&self, seat: Seat) -> bool
+        ensures { (registry : Registry) (world : World) → EngineIsAt registry world self.now
+            → result ≡ waits_on (world.places seat) }
+    {
+        match &self.seats[seat.number() as usize].present {
+            Some(served) => served.go.is_some(),
+            None => false,
+        }
+    }
+
+    /// Whether a `close` of the session on a seat was accepted.
+    pub fn has_closed(&self, seat: Seat) -> bool
+        ensures { (registry : Registry) (world : World) → EngineIsAt registry world self.now
+            → result ≡ has_closed_on registry (world.places seat) }
+    {
+        match &self.seats[seat.number() as usize].present {
+            Some(served) => served.is_closed,
+            None => false,
+        }
+    }
+
+    /// Whether the session on a seat is there, and the first.
+    pub fn is_first(&self, seat: Seat) -> bool
+        ensures { (registry : Registry) (world : World) → EngineIsAt registry world self.now
+            → result ≡ is_some (first_account (world.places seat)) }
+    {
+        self.seats[seat.number() as usize].is_first()
+    }
+
+    /// The account of the session on a seat, where that is the first session there.
+    pub fn first(&self, seat: Seat) -> Option<Account>
+        ensures { (registry : Registry) (world : World) → EngineIsAt registry world self.now
+            → result ≡ first_account (world.places seat) }
+    {
+        self.seats[seat.number() as usize].first()
+    }
+
+    /// Takes a step, and tells what it answers.
+    pub(crate) fn take(
+        &mut self,
+        alloc: Global,
+        machine: &Machine,
+        step: &Step,
+    ) -> Result<Outcome, AllocError>
+        ensures { IfOk result (λ outcome. (world : World) → ((seat : ℕ) → number_on world seat + 1 < 2 ^ 64)
+            → EngineIsAt machine.now.registry world self.old
+            → EngineIsAt machine.now.registry (after_act machine.now.registry world (act_of step.now)) self.new
+            × IsTelling machine.now.registry world (after_act machine.now.registry world (act_of step.now)) outcome) }
+    {
+        match step {
+            Step::Open(seat, name) => {
+                self.open(alloc, machine, *seat, name)?;
+                Ok(Outcome::Quiet)
+            }
+            Step::Ask(seat, line) => {
+                let reply = self.ask(alloc, machine, *seat, line.lent())?;
+                Ok(Outcome::replied(*seat, reply))
+            }
+            Step::Publish(seat) => {
+                self.publish(machine, *seat)?;
+                Ok(Outcome::Quiet)
+            }
+            Step::Finish(seat) => {
+                let reply = self.finish(alloc, machine, *seat)?;
+                Ok(Outcome::finished(*seat, reply))
+            }
+            Step::Withdraw(seat) => {
+                self.withdraw(machine, *seat);
+                Ok(Outcome::Quiet)
+            }
+            Step::Look(cpu, firing) => Ok(Outcome::looked(self.look(machine, *cpu, firing))),
+            Step::Offer(cpu, seat) => {
+                self.offer(machine, *cpu, *seat);
+                Ok(Outcome::Quiet)
+            }
+            Step::Close(seat) => {
+                self.close(*seat);
+                Ok(Outcome::Quiet)
+            }
+        }
+    }
+}

@@ -1,0 +1,25 @@
+//! The world of many consumers: what its steps do to each session, and that what a session is answered is what it would
+//! be answered alone.
+//!
+//! Consumers trace one machine together, each in a session of its own, on one of 64 seats. The world is a function of
+//! the list of steps ([`Step`], `specs/Steps.antt`), and no consumer is in it: what reached each session
+//! (`specs/World.antt`), what was published, which offers are due. [`run`] takes the steps with the consumers, and
+//! answers each session what its own view is answered alone; [`agree_alike`] says that equal seen views are answered
+//! alike, whatever else happened. [`Engine`] takes them one by one.
+#![tactic(auto)]
+
+mod engine;
+mod held;
+mod laws;
+mod looked;
+mod outcome;
+mod running;
+mod served;
+mod step;
+
+pub use engine::Engine;
+pub use laws::{agree_alike, seen_alike, tests_agree, told_alone, worlds_are_sound};
+pub use looked::ScriptPlace;
+pub use running::{Ran, run};
+pub use served::{Answered, Finished};
+pub use step::Step;

@@ -1,0 +1,50 @@
+//! What a step answers.
+use crate::served::{Answered, Finished};
+use dt_chain::{Seat, SeatMask};
+
+/// What a step answers.
+#[derive(Drop)]
+pub(crate) enum Outcome {
+    /// Nothing.
+    Quiet,
+    /// A reply to the session on a seat, as a line with its newline.
+    Replied(Seat, Vec<u8>),
+    /// What a look named.
+    Looked(SeatMask),
+}
+
+impl Outcome {
+    ghost use Rattle.std.specs.Prelude.{◌≡◌, Some, None};
+    ghost use Rattle.std.specs.Option.{option_map_or};
+    ghost use Rattle.dt_steps.specs.declared.outcome.Outcome.TheVariants as outcome;
+
+    /// A reply at a seat, if there is one.
+    pub(crate) fn replied(seat: Seat, reply: Option<Answered>) -> Outcome
+        ensures { result ≡ option_map_or (λ answered. outcome.Replied seat answered.text) reply outcome.Quiet }
+    {
+        match reply {
+            Some(Answered { text, .. }) => Outcome::Replied(seat, text),
+            None => Outcome::Quiet,
+        }
+    }
+
+    /// The reply to a `go` at a seat, if one took effect.
+    pub(crate) fn finished(seat: Seat, reply: Option<Finished>) -> Outcome
+        ensures { result ≡ option_map_or (λ finished. outcome.Replied seat finished.text) reply outcome.Quiet }
+    {
+        match reply {
+            Some(Finished { text, .. }) => Outcome::Replied(seat, text),
+            None => Outcome::Quiet,
+        }
+    }
+
+    /// What a look named, if it was enabled.
+    pub(crate) fn looked(mask: Option<SeatMask>) -> Outcome
+        ensures { result ≡ option_map_or (λ named. outcome.Looked named) mask outcome.Quiet }
+    {
+        match mask {
+            Some(named) => Outcome::Looked(named),
+            None => Outcome::Quiet,
+        }
+    }
+}

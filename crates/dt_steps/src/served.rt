@@ -1,0 +1,197 @@
+//! A session that goes on, with its consumer.
+ghost use Rattle.std.specs.Prelude.{◌≡◌, ◌↔◌, IsTrue};
+ghost use Rattle.dt_consumer.specs.Answer.{answer_of, refused};
+
+use dt_consumer::{Consumer, Draft, Phase, Refusal, Reply};
+use dt_cred::Account;
+use dt_machine::{Firing, Machine};
+use dt_proto::{Asked, WholeLine, read_line, reply_bytes};
+use std::alloc::{AllocError, Global};
+
+/// A session that goes on.
+#[derive(Drop)]
+pub(crate) struct Served {
+    pub(crate) account: Account,
+    pub(crate) consumer: Consumer,
+    pub(crate) go: Option<Waiting>,
+    /// Whether a `close` of it was accepted.
+    pub(crate) is_closed: bool,
+}
+
+/// A `go` that was accepted and has not taken effect yet.
+#[derive(Drop)]
+pub(crate) struct Waiting {
+    pub(crate) line: Asked,
+    pub(crate) draft: Draft,
+    /// Whether the session's interest was published for it.
+    pub(crate) is_published: bool,
+}
+
+/// What a line is answered.
+#[derive(Drop)]
+pub struct Answered {
+    /// The reply's bytes, with its newline.
+    pub text: Vec<u8>,
+    /// Whether the line was refused since it is over the quota.
+    pub is_over: bool,
+}
+
+/// A `go` that took effect.
+#[derive(Drop)]
+pub struct Finished {
+    pub line: Asked,
+    /// The reply's bytes, with its newline.
+    pub text: Vec<u8>,
+}
+
+impl Served {
+    ghost use Rattle.std.specs.Prelude.{◌≡◌, List, [], ◌∷◌, Option, Some, None, true, IfOk, IfSome, option_map, if◌then◌else◌};
+    ghost use Rattle.dt_cred.specs.declared.account.Account.{Account};
+    ghost use Rattle.dt_machine.specs.Registry.{Registry};
+    ghost use Rattle.dt_consumer.specs.Life.{Item, fired, is_over};
+    ghost use Rattle.dt_proto.specs.Asked.{form_lent, form_asked};
+    ghost use Rattle.dt_steps.specs.Stands.{IsServed, IsSession, IsAsked, IsFinishing, is_unpublished};
+    ghost use Rattle.dt_steps.specs.Tests.{is_seen};
+    ghost use Rattle.dt_steps.specs.World as world;
+    ghost use Rattle.dt_steps.specs.World.{Session, Pending};
+
+    /// A session of an account that has asked nothing.
+    pub(crate) fn new(
+        alloc: Global,
+        account: Account,
+        machine: &Machine,
+    ) -> Result<Served, AllocError>
+        ensures { IfOk result (IsServed machine.now.registry account [] None) }
+    {
+        Ok(Served {
+            account,
+            consumer: Consumer::new(alloc, account, machine)?,
+            go: None,
+            is_closed: false,
+        })
+    }
+
+    /// Whether it may ask a line: no `go` is pending, and no `close` was accepted.
+    pub(crate) fn may_ask(&self) -> bool
+        ensures { (registry : Registry) (session : Session) → IsSession registry session self.now
+            → result ≡ world.may_ask registry session }
+    {
+        self.go.is_none() && !self.is_closed
+    }
+
+    /// Asks a line of a session that may ask. A `go` that is accepted is pending then, without a reply.
+    pub(crate) fn ask(
+        &mut self,
+        alloc: Global,
+        machine: &Machine,
+        line: WholeLine<'_>,
+    ) -> Result<Option<Answered>, AllocError>
+        ensures asked { IfOk result (λ reply. (session : Session) → IsSession machine.now.registry session self.old
+            → world.may_ask machine.now.registry session ≡ true
+            → IsAsked machine.now.registry session (form_lent line.entry) (option_map (λ answered. answered.text.items) reply) self.new) }
+        ensures over { IfOk result (λ reply. IfSome reply (λ answered. (session : Session)
+            → IsSession machine.now.registry session self.old
+            → answered.is_over ≡ is_over (world.life_in machine.now.registry session))) }
+    {
+        let asked = read_line(alloc, line)?;
+        let draft = self.consumer.draft(alloc, machine, &asked)?;
+        // an accepted `go` waits for its publication, and is answered at its finish
+        if draft.publishes() {
+            let line = line.to_asked(alloc)?;
+            self.go = Some(Waiting {
+                line,
+                draft,
+                is_published: false,
+            });
+            return Ok(None);
+        }
+        let reply = draft.reply();
+        let is_over = is_over_quota(reply);
+        let text = reply_bytes(alloc, reply)?;
+        self.is_closed = draft.closes();
+        self.consumer.apply(machine, draft);
+        Ok(Some(Answered { text, is_over }))
+    }
+
+    /// Whether a `go` is pending whose interest is still to be published.
+    pub(crate) fn is_unpublished(&self) -> bool
+        ensures { (registry : Registry) (session : Session) → IsSession registry session self.now
+            → result ≡ is_unpublished session }
+    {
+        match &self.go {
+            Some(waiting) => !waiting.is_published,
+            None => false,
+        }
+    }
+
+    /// The interest was published for the pending `go`.
+    pub(crate) fn set_published(&mut self)
+        ensures { (registry : Registry) (session : Session) (pending : Pending)
+            → IsSession registry session self.old → session.go ≡ Some pending
+            → IsSession registry (world.waiting session pending.line true) self.new }
+    {
+        if let Some(waiting) = &mut self.go {
+            waiting.is_published = true;
+        }
+    }
+
+    /// A pending `go` whose interest was published takes effect, and is answered. Where there is none, nothing happens.
+    pub(crate) fn finish(
+        &mut self,
+        alloc: Global,
+        machine: &Machine,
+    ) -> Result<Option<Finished>, AllocError>
+        ensures finished { IfOk result (λ reply. (session : Session) → IsSession machine.now.registry session self.old
+            → IsFinishing machine.now.registry session (option_map (λ finished. finished.text.items) reply) self.new) }
+        ensures line { IfOk result (λ reply. IfSome reply (λ finished. (session : Session) (pending : Pending)
+            → IsSession machine.now.registry session self.old → session.go ≡ Some pending
+            → form_asked finished.line ≡ pending.line)) }
+    {
+        // with no `go` pending a finish isn't enabled: nothing happens, and nothing is answered
+        let Some(waiting) = &self.go else {
+            return Ok(None);
+        };
+        // as long as its interest isn't published no look names the session, so the `go` waits on
+        if !waiting.is_published {
+            return Ok(None);
+        }
+        let text = reply_bytes(alloc, waiting.draft.reply())?;
+        // the `go` was only lent for its reply and is still there, so this end is never met
+        let Some(waiting) = self.go.take() else {
+            return Ok(None);
+        };
+        self.consumer.apply(machine, waiting.draft);
+        Ok(Some(Finished {
+            line: waiting.line,
+            text,
+        }))
+    }
+
+    /// Whether its entry may be withdrawn: it is not active, and no `go` is pending.
+    pub(crate) fn may_withdraw(&self) -> bool
+        ensures { (registry : Registry) (session : Session) → IsSession registry session self.now
+            → result ≡ world.may_withdraw registry session }
+    {
+        self.go.is_none() && !matches!(self.consumer.phase(), Phase::Active)
+    }
+
+    /// A firing reaches it. Answers whether it saw the firing.
+    pub(crate) fn offer(&mut self, machine: &Machine, firing: &Firing) -> bool
+        ensures seen { (account : Account) (life : List Item) (go : Option Pending)
+            → IsServed machine.now.registry account life go self.old
+            → result ≡ is_seen account machine.now.registry life firing.now }
+        ensures reached { (account : Account) (life : List Item) (go : Option Pending)
+            → IsServed machine.now.registry account life go self.old
+            → IsServed machine.now.registry account
+            (if is_seen account machine.now.registry life firing.now then fired firing.now ∷ life else life) go self.new }
+    {
+        self.consumer.offer(machine, firing)
+    }
+}
+
+/// Whether a reply is the refusal of a line over the quota.
+fn is_over_quota(reply: &Reply) -> bool
+    ensures { IsTrue result ↔ (answer_of reply.now ≡ refused Refusal.Quota) }
+{
+    matches!(reply, Reply::Refused(Refusal::Quota))
+}

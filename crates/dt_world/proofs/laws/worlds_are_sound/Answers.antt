@@ -1,6 +1,0 @@
--- Every world is sound.
-use Rattle.dt_world.proofs.Soundness.{sound-after}
-use Rattle.dt_world.proofs.laws.worlds_are_sound.Goals as goal
-
-pub returns : goal.returns
-returns c = sound-after
