@@ -9,7 +9,7 @@ use Rattle.std.proofs.lemmas.List.{get_or-set_other, get_or-replicate}
 use Rattle.std.proofs.lemmas.Option.{slice_get_within}
 use Rattle.dt_cred.specs.declared.account.Account.{Account}
 use Rattle.dt_machine.specs.Registry.{Registry, Contents, IsSound, firing_at}
-use Rattle.dt_machine.specs.declared.firing.Firing.{Firing}
+use Rattle.dt_cred.specs.declared.firing.Firing.{Firing}
 use Rattle.dt_consumer.specs.Answer.{Answer}
 use Rattle.dt_consumer.specs.Ask.{Ask}
 use Rattle.dt_consumer.specs.Life.{Item, asked, is_over}

@@ -5,7 +5,7 @@ use Rattle.std.proofs.lemmas.List.{drop_more, length-map, length-take-le, map-ap
 use Rattle.std.proofs.lemmas.List.{take-append-drop}
 use Rattle.dt_cred.specs.declared.account.Account.{Account}
 use Rattle.dt_machine.specs.Registry.{Registry}
-use Rattle.dt_machine.specs.declared.firing.Firing.{Firing}
+use Rattle.dt_cred.specs.declared.firing.Firing.{Firing}
 use Rattle.dt_consumer.specs.Life.{Item, fired}
 use Rattle.dt_consumer.specs.Sees.{Sees}
 use Rattle.dt_proto.specs.Alone.{IsAfterFiring}

@@ -4,7 +4,7 @@ use Rattle.std.specs.List.{flat_map, AllByRecursion}
 use Rattle.std.specs.Option.{option_to_list}
 use Rattle.dt_cred.specs.declared.account.Account.{Account}
 use Rattle.dt_machine.specs.Registry.{Contents, firing_at}
-use Rattle.dt_machine.specs.declared.firing.Firing.{Firing}
+use Rattle.dt_cred.specs.declared.firing.Firing.{Firing}
 use Rattle.dt_consumer.specs.Answer.{Answer}
 use Rattle.dt_consumer.specs.Life.{Item, asked, fired, is_over}
 use Rattle.dt_consumer.specs.Reply.{Replies}

@@ -3,7 +3,7 @@ use Rattle.std.specs.Prelude.{◌≡◌, ◌↔◌, ℕ, List, Option, Some, IsS
 use Rattle.dt_machine.specs.Interest as interest
 use Rattle.dt_machine.specs.Registry.{Registry, Belongs}
 use Rattle.dt_machine.specs.Shown.{IsShown}
-use Rattle.dt_machine.specs.declared.firing.Firing.{Firing}
+use Rattle.dt_cred.specs.declared.firing.Firing.{Firing}
 use Rattle.dt_chain.specs.Writes.{Write, Published, published_on}
 
 -- An entry names a firing that belongs to the machine, whose probe is one of the entry's, and that the entry's

@@ -1,7 +1,7 @@
 //! What holds of the definitions alone: a look has one answer.
 ghost use Rattle.std.specs.Prelude.{◌≡◌, ℕ, List, Option};
 ghost use Rattle.dt_machine.specs.Registry.{Registry};
-ghost use Rattle.dt_machine.specs.declared.firing.Firing.{Firing};
+ghost use Rattle.dt_cred.specs.declared.firing.Firing.{Firing};
 ghost use Rattle.dt_chain.specs.Writes.{Write};
 ghost use Rattle.dt_chain.specs.Look.{IsLook};
 

@@ -9,7 +9,7 @@ use Rattle.dt_cred.specs.declared.account.Account.{Account}
 use Rattle.dt_cred.specs.declared.account.Process.{Process}
 use Rattle.dt_cred.specs.declared.probe.Probe.{Probe}
 use Rattle.dt_machine.specs.Registry.{Registry, probe_of}
-use Rattle.dt_machine.specs.declared.firing.Firing.{Firing}
+use Rattle.dt_cred.specs.declared.firing.Firing.{Firing}
 use Rattle.dt_consumer.specs.Buffers.{attempts_of}
 use Rattle.dt_consumer.specs.Keeps.{AreTaken, HasTaken, errors_and, followed_by, pasts_and, where_taken}
 use Rattle.dt_consumer.specs.Takings.{Taking, faults, own_firing, own_moment, own_process}

@@ -3,7 +3,7 @@ use Rattle.std.specs.Prelude.{◌≡◌, ◌≢◌, List, []}
 use Rattle.dt_cred.specs.declared.account.Account.{Account}
 use Rattle.dt_machine.specs.Registry.{Registry, Belongs}
 use Rattle.dt_machine.specs.Shown.{IsShown}
-use Rattle.dt_machine.specs.declared.firing.Firing.{Firing}
+use Rattle.dt_cred.specs.declared.firing.Firing.{Firing}
 use Rattle.dt_ecb.specs.Ecbs.{of_probe}
 use Rattle.dt_consumer.specs.Life.{Item, phase, ecbs}
 use Rattle.dt_consumer.specs.declared.phase.Phase.TheVariants.{Active}

@@ -7,8 +7,8 @@ use Rattle.dt_cred.specs.declared.account.Process.{Process}
 use Rattle.dt_cred.specs.declared.probe.Probe.{Probe}
 use Rattle.dt_cred.specs.declared.rights.Mode.TheVariants.{User}
 use Rattle.dt_machine.specs.Registry.{Registry, probe_of, process_of}
-use Rattle.dt_machine.specs.declared.firing.Firing.{Firing}
-use Rattle.dt_machine.specs.declared.limits.TheConstants.{ARGS, FRAMES}
+use Rattle.dt_cred.specs.declared.firing.Firing.{Firing}
+use Rattle.dt_cred.specs.declared.firing.TheConstants.{ARGS, FRAMES}
 use Rattle.dt_expr.specs.Scene.{SceneForm}
 use Rattle.dt_ecb.specs.Ecbs.{EcbForm, of_probe}
 use Rattle.dt_record.specs.Taking.{TakenForm, taking}

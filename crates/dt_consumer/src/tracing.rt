@@ -42,7 +42,7 @@ impl Tracing {
     ghost use Rattle.std.specs.Prelude.{◌≡◌, ◌≢◌, ◌↔◌, ◌==◌, ◌&&◌, ℕ, [], List, Option, Some, None, IsTrue, IfOk, IfSome, length, slice_get, filter, map, true, false, if◌then◌else◌};
     ghost use Rattle.dt_cred.specs.declared.account.Account.{Account};
     ghost use Rattle.dt_machine.specs.Registry.{Registry};
-    ghost use Rattle.dt_machine.specs.declared.firing.Firing.{Firing};
+    ghost use Rattle.dt_cred.specs.declared.firing.Firing.{Firing};
     ghost use Rattle.dt_lang.specs.Program.{form_of_clause};
     ghost use Rattle.dt_ecb.specs.Ecbs.{of_probe};
     ghost use Rattle.dt_consumer.specs.Keeps.{AreEcbs, IsTracing, form_of_moment, form_of_options, phase_by};

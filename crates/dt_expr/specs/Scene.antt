@@ -2,7 +2,7 @@
 use Rattle.std.specs.Prelude.{ℕ, ◌-◌, ◌++◌, List, length, replicate, ℤ, pos, slice_index_or}
 use Rattle.dt_cred.specs.declared.account.Process.{Process}
 use Rattle.dt_cred.specs.declared.probe.Probe.{Probe}
-use Rattle.dt_machine.specs.declared.firing.Firing.{Firing}
+use Rattle.dt_cred.specs.declared.firing.Firing.{Firing}
 use Rattle.dt_names.specs.declared.short_text.TheConstants.{PADDED_SIZE}
 use Rattle.dt_expr.specs.declared.scene.NumberVariable.{NumberVariable}
 use Rattle.dt_expr.specs.declared.scene.NumberVariable.TheVariants.{Arg0, Arg1, Arg2, Arg3, Arg4, Arg5, Arg6, Arg7, Arg8, Arg9, Cpu, Pid, Tid, Uid, Timestamp, Id, Epid}

@@ -2,8 +2,7 @@
 ghost use Rattle.std.specs.Prelude.{◌≡◌};
 ghost use Rattle.dt_expr.specs.Scene.{scene_of, number_named, text_named, padded};
 
-use dt_cred::{Probe, Process};
-use dt_machine::Firing;
+use dt_cred::{Firing, Probe, Process};
 use dt_names::PADDED_SIZE;
 
 /// A firing of a probe, and whom it is shown to: what the variables of an expression name. Its parts are lent.

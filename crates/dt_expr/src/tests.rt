@@ -2,8 +2,7 @@
 use crate::{
     BinaryOp, Expr, NumberVariable, Scene, Text, TextOp, TextVariable, UnaryOp, Value, eval,
 };
-use dt_cred::{Mode, Probe, Process};
-use dt_machine::Firing;
+use dt_cred::{Firing, Mode, Probe, Process};
 use dt_names::{ProbeTuple, ShortText};
 use std::alloc::Global;
 use std::test::Fail;

@@ -2,7 +2,7 @@
 use Rattle.std.proofs.Common.{◌≡◌, ◌+◌, ◌<◌, ◌≤◌, ℕ, zero, suc, [], ◌∷◌, ◌++◌, List, Some, take, slice_get, length}
 use Rattle.std.proofs.Common.{refl, sym, ap, ◌∙◌, arith, add-zero}
 use Rattle.std.proofs.lemmas.Option.{slice_get_within}
-use Rattle.dt_machine.specs.declared.firing.Firing.{Firing}
+use Rattle.dt_cred.specs.declared.firing.Firing.{Firing}
 use Rattle.dt_machine.specs.Reading.{AllRight, IsFirstWrong}
 use Rattle.dt_machine.specs.Rows.{FiringRow, firing, script, scripts}
 use Rattle.dt_machine.proofs.Searching.{take_next, length-front}

@@ -10,7 +10,7 @@ use Rattle.serde_json.specs.Data.{Data}
 use Rattle.dt_cred.specs.declared.account.Account.{Account as AccountType}
 use Rattle.dt_cred.specs.declared.account.Process.{Process as ProcessType}
 use Rattle.dt_cred.specs.declared.probe.Probe.{Probe as ProbeType}
-use Rattle.dt_machine.specs.declared.firing.Firing.{Firing as FiringType}
+use Rattle.dt_cred.specs.declared.firing.Firing.{Firing as FiringType}
 use Rattle.dt_machine.specs.declared.fault.FaultNumber.TheVariants.{Cpus, Account, Process, Probe, Script}
 use Rattle.dt_machine.specs.Reading.{AllRight, AllRightIn, Passes, Registers, accounts_in, processes_in, probes_in}
 use Rattle.dt_machine.specs.Reading.{scripts_in}

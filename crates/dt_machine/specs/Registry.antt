@@ -8,7 +8,7 @@ use Rattle.dt_cred.specs.declared.account.Account.{Account}
 use Rattle.dt_cred.specs.declared.account.Process.{Process}
 use Rattle.dt_cred.specs.declared.class.Class.TheVariants.{Pid}
 use Rattle.dt_cred.specs.declared.probe.Probe.{Probe}
-use Rattle.dt_machine.specs.declared.firing.Firing.{Firing}
+use Rattle.dt_cred.specs.declared.firing.Firing.{Firing}
 use Rattle.dt_machine.specs.declared.limits.TheConstants.{CPUS_MAX, ACCOUNTS_MAX, FIRST_PROBE_ID, PROCESSES_MAX, PID_MAX, PROBE_ID_MAX, SCRIPT_MAX}
 
 -- what every run on a machine has in common: all of its file but the scripts

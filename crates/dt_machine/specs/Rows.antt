@@ -14,10 +14,11 @@ use Rattle.dt_cred.specs.declared.account.Process.{Process}
 use Rattle.dt_cred.specs.declared.probe.Probe.{Probe}
 use Rattle.dt_cred.specs.declared.rights.Mode.{Mode}
 use Rattle.dt_cred.specs.declared.rights.Mode.TheVariants.{User, Kernel}
-use Rattle.dt_machine.specs.declared.firing.Firing.{Firing}
+use Rattle.dt_cred.specs.declared.firing.Firing.{Firing}
 use Rattle.dt_machine.specs.Given.{unsigned, signed, unsigned_at, text_of, text_at, items_of, list_at}
 use Rattle.dt_machine.specs.Registry.{Registry, probe_of, process_of}
-use Rattle.dt_machine.specs.declared.limits.TheConstants.{ACCOUNTS_MAX, FIRST_PROBE_ID, ARGS, SCRIPT_MAX, FRAMES, PID_MAX, PROBES_MAX, PROCESSES_MAX}
+use Rattle.dt_machine.specs.declared.limits.TheConstants.{ACCOUNTS_MAX, FIRST_PROBE_ID, SCRIPT_MAX, PID_MAX, PROBES_MAX, PROCESSES_MAX}
+use Rattle.dt_cred.specs.declared.firing.TheConstants.{ARGS, FRAMES}
 
 -- The rows. A number that is None is one that no such number can be: negative, or past 64 bits.
 pub record AccountRow : Type 0 where

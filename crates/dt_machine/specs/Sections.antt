@@ -17,7 +17,7 @@ use Rattle.dt_machine.specs.Given.{text_of}
 use Rattle.serde_json.specs.Data.{Data}
 use Rattle.dt_machine.specs.Reading.{IsFirstWrong, Nowhere, Passes, rank_of, Registers}
 use Rattle.dt_machine.specs.Registry.{Registry, Contents}
-use Rattle.dt_machine.specs.declared.firing.Firing.{Firing}
+use Rattle.dt_cred.specs.declared.firing.Firing.{Firing}
 use Rattle.dt_cred.specs.declared.class.Class.{Class}
 use Rattle.dt_cred.specs.declared.class.Class.TheVariants.{Dtrace, Syscall, Profile, Pid, Other}
 use Rattle.dt_machine.specs.declared.sections.Sections.{Sections}

@@ -5,7 +5,7 @@ use Rattle.dt_cred.specs.declared.account.Account.{Account}
 use Rattle.dt_cred.specs.declared.account.Process.{Process}
 use Rattle.dt_cred.specs.declared.probe.Probe.{Probe}
 use Rattle.dt_machine.specs.Registry.{Registry, probe_of, process_of}
-use Rattle.dt_machine.specs.declared.firing.Firing.{Firing}
+use Rattle.dt_cred.specs.declared.firing.Firing.{Firing}
 
 -- The account is shown the firing: its class of probe in that mode and that process.
 abbrev pub IsShown : Account → Registry → Firing → Type 0

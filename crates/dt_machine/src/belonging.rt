@@ -4,9 +4,9 @@ ghost use Rattle.dt_machine.specs.Registry.{Belongs};
 ghost use Rattle.dt_machine.specs.Reading.{AllRight, AllRightIn, IsFirstWrong, IsFirstWrongIn};
 ghost use Rattle.dt_machine.specs.Sections.{registry_of, IsReady};
 
-use crate::firing::Firing;
 use crate::limits::{CPUS_MAX, SCRIPT_MAX};
 use crate::sections::Sections;
+use dt_cred::Firing;
 
 /// The processor and the row of the first firing that is foreign to the machine.
 pub(crate) fn first_foreign(sections: &Sections, scripts: &[Vec<Firing>]) -> Option<(u32, u32)>

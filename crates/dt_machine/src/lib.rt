@@ -13,7 +13,6 @@
 mod accounts;
 mod belonging;
 mod fault;
-mod firing;
 mod interest;
 mod keys;
 mod law;
@@ -26,12 +25,12 @@ mod scripts;
 mod sections;
 mod shape;
 
+pub use dt_cred::{ARGS, FRAMES, Firing};
 pub use fault::{FaultNumber, MachineFault};
-pub use firing::Firing;
 pub use interest::Interest;
 pub use law::one_answer;
 pub use limits::{
-    ACCOUNTS_MAX, ARGS, CPUS_MAX, FIRST_PROBE_ID, FRAMES, PID_MAX, PROBE_ID_MAX, PROBES_MAX,
-    PROCESSES_MAX, SCRIPT_MAX,
+    ACCOUNTS_MAX, CPUS_MAX, FIRST_PROBE_ID, PID_MAX, PROBE_ID_MAX, PROBES_MAX, PROCESSES_MAX,
+    SCRIPT_MAX,
 };
 pub use machine::Machine;

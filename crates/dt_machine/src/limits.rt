@@ -23,9 +23,3 @@ pub const PROBE_ID_MAX: u32 = 4098;
 
 /// The most firings of a processor's script.
 pub const SCRIPT_MAX: usize = 65_536;
-
-/// The arguments of a firing.
-pub const ARGS: usize = 10;
-
-/// The frames of each of a firing's stacks.
-pub const FRAMES: usize = 8;

@@ -8,11 +8,10 @@ ghost use Rattle.dt_machine.specs.Sections.{NowhereIfMemory};
 
 use crate::belonging::first_foreign;
 use crate::fault::{FaultNumber, MachineFault};
-use crate::firing::Firing;
 use crate::keys::list_at;
 use crate::scripts::read_scripts;
 use crate::sections::Sections;
-use dt_cred::{Account, Probe, Process};
+use dt_cred::{Account, Firing, Probe, Process};
 use serde_json::Value;
 use std::alloc::Global;
 use std::marker::Model;

@@ -4,7 +4,7 @@ ghost use Rattle.serde_json.specs.View.{view};
 ghost use Rattle.dt_machine.specs.Given.{signed, unsigned};
 ghost use Rattle.dt_machine.specs.Rows.{arguments, frames, AreArguments, AreGivenFrames};
 
-use crate::limits::{ARGS, FRAMES};
+use dt_cred::{ARGS, FRAMES};
 use serde_json::Value;
 
 /// The arguments, if there are not too many, and zeros after them.

@@ -8,12 +8,11 @@ ghost use Rattle.dt_machine.specs.Reading.{AllRight, AllRightIn, IsFirstWrong, I
 ghost use Rattle.dt_machine.specs.Sections.{NowhereIfMemory, UnlessMemory, IsReady, firing_rows, scripts_rows, registry_of};
 
 use crate::fault::{FaultNumber, MachineFault};
-use crate::firing::Firing;
 use crate::keys::{items_of, list_at, text_at, u32_of, unsigned_at};
 use crate::limits::{CPUS_MAX, FIRST_PROBE_ID, SCRIPT_MAX};
 use crate::numbers::{arguments_of, frames_of};
 use crate::sections::Sections;
-use dt_cred::Mode;
+use dt_cred::{Firing, Mode};
 use serde_json::Value;
 use std::alloc::Global;
 

@@ -8,14 +8,13 @@ ghost use Rattle.dt_cred.specs.declared.class.Class.TheVariants.{Pid};
 
 use crate::accounts::read_accounts;
 use crate::fault::{FaultNumber, MachineFault};
-use crate::firing::Firing;
 use crate::keys::{list_at, unsigned_at};
 use crate::limits::{CPUS_MAX, FIRST_PROBE_ID, SCRIPT_MAX};
 use crate::probes::read_probes;
 use crate::processes::read_processes;
 use crate::scripts::first_long;
 use crate::shape::is_machine;
-use dt_cred::{Account, Class, Probe, Process};
+use dt_cred::{Account, Class, Firing, Probe, Process};
 use serde_json::Value;
 use std::alloc::Global;
 use std::collections::HashMap;

@@ -3,7 +3,7 @@ use Rattle.std.specs.Prelude.{◌≡◌, ℕ, ◌<◌, ◌^◌, ◌++◌, ◌⊎
 use Rattle.std.specs.List.{flat_map, AllByRecursion}
 use Rattle.dt_cred.specs.declared.account.Account.{Account}
 use Rattle.dt_machine.specs.Registry.{Registry}
-use Rattle.dt_machine.specs.declared.firing.Firing.{Firing}
+use Rattle.dt_cred.specs.declared.firing.Firing.{Firing}
 use Rattle.dt_consumer.specs.Answer.{Answer}
 use Rattle.dt_consumer.specs.Life.{Item, is_over}
 use Rattle.dt_consumer.specs.Reply.{Replies}

@@ -5,7 +5,7 @@ ghost use Rattle.arrayvec.specs.ArrayVec.{array_vec_len};
 ghost use Rattle.dt_expr.specs.Scene.{scene_of};
 ghost use Rattle.dt_expr.specs.declared.text.Value.{Value as ShownValue};
 ghost use Rattle.dt_lang.specs.Program.{form_of_argument};
-ghost use Rattle.dt_machine.specs.declared.limits.TheConstants.{FRAMES};
+ghost use Rattle.dt_cred.specs.declared.firing.TheConstants.{FRAMES};
 ghost use Rattle.dt_names.specs.declared.short_text.TheConstants.{PADDED_SIZE};
 ghost use Rattle.dt_record.specs.Left.{bytes_of, record_len};
 ghost use Rattle.dt_record.specs.Taking.{argument_value, epid_bytes, frames_bytes, number_bytes, value_bytes};
@@ -15,9 +15,9 @@ use crate::limits::{EPID_SIZE, RECORD_MAX};
 use crate::values::shown;
 use arrayvec::ArrayVec;
 use byteorder::{BigEndian, ByteOrder};
+use dt_cred::FRAMES;
 use dt_expr::{EvalFault, Scene, eval};
 use dt_lang::{Argument, Frames};
-use dt_machine::FRAMES;
 
 /// The bytes of a record.
 type Bytes = ArrayVec<u8, RECORD_MAX>;

@@ -5,7 +5,7 @@ ghost use Rattle.arrayvec.specs.ArrayVec.{array_vec_len};
 ghost use Rattle.dt_expr.specs.Scene.{scene_of};
 ghost use Rattle.dt_lang.specs.Program.{form_of_statement};
 ghost use Rattle.dt_lang.specs.declared.program.TheConstants.{KEYS_MAX};
-ghost use Rattle.dt_machine.specs.declared.limits.TheConstants.{FRAMES};
+ghost use Rattle.dt_cred.specs.declared.firing.TheConstants.{FRAMES};
 ghost use Rattle.dt_record.specs.Left.{bytes_of, record_len};
 ghost use Rattle.dt_record.specs.Taking.{Effect, effect, recorded, contributed, effect_exit, epid_bytes};
 ghost use Rattle.dt_record.specs.declared.limits.TheConstants.{RECORD_MAX, VALUES_MAX};

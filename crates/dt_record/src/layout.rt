@@ -4,7 +4,7 @@ ghost use Rattle.arrayvec.specs.ArrayVec.{array_vec_len};
 ghost use Rattle.std.specs.Option.{option_map};
 ghost use Rattle.dt_lang.specs.Program.{form_of_clause, form_of_statement};
 ghost use Rattle.dt_lang.specs.declared.program.TheConstants.{STATEMENTS_MAX};
-ghost use Rattle.dt_machine.specs.declared.limits.TheConstants.{FRAMES};
+ghost use Rattle.dt_cred.specs.declared.firing.TheConstants.{FRAMES};
 ghost use Rattle.dt_record.specs.Fields.{form_of_field, form_of_layout};
 ghost use Rattle.dt_record.specs.Layout as spec;
 ghost use Rattle.dt_record.specs.Layout.{layout_of, fields_of, field_size, layout_size};

@@ -6,7 +6,7 @@ use Rattle.std.specs.Option.{option_map_or}
 use Rattle.std.proofs.lemmas.Bool.{and_parts}
 use Rattle.dt_cred.specs.declared.account.Account.{Account}
 use Rattle.dt_machine.specs.Registry.{Registry}
-use Rattle.dt_machine.specs.declared.firing.Firing.{Firing}
+use Rattle.dt_cred.specs.declared.firing.Firing.{Firing}
 use Rattle.dt_ecb.specs.Ecbs.{ecbs_of}
 use Rattle.dt_lang.specs.Reads.{program, fault, destructive}
 use Rattle.dt_consumer.specs.Aggregations.{aggregation_of}

@@ -4,7 +4,7 @@ use Rattle.std.proofs.Common.{⊎_elim, inl, inr}
 use Rattle.std.proofs.lemmas.Bool.{both_ways}
 use Rattle.dt_cred.specs.declared.account.Account.{Account}
 use Rattle.dt_machine.specs.Registry.{Registry}
-use Rattle.dt_machine.specs.declared.firing.Firing.{Firing}
+use Rattle.dt_cred.specs.declared.firing.Firing.{Firing}
 use Rattle.dt_consumer.specs.Answer.{Answer}
 use Rattle.dt_consumer.specs.Ask.{Ask}
 use Rattle.dt_consumer.specs.Draft.{after_line}

@@ -8,7 +8,7 @@ use Rattle.std.specs.List.{range_with_len, slice_get}
 use Rattle.std.specs.Option.{option_and_then}
 use Rattle.dt_machine.specs.Interest as interest
 use Rattle.dt_machine.specs.Registry.{Registry}
-use Rattle.dt_machine.specs.declared.firing.Firing.{Firing}
+use Rattle.dt_cred.specs.declared.firing.Firing.{Firing}
 use Rattle.dt_chain.specs.Look.{NamesFiring, IsLook}
 use Rattle.dt_chain.specs.Writes.{Write, Published, published_on}
 use Rattle.dt_ecb.specs.Ecbs.{EcbForm}

@@ -13,7 +13,7 @@ use Rattle.dt_cred.specs.declared.probe.Probe.{Probe}
 use Rattle.dt_cred.specs.declared.rights.Mode.{Mode}
 use Rattle.dt_machine.specs.Registry.{Registry, Belongs, probe_of, process_of}
 use Rattle.dt_machine.specs.Shown.{IsShown}
-use Rattle.dt_machine.specs.declared.firing.Firing.{Firing}
+use Rattle.dt_cred.specs.declared.firing.Firing.{Firing}
 use Rattle.dt_ecb.specs.Ecbs.{EcbForm, of_probe}
 use Rattle.dt_consumer.specs.Life.{Item, phase, ecbs, is_active}
 use Rattle.dt_consumer.specs.Sees.{Sees}

@@ -10,7 +10,7 @@ use Rattle.std.specs.List.{slice_get, list_all, range_with_len}
 use Rattle.std.specs.Option.{option_map, option_map_or, option_and_then}
 use Rattle.dt_cred.specs.declared.account.Account.{Account}
 use Rattle.dt_machine.specs.Registry.{Registry}
-use Rattle.dt_machine.specs.declared.firing.Firing.{Firing}
+use Rattle.dt_cred.specs.declared.firing.Firing.{Firing}
 use Rattle.dt_chain.specs.IsAt as chain
 use Rattle.dt_chain.specs.Look.{IsLook}
 use Rattle.dt_chain.specs.Seats.{life_at}

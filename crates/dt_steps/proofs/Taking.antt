@@ -4,7 +4,7 @@ use Rattle.std.proofs.Common.{is_none, nat_lt, length, fold, Vec, Global, option
 use Rattle.std.proofs.lemmas.Bool.{cond_both}
 use Rattle.std.specs.Option.{option_map_or}
 use Rattle.dt_machine.specs.Registry.{Registry}
-use Rattle.dt_machine.specs.declared.firing.Firing.{Firing}
+use Rattle.dt_cred.specs.declared.firing.Firing.{Firing}
 use Rattle.dt_chain.specs.Seats.{life_at}
 use Rattle.dt_chain.specs.declared.seat.TheConstants.{SEATS}
 use Rattle.dt_chain.specs.declared.seat_mask.SeatMask.{SeatMask}

@@ -8,7 +8,7 @@ use Rattle.dt_cred.specs.declared.account.Account.{Account}
 use Rattle.dt_cred.specs.declared.class.Class.{Class}
 use Rattle.dt_cred.specs.declared.class.Class.TheVariants.{Pid}
 use Rattle.dt_machine.specs.Registry.{Registry, probe_of, process_of}
-use Rattle.dt_machine.specs.declared.firing.Firing.{Firing}
+use Rattle.dt_cred.specs.declared.firing.Firing.{Firing}
 use Rattle.dt_chain.specs.Writes.{Write, Published, published_on}
 use Rattle.dt_ecb.specs.Ecbs.{EcbForm}
 use Rattle.dt_consumer.specs.Life.{Item, phase, ecbs, is_active}

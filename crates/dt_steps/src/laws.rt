@@ -3,7 +3,7 @@ ghost use Rattle.std.specs.Prelude.{◌≡◌, ◌≢◌, ◌↔◌, ℕ, List, 
 ghost use Rattle.dt_cred.specs.declared.account.Account.{Account};
 ghost use Rattle.dt_machine.specs.Interest as interest;
 ghost use Rattle.dt_machine.specs.Registry.{Registry};
-ghost use Rattle.dt_machine.specs.declared.firing.Firing.{Firing};
+ghost use Rattle.dt_cred.specs.declared.firing.Firing.{Firing};
 ghost use Rattle.dt_chain.specs.Look.{IsLook};
 ghost use Rattle.dt_chain.specs.Writes.{Write};
 ghost use Rattle.dt_ecb.specs.Ecbs.{EcbForm, of_probe};

@@ -12,7 +12,7 @@ use Rattle.dt_chain.specs.Seats.{life_at}
 use Rattle.dt_chain.specs.declared.seat_mask.SeatMask.{SeatMask}
 use Rattle.dt_machine.specs.Registry.{Registry, Contents, IsSound, IsPlaced, firing_at}
 use Rattle.dt_machine.specs.declared.limits.TheConstants.{SCRIPT_MAX}
-use Rattle.dt_machine.specs.declared.firing.Firing.{Firing}
+use Rattle.dt_cred.specs.declared.firing.Firing.{Firing}
 use Rattle.dt_world.specs.Replay.{Replayed, after_step_line, next_of}
 use Rattle.dt_steps.specs.Stands.{IsLooked}
 use Rattle.dt_world.specs.StepLine.{look_line}

@@ -11,7 +11,7 @@ use Rattle.dt_chain.specs.Seats.{life_at}
 use Rattle.dt_chain.specs.declared.seat.TheConstants.{SEATS}
 use Rattle.dt_chain.specs.declared.seat_mask.SeatMask.{SeatMask}
 use Rattle.dt_machine.specs.Registry.{Contents}
-use Rattle.dt_machine.specs.declared.firing.Firing.{Firing}
+use Rattle.dt_cred.specs.declared.firing.Firing.{Firing}
 use Rattle.dt_world.specs.Replay.{Replayed, after_step_line, next_of, seats_due, firing_acts}
 use Rattle.dt_world.specs.StepLine.{look_line, fire_line}
 use Rattle.dt_steps.specs.Steps.{looks, offers, after_act, offering, looking}

@@ -3,7 +3,7 @@ use Rattle.std.specs.Prelude.{◌≡◌, ℕ, ◌<◌, List, Option, Some, None,
 use Rattle.dt_chain.specs.Seats.{life_at}
 use Rattle.dt_chain.specs.declared.seat_mask.SeatMask.{SeatMask}
 use Rattle.dt_machine.specs.Registry.{Contents}
-use Rattle.dt_machine.specs.declared.firing.Firing.{Firing}
+use Rattle.dt_cred.specs.declared.firing.Firing.{Firing}
 use Rattle.dt_machine.specs.declared.limits.TheConstants.{CPUS_MAX}
 use Rattle.dt_world.specs.Input.{AreStepLines}
 use Rattle.dt_world.specs.Replay.{Replayed, replayed, next_of}

@@ -4,7 +4,7 @@ use Rattle.std.specs.List.{flat_map, range_with_len}
 use Rattle.std.specs.Option.{option_map_or}
 use Rattle.dt_chain.specs.declared.seat.TheConstants.{SEATS}
 use Rattle.dt_machine.specs.Registry.{Registry, Contents, firing_at}
-use Rattle.dt_machine.specs.declared.firing.Firing.{Firing}
+use Rattle.dt_cred.specs.declared.firing.Firing.{Firing}
 use Rattle.dt_proto.specs.Lines.{line_form}
 use Rattle.dt_proto.specs.Trail.{TrailEntry, IsTrailOf, trail_text}
 use Rattle.dt_world.specs.Input.{AreStepLines, input_lines}

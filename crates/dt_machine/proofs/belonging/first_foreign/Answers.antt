@@ -3,7 +3,7 @@ use Rattle.std.proofs.Common.{◌≡◌, ◌∙◌, ◌<◌, List, Vec, Global, 
 use Rattle.std.proofs.Common.{ap, sym, refl, subst, arith}
 use Rattle.std.proofs.lemmas.List.{length-map}
 use Rattle.std.proofs.lemmas.Option.{slice_get-map, slice_get_read}
-use Rattle.dt_machine.specs.declared.firing.Firing.{Firing}
+use Rattle.dt_cred.specs.declared.firing.Firing.{Firing}
 use Rattle.dt_machine.specs.Registry.{Belongs}
 use Rattle.dt_machine.specs.Reading.{AllRight, IsFirstWrong}
 use Rattle.dt_machine.specs.Sections.{registry_of}

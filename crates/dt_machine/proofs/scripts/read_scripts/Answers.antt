@@ -6,7 +6,7 @@ use Rattle.dt_machine.specs.Reading.{AllRight, IsFirstWrong, IsFirstWrongIn}
 use Rattle.dt_machine.specs.Rows.{FiringRow, firing_row, script_rows, script, IsRightFiring}
 use Rattle.dt_machine.specs.Sections.{UnlessMemory, firing_rows, scripts_rows, registry_of}
 use Rattle.dt_machine.specs.declared.fault.FaultNumber.TheVariants.{Firing as FiringNumber}
-use Rattle.dt_machine.specs.declared.firing.Firing.{Firing}
+use Rattle.dt_cred.specs.declared.firing.Firing.{Firing}
 use Rattle.dt_machine.proofs.Exits.{passed_on}
 use Rattle.dt_machine.proofs.Firings.{few_rows, scripts_next}
 use Rattle.dt_machine.proofs.Searching.{row_at, right_more, right_all, length-rows}

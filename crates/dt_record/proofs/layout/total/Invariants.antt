@@ -1,6 +1,6 @@
 -- What the fields so far take.
 use Rattle.std.proofs.Common.{◌≡◌, ◌*◌, ◌≤◌, map, take, sum}
-use Rattle.dt_machine.specs.declared.limits.TheConstants.{FRAMES}
+use Rattle.dt_cred.specs.declared.firing.TheConstants.{FRAMES}
 use Rattle.dt_record.specs.Fields.{form_of_field}
 use Rattle.dt_record.specs.Layout.{field_size}
 use Rattle.dt_record.proofs.layout.total.Given as goal

@@ -1,7 +1,7 @@
 -- What is to be shown of `take_firing`.
 use Rattle.std.proofs.Common.{◌≡◌, Some, sym, ◌∙◌, subst, arith, rules}
 use Rattle.std.proofs.lemmas.Bool.{true≢false}
-use Rattle.dt_machine.specs.declared.firing.Firing.{Firing}
+use Rattle.dt_cred.specs.declared.firing.Firing.{Firing}
 use Rattle.dt_consumer.specs.Sees.{Sees}
 use Rattle.dt_alone.specs.Legal.{life_of_trail}
 use Rattle.dt_alone.proofs.Judging.{inside, least_more}

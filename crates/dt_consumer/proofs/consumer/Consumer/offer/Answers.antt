@@ -2,7 +2,7 @@
 use Rattle.std.proofs.Common.{◌≡◌, ◌<◌, true, cond, map, refl, sym, ap, ◌∙◌, subst}
 use Rattle.dt_cred.specs.declared.account.Account.{Account}
 use Rattle.dt_lang.specs.Program.{form_of_clause}
-use Rattle.dt_machine.specs.declared.firing.Firing.{Firing}
+use Rattle.dt_cred.specs.declared.firing.Firing.{Firing}
 use Rattle.dt_consumer.specs.Keeps.{IsTracing, phase_by}
 use Rattle.dt_consumer.specs.Life.{set_up, happens, is_active, phase_of}
 use Rattle.dt_consumer.specs.Takings.{seen}

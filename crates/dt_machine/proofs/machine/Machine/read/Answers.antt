@@ -3,7 +3,7 @@ use Rattle.std.proofs.Common.{◌≡◌, ◌∙◌, ◌<◌, List, Vec, Global, 
 use Rattle.std.proofs.lemmas.List.{length-map}
 use Rattle.serde_json.specs.View.{view}
 use Rattle.dt_machine.specs.declared.fault.FaultNumber.TheVariants.{Firing, Foreign}
-use Rattle.dt_machine.specs.declared.firing.Firing.{Firing as FiringType}
+use Rattle.dt_cred.specs.declared.firing.Firing.{Firing as FiringType}
 use Rattle.dt_machine.specs.Reading.{AllRightIn, IsFaultOf, IsFirstWrongIn, IsDescribed, scripts_in}
 use Rattle.dt_machine.specs.Registry.{Belongs, Contents, IsSound}
 use Rattle.dt_machine.specs.Rows.{FiringRow, HasRoom, IsRightFiring, script_rows, scripts}

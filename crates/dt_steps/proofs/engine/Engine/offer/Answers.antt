@@ -5,7 +5,7 @@ use Rattle.std.proofs.Common.{arith}
 use Rattle.std.proofs.lemmas.Option.{slice_get-get_or, slice_get_past}
 use Rattle.std.specs.List.{slice_get}
 use Rattle.std.specs.Bool.{then_some}
-use Rattle.dt_machine.specs.declared.firing.Firing.{Firing}
+use Rattle.dt_cred.specs.declared.firing.Firing.{Firing}
 use Rattle.dt_steps.specs.Stands.{due_of, due_in, place_of}
 use Rattle.dt_steps.specs.World.{Due}
 use Rattle.dt_steps.proofs.Soundness.{sound-offering}

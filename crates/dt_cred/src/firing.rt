@@ -1,7 +1,12 @@
 //! One firing.
-use crate::limits::{ARGS, FRAMES};
-use dt_cred::Mode;
+use crate::rights::Mode;
 use std::mem::size_of;
+
+/// The arguments of a firing.
+pub const ARGS: usize = 10;
+
+/// The frames of each of a firing's stacks.
+pub const FRAMES: usize = 8;
 
 /// One firing of a probe, as a processor's script has it.
 #[derive(Clone, Copy, Debug, PartialEq, Eq)]
