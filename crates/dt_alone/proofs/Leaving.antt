@@ -14,10 +14,10 @@ use Rattle.dt_expr.specs.Scene.{SceneForm}
 use Rattle.dt_expr.specs.declared.text.Value.{Value}
 use Rattle.dt_expr.specs.declared.text.Value.TheVariants as val
 use Rattle.dt_lang.specs.Program.{ClauseForm, form_of_argument, form_of_clause, form_of_statement}
-use Rattle.dt_lang.specs.declared.program.Clause.{Clause}
-use Rattle.dt_lang.specs.declared.program.Aggregation as program
-use Rattle.dt_lang.specs.declared.program.Statement.{Statement}
-use Rattle.dt_lang.specs.declared.program.Statement.TheVariants.{Aggregate, Exit, Stack, Trace, Ustack}
+use Rattle.dt_program.specs.declared.clause.Clause.{Clause}
+use Rattle.dt_program.specs.declared.clause.Aggregation as program
+use Rattle.dt_program.specs.declared.clause.Statement.{Statement}
+use Rattle.dt_program.specs.declared.clause.Statement.TheVariants.{Aggregate, Exit, Stack, Trace, Ustack}
 use Rattle.dt_record.specs.Taking.{Effect, contributed, each, effect, predicate_value, taken_of, TakenForm, taking}
 use Rattle.dt_consumer.specs.Aggregations.{aggregation_of, contributions_of, given_by, number_given}
 use Rattle.dt_consumer.specs.Keeps.{taking_by}

@@ -4,7 +4,7 @@ ghost use Rattle.dt_aggstore.specs.History.{Past, after, truncated};
 ghost use Rattle.dt_aggstore.specs.declared.limits.TheConstants.{ADDED_LIMIT};
 ghost use Rattle.dt_consumer.specs.Counts.{GivenAtMost};
 ghost use Rattle.dt_consumer.specs.Uses.{AreGiven};
-ghost use Rattle.dt_lang.specs.declared.program.TheConstants.{STATEMENTS_MAX};
+ghost use Rattle.dt_program.specs.declared.clause.TheConstants.{STATEMENTS_MAX};
 
 use crate::known::Known;
 use crate::values::{number_in, parts_at};
@@ -49,7 +49,7 @@ impl Contribution {
     ghost use Rattle.dt_consumer.specs.Uses.{split_by, uses_by};
     ghost use Rattle.dt_ecb.specs.Forms.{shapes_of};
     ghost use Rattle.dt_lang.specs.Program.{form_of_statement};
-    ghost use Rattle.dt_lang.specs.declared.program.TheConstants.{KEYS_MAX};
+    ghost use Rattle.dt_program.specs.declared.clause.TheConstants.{KEYS_MAX};
 
     /// What a clause's statements give of the values that it left: keys and numbers, one after another.
     pub(crate) fn all(

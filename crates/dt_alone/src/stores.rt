@@ -3,7 +3,7 @@ ghost use Rattle.std.specs.Prelude.{◌≡◌, ◌≤◌, ◌*◌, ℕ, All, IfO
 ghost use Rattle.std.specs.List.{range_with_len};
 ghost use Rattle.dt_aggstore.specs.History as spec;
 ghost use Rattle.dt_aggstore.specs.declared.limits.TheConstants.{AGGSIZE_MAX, ADDED_LIMIT};
-ghost use Rattle.dt_lang.specs.declared.program.TheConstants.{STATEMENTS_MAX};
+ghost use Rattle.dt_program.specs.declared.clause.TheConstants.{STATEMENTS_MAX};
 ghost use Rattle.dt_alone.specs.Happened as happenings;
 ghost use Rattle.dt_alone.specs.Happened.{given_to};
 ghost use Rattle.dt_consumer.specs.Counts.{GivenAtMost};

@@ -15,7 +15,7 @@ use Rattle.dt_lang.specs.declared.fault.LangFault.{LangFault}
 use Rattle.dt_lang.specs.declared.fault.LangFault.TheVariants as faults
 use Rattle.dt_lang.specs.declared.fault.Why.{Why}
 use Rattle.dt_lang.specs.declared.word.Destructive.{Destructive}
-use Rattle.dt_lang.specs.declared.program.Clause.{Clause}
+use Rattle.dt_program.specs.declared.clause.Clause.{Clause}
 use Rattle.dt_ecb.specs.Ecbs.{added}
 use Rattle.dt_ecb.specs.Enable.{Verdict, IsVerdict, is_enabled}
 use Rattle.dt_ecb.specs.Enable as enabling

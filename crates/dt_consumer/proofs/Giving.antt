@@ -18,7 +18,7 @@ use Rattle.dt_expr.specs.declared.text.Value.TheVariants as val
 use Rattle.dt_expr.specs.Operators.{holds}
 use Rattle.dt_lang.specs.Program.{ArgForm, CallForm, ClauseForm, StatementForm, trace, stack, ustack, exit, aggregate}
 use Rattle.dt_lang.specs.Program.{form_of_clause}
-use Rattle.dt_lang.specs.declared.program.Clause.{Clause}
+use Rattle.dt_program.specs.declared.clause.Clause.{Clause}
 use Rattle.dt_record.specs.Taking.{Effect, records, gives, exits, argument_value, contributed, each, effect}
 use Rattle.dt_record.specs.Taking.{frames_bytes, given, predicate_value, taken_of, TakenForm, taking}
 use Rattle.dt_consumer.specs.Aggregations.{aggregation_of, contributions, contributions_of, given_by, number_given}

@@ -12,7 +12,7 @@ use Rattle.dt_cred.specs.declared.account.Account.{Account}
 use Rattle.dt_cred.specs.declared.probe.Probe.{Probe}
 use Rattle.dt_machine.specs.Registry.{Registry}
 use Rattle.dt_lang.specs.Program.{ClauseForm, form_of_clause}
-use Rattle.dt_lang.specs.declared.program.Clause.{Clause}
+use Rattle.dt_program.specs.declared.clause.Clause.{Clause}
 use Rattle.dt_ecb.specs.Ecbs.{EcbForm, numbered, pairs_of, pairs_of_clause, added, ecbs_of}
 use Rattle.dt_ecb.specs.Enable.{may_do_all, is_too_much, is_unmatched, is_enabled}
 use Rattle.dt_ecb.specs.Forms.{form_of_ecb, no_clause, shapes_of}

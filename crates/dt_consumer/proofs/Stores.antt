@@ -17,7 +17,7 @@ use Rattle.dt_cred.specs.declared.account.Account.{Account}
 use Rattle.dt_ecb.specs.Ecbs.{EcbForm}
 use Rattle.dt_ecb.specs.Shapes.{ShapeForm}
 use Rattle.dt_lang.specs.Program.{form_of_clause}
-use Rattle.dt_lang.specs.declared.program.Clause.{Clause}
+use Rattle.dt_program.specs.declared.clause.Clause.{Clause}
 use Rattle.dt_machine.specs.Registry.{Registry}
 use Rattle.dt_consumer.specs.Aggregations.{aggregation_of, contributions}
 use Rattle.dt_consumer.specs.Buffers.{errors_in, past_in}

@@ -6,7 +6,7 @@ use Rattle.std.specs.List.{All}
 use Rattle.std.specs.Option.{is_none, is_some, option_or}
 use Rattle.std.proofs.lemmas.List.{length-append, map-append, take_more}
 use Rattle.dt_lang.specs.Program.{form_of_clause}
-use Rattle.dt_lang.specs.declared.program.Clause.{Clause}
+use Rattle.dt_program.specs.declared.clause.Clause.{Clause}
 use Rattle.dt_ecb.specs.Forms.{no_clause}
 use Rattle.dt_ecb.specs.declared.parts.Ecb.{Ecb}
 use Rattle.dt_consumer.specs.Takings.{Taking, exit_of, first_exit, through_exit, faults}

@@ -2,7 +2,7 @@
 use Rattle.std.specs.Prelude.{ℕ, List, Option, Result, Ok, Err}
 use Rattle.std.specs.String.{string_bytes}
 use Rattle.dt_lang.specs.Description.{DescForm, ReadsDescription}
-use Rattle.dt_lang.proofs.SomeDescription.{some_description}
+use Rattle.dt_program.proofs.SomeDescription.{some_description}
 use Rattle.dt_lang.specs.Reads.{Reading, Reads}
 use Rattle.dt_lang.proofs.SomeReading.{some_reading}
 use Rattle.dt_consumer.specs.declared.command.Command.{Command}

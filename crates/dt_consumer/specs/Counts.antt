@@ -4,7 +4,7 @@ use Rattle.dt_aggstore.specs.IsAt.{added_of}
 use Rattle.dt_aggstore.specs.declared.store.AggStore.{AggStore}
 use Rattle.dt_buffer.specs.IsAt.{drops_of}
 use Rattle.dt_ecb.specs.declared.limits.TheConstants.{ECBS_MAX}
-use Rattle.dt_lang.specs.declared.program.TheConstants.{STATEMENTS_MAX}
+use Rattle.dt_program.specs.declared.clause.TheConstants.{STATEMENTS_MAX}
 use Rattle.dt_consumer.specs.declared.phase.Course.{Course}
 use Rattle.dt_consumer.specs.declared.phase.Course.TheVariants.{Running, Over}
 use Rattle.dt_consumer.specs.declared.processor.Processor.{Processor}

@@ -32,7 +32,7 @@ impl Processor {
     ghost use Rattle.dt_ecb.specs.Forms.{form_of_ecb};
     ghost use Rattle.dt_ecb.specs.declared.limits.TheConstants.{ECBS_MAX};
     ghost use Rattle.dt_lang.specs.Program.{form_of_clause};
-    ghost use Rattle.dt_lang.specs.declared.program.TheConstants.{STATEMENTS_MAX};
+    ghost use Rattle.dt_program.specs.declared.clause.TheConstants.{STATEMENTS_MAX};
     ghost use Rattle.dt_ecb.specs.Shapes.{ShapeForm};
     ghost use Rattle.dt_consumer.specs.Aggregations.{contributions, contributions_of};
     ghost use Rattle.dt_consumer.specs.Buffers.{attempts_of};

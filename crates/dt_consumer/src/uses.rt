@@ -1,6 +1,6 @@
 //! What the clauses of a consumer give to its aggregations.
 ghost use Rattle.std.specs.Prelude.{◌≤◌, vec_len};
-ghost use Rattle.dt_lang.specs.declared.program.TheConstants.{KEYS_MAX, STATEMENTS_MAX};
+ghost use Rattle.dt_program.specs.declared.clause.TheConstants.{KEYS_MAX, STATEMENTS_MAX};
 
 use crate::known::Known;
 use crate::values::{number_in, parts_at};

@@ -2,7 +2,7 @@
 ghost use Rattle.std.specs.Prelude.{◌≡◌, [], ◌∷◌, map, bytes_eq, IfOk};
 ghost use Rattle.dt_lang.specs.Program.{form_of_argument, form_of_call, form_of_statement};
 ghost use Rattle.dt_lang.specs.Program as program;
-ghost use Rattle.dt_lang.specs.declared.program.Statement.TheVariants.{Aggregate};
+ghost use Rattle.dt_program.specs.declared.clause.Statement.TheVariants.{Aggregate};
 ghost use Rattle.dt_ecb.specs.Forms.{form_of_kind, form_of_function, form_of_shape};
 ghost use Rattle.dt_ecb.specs.Shapes as spec;
 

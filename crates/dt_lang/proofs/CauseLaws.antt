@@ -19,7 +19,7 @@ use Rattle.dt_lang.specs.declared.word.Word.{Word}
 use Rattle.dt_lang.specs.declared.word.Word.TheVariants as word
 use Rattle.dt_lang.specs.ExpressionState as expression
 use Rattle.dt_lang.specs.Grammar.{begins, ends, Begins}
-use Rattle.dt_lang.specs.Program.{ArgForm, number, text, ClauseForm}
+use Rattle.dt_program.specs.Clause.{ArgForm, number, text, ClauseForm}
 use Rattle.dt_lang.specs.Stand.{Slot, predicate, traced, exited, key, value}
 use Rattle.dt_lang.specs.declared.fault.Why.TheVariants.{Syntax}
 use Rattle.dt_lang.specs.Refused.{Cause, because, StatementBegins, IsDestructive, NameStands, a_statement, a_function}

@@ -3,8 +3,8 @@ use Rattle.std.proofs.Common.{◌≡◌, ◌≢◌, ℕ, ◌+◌, leb, true, fal
 use Rattle.std.proofs.Common.{None, refl, sym, ap, ◌∙◌, append_assoc, ℤ, le-leb, add-zero, suc, arith}
 use Rattle.std.specs.Prelude.{option_and_then}
 use Rattle.dt_expr.specs.Form.{Form}
-use Rattle.dt_lang.specs.Description.{DescForm}
-use Rattle.dt_lang.specs.declared.program.TheConstants.{FRAMES_MAX}
+use Rattle.dt_program.specs.Description.{DescForm}
+use Rattle.dt_program.specs.declared.clause.TheConstants.{FRAMES_MAX}
 use Rattle.dt_lang.specs.declared.token.Sign.TheVariants as sign
 use Rattle.dt_lang.specs.declared.token.Token.{Token}
 use Rattle.dt_lang.specs.declared.token.Token.TheVariants as token
@@ -19,7 +19,7 @@ use Rattle.dt_lang.specs.Grammar.{in_levels, IsFrameCount, ReadsStatement, traci
 use Rattle.dt_lang.specs.Grammar.{of_stack, of_ustack, exiting, aggregating, Spot, begins, ends, ReadsBody, nothing}
 use Rattle.dt_lang.specs.Grammar.{stated, separated, ReadsClause, a_clause, ReadsClauses, ReadsProgram}
 use Rattle.dt_lang.specs.Grammar as grammar
-use Rattle.dt_lang.specs.Program.{ArgForm, number, CallForm, lquantize, StatementForm, aggregate, ClauseForm}
+use Rattle.dt_program.specs.Clause.{ArgForm, number, CallForm, lquantize, StatementForm, aggregate, ClauseForm}
 use Rattle.dt_lang.specs.Stand.{HeadStands, BodyStands, KeysStand, TargetStands, Slot, predicate, traced, exited, key}
 use Rattle.dt_lang.specs.Stand.{value, divides_in, SlotOpens}
 use Rattle.dt_lang.specs.Stand as stand

@@ -13,7 +13,7 @@
 use Rattle.std.proofs.Common.{◌≡◌, List, [], ◌∷◌, ◌++◌, Option, Some, None, refl, sym, ap, ◌∙◌}
 use Rattle.std.specs.Prelude.{option_and_then}
 use Rattle.dt_lang.specs.declared.token.Token.{Token}
-use Rattle.dt_lang.specs.Program.{ClauseForm}
+use Rattle.dt_program.specs.Clause.{ClauseForm}
 use Rattle.dt_lang.specs.Grammar.{ReadsClauses, ReadsProgram, Begins}
 use Rattle.dt_lang.specs.ClauseState.{PlaceForm, outside, ProgramState, whole, finished_at}
 use Rattle.dt_lang.specs.ClauseState.{step, run, program_start, finished}

@@ -4,7 +4,7 @@ use Rattle.std.proofs.Common.{refl, sym, ap, ◌∙◌, subst, append_assoc, app
 use Rattle.std.proofs.Common.{if◌then◌else◌}
 use Rattle.std.specs.Prelude.{option_and_then}
 use Rattle.dt_expr.specs.Form.{Form}
-use Rattle.dt_lang.specs.declared.program.TheConstants.{FRAMES_MAX}
+use Rattle.dt_program.specs.declared.clause.TheConstants.{FRAMES_MAX}
 use Rattle.dt_lang.specs.declared.token.Sign.TheVariants as sign
 use Rattle.dt_lang.specs.declared.token.Token.{Token}
 use Rattle.dt_lang.specs.declared.token.Token.TheVariants as token
@@ -20,8 +20,8 @@ use Rattle.dt_lang.specs.Grammar.{ReadsCall, counting, of_one, in_levels}
 use Rattle.dt_lang.specs.Grammar.{IsFrameCount, ReadsStatement, tracing, of_stack}
 use Rattle.dt_lang.specs.Grammar.{of_ustack, exiting, aggregating, Spot, begins, ends, ReadsClauses}
 use Rattle.dt_lang.specs.Grammar as grammar
-use Rattle.dt_lang.specs.Program.{ArgForm, number, CallForm, count, lquantize, StatementForm, trace, exit, aggregate}
-use Rattle.dt_lang.specs.Program.{ClauseForm}
+use Rattle.dt_program.specs.Clause.{ArgForm, number, CallForm, count, lquantize, StatementForm, trace, exit, aggregate}
+use Rattle.dt_program.specs.Clause.{ClauseForm}
 use Rattle.dt_lang.specs.Stand.{HeadStands, BodyStands, KeysStand, TargetStands, Slot, predicate, traced, exited, key}
 use Rattle.dt_lang.specs.Stand.{value, divides_in, SlotOpens, a_predicate, an_argument, a_status, first_key, a_key}
 use Rattle.dt_lang.specs.Stand.{a_value}

@@ -2,7 +2,7 @@
 use Rattle.std.proofs.Common.{◌≡◌, ◌≢◌, ℕ, ◌+◌, Bool, true, false, List, [], ◌∷◌, ◌++◌, length, Some, refl, sym, ◌∙◌}
 use Rattle.std.proofs.Common.{ℤ, pos}
 use Rattle.dt_expr.specs.Form.{Form}
-use Rattle.dt_lang.specs.declared.description.Description.{Description}
+use Rattle.dt_program.specs.declared.description.Description.{Description}
 use Rattle.dt_lang.specs.declared.token.Sign.TheVariants as sign
 use Rattle.dt_lang.specs.declared.token.Token.{Token}
 use Rattle.dt_lang.specs.declared.token.Token.TheVariants as token
@@ -14,7 +14,7 @@ use Rattle.dt_lang.specs.declared.word.Word.TheVariants as word
 use Rattle.dt_lang.specs.ExpressionState as expression
 use Rattle.dt_lang.specs.ExpressionState.{IsRead, ends_argument}
 use Rattle.dt_lang.specs.Grammar.{Spot, begins, ends}
-use Rattle.dt_lang.specs.Program.{ArgForm, number, StatementForm, ClauseForm}
+use Rattle.dt_program.specs.Clause.{ArgForm, number, StatementForm, ClauseForm}
 use Rattle.dt_lang.specs.Stand.{Slot, predicate, traced, exited, key, value, divides_in, SlotOpens, a_value}
 use Rattle.dt_lang.specs.ClauseState.{BoundForm, at_lower, at_upper, at_step, PlaceForm, outside, described, listed}
 use Rattle.dt_lang.specs.ClauseState.{guarded, body, called, framed, closing, named, keyed, assigned, applied, within}

@@ -13,7 +13,7 @@ use Rattle.dt_lang.specs.declared.word.Word.{Word}
 use Rattle.dt_lang.specs.declared.word.Word.TheVariants as word
 use Rattle.dt_lang.specs.ExpressionState as expression
 use Rattle.dt_lang.specs.Grammar.{begins}
-use Rattle.dt_lang.specs.Program.{ArgForm, ClauseForm}
+use Rattle.dt_program.specs.Clause.{ArgForm, ClauseForm}
 use Rattle.dt_lang.specs.Refused.{Cause}
 use Rattle.dt_lang.specs.ClauseState.{PlaceForm, body, assigned, within, ProgramState, program_step_from, step}
 use Rattle.dt_lang.specs.Cause.{is_word, names_no_variable, is_no_description, name_may_stand, operand_at, destroys_at}

@@ -50,7 +50,7 @@ use Rattle.dt_lang.specs.ExpressionState.{close, state, start, operator_in, join
 use Rattle.dt_lang.specs.ExpressionState.{begin_sign, begin, is_foreign_sign, is_foreign, is_number, ends_argument}
 use Rattle.dt_lang.specs.ExpressionState.{step, run, number_alone, done_from, done, wants, wants_at, takes_number}
 use Rattle.dt_lang.specs.ExpressionState.{takes_number_at, takes_text, takes_text_at, step_from}
-use Rattle.dt_lang.specs.Program.{ArgForm, number, text}
+use Rattle.dt_program.specs.Clause.{ArgForm, number, text}
 use Rattle.dt_lang.proofs.ExpressionSteps.{begins_text, leaves, close_ends}
 pub use Rattle.dt_lang.proofs.ExpressionSteps.{run-append, run_more, run_step, run_one}
 use Rattle.dt_lang.proofs.ExpressionComplete.{Arrives, arrives}

@@ -4,8 +4,8 @@ use Rattle.std.proofs.Common.{◌∷◌, ◌++◌, length, Option, Some, None, i
 use Rattle.std.proofs.Common.{arith, leb-false, if◌then◌else◌, pos}
 use Rattle.std.specs.Prelude.{option_and_then}
 use Rattle.dt_expr.specs.Form.{Form}
-use Rattle.dt_lang.specs.declared.program.TheConstants.{CLAUSES_MAX, DESCRIPTIONS_MAX, STATEMENTS_MAX, KEYS_MAX}
-use Rattle.dt_lang.specs.declared.program.TheConstants.{TOKENS_MAX, FRAMES_MAX}
+use Rattle.dt_program.specs.declared.clause.TheConstants.{DESCRIPTIONS_MAX, STATEMENTS_MAX, KEYS_MAX, FRAMES_MAX}
+use Rattle.dt_lang.specs.declared.program.TheConstants.{CLAUSES_MAX, TOKENS_MAX}
 use Rattle.dt_lang.specs.declared.token.Sign.TheVariants as sign
 use Rattle.dt_lang.specs.declared.token.Token.{Token}
 use Rattle.dt_lang.specs.declared.token.Token.TheVariants as token
@@ -16,7 +16,7 @@ use Rattle.dt_lang.specs.declared.word.Function.TheVariants as function
 use Rattle.dt_lang.specs.declared.word.Word.TheVariants as word
 use Rattle.dt_lang.specs.ExpressionState as expression
 use Rattle.dt_lang.specs.Grammar.{call_of, begins, ends}
-use Rattle.dt_lang.specs.Program.{ArgForm, number, CallForm, StatementForm, aggregate, ClauseForm}
+use Rattle.dt_program.specs.Clause.{ArgForm, number, CallForm, StatementForm, aggregate, ClauseForm}
 use Rattle.dt_lang.specs.Stand.{Slot, predicate, traced, exited, key, value}
 use Rattle.dt_lang.specs.ClauseState.{BoundForm, at_lower, at_upper, at_step, PlaceForm, outside, described, listed}
 use Rattle.dt_lang.specs.ClauseState.{guarded, body, called, framed, closing, named, keyed, assigned, applied, within}

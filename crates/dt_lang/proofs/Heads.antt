@@ -4,8 +4,8 @@ use Rattle.std.proofs.Common.{Option, length, drop, get_or, refl, sym, ap, ◌�
 use Rattle.std.proofs.lemmas.Bool.{false≢true, eqb-true}
 use Rattle.std.specs.List.{take_while, AllPass}
 use Rattle.std.specs.Option.{option_map}
-use Rattle.dt_lang.specs.Description.{form_of_description, ReadsDescription}
-use Rattle.dt_lang.specs.declared.description.Description.{Description}
+use Rattle.dt_program.specs.Description.{form_of_description, ReadsDescription}
+use Rattle.dt_program.specs.declared.description.Description.{Description}
 use Rattle.dt_lang.specs.Class.{is_description_byte}
 use Rattle.dt_lang.specs.Lexeme.{IsHeadSign, OPENING, IsHeadPiece}
 use Rattle.dt_lang.specs.Piece.{head_sign, FindsDescription, FindsRun, FindsInHead, opens_comment}

@@ -1,7 +1,7 @@
 -- Laws of lexemes: there is one, and only one, and it lies where it should.
 use Rattle.std.proofs.Common.{◌≡◌, ℕ, ◌-◌, ◌≤◌, List, Option, length, drop, refl, sym, ap, ◌∙◌, subst, arith}
 use Rattle.std.proofs.Common.{length-drop}
-use Rattle.dt_lang.specs.Description.{DescForm, ReadsDescription}
+use Rattle.dt_program.specs.Description.{DescForm, ReadsDescription}
 use Rattle.dt_lang.specs.Lexeme.{placed, Lexes, LiesWithin}
 use Rattle.dt_lang.specs.Lexeme.{Stands}
 use Rattle.dt_lang.specs.declared.lexer.Lexeme.{Lexeme}

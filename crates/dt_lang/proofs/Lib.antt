@@ -17,7 +17,6 @@ pub mod TextLaws
 pub mod FitsLaws
 pub mod EarlyLaws
 pub mod ParseLemmas
-pub mod LevelLemmas
 pub mod FrameLemmas
 pub mod BlankLaws
 pub mod Bodies
@@ -37,6 +36,4 @@ pub mod Signs
 pub mod Standing
 pub mod Starts
 pub mod Words
-pub mod Descriptions
-pub mod SomeDescription
 pub mod SomeReading

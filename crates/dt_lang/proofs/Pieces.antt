@@ -4,8 +4,8 @@ use Rattle.std.proofs.Common.{eqb, true, false, refl, subst, sym}
 use Rattle.std.proofs.lemmas.Bool.{false≢true}
 use Rattle.std.specs.List.{take_while}
 use Rattle.std.specs.Option.{option_map}
-use Rattle.dt_lang.specs.Description.{DescForm, form_of_description, DescribesPatterns, ReadsDescription}
-use Rattle.dt_lang.specs.declared.description.Description.{Description}
+use Rattle.dt_program.specs.Description.{DescForm, form_of_description, DescribesPatterns, ReadsDescription}
+use Rattle.dt_program.specs.declared.description.Description.{Description}
 use Rattle.dt_lang.specs.Class.{is_description_byte}
 use Rattle.dt_lang.specs.Piece.{FindsRun, FindsInHead, FindsInBody, FindsInMode, FindsUncommented, opens_comment}
 use Rattle.dt_lang.specs.Piece.{FindsPiece}

@@ -5,13 +5,13 @@ use Rattle.std.specs.Prelude.{◌-ℤ◌, int_lt, int_rem}
 use Rattle.std.specs.Ordering.{int_eq}
 use Rattle.std.proofs.lemmas.Bool.Decides.{Decides-int_eq}
 use Rattle.dt_expr.specs.Form.{Form}
-use Rattle.dt_lang.specs.Bounds.{AreBounds}
+use Rattle.dt_program.specs.Bounds.{AreBounds}
 use Rattle.dt_lang.specs.declared.token.Sign.TheVariants as sign
 use Rattle.dt_lang.specs.declared.token.Token.{Token}
 use Rattle.dt_lang.specs.declared.token.Token.TheVariants as token
 use Rattle.dt_lang.specs.declared.word.Function.TheVariants as function
 use Rattle.dt_lang.specs.Grammar.{ReadsConstant, plain, negative, ReadsBounds, by_one, stepped}
-use Rattle.dt_lang.specs.Program.{ArgForm, number, ClauseForm}
+use Rattle.dt_program.specs.Clause.{ArgForm, number, ClauseForm}
 use Rattle.dt_lang.specs.Stand.{value}
 use Rattle.dt_lang.specs.Refused.{IsOutOfRange}
 use Rattle.dt_lang.specs.ClauseState.{BoundForm, at_lower, at_upper, at_step}

@@ -2,8 +2,8 @@
 use Rattle.std.proofs.Common.{◌≡◌, ℕ, Bool, true, false, List, [], ◌∷◌, ◌++◌, length, Some, None, refl, ap}
 use Rattle.std.proofs.Common.{append_assoc, append-nil, ℤ}
 use Rattle.dt_expr.specs.Form.{Form}
-use Rattle.dt_lang.specs.Description.{form_of_description}
-use Rattle.dt_lang.specs.declared.description.Description.{Description}
+use Rattle.dt_program.specs.Description.{form_of_description}
+use Rattle.dt_program.specs.declared.description.Description.{Description}
 use Rattle.dt_lang.specs.declared.token.Sign.TheVariants as sign
 use Rattle.dt_lang.specs.declared.token.Token.{Token}
 use Rattle.dt_lang.specs.declared.token.Token.TheVariants as token
@@ -17,7 +17,7 @@ use Rattle.dt_lang.specs.Grammar.{ReadsHead, a_description, another, ReadsOpenin
 use Rattle.dt_lang.specs.Grammar.{ReadsTarget, bare, keyed, ReadsConstant, ReadsStatement, Spot, begins, ends}
 use Rattle.dt_lang.specs.Grammar.{ReadsBody, nothing, stated, separated, ReadsClause, a_clause, ReadsClauses}
 use Rattle.dt_lang.specs.Grammar as grammar
-use Rattle.dt_lang.specs.Program.{ArgForm, StatementForm, ClauseForm}
+use Rattle.dt_program.specs.Clause.{ArgForm, StatementForm, ClauseForm}
 use Rattle.dt_lang.specs.Stand.{HeadStands, BodyStands, TargetStands, Slot, value, divides_in, SlotOpens}
 use Rattle.dt_lang.specs.ClauseState.{BoundForm, at_lower, at_upper, at_step, PlaceForm, headed, with_description}
 use Rattle.dt_lang.specs.ClauseState.{with_statement}

@@ -7,8 +7,8 @@ use Rattle.std.specs.Option.{option_map}
 use Rattle.std.specs.Char.{digit_value}
 use Rattle.std.specs.Str.Parse.{digits_value, AllDigits}
 use Rattle.dt_expr.specs.Operators.{wrapped}
-use Rattle.dt_lang.specs.Description.{DescForm, form_of_description, ReadsDescription}
-use Rattle.dt_lang.specs.declared.description.Description.{Description}
+use Rattle.dt_program.specs.Description.{DescForm, form_of_description, ReadsDescription}
+use Rattle.dt_program.specs.declared.description.Description.{Description}
 use Rattle.dt_lang.specs.Class.{is_text_byte, is_description_byte}
 use Rattle.dt_lang.specs.Lexeme.{IsBodyPiece, IsHeadPiece, IsPiece, Stands}
 use Rattle.dt_lang.specs.Number.{IsNumber, IsDecimal, IsOctal, IsHexadecimal}

@@ -10,7 +10,7 @@ use Rattle.dt_lang.specs.declared.mode.Mode.TheVariants.{Head}
 use Rattle.dt_lang.specs.declared.token.Token.{Token}
 use Rattle.dt_lang.specs.Lexeme.{Lexes, LiesWithin}
 use Rattle.dt_lang.specs.Mode.{mode_after}
-use Rattle.dt_lang.specs.Program.{ClauseForm}
+use Rattle.dt_program.specs.Clause.{ClauseForm}
 use Rattle.dt_lang.specs.Grammar.{ReadsProgram}
 use Rattle.dt_lang.specs.Refused.{Cause, because, destroys, CauseHolds, Refused, NoneRefused}
 use Rattle.dt_lang.specs.Reads.{TokensTo, none, another, IsRefusedProgram, a_token}

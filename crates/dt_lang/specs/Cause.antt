@@ -3,7 +3,8 @@
 use Rattle.std.specs.Prelude.{◌==◌, ℕ, leb, Bool, true, false, not, ◌&&◌, ◌||◌, List, length, Option, Some, None, is_some, ℤ, pos, ◌-ℤ◌, int_lt, int_le, int_div, int_rem}
 use Rattle.std.specs.Ordering.{int_eq}
 use Rattle.dt_lang.specs.declared.fault.Why.TheVariants.{Syntax, Probe, Action, Variable, TooLong, Range}
-use Rattle.dt_lang.specs.declared.program.TheConstants.{CLAUSES_MAX, DESCRIPTIONS_MAX, STATEMENTS_MAX, KEYS_MAX, TOKENS_MAX, LEVELS_MAX}
+use Rattle.dt_program.specs.declared.clause.TheConstants.{DESCRIPTIONS_MAX, STATEMENTS_MAX, KEYS_MAX, LEVELS_MAX}
+use Rattle.dt_lang.specs.declared.program.TheConstants.{CLAUSES_MAX, TOKENS_MAX}
 use Rattle.dt_lang.specs.declared.token.Sign.TheVariants as sign
 use Rattle.dt_lang.specs.declared.token.Token.{Token}
 use Rattle.dt_lang.specs.declared.token.Token.TheVariants as token
@@ -13,7 +14,7 @@ use Rattle.dt_lang.specs.ExpressionState as expression
 use Rattle.dt_lang.specs.ExpressionState.{is_operand}
 use Rattle.dt_lang.specs.ClauseState.{BoundForm, at_lower, at_upper, at_step, PlaceForm, outside, listed, body, assigned, within, bounded, ProgramState, step}
 use Rattle.dt_lang.specs.Grammar.{begins}
-use Rattle.dt_lang.specs.Program.{ClauseForm}
+use Rattle.dt_program.specs.Clause.{ClauseForm}
 use Rattle.dt_lang.specs.Refused.{Cause, because, destroys}
 use Rattle.dt_lang.specs.Stand.{Slot, key}
 

@@ -2,8 +2,8 @@
 -- reads exactly what `ReadsProgram` says.
 use Rattle.std.specs.Prelude.{ℕ, ◌+◌, leb, Bool, true, false, ◌&&◌, if◌then◌else◌, List, [], ◌∷◌, ◌++◌, Option, Some, None, option_and_then, ℤ, pos, neg_ℤ}
 use Rattle.dt_expr.specs.Form.{Form}
-use Rattle.dt_lang.specs.Description.{DescForm, form_of_description}
-use Rattle.dt_lang.specs.declared.program.TheConstants.{FRAMES_MAX}
+use Rattle.dt_program.specs.Description.{DescForm, form_of_description}
+use Rattle.dt_program.specs.declared.clause.TheConstants.{FRAMES_MAX}
 use Rattle.dt_lang.specs.declared.token.Sign.TheVariants as sign
 use Rattle.dt_lang.specs.declared.token.Token.{Token}
 use Rattle.dt_lang.specs.declared.token.Token.TheVariants as token
@@ -12,7 +12,7 @@ use Rattle.dt_lang.specs.declared.word.Action.TheVariants as action
 use Rattle.dt_lang.specs.declared.word.Function.{Function}
 use Rattle.dt_lang.specs.declared.word.Function.TheVariants as function
 use Rattle.dt_lang.specs.declared.word.Word.TheVariants as word
-use Rattle.dt_lang.specs.Program.{ArgForm, number, count, lquantize, StatementForm, trace, stack, ustack, exit, aggregate, ClauseForm}
+use Rattle.dt_program.specs.Clause.{ArgForm, number, count, lquantize, StatementForm, trace, stack, ustack, exit, aggregate, ClauseForm}
 use Rattle.dt_lang.specs.Grammar.{call_of, Spot, begins, ends}
 use Rattle.dt_lang.specs.Stand.{Slot, predicate, traced, exited, key, value, divides_in}
 use Rattle.dt_lang.specs.ExpressionState as expression

@@ -15,7 +15,7 @@ use Rattle.dt_lang.specs.declared.token.Sign.TheVariants as sign
 use Rattle.dt_lang.specs.declared.token.Token.{Token}
 use Rattle.dt_lang.specs.declared.token.Token.TheVariants as token
 use Rattle.dt_lang.specs.declared.word.Word.TheVariants as word
-use Rattle.dt_lang.specs.Program.{ArgForm, number, text}
+use Rattle.dt_program.specs.Clause.{ArgForm, number, text}
 
 -- the operator before an operand that a sign is
 abbrev pub prefix_of : Sign → Option UnaryOp

@@ -16,7 +16,7 @@ use Rattle.dt_lang.specs.declared.token.Token.TheVariants as token
 use Rattle.dt_lang.specs.declared.word.Word.{Word}
 use Rattle.dt_lang.specs.declared.word.Word.TheVariants as word
 use Rattle.dt_lang.specs.Expression.{prefix_of, operator_of, binding, OPERAND, comparison_of, EQUALITY, text_token}
-use Rattle.dt_lang.specs.Program.{ArgForm, number, text}
+use Rattle.dt_program.specs.Clause.{ArgForm, number, text}
 
 -- What waits for its right side: an open parenthesis (and whether `/` divides outside of it), an operator before its
 -- operand, a left side with its operator.

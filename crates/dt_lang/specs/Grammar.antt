@@ -2,9 +2,9 @@
 -- Guide, Program Structure; Actions and Subroutines; Aggregations.
 use Rattle.std.specs.Prelude.{◌≡◌, ◌≢◌, ℕ, ◌≤◌, true, false, List, [], ◌∷◌, ◌++◌, Option, Some, None, ℤ, pos, neg_ℤ}
 use Rattle.dt_expr.specs.Form.{Form}
-use Rattle.dt_lang.specs.declared.description.Description.{Description}
-use Rattle.dt_lang.specs.Description.{DescForm, form_of_description}
-use Rattle.dt_lang.specs.declared.program.TheConstants.{FRAMES_MAX}
+use Rattle.dt_program.specs.declared.description.Description.{Description}
+use Rattle.dt_program.specs.Description.{DescForm, form_of_description}
+use Rattle.dt_program.specs.declared.clause.TheConstants.{FRAMES_MAX}
 use Rattle.dt_lang.specs.declared.token.Sign.TheVariants as sign
 use Rattle.dt_lang.specs.declared.token.Token.{Token}
 use Rattle.dt_lang.specs.declared.token.Token.TheVariants as token
@@ -12,7 +12,7 @@ use Rattle.dt_lang.specs.declared.word.Action.TheVariants as action
 use Rattle.dt_lang.specs.declared.word.Function.{Function}
 use Rattle.dt_lang.specs.declared.word.Function.TheVariants as function
 use Rattle.dt_lang.specs.declared.word.Word.TheVariants as word
-use Rattle.dt_lang.specs.Program.{ArgForm, CallForm, count, sum, avg, min, max, quantize, lquantize, StatementForm, trace, stack, ustack, exit, aggregate, ClauseForm}
+use Rattle.dt_program.specs.Clause.{ArgForm, CallForm, count, sum, avg, min, max, quantize, lquantize, StatementForm, trace, stack, ustack, exit, aggregate, ClauseForm}
 use Rattle.dt_lang.specs.Expression.{ReadsExpr, ReadsArgument}
 
 -- The tokens are a head: descriptions with `,` between them.

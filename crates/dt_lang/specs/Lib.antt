@@ -1,6 +1,6 @@
 -- Tokens, programs, the grammar between them, and for what tokens are refused.
 pub mod Blanks
-pub mod Bounds
+pub use Rattle.dt_program.specs.Bounds
 pub mod Class
 pub mod Expression
 pub mod ExpressionState
@@ -23,4 +23,4 @@ pub mod PlaceView
 pub mod Program
 pub mod Spelling
 pub mod Word
-pub mod Description
+pub use Rattle.dt_program.specs.Description

@@ -4,8 +4,8 @@ use Rattle.std.specs.List.{take_while}
 use Rattle.std.specs.Char.{is_ascii_digit}
 use Rattle.std.specs.Option.{option_map}
 use Rattle.dt_expr.specs.Operators.{wrapped}
-use Rattle.dt_lang.specs.Description.{form_of_description, ReadsDescription}
-use Rattle.dt_lang.specs.declared.description.Description.{Description}
+use Rattle.dt_program.specs.Description.{form_of_description, ReadsDescription}
+use Rattle.dt_program.specs.declared.description.Description.{Description}
 use Rattle.dt_names.specs.declared.short_text.TheConstants.{SHORT_TEXT_MAX}
 use Rattle.dt_lang.specs.declared.mode.Mode.{Mode}
 use Rattle.dt_lang.specs.declared.mode.Mode.TheVariants.{Head, Predicate, Tail, Body}

@@ -11,7 +11,7 @@ use Rattle.dt_lang.specs.declared.place.Target.{Target}
 use Rattle.dt_lang.specs.ClauseState as state
 use Rattle.dt_lang.specs.ExpressionState as expression
 use Rattle.dt_lang.specs.Grammar.{begins, ends}
-use Rattle.dt_lang.specs.Program.{ArgForm, form_of_argument, form_of_statement}
+use Rattle.dt_program.specs.Clause.{ArgForm, form_of_argument, form_of_statement}
 use Rattle.dt_lang.specs.Stand as stand
 
 abbrev pub key_forms : Target → List ArgForm

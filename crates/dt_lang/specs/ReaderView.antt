@@ -2,12 +2,12 @@
 use Rattle.std.specs.Prelude.{◌≡◌, Bool, true, false, List, map, Option, Some, None}
 use Rattle.std.specs.Option.{option_map}
 use Rattle.dt_expr.specs.Form.{form_of}
-use Rattle.dt_lang.specs.Description.{form_of_description}
+use Rattle.dt_program.specs.Description.{form_of_description}
 use Rattle.dt_lang.specs.declared.reader.ProgramReader.{ProgramReader}
 use Rattle.dt_lang.specs.ClauseState.{ProgramState, program_at}
 use Rattle.dt_lang.specs.ExpressionView.{state_of}
 use Rattle.dt_lang.specs.PlaceView.{place_form}
-use Rattle.dt_lang.specs.Program.{ClauseForm, form_of_clause, form_of_statement}
+use Rattle.dt_program.specs.Clause.{ClauseForm, form_of_clause, form_of_statement}
 
 -- the whole clauses
 abbrev pub clauses_of : ProgramReader → List ClauseForm

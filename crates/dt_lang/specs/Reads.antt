@@ -13,7 +13,8 @@ use Rattle.dt_lang.specs.declared.word.Destructive.{Destructive}
 use Rattle.dt_lang.specs.Grammar.{ReadsProgram}
 use Rattle.dt_lang.specs.Lexeme.{Lexes}
 use Rattle.dt_lang.specs.Mode.{mode_after}
-use Rattle.dt_lang.specs.Program.{ClauseForm, form_of_program}
+use Rattle.dt_program.specs.Clause.{ClauseForm}
+use Rattle.dt_lang.specs.Program.{form_of_program}
 use Rattle.dt_lang.specs.Refused.{Cause, because, destroys, Refused, NoneRefused}
 
 -- The tokens stand at the front of the text, up to this byte, each the lexeme behind the one before it, in the mode

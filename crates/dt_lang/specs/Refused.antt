@@ -3,12 +3,13 @@ use Rattle.std.specs.Prelude.{◌≡◌, ℕ, ◌<◌, ◌≤◌, Bool, true, Li
 use Rattle.dt_expr.specs.Form.{Form}
 use Rattle.dt_expr.specs.declared.scene.NumberVariable.TheVariants as variable
 use Rattle.dt_expr.specs.declared.scene.TextVariable.TheVariants as text_variable
-use Rattle.dt_lang.specs.Description.{DescForm}
-use Rattle.dt_lang.specs.declared.description.Description.{Description}
-use Rattle.dt_lang.specs.Bounds.{AreBounds}
+use Rattle.dt_program.specs.Description.{DescForm}
+use Rattle.dt_program.specs.declared.description.Description.{Description}
+use Rattle.dt_program.specs.Bounds.{AreBounds}
 use Rattle.dt_lang.specs.declared.fault.Why.{Why}
 use Rattle.dt_lang.specs.declared.fault.Why.TheVariants.{Syntax, Probe, Action, Variable, TooLong, Range}
-use Rattle.dt_lang.specs.declared.program.TheConstants.{CLAUSES_MAX, DESCRIPTIONS_MAX, STATEMENTS_MAX, KEYS_MAX, TOKENS_MAX}
+use Rattle.dt_program.specs.declared.clause.TheConstants.{DESCRIPTIONS_MAX, STATEMENTS_MAX, KEYS_MAX}
+use Rattle.dt_lang.specs.declared.program.TheConstants.{CLAUSES_MAX, TOKENS_MAX}
 use Rattle.dt_lang.specs.declared.token.Sign.TheVariants as sign
 use Rattle.dt_lang.specs.declared.token.Token.{Token}
 use Rattle.dt_lang.specs.declared.token.Token.TheVariants as token
@@ -19,7 +20,7 @@ use Rattle.dt_lang.specs.declared.word.Word.{Word}
 use Rattle.dt_lang.specs.declared.word.Word.TheVariants as word
 use Rattle.dt_lang.specs.Expression.{ReadsExpr, BeginsExpr}
 use Rattle.dt_lang.specs.Grammar.{ReadsBounds, begins, ReadsClauses, Begins}
-use Rattle.dt_lang.specs.Program.{ArgForm, ClauseForm}
+use Rattle.dt_program.specs.Clause.{ArgForm, ClauseForm}
 use Rattle.dt_lang.specs.Stand.{HeadStands, BodyStands, KeysStand, Slot, value, divides_in, SlotOpens}
 
 -- why a token is refused: for a cause, or as the name of a destructive action

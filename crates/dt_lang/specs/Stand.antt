@@ -1,6 +1,6 @@
 -- Where in a program tokens end that do not make a whole one: what stands there next, and what was read before.
 use Rattle.std.specs.Prelude.{◌≡◌, ◌≢◌, ℕ, Bool, true, false, List, [], ◌∷◌, ◌++◌, None}
-use Rattle.dt_lang.specs.Description.{DescForm}
+use Rattle.dt_program.specs.Description.{DescForm}
 use Rattle.dt_lang.specs.declared.token.Sign.TheVariants as sign
 use Rattle.dt_lang.specs.declared.token.Token.{Token}
 use Rattle.dt_lang.specs.declared.token.Token.TheVariants as token
@@ -8,7 +8,7 @@ use Rattle.dt_lang.specs.declared.word.Action.TheVariants as action
 use Rattle.dt_lang.specs.declared.word.Function.{Function}
 use Rattle.dt_lang.specs.declared.word.Function.TheVariants as function
 use Rattle.dt_lang.specs.declared.word.Word.TheVariants as word
-use Rattle.dt_lang.specs.Program.{ArgForm, ClauseForm}
+use Rattle.dt_program.specs.Clause.{ArgForm, ClauseForm}
 use Rattle.dt_lang.specs.Grammar.{ReadsHead, ReadsOpening, ReadsKeys, ReadsTarget, Spot, begins, ReadsBody, ReadsClauses}
 
 -- The tokens are whole clauses and a head.

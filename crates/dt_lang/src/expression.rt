@@ -4,13 +4,13 @@ ghost use Rattle.dt_expr.specs.Form.{form_of};
 ghost use Rattle.dt_lang.specs.Expression.{prefix_of, comparison_of, text_token};
 ghost use Rattle.dt_lang.specs.ExpressionState.{nothing, whole, lone, compares, state, operator_in, begin_sign, begin_text, begin, leave, follow_sign, follow, compare, compare_with, close, start, step, done, wants, Goes};
 ghost use Rattle.dt_lang.specs.ExpressionView.{frames_of, hand_of, state_of};
-ghost use Rattle.dt_lang.specs.Program.{form_of_argument};
+ghost use Rattle.dt_program.specs.Clause.{form_of_argument};
 
 use crate::frames::{EQUALITY, Frame, FrameStack, OPERAND, binding_of};
-use crate::program::Argument;
 use crate::token::{Sign, Token};
 use crate::word::Word;
 use dt_expr::{BinaryOp, Expr, Text, TextOp, UnaryOp};
+use dt_program::Argument;
 use std::alloc::{AllocError, Global};
 use std::mem;
 

@@ -4,7 +4,7 @@ ghost use Rattle.dt_expr.specs.Form.{Form};
 ghost use Rattle.dt_lang.specs.declared.token.Token.{Token};
 ghost use Rattle.dt_lang.specs.Expression.{BeginsExpr, ReadsArgument, ReadsExpr};
 ghost use Rattle.dt_lang.specs.ExpressionState.{State, IsRead, done, run, start};
-ghost use Rattle.dt_lang.specs.Program.{ArgForm, number};
+ghost use Rattle.dt_program.specs.Clause.{ArgForm, number};
 
 /// Tokens are one expression at the most.
 pub fn one_expression()

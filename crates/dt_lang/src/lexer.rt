@@ -47,7 +47,7 @@ pub(crate) fn some_lexeme()
     ensures { (text : List ℕ) (mode : Mode) (from : ℕ) → from ≤ length text →
         (lexeme : Lexeme) × Lexes text mode from lexeme }
 {
-    crate::description::some_description();
+    dt_program::some_description();
 }
 
 /// Law: in each text, mode and place stands one lexeme at most, and it lies within the text.
@@ -57,5 +57,5 @@ pub(crate) fn one_lexeme()
     ensures within { (text : List ℕ) (mode : Mode) (from : ℕ) (lexeme : Lexeme) → from ≤ length text →
         Lexes text mode from lexeme → LiesWithin from lexeme (length text) }
 {
-    crate::description::one_description();
+    dt_program::one_description();
 }

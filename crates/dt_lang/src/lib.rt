@@ -7,7 +7,6 @@
 
 mod blanks;
 mod class;
-mod description;
 mod early_cause;
 mod expression;
 mod expression_laws;
@@ -25,13 +24,13 @@ mod sign;
 mod token;
 mod word;
 
-pub use description::{Description, one_description, some_description};
+pub use dt_program::{
+    Aggregation, Argument, Bounds, Call, Clause, DESCRIPTIONS_MAX, Description, FRAMES_MAX, Frames,
+    KEYS_MAX, LEVELS_MAX, STATEMENTS_MAX, Statement, one_description, some_description,
+};
 pub use expression_laws::{one_argument, one_expression};
 pub use fault::{LangFault, Why};
 pub use parse::{one_reading, some_reading};
-pub use program::{
-    Aggregation, Argument, Bounds, CLAUSES_MAX, Call, Clause, DESCRIPTIONS_MAX, FRAMES_MAX, Frames,
-    KEYS_MAX, LEVELS_MAX, Program, STATEMENTS_MAX, Statement, TOKENS_MAX,
-};
+pub use program::{CLAUSES_MAX, Program, TOKENS_MAX};
 pub use token::{Sign, Token};
 pub use word::{Action, Destructive, Function, Word, one_word};

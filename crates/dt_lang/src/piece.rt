@@ -6,13 +6,13 @@ ghost use Rattle.dt_lang.specs.Lexeme.{Stands};
 ghost use Rattle.dt_lang.specs.Piece.{start_of, identifier_at, FindsWord, NumberOf, text_piece, aggregation_read, FindsSign, FindsInBody, FindsInHead, opens_comment};
 
 use crate::class::Class;
-use crate::description::Description;
 use crate::mode::Mode;
 use crate::number::value_of;
 use crate::sign::{sign_at, spelling};
 use crate::token::{Sign, Token};
 use crate::word::Word;
 use dt_names::ShortText;
+use dt_program::Description;
 
 /// What stands at the front of a text.
 #[derive(Drop)]

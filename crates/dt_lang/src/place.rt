@@ -4,13 +4,14 @@ ghost use Rattle.dt_expr.specs.Form.{form_of};
 ghost use Rattle.dt_lang.specs.Cause.{full, keys_full};
 ghost use Rattle.dt_lang.specs.Grammar.{call_of};
 ghost use Rattle.dt_lang.specs.PlaceView.{key_forms, slot_form};
-ghost use Rattle.dt_lang.specs.Program.{aggregate, form_of_call, form_of_statement};
+ghost use Rattle.dt_program.specs.Clause.{aggregate, form_of_call, form_of_statement};
 ghost use Rattle.dt_lang.specs.Stand.{divides_in};
 
-use crate::program::{Aggregation, Argument, Call, KEYS_MAX, Statement, TOKENS_MAX};
+use crate::program::TOKENS_MAX;
 use crate::word::{Action, Function};
 use dt_expr::Expr;
 use dt_names::ShortText;
+use dt_program::{Aggregation, Argument, Call, KEYS_MAX, Statement};
 
 /// An aggregation's name and keys.
 #[derive(Drop)]

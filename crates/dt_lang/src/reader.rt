@@ -7,23 +7,24 @@ ghost use Rattle.dt_lang.specs.EarlyCause.{AnswersToken, Outcome, cause_of_refus
 ghost use Rattle.dt_lang.specs.Fits.{Fits, FitsClause, FitsWithin, SlotHasRoom};
 ghost use Rattle.dt_lang.specs.ExpressionView.{state_of};
 ghost use Rattle.dt_lang.specs.PlaceView.{bound_of, key_forms, place_form, slot_form};
-ghost use Rattle.dt_lang.specs.Program.{aggregate, form_of_argument, form_of_program, lquantize, form_of_clause, form_of_statement, number};
+ghost use Rattle.dt_program.specs.Clause.{aggregate, form_of_argument, lquantize, form_of_clause, form_of_statement, number};
+ghost use Rattle.dt_lang.specs.Program.{form_of_program};
 ghost use Rattle.dt_lang.specs.ReaderView.{Leads, clause_of, clauses_of, program_state_of};
-ghost use Rattle.dt_lang.specs.declared.program.TheConstants.{DESCRIPTIONS_MAX, KEYS_MAX, STATEMENTS_MAX};
+ghost use Rattle.dt_program.specs.declared.clause.TheConstants.{DESCRIPTIONS_MAX, KEYS_MAX, STATEMENTS_MAX};
 
-use crate::description::Description;
 use crate::early_cause::{early_assigned, early_begins, early_elsewhere, early_operand};
 use crate::expression::ExpressionReader;
 use crate::fault::{Refusal, Why};
 use crate::place::{Bound, Levels, Place, Slot, Target, call_of};
-use crate::program::{
-    Argument, Bounds, CLAUSES_MAX, Call, Clause, DESCRIPTIONS_MAX, Frames, Program, STATEMENTS_MAX,
-    Statement,
-};
+use crate::program::{CLAUSES_MAX, Program};
 use crate::token::{Sign, Token};
 use crate::word::{Action, Function, Word};
 use dt_expr::Expr;
 use dt_names::ShortText;
+use dt_program::{
+    Argument, Bounds, Call, Clause, DESCRIPTIONS_MAX, Description, Frames, STATEMENTS_MAX,
+    Statement,
+};
 use std::alloc::{AllocError, Global};
 use std::mem;
 

@@ -3,9 +3,9 @@ ghost use Rattle.std.specs.Prelude.{◌≡◌};
 ghost use Rattle.dt_lang.specs.Cause.{is_description, is_for_statement};
 ghost use Rattle.dt_lang.specs.ExpressionState.{is_operand};
 
-use crate::description::Description;
 use crate::word::Word;
 use dt_names::ShortText;
+use dt_program::Description;
 
 /// A sign of the language. (illumos Dynamic Tracing Guide, "Types, Operators and Expressions" and "Program Structure".)
 #[derive(Clone, Copy, Debug, PartialEq, Eq)]

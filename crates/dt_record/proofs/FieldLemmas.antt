@@ -4,8 +4,8 @@ use Rattle.std.proofs.Math.ListN.{get_or}
 use Rattle.std.proofs.lemmas.List.{take_more, map-append, append-nil}
 use Rattle.std.proofs.lemmas.Grind.{flat_map-append}
 use Rattle.std.specs.Option.{option_to_list}
-use Rattle.dt_lang.specs.Program.{form_of_statement}
-use Rattle.dt_lang.specs.declared.program.Statement.{Statement}
+use Rattle.dt_program.specs.Clause.{form_of_statement}
+use Rattle.dt_program.specs.declared.clause.Statement.{Statement}
 use Rattle.dt_record.specs.Layout.{field_of, fields_of}
 
 -- the fields of one statement more

@@ -6,7 +6,7 @@ use Rattle.std.proofs.lemmas.List.{append-nil, append_assoc}
 use Rattle.std.proofs.lemmas.Grind.{flat_map-append}
 use Rattle.std.specs.List.{flat_map}
 use Rattle.std.specs.Option.{option_map, option_or}
-use Rattle.dt_lang.specs.Program.{StatementForm}
+use Rattle.dt_program.specs.Clause.{StatementForm}
 use Rattle.dt_record.specs.Forms.{form_of_taken}
 use Rattle.dt_record.specs.Taking.{Effect, TakenForm, recorded, contributed}
 use Rattle.dt_record.specs.Taking.{effect_exit, first_effect_exit, epid_bytes}

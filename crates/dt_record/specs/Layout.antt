@@ -2,8 +2,8 @@
 use Rattle.std.specs.Prelude.{ℕ, ◌+◌, ◌*◌, List, map, sum, Option, Some, None, if◌then◌else◌}
 use Rattle.std.specs.List.{flat_map}
 use Rattle.std.specs.Option.{option_to_list}
-use Rattle.dt_lang.specs.Program.{ClauseForm, StatementForm}
-use Rattle.dt_lang.specs.Program as program
+use Rattle.dt_program.specs.Clause.{ClauseForm, StatementForm}
+use Rattle.dt_program.specs.Clause as program
 use Rattle.dt_names.specs.declared.short_text.TheConstants.{PADDED_SIZE}
 use Rattle.dt_record.specs.Taking.{leaves_record}
 use Rattle.dt_record.specs.declared.limits.TheConstants.{EPID_SIZE}

@@ -10,8 +10,8 @@ use Rattle.dt_expr.specs.Scene.{SceneForm, text_value}
 use Rattle.dt_expr.specs.Value.{value}
 use Rattle.dt_expr.specs.declared.text.Value.{Value}
 use Rattle.dt_expr.specs.declared.text.Value.TheVariants as val
-use Rattle.dt_lang.specs.Program.{ArgForm, CallForm, ClauseForm, StatementForm}
-use Rattle.dt_lang.specs.Program as program
+use Rattle.dt_program.specs.Clause.{ArgForm, CallForm, ClauseForm, StatementForm}
+use Rattle.dt_program.specs.Clause as program
 use Rattle.dt_record.specs.declared.limits.TheConstants.{EPID_SIZE}
 
 -- a number in a record: eight bytes, two's complement, the highest first

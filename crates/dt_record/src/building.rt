@@ -4,7 +4,7 @@ ghost use Rattle.std.specs.Option.{option_map};
 ghost use Rattle.arrayvec.specs.ArrayVec.{array_vec_len};
 ghost use Rattle.dt_expr.specs.Scene.{scene_of};
 ghost use Rattle.dt_expr.specs.declared.text.Value.{Value as ShownValue};
-ghost use Rattle.dt_lang.specs.Program.{form_of_argument};
+ghost use Rattle.dt_program.specs.Clause.{form_of_argument};
 ghost use Rattle.dt_cred.specs.declared.firing.TheConstants.{FRAMES};
 ghost use Rattle.dt_names.specs.declared.short_text.TheConstants.{PADDED_SIZE};
 ghost use Rattle.dt_record.specs.Left.{bytes_of, record_len};
@@ -17,7 +17,7 @@ use arrayvec::ArrayVec;
 use byteorder::{BigEndian, ByteOrder};
 use dt_cred::FRAMES;
 use dt_expr::{EvalFault, Scene, eval};
-use dt_lang::{Argument, Frames};
+use dt_program::{Argument, Frames};
 
 /// The bytes of a record.
 type Bytes = ArrayVec<u8, RECORD_MAX>;

@@ -3,8 +3,8 @@ ghost use Rattle.std.specs.Prelude.{◌≡◌, ◌+◌, ◌*◌, ◌≤◌, ◌+
 ghost use Rattle.std.specs.Option.{option_map, option_or};
 ghost use Rattle.arrayvec.specs.ArrayVec.{array_vec_len};
 ghost use Rattle.dt_expr.specs.Scene.{scene_of};
-ghost use Rattle.dt_lang.specs.Program.{form_of_statement};
-ghost use Rattle.dt_lang.specs.declared.program.TheConstants.{KEYS_MAX};
+ghost use Rattle.dt_program.specs.Clause.{form_of_statement};
+ghost use Rattle.dt_program.specs.declared.clause.TheConstants.{KEYS_MAX};
 ghost use Rattle.dt_cred.specs.declared.firing.TheConstants.{FRAMES};
 ghost use Rattle.dt_record.specs.Left.{bytes_of, record_len};
 ghost use Rattle.dt_record.specs.Taking.{Effect, effect, recorded, contributed, effect_exit, epid_bytes};
@@ -14,7 +14,7 @@ use crate::building::{begin, put_argument, put_stack};
 use crate::parts::Taken;
 use crate::values::{given, put_keys};
 use dt_expr::{EvalFault, Scene, eval};
-use dt_lang::Statement;
+use dt_program::Statement;
 
 impl Taken {
     /// Leaves nothing but the EPID, in a record if the clause leaves one.

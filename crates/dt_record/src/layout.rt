@@ -2,8 +2,8 @@
 ghost use Rattle.std.specs.Prelude.{◌≡◌, ◌≤◌, ◌*◌, Some, None, length, map, sum};
 ghost use Rattle.arrayvec.specs.ArrayVec.{array_vec_len};
 ghost use Rattle.std.specs.Option.{option_map};
-ghost use Rattle.dt_lang.specs.Program.{form_of_clause, form_of_statement};
-ghost use Rattle.dt_lang.specs.declared.program.TheConstants.{STATEMENTS_MAX};
+ghost use Rattle.dt_program.specs.Clause.{form_of_clause, form_of_statement};
+ghost use Rattle.dt_program.specs.declared.clause.TheConstants.{STATEMENTS_MAX};
 ghost use Rattle.dt_cred.specs.declared.firing.TheConstants.{FRAMES};
 ghost use Rattle.dt_record.specs.Fields.{form_of_field, form_of_layout};
 ghost use Rattle.dt_record.specs.Layout as spec;
@@ -12,8 +12,8 @@ ghost use Rattle.dt_record.specs.Layout.{layout_of, fields_of, field_size, layou
 use crate::limits::EPID_SIZE;
 use crate::recording::leaves_record;
 use arrayvec::ArrayVec;
-use dt_lang::{Argument, Clause, Frames, STATEMENTS_MAX, Statement};
 use dt_names::PADDED_SIZE;
+use dt_program::{Argument, Clause, Frames, STATEMENTS_MAX, Statement};
 
 /// A value of a record.
 #[derive(Clone, Copy, Debug, Default, PartialEq, Eq)]

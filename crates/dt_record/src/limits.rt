@@ -1,7 +1,7 @@
 //! How much one clause leaves at most.
 
 use dt_cred::FRAMES;
-use dt_lang::{KEYS_MAX, STATEMENTS_MAX};
+use dt_program::{KEYS_MAX, STATEMENTS_MAX};
 
 /// How many bytes an EPID takes in a record.
 pub const EPID_SIZE: usize = 4;

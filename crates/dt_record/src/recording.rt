@@ -1,10 +1,10 @@
 //! Which statements put something into the record.
 ghost use Rattle.std.specs.Prelude.{◌≡◌, map};
 ghost use Rattle.std.specs.List.{list_any};
-ghost use Rattle.dt_lang.specs.Program.{form_of_statement};
+ghost use Rattle.dt_program.specs.Clause.{form_of_statement};
 ghost use Rattle.dt_record.specs.Taking as spec;
 
-use dt_lang::Statement;
+use dt_program::Statement;
 
 /// Whether a statement puts something into the record.
 fn is_recording(statement: &Statement) -> bool

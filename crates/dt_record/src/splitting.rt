@@ -1,7 +1,7 @@
 //! Records back from their bytes.
 ghost use Rattle.std.specs.Prelude.{◌≡◌, ◌+◌, ◌*◌, ◌≤◌, ◌<◌, ◌++◌, ℕ, List, Some, IfOk, IfSome, MatchOption, length, map, slice_get, sum};
 ghost use Rattle.std.specs.List.{flat_map};
-ghost use Rattle.dt_lang.specs.declared.program.TheConstants.{FRAMES_MAX, STATEMENTS_MAX};
+ghost use Rattle.dt_program.specs.declared.clause.TheConstants.{FRAMES_MAX, STATEMENTS_MAX};
 ghost use Rattle.dt_record.specs.Fields.{form_of_field, form_of_layout};
 ghost use Rattle.dt_record.specs.Layout.{FieldForm, field_size};
 ghost use Rattle.dt_record.specs.Records.{form_of_record, form_of_recorded};

@@ -4,16 +4,16 @@ ghost use Rattle.std.specs.Option.{option_map};
 ghost use Rattle.dt_expr.specs.Form.{form_of};
 ghost use Rattle.dt_expr.specs.Operators.{holds};
 ghost use Rattle.dt_expr.specs.Scene.{scene_of};
-ghost use Rattle.dt_lang.specs.Program.{form_of_clause, form_of_statement};
+ghost use Rattle.dt_program.specs.Clause.{form_of_clause, form_of_statement};
 ghost use Rattle.dt_record.specs.Forms.{form_of_taken};
 ghost use Rattle.dt_record.specs.Taking.{Effect, each, effect, predicate_value, taken_of, taking};
-ghost use Rattle.dt_lang.specs.declared.program.TheConstants.{STATEMENTS_MAX};
+ghost use Rattle.dt_program.specs.declared.clause.TheConstants.{STATEMENTS_MAX};
 
 use crate::parts::Taken;
 use crate::recording::leaves_record;
 use arrayvec::ArrayVec;
 use dt_expr::{EvalFault, Expr, Scene, eval};
-use dt_lang::{Clause, Statement};
+use dt_program::{Clause, Statement};
 
 /// What a clause leaves of a scene, with its enabling's number: nothing where the predicate is 0, else what its
 /// statements leave, of which all expressions are evaluated, in order.

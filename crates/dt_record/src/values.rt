@@ -3,7 +3,7 @@ ghost use Rattle.std.specs.Prelude.{◌≡◌, ◌+◌, ◌≤◌, ◌++◌, ℕ
 ghost use Rattle.arrayvec.specs.ArrayVec.{array_vec_len};
 ghost use Rattle.dt_expr.specs.Scene.{scene_of, padded, text_bytes};
 ghost use Rattle.dt_expr.specs.declared.text.Value.{Value as ShownValue};
-ghost use Rattle.dt_lang.specs.Program.{form_of_argument, form_of_call};
+ghost use Rattle.dt_program.specs.Clause.{form_of_argument, form_of_call};
 ghost use Rattle.dt_record.specs.Taking as spec;
 ghost use Rattle.dt_record.specs.Taking.{each};
 ghost use Rattle.dt_record.specs.declared.limits.TheConstants.{VALUES_MAX};
@@ -11,8 +11,8 @@ ghost use Rattle.dt_record.specs.declared.limits.TheConstants.{VALUES_MAX};
 use crate::limits::VALUES_MAX;
 use arrayvec::ArrayVec;
 use dt_expr::{EvalFault, Scene, Text, TextVariable, Value, eval};
-use dt_lang::{Aggregation, Argument, Call};
 use dt_names::PADDED_SIZE;
+use dt_program::{Aggregation, Argument, Call};
 
 /// A text as a record shows it: its bytes, and zeros up to 32 bytes in all.
 pub(crate) fn shown<'a>(text: &'a Text, scene: &Scene<'a>) -> &'a [u8; PADDED_SIZE]

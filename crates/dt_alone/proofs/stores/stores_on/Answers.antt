@@ -5,7 +5,7 @@ use Rattle.std.proofs.lemmas.List.{append-nil, take_more, with_items_is}
 use Rattle.std.specs.Vec.{with_items}
 use Rattle.std.proofs.lemmas.Grind.{flat_map-append}
 use Rattle.dt_aggstore.specs.History.{Past}
-use Rattle.dt_lang.specs.declared.program.TheConstants.{STATEMENTS_MAX}
+use Rattle.dt_program.specs.declared.clause.TheConstants.{STATEMENTS_MAX}
 use Rattle.dt_alone.specs.Happened.{given_to, gives_to}
 use Rattle.dt_consumer.specs.Counts.{GivenAtMost}
 use Rattle.dt_consumer.specs.Uses.{AreGiven, given_then}

@@ -1,7 +1,7 @@
 -- What was given to each store so far.
 use Rattle.std.proofs.Common.{◌≡◌, ◌*◌, length, take}
 use Rattle.std.specs.List.{All}
-use Rattle.dt_lang.specs.declared.program.TheConstants.{STATEMENTS_MAX}
+use Rattle.dt_program.specs.declared.clause.TheConstants.{STATEMENTS_MAX}
 use Rattle.dt_alone.specs.Happened.{given_to}
 use Rattle.dt_consumer.specs.Counts.{GivenAtMost}
 use Rattle.dt_consumer.specs.Uses.{AreGiven}

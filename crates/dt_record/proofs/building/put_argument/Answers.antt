@@ -3,8 +3,8 @@ use Rattle.std.proofs.Common.{◌++◌, ap, ◌∙◌, rules}
 use Rattle.std.specs.Option.{option_map}
 use Rattle.dt_expr.specs.Scene.{scene_of, text_value}
 use Rattle.dt_expr.specs.declared.text.Value.TheVariants as val
-use Rattle.dt_lang.specs.Program.{form_of_argument}
-use Rattle.dt_lang.specs.declared.program.Argument.{Argument}
+use Rattle.dt_program.specs.Clause.{form_of_argument}
+use Rattle.dt_program.specs.declared.clause.Argument.{Argument}
 use Rattle.dt_record.specs.Left.{bytes_of}
 use Rattle.dt_record.specs.Taking.{argument_value}
 use Rattle.dt_record.proofs.building.put_argument.Goals as goal

@@ -2,7 +2,7 @@
 use Rattle.std.proofs.Common.{ap, sym, ◌∙◌, ◌==◌, ◌||◌, map}
 use Rattle.std.specs.List.{list_any}
 use Rattle.std.proofs.lemmas.List.{length-map}
-use Rattle.dt_lang.specs.Program.{form_of_statement}
+use Rattle.dt_program.specs.Clause.{form_of_statement}
 use Rattle.dt_record.specs.Taking as spec
 use Rattle.dt_record.proofs.Loops.{list_any-map}
 use Rattle.dt_record.proofs.recording.leaves_record.Goals as goal

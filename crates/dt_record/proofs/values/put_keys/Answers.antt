@@ -2,7 +2,7 @@
 use Rattle.std.proofs.Common.{◌++◌, ◌∷◌, [], ap, ◌∙◌, rules}
 use Rattle.std.proofs.lemmas.List.{append_assoc}
 use Rattle.dt_expr.specs.Scene.{scene_of}
-use Rattle.dt_lang.specs.Program.{form_of_argument}
+use Rattle.dt_program.specs.Clause.{form_of_argument}
 use Rattle.dt_record.specs.Taking.{argument_value}
 use Rattle.dt_record.proofs.Loops.{on_err, each-turn, each-stop}
 use Rattle.dt_record.proofs.values.put_keys.Goals as goal

@@ -3,7 +3,7 @@ use Rattle.std.proofs.Common.{◌≡◌, ◌+◌, ◌++◌, List, Some, take, ma
 use Rattle.arrayvec.specs.ArrayVec.{array_vec_len}
 use Rattle.dt_expr.specs.Scene.{scene_of}
 use Rattle.dt_expr.specs.declared.text.Value.{Value as ShownValue}
-use Rattle.dt_lang.specs.Program.{form_of_argument}
+use Rattle.dt_program.specs.Clause.{form_of_argument}
 use Rattle.dt_record.specs.Taking as spec
 use Rattle.dt_record.specs.Taking.{each}
 use Rattle.dt_record.proofs.values.put_keys.Given as goal

@@ -2,7 +2,7 @@
 use Rattle.std.proofs.Common.{◌≡◌, ◌≤◌, ◌+◌, ◌*◌, length, map, take}
 use Rattle.dt_ecb.specs.Forms.{shapes_of}
 use Rattle.dt_lang.specs.Program.{form_of_statement}
-use Rattle.dt_lang.specs.declared.program.TheConstants.{KEYS_MAX}
+use Rattle.dt_program.specs.declared.clause.TheConstants.{KEYS_MAX}
 use Rattle.dt_alone.specs.Happened.{given_as}
 use Rattle.dt_consumer.specs.Uses.{split_by, uses_by}
 use Rattle.dt_consumer.proofs.Giving.{span}

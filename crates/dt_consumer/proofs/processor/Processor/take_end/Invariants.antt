@@ -4,7 +4,7 @@ use Rattle.std.specs.List.{All}
 use Rattle.dt_aggstore.specs.History as stores
 use Rattle.dt_aggstore.specs.IsAt.{IsAt, added_of}
 use Rattle.dt_ecb.specs.Shapes.{ShapeForm}
-use Rattle.dt_lang.specs.declared.program.TheConstants.{STATEMENTS_MAX}
+use Rattle.dt_program.specs.declared.clause.TheConstants.{STATEMENTS_MAX}
 use Rattle.dt_consumer.specs.Aggregations.{contributions}
 use Rattle.dt_consumer.specs.Uses.{AreUses, given_then}
 use Rattle.dt_buffer.specs.History.{BufferPast}

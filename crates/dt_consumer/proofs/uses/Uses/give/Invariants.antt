@@ -2,7 +2,7 @@
 use Rattle.std.proofs.Common.{◌≡◌, ◌≤◌, ◌+◌, ◌*◌, map, take}
 use Rattle.dt_aggstore.specs.History.{Past}
 use Rattle.dt_aggstore.specs.IsAt.{IsAt, added_of}
-use Rattle.dt_lang.specs.declared.program.TheConstants.{KEYS_MAX}
+use Rattle.dt_program.specs.declared.clause.TheConstants.{KEYS_MAX}
 use Rattle.dt_consumer.specs.Uses.{form_of_use, given_then, split_by}
 use Rattle.dt_consumer.proofs.Giving.{span}
 use Rattle.dt_consumer.proofs.uses.Uses.give.Given as goal

@@ -4,9 +4,9 @@ use Rattle.std.proofs.lemmas.List.{append-nil, append_assoc, length-append, leng
 use Rattle.std.specs.Option.{option_map, option_and_then}
 use Rattle.dt_expr.specs.Scene.{SceneForm, scene_of}
 use Rattle.dt_expr.specs.declared.text.Value.{Value}
-use Rattle.dt_lang.specs.Program.{form_of_argument, form_of_call, form_of_statement}
-use Rattle.dt_lang.specs.declared.program.Argument.{Argument}
-use Rattle.dt_lang.specs.declared.program.Statement.{Statement}
+use Rattle.dt_program.specs.Clause.{form_of_argument, form_of_call, form_of_statement}
+use Rattle.dt_program.specs.declared.clause.Argument.{Argument}
+use Rattle.dt_program.specs.declared.clause.Statement.{Statement}
 use Rattle.dt_record.specs.Left.{bytes_of}
 use Rattle.dt_record.specs.Taking.{records, gives, exits, frames_bytes, value_bytes, effect, each, argument_value}
 use Rattle.dt_record.specs.Taking as spec

@@ -1,7 +1,7 @@
 -- What the proof of `Taken::take_statements` is told at its goals.
 use Rattle.std.proofs.Common.{◌++◌, ◌∷◌, [], map, arith}
 use Rattle.dt_expr.specs.Scene.{scene_of}
-use Rattle.dt_lang.specs.Program.{form_of_statement}
+use Rattle.dt_program.specs.Clause.{form_of_statement}
 use Rattle.dt_record.specs.Taking.{effect}
 use Rattle.dt_record.proofs.LeftMore.{left-more, match_err}
 use Rattle.dt_record.proofs.Loops.{each-turn, each-stop}

@@ -2,8 +2,8 @@
 use Rattle.std.proofs.Common.{◌≡◌, ◌+◌, ◌*◌, ◌≤◌, List, Some, take, map}
 use Rattle.arrayvec.specs.ArrayVec.{array_vec_len}
 use Rattle.dt_expr.specs.Scene.{scene_of}
-use Rattle.dt_lang.specs.Program.{form_of_statement}
-use Rattle.dt_lang.specs.declared.program.TheConstants.{KEYS_MAX}
+use Rattle.dt_program.specs.Clause.{form_of_statement}
+use Rattle.dt_program.specs.declared.clause.TheConstants.{KEYS_MAX}
 use Rattle.dt_cred.specs.declared.firing.TheConstants.{FRAMES}
 use Rattle.dt_record.specs.Forms.{form_of_taken}
 use Rattle.dt_record.specs.Left.{record_len}

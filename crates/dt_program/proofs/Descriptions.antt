@@ -8,7 +8,7 @@ use Rattle.dt_glob.specs.Fault.{FaultOf}
 use Rattle.dt_glob.specs.declared.fault.GlobFault.{GlobFault}
 use Rattle.dt_glob.specs.PatternItem.{PatternItem}
 use Rattle.dt_glob.specs.Spells.{Spells}
-use Rattle.dt_lang.specs.Description.{DescForm, DescribesPatterns, ReadsDescription}
+use Rattle.dt_program.specs.Description.{DescForm, DescribesPatterns, ReadsDescription}
 
 -- each part is short enough for a pattern
 abbrev pub AllShort : List (List ℕ) → Type 0

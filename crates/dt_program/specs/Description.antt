@@ -3,7 +3,7 @@ use Rattle.std.specs.Prelude.{ℕ, List, Option, Some, None}
 use Rattle.dt_names.specs.Desc.{Desc, Describes}
 use Rattle.dt_glob.specs.PatternItem.{PatternItem}
 use Rattle.dt_glob.specs.Spells.{Spells}
-use Rattle.dt_lang.specs.declared.description.Description.{Description}
+use Rattle.dt_program.specs.declared.description.Description.{Description}
 
 -- the items of the patterns of four fields; an empty field has none, and asks for nothing
 pub record DescForm : Type 0 where

@@ -8,8 +8,8 @@ use Rattle.dt_glob.specs.Fault.{FaultOf}
 use Rattle.dt_glob.specs.PatternItem.{PatternItem}
 use Rattle.dt_glob.specs.Spells.{Spells}
 use Rattle.dt_glob.specs.declared.fault.GlobFault.{GlobFault}
-use Rattle.dt_lang.specs.Description.{DescForm, ReadsDescription}
-use Rattle.dt_lang.proofs.Descriptions.{some_described}
+use Rattle.dt_program.specs.Description.{DescForm, ReadsDescription}
+use Rattle.dt_program.proofs.Descriptions.{some_described}
 
 never_both : (text : List ℕ) (items : List PatternItem) (fault : GlobFault) → Spells text items
     → FaultOf text fault → ⊥

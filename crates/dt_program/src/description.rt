@@ -2,7 +2,7 @@
 ghost use Rattle.std.specs.Prelude.{◌≡◌, ℕ, ◌≤◌, List, Option, length, IfSome, IfNone};
 ghost use Rattle.dt_glob.specs.PatternItem.{PatternItem};
 ghost use Rattle.dt_glob.specs.Spells.{Spells};
-ghost use Rattle.dt_lang.specs.Description.{DescForm, form_of_description, DescribesPatterns, ReadsDescription};
+ghost use Rattle.dt_program.specs.Description.{DescForm, form_of_description, DescribesPatterns, ReadsDescription};
 
 use dt_glob::{PATTERN_MAX, Pattern};
 use dt_names::ProbeDesc;

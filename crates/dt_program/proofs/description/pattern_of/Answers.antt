@@ -1,5 +1,5 @@
 -- What is to be shown of `pattern_of`.
-use Rattle.dt_lang.proofs.description.pattern_of.Goals as goal
+use Rattle.dt_program.proofs.description.pattern_of.Goals as goal
 
 pub returns-in-Err-clause-none : goal.returns-in-Err-clause-none
 returns-in-Err-clause-none c =

@@ -1,6 +1,6 @@
 -- The bounds of an `lquantize`. Guide, Aggregations.
 use Rattle.std.specs.Prelude.{◌≡◌, ℤ, pos, ◌-ℤ◌, int_lt, int_le, int_div, int_rem, IsTrue}
-use Rattle.dt_lang.specs.declared.program.TheConstants.{LEVELS_MAX}
+use Rattle.dt_program.specs.declared.clause.TheConstants.{LEVELS_MAX}
 
 -- From `lower` to below `upper` lie some levels, each `step` wide, which leave nothing over, and not too many.
 pub record AreBounds (lower upper step : ℤ) : Type 0 where

@@ -3,8 +3,8 @@ use Rattle.std.proofs.Common.{◌≡◌, ◌<◌, ◌^◌, ℤ, pos, ◌-ℤ◌,
 use Rattle.std.proofs.lemmas.Int.{ints}
 use Rattle.std.specs.Int.Signed.{mag}
 use mir.Syntax.{w128}
-use Rattle.dt_lang.proofs.LevelLemmas.{no_rest, same_quotient, not_above}
-use Rattle.dt_lang.proofs.program.Bounds.new.Goals as goal
+use Rattle.dt_program.proofs.LevelLemmas.{no_rest, same_quotient, not_above}
+use Rattle.dt_program.proofs.clause.Bounds.new.Goals as goal
 
 pub invariant_of-result : goal.invariant_of-result
 invariant_of-result c =

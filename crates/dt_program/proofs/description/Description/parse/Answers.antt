@@ -1,7 +1,7 @@
 -- What is to be shown of `parse`.
 use Rattle.dt_names.specs.Desc.{desc_of}
-use Rattle.dt_lang.proofs.Descriptions.{short_description, provider_of, module_of, function_of, name_of}
-use Rattle.dt_lang.proofs.description.Description.parse.Goals as goal
+use Rattle.dt_program.proofs.Descriptions.{short_description, provider_of, module_of, function_of, name_of}
+use Rattle.dt_program.proofs.description.Description.parse.Goals as goal
 
 pub returns-in_err-provider-clause-none : goal.returns-in_err-provider-clause-none
 returns-in_err-provider-clause-none c =

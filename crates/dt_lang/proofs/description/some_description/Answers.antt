@@ -1,6 +1,0 @@
--- Each text is read as a description or as none.
-use Rattle.dt_lang.proofs.SomeDescription as readings
-use Rattle.dt_lang.proofs.description.some_description.Goals as goal
-
-pub returns : goal.returns
-returns c = readings.some_description

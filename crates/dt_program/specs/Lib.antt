@@ -1,0 +1,4 @@
+-- What clauses are, without where they lie in memory.
+pub mod Bounds
+pub mod Description
+pub mod Clause

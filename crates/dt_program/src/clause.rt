@@ -1,0 +1,139 @@
+//! What a program is made of: clauses with their descriptions, predicate and statements.
+ghost use Rattle.std.specs.Prelude.{◌≡◌, ◌≤◌, ℕ, IfNone, IfSome, pos, vec_len};
+ghost use Rattle.dt_program.specs.Bounds.{AreBounds};
+ghost use Rattle.dt_program.specs.declared.clause.TheConstants.{DESCRIPTIONS_MAX, STATEMENTS_MAX, KEYS_MAX, FRAMES_MAX};
+
+use crate::description::Description;
+use dt_expr::{Expr, Text};
+use dt_names::ShortText;
+
+/// The most descriptions of a clause.
+pub const DESCRIPTIONS_MAX: usize = 16;
+
+/// The most statements of a clause.
+pub const STATEMENTS_MAX: usize = 8;
+
+/// The most keys of an aggregation.
+pub const KEYS_MAX: usize = 4;
+
+/// The most frames of a stack.
+pub const FRAMES_MAX: u8 = 8;
+
+/// The most levels of an `lquantize`.
+pub const LEVELS_MAX: u64 = 512;
+
+/// What a record or a key is given: a number or a text.
+#[derive(Drop)]
+pub enum Argument {
+    Number(Expr),
+    Text(Text),
+}
+
+/// How many frames of a stack are recorded: 1 to [`FRAMES_MAX`].
+#[derive(Clone, Copy, Debug, PartialEq, Eq)]
+pub struct Frames {
+    pub count: u8,
+    pub ghost some: { 1 ≤ count },
+    pub ghost few: { count ≤ FRAMES_MAX },
+}
+
+/// The levels of an `lquantize`: from `lower` to below `upper`, each `step` wide. There is one at least, and at most
+/// [`LEVELS_MAX`], and the last one ends at `upper`. (illumos Dynamic Tracing Guide, "Aggregations".)
+#[derive(Clone, Copy, Debug, PartialEq, Eq)]
+pub struct Bounds {
+    pub lower: i64,
+    pub upper: i64,
+    pub step: i64,
+    pub ghost right: { AreBounds lower upper step },
+}
+
+impl Bounds {
+    /// The levels with these bounds, where there are some and not too many.
+    pub fn new(lower: i64, upper: i64, step: i64) -> Option<Self>
+        ensures found { IfSome result (λ bounds. (bounds.lower ≡ lower) × (bounds.upper ≡ upper)
+            × (bounds.step ≡ step)) }
+        ensures none { IfNone result (AreBounds lower upper step → ⊥) }
+    {
+        // no level rises from the lower bound to the upper one
+        if lower >= upper || step <= 0 {
+            return None;
+        }
+        let width = i128::from(upper) - i128::from(lower);
+        let each = i128::from(step);
+        // the levels must end exactly at the upper bound
+        if width % each != 0 {
+            return None;
+        }
+        // each level is a word of every entry, so there may not be too many
+        if width / each > i128::from(LEVELS_MAX) {
+            return None;
+        }
+        Some(Bounds { lower, upper, step })
+    }
+}
+
+impl Frames {
+    /// So many frames, where a stack may have so many.
+    pub fn new(count: i64) -> Option<Self>
+        ensures found { IfSome result (λ frames. count ≡ pos frames.count) }
+        ensures none { IfNone result ((n : ℕ) → count ≡ pos n → 1 ≤ n → n ≤ FRAMES_MAX → ⊥) }
+    {
+        let count = u8::try_from(count).ok()?;
+        // a stack is recorded with one frame at least, and a firing has no more than eight
+        if count == 0 || count > FRAMES_MAX {
+            return None;
+        }
+        Some(Frames { count })
+    }
+}
+
+/// What an aggregation is given, and by which function it is kept.
+#[derive(Drop)]
+pub enum Call {
+    Count,
+    Sum(Expr),
+    Avg(Expr),
+    Min(Expr),
+    Max(Expr),
+    Quantize(Expr),
+    Lquantize(Expr, Bounds),
+}
+
+/// `@name[keys] = function(value)`. (illumos Dynamic Tracing Guide, "Aggregations".)
+#[derive(Drop)]
+pub struct Aggregation {
+    pub name: ShortText,
+    /// At most [`KEYS_MAX`].
+    pub keys: Vec<Argument>,
+    pub call: Call,
+    pub ghost few: { vec_len keys ≤ KEYS_MAX },
+}
+
+/// What a clause does when it is taken.
+#[derive(Drop)]
+pub enum Statement {
+    /// `trace(e)`: the record gets the value.
+    Trace(Argument),
+    /// `stack(n)`: the record gets the first frames of the kernel's stack.
+    Stack(Frames),
+    /// `ustack(n)`: the record gets the first frames of the process's stack.
+    Ustack(Frames),
+    /// `exit(e)`: tracing stops with this status.
+    Exit(Expr),
+    /// The value is given to an aggregation.
+    Aggregate(Aggregation),
+}
+
+/// What is to be done at the probes that some descriptions ask for, where the predicate, if there is one, isn't 0.
+/// (illumos Dynamic Tracing Guide, "Program Structure".)
+#[derive(Drop)]
+pub struct Clause {
+    /// One at least, and at most [`DESCRIPTIONS_MAX`].
+    pub descriptions: Vec<Description>,
+    pub predicate: Option<Expr>,
+    /// At most [`STATEMENTS_MAX`].
+    pub statements: Vec<Statement>,
+    pub ghost described: { 1 ≤ vec_len descriptions },
+    pub ghost few_descriptions: { vec_len descriptions ≤ DESCRIPTIONS_MAX },
+    pub ghost few: { vec_len statements ≤ STATEMENTS_MAX },
+}

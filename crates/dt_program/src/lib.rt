@@ -1,0 +1,15 @@
+//! What a program is made of: clauses, with their descriptions, expressions, statements and aggregations.
+//!
+//! A contract sees a clause as a `ClauseForm` (`specs/Clause.antt`), which is the same without where it lies in memory. The limits on
+//! how many there may be of a thing stand in the types. Bounds of levels and numbers of frames can't be made with values that the
+//! language refuses (`specs/Bounds.antt`), and a text is one description or none (`specs/Description.antt`).
+#![tactic(auto)]
+
+mod clause;
+mod description;
+
+pub use clause::{
+    Aggregation, Argument, Bounds, Call, Clause, DESCRIPTIONS_MAX, FRAMES_MAX, Frames, KEYS_MAX,
+    LEVELS_MAX, STATEMENTS_MAX, Statement,
+};
+pub use description::{Description, one_description, some_description};
