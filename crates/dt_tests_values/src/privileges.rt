@@ -1,6 +1,5 @@
 //! The table of privileges, row by row.
-use super::*;
-use crate::Privs;
+use dt_cred::{Account, Class, Mode, Privs, Probe, Process, admits, may_enable, permits};
 use dt_names::{Name, ProbeTuple, ShortText};
 use std::test::Fail;
 

@@ -55,10 +55,14 @@ fn digits_of(alloc: Global, bytes: &[u8]) -> Result<String, Fail> {
     Ok(digits)
 }
 
+fn parsed(alloc: Global, text: &str) -> Result<Program, Fail> {
+    Ok(Program::parse(alloc, text.as_bytes())?)
+}
+
 /// What the clause of a text leaves.
 fn told(alloc: Global, text: &str, scene: &Scene) -> Result<String, Fail> {
-    let program = Program::parse(alloc, text.as_bytes())?;
-    match taken(5, &program.clauses[0], scene) {
+    let program = parsed(alloc, text)?;
+    match taken(5, program.clauses.first().ok_or("no clause")?, scene) {
         Ok(Some(left)) => words_of(alloc, &left),
         Ok(None) => Ok(String::from_str(alloc, "passed")?),
         Err(_) => Ok(String::from_str(alloc, "fault")?),
@@ -67,8 +71,8 @@ fn told(alloc: Global, text: &str, scene: &Scene) -> Result<String, Fail> {
 
 /// What it leaves in place of what the clauses before it left.
 fn told_again(alloc: Global, text: &str, scene: &Scene, left: &mut Taken) -> Result<String, Fail> {
-    let program = Program::parse(alloc, text.as_bytes())?;
-    match left.take(5, &program.clauses[0], scene) {
+    let program = parsed(alloc, text)?;
+    match left.take(5, program.clauses.first().ok_or("no clause")?, scene) {
         Ok(true) => words_of(alloc, left),
         Ok(false) => Ok(String::from_str(alloc, "passed")?),
         Err(_) => Ok(String::from_str(alloc, "fault")?),
@@ -122,18 +126,30 @@ fn leaves_what_the_table_says(rt: HostRuntime) -> Result<(), Fail> {
     Ok(())
 }
 
+/// The EPID of each record of these bytes and how many values it has, or `none` where they are no records.
+fn records(alloc: Global, layout: Layout, bytes: &[u8]) -> Result<String, Fail> {
+    let Some(records) = split(alloc, &[layout], bytes)? else {
+        return Ok(String::from_str(alloc, "none")?);
+    };
+    let mut text = String::new(alloc);
+    for record in &records {
+        let one = format!(in alloc; " {}:{}", record.epid, record.values.len())?;
+        text.push_str(one.as_str())?;
+    }
+    Ok(text)
+}
+
 #[test]
 fn reads_records_back(rt: HostRuntime) -> Result<(), Fail> {
-    let program = Program::parse(rt.alloc(), b"read:entry{trace(arg0);trace(arg0 / arg1)}")?;
-    let layouts = [Layout::of(&program.clauses[0])];
+    let alloc = rt.alloc();
+    let program = parsed(alloc, "read:entry{trace(arg0);trace(arg0 / arg1)}")?;
     let bytes = [
         0, 0, 0, 1, 128, 0, 0, 0, 0, 0, 0, 0, 128, 0, 0, 0, 0, 0, 0, 0,
     ];
-    let records = split(rt.alloc(), &layouts, &bytes)?.ok_or("no records")?;
-    assert_eq!(rt; records.len(), 1);
-    assert_eq!(rt; records[0].epid, 1);
-    assert_eq!(rt; records[0].values.len(), 2);
-    assert!(rt; split(rt.alloc(), &layouts, &bytes[..19])?.is_none());
-    assert!(rt; split(rt.alloc(), &layouts, &[])?.is_some());
+    for (length, wanted) in [(20, " 1:2"), (19, "none"), (0, "")] {
+        let layout = Layout::of(program.clauses.first().ok_or("no clause")?);
+        let found = records(alloc, layout, bytes.get(..length).ok_or("too long")?)?;
+        assert!(rt; found.as_str() == wanted, "{length}");
+    }
     Ok(())
 }

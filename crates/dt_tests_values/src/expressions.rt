@@ -1,5 +1,5 @@
 //! Values of C and of DTrace: the expressions are written with each operator after its operands.
-use crate::{
+use dt_expr::{
     BinaryOp, Expr, NumberVariable, Scene, Text, TextOp, TextVariable, UnaryOp, Value, eval,
 };
 use dt_cred::{Mode, Probe, Process};
@@ -203,6 +203,11 @@ fn take_word(alloc: Global, stack: &mut Vec<Expr>, word: &str) -> Option<()> {
     stack.push(expr).ok()
 }
 
+/// The value of an expression, or nothing where it divides by zero.
+fn evaluated(expr: &Expr, scene: &Scene) -> Option<i64> {
+    eval(expr, scene).ok()
+}
+
 /// The value of an expression, or `fault` where it divides by zero; `None` where the words are no expression.
 fn value_of(alloc: Global, scene: &Scene, words: &str) -> Option<Option<i64>> {
     let mut stack = Vec::new(alloc);
@@ -210,7 +215,7 @@ fn value_of(alloc: Global, scene: &Scene, words: &str) -> Option<Option<i64>> {
         take_word(alloc, &mut stack, word)?;
     }
     match (stack.pop(), stack.is_empty()) {
-        (Some(expr), true) => Some(eval(&expr, scene).ok()),
+        (Some(expr), true) => Some(evaluated(&expr, scene)),
         _ => None,
     }
 }
@@ -229,7 +234,7 @@ fn text_of(word: &str) -> Option<Text> {
 
 fn compare_by(scene: &Scene, op: TextOp, left: &str, right: &str) -> Option<i64> {
     let expr = Expr::Compare(op, text_of(left)?, text_of(right)?);
-    eval(&expr, scene).ok()
+    evaluated(&expr, scene)
 }
 
 fn are_alike(scene: &Scene, left: &str, right: &str) -> Option<bool> {

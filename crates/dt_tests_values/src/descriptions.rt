@@ -1,5 +1,5 @@
 //! Descriptions and their faults, from the rules.
-use super::*;
+use dt_names::{NameFault, ProbeDesc};
 
 const NAME_63: &[u8] = b"aaaaaaaaaabbbbbbbbbbccccccccccddddddddddeeeeeeeeeeffffffffff.63";
 
@@ -18,16 +18,24 @@ fn aligns_descriptions_from_the_right(rt: HostRuntime) {
         (NAME_63, [b"", b"", b"", NAME_63]),
     ];
     for (text, want) in rows {
-        match ProbeDesc::parse(text) {
+        match parsed(text) {
             Err(fault) => panic!(rt; "{text:?} is refused: {fault}"),
             Ok(desc) => {
-                assert_eq!(rt; desc.provider, want[0], "the provider of {text:?}");
-                assert_eq!(rt; desc.module, want[1], "the module of {text:?}");
-                assert_eq!(rt; desc.function, want[2], "the function of {text:?}");
-                assert_eq!(rt; desc.name, want[3], "the name of {text:?}");
+                assert!(rt; desc.provider == want[0], "the provider of {text:?}");
+                assert!(rt; desc.module == want[1], "the module of {text:?}");
+                assert!(rt; desc.function == want[2], "the function of {text:?}");
+                assert!(rt; desc.name == want[3], "the name of {text:?}");
             }
         }
     }
+}
+
+fn parsed(text: &[u8]) -> Result<ProbeDesc<'_>, NameFault> {
+    ProbeDesc::parse(text)
+}
+
+fn fault(text: &[u8]) -> Option<NameFault> {
+    parsed(text).err()
 }
 
 #[test]
@@ -44,10 +52,7 @@ fn refuses_by_the_first_byte_that_shows_a_fault(rt: HostRuntime) {
         (NAME_64, NameFault::TooLong),
     ];
     for (text, want) in rows {
-        match ProbeDesc::parse(text) {
-            Ok(_) => panic!(rt; "{text:?} is read"),
-            Err(fault) => assert_eq!(rt; fault, want, "at {text:?}"),
-        }
+        assert!(rt; fault(text) == Some(want), "{text:?}");
     }
 }
 
@@ -61,10 +66,6 @@ fn tells_faults_of_the_64th_byte_apart(rt: HostRuntime) {
         (b':', None),
     ] {
         text[63] = byte;
-        assert_eq!(rt;
-            ProbeDesc::parse(&text).err(),
-            want,
-            "with byte {byte} at 63"
-        );
+        assert!(rt; fault(&text) == want, "with byte {byte} at 63");
     }
 }

@@ -1,6 +1,6 @@
 //! Stores, as a table of contributions and truncations with what is answered and what the table then shows.
 
-use super::*;
+use dt_aggstore::{ADDED_LIMIT, AGGSIZE_MAX, Aggregation, AggStore, KEYS_MAX, Key, KeyPart, Row};
 use arrayvec::ArrayVec;
 use dt_aggfn::{AggFn, Answer, Bounds};
 use std::alloc::{AllocError, Global};
@@ -56,17 +56,16 @@ fn stores_show_what_the_table_says(rt: HostRuntime) -> Result<(), Fail> {
 fn many_keys_come_in_order(rt: HostRuntime) -> Result<(), Fail> {
     let alloc = rt.alloc();
     let aggregation = aggregation_of("1:sum").ok_or("aggregation")?;
-    let mut stores = [AggStore::new(alloc, 2400)?, AggStore::new(alloc, 2400)?];
+    let mut stores = [store(alloc, 2400)?, store(alloc, 2400)?];
     for store in stores.iter_mut() {
         for n in 0..101_i64 {
             let number = n.wrapping_mul(37) % 101;
-            assert!(&rt; store.added() < ADDED_LIMIT);
-            let kept = store.add(aggregation, &number_key(number), number);
-            assert_eq!(&rt; kept, n < 100);
+            let kept = give(store, aggregation, &number_key(number), number);
+            assert!(rt; kept == Some(n < 100));
         }
     }
-    let rows = AggStore::merge_all(alloc, &stores, aggregation)?;
-    assert_eq!(&rt; rows.len(), 100);
+    let rows = rows(alloc, &stores, aggregation)?;
+    assert!(rt; rows.len() == 100);
     for (place, row) in rows.iter().enumerate() {
         // 64 came last, and was dropped.
         let number = if place < 64 {
@@ -75,7 +74,7 @@ fn many_keys_come_in_order(rt: HostRuntime) -> Result<(), Fail> {
             place.wrapping_add(1)
         };
         let expected = format!(in alloc; "{number}:{}", number.wrapping_mul(2))?;
-        assert_eq!(&rt; row_text(alloc, row)?, expected);
+        assert!(rt; row_text(alloc, row)? == expected);
     }
     Ok(())
 }
@@ -84,15 +83,14 @@ fn many_keys_come_in_order(rt: HostRuntime) -> Result<(), Fail> {
 fn shows(rt: &impl Abort, alloc: Global, line: &str) -> Result<(), Fail> {
     let mut words = line.split_whitespace();
     let size = words.next().unwrap_or("0").parse().unwrap_or(0);
-    assert!(rt; size <= AGGSIZE_MAX);
-    let mut stores = [AggStore::new(alloc, size)?, AggStore::new(alloc, size)?];
+    let mut stores = [store(alloc, size)?, store(alloc, size)?];
     let mut aggregation = aggregation_of("1:count").ok_or("aggregation")?;
     for word in words {
         if let Some(named) = word.strip_prefix('@') {
             aggregation = aggregation_of(named).ok_or("aggregation")?;
         } else if word.starts_with('[') {
-            let table = table_text(alloc, &AggStore::merge_all(alloc, &stores, aggregation)?)?;
-            assert_eq!(rt; table.as_str(), word, "{line}");
+            let table = table_text(alloc, &rows(alloc, &stores, aggregation)?)?;
+            assert!(rt; table.as_str() == word, "{word} in {line}");
         } else if let Some(step) = word.strip_prefix('0') {
             take(rt, alloc, &mut stores[0], aggregation, step)?;
         } else if let Some(step) = word.strip_prefix('1') {
@@ -100,6 +98,36 @@ fn shows(rt: &impl Abort, alloc: Global, line: &str) -> Result<(), Fail> {
         }
     }
     Ok(())
+}
+
+/// A store of this size.
+fn store(alloc: Global, size: usize) -> Result<AggStore, Fail> {
+    if size > AGGSIZE_MAX {
+        return Err("no store".into());
+    }
+    Ok(AggStore::new(alloc, size)?)
+}
+
+/// Gives a value, and tells whether it is kept.
+fn give(store: &mut AggStore, aggregation: Aggregation, key: &Key, value: i64) -> Option<bool> {
+    if store.added() >= ADDED_LIMIT {
+        return None;
+    }
+    Some(store.add(aggregation, key, value))
+}
+
+fn forget(store: &mut AggStore, aggregation: Aggregation) {
+    store.trunc(aggregation);
+}
+
+/// How many values were given, and how many of them were dropped.
+fn counts(store: &AggStore) -> (u64, u64) {
+    (store.added(), store.dropped())
+}
+
+/// The table of both stores.
+fn rows(alloc: Global, stores: &[AggStore; 2], aggregation: Aggregation) -> Result<Vec<Row>, Fail> {
+    Ok(AggStore::merge_all(alloc, stores, aggregation)?)
 }
 
 /// Does one step on a store, and compares what it answers.
@@ -111,35 +139,31 @@ fn take(
     step: &str,
 ) -> Result<(), Fail> {
     if step == "!" {
-        store.trunc(aggregation);
-        return Ok(());
+        forget(store, aggregation);
+    } else if let Some(count) = step.strip_prefix('#') {
+        assert!(rt; counts(store).0 == count.parse()?, "{step}");
+    } else if let Some(count) = step.strip_prefix('~') {
+        assert!(rt; counts(store).1 == count.parse()?, "{step}");
+    } else if let Some(shown) = step.strip_prefix('=') {
+        assert!(rt; index_text(alloc, store)?.as_str() == shown, "{step}");
+    } else {
+        let kept = adds(rt, store, aggregation, step)?;
+        assert!(rt; kept == Some(step.starts_with('+')), "{step}");
     }
-    if let Some(count) = step.strip_prefix('#') {
-        assert_eq!(rt; store.added(), count.parse().unwrap_or(0), "{step}");
-        return Ok(());
-    }
-    if let Some(count) = step.strip_prefix('~') {
-        assert_eq!(rt; store.dropped(), count.parse().unwrap_or(0), "{step}");
-        return Ok(());
-    }
-    if let Some(shown) = step.strip_prefix('=') {
-        assert_eq!(rt; index_text(alloc, store)?.as_str(), shown, "{step}");
-        return Ok(());
-    }
-    let (key, value) = step.split_once(':').ok_or("value")?;
-    let kept = key.starts_with('+');
-    let key = key
-        .strip_prefix('+')
-        .or(key.strip_prefix('-'))
-        .ok_or("key")?;
-    assert!(rt; store.added() < ADDED_LIMIT);
-    let value = value.parse().unwrap_or(0);
-    assert_eq!(rt;
-        store.add(aggregation, &key_of(rt, key), value),
-        kept,
-        "{step}"
-    );
     Ok(())
+}
+
+/// Gives the value of a step `+KEY:VALUE` or `-KEY:VALUE`.
+fn adds(
+    rt: &impl Abort,
+    store: &mut AggStore,
+    aggregation: Aggregation,
+    step: &str,
+) -> Result<Option<bool>, Fail> {
+    let (key, value) = step.split_once(':').ok_or("no value")?;
+    let key = key.strip_prefix(['+', '-']).ok_or("no key")?;
+    let value = value.parse::<i64>()?;
+    Ok(give(store, aggregation, &key_of(rt, key), value))
 }
 
 /// The aggregation that a word names.

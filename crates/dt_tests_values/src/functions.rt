@@ -1,8 +1,5 @@
 //! The functions, as a table of values with what their cell answers.
-ghost use Rattle.std.specs.Prelude.{◌≡◌, length};
-ghost use Rattle.dt_aggfn.specs.Cells.{cell_words};
-
-use super::*;
+use dt_aggfn::{AggFn, Answer, Bounds, CELL_WORDS_MAX};
 use std::alloc::{AllocError, Global};
 use std::process::Abort;
 use std::str::SplitWhitespace;
@@ -191,44 +188,54 @@ fn bounds_leave_some_levels_and_nothing_over(rt: HostRuntime) -> Result<(), Fail
     Ok(())
 }
 
+/// A cell, and what lies behind it.
+type Cell = [u64; CELL_WORDS_MAX];
+
 /// Makes the cell of the line's values one after the other, and each time again from two cells that are merged, and
 /// compares what they hold, and at last what is answered.
 fn answers(rt: &impl Abort, alloc: Global, line: &str) -> Result<(), Fail> {
     let (given, expected) = line.split_once(" = ").ok_or("no answer")?;
     let mut words = given.split_whitespace();
     let function = function_of(&mut words).ok_or("no function")?;
-    let size = function.cell_words();
     let mut all = [7_u64; CELL_WORDS_MAX];
     let mut odd = [7_u64; CELL_WORDS_MAX];
     let mut even = [7_u64; CELL_WORDS_MAX];
     for (index, word) in words.enumerate() {
         let value = number(word);
-        take(function, &mut all[..size], index == 0, value);
+        take(function, &mut all, index == 0, value);
         if index % 2 == 0 {
-            take(function, &mut odd[..size], index < 2, value);
+            take(function, &mut odd, index < 2, value);
         } else {
-            take(function, &mut even[..size], index < 2, value);
+            take(function, &mut even, index < 2, value);
         }
         if index > 0 {
-            let mut both = odd;
-            function.merge(&mut both[..size], &even[..size]);
-            assert!(rt; both[..size] == all[..size], "{line}");
+            assert!(rt; merged(function, odd, &even) == all, "{line}");
         }
     }
-    let answer = function.answer(alloc, &all[..size])?;
-    assert_eq!(rt; text_of(alloc, &answer)?.as_str(), expected, "{line}");
+    let answer = answer_of(alloc, function, &all)?;
+    assert!(rt; text_of(alloc, &answer)?.as_str() == expected, "{line}");
     Ok(())
 }
 
 /// Makes a cell that of its first value, or adds a value to it.
-fn take(function: AggFn, cell: &mut [u64], begins: bool, value: i64)
-    requires { length cell.old ≡ cell_words function }
-{
+fn take(function: AggFn, cell: &mut Cell, begins: bool, value: i64) {
+    let size = function.cell_words();
     if begins {
-        function.first(cell, value);
+        function.first(&mut cell[..size], value);
     } else {
-        function.add(cell, value);
+        function.add(&mut cell[..size], value);
     }
+}
+
+/// The first cell, into which the other is merged.
+fn merged(function: AggFn, mut cell: Cell, other: &Cell) -> Cell {
+    let size = function.cell_words();
+    function.merge(&mut cell[..size], &other[..size]);
+    cell
+}
+
+fn answer_of(alloc: Global, function: AggFn, cell: &Cell) -> Result<Answer, AllocError> {
+    function.answer(alloc, &cell[..function.cell_words()])
 }
 
 /// The function that words name; an `lquantize` has its bounds after its name.

@@ -159,8 +159,8 @@ fn statement(alloc: Global, text: &str) -> Result<Statement, Fail> {
 fn clause(alloc: Global, text: &str) -> Result<Clause, Fail> {
     let (head, body) = text.split_once(' ').unwrap_or((text, ""));
     let mut descriptions = Vec::new(alloc);
-    for description in head.split(',') {
-        descriptions.push(Description::parse(description.as_bytes()).ok_or("no description")?)?;
+    for word in head.split(',') {
+        descriptions.push(description(word).ok_or("no description")?)?;
     }
     let mut statements = Vec::new(alloc);
     for word in body.split(';') {
@@ -181,15 +181,19 @@ fn clause(alloc: Global, text: &str) -> Result<Clause, Fail> {
     })
 }
 
+fn parsed(alloc: Global, text: &str) -> Result<Program, Fail> {
+    Ok(Program::parse(alloc, text.as_bytes())?)
+}
+
+fn description(text: &str) -> Option<Description> {
+    Description::parse(text.as_bytes())
+}
+
 /// A program: clauses with ` / ` between them, or a number of times the same with ` x ` after the number, where `#` is
 /// how many times went before; or its text after `text`.
 fn program(alloc: Global, text: &str) -> Result<Program, Fail> {
     if let Some(text) = text.strip_prefix("text ") {
-        return Ok(
-            Program::parse(alloc, text.as_bytes())
-                .ok()
-                .ok_or("no program")?,
-        );
+        return parsed(alloc, text);
     }
     let (times, text) = text.split_once(" x ").unwrap_or(("1", text));
     let times = times.parse::<u32>().ok().ok_or("no number")?;
@@ -226,13 +230,24 @@ fn spelled(alloc: Global, ecbs: &[Ecb]) -> Result<String, Fail> {
 fn answered(alloc: Global, machine: &Machine, shapes: &Shapes, row: &str) -> Result<String, Fail> {
     let (name, rest) = row.split_once(' ').ok_or("no account")?;
     let (epid, text) = rest.split_once(' ').ok_or("no EPID")?;
+    let program = program(alloc, text)?;
+    enabled(alloc, machine, shapes, name, epid.parse::<u32>()?, &program)
+}
+
+/// The ECBs that a program adds for an account and its next EPID, or the refusal.
+fn enabled(
+    alloc: Global,
+    machine: &Machine,
+    shapes: &Shapes,
+    name: &str,
+    epid: u32,
+    program: &Program,
+) -> Result<String, Fail> {
     let account = machine.account(name.as_bytes()).ok_or("no account")?;
-    let epid = epid.parse::<u32>().ok().ok_or("no EPID")?;
     if epid < 1 || epid > 1025 {
         return Err("no EPID".into());
     }
-    let program = program(alloc, text)?;
-    match enable(alloc, account, machine, &program, shapes, epid) {
+    match enable(alloc, account, machine, program, shapes, epid) {
         Ok(ecbs) => spelled(alloc, &ecbs),
         Err(fault) => refusal(alloc, &fault),
     }
@@ -257,13 +272,41 @@ fn refusal(alloc: Global, fault: &EnableFault) -> Result<String, Fail> {
 /// The identifiers of the probes that are listed.
 fn listing(alloc: Global, machine: &Machine, row: &str) -> Result<String, Fail> {
     let (name, text) = row.split_once(' ').unwrap_or((row, ""));
-    let account = machine.account(name.as_bytes()).ok_or("no account")?;
-    let description = Description::parse(text.as_bytes()).ok_or("no description")?;
     let mut told = String::new(alloc);
-    for probe in &listed(alloc, account, machine, &description)? {
-        told.push_str(format!(in alloc; " {}", probe.id)?.as_str())?;
+    for id in &shown(alloc, machine, name, text)? {
+        told.push_str(format!(in alloc; " {id}")?.as_str())?;
     }
     Ok(told)
+}
+
+fn shown(alloc: Global, machine: &Machine, name: &str, text: &str) -> Result<Vec<u32>, Fail> {
+    let account = machine.account(name.as_bytes()).ok_or("no account")?;
+    let description = description(text).ok_or("no description")?;
+    let mut ids = Vec::new(alloc);
+    for probe in &listed(alloc, account, machine, &description)? {
+        ids.push(probe.id)?;
+    }
+    Ok(ids)
+}
+
+/// What a program uses, beside what is accepted.
+fn accepted(alloc: Global, shapes: &Shapes, text: &str) -> Result<Shapes, Fail> {
+    Ok(shapes.after(alloc, &program(alloc, text)?)?)
+}
+
+fn machine(alloc: Global) -> Result<Machine, Fail> {
+    Ok(Machine::read(alloc, MACHINE.as_bytes())?)
+}
+
+/// What a row but `given` and `forget` is answered.
+fn told(alloc: Global, machine: &Machine, shapes: &Shapes, asked: &str) -> Result<String, Fail> {
+    if let Some(rest) = asked.strip_prefix("list ") {
+        listing(alloc, machine, rest)
+    } else if let Some(name) = asked.strip_prefix("named ") {
+        numbered(alloc, shapes, name)
+    } else {
+        answered(alloc, machine, shapes, asked)
+    }
 }
 
 /// The number of a name, the name and its function, or nothing.
@@ -278,24 +321,16 @@ fn numbered(alloc: Global, shapes: &Shapes, name: &str) -> Result<String, Fail> 
 #[test]
 fn worked_rows(rt: HostRuntime) -> Result<(), Fail> {
     let alloc = rt.alloc();
-    let machine = Machine::read(alloc, MACHINE.as_bytes())
-        .ok()
-        .ok_or("no machine")?;
+    let machine = machine(alloc)?;
     let mut shapes = Shapes::new(alloc);
     for row in ROWS.lines() {
         if let Some(text) = row.strip_prefix("given ") {
-            shapes = shapes.after(alloc, &program(alloc, text)?)?;
+            shapes = accepted(alloc, &shapes, text)?;
         } else if row == "forget" {
             shapes = Shapes::new(alloc);
         } else if let Some((asked, want)) = row.split_once(" =") {
-            let told = if let Some(rest) = asked.strip_prefix("list ") {
-                listing(alloc, &machine, rest)?
-            } else if let Some(name) = asked.strip_prefix("named ") {
-                numbered(alloc, &shapes, name)?
-            } else {
-                answered(alloc, &machine, &shapes, asked)?
-            };
-            assert_eq!(rt; told.as_str(), want, "{asked}");
+            let told = told(alloc, &machine, &shapes, asked)?;
+            assert!(rt; told.as_str() == want, "{asked} is answered {told}");
         }
     }
     Ok(())

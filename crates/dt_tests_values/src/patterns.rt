@@ -1,6 +1,6 @@
 //! Patterns against texts, and the faults of texts that are no pattern.
 
-use super::*;
+use dt_glob::{GlobFault, PATTERN_MAX, Pattern};
 use std::test::Fail;
 
 /// In each line a pattern, texts that it matches, and behind `not` texts that it doesn't; `()` is the empty text.
@@ -65,18 +65,16 @@ const FAULTS: [(&[u8], GlobFault); 18] = [
 fn matches_whole_texts(rt: HostRuntime) -> Result<(), Fail> {
     for line in TABLE.lines() {
         let mut words = line.split_whitespace();
-        let Some(first) = words.next() else {
+        let Some(pattern) = words.next() else {
             continue;
         };
-        let first = text_of(first);
-        assert!(rt; first.len() <= 63);
-        let pattern = Pattern::parse(first)?;
         let mut matched = true;
         for word in words {
             if word == "not" {
                 matched = false;
             } else {
-                assert_eq!(rt; pattern.matches(text_of(word)), matched, "{word} in {line}");
+                let found = matches(text_of(pattern), text_of(word))?;
+                assert!(rt; found == matched, "{word} in {line}");
             }
         }
     }
@@ -88,22 +86,47 @@ fn text_of(word: &str) -> &[u8] {
     if word == "()" { b"" } else { word.as_bytes() }
 }
 
+/// The pattern of a text.
+fn pattern(text: &[u8]) -> Result<Pattern, Fail> {
+    if text.len() > PATTERN_MAX {
+        return Err("too long".into());
+    }
+    Ok(Pattern::parse(text)?)
+}
+
+fn matches(text: &[u8], whole: &[u8]) -> Result<bool, Fail> {
+    Ok(pattern(text)?.matches(whole))
+}
+
+/// The fault of a text that is no pattern.
+fn fault(text: &[u8]) -> Option<GlobFault> {
+    if text.len() > PATTERN_MAX {
+        return None;
+    }
+    Pattern::parse(text).err()
+}
+
 #[test]
 fn tells_the_first_fault(rt: HostRuntime) {
-    for (text, fault) in FAULTS {
-        assert!(rt; text.len() <= 63);
-        assert_eq!(rt; Pattern::parse(text).err(), Some(fault), "{text:?}");
+    for (text, wanted) in FAULTS {
+        assert!(rt; fault(text) == Some(wanted), "{text:?}");
     }
 }
 
 #[test]
 fn many_stars_are_quick(rt: HostRuntime) -> Result<(), Fail> {
-    let stars = Pattern::parse(&[b'*'; 31])?;
-    assert!(rt; stars.matches(&[b'a'; 31]));
-    assert!(rt; !stars.is_empty());
-    let apart = Pattern::parse(b"*a*a*a*a*a*a*a*a*a*a*a*a*a*a*a*a*a*a*a*a*a*a*a*a*a*a*a*a*a*a*b")?;
-    assert!(rt; !apart.matches(&[b'a'; 63]));
-    assert!(rt; Pattern::parse(b"")?.is_empty());
-    assert_eq!(rt; Pattern::parse(b"[a]")?.as_bytes(), b"[a]".as_slice());
+    assert!(rt; matches(&[b'*'; 31], &[b'a'; 31])?);
+    let apart = b"*a*a*a*a*a*a*a*a*a*a*a*a*a*a*a*a*a*a*a*a*a*a*a*a*a*a*a*a*a*a*b";
+    assert!(rt; !matches(apart, &[b'a'; 63])?);
+    Ok(())
+}
+
+#[test]
+fn patterns_are_their_texts(rt: HostRuntime) -> Result<(), Fail> {
+    for (text, is_empty) in [(b"".as_slice(), true), (b"[a]", false), (b"***", false)] {
+        let pattern = pattern(text)?;
+        assert!(rt; pattern.is_empty() == is_empty);
+        assert!(rt; pattern.as_bytes() == text);
+    }
     Ok(())
 }

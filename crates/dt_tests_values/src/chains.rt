@@ -1,5 +1,6 @@
 //! Publications, withdrawals and looks, as a table of them with what is named.
-use super::*;
+use dt_chain::{Entries, SEATS, Seat, SeatMask};
+use dt_cred::Account;
 use dt_machine::{Firing, Interest, Machine, PROBE_ID_MAX};
 use std::alloc::Global;
 use std::process::Abort;
@@ -63,36 +64,54 @@ fn plays(rt: &impl Abort, alloc: Global, machine: &Machine, line: &str) -> Resul
                     .account(words.next().ok_or("no account")?.as_bytes())
                     .ok_or("no account")?;
                 let interest = interest_of(words.next().ok_or("no probes")?)?;
-                entries.publish(seat_of(first)?, life, account, &interest)?;
+                published(&mut entries, seat_of(first)?, life, account, &interest)?;
             }
-            "-" => entries.withdraw(seat_of(first)?),
+            "-" => withdrawn(&mut entries, seat_of(first)?),
             _ => {
                 let firing = firing_of(machine, first)?;
-                let named = named(rt, alloc, entries.look(machine, &firing))?;
-                assert_eq!(rt;
-                    named.as_str(),
-                    words.next().ok_or("no seats")?,
-                    "{first} in {line}"
-                );
+                let named = named(rt, alloc, looked(&entries, machine, &firing))?;
+                assert!(rt; Some(named.as_str()) == words.next(), "{first} in {line}");
             }
         }
     }
     Ok(())
 }
 
+fn published(
+    entries: &mut Entries,
+    seat: Seat,
+    life: u64,
+    account: &Account,
+    interest: &Interest,
+) -> Result<(), Fail> {
+    Ok(entries.publish(seat, life, account, interest)?)
+}
+
+fn withdrawn(entries: &mut Entries, seat: Seat) {
+    entries.withdraw(seat);
+}
+
+fn looked(entries: &Entries, machine: &Machine, firing: &Firing) -> SeatMask {
+    entries.look(machine, firing)
+}
+
+/// The first seat that a mask names, and its life; it is removed.
+fn taken(rt: &impl Abort, mask: &mut SeatMask) -> Option<(u32, u64)> {
+    let (seat, life) = mask.first()?;
+    assert!(rt; !mask.is_empty() && mask.life_of(seat) == Some(life));
+    mask.remove(seat);
+    assert!(rt; mask.life_of(seat).is_none());
+    Some((seat.number(), life))
+}
+
 /// The seats that a mask names, each with its life.
 fn named(rt: &impl Abort, alloc: Global, mut mask: SeatMask) -> Result<String, Fail> {
     let mut text = String::new(alloc);
     for _ in 0..SEATS {
-        let Some((seat, life)) = mask.first() else {
-            break;
-        };
-        assert!(rt; !mask.is_empty());
-        assert_eq!(rt; mask.life_of(seat), Some(life));
-        mask.remove(seat);
-        assert_eq!(rt; mask.life_of(seat), None);
-        let comma = if text.is_empty() { "" } else { "," };
-        text.push_str(format!(in alloc; "{comma}{}:{life}", seat.number())?.as_str())?;
+        if let Some((seat, life)) = taken(rt, &mut mask) {
+            let comma = if text.is_empty() { "" } else { "," };
+            text.push_str(format!(in alloc; "{comma}{seat}:{life}")?.as_str())?;
+        }
     }
     assert!(rt; mask.is_empty());
     if text.is_empty() {

@@ -278,10 +278,14 @@ pid == 1 -> 0
 1 % 2 -> 1
 ";
 
+fn parsed(alloc: Global, text: &[u8]) -> Result<Program, LangFault> {
+    Program::parse(alloc, text)
+}
+
 /// Whether a text is read as the words say.
 fn is_read_so(alloc: Global, text: &[u8], told: &str) -> bool {
     let (word, place) = told.split_once(' ').unwrap_or((told, "0"));
-    match Program::parse(alloc, text) {
+    match parsed(alloc, text) {
         Ok(_) => word == "read",
         Err(LangFault::Program { at, why }) => word == why.word()
             && place.parse::<usize>() == Ok(at),
@@ -355,7 +359,7 @@ fn value_of(expr: &Expr, scene: &Scene) -> Outcome {
 
 /// What the predicate of a text's first clause comes to, or where there is none what its first statement traces.
 fn outcome_of(alloc: Global, scene: &Scene, text: &str) -> Option<Outcome> {
-    let program = match Program::parse(alloc, text.as_bytes()) {
+    let program = match parsed(alloc, text.as_bytes()) {
         Ok(program) => program,
         Err(LangFault::Program { at, .. }) => return Some(Outcome::Refused(at)),
         Err(_) => return None,
