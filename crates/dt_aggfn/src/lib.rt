@@ -13,8 +13,6 @@ mod laws;
 mod levels;
 mod limits;
 mod powers;
-#[cfg(test)]
-mod tests;
 mod words;
 
 pub use answer::{Answer, CountedRow};

@@ -18,8 +18,6 @@ mod laws;
 mod limits;
 mod store;
 mod table;
-#[cfg(test)]
-mod tests;
 
 pub use held::Held;
 pub use key::{Aggregation, Key, KeyPart};

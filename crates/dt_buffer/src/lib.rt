@@ -15,8 +15,6 @@ mod policy;
 mod principal;
 mod ring;
 mod switch;
-#[cfg(test)]
-mod tests;
 
 pub use laws::{one_beginning, one_choice, one_end, one_shown, some_shown};
 pub use limits::{DROPS_LIMIT, SIZE_MAX};

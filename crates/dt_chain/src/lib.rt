@@ -13,8 +13,6 @@ mod lists;
 mod seat;
 mod seat_mask;
 mod seat_set;
-#[cfg(test)]
-mod tests;
 
 pub use entries::Entries;
 pub use laws::one_look;

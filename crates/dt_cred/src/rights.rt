@@ -85,6 +85,3 @@ pub fn tests_agree()
     ensures admits { (account : Account) (class : Class) (mode : Mode) (process : Process)
         → IsTrue (spec.admits account class mode process) ↔ Admits account class mode process }
 {}
-
-#[cfg(test)]
-mod tests;

@@ -21,5 +21,3 @@ pub use operators::{BinaryOp, TextOp, UnaryOp};
 pub use scene::{NumberVariable, Scene, TextVariable};
 pub use text::{Text, Value};
 
-#[cfg(test)]
-mod tests;

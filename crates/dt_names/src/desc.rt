@@ -115,6 +115,3 @@ pub fn one_answer()
     ensures one_fault { (text : List ℕ) (a b : NameFault) → IsFirstFault text a → IsFirstFault text b → a ≡ b }
     ensures never_both { (text : List ℕ) (a : Desc) (b : NameFault) → Describes text a → IsFirstFault text b → ⊥ }
 {}
-
-#[cfg(test)]
-mod tests;

@@ -100,29 +100,3 @@ impl fmt::Debug for Name {
         f.write_str(self.as_str())
     }
 }
-
-#[cfg(test)]
-mod tests {
-    use super::*;
-
-    #[test]
-    fn knows_names(rt: HostRuntime) -> Result<(), std::test::Fail> {
-        let rows: [(&[u8], bool); 6] = [
-            (b"", true),
-            (b"abcdefghijklmnopqrstuvwxyz01234", true),
-            (b"abcdefghijklmnopqrstuvwxyz012345", false),
-            (b"a.b-c_d*!~", true),
-            (b"a b", false),
-            (b"a:b", false),
-        ];
-        for (bytes, is_name) in rows {
-            assert_eq!(rt; Name::new(bytes).is_some(), is_name, "{bytes:?}");
-        }
-        let name = Name::new(b"ann").ok_or("no name")?;
-        assert_eq!(rt; name.as_bytes(), b"ann".as_slice());
-        assert_eq!(rt; &name.padded()[..4], b"ann\0".as_slice());
-        assert_eq!(rt; name.padded()[31], 0);
-        assert!(rt; !name.is_empty());
-        Ok(())
-    }
-}

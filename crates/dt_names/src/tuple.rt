@@ -67,36 +67,3 @@ impl fmt::Debug for ProbeTuple {
         write!(f, "{self}")
     }
 }
-
-#[cfg(test)]
-mod tests {
-    use super::*;
-
-    #[test]
-    fn reads_probes_and_nothing_else(rt: HostRuntime) {
-        let rows: [(&[u8], bool); 9] = [
-            (b"syscall::read:entry", true),
-            (b"dtrace:::BEGIN", true),
-            (b"fbt:genunix:kmem_alloc:entry", true),
-            (b"a:b:c:abcdefghijklmnopqrstuvwxyz01234", true),
-            (b"a:b:c:abcdefghijklmnopqrstuvwxyz012345", false),
-            (b"read:entry", false),
-            (b":m:f:n", false),
-            (b"p:m:f:", false),
-            (b"p:m:f:n:o", false),
-        ];
-        for (text, is_probe) in rows {
-            assert_eq!(rt; ProbeTuple::parse(text).is_some(), is_probe, "{text:?}");
-        }
-    }
-
-    #[test]
-    fn prints_as_it_was_read(rt: HostRuntime) -> Result<(), std::test::Fail> {
-        for text in ["syscall::read:entry", "dtrace:::END"] {
-            let tuple = ProbeTuple::parse(text.as_bytes()).ok_or("no probe")?;
-            let printed = tuple.to_string(rt.alloc())?;
-            assert_eq!(rt; printed.as_str(), text);
-        }
-        Ok(())
-    }
-}

@@ -1,4 +1,4 @@
-//! Tests of the crates up to `dt_proto`, by their public calls alone.
+//! Tests of `dt_consumer` and `dt_proto`, by their public calls alone.
 //!
 //! A crate with tests is proved twice, once for its library and once for its tests. So those that need no private part of a
 //! crate stand here. The crate has no function of its own.
@@ -9,12 +9,4 @@ mod commands;
 #[cfg(test)]
 mod consumers;
 #[cfg(test)]
-mod enablings;
-#[cfg(test)]
 mod lines;
-#[cfg(test)]
-mod machines;
-#[cfg(test)]
-mod programs;
-#[cfg(test)]
-mod records;

@@ -1,5 +1,5 @@
 //! Inputs with their lines, cut at each place, and lines about the limit.
-use dt_proto::{Asked, Fed, LINE_MAX, Lines, WholeLine, asked_in, read_line};
+use dt_proto::{Asked, Lines, asked_in, read_line};
 use std::alloc::Global;
 use std::process::Abort;
 use std::test::Fail;
@@ -27,7 +27,7 @@ fn lines_do_not_depend_on_the_cutting(rt: HostRuntime) -> Result<(), Fail> {
         for cut in 0..text.len() + 1 {
             for second in cut..text.len() + 1 {
                 let pieces = [&text[..cut], &text[cut..second], &text[second..]];
-                let asked = asked_in(alloc, &pieces)?;
+                let asked = lines_in(alloc, &pieces)?;
                 assert_eq!(rt;
                     shown(alloc, &asked)?.as_slice(),
                     lines.as_bytes(),
@@ -37,6 +37,11 @@ fn lines_do_not_depend_on_the_cutting(rt: HostRuntime) -> Result<(), Fail> {
         }
     }
     Ok(())
+}
+
+/// The lines of an input in pieces.
+fn lines_in(alloc: Global, pieces: &[&[u8]]) -> Result<Vec<Asked>, Fail> {
+    Ok(asked_in(alloc, pieces)?)
 }
 
 /// Each line in brackets, where a long one is `!`.
@@ -56,13 +61,19 @@ fn shown(alloc: Global, asked: &[Asked]) -> Result<Vec<u8>, Fail> {
 /// What the lines in these pieces ask, or their refusals, each with a blank after it.
 fn told(alloc: Global, pieces: &[&[u8]]) -> Result<String, Fail> {
     let mut text = String::new(alloc);
-    for asked in asked_in(alloc, pieces)?.iter() {
-        match read_line(alloc, asked.lent())? {
-            Ok(command) => text.push_str(&format!(in alloc; "{command:?} ")?)?,
-            Err(refusal) => text.push_str(&format!(in alloc; "{refusal:?} ")?)?,
-        }
+    for asked in &lines_in(alloc, pieces)? {
+        text.push_str(command_of(alloc, asked)?.as_str())?;
+        text.push_str(" ")?;
     }
     Ok(text)
+}
+
+/// What a line asks, or its refusal.
+fn command_of(alloc: Global, asked: &Asked) -> Result<String, Fail> {
+    Ok(match read_line(alloc, asked.lent())? {
+        Ok(command) => format!(in alloc; "{command:?}")?,
+        Err(refusal) => format!(in alloc; "{refusal:?}")?,
+    })
 }
 
 #[test]
@@ -93,6 +104,15 @@ fn status_with_blanks_is_read_up_to_the_limit(rt: HostRuntime) -> Result<(), Fai
     Ok(())
 }
 
+/// Feeds a piece, and gives how many of its bytes were used, and the line that is whole then.
+fn fed(alloc: Global, lines: &mut Lines, piece: &[u8]) -> Result<(usize, Option<Asked>), Fail> {
+    let fed = lines.feed(piece);
+    if !fed.whole {
+        return Ok((fed.used, None));
+    }
+    Ok((fed.used, Some(lines.line().to_asked(alloc)?)))
+}
+
 #[test]
 fn lines_are_long_from_65537_bytes_on(rt: HostRuntime) -> Result<(), Fail> {
     let alloc = rt.alloc();
@@ -102,65 +122,35 @@ fn lines_are_long_from_65537_bytes_on(rt: HostRuntime) -> Result<(), Fail> {
         (65_537, true),
         (131_074, true),
     ] {
+        let bytes = vec![in alloc; b'x'; length]?;
         for cut in [0, 1, 65_535, length] {
-            is_long(&rt, alloc, length, cut, long)?;
+            let (first, second) = bytes.split_at_checked(cut).ok_or("no cut")?;
+            is_long(&rt, alloc, [first, second], long)?;
         }
     }
     Ok(())
 }
 
-/// Feeds a line of so many bytes in two pieces, then its newline and a short line.
-fn is_long(
-    rt: &impl Abort,
-    alloc: Global,
-    length: usize,
-    cut: usize,
-    long: bool,
-) -> Result<(), Fail> {
-    let bytes = vec![in alloc; b'x'; length]?;
-    assert!(rt; cut <= bytes.len());
+/// Feeds a line in two pieces, then its newline and a short line.
+fn is_long(rt: &impl Abort, alloc: Global, pieces: [&[u8]; 2], long: bool) -> Result<(), Fail> {
+    let [first, second] = pieces;
+    let cut = first.len();
     let mut lines = Lines::new(alloc)?;
-    for piece in [&bytes[..cut], &bytes[cut..]] {
-        let fed = lines.feed(piece);
-        assert_eq!(rt;
-            fed,
-            Fed {
-                used: piece.len(),
-                whole: false
-            },
-            "{length} cut at {cut}"
-        );
+    for piece in pieces {
+        let found = fed(alloc, &mut lines, piece)?;
+        assert!(rt; found == (piece.len(), None), "cut at {cut}");
     }
-    let fed = lines.feed(b"\ny\nz");
-    assert_eq!(rt;
-        fed,
-        Fed {
-            used: 1,
-            whole: true
-        },
-        "{length} cut at {cut}"
-    );
-    assert!(rt; fed.whole);
-    let expected = if long {
-        WholeLine::Long
+    let wanted = if long {
+        Asked::Long
     } else {
-        WholeLine::Bytes(&bytes)
+        Asked::Line([first, second].concat(alloc)?)
     };
-    assert_eq!(rt; lines.line(), expected, "{length} cut at {cut}");
-    let fed = lines.feed(b"y\nz");
-    assert_eq!(rt;
-        fed,
-        Fed {
-            used: 2,
-            whole: true
-        },
-        "after {length} cut at {cut}"
-    );
-    assert!(rt; fed.whole);
-    assert_eq!(rt;
-        lines.line(),
-        WholeLine::Bytes(b"y"),
-        "after {length} cut at {cut}"
+    let found = fed(alloc, &mut lines, b"\ny\nz")?;
+    assert!(rt; found == (1, Some(wanted)), "cut at {cut}");
+    let found = fed(alloc, &mut lines, b"y\nz")?;
+    assert!(rt;
+        found == (2, Some(Asked::Line(b"y".to_vec(alloc)?))),
+        "after a line cut at {cut}"
     );
     Ok(())
 }

@@ -1,0 +1,451 @@
+//! Texts of programs: which are read and which are refused, with the place and the cause, and what their expressions come to.
+use dt_cred::{Mode, Probe, Process};
+use dt_expr::{Expr, NumberVariable, Scene, TextVariable, eval};
+use dt_lang::{Action, Argument, Destructive, Function, LangFault, Program, Statement, Word};
+use dt_machine::Firing;
+use dt_names::{ProbeTuple, ShortText};
+use std::alloc::Global;
+use std::test::Fail;
+
+/// In each line how a text is read, and the text: `read` where it is a program, and else the cause or the destructive
+/// action and its place. A text that repeats a part is written in four: its beginning, how often the part stands there,
+/// the part, and the end.
+const TABLE: &str = "
+read|BEGIN{}
+read|:{}
+read| /* a */ syscall::read:entry , fbt::: /pid == 100/ { trace(arg0) ; ; stack(8); }
+read|BEGIN{@[execname,\"a\",1+2,pid]=lquantize(arg0,-10,10,2);@a=count();@b=sum(1)}END{exit(0)}
+read|BEGIN{|8|exit(0);|}
+read|a|15|,a|{}
+read||64|BEGIN{} |
+read|BEGIN{exit(|31|1+|1)}
+read|BEGIN{exit(-1|31|+1|)}
+read|BEGIN/|31|1+|+1/{}
+read|BEGIN{@a[1,2,3,4]=count()}
+read|BEGIN{@=lquantize(1,0,512)}
+read|BEGIN{@=lquantize(1,-9223372036854775807,9223372036854775807,9223372036854775807)}
+read|BEGIN{trace((\"a\"==\"b\"))}
+Syntax 5|BEGIN
+Syntax 14|BEGIN{trace(1)
+Syntax 7|BEGIN{}}
+Syntax 8|BEGIN/1/2/{}
+Syntax 8|BEGIN/1+/{}
+Syntax 14|BEGIN/execname/{}
+Syntax 6|BEGIN,{}
+Syntax 6|BEGIN END{}
+Syntax 8|BEGIN{} /*
+Syntax 13|BEGIN{ustack(9)}
+Syntax 12|BEGIN{stack(0)}
+Syntax 12|BEGIN{stack(pid)}
+Syntax 15|BEGIN{trace(1) panic()}
+Syntax 14|BEGIN{trace(1 1)}
+Syntax 16|BEGIN{trace((\"a\"))}
+Syntax 19|BEGIN{exit(execname)}
+Syntax 14|BEGIN{trace(1+execname)}
+Syntax 15|BEGIN{@a=count(1)}
+Syntax 21|BEGIN{@=lquantize(1,2)}
+Syntax 20|BEGIN{@=lquantize(1,a,2)}
+Syntax 9|BEGIN{@a[]=count()}
+Syntax 70|BEGIN{|8|exit(0);|1}
+Syntax 17|BEGIN{@a[1,2,3,4,)]=count()}
+Syntax 76|BEGIN{exit(-1|31|+1| 1)}
+Syntax 75|BEGIN{exit(|32|1+|)}
+Probe 0|[a{}
+Probe 8|BEGIN{} syscall::[a:entry{}
+Probe 6|BEGIN a:b:c:d:e{}
+Probe 6|BEGIN,[]{}
+Probe 8|BEGIN/1/[a{}
+Action 6|BEGIN{print(1)}
+Action 6|BEGIN{count()}
+Action 6|BEGIN{self->x=1}
+Action 7|BEGIN{;pid}
+Action 8|BEGIN{@=trace(1)}
+Action 9|BEGIN{@a=panic()}
+Variable 12|BEGIN{trace(foo)}
+Variable 14|BEGIN{trace(1+arg10)}
+Variable 22|BEGIN{trace(execname==foo)}
+Variable 6|BEGIN/panic/{}
+Variable 8|BEGIN{@[self]=count()}
+Variable 73|BEGIN{exit(|31|1+|foo)}
+TooLong 512||100|BEGIN{} |
+TooLong 512||64|BEGIN{} |[a
+TooLong 76|BEGIN{trace(|100|(|
+TooLong 76|BEGIN{trace(|65536|(|
+TooLong 75|BEGIN{exit(|32|1+|foo)}
+TooLong 75|BEGIN{exit(|32|1+|\"a\")}
+TooLong 75|BEGIN{exit(-1|31|+1|+1)}
+TooLong 70|BEGIN/|32|1+|1/{}
+TooLong 70|BEGIN{|8|exit(0);|foo
+TooLong 70|BEGIN{|8|exit(0);|panic
+TooLong 70|BEGIN{|8|exit(0);|@
+TooLong 32|a|16|,a|{}
+TooLong 32|a|15|,a|,[{}
+TooLong 17|BEGIN{@a[1,2,3,4,foo]=count()}
+TooLong 6|BEGIN{@|32|a|=count()}
+TooLong 12|BEGIN{trace(\"|32|a|
+TooLong 14|BEGIN{trace(1+\"|32|a|\")}
+Range 27|BEGIN{@a=lquantize(1,0,10,3)}
+Range 23|BEGIN{@=lquantize(1,5,5)}
+Range 25|BEGIN{@=lquantize(1,0,513)}
+Range 26|BEGIN{@=lquantize(1,0,10,0)}
+Range 27|BEGIN{@=lquantize(1,0,10,-1)}
+panic 12|BEGIN{} END{panic();}
+stop 6|BEGIN{stop
+chill 8|BEGIN{;;chill(1)}
+system 15|BEGIN{trace(1);system(2)}
+raise 62|BEGIN{|7|exit(0);|raise}
+Syntax 12|BEGIN{trace(08)}
+Syntax 12|BEGIN{trace(09)}
+Syntax 12|BEGIN{trace(0x)}
+Syntax 12|BEGIN{trace(0xg)}
+Syntax 12|BEGIN{trace(0x1_)}
+Syntax 12|BEGIN{trace(1a)}
+Syntax 12|BEGIN{trace(1_)}
+Syntax 15|BEGIN{trace(19 1)}
+Syntax 12|BEGIN{trace(18446744073709551616)}
+Syntax 12|BEGIN{trace(99999999999999999999999999)}
+Syntax 12|BEGIN{trace(0x10000000000000000)}
+Syntax 12|BEGIN{trace(02000000000000000000000)}
+Syntax 18|BEGIN{trace(1/*\"*/2)}
+Syntax 12|BEGIN{trace(/*/)}
+Syntax 21|BEGIN{trace(/* /* */ */1)}
+Syntax 13|BEGIN{trace( /* 1)}
+Syntax 7|BEGIN/1/*/{}
+Syntax 6|a/* */b{}
+Syntax 8|/* a */ /{}
+Syntax 15|BEGIN{trace(1<<=2)}
+Syntax 15|BEGIN{trace(1<=<2)}
+Syntax 15|BEGIN{trace(1>>>2)}
+Syntax 15|BEGIN{trace(1===2)}
+Syntax 15|BEGIN{trace(1!==2)}
+Syntax 13|BEGIN{trace(1!~2)}
+Syntax 15|BEGIN{trace(1^ ^2)}
+Syntax 15|BEGIN{trace(1&&&2)}
+Syntax 12|BEGIN{trace(:)}
+Syntax 12|BEGIN{trace(?)}
+Syntax 12|BEGIN{trace(\\)}
+Variable 12|BEGIN{trace(_a1 )}
+Variable 12|BEGIN{trace(a1b2c3d4e5f6g7h8i9j0k1l2m3n4o5p6)}
+Action 6|BEGIN{tracee(1)}
+Syntax 8|BEGIN{@ a=count()}
+Syntax 7|BEGIN{@1=count()}
+read|BEGIN{@=count()}
+read|BEGIN{@_9=count()}
+read|BEGIN{@abcdefghijklmnopqrstuvwxyz01234=count()}
+TooLong 6|BEGIN{@abcdefghijklmnopqrstuvwxyz012345=count()}
+Syntax 12|BEGIN{trace(\"abcdefghijklmnopqrstuvwxyz01234
+TooLong 13|BEGIN{trace( \"abcdefghijklmnopqrstuvwxyz012345\")}
+TooLong 12|BEGIN{trace(\"abcdefghijklmnopqrstuvwxyz012345
+Syntax 12|BEGIN{trace(\"a\\n\")}
+Syntax 12|BEGIN{trace(\"a\x7f\")}
+Syntax 12|BEGIN{trace(\"
+Syntax 12|BEGIN{trace(\x0b)}
+Syntax 13|BEGIN{trace( \0)}
+Syntax 12|BEGIN{trace(\x7f)}
+Syntax 12|BEGIN{trace(ä)}
+Syntax 0|\x0c
+Syntax 0|\"
+Syntax 0|}
+read| BEGIN,END{}
+Probe 0|a:b:c:d:e{}
+Probe 0|[a/
+Syntax 3|@a;\"{}
+Syntax 1|a\x7f
+Syntax 9|BEGIN/1/ 1 {}
+Syntax 10|BEGIN/6 / 2/{}
+Syntax 10|BEGIN/1 + /{}
+Syntax 6|BEGIN//{}
+Syntax 10|BEGIN/\"a\" /{}
+Syntax 15|BEGIN{trace(1 +)}
+Syntax 16|BEGIN{trace(( 1)}
+Syntax 13|BEGIN{trace(()}
+Syntax 13|BEGIN{trace(-)}
+Syntax 18|BEGIN{trace(\"a\" ==)}
+Syntax 30|BEGIN{trace(( execname == \"a\")}
+Syntax 17|BEGIN{trace(1 == \"a\")}
+Syntax 16|BEGIN{trace(1 + \"a\" == \"b\")}
+Syntax 16|BEGIN{trace(1 < \"a\" == \"b\")}
+Syntax 14|BEGIN{trace(! \"a\" == \"b\")}
+Syntax 14|BEGIN{trace(- execname)}
+Syntax 23|BEGIN{trace(\"a\" == \"b\" < 1)}
+Syntax 23|BEGIN{trace(\"a\" == \"b\" + 1)}
+Syntax 19|BEGIN{trace(\"a\" == 1)}
+Syntax 19|BEGIN{trace(\"a\" == ()}
+Syntax 19|BEGIN{trace(\"a\" == pid)}
+Syntax 16|BEGIN{trace(\"a\" +)}
+Syntax 16|BEGIN{trace(\"a\" \"b\")}
+Syntax 18|BEGIN{trace(( \"a\" ))}
+Syntax 18|BEGIN{trace(( \"a\" ) == \"b\")}
+Syntax 14|BEGIN{trace(1 1)}
+Syntax 16|BEGIN{trace(pid execname)}
+Syntax 14|BEGIN{trace(1 ()}
+Syntax 14|BEGIN{trace(1 !)}
+Syntax 15|BEGIN{trace(1 ))}
+Syntax 12|BEGIN{trace())}
+Syntax 14|BEGIN{trace(( ))}
+Syntax 19|BEGIN{trace(( 1 ) ))}
+Syntax 18|BEGIN{trace(( 1 + ))}
+Syntax 12|BEGIN{trace(*)}
+Syntax 16|BEGIN{trace(1 * / 2)}
+Syntax 14|BEGIN{trace(1 ])}
+Syntax 14|BEGIN{trace(1 ,)}
+Syntax 14|BEGIN{trace(1 = 1)}
+Syntax 12|BEGIN{trace(;)}
+Variable 12|BEGIN{trace(trace)}
+Variable 12|BEGIN{trace(foo)}
+Variable 16|BEGIN{trace(1 + foo)}
+Syntax 12|BEGIN{trace(@a)}
+Syntax 14|BEGIN{trace(1 @a)}
+";
+
+/// In each line an expression and what it comes to where it is traced: a value, `fault` where it divides by zero, `text`
+/// for one text, or `no` and the place in the whole text at which it is refused for its syntax.
+const EXPRESSIONS: &str = "
+7 -> 7
+pid -> 999999
+execname -> text
+\"a\" -> text
+7 - 2 - 1 -> 4
+2 - 3 + 4 -> 3
+7 % 4 * 2 -> 6
+64 / 4 / 2 -> 8
+8 >> 1 << 1 -> 8
+3 > 2 > 1 -> 0
+1 < 2 < 1 -> 0
+2 == 2 != 0 -> 1
+1 ^^ 1 -> 0
+1 ^^ 1 ^^ 1 -> 1
+1 | 2 ^ 3 & 4 -> 3
+1 + 2 * 3 -> 7
+1 << 1 + 1 -> 4
+1 < 1 << 1 -> 1
+1 == 2 < 3 -> 1
+1 & 3 == 3 -> 1
+1 || 0 && 0 -> 1
+1 ^^ 1 && 0 -> 1
+1 || 1 ^^ 1 -> 1
+0 && 1 | 1 -> 0
+( 1 + 2 ) * 3 -> 9
+( ( ( 5 ) ) ) -> 5
+8 / ( 4 / 2 ) -> 4
+- 7 / 2 -> -3
+- ( 7 / 2 ) * 2 -> -6
+- - 1 -> 1
+! ~ + - 1 -> 1
+! 0 + 1 -> 2
+2 - - 3 -> 5
+1 << 65 -> 2
+0 && ( 1 / 0 ) -> 0
+1 && ( 1 / 0 ) -> fault
+\"a\" == \"a\" -> 1
+( \"a\" == \"b\" ) == 0 -> 1
+\"a\" == \"b\" == 1 -> 0
+\"a\" != \"b\" != 0 -> 1
+1 & \"a\" == \"a\" -> 1
+\"a\" == \"a\" & 3 -> 1
+execname == \"shell\" && probefunc != \"read\" -> 0
+0 || \"a\" == \"b\" ^^ 1 -> 1
+1 < ( \"a\" == \"b\" ) -> 0
+0 -> 0
+00 -> 0
+010 -> 8
+0777 -> 511
+0x1F -> 31
+0X1f -> 31
+9223372036854775807 -> 9223372036854775807
+9223372036854775808 -> -9223372036854775808
+18446744073709551615 -> -1
+0xFFFFFFFFFFFFFFFF -> -1
+01777777777777777777777 -> -1
+/* a */ 1 -> 1
+/**/1 -> 1
+/***/1 -> 1
+1/*\"*/+1 -> 2
+!~1 -> 0
+2->1 -> no 14
+1|||2 -> no 15
+\"\" -> text
+\"a/*b\" -> text
+\"abcdefghijklmnopqrstuvwxyz01234\" -> text
+";
+
+/// Values of predicates.
+const PREDICATES: &str = "
+pid == 1 -> 0
+( 6 / 2 ) -> 3
+2 * ( 6 / 2 ) -> 6
+( ( 1 ) / 1 ) -> 1
+1 % 2 -> 1
+";
+
+fn parsed(alloc: Global, text: &[u8]) -> Result<Program, LangFault> {
+    Program::parse(alloc, text)
+}
+
+/// Whether a text is read as the words say.
+fn is_read_so(alloc: Global, text: &[u8], told: &str) -> bool {
+    let (word, place) = told.split_once(' ').unwrap_or((told, "0"));
+    match parsed(alloc, text) {
+        Ok(_) => word == "read",
+        Err(LangFault::Program { at, why }) => word == why.word()
+            && place.parse::<usize>() == Ok(at),
+        Err(LangFault::Destructive { at, what }) => {
+            word == what.name() && place.parse::<usize>() == Ok(at)
+        }
+        Err(LangFault::Memory) => false,
+    }
+}
+
+/// Whether a line of the table is right.
+fn is_right(alloc: Global, line: &str) -> Option<bool> {
+    let (told, written) = line.split_once('|')?;
+    let mut parts = written.split('|');
+    let mut text = Vec::new(alloc);
+    text.extend_from_slice(parts.next()?.as_bytes()).ok()?;
+    if let Some(times) = parts.next() {
+        let middle = parts.next()?;
+        for _ in 0..times.parse::<usize>().ok()? {
+            text.extend_from_slice(middle.as_bytes()).ok()?;
+        }
+        text.extend_from_slice(parts.next()?.as_bytes()).ok()?;
+    }
+    Some(is_read_so(alloc, &text, told))
+}
+
+#[test]
+fn reads_programs_and_refuses_other_texts(rt: HostRuntime) {
+    for line in TABLE.lines() {
+        assert!(rt;
+            line.is_empty() || is_right(rt.alloc(), line) == Some(true),
+            "{line}"
+        );
+    }
+}
+
+#[test]
+fn refuses_blanks_at_their_end(rt: HostRuntime) {
+    assert!(rt; is_read_so(rt.alloc(), b"", "Syntax 0"));
+    assert!(rt; is_read_so(rt.alloc(), b" \t\r\n", "Syntax 4"));
+    assert!(rt; is_read_so(rt.alloc(), b"BEGIN ", "Syntax 6"));
+}
+
+/// What an expression comes to.
+#[derive(Clone, Copy, Debug, PartialEq, Eq)]
+enum Outcome {
+    Number(i64),
+    Fault,
+    Text,
+    Refused(usize),
+}
+
+/// What a line says that its expression comes to.
+fn expected_of(outcome: &str) -> Option<Outcome> {
+    match outcome {
+        "fault" => Some(Outcome::Fault),
+        "text" => Some(Outcome::Text),
+        _ => match outcome.strip_prefix("no ") {
+            Some(place) => Some(Outcome::Refused(place.parse::<usize>().ok()?)),
+            None => Some(Outcome::Number(outcome.parse::<i64>().ok()?)),
+        },
+    }
+}
+
+fn value_of(expr: &Expr, scene: &Scene) -> Outcome {
+    match eval(expr, scene) {
+        Ok(number) => Outcome::Number(number),
+        Err(_) => Outcome::Fault,
+    }
+}
+
+/// What the predicate of a text's first clause comes to, or where there is none what its first statement traces.
+fn outcome_of(alloc: Global, scene: &Scene, text: &str) -> Option<Outcome> {
+    let program = match parsed(alloc, text.as_bytes()) {
+        Ok(program) => program,
+        Err(LangFault::Program { at, .. }) => return Some(Outcome::Refused(at)),
+        Err(_) => return None,
+    };
+    let clause = program.clauses.first()?;
+    match (&clause.predicate, clause.statements.first()) {
+        (Some(predicate), _) => Some(value_of(predicate, scene)),
+        (None, Some(Statement::Trace(Argument::Number(traced)))) => Some(value_of(traced, scene)),
+        (None, Some(Statement::Trace(Argument::Text(_)))) => Some(Outcome::Text),
+        (None, _) => None,
+    }
+}
+
+/// The first line of a table that does not hold of its expression between these two parts.
+fn first_wrong(
+    alloc: Global,
+    scene: &Scene,
+    table: &'static str,
+    before: &str,
+    after: &str,
+) -> Result<Option<&'static str>, Fail> {
+    for line in table.lines() {
+        if let Some((words, outcome)) = line.split_once(" -> ") {
+            let text = format!(in alloc; "{before}{words}{after}")?;
+            let expected = expected_of(outcome);
+            if expected.is_none() || outcome_of(alloc, scene, text.as_str()) != expected {
+                return Ok(Some(line));
+            }
+        }
+    }
+    Ok(None)
+}
+
+fn probe_and_process() -> Option<(Probe, Process)> {
+    let tuple = ProbeTuple::parse(b"syscall:unix:read:entry")?;
+    let process = Process {
+        pid: 999_999,
+        uid: 0,
+        execname: ShortText::new(b"shell")?,
+    };
+    Some((Probe::new(17, tuple), process))
+}
+
+fn firing() -> Firing {
+    Firing {
+        cpu: 0,
+        place: 0,
+        probe: 17,
+        pid: 999_999,
+        tid: 1,
+        mode: Mode::User,
+        timestamp: 1,
+        args: [0; 10],
+        kstack: [0; 8],
+        ustack: [0; 8],
+    }
+}
+
+#[test]
+fn expressions_come_to_what_the_tables_say(rt: HostRuntime) -> Result<(), Fail> {
+    let (probe, process) = probe_and_process().ok_or("no probe")?;
+    let firing = firing();
+    let scene = Scene {
+        epid: 1,
+        probe: &probe,
+        process: &process,
+        firing: &firing,
+    };
+    let traced = first_wrong(rt.alloc(), &scene, EXPRESSIONS, "BEGIN{trace(", ")}")?;
+    assert_eq!(rt; traced, None);
+    let predicates = first_wrong(rt.alloc(), &scene, PREDICATES, "BEGIN/", "/{}")?;
+    assert_eq!(rt; predicates, None);
+    Ok(())
+}
+
+#[test]
+fn knows_the_words(rt: HostRuntime) {
+    let rows: [(&[u8], Word); 6] = [
+        (b"ustack", Word::Action(Action::Ustack)),
+        (b"lquantize", Word::Function(Function::Lquantize)),
+        (b"copyoutstr", Word::Destructive(Destructive::Copyoutstr)),
+        (b"arg9", Word::Number(NumberVariable::Arg9)),
+        (b"probemod", Word::Text(TextVariable::Probemod)),
+        (b"Trace", Word::Unknown),
+    ];
+    for (name, word) in rows {
+        assert!(rt; Word::of(name) == word, "{name:?}");
+    }
+}

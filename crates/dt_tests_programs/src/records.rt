@@ -1,0 +1,155 @@
+//! What clauses leave, byte by byte, and records back from their bytes.
+use dt_cred::{Mode, Probe, Process};
+use dt_expr::{Scene, Value};
+use dt_lang::Program;
+use dt_machine::Firing;
+use dt_names::{ProbeTuple, ShortText};
+use dt_record::{Layout, Taken, split, taken};
+use std::alloc::Global;
+use std::test::Fail;
+
+/// In each line a clause and what it leaves of the firing: its record in hexadecimal digits, `-` for none; then `=` and each
+/// number that it gives, `exit` and a status. Or `passed` where its predicate is 0, and `fault` where it is abandoned.
+const CLAUSES: &str = r#"
+a{} => 00000005
+a{;;} => 00000005
+a{trace(arg0)} => 000000050000000000000007
+a{trace(-arg0);trace(epid)} => 00000005fffffffffffffff90000000000000005
+a{trace("ab")} => 000000056162000000000000000000000000000000000000000000000000000000000000
+a{trace(execname)} => 000000057368000000000000000000000000000000000000000000000000000000000000
+a{stack(2);ustack(1)} => 0000000500000000000000110000000000000000ffffffffffffffff
+a/arg1/{trace(1)} => passed
+a/arg0/{trace(1)} => 000000050000000000000001
+a/(1 / arg1)/{} => fault
+a{trace(1);trace(1 % arg1)} => fault
+a{exit(1 / arg1)} => fault
+a{@n[1 / arg1]=count()} => fault
+a{exit(3);exit(4)} => - exit 3
+a{trace(1);exit(2)} => 000000050000000000000001 exit 2
+a{@n[arg0,execname]=sum(5);@m=count()} => - = 7 = 5 = 0
+a{trace(arg0)} => 000000050000000000000007
+"#;
+
+/// What a clause left, in the words of the table.
+fn words_of(alloc: Global, left: &Taken) -> Result<String, Fail> {
+    let mut words = match &left.bytes {
+        Some(bytes) => digits_of(alloc, bytes.as_slice())?,
+        None => String::from_str(alloc, "-")?,
+    };
+    for value in left.values.as_slice() {
+        if let Value::Number(number) = value {
+            words.push_str(&format!(in alloc; " = {number}")?)?;
+        }
+    }
+    if let Some(status) = left.exit {
+        words.push_str(&format!(in alloc; " exit {status}")?)?;
+    }
+    Ok(words)
+}
+
+fn digits_of(alloc: Global, bytes: &[u8]) -> Result<String, Fail> {
+    let mut digits = String::new(alloc);
+    for byte in bytes {
+        digits.push_str(&format!(in alloc; "{byte:02x}")?)?;
+    }
+    Ok(digits)
+}
+
+fn parsed(alloc: Global, text: &str) -> Result<Program, Fail> {
+    Ok(Program::parse(alloc, text.as_bytes())?)
+}
+
+/// What the clause of a text leaves.
+fn told(alloc: Global, text: &str, scene: &Scene) -> Result<String, Fail> {
+    let program = parsed(alloc, text)?;
+    match taken(5, program.clauses.first().ok_or("no clause")?, scene) {
+        Ok(Some(left)) => words_of(alloc, &left),
+        Ok(None) => Ok(String::from_str(alloc, "passed")?),
+        Err(_) => Ok(String::from_str(alloc, "fault")?),
+    }
+}
+
+/// What it leaves in place of what the clauses before it left.
+fn told_again(alloc: Global, text: &str, scene: &Scene, left: &mut Taken) -> Result<String, Fail> {
+    let program = parsed(alloc, text)?;
+    match left.take(5, program.clauses.first().ok_or("no clause")?, scene) {
+        Ok(true) => words_of(alloc, left),
+        Ok(false) => Ok(String::from_str(alloc, "passed")?),
+        Err(_) => Ok(String::from_str(alloc, "fault")?),
+    }
+}
+
+/// The first line of the table that does not hold.
+fn first_wrong(alloc: Global, scene: &Scene) -> Result<Option<&'static str>, Fail> {
+    let mut left = Taken::new();
+    for line in CLAUSES.lines() {
+        if let Some((text, wanted)) = line.split_once(" => ") {
+            if told(alloc, text, scene)?.as_str() != wanted {
+                return Ok(Some(line));
+            }
+            if told_again(alloc, text, scene, &mut left)?.as_str() != wanted {
+                return Ok(Some(line));
+            }
+        }
+    }
+    Ok(None)
+}
+
+#[test]
+fn leaves_what_the_table_says(rt: HostRuntime) -> Result<(), Fail> {
+    let tuple = ProbeTuple::parse(b"syscall::read:entry").ok_or("no probe")?;
+    let probe = Probe::new(3, tuple);
+    let process = Process {
+        pid: 100,
+        uid: 501,
+        execname: ShortText::new(b"sh").ok_or("no name")?,
+    };
+    let firing = Firing {
+        cpu: 0,
+        place: 0,
+        probe: 3,
+        pid: 100,
+        tid: 1,
+        mode: Mode::User,
+        timestamp: 0,
+        args: [7, 0, 0, 0, 0, 0, 0, 0, 0, 0],
+        kstack: [17, 0, 0, 0, 0, 0, 0, 0],
+        ustack: [u64::MAX, 0, 0, 0, 0, 0, 0, 0],
+    };
+    let scene = Scene {
+        epid: 5,
+        probe: &probe,
+        process: &process,
+        firing: &firing,
+    };
+    assert_eq!(rt; first_wrong(rt.alloc(), &scene)?, None);
+    Ok(())
+}
+
+/// The EPID of each record of these bytes and how many values it has, or `none` where they are no records.
+fn records(alloc: Global, layout: Layout, bytes: &[u8]) -> Result<String, Fail> {
+    let Some(records) = split(alloc, &[layout], bytes)? else {
+        return Ok(String::from_str(alloc, "none")?);
+    };
+    let mut text = String::new(alloc);
+    for record in &records {
+        let one = format!(in alloc; " {}:{}", record.epid, record.values.len())?;
+        text.push_str(one.as_str())?;
+    }
+    Ok(text)
+}
+
+#[test]
+fn reads_records_back(rt: HostRuntime) -> Result<(), Fail> {
+    let alloc = rt.alloc();
+    let program = parsed(alloc, "read:entry{trace(arg0);trace(arg0 / arg1)}")?;
+    let bytes = [
+        0, 0, 0, 1, 128, 0, 0, 0, 0, 0, 0, 0, 128, 0, 0, 0, 0, 0, 0, 0,
+    ];
+    for (length, wanted) in [(20, " 1:2"), (19, "none"), (0, "")] {
+        let layout = Layout::of(program.clauses.first().ok_or("no clause")?);
+        let found = records(alloc, layout, bytes.get(..length).ok_or("too long")?)?;
+        assert!(rt; found.as_str() == wanted, "{length}");
+    }
+    Ok(())
+}

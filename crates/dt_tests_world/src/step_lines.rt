@@ -1,0 +1,97 @@
+//! Lines that are step lines, and lines that are none.
+use dt_world::StepLine;
+use std::alloc::Global;
+use std::test::Fail;
+
+/// The step line of a text, as text: its name, its numbers, and its bytes.
+fn told(alloc: Global, text: &[u8]) -> Result<String, Fail> {
+    let Some(line) = StepLine::parse(text) else {
+        return Ok(String::from_str(alloc, "none")?);
+    };
+    Ok(match line {
+        StepLine::Open { seat, account } => {
+            format!(in alloc; "open, seat {}, {account:?}", seat.number())?
+        }
+        StepLine::Close { seat } => format!(in alloc; "close, seat {}", seat.number())?,
+        StepLine::Withdraw { seat } => format!(in alloc; "withdraw, seat {}", seat.number())?,
+        StepLine::Ask { seat, line } => {
+            format!(in alloc; "ask, seat {}, {line:?}", seat.number())?
+        }
+        StepLine::Publish { seat } => format!(in alloc; "publish, seat {}", seat.number())?,
+        StepLine::Finish { seat } => format!(in alloc; "finish, seat {}", seat.number())?,
+        StepLine::Look { cpu } => format!(in alloc; "look, processor {cpu}")?,
+        StepLine::Offer { cpu, seat } => {
+            format!(in alloc; "offer, processor {cpu}, seat {}", seat.number())?
+        }
+        StepLine::Call { seat, line } => {
+            format!(in alloc; "call, seat {}, {line:?}", seat.number())?
+        }
+        StepLine::Fire { cpu } => format!(in alloc; "fire, processor {cpu}")?,
+    })
+}
+
+#[test]
+fn reads_step_lines_and_nothing_else(rt: HostRuntime) -> Result<(), Fail> {
+    let alloc = rt.alloc();
+    let rows: [(&[u8], &str); 52] = [
+        (b"open 0 ann", "open, seat 0, [97, 110, 110]"),
+        (b"open 63 ann", "open, seat 63, [97, 110, 110]"),
+        (b"open 1  a ", "open, seat 1, [32, 97, 32]"),
+        (b"open 1 ", "open, seat 1, []"),
+        (b"close 9", "close, seat 9"),
+        (b"withdraw 10", "withdraw, seat 10"),
+        (b"ask 0 {}", "ask, seat 0, [123, 125]"),
+        (b"ask 7 ", "ask, seat 7, []"),
+        (b"ask 7  \xff\r", "ask, seat 7, [32, 255, 13]"),
+        (b"publish 1", "publish, seat 1"),
+        (b"finish 1", "finish, seat 1"),
+        (b"look 0", "look, processor 0"),
+        (b"look 4294967295", "look, processor 4294967295"),
+        (b"offer 0 1", "offer, processor 0, seat 1"),
+        (
+            b"offer 4294967295 63",
+            "offer, processor 4294967295, seat 63",
+        ),
+        (b"call 2 x y", "call, seat 2, [120, 32, 121]"),
+        (b"call 2 ", "call, seat 2, []"),
+        (b"fire 10", "fire, processor 10"),
+        (b"open 64 ann", "none"),
+        (b"open 00 ann", "none"),
+        (b"open 01 ann", "none"),
+        (b"open +1 ann", "none"),
+        (b"open -1 ann", "none"),
+        (b"open 0", "none"),
+        (b"open  0 ann", "none"),
+        (b"open ann 0", "none"),
+        (b"Open 0 ann", "none"),
+        (b" open 0 ann", "none"),
+        (b"open\t0 ann", "none"),
+        (b"opens 0 ann", "none"),
+        (b"close", "none"),
+        (b"close ", "none"),
+        (b"close 64", "none"),
+        (b"close 1 ", "none"),
+        (b"close 1\r", "none"),
+        (b"withdraw x", "none"),
+        (b"ask 0", "none"),
+        (b"ask 64 {}", "none"),
+        (b"ask {}", "none"),
+        (b"publish 1 1", "none"),
+        (b"finish 00", "none"),
+        (b"look 4294967296", "none"),
+        (b"look 00", "none"),
+        (b"look 0 0", "none"),
+        (b"offer 0", "none"),
+        (b"offer 0 64", "none"),
+        (b"offer 4294967296 0", "none"),
+        (b"offer 0  1", "none"),
+        (b"offer 0 1 ", "none"),
+        (b"call 2", "none"),
+        (b"fire \xff", "none"),
+        (b"", "none"),
+    ];
+    for (text, wanted) in rows {
+        assert_eq!(rt; told(alloc, text)?.as_str(), wanted, "{text:?}");
+    }
+    Ok(())
+}
