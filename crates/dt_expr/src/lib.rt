@@ -20,4 +20,3 @@ pub use laws::{bits, decisions, divisions, representatives};
 pub use operators::{BinaryOp, TextOp, UnaryOp};
 pub use scene::{NumberVariable, Scene, TextVariable};
 pub use text::{Text, Value};
-

@@ -20,4 +20,3 @@ mod token;
 
 pub use fault::GlobFault;
 pub use pattern::{PATTERN_MAX, Pattern, one_answer, tests_agree};
-

@@ -1,8 +1,8 @@
 //! Values of C and of DTrace: the expressions are written with each operator after its operands.
+use dt_cred::{Firing, Mode, Probe, Process};
 use dt_expr::{
     BinaryOp, Expr, NumberVariable, Scene, Text, TextOp, TextVariable, UnaryOp, Value, eval,
 };
-use dt_cred::{Firing, Mode, Probe, Process};
 use dt_names::{ProbeTuple, ShortText};
 use std::alloc::Global;
 use std::test::Fail;

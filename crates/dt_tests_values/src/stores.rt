@@ -1,8 +1,8 @@
 //! Stores, as a table of contributions and truncations with what is answered and what the table then shows.
 
-use dt_aggstore::{ADDED_LIMIT, AGGSIZE_MAX, Aggregation, AggStore, KEYS_MAX, Key, KeyPart, Row};
 use arrayvec::ArrayVec;
 use dt_aggfn::{AggFn, Answer, Bounds};
+use dt_aggstore::{ADDED_LIMIT, AGGSIZE_MAX, AggStore, Aggregation, KEYS_MAX, Key, KeyPart, Row};
 use std::alloc::{AllocError, Global};
 use std::process::Abort;
 use std::test::Fail;

@@ -1,10 +1,10 @@
 //! What is written while the steps are taken: the replies of all sessions, or the trail of one.
 ghost use Rattle.std.specs.Prelude.{◌≡◌, true, OnOk};
 
-use dt_steps::ScriptPlace;
 use dt_chain::Seat;
 use dt_cred::Account;
 use dt_proto::{LINE_MAX, WholeLine};
+use dt_steps::ScriptPlace;
 use std::alloc::{AllocError, Global};
 
 /// What is wanted of a replay.
