@@ -364,7 +364,9 @@ fn steps_of(alloc: Global, machine: &Machine, input: &str) -> Result<Vec<Step>, 
     let (whole, _rest) = input.rsplit_once('\n').unwrap_or(("", input));
     for line in whole.lines() {
         if !line.is_empty() {
-            let line = StepLine::parse(line.as_bytes()).ok_or("no step line")?;
+            let Some(line) = StepLine::parse(line.as_bytes()) else {
+                return Err("no step line".into());
+            };
             made.add(alloc, machine, line)?;
         }
     }
