@@ -7,6 +7,8 @@
 
 mod fault;
 pub mod seat;
+#[cfg(test)]
+mod tests;
 mod words;
 pub mod writing;
 
