@@ -35,7 +35,7 @@ use dt_aggstore::AggStore;
 use dt_buffer::Policy;
 use dt_consumer::{Command, End, OptionValue, Phase, Refusal, Reply};
 use dt_ecb::{EnableFault, ecbs_go_on, enable, listed, one_verdict, uses_of_both};
-use dt_lang::{Description, LangFault, Program, Why, one_description, one_reading};
+use dt_lang::{Description, LangFault, ParseProgram, Program, Why, one_description, one_reading};
 use dt_machine::Machine;
 use dt_record::Layout;
 use std::alloc::{AllocError, Global};

@@ -44,7 +44,7 @@ use crate::tracing::Tracing;
 use dt_aggstore::{AggStore, Aggregation, Row, drops_go_on};
 use dt_buffer::{Policy, one_shown};
 use dt_ecb::{Ecb, EnableFault, enable, listed, one_verdict};
-use dt_lang::{Description, LangFault, Program, Why, one_description, one_reading};
+use dt_lang::{Description, LangFault, ParseProgram, Program, Why, one_description, one_reading};
 use dt_machine::Machine;
 use dt_record::Layout;
 use std::alloc::{AllocError, Global};

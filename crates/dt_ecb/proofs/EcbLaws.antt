@@ -8,7 +8,7 @@ use Rattle.std.proofs.Math.Seq.{get_or-append_seam}
 use Rattle.dt_cred.specs.declared.account.Account.{Account}
 use Rattle.dt_cred.specs.declared.probe.Probe.{Probe}
 use Rattle.dt_machine.specs.Registry.{Registry}
-use Rattle.dt_lang.specs.Program.{ClauseForm}
+use Rattle.dt_program.specs.Program.{ClauseForm}
 use Rattle.dt_ecb.specs.Matching.{matched}
 use Rattle.dt_ecb.specs.Ecbs.{EcbForm, numbered, pairs_of_clause, pairs_of, added, ecbs_of}
 use Rattle.dt_ecb.specs.Forms.{form_of_ecb, no_clause}

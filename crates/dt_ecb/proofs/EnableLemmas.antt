@@ -7,7 +7,7 @@ use Rattle.std.proofs.lemmas.List.{length-map}
 use Rattle.std.proofs.lemmas.List.Elements.{All-from_recursion}
 use Rattle.dt_cred.specs.declared.account.Account.{Account}
 use Rattle.dt_machine.specs.Registry.{Registry}
-use Rattle.dt_lang.specs.Program.{ClauseForm}
+use Rattle.dt_program.specs.Program.{ClauseForm}
 use Rattle.dt_ecb.specs.Ecbs.{added}
 use Rattle.dt_ecb.specs.Enable.{is_too_much}
 use Rattle.dt_ecb.specs.Forms.{form_of_ecb}

@@ -5,7 +5,7 @@ use Rattle.std.specs.List.{slice_get, list_any}
 use Rattle.std.specs.Option.{IfSome, IsSomeAnd}
 use Rattle.std.proofs.lemmas.Bool.{cases_lt}
 use Rattle.std.proofs.lemmas.List.Folds.{list_any_more}
-use Rattle.dt_lang.specs.Program.{ClauseForm}
+use Rattle.dt_program.specs.Program.{ClauseForm}
 use Rattle.dt_ecb.specs.Enable.{IsFirstSuch}
 use Rattle.dt_ecb.proofs.ProbeLemmas.{list_any-map}
 

@@ -7,7 +7,7 @@ use Rattle.std.specs.Str.{bytes_eq}
 use Rattle.std.proofs.lemmas.List.Elements.{Contains-append_left, Contains-append_right}
 use Rattle.std.proofs.lemmas.List.Folds.{find-append}
 use Rattle.std.proofs.lemmas.Slice.Eq.{bytes_eq-Decides}
-use Rattle.dt_lang.specs.Program.{ArgForm, CallForm, ClauseForm, aggregate}
+use Rattle.dt_program.specs.Program.{ArgForm, CallForm, ClauseForm, aggregate}
 use Rattle.dt_ecb.specs.Shapes.{ShapeForm, function_of, kind_of, named, used_by, uses_of}
 use Rattle.dt_ecb.proofs.EcbLaws.{enumerate_from-append}
 

@@ -13,7 +13,7 @@ use Rattle.dt_cred.specs.declared.probe.Probe.{Probe}
 use Rattle.dt_machine.specs.Registry.{Registry, Contents, IsSound, IsNumbered}
 use Rattle.dt_machine.specs.declared.limits.TheConstants.{PROBE_ID_MAX}
 use Rattle.dt_program.specs.declared.clause.Clause.{Clause}
-use Rattle.dt_lang.specs.Program.{ClauseForm, form_of_clause}
+use Rattle.dt_program.specs.Program.{ClauseForm, form_of_clause}
 use Rattle.dt_ecb.specs.Matching.{matched}
 use Rattle.dt_ecb.specs.Places.{kept_in, kept_from, keys_at, keys_from}
 use Rattle.dt_ecb.specs.declared.parts.Ecb.{Ecb}

@@ -3,7 +3,7 @@ use Rattle.std.proofs.Common.{◌≡◌, ℕ, ◌&&◌, ◌||◌, not, Bool, tru
 use Rattle.std.specs.List.{list_any}
 use Rattle.dt_cred.specs.declared.account.Account.{Account}
 use Rattle.dt_machine.specs.Registry.{Registry}
-use Rattle.dt_lang.specs.Program.{ClauseForm}
+use Rattle.dt_program.specs.Program.{ClauseForm}
 use Rattle.dt_ecb.specs.Enable.{Verdict, enabled, privilege, clash, unmatched, limit, IsVerdict, has_stack, may_do_all}
 use Rattle.dt_ecb.specs.Enable.{is_unmatched, is_too_much}
 use Rattle.dt_ecb.specs.Shapes.{ShapeForm, uses_of, any_clash}

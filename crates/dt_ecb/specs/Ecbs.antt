@@ -3,7 +3,7 @@ use Rattle.std.specs.Prelude.{ℕ, ◌==◌, List, map, filter}
 use Rattle.std.specs.List.{flat_map, enumerate_from}
 use Rattle.dt_cred.specs.declared.account.Account.{Account}
 use Rattle.dt_machine.specs.Registry.{Registry}
-use Rattle.dt_lang.specs.Program.{ClauseForm}
+use Rattle.dt_program.specs.Program.{ClauseForm}
 use Rattle.dt_ecb.specs.Matching.{matched}
 
 -- a probe that a clause takes effect on: its number in the consumer, the probe's, and the clause

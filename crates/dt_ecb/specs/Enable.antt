@@ -3,8 +3,8 @@ use Rattle.std.specs.Prelude.{◌≡◌, ℕ, ◌+◌, ◌-◌, ◌<◌, ◌==�
 use Rattle.std.specs.List.{list_any}
 use Rattle.dt_cred.specs.declared.account.Account.{Account}
 use Rattle.dt_machine.specs.Registry.{Registry}
-use Rattle.dt_lang.specs.Program.{ClauseForm, StatementForm}
-use Rattle.dt_lang.specs.Program as program
+use Rattle.dt_program.specs.Program.{ClauseForm, StatementForm}
+use Rattle.dt_program.specs.Program as program
 use Rattle.dt_ecb.specs.Ecbs.{added}
 use Rattle.dt_ecb.specs.Matching.{matched}
 use Rattle.dt_ecb.specs.Shapes.{ShapeForm, uses_of, IsFirstClash, any_clash, names_count}

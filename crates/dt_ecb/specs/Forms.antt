@@ -1,6 +1,6 @@
 -- ECBs, shapes and names of aggregations without where they lie in memory, and what a fault says.
 use Rattle.std.specs.Prelude.{ℕ, List, [], None, Option, Some, map, slice_index_or}
-use Rattle.dt_lang.specs.Program.{ClauseForm}
+use Rattle.dt_program.specs.Program.{ClauseForm}
 use Rattle.dt_ecb.specs.Ecbs.{EcbForm}
 use Rattle.dt_ecb.specs.Enable.{Verdict, privilege, clash, unmatched, limit}
 use Rattle.dt_ecb.specs.Shapes.{KeyKind, number, text, FunctionForm, count, sum, avg, min, max, quantize, lquantize, ShapeForm}

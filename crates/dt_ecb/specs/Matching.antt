@@ -11,8 +11,8 @@ use Rattle.dt_cred.specs.declared.probe.Probe.{Probe}
 use Rattle.dt_machine.specs.Registry.{Registry, process_of}
 use Rattle.dt_glob.specs.PatternItem.{PatternItem}
 use Rattle.dt_glob.specs.Test.{is_match}
-use Rattle.dt_lang.specs.Description.{DescForm}
-use Rattle.dt_lang.specs.Program.{ClauseForm}
+use Rattle.dt_program.specs.Description.{DescForm}
+use Rattle.dt_program.specs.Program.{ClauseForm}
 
 -- an empty field asks for nothing, any other for the names that its pattern matches
 abbrev pub field_asks_for : List PatternItem → List ℕ → Bool

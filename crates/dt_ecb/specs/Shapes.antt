@@ -3,8 +3,8 @@ use Rattle.std.specs.Prelude.{◌≡◌, ℕ, ◌+◌, ◌<◌, ◌&&◌, ◌||�
 use Rattle.std.specs.List.{flat_map, list_any, enumerate_from}
 use Rattle.std.specs.Ordering.{int_eq}
 use Rattle.std.specs.Str.{bytes_eq}
-use Rattle.dt_lang.specs.Program.{ArgForm, CallForm, ClauseForm, StatementForm}
-use Rattle.dt_lang.specs.Program as program
+use Rattle.dt_program.specs.Program.{ArgForm, CallForm, ClauseForm, StatementForm}
+use Rattle.dt_program.specs.Program as program
 
 -- what a key is
 pub data KeyKind : Type 0 where

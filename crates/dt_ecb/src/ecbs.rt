@@ -1,15 +1,15 @@
 //! The ECBs that a program's clauses make.
 ghost use Rattle.std.specs.Prelude.{◌≡◌, ◌+◌, ◌<◌, ◌≤◌, ◌^◌, ◌++◌, length, map, All, OnOk, IfOk, vec_len};
 ghost use Rattle.dt_machine.specs.declared.limits.TheConstants.{PROBE_ID_MAX};
-ghost use Rattle.dt_lang.specs.Program.{form_of_clause, form_of_program};
+ghost use Rattle.dt_program.specs.Program.{form_of_clause, form_of_program};
 ghost use Rattle.dt_ecb.specs.Places.{keys_at, keys_from, kept_from, kept_in};
 
 use crate::limits::ECBS_MAX;
 use crate::matches::is_matched;
 use crate::parts::Ecb;
 use dt_cred::Account;
-use dt_lang::{Clause, Program};
 use dt_machine::Machine;
+use dt_program::{Clause, Program};
 use std::alloc::{AllocError, Global};
 
 /// The ECBs of a program, numbered from an EPID on: of its clauses in order, each matched with each probe once.

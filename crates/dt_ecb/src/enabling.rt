@@ -1,6 +1,6 @@
 //! Whether a program is enabled, and the ECBs that it adds.
 ghost use Rattle.std.specs.Prelude.{◌≡◌, ◌+◌, ◌-◌, ◌<◌, ◌≤◌, ◌^◌, ◌||◌, length, map, nat_lt, All, IfOk, IfErr, IfSome};
-ghost use Rattle.dt_lang.specs.Program.{form_of_program};
+ghost use Rattle.dt_program.specs.Program.{form_of_program};
 ghost use Rattle.dt_ecb.specs.Ecbs.{added};
 ghost use Rattle.dt_ecb.specs.Enable.{IsVerdict, enabled};
 ghost use Rattle.dt_ecb.specs.Forms.{form_of_ecb, shapes_of, verdict_of};
@@ -14,8 +14,8 @@ use crate::limits::{AGGREGATIONS_MAX, ECBS_MAX};
 use crate::parts::Ecb;
 use crate::shapes::Shapes;
 use dt_cred::Account;
-use dt_lang::Program;
 use dt_machine::Machine;
+use dt_program::Program;
 use std::alloc::Global;
 
 /// The ECBs that a program adds to a consumer whose accepted programs use these aggregations and whose next EPID is

@@ -1,15 +1,15 @@
 //! The first clauses for which a program is refused.
 ghost use Rattle.std.specs.Prelude.{◌≡◌, ◌||◌, true, false, not, MatchOption};
 ghost use Rattle.std.specs.List.{list_any};
-ghost use Rattle.dt_lang.specs.Program.{form_of_clause, form_of_program, form_of_statement};
+ghost use Rattle.dt_program.specs.Program.{form_of_clause, form_of_program, form_of_statement};
 ghost use Rattle.dt_ecb.specs.Enable.{IsFirstSuch, is_unmatched};
 ghost use Rattle.dt_ecb.specs.Enable as spec;
 ghost use Rattle.dt_ecb.specs.Matching.{is_matched as is_match};
 
 use crate::matches::is_matched;
 use dt_cred::Account;
-use dt_lang::{Clause, Program, Statement};
 use dt_machine::Machine;
+use dt_program::{Clause, Program, Statement};
 
 /// The number of the first clause that does what the account has no right to, counted from 1.
 pub(crate) fn first_unallowed(account: &Account, program: &Program) -> Option<u32>

@@ -3,7 +3,7 @@
 ghost use Rattle.std.specs.Prelude.{◌≡◌, ◌+◌, ◌++◌, ℕ, List, length, Contains, IsSome};
 ghost use Rattle.dt_cred.specs.declared.account.Account.{Account};
 ghost use Rattle.dt_machine.specs.Registry.{Registry};
-ghost use Rattle.dt_lang.specs.Program.{ArgForm, CallForm, ClauseForm, aggregate};
+ghost use Rattle.dt_program.specs.Program.{ArgForm, CallForm, ClauseForm, aggregate};
 ghost use Rattle.dt_ecb.specs.Ecbs.{added, ecbs_of};
 ghost use Rattle.dt_ecb.specs.Enable.{Verdict, IsVerdict};
 ghost use Rattle.dt_ecb.specs.Shapes.{ShapeForm, named, uses_of};

@@ -2,15 +2,15 @@
 ghost use Rattle.std.specs.Prelude.{◌≡◌, IfOk};
 ghost use Rattle.std.specs.List.{list_any};
 ghost use Rattle.std.specs.Option.{option_copied};
-ghost use Rattle.dt_lang.specs.Description.{form_of_description};
-ghost use Rattle.dt_lang.specs.Program.{form_of_clause};
+ghost use Rattle.dt_program.specs.Description.{form_of_description};
+ghost use Rattle.dt_program.specs.Program.{form_of_clause};
 ghost use Rattle.dt_ecb.specs.Matching as spec;
 
 use dt_cred::{Account, Class, Probe, Process, may_enable};
 use dt_glob::Pattern;
-use dt_lang::{Clause, Description};
 use dt_machine::{Machine, PID_MAX};
 use dt_names::{Name, ProbeTuple};
+use dt_program::{Clause, Description};
 use std::alloc::{AllocError, Global};
 
 /// Whether a probe matches a clause: the account may enable it, and one of the descriptions asks for it.

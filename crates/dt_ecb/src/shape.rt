@@ -1,13 +1,13 @@
 //! The shape of an aggregation: what two uses of one name must have in common.
 ghost use Rattle.std.specs.Prelude.{◌≡◌, [], ◌∷◌, map, bytes_eq, IfOk};
-ghost use Rattle.dt_lang.specs.Program.{form_of_argument, form_of_call, form_of_statement};
-ghost use Rattle.dt_lang.specs.Program as program;
+ghost use Rattle.dt_program.specs.Program.{form_of_argument, form_of_call, form_of_statement};
+ghost use Rattle.dt_program.specs.Program as program;
 ghost use Rattle.dt_program.specs.declared.clause.Statement.TheVariants.{Aggregate};
 ghost use Rattle.dt_ecb.specs.Forms.{form_of_kind, form_of_function, form_of_shape};
 ghost use Rattle.dt_ecb.specs.Shapes as spec;
 
-use dt_lang::{Aggregation, Argument, Bounds, Call};
 use dt_names::ShortText;
+use dt_program::{Aggregation, Argument, Bounds, Call};
 use std::alloc::{AllocError, Global};
 
 /// What a key is.

@@ -1,13 +1,13 @@
 //! The aggregations of a consumer's accepted programs.
 ghost use Rattle.std.specs.Prelude.{◌≡◌, ◌++◌, [], map, option_map, OnOk, IfOk};
 ghost use Rattle.std.specs.List.{flat_map};
-ghost use Rattle.dt_lang.specs.Program.{form_of_program, form_of_statement};
+ghost use Rattle.dt_program.specs.Program.{form_of_program, form_of_statement};
 ghost use Rattle.dt_ecb.specs.Forms.{form_of_named, form_of_shape, shapes_of};
 ghost use Rattle.dt_ecb.specs.Shapes.{named, used_by, uses_of};
 
 use crate::shape::{Function, Shape};
-use dt_lang::{Program, Statement};
 use dt_names::ShortText;
+use dt_program::{Program, Statement};
 use std::alloc::{AllocError, Global};
 
 /// An aggregation of the accepted programs: its number, its name, and by which function it is kept.

@@ -8,7 +8,7 @@ use Rattle.dt_lang.specs.declared.fault.Refusal.TheVariants as refusal
 use Rattle.dt_lang.specs.declared.fault.Why.TheVariants.{Syntax, TooLong}
 use Rattle.dt_lang.specs.declared.lexer.Lexeme.TheVariants as lexeme
 use Rattle.dt_lang.specs.declared.mode.Mode.{Mode}
-use Rattle.dt_lang.specs.declared.program.Program.{Program}
+use Rattle.dt_program.specs.declared.program.Program.{Program}
 use Rattle.dt_lang.specs.declared.token.Token.{Token}
 use Rattle.dt_lang.specs.ClauseState.{ProgramState, program_start, finished}
 use Rattle.dt_lang.specs.EarlyCause.{AnswersToken}
@@ -16,7 +16,7 @@ use Rattle.dt_lang.specs.Fault.{fault_at}
 use Rattle.dt_lang.specs.Fits.{Fits}
 use Rattle.dt_lang.specs.Lexeme.{Lexes, LiesWithin}
 use Rattle.dt_lang.specs.Mode.{mode_after}
-use Rattle.dt_lang.specs.Program.{form_of_program}
+use Rattle.dt_program.specs.Program.{form_of_program}
 use Rattle.dt_lang.specs.Reads.{Answered}
 use Rattle.dt_lang.proofs.TextLaws.{Going, going_on, going_first, refused_at, overlong_at, stray_at, ended_whole}
 use Rattle.dt_lang.proofs.TextLaws.{ended_early}

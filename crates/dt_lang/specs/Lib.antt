@@ -20,7 +20,7 @@ pub mod Number
 pub mod Piece
 pub mod ReaderView
 pub mod PlaceView
-pub mod Program
+pub use Rattle.dt_program.specs.Program
 pub mod Spelling
 pub mod Word
 pub use Rattle.dt_program.specs.Description

@@ -2,7 +2,7 @@
 use Rattle.std.specs.Prelude.{ℕ, List, [], ◌∷◌, ◌++◌, Result, Ok, Err}
 use Rattle.dt_lang.specs.declared.fault.LangFault.{LangFault}
 use Rattle.dt_lang.specs.declared.fault.LangFault.TheVariants as lang
-use Rattle.dt_lang.specs.declared.program.Program.{Program}
+use Rattle.dt_program.specs.declared.program.Program.{Program}
 use Rattle.dt_lang.specs.declared.fault.Why.{Why}
 use Rattle.dt_lang.specs.declared.fault.Why.TheVariants.{Syntax, TooLong}
 use Rattle.dt_lang.specs.declared.lexer.Lexeme.TheVariants as lexeme
@@ -14,7 +14,7 @@ use Rattle.dt_lang.specs.Grammar.{ReadsProgram}
 use Rattle.dt_lang.specs.Lexeme.{Lexes}
 use Rattle.dt_lang.specs.Mode.{mode_after}
 use Rattle.dt_program.specs.Clause.{ClauseForm}
-use Rattle.dt_lang.specs.Program.{form_of_program}
+use Rattle.dt_program.specs.Program.{form_of_program}
 use Rattle.dt_lang.specs.Refused.{Cause, because, destroys, Refused, NoneRefused}
 
 -- The tokens stand at the front of the text, up to this byte, each the lexeme behind the one before it, in the mode

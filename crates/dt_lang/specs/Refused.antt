@@ -9,7 +9,7 @@ use Rattle.dt_program.specs.Bounds.{AreBounds}
 use Rattle.dt_lang.specs.declared.fault.Why.{Why}
 use Rattle.dt_lang.specs.declared.fault.Why.TheVariants.{Syntax, Probe, Action, Variable, TooLong, Range}
 use Rattle.dt_program.specs.declared.clause.TheConstants.{DESCRIPTIONS_MAX, STATEMENTS_MAX, KEYS_MAX}
-use Rattle.dt_lang.specs.declared.program.TheConstants.{CLAUSES_MAX, TOKENS_MAX}
+use Rattle.dt_program.specs.declared.program.TheConstants.{CLAUSES_MAX, TOKENS_MAX}
 use Rattle.dt_lang.specs.declared.token.Sign.TheVariants as sign
 use Rattle.dt_lang.specs.declared.token.Token.{Token}
 use Rattle.dt_lang.specs.declared.token.Token.TheVariants as token

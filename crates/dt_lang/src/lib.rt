@@ -18,19 +18,18 @@ mod number;
 mod parse;
 mod piece;
 mod place;
-mod program;
 mod reader;
 mod sign;
 mod token;
 mod word;
 
 pub use dt_program::{
-    Aggregation, Argument, Bounds, Call, Clause, DESCRIPTIONS_MAX, Description, FRAMES_MAX, Frames,
-    KEYS_MAX, LEVELS_MAX, STATEMENTS_MAX, Statement, one_description, some_description,
+    Aggregation, Argument, Bounds, CLAUSES_MAX, Call, Clause, DESCRIPTIONS_MAX, Description,
+    FRAMES_MAX, Frames, KEYS_MAX, LEVELS_MAX, Program, STATEMENTS_MAX, Statement, TOKENS_MAX,
+    one_description, some_description,
 };
 pub use expression_laws::{one_argument, one_expression};
 pub use fault::{LangFault, Why};
-pub use parse::{one_reading, some_reading};
-pub use program::{CLAUSES_MAX, Program, TOKENS_MAX};
+pub use parse::{ParseProgram, one_reading, some_reading};
 pub use token::{Sign, Token};
 pub use word::{Action, Destructive, Function, Word, one_word};

@@ -1,7 +1,7 @@
 //! A text is read as a program, or refused with the place and the cause.
 ghost use Rattle.std.specs.Prelude.{◌≡◌, ℕ, Err, IfOk, List};
 ghost use Rattle.dt_lang.specs.ClauseState.{program_start};
-ghost use Rattle.dt_lang.specs.Program.{form_of_program};
+ghost use Rattle.dt_program.specs.Program.{form_of_program};
 ghost use Rattle.dt_lang.specs.ReaderView.{program_state_of};
 ghost use Rattle.dt_lang.specs.Reads.{Answered, Reading, Reads, destructive, fault, program};
 ghost use Rattle.dt_lang.specs.declared.fault.Why.{Why};
@@ -10,15 +10,20 @@ ghost use Rattle.dt_lang.specs.declared.word.Destructive.{Destructive};
 use crate::fault::{LangFault, Why};
 use crate::lexer::{Lexeme, next, one_lexeme, some_lexeme};
 use crate::mode::Mode;
-use crate::program::Program;
 use crate::reader::ProgramReader;
+use dt_program::Program;
 use std::alloc::Global;
 
-impl Program {
+/// What is read of a text as a program: with it in scope, `Program::parse` reads one.
+pub trait ParseProgram: Sized {
     /// Reads a program.
     ///
     /// A text that is none is refused at its first token for which a cause holds.
-    pub fn parse(alloc: Global, text: &[u8]) -> Result<Self, LangFault>
+    fn parse(alloc: Global, text: &[u8]) -> Result<Self, LangFault>;
+}
+
+impl ParseProgram for Program {
+    fn parse(alloc: Global, text: &[u8]) -> Result<Self, LangFault>
         ensures read { IfOk result (λ parsed. Reads text.now (program (form_of_program parsed))) }
         ensures fault { (at : ℕ) (why : Why) → result ≡ Err (LangFault.Program at why)
             → Reads text.now (fault at why) }

@@ -7,11 +7,10 @@ ghost use Rattle.dt_lang.specs.PlaceView.{key_forms, slot_form};
 ghost use Rattle.dt_program.specs.Clause.{aggregate, form_of_call, form_of_statement};
 ghost use Rattle.dt_lang.specs.Stand.{divides_in};
 
-use crate::program::TOKENS_MAX;
 use crate::word::{Action, Function};
 use dt_expr::Expr;
 use dt_names::ShortText;
-use dt_program::{Aggregation, Argument, Call, KEYS_MAX, Statement};
+use dt_program::{Aggregation, Argument, Call, KEYS_MAX, Statement, TOKENS_MAX};
 
 /// An aggregation's name and keys.
 #[derive(Drop)]

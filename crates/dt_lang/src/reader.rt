@@ -8,7 +8,7 @@ ghost use Rattle.dt_lang.specs.Fits.{Fits, FitsClause, FitsWithin, SlotHasRoom};
 ghost use Rattle.dt_lang.specs.ExpressionView.{state_of};
 ghost use Rattle.dt_lang.specs.PlaceView.{bound_of, key_forms, place_form, slot_form};
 ghost use Rattle.dt_program.specs.Clause.{aggregate, form_of_argument, lquantize, form_of_clause, form_of_statement, number};
-ghost use Rattle.dt_lang.specs.Program.{form_of_program};
+ghost use Rattle.dt_program.specs.Program.{form_of_program};
 ghost use Rattle.dt_lang.specs.ReaderView.{Leads, clause_of, clauses_of, program_state_of};
 ghost use Rattle.dt_program.specs.declared.clause.TheConstants.{DESCRIPTIONS_MAX, KEYS_MAX, STATEMENTS_MAX};
 
@@ -16,14 +16,13 @@ use crate::early_cause::{early_assigned, early_begins, early_elsewhere, early_op
 use crate::expression::ExpressionReader;
 use crate::fault::{Refusal, Why};
 use crate::place::{Bound, Levels, Place, Slot, Target, call_of};
-use crate::program::{CLAUSES_MAX, Program};
 use crate::token::{Sign, Token};
 use crate::word::{Action, Function, Word};
 use dt_expr::Expr;
 use dt_names::ShortText;
 use dt_program::{
-    Argument, Bounds, Call, Clause, DESCRIPTIONS_MAX, Description, Frames, STATEMENTS_MAX,
-    Statement,
+    Argument, Bounds, CLAUSES_MAX, Call, Clause, DESCRIPTIONS_MAX, Description, Frames, Program,
+    STATEMENTS_MAX, Statement,
 };
 use std::alloc::{AllocError, Global};
 use std::mem;

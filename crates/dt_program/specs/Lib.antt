@@ -2,3 +2,4 @@
 pub mod Bounds
 pub mod Description
 pub mod Clause
+pub mod Program

@@ -7,9 +7,11 @@
 
 mod clause;
 mod description;
+mod program;
 
 pub use clause::{
     Aggregation, Argument, Bounds, Call, Clause, DESCRIPTIONS_MAX, FRAMES_MAX, Frames, KEYS_MAX,
     LEVELS_MAX, STATEMENTS_MAX, Statement,
 };
 pub use description::{Description, one_description, some_description};
+pub use program::{CLAUSES_MAX, Program, TOKENS_MAX};

@@ -3,7 +3,7 @@ use dt_ecb::{Ecb, EnableFault, Shapes, enable, listed};
 use dt_expr::{Expr, Text};
 use dt_lang::{
     Aggregation, Argument, Bounds, CLAUSES_MAX, Call, Clause, DESCRIPTIONS_MAX, Description,
-    Frames, KEYS_MAX, Program, STATEMENTS_MAX, Statement,
+    Frames, KEYS_MAX, ParseProgram, Program, STATEMENTS_MAX, Statement,
 };
 use dt_machine::Machine;
 use dt_names::ShortText;

@@ -1,7 +1,9 @@
 //! Texts of programs: which are read and which are refused, with the place and the cause, and what their expressions come to.
 use dt_cred::{Mode, Probe, Process};
 use dt_expr::{Expr, NumberVariable, Scene, TextVariable, eval};
-use dt_lang::{Action, Argument, Destructive, Function, LangFault, Program, Statement, Word};
+use dt_lang::{
+    Action, Argument, Destructive, Function, LangFault, ParseProgram, Program, Statement, Word,
+};
 use dt_machine::Firing;
 use dt_names::{ProbeTuple, ShortText};
 use std::alloc::Global;

@@ -1,7 +1,7 @@
 //! What clauses leave, byte by byte, and records back from their bytes.
 use dt_cred::{Mode, Probe, Process};
 use dt_expr::{Scene, Value};
-use dt_lang::Program;
+use dt_lang::{ParseProgram, Program};
 use dt_machine::Firing;
 use dt_names::{ProbeTuple, ShortText};
 use dt_record::{Layout, Taken, split, taken};

@@ -1,7 +1,7 @@
 -- The ECBs of the clauses so far.
 use Rattle.std.proofs.Common.{◌≡◌, ◌*◌, ◌≤◌, length, map, take}
 use Rattle.dt_machine.specs.declared.limits.TheConstants.{PROBE_ID_MAX}
-use Rattle.dt_lang.specs.Program.{form_of_clause}
+use Rattle.dt_program.specs.Program.{form_of_clause}
 use Rattle.dt_ecb.specs.Places.{keys_from, kept_from, kept_in}
 use Rattle.dt_ecb.proofs.ecbs.ecbs_of.Given as goal
 

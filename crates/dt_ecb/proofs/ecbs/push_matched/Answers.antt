@@ -1,7 +1,7 @@
 -- A probe makes an ECB, or it doesn't.
 use Rattle.std.proofs.Common.{◌≡◌, ◌+◌, ◌++◌, ◌∷◌, [], List, ◌∙◌, sym, ap, length, map, arith}
 use Rattle.std.specs.Global.{Vec}
-use Rattle.dt_lang.specs.Program.{form_of_clause}
+use Rattle.dt_program.specs.Program.{form_of_clause}
 use Rattle.dt_ecb.specs.Matching.{is_matched}
 use Rattle.dt_ecb.specs.Places.{kept_in}
 use Rattle.dt_ecb.specs.declared.parts.Ecb.{Ecb}

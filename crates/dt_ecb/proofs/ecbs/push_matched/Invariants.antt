@@ -1,6 +1,6 @@
 -- The ECBs of the matched probes so far are added.
 use Rattle.std.proofs.Common.{◌≡◌, ◌+◌, ◌≤◌, ◌++◌, length, map, take}
-use Rattle.dt_lang.specs.Program.{form_of_clause}
+use Rattle.dt_program.specs.Program.{form_of_clause}
 use Rattle.dt_ecb.specs.Matching.{is_matched}
 use Rattle.dt_ecb.specs.Places.{kept_in}
 use Rattle.dt_ecb.proofs.PlaceLemmas.{kept_of}

@@ -1,7 +1,7 @@
 -- What becomes of the program.
 use Rattle.std.proofs.Common.{◌∙◌, sym, length, arith}
 use Rattle.std.proofs.lemmas.List.{length-map}
-use Rattle.dt_lang.specs.Program.{form_of_program, form_of_clause}
+use Rattle.dt_program.specs.Program.{form_of_program, form_of_clause}
 use Rattle.dt_ecb.specs.Forms.{shapes_of}
 use Rattle.dt_ecb.specs.Shapes.{uses_of}
 use Rattle.dt_ecb.proofs.EnableLemmas.{no_answer, much_is, forms_are, placed}

@@ -1,6 +1,6 @@
 -- A clause ends the walk, or the walk goes on.
 use Rattle.std.proofs.Common.{◌+◌, List, map, not, ◌∙◌, sym, ap, subst}
-use Rattle.dt_lang.specs.Program.{form_of_clause}
+use Rattle.dt_program.specs.Program.{form_of_clause}
 use Rattle.dt_program.specs.declared.clause.Clause.{Clause}
 use Rattle.dt_ecb.specs.Enable.{IsFirstSuch, is_unmatched}
 use Rattle.dt_ecb.specs.Matching.{is_matched}

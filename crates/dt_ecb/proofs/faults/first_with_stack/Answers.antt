@@ -1,6 +1,6 @@
 -- A clause ends the walk, or the walk goes on.
 use Rattle.std.proofs.Common.{◌+◌, List, map, ◌∙◌, sym, subst}
-use Rattle.dt_lang.specs.Program.{form_of_clause, form_of_statement}
+use Rattle.dt_program.specs.Program.{form_of_clause, form_of_statement}
 use Rattle.dt_program.specs.declared.clause.Clause.{Clause}
 use Rattle.dt_ecb.specs.Enable.{IsFirstSuch, has_stack, is_stack}
 use Rattle.dt_ecb.proofs.FirstLemmas.{first_found, none_more}

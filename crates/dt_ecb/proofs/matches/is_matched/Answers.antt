@@ -1,6 +1,6 @@
 -- The test of a clause without its place in memory is the one of its form.
 use Rattle.std.proofs.Common.{◌∙◌, sym}
-use Rattle.dt_lang.specs.Description.{form_of_description}
+use Rattle.dt_program.specs.Description.{form_of_description}
 use Rattle.dt_ecb.specs.Matching as spec
 use Rattle.dt_ecb.proofs.ProbeLemmas.{list_any-map, both}
 use Rattle.dt_ecb.proofs.matches.is_matched.Goals as goal

@@ -1,6 +1,6 @@
 -- The listed ones of the probes so far.
 use Rattle.std.proofs.Common.{◌≡◌, take, filter}
-use Rattle.dt_lang.specs.Description.{form_of_description}
+use Rattle.dt_program.specs.Description.{form_of_description}
 use Rattle.dt_ecb.specs.Matching.{is_listed}
 use Rattle.dt_ecb.proofs.matches.listed.Given as goal
 

@@ -1,7 +1,7 @@
 -- The uses of the statements so far.
 use Rattle.std.proofs.Common.{◌≡◌, ◌++◌, map, take}
 use Rattle.std.specs.List.{flat_map}
-use Rattle.dt_lang.specs.Program.{form_of_statement}
+use Rattle.dt_program.specs.Program.{form_of_statement}
 use Rattle.dt_ecb.specs.Forms.{form_of_shape}
 use Rattle.dt_ecb.specs.Shapes.{used_by}
 use Rattle.dt_ecb.proofs.shapes.push_uses.Given as goal

@@ -3,7 +3,7 @@ use Rattle.std.proofs.Common.{None, Some, Err, Result, sym, subst}
 use Rattle.dt_lang.specs.declared.fault.LangFault.{LangFault}
 use Rattle.dt_lang.specs.declared.mode.Mode.{Mode}
 use Rattle.dt_lang.specs.declared.mode.Mode.TheVariants.{Head}
-use Rattle.dt_lang.specs.declared.program.Program.{Program}
+use Rattle.dt_program.specs.declared.program.Program.{Program}
 use Rattle.dt_lang.specs.ClauseState.{ProgramState}
 use Rattle.dt_lang.specs.Reads.{Answered}
 use Rattle.dt_lang.specs.ReaderView.{program_state_of}

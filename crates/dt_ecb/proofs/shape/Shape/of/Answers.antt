@@ -1,7 +1,7 @@
 -- All the keys.
 use Rattle.std.proofs.Common.{◌∷◌, [], List, ◌∙◌, sym, ap, map}
 use Rattle.std.proofs.lemmas.List.{take_all}
-use Rattle.dt_lang.specs.Program.{form_of_argument, form_of_call}
+use Rattle.dt_program.specs.Program.{form_of_argument, form_of_call}
 use Rattle.dt_program.specs.declared.clause.Argument.{Argument}
 use Rattle.dt_ecb.specs.Forms.{form_of_kind}
 use Rattle.dt_ecb.specs.Shapes.{ShapeForm, FunctionForm, KeyKind, kind_of, function_of}

@@ -1,6 +1,6 @@
 -- The kinds of the keys so far.
 use Rattle.std.proofs.Common.{◌≡◌, map, take}
-use Rattle.dt_lang.specs.Program.{form_of_argument}
+use Rattle.dt_program.specs.Program.{form_of_argument}
 use Rattle.dt_ecb.specs.Forms.{form_of_kind}
 use Rattle.dt_ecb.specs.Shapes.{kind_of}
 use Rattle.dt_ecb.proofs.shape.Shape.of.Given as goal

@@ -1,6 +1,6 @@
 -- The accepted uses, and those of the clauses so far.
 use Rattle.std.proofs.Common.{◌≡◌, ◌++◌, map, take}
-use Rattle.dt_lang.specs.Program.{form_of_clause}
+use Rattle.dt_program.specs.Program.{form_of_clause}
 use Rattle.dt_ecb.specs.Forms.{form_of_shape}
 use Rattle.dt_ecb.specs.Shapes.{uses_of}
 use Rattle.dt_ecb.proofs.shapes.Shapes.after.Given as goal

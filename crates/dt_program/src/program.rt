@@ -1,8 +1,8 @@
 //! A program: clauses, one at least.
 ghost use Rattle.std.specs.Prelude.{◌≤◌, vec_len};
-ghost use Rattle.dt_lang.specs.declared.program.TheConstants.{CLAUSES_MAX};
+ghost use Rattle.dt_program.specs.declared.program.TheConstants.{CLAUSES_MAX};
 
-use dt_program::Clause;
+use crate::clause::Clause;
 
 /// The most clauses of a program.
 pub const CLAUSES_MAX: usize = 64;
