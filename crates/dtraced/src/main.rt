@@ -7,8 +7,6 @@
 
 mod fault;
 pub mod seat;
-#[cfg(test)]
-mod tests;
 mod words;
 pub mod writing;
 

@@ -1,5 +1,7 @@
 //! Lines that are step lines, and lines that are none.
-use super::*;
+use dt_world::StepLine;
+use std::alloc::Global;
+use std::test::Fail;
 
 /// The step line of a text, as text: its name, its numbers, and its bytes.
 fn told(alloc: Global, text: &[u8]) -> Result<String, Fail> {

@@ -1,34 +1,10 @@
-//! Each session is answered as if it were alone: a worked row, and random steps.
-use super::*;
-
-/// Without the lines of the second seat, the first is answered the same.
-#[test]
-fn one_seat_of_a_row(rt: HostRuntime) -> Result<(), Fail> {
-    let alloc = rt.alloc();
-    let machine = machine_with(alloc, rows::TWO_READS, "")?;
-    let mut input = String::new(alloc);
-    for line in rows::SHARED.lines() {
-        if line != "offer 0 1" && !line.starts_with("open 1 ") && !line.starts_with("call 1 ") {
-            input.push_str(line)?;
-            input.push_str("\n")?;
-        }
-    }
-    let mut answer = String::new(alloc);
-    for line in rows::SHARED_ANSWER.lines() {
-        if line.starts_with("0 ") {
-            answer.push_str(line)?;
-            answer.push_str("\n")?;
-        }
-    }
-    assert_eq!(rt; answer.lines().count(), 3);
-    answered(
-        &rt,
-        alloc,
-        machine.as_str(),
-        input.as_str(),
-        answer.as_str(),
-    )
-}
+//! Random lists of steps: each session is answered as if it were alone.
+use crate::calls::{asked, look, machine_of, ran, seat_numbered};
+use dt_chain::Seat;
+use dt_machine::Machine;
+use dt_steps::{Ran, Step};
+use std::alloc::Global;
+use std::test::Fail;
 
 /// Two processors, three accounts of which one may not trace, and six firings.
 const MACHINE: &str = r#"{"cpus":2,
@@ -144,18 +120,14 @@ impl Planned {
     /// The step itself.
     fn step(&self, alloc: Global, machine: &Machine) -> Result<Step, Fail> {
         if let Kind::Look(cpu, place) = self.kind {
-            let firing = machine.firing(cpu, place).ok_or("no firing")?;
-            return Ok(Step::Look(cpu, *firing));
+            return look(machine, cpu, cpu, place);
         }
         let Some(seat) = self.seat else {
             return Err("no seat".into());
         };
         match self.kind {
             Kind::Open(at) => Ok(Step::Open(seat, named(&ACCOUNTS, at).as_bytes().to_vec(alloc)?)),
-            Kind::Ask(at) => {
-                let line = named(&LINES, at).as_bytes().to_vec(alloc)?;
-                Ok(Step::Ask(seat, Asked::Line(line)))
-            }
+            Kind::Ask(at) => Ok(Step::Ask(seat, asked(alloc, named(&LINES, at).as_bytes())?)),
             Kind::Publish => Ok(Step::Publish(seat)),
             Kind::Finish => Ok(Step::Finish(seat)),
             Kind::Withdraw => Ok(Step::Withdraw(seat)),
@@ -191,7 +163,7 @@ impl Plan {
             steps: Vec::new(alloc),
         };
         for number in USED {
-            let seat = Seat::new(number).ok_or("no seat")?;
+            let seat = seat_numbered(number)?;
             plan.places.push(Place {
                 seat,
                 is_open: false,
@@ -283,7 +255,7 @@ impl Plan {
                 steps.push(planned.step(alloc, machine)?)?;
             }
         }
-        Ok(run(alloc, machine, &steps)?)
+        ran(alloc, machine, &steps)
     }
 
     /// How many of its steps have this name.
@@ -310,7 +282,7 @@ fn told_at(alloc: Global, ran: &Ran, seat: Seat) -> Result<Vec<u8>, Fail> {
 #[test]
 fn random_steps(rt: HostRuntime) -> Result<(), Fail> {
     let alloc = rt.alloc();
-    let machine = Machine::read(alloc, MACHINE.as_bytes())?;
+    let machine = machine_of(alloc, MACHINE)?;
     for seed in [1, 2] {
         let plan = Plan::new(alloc, seed, 500)?;
         for name in [

@@ -1,5 +1,10 @@
 //! Lists of steps, enabled or not, each with what is answered and what its looks name.
-use super::*;
+use crate::calls::{look, machine_of, named, ran, replies_of, seat_numbered, step_on, words_of};
+use dt_machine::Machine;
+use dt_steps::{Ran, Step};
+use std::alloc::Global;
+use std::process::Abort;
+use std::test::Fail;
 
 /// Two processors, of which the first fires a system call twice, with 7 and with 8.
 const MACHINE: &str = r#"{"cpus":2,
@@ -59,11 +64,16 @@ const SHARED_MASKS: &str = "0:0 1:0 / 0:0 1:0 / ";
 #[test]
 fn sessions_share_a_machine(rt: HostRuntime) -> Result<(), Fail> {
     let alloc = rt.alloc();
-    let machine = Machine::read(alloc, MACHINE.as_bytes())?;
+    let machine = machine_of(alloc, MACHINE)?;
     let ran = run_of(alloc, &machine, SHARED)?;
-    assert_eq!(rt; answers_of(alloc, &ran)?.as_str(), SHARED_ANSWERS);
-    assert_eq!(rt; masks_of(alloc, &ran)?.as_str(), SHARED_MASKS);
-    Ok(())
+    told(
+        &rt,
+        alloc,
+        &ran,
+        SHARED_ANSWERS,
+        SHARED_MASKS,
+        "two sessions",
+    )
 }
 
 /// In each row steps, with `;` between them, what is answered, and what the looks name.
@@ -117,7 +127,7 @@ const ROWS: &[(&str, &str, &str)] = &[
 #[test]
 fn steps_are_enabled_as_the_table_says(rt: HostRuntime) -> Result<(), Fail> {
     let alloc = rt.alloc();
-    let machine = Machine::read(alloc, MACHINE.as_bytes())?;
+    let machine = machine_of(alloc, MACHINE)?;
     for (steps, answers, masks) in ROWS {
         compared(&rt, alloc, &machine, steps, answers, masks)?;
     }
@@ -138,8 +148,24 @@ fn compared(
         lines.push_str("\n")?;
     }
     let ran = run_of(alloc, machine, lines.as_str())?;
-    assert_eq!(rt; answers_of(alloc, &ran)?.as_str(), answers, "{steps}");
-    assert_eq!(rt; masks_of(alloc, &ran)?.as_str(), masks, "{steps}");
+    told(rt, alloc, &ran, answers, masks, steps)
+}
+
+/// Compares what was answered, and what the looks named.
+fn told(
+    rt: &impl Abort,
+    alloc: Global,
+    ran: &Ran,
+    answers: &str,
+    masks: &str,
+    steps: &str,
+) -> Result<(), Fail> {
+    assert_eq!(rt;
+        replies_of(alloc, ran)?.as_slice(),
+        answers.as_bytes(),
+        "{steps}"
+    );
+    assert_eq!(rt; masks_of(alloc, ran)?.as_str(), masks, "{steps}");
     Ok(())
 }
 
@@ -149,68 +175,27 @@ fn run_of(alloc: Global, machine: &Machine, lines: &str) -> Result<Ran, Fail> {
     for line in lines.lines() {
         steps.push(step_of(alloc, machine, words_of(line))?)?;
     }
-    Ok(run(alloc, machine, &steps)?)
-}
-
-/// The first word of a line, the second, and the rest.
-fn words_of(line: &str) -> (&str, &str, &str) {
-    let (word, rest) = line.split_once(' ').unwrap_or((line, ""));
-    let (first, more) = rest.split_once(' ').unwrap_or((rest, ""));
-    (word, first, more)
+    ran(alloc, machine, &steps)
 }
 
 fn step_of(alloc: Global, machine: &Machine, words: (&str, &str, &str)) -> Result<Step, Fail> {
     let (word, first, more) = words;
     let number = first.parse::<u32>()?;
     match word {
-        "look" => {
-            let firing = machine.firing(0, more.parse::<u32>()?).ok_or("no firing")?;
-            return Ok(Step::Look(number, *firing));
-        }
-        "offer" => return Ok(Step::Offer(number, seat_numbered(more.parse::<u32>()?)?)),
-        _ => {}
+        "look" => look(machine, number, 0, more.parse::<u32>()?),
+        "offer" => Ok(Step::Offer(number, seat_numbered(more.parse::<u32>()?)?)),
+        _ => step_on(alloc, word, seat_numbered(number)?, more),
     }
-    let seat = seat_numbered(number)?;
-    match word {
-        "open" => Ok(Step::Open(seat, more.as_bytes().to_vec(alloc)?)),
-        "ask" => Ok(Step::Ask(seat, Asked::Line(more.as_bytes().to_vec(alloc)?))),
-        "publish" => Ok(Step::Publish(seat)),
-        "finish" => Ok(Step::Finish(seat)),
-        "withdraw" => Ok(Step::Withdraw(seat)),
-        _ => Ok(Step::Close(seat)),
-    }
-}
-
-fn seat_numbered(number: u32) -> Result<Seat, Fail> {
-    Ok(Seat::new(number).ok_or("no seat")?)
-}
-
-/// The replies, each with its seat.
-fn answers_of(alloc: Global, ran: &Ran) -> Result<String, Fail> {
-    let mut text = String::new(alloc);
-    for (seat, bytes) in &ran.replies {
-        let reply = str::from_utf8(bytes).ok().ok_or("no text")?;
-        text.push_str(format!(in alloc; "{} {reply}", seat.number())?.as_str())?;
-    }
-    Ok(text)
 }
 
 /// The seats that each mask names, with their lives.
 fn masks_of(alloc: Global, ran: &Ran) -> Result<String, Fail> {
     let mut text = String::new(alloc);
     for mask in &ran.masks {
-        text.push_str(named(alloc, *mask)?.as_str())?;
-        text.push_str("/ ")?;
-    }
-    Ok(text)
-}
-
-fn named(alloc: Global, mask: SeatMask) -> Result<String, Fail> {
-    let mut text = String::new(alloc);
-    for number in 0..SEATS as u32 {
-        if let Some(life) = mask.life_of(seat_numbered(number)?) {
-            text.push_str(format!(in alloc; "{number}:{life} ")?.as_str())?;
+        for (seat, life) in &named(alloc, *mask)? {
+            text.push_str(format!(in alloc; "{seat}:{life} ")?.as_str())?;
         }
+        text.push_str("/ ")?;
     }
     Ok(text)
 }
