@@ -79,6 +79,132 @@ def megabyte_snap(folder):
     yield "a snap of a megabyte", run("replay", path, text="\n".join([*steps, ""]).encode()), ("".join(f"0 {it}\n" for it in wanted).encode(), 0)
 
 
+OK = '{"ok":true}'
+
+
+def near(limit, least=1):
+    """Each power of two up to a limit with its neighbours, and the limit."""
+    numbers = {power + by for power in (1 << n for n in range(limit.bit_length())) for by in (-1, 0, 1)} | {limit}
+    return sorted(it for it in numbers if least <= it <= limit)
+
+
+def enable(text):
+    return call(cmd="enable", text=text)
+
+
+def enabled(count, first=1):
+    return f'{{"count":{count},"first":{first},"ok":true}}'
+
+
+def snapped(data, drops=0, cpu=0):
+    return f'{{"cpu":{cpu},"data":"{data}","drops":{drops},"filled":false,"ok":true}}'
+
+
+def number(value):
+    return f"{value % (1 << 64):016x}"
+
+
+def begun(text, data):
+    """Of a program of one clause at BEGIN: what it leaves."""
+    return [(enable(text), enabled(1)), (call(cmd="go"), OK), (call(cmd="snap", cpu=0), snapped(f"{1:08x}" + data))]
+
+
+def sums(tokens):
+    """An expression of so many tokens, and its value."""
+    ones = (tokens + 1) // 2
+    return ("" if tokens % 2 else "-") + "+".join(["1"] * ones), ones if tokens % 2 else ones - 2
+
+
+def texts():
+    """Programs of each size: bytes, tokens, clauses, descriptions, statements, keys, texts and names."""
+    yield from ([(enable("read:entry{}" + " " * (size - 12)), enabled(1))] for size in near(65_000, 12))
+    yield from (begun(f"BEGIN{{trace({sums(tokens)[0]})}}", number(sums(tokens)[1])) for tokens in range(1, 65))
+    yield from ([(enable("read:entry{}" * count), enabled(count))] for count in range(1, 65))
+    yield from ([(enable(",".join(["read:entry"] * count) + "{}"), enabled(1))] for count in range(1, 17))
+    yield from (begun("BEGIN{" + ";".join(f"trace({place})" for place in range(count)) + "}", "".join(map(number, range(count))))
+                for count in range(1, 9))
+    yield from ([(enable("BEGIN{@[" + ",".join(map(str, range(count))) + "] = count()}"), enabled(1)), (call(cmd="go"), OK),
+                 (call(cmd="agg", name=""), f'{{"fn":"count","name":"","ok":true,"rows":[{{"key":{json.dumps(list(range(count)), separators=(",", ":"))},"value":1}}]}}')]
+                for count in range(1, 5))
+    yield from (begun(f'BEGIN{{trace("{"x" * size}")}}', ("78" * size).ljust(64, "0")) for size in range(32))
+    yield from ([(enable(f"BEGIN{{@{'x' * size} = sum(5)}}"), enabled(1)),
+                 (call(cmd="agg", name="x" * size), f'{{"fn":"sum","name":"{"x" * size}","ok":true,"rows":[]}}')] for size in range(32))
+    yield [(enable("read:entry{}" * 64), enabled(64, 64 * place + 1)) for place in range(16)] + [(enable("read:entry{}"), '{"error":9,"name":"Limit"}')]
+
+
+def buffers():
+    """Buffers of each size, filled by firings of twelve bytes each as far as 200 go, and one firing more."""
+    place = 0
+    for size in near(1 << 20):
+        kept = min(size // 12, 200)
+        drops = 1 if kept < 200 else 0
+        fires, place = range(place, place + kept + drops), place + kept + drops
+        data = "".join(f"{1:08x}" + number(it) for it in fires[:kept])
+        yield [(call(cmd="option", name="bufsize", value=size), OK), (enable("read:entry{trace(arg0)}"), enabled(1)), (call(cmd="go"), OK),
+               *[("fire 0", None)] * len(fires), (call(cmd="snap", cpu=0), snapped(data, drops))]
+
+
+def every_buffer():
+    """A session for each size of a buffer up to the one that is had where no line sets it."""
+    for size in range(1, 1 << 16):
+        yield [(call(cmd="option", name="bufsize", value=size), OK), (enable("read:entry{}"), enabled(1)), (call(cmd="go"), OK)]
+
+
+def histories():
+    """Histories of each length, and one firing more, which isn't seen."""
+    for size in near(4_097):
+        yield [(call(cmd="option", name="histsize", value=size), OK), (enable("read:entry{@ = count()}"), enabled(1)), (call(cmd="go"), OK),
+               *[("fire 0", None)] * (size + 1), (call(cmd="agg", name=""), f'{{"fn":"count","name":"","ok":true,"rows":[{{"key":[],"value":{size}}}]}}'),
+               (call(cmd="status"), f'{{"aggdrops":[0],"cause":"history","errors":[0],"exit":null,"ok":true,"phase":"stopped","seen":{size}}}')]
+
+
+def stores():
+    """Stores for each number of entries, and one entry more, which is dropped."""
+    place = 0
+    for count in near(600):
+        first, place = place, place + count + 1
+        rows = ",".join(f'{{"key":[{it}],"value":1}}' for it in range(first, first + count))
+        yield [(call(cmd="option", name="aggsize", value=24 * count), OK), (enable("read:entry{@[arg0] = count()}"), enabled(1)), (call(cmd="go"), OK),
+               *[("fire 0", None)] * (count + 1), (call(cmd="agg", name=""), f'{{"fn":"count","name":"","ok":true,"rows":[{rows}]}}'),
+               (call(cmd="status"), f'{{"aggdrops":[1],"cause":null,"errors":[0],"exit":null,"ok":true,"phase":"active","seen":{count + 1}}}')]
+
+
+def lines():
+    """Lines of each length, which are answered, and one byte more."""
+    status = '{"aggdrops":[0],"cause":null,"errors":[0],"exit":null,"ok":true,"phase":"inactive","seen":0}'
+    asked = [call(cmd="status") + " " * (size - 16) for size in near(1 << 16, 16)]
+    yield [*((line, status) for line in asked), (asked[-1] + " ", '{"error":3,"name":"LineLong"}')]
+
+
+def sizes(folder):
+    """Each size and count up to its limit: sessions one after another on one seat, whose replies were reckoned here."""
+    path = folder / "machine.json"
+    path.write_text(machine([[fired(place) for place in range(FIRINGS_MAX)]]))
+    for part in (texts, buffers, every_buffer, histories, stores, lines):
+        steps, wanted = [], []
+        for session in part():
+            steps += ["open 0 root", *(step for step, _answer in session), call(cmd="close")]
+            wanted += [*(answer for _step, answer in session if answer), OK]
+        found, status = run("replay", path, text="\n".join([*steps, ""]).encode())
+        found = found.decode().split("\n")[:-1]
+        yield f"replies to {part.__name__}", (len(found), status), (len(wanted), 0)
+        for place, (reply, answer) in enumerate(zip(found, wanted)):
+            if reply != "0 " + answer:
+                yield f"reply {place + 1} to {part.__name__}", reply, "0 " + answer
+
+
+def probes(folder):
+    """Machines of each number of probes, all of them listed."""
+    for count in near(4_096):
+        path = folder / "machine.json"
+        names = [f"syscall::f{place}:entry" for place in range(count)]
+        path.write_text(json.dumps({**json.loads(machine([[]])), "probes": names}))
+        own = [(1, "dtrace:::BEGIN"), (2, "dtrace:::END")]
+        shown = ",".join(f'{{"id":{number},"name":"{name}"}}' for number, name in [*own, *enumerate(names, 3)])
+        found = run("replay", path, text=b"open 0 root\n" + call(cmd="list", probe="").encode() + b"\n")
+        yield f"a list of {count} probes", found, (f'0 {{"ok":true,"probes":[{shown}]}}\n'.encode(), 0)
+
+
 ASKED = [
     {"cmd": "enable", "text": "read:entry{trace(arg0)}"},
     {"cmd": "enable", "text": "read:entry/arg0 % 2/{@a[execname] = sum(arg0)} END{trace(1)}"},
@@ -125,7 +251,7 @@ def random_trails(folder):
 def main():
     right = wrong = 0
     with tempfile.TemporaryDirectory() as name:
-        for part in (longest_trail, megabyte_snap, random_trails):
+        for part in (longest_trail, megabyte_snap, sizes, probes, random_trails):
             for what, found, wanted in part(pathlib.Path(name)):
                 right, wrong = right + (found == wanted), wrong + (found != wanted)
                 if found != wanted:
