@@ -1,4 +1,4 @@
-//! What a program is made of: clauses, with their descriptions, expressions, statements and aggregations.
+//! What a program is: clauses, with their descriptions, expressions, statements and aggregations.
 //!
 //! A contract sees a clause as a `ClauseForm` (`specs/Clause.antt`), which is the same without where it lies in memory. The limits on
 //! how many there may be of a thing stand in the types. Bounds of levels and numbers of frames can't be made with values that the
