@@ -1,7 +1,8 @@
 //! How the program ends where not all is in good order: its line on standard error, and its status.
 ghost use Rattle.std.specs.Prelude.{◌≡◌};
+ghost use Rattle.dtraced.specs.Status.{status_found};
 
-use dt_alone::CheckFault;
+use dt_alone::{CheckFault, Verdict};
 use dt_machine::MachineFault;
 use dt_world::ReplayFault;
 use std::io;
@@ -28,7 +29,8 @@ pub enum Fault {
 }
 
 impl Fault {
-    ghost use Rattle.dtraced.specs.Status.{status_of};
+    ghost use Rattle.std.specs.IoError.{error_kind};
+    ghost use Rattle.dtraced.specs.Status.{fault_of_words, status_of};
 
     /// The status that the program ends with.
     pub fn status(self) -> u8
@@ -42,14 +44,22 @@ impl Fault {
 
     /// The fault where the words can't be had: words that aren't UTF-8 are words of no form, any other fault is that of a
     /// device.
-    pub fn of_words(error: &io::Error) -> Self {
-        if error.kind() == io::ErrorKind::InvalidData {
-            Fault::Usage
-        } else {
-            Fault::Device
+    pub fn of_words(error: &io::Error) -> Self
+        ensures { result ≡ fault_of_words (error_kind error.now) }
+    {
+        match error.kind() {
+            io::ErrorKind::InvalidData => Fault::Usage,
+            _ => Fault::Device,
         }
     }
 }
 
-#[cfg(test)]
-mod tests;
+/// The status that the program ends with after a check that found this: 0 where the trail agrees.
+pub fn status_found(verdict: Verdict) -> u8
+    ensures { result ≡ status_found verdict }
+{
+    match verdict {
+        Verdict::Agree(_) => 0,
+        Verdict::Differs(_) | Verdict::Illegal(_) => 1,
+    }
+}

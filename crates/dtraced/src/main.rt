@@ -5,20 +5,18 @@
 //! What stands here are words, files and streams. What is written is what [`writing::write_replay`] is proved to write.
 #![tactic(auto)]
 
-mod fault;
+pub mod fault;
 pub mod seat;
 mod words;
 pub mod writing;
 
-use dt_alone::{Verdict, check};
 use dt_chain::Seat;
 use dt_machine::Machine;
-use fault::Fault;
-use std::io::Write;
+use fault::{Fault, status_found};
 use std::process::ExitCode;
 use std::{env, fs, io};
 use words::{Words, WordsFault};
-use writing::write_replay;
+use writing::{write_check, write_replay};
 
 fn main(rt: HostRuntime) -> ExitCode {
     match execute(&rt) {
@@ -67,12 +65,7 @@ fn check_file(rt: &HostRuntime, machine: &str, trail: &str) -> Result<ExitCode, 
     let machine = fs::read(rt, machine).map_err(|_| Fault::Device)?;
     let machine = Machine::read(rt.alloc(), &machine).map_err(Fault::Machine)?;
     let trail = fs::read(rt, trail).map_err(|_| Fault::Device)?;
-    let verdict = check(rt.alloc(), &machine, &trail).map_err(Fault::Check)?;
     let mut writer = io::writer(rt);
-    writeln!(writer, "{verdict}").map_err(|_| Fault::Device)?;
-    writer.flush().map_err(|_| Fault::Device)?;
-    match verdict {
-        Verdict::Agree(_) => Ok(ExitCode::SUCCESS),
-        Verdict::Differs(_) | Verdict::Illegal(_) => Ok(ExitCode::from(1)),
-    }
+    let verdict = write_check(rt.alloc(), &machine, &trail, &mut writer)?;
+    Ok(ExitCode::from(status_found(verdict)))
 }

@@ -12,6 +12,3 @@ pub fn seat_of(text: &str) -> Option<Seat>
 {
     Seat::new(number_of(text.as_bytes())?)
 }
-
-#[cfg(test)]
-mod tests;

@@ -92,6 +92,3 @@ fn program<'a>(alloc: Global) -> Result<Command<'a>, AllocError> {
 fn file<'a>(alloc: Global, id: &'a str) -> Arg<'a> {
     Arg::new(alloc, id).required(true).action(ArgAction::Set)
 }
-
-#[cfg(test)]
-mod tests;

@@ -1,6 +1,8 @@
-//! What a replay writes on given streams.
-ghost use Rattle.std.specs.Prelude.{◌≡◌, ◌≢◌, ℕ, List, IfErr, IfSome, OnOk, take};
+//! What a replay and a check write on given streams.
+ghost use Rattle.std.specs.Prelude.{◌≡◌, ◌≢◌, ℕ, List, ◌++◌, Err, IfErr, IfOk, IfSome, OnOk, codes, take};
 ghost use Rattle.std.specs.Io.KnownBytes.{Appends, Keeps};
+ghost use Rattle.dt_alone.specs.VerdictText.{verdict_text};
+ghost use Rattle.dt_alone.specs.Verdicts.{IsTrail, IsVerdictOn};
 ghost use Rattle.dt_machine.specs.Reading.{IsDescribed, IsFaultOf};
 ghost use Rattle.dt_machine.specs.Registry.{Contents};
 ghost use Rattle.dt_machine.specs.Sections.{NowhereIfMemory, UnlessMemory};
@@ -9,10 +11,13 @@ ghost use Rattle.dt_world.specs.Faults.{IsOfMachine};
 ghost use Rattle.dt_world.specs.Input.{input_lines, IsRefused};
 ghost use Rattle.dtraced.specs.Writing.{IsWritten};
 
+use crate::fault::Fault;
+use dt_alone::{CheckFault, Verdict, check};
 use dt_chain::Seat;
+use dt_machine::Machine;
 use dt_world::{ReplayFault, replay, replay_trail};
 use std::alloc::Global;
-use std::io::{Read, Write};
+use std::io::{self, Read, Write};
 
 /// Replays an input on a machine file, and writes the trail of the seat that is wanted, or else the replies.
 pub fn write_replay<R: Read, W: Write>(
@@ -54,4 +59,42 @@ pub fn write_replay<R: Read, W: Write>(
         Some(seat) => replay_trail(alloc, machine, seat, reader, writer),
         None => replay(alloc, machine, reader, writer),
     }
+}
+
+/// Judges the text of a trail on a machine, and writes the line of what is found, which it gives back too.
+///
+/// [`Fault::Check`]: the text is no trail of a session on the machine, or memory ran out before it was judged; nothing is
+/// written. [`Fault::Device`]: the line couldn't be written, or memory for it ran out; a beginning may have been written.
+pub fn write_check<W: Write>(
+    alloc: Global,
+    machine: &Machine,
+    trail: &[u8],
+    writer: &mut W,
+) -> Result<Verdict, Fault>
+    ensures ok { IfOk result (λ verdict. IsVerdictOn machine.now trail.now verdict
+        × Appends (W.contents writer.old) (W.contents writer.new) (verdict_text verdict ++ codes "\n")) }
+    ensures refused { result ≡ Err (Fault.Check CheckFault.Text) → IsTrail machine.now.registry trail.now → ⊥ }
+    ensures nothing_written { (fault : CheckFault) → result ≡ Err (Fault.Check fault)
+        → Keeps (W.contents writer.old) (W.contents writer.new) }
+{
+    let verdict = match check(alloc, machine, trail) {
+        Ok(verdict) => verdict,
+        // a text that isn't judged has no line
+        Err(fault) => return Err(Fault::Check(fault)),
+    };
+    let Ok(line) = format!(in alloc; "{verdict}\n") else {
+        return Err(Fault::Device);
+    };
+    match write_line(writer, line.as_bytes()) {
+        Ok(()) => Ok(verdict),
+        Err(_) => Err(Fault::Device),
+    }
+}
+
+/// Writes all bytes, and flushes.
+fn write_line<W: Write>(writer: &mut W, line: &[u8]) -> io::Result<()>
+    ensures { OnOk result (Appends (W.contents writer.old) (W.contents writer.new) line.now) }
+{
+    writer.write_all(line)?;
+    writer.flush()
 }
