@@ -6,7 +6,7 @@ use Rattle.std.proofs.lemmas.Bool.{cases_Bool, false≢true}
 use Rattle.std.proofs.lemmas.Bool.Decides.{Decides-int_eq}
 use Rattle.dt_aggfn.specs.Bounds.{AreBounds}
 use Rattle.dt_aggfn.specs.declared.levels.Bounds.{Bounds}
-use Rattle.dt_aggfn.specs.declared.limits.TheConstants.{LEVELS_MAX}
+use Rattle.dt_aggfn.specs.Limits.{levels_max}
 
 -- Three numbers give these bounds: the bounds have them, and where there are none, the numbers aren't right.
 abbrev pub IsBoundsOf : (lower upper step : ℤ) → Option Bounds → Type 0
@@ -28,8 +28,8 @@ right_or_not lower upper step =
     (λ forward. ⊎_elim
     (λ even. ⊎_elim
     (λ few. inl (record { rising = rising; forward = forward; even = rest.0 even; few = few }))
-    (λ failed. inr (refused (int_le (int_div width step) (pos LEVELS_MAX)) Right (λ r. r.few) failed))
-    (cases_Bool (int_le (int_div width step) (pos LEVELS_MAX))))
+    (λ failed. inr (refused (int_le (int_div width step) (pos levels_max)) Right (λ r. r.few) failed))
+    (cases_Bool (int_le (int_div width step) (pos levels_max))))
     (λ failed. inr (refused (int_eq (int_rem width step) (pos 0)) Right (λ r. rest.1 r.even) failed))
     (cases_Bool (int_eq (int_rem width step) (pos 0))))
     (λ failed. inr (refused (int_lt (pos 0) step) Right (λ r. r.forward) failed))

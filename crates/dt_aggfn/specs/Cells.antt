@@ -4,7 +4,7 @@ use Rattle.std.specs.Int.{w64, int_wrap, int_min, int_max, cast_unsigned}
 use Rattle.std.specs.List.{fold, AllByRecursion}
 use Rattle.dt_aggfn.specs.declared.function.AggFn.{AggFn}
 use Rattle.dt_aggfn.specs.declared.function.AggFn.TheVariants.{Count, Sum, Avg, Min, Max, Quantize, Lquantize}
-use Rattle.dt_aggfn.specs.declared.limits.TheConstants.{BAG_LIMIT, QUANTIZE_ROWS}
+use Rattle.dt_aggfn.specs.Limits.{bag_limit, quantize_row_count}
 use Rattle.dt_aggfn.specs.Rows.{Row, levels_of, quantize_rows, lquantize_rows, counts_of}
 
 -- how many words a cell has
@@ -14,7 +14,7 @@ cell_words Sum = 1
 cell_words Avg = 2
 cell_words Min = 1
 cell_words Max = 1
-cell_words Quantize = QUANTIZE_ROWS
+cell_words Quantize = quantize_row_count
 cell_words (Lquantize bounds) = levels_of bounds + 2
 
 -- the rows of a function, of which some have none
@@ -53,5 +53,5 @@ cell_of (Lquantize bounds) bag = counts_of (lquantize_rows bounds) bag
 -- What a cell may hold: some values, which are signed 64-bit numbers, and not so many that a count wraps.
 pub record IsBag (bag : List ℤ) : Type 0 where
   pub some : bag ≢ []
-  pub few : length bag < BAG_LIMIT
+  pub few : length bag < bag_limit
   pub words : AllByRecursion (λ z. FitsSigned w64 z) bag

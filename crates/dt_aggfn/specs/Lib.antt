@@ -1,4 +1,5 @@
 -- What the contracts of this crate cite.
+pub mod Limits
 pub mod Bounds
 pub mod BoundsOf
 pub mod Rows

@@ -3,7 +3,7 @@ use Rattle.std.specs.Prelude.{◌≡◌, ℕ, ◌+◌, ◌-◌, ◌^◌, ◌<◌
 use Rattle.std.specs.List.{range_with_len}
 use Rattle.std.specs.Ordering.{int_eq}
 use Rattle.dt_aggfn.specs.declared.levels.Bounds.{Bounds}
-use Rattle.dt_aggfn.specs.declared.limits.TheConstants.{GREATEST_POWER}
+use Rattle.dt_aggfn.specs.Limits.{greatest_power}
 
 -- A row has a name, unless it is the one below all levels, and counts the values that pass its test.
 pub record Row : Type 0 where
@@ -16,7 +16,7 @@ pub record Row : Type 0 where
 abbrev pub power_row : ℕ → Row
 power_row n = record {
   name = Some (pos (2 ^ n));
-  counts = λ z. int_le (pos (2 ^ n)) z && (n == GREATEST_POWER || int_lt z (pos (2 ^ (n + 1))));
+  counts = λ z. int_le (pos (2 ^ n)) z && (n == greatest_power || int_lt z (pos (2 ^ (n + 1))));
 }
 
 -- Row -2^n is its mirror: it counts a value where row 2^n counts the value's opposite. So it counts the values from
@@ -38,7 +38,7 @@ rows_to n = map (λ k. minus_power_row (n - k)) (range_with_len 0 (n + 1))
 
 -- the rows of `quantize`, rising
 unfoldable pub quantize_rows : List Row
-quantize_rows = rows_to GREATEST_POWER
+quantize_rows = rows_to greatest_power
 
 -- ---- lquantize
 

@@ -1,4 +1,5 @@
 -- What the contracts of this crate cite.
+pub mod Limits
 pub mod Keys
 pub mod History
 pub mod Held

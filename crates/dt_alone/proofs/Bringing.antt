@@ -14,13 +14,13 @@ use Rattle.dt_alone.specs.Happened.{is_fault_on}
 use Rattle.dt_alone.specs.declared.happened.Happened.{Happened}
 use Rattle.dt_alone.specs.declared.happened.Happened.TheVariants.{Failed, Left}
 use Rattle.dt_alone.specs.declared.happened.Left as left
-use Rattle.dt_consumer.specs.Aggregations.{contributions, contributions_of}
-use Rattle.dt_consumer.specs.Buffers.{attempts_of}
-use Rattle.dt_consumer.specs.Keeps.{where_taken}
-use Rattle.dt_consumer.specs.Takings.{Taking, faults}
-use Rattle.dt_consumer.proofs.Buffers.{attempts-append}
-use Rattle.dt_consumer.proofs.Giving.{contributions-append}
-use Rattle.dt_consumer.proofs.Takings.{faults-append}
+use Rattle.dt_life.specs.Aggregations.{contributions, contributions_of}
+use Rattle.dt_life.specs.Buffers.{attempts_of}
+use Rattle.dt_life.specs.Following.{where_taken}
+use Rattle.dt_life.specs.Takings.{Taking, faults}
+use Rattle.dt_life.specs.laws.Buffers.{attempts-append}
+use Rattle.dt_life.specs.laws.Giving.{contributions-append}
+use Rattle.dt_life.specs.laws.Takings.{faults-append}
 
 -- the same, written in another way
 pub same_brings : (cpu : ℕ) (happened : List Happened) (a a' : List buffer.BufferEvent) (n n' : ℕ)

@@ -1,6 +1,6 @@
 -- What a judge does with one entry more.
-use Rattle.std.proofs.Common.{◌≡◌, ◌≢◌, ℕ, ◌+◌, ◌<◌, ◌≤◌, ◌↔◌, false, List, [], ◌∷◌, Option, Some, None, IfSome}
-use Rattle.std.proofs.Common.{Result, length, get_or, set, replicate, refl, sym, ap, ◌∙◌, ⊎_elim, arith}
+use Rattle.std.proofs.Common.{◌≡◌, ◌≢◌, ℕ, ◌+◌, ◌<◌, ◌≤◌, ◌↔◌, false, List, [], ◌∷◌, Option, Some, None, IfSome, Result}
+use Rattle.std.proofs.Common.{length, get_or, set, replicate, refl, sym, ap, ◌∙◌, ⊎_elim, arith}
 use Rattle.std.specs.List.{slice_get}
 use Rattle.std.specs.Option.{option_and_then}
 use Rattle.std.proofs.lemmas.Bool.{cases_eq}
@@ -10,11 +10,11 @@ use Rattle.std.proofs.lemmas.Option.{slice_get_within}
 use Rattle.dt_cred.specs.declared.account.Account.{Account}
 use Rattle.dt_machine.specs.Registry.{Registry, Contents, IsSound, firing_at}
 use Rattle.dt_cred.specs.declared.firing.Firing.{Firing}
-use Rattle.dt_consumer.specs.Answer.{Answer}
-use Rattle.dt_consumer.specs.Ask.{Ask}
-use Rattle.dt_consumer.specs.Life.{Item, asked, is_over}
-use Rattle.dt_consumer.specs.Reply.{Replies}
-use Rattle.dt_consumer.specs.declared.refusal.Refusal.{Refusal}
+use Rattle.dt_life.specs.Answer.{Answer}
+use Rattle.dt_life.specs.Ask.{Ask}
+use Rattle.dt_life.specs.Life.{Item, asked, is_over}
+use Rattle.dt_life.specs.Reply.{Replies}
+use Rattle.dt_life.specs.declared.refusal.Refusal.{Refusal}
 use Rattle.dt_proto.specs.Line.{ask_in}
 use Rattle.dt_proto.specs.Lines.{line_form, long_line}
 use Rattle.dt_proto.specs.Reply.{reply_text}
@@ -23,7 +23,7 @@ use Rattle.dt_proto.specs.Trail.{TrailEntry, line_asked, long_asked, fired_at}
 use Rattle.dt_alone.specs.Answered.{AnswersAsk}
 use Rattle.dt_alone.specs.Compared.{IsCompared}
 use Rattle.dt_alone.specs.Judging.{HasJudged, IsRuling}
-use Rattle.dt_alone.specs.Legal.{IsAbove, life_of_trail}
+use Rattle.dt_proto.specs.Legal.{IsAbove, life_of_trail}
 use Rattle.dt_alone.specs.Runs.{Runs}
 use Rattle.dt_alone.specs.declared.judge.Judge.{Judge}
 use Rattle.dt_alone.specs.declared.judge.Ruling.{Ruling}

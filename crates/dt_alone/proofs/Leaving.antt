@@ -19,12 +19,12 @@ use Rattle.dt_program.specs.declared.clause.Aggregation as program
 use Rattle.dt_program.specs.declared.clause.Statement.{Statement}
 use Rattle.dt_program.specs.declared.clause.Statement.TheVariants.{Aggregate, Exit, Stack, Trace, Ustack}
 use Rattle.dt_record.specs.Taking.{Effect, contributed, each, effect, predicate_value, taken_of, TakenForm, taking}
-use Rattle.dt_consumer.specs.Aggregations.{aggregation_of, contributions_of, given_by, number_given}
-use Rattle.dt_consumer.specs.Keeps.{taking_by}
-use Rattle.dt_consumer.specs.Takings.{Taking, MomentForm, scene_at, taking_of}
-use Rattle.dt_consumer.specs.Uses.{UseForm, contribution_at, key_at, number_at, split_by, use_by, uses_by}
-use Rattle.dt_consumer.proofs.Giving.{span, span_more, split_given, split_more, uses_more}
-use Rattle.dt_consumer.proofs.Takings.{clause_found}
+use Rattle.dt_life.specs.Aggregations.{aggregation_of, contributions_of, given_by, number_given}
+use Rattle.dt_life.specs.Following.{taking_by}
+use Rattle.dt_life.specs.Takings.{Taking, MomentForm, scene_at, taking_of}
+use Rattle.dt_life.specs.Uses.{UseForm, contribution_at, key_at, number_at, split_by, use_by, uses_by}
+use Rattle.dt_life.specs.laws.Giving.{span, span_more, split_given, split_more, uses_more}
+use Rattle.dt_life.specs.laws.Takings.{clause_found}
 
 -- what a clause leaves that is taken whole
 record Left (scene : SceneForm) (clause : ClauseForm) (form : TakenForm) : Type 0 where

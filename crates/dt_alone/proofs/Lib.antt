@@ -1,4 +1,5 @@
 -- What the prover was told: of the runner, and then of trails.
+
 pub mod Bringing
 pub mod Firing
 pub mod Leaving

@@ -8,17 +8,17 @@ use Rattle.std.proofs.lemmas.List.{append-nil, map-append, reverse-append}
 use Rattle.dt_cred.specs.declared.account.Account.{Account}
 use Rattle.dt_machine.specs.Registry.{Contents}
 use Rattle.dt_cred.specs.declared.firing.Firing.{Firing}
-use Rattle.dt_consumer.specs.Answer.{Answer}
-use Rattle.dt_consumer.specs.Draft.{after_line}
-use Rattle.dt_consumer.specs.Life.{Item}
-use Rattle.dt_consumer.specs.Reply.{Replies}
+use Rattle.dt_life.specs.Answer.{Answer}
+use Rattle.dt_life.specs.Acceptance.{after_line}
+use Rattle.dt_life.specs.Life.{Item}
+use Rattle.dt_life.specs.Reply.{Replies}
 use Rattle.dt_proto.specs.Alone.{Reached, own_line, firing_made, IsAfterFiring, IsLifeOf, Alone}
 use Rattle.dt_proto.specs.Line.{ask_in}
 use Rattle.dt_proto.specs.Lines.{LineForm, line_form, long_line}
 use Rattle.dt_proto.specs.Reply.{reply_text}
 use Rattle.dt_proto.specs.Splits.{with_newline}
 use Rattle.dt_proto.specs.Trail.{TrailEntry, line_asked, long_asked, fired_at}
-use Rattle.dt_alone.specs.Legal.{Agrees, IsLegal, life_of_trail, reached_by}
+use Rattle.dt_proto.specs.Legal.{Agrees, IsLegal, life_of_trail, reached_by}
 use Rattle.dt_alone.specs.Verdicts.{AreRepliesAlone, replies_by, replies_of}
 
 -- two lists that end alike

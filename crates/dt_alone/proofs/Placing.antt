@@ -8,7 +8,7 @@ use Rattle.dt_lang.specs.Program.{ClauseForm}
 use Rattle.dt_ecb.specs.Ecbs.{EcbForm}
 use Rattle.dt_ecb.specs.Forms.{form_of_ecb, no_clause}
 use Rattle.dt_ecb.specs.declared.parts.Ecb.{Ecb}
-use Rattle.dt_consumer.specs.Keeps.{AreEcbs}
+use Rattle.dt_life.specs.Placed.{AreEcbs}
 
 back_added : {X : Type 0} (xs ys : List X) (i : ℕ) (d : X) → i < length xs → get_or (xs ++ ys) i d ≡ get_or xs i d
 back_added [] ys i d h = absurd (omega arith)

@@ -9,11 +9,11 @@ use Rattle.dt_machine.specs.Registry.{Registry}
 use Rattle.dt_alone.specs.Happened.{faults_on, given_to}
 use Rattle.dt_alone.specs.Runs.{HasIn}
 use Rattle.dt_alone.specs.declared.runner.Runner.{Runner}
-use Rattle.dt_consumer.specs.Buffers.{errors_in}
-use Rattle.dt_consumer.specs.Life.{SetUp}
-use Rattle.dt_consumer.specs.Options.{OptionsForm}
-use Rattle.dt_consumer.specs.Stores.{given_in}
-use Rattle.dt_consumer.specs.declared.phase.Phase.{Phase}
+use Rattle.dt_life.specs.Buffers.{errors_in}
+use Rattle.dt_life.specs.Life.{SetUp}
+use Rattle.dt_life.specs.Options.{OptionsForm}
+use Rattle.dt_life.specs.Stores.{given_in}
+use Rattle.dt_life.specs.declared.phase.Phase.{Phase}
 
 pub if_ok_both : {T E : Type 0} (P Q R : T → Type 0) (r : Result T E) → ((x : T) → P x → Q x → R x)
     → IfOk r P → IfOk r Q → IfOk r R

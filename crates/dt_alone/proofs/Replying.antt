@@ -22,7 +22,7 @@ use Rattle.dt_ecb.specs.Enable as enabling
 use Rattle.dt_ecb.specs.Forms.{form_of_ecb, shapes_of}
 use Rattle.dt_ecb.specs.Shapes.{ShapeForm, uses_of}
 use Rattle.dt_ecb.specs.declared.parts.Ecb.{Ecb}
-use Rattle.dt_alone.specs.Forms.{form_of_own_options}
+use Rattle.dt_life.specs.Forms.{form_of_options}
 use Rattle.dt_alone.specs.Happened.{Brings, all_to}
 use Rattle.dt_alone.specs.Runs.{Answers, Has, HasIn, HasAsked}
 use Rattle.dt_aggstore.specs.declared.key.Aggregation.{Aggregation}
@@ -30,38 +30,37 @@ use Rattle.dt_buffer.specs.Shows.{Shows}
 use Rattle.std.specs.Global.{Vec}
 use Rattle.dt_alone.specs.declared.happened.Happened.{Happened}
 use Rattle.dt_alone.specs.declared.happened.Happened.TheVariants.{Read, Truncated}
-use Rattle.dt_alone.specs.declared.options.Options.{Options}
+use Rattle.dt_life.specs.declared.options.Options.{Options}
 use Rattle.dt_alone.specs.declared.programs.Programs.{Programs}
 use Rattle.dt_alone.specs.declared.runner.Runner.{Runner}
-use Rattle.dt_consumer.specs.Answer.{answer_of, enabled}
-use Rattle.dt_consumer.specs.Ask.{Ask, enable, go, option, snap, stop, trunc, reading_of, is_read}
-use Rattle.dt_consumer.specs.Buffers.{comes_since, past, reserve_on}
-use Rattle.dt_consumer.specs.Keeps.{AreEcbs, placed_after}
-use Rattle.dt_consumer.specs.Life.{Item, asked, SetUp, ecbs_in, end_size, happens, has_room, is_inactive, is_readable}
-use Rattle.dt_consumer.specs.Life.{lines, next_epid, phase, phase_of, set_up, shapes_in, since_then, with_event}
-use Rattle.dt_consumer.specs.Life.{with_options, with_program}
-use Rattle.dt_consumer.specs.Options.{OptionsForm, Setting, is_fill, with_setting}
-use Rattle.dt_consumer.specs.Refusal.{refused_as}
-use Rattle.dt_consumer.specs.Reply.{Accepted, known, IsVerdictOnCommand, ecb_of, refusal_of}
-use Rattle.dt_consumer.specs.Stores.{given_since}
-use Rattle.dt_consumer.specs.Takings.{TracingEvent, began, ended, read, truncated, faults as failures, taken_since}
-use Rattle.dt_consumer.specs.declared.phase.End.TheVariants as ends
-use Rattle.dt_consumer.specs.declared.phase.Phase.{Phase}
-use Rattle.dt_consumer.specs.declared.phase.Phase.TheVariants.{Inactive, Active, Stopped}
-use Rattle.dt_consumer.specs.declared.refusal.Refusal.{Refusal}
-use Rattle.dt_consumer.specs.declared.refusal.Refusal.TheVariants as refusals
-use Rattle.dt_consumer.specs.declared.refusal.Refusal.TheVariants.{Program}
-use Rattle.dt_consumer.specs.declared.reply.Reply.{Reply}
-use Rattle.dt_consumer.specs.declared.reply.Reply.TheVariants.{Done, Enabled, Refused, Snapped}
-use Rattle.dt_consumer.proofs.DraftLemmas.{begun_by_go, destructive_refused, fault_refused, go_taken, read_by_snap}
-use Rattle.dt_consumer.proofs.DraftLemmas.{snap_taken, some_trunc, stop_taken, stopped_by, truncated_by, idle_program}
-use Rattle.dt_consumer.proofs.DraftLemmas.{idle_unset, option_refused, option_taken, program_added, program_verdict}
-use Rattle.dt_consumer.proofs.DraftLemmas.{set_by}
-use Rattle.dt_consumer.proofs.Lists.{find-map}
-use Rattle.dt_consumer.proofs.Stands.{are_placed}
+use Rattle.dt_life.specs.Answer.{answer_of, enabled}
+use Rattle.dt_life.specs.Ask.{Ask, enable, go, option, snap, stop, trunc, reading_of, is_read}
+use Rattle.dt_life.specs.Buffers.{comes_since, past, reserve_on}
+use Rattle.dt_life.specs.Placed.{AreEcbs, placed_after}
+use Rattle.dt_life.specs.Life.{Item, asked, SetUp, ecbs_in, end_size, happens, has_room, is_inactive, is_readable}
+use Rattle.dt_life.specs.Life.{lines, next_epid, phase, phase_of, set_up, shapes_in, since_then, with_event}
+use Rattle.dt_life.specs.Life.{with_options, with_program}
+use Rattle.dt_life.specs.Options.{OptionsForm, Setting, is_fill, with_setting}
+use Rattle.dt_life.specs.Refusal.{refused_as}
+use Rattle.dt_life.specs.Reply.{Accepted, known, IsVerdictOnCommand, ecb_of, refusal_of}
+use Rattle.dt_life.specs.Stores.{given_since}
+use Rattle.dt_life.specs.Takings.{TracingEvent, began, ended, read, truncated, faults as failures, taken_since}
+use Rattle.dt_life.specs.declared.phase.End.TheVariants as ends
+use Rattle.dt_life.specs.declared.phase.Phase.{Phase}
+use Rattle.dt_life.specs.declared.phase.Phase.TheVariants.{Inactive, Active, Stopped}
+use Rattle.dt_life.specs.declared.refusal.Refusal.{Refusal}
+use Rattle.dt_life.specs.declared.refusal.Refusal.TheVariants as refusals
+use Rattle.dt_life.specs.declared.refusal.Refusal.TheVariants.{Program}
+use Rattle.dt_life.specs.declared.reply.Reply.{Reply}
+use Rattle.dt_life.specs.declared.reply.Reply.TheVariants.{Done, Enabled, Refused, Snapped}
+use Rattle.dt_life.specs.laws.Verdicts.{begun_by_go, destructive_refused, fault_refused, go_taken, read_by_snap}
+use Rattle.dt_life.specs.laws.Verdicts.{snap_taken, some_trunc, stop_taken, stopped_by, truncated_by, idle_program}
+use Rattle.dt_life.specs.laws.Verdicts.{idle_unset, option_refused, option_taken, program_added, program_verdict}
+use Rattle.dt_life.specs.laws.Verdicts.{set_by}
+use Rattle.dt_life.specs.laws.Lists.{find-map, find_all}
+use Rattle.dt_life.specs.laws.Placed.{are_placed}
 use Rattle.dt_alone.proofs.Placing.{are_both}
 use Rattle.dt_alone.proofs.Running.{Told, has_since, told_read, told_truncated}
-use Rattle.dt_consumer.proofs.Telling.{find_all}
 
 pub idle_phase : (phase : Phase) → is_inactive phase ≡ true → phase ≡ Inactive
 idle_phase Inactive e = refl
@@ -98,7 +97,7 @@ pub has_alike : (account : Account) (registry : Registry) (s : SetUp) (p : Phase
     → (q : Phase) → new.phase ≡ q → (q ≡ Inactive → p ≡ Inactive) → HasIn account registry s q new
 has_alike account registry s p old new h a options programs q standing idle = record {
   same_account = a.account ∙ h.same_account;
-  options = ap form_of_own_options options ∙ h.options;
+  options = ap form_of_options options ∙ h.options;
   clauses = ap (λ (x : Programs). map form_of_clause x.clauses.items) programs ∙ h.clauses;
   ecbs = subst (λ (x : Programs). AreEcbs s.clauses (ecbs_in account registry s) x.ecbs.items) (sym programs) h.ecbs;
   shapes = ap (λ (x : Programs). shapes_of x.shapes) programs ∙ h.shapes;
@@ -146,10 +145,10 @@ module _ (account : Account) (registry : Registry) (life : List Item) (r : Runne
   -- other options
   pub has_options : (options : Options) (new : Runner) → Alike r new → new.options ≡ options
       → new.programs ≡ r.programs → new.phase ≡ r.phase
-      → Has account registry (with_options (set_up account registry life) (form_of_own_options options)) new
+      → Has account registry (with_options (set_up account registry life) (form_of_options options)) new
   has_options options new a set programs same = record {
     same_account = a.account ∙ k.has.same_account;
-    options = ap form_of_own_options set;
+    options = ap form_of_options set;
     clauses = ap (λ (x : Programs). map form_of_clause x.clauses.items) programs ∙ k.has.clauses;
     ecbs = subst (λ (x : Programs). AreEcbs now.clauses (ecbs_in account registry now) x.ecbs.items) (sym programs)
         k.has.ecbs;
@@ -162,12 +161,12 @@ module _ (account : Account) (registry : Registry) (life : List Item) (r : Runne
 
   -- an option that is set, or is none
   pub option_set : (o : Option Setting) (options : Options) (new : Runner) → phase account registry life ≡ Inactive
-      → Some (form_of_own_options options) ≡ option_map (with_setting (form_of_own_options r.options)) o
+      → Some (form_of_options options) ≡ option_map (with_setting (form_of_options r.options)) o
       → Alike r new → new.options ≡ options → new.programs ≡ r.programs → new.phase ≡ r.phase → new.lines ≡ r.lines
       → Answers account registry life (option o) Done new
   option_set None options new off e a is programs same lines = cc
   option_set (Some one) options new off e a is programs same lines =
-      let set : form_of_own_options options ≡ with_setting (form_of_own_options r.options) one = cc in
+      let set : form_of_options options ≡ with_setting (form_of_options r.options) one = cc in
       accepts_as (option (Some one)) Done new _ (option_taken account registry life one off) refl
       (set_by account registry life one off
       ∙ ap (λ (o : OptionsForm). with_options now (with_setting o one)) (sym k.has.options)
@@ -175,7 +174,7 @@ module _ (account : Account) (registry : Registry) (life : List Item) (r : Runne
       (has_options options new a is programs same) lines
 
   pub option_unset : (o : Option Setting) → phase account registry life ≡ Inactive
-      → None ≡ option_map (with_setting (form_of_own_options r.options)) o
+      → None ≡ option_map (with_setting (form_of_options r.options)) o
       → Answers account registry life (option o) (Refused refusals.Option) r
   option_unset (Some one) off e = cc
   option_unset None off e =
@@ -332,7 +331,7 @@ module _ (account : Account) (registry : Registry) (life : List Item) (r : Runne
         let both = are_both now.clauses forms _ _ r.programs.ecbs.items _ k.has.ecbs after in
         record {
           same_account = a.account ∙ k.has.same_account;
-          options = ap form_of_own_options same_options ∙ k.has.options;
+          options = ap form_of_options same_options ∙ k.has.options;
           clauses =
               ap (λ (x : Programs). map form_of_clause x.clauses.items) own
               ∙ ap (map form_of_clause) grown ∙ map-append form_of_clause r.programs.clauses.items clauses

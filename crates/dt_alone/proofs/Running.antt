@@ -13,7 +13,7 @@ use Rattle.dt_ecb.specs.Ecbs.{EcbForm, of_probe}
 use Rattle.dt_ecb.specs.Forms.{form_of_ecb, shapes_of}
 use Rattle.dt_ecb.specs.Shapes.{ShapeForm}
 use Rattle.dt_ecb.specs.declared.parts.Ecb.{Ecb}
-use Rattle.dt_alone.specs.Forms.{form_of_own_options}
+use Rattle.dt_life.specs.Forms.{form_of_options}
 use Rattle.dt_alone.specs.Happened.{Adds, Brings}
 use Rattle.dt_alone.specs.Runs.{Has, HasIn}
 use Rattle.dt_alone.specs.Runs as runs
@@ -22,22 +22,22 @@ use Rattle.dt_alone.specs.declared.happened.Happened.TheVariants.{Read, Truncate
 use Rattle.dt_alone.specs.declared.programs.Programs.{Programs}
 use Rattle.dt_alone.specs.declared.runner.Runner.{Runner}
 use Rattle.dt_alone.proofs.Bringing.{brings_one, same_brings}
-use Rattle.dt_consumer.specs.Aggregations.{aggregation_of, contributions}
-use Rattle.dt_consumer.specs.Buffers.{attempts_of, comes_by, comes_since, errors_in}
-use Rattle.dt_consumer.specs.Keeps.{AreEcbs, where_taken}
-use Rattle.dt_consumer.specs.Life.{SetUp, ecbs_in, end_by, happens, is_inactive, phase_of, seen_count, shapes_in}
-use Rattle.dt_consumer.specs.Life.{since_then, with_event}
-use Rattle.dt_consumer.specs.Stores.{given_on, given_since}
-use Rattle.dt_consumer.specs.Takings.{TracingEvent, MomentForm, Taking, began, seen}
-use Rattle.dt_consumer.specs.Takings.{read, truncated, ended, closed, faults}
-use Rattle.dt_consumer.specs.Takings.{first_exit, is_end, moment_at, taken_at, taken_by, taken_on, taken_since}
-use Rattle.dt_consumer.specs.declared.phase.End.{End}
-use Rattle.dt_consumer.specs.declared.phase.End.TheVariants.{Exit, History}
-use Rattle.dt_consumer.specs.declared.phase.Phase.{Phase}
-use Rattle.dt_consumer.specs.declared.phase.Phase.TheVariants.{Inactive}
-use Rattle.dt_consumer.proofs.Lists.{filter-map}
-use Rattle.dt_consumer.proofs.Takings.{faults-append}
-use Rattle.dt_consumer.proofs.Tracings.{IsFiring, by_is, end_is, happens_last, happens_on, on_is}
+use Rattle.dt_life.specs.Aggregations.{aggregation_of, contributions}
+use Rattle.dt_life.specs.Buffers.{attempts_of, comes_by, comes_since, errors_in}
+use Rattle.dt_life.specs.Placed.{AreEcbs}
+use Rattle.dt_life.specs.Following.{where_taken}
+use Rattle.dt_life.specs.Life.{SetUp, ecbs_in, end_by, happens, is_inactive, phase_of, seen_count, shapes_in}
+use Rattle.dt_life.specs.Life.{since_then, with_event}
+use Rattle.dt_life.specs.Stores.{given_on, given_since}
+use Rattle.dt_life.specs.Takings.{TracingEvent, MomentForm, Taking, began, seen, read, truncated, ended, closed, faults}
+use Rattle.dt_life.specs.Takings.{first_exit, is_end, moment_at, taken_at, taken_by, taken_on, taken_since}
+use Rattle.dt_life.specs.declared.phase.End.{End}
+use Rattle.dt_life.specs.declared.phase.End.TheVariants.{Exit, History}
+use Rattle.dt_life.specs.declared.phase.Phase.{Phase}
+use Rattle.dt_life.specs.declared.phase.Phase.TheVariants.{Inactive}
+use Rattle.dt_life.specs.laws.Lists.{filter-map}
+use Rattle.dt_life.specs.laws.Takings.{faults-append}
+use Rattle.dt_life.specs.laws.Tracings.{IsFiring, by_is, end_is, happens_last, happens_on, on_is}
 
 module _ (account : Account) (registry : Registry) where
   comes_firing : (ecbs : List EcbForm) (cpu : ℕ) (event : TracingEvent) → IsFiring event
@@ -148,7 +148,7 @@ module _ (account : Account) (registry : Registry) where
   has_since s events phase phase' old new h same_account same_options same_programs standing begun counts told =
       record {
         same_account = same_account ∙ h.same_account;
-        options = ap form_of_own_options same_options ∙ h.options;
+        options = ap form_of_options same_options ∙ h.options;
         clauses = ap (λ (p : Programs). map form_of_clause p.clauses.items) same_programs ∙ h.clauses;
         ecbs = subst (λ (p : Programs). AreEcbs s.clauses (ecbs_in account registry s) p.ecbs.items)
             (sym same_programs) h.ecbs;

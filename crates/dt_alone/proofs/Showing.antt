@@ -1,7 +1,7 @@
 -- What a buffer shows, one record further.
-use Rattle.std.proofs.Common.{◌≡◌, ℕ, zero, suc, ◌+◌, ◌-◌, ◌<◌, ◌≤◌, ◌==◌, ◌⊎◌, ◌||◌, inl, inr, Bool, true, false}
-use Rattle.std.proofs.Common.{cond, List, [], ◌∷◌, ◌++◌, Option, Some, None, length, filter, take, drop, get_or}
-use Rattle.std.proofs.Common.{IsTrue, Bor, refl, sym, ap, ◌∙◌, subst, ⊎_elim, arith}
+use Rattle.std.proofs.Common.{◌≡◌, ℕ, zero, suc, ◌+◌, ◌-◌, ◌<◌, ◌≤◌, ◌==◌, ◌⊎◌, ◌||◌, inl, inr, Bool, true, false, cond}
+use Rattle.std.proofs.Common.{List, [], ◌∷◌, ◌++◌, Option, Some, None, length, filter, take, drop, get_or, IsTrue, Bor}
+use Rattle.std.proofs.Common.{refl, sym, ap, ◌∙◌, subst, ⊎_elim, arith}
 use Rattle.std.specs.Bool.{nat_le, nat_lt}
 use Rattle.std.proofs.Math.Bool.{beq}
 use Rattle.std.specs.Global.{Vec}
@@ -15,9 +15,9 @@ use Rattle.dt_buffer.specs.Beginning.{IsLongestBeginning, ShowsFill, size_of}
 use Rattle.dt_buffer.specs.Choice.{ShowsSwitch, chosen_of}
 use Rattle.dt_buffer.specs.Ending.{IsLongestEnd, ShowsRing, fitting, too_long}
 use Rattle.dt_buffer.specs.History.{BufferEvent, attempt, attempts, swap, of_end, ordinary}
-use Rattle.dt_buffer.proofs.Beginnings.{begins_all, begins_same, past_room, size_push}
-use Rattle.dt_buffer.proofs.Histories.{attempts-append, of_end-append, ordinary-append}
-use Rattle.dt_buffer.proofs.Keeping.{choice_more, concat-push}
+use Rattle.dt_buffer.specs.laws.Beginnings.{begins_all, begins_same, past_room, size_push}
+use Rattle.dt_buffer.specs.laws.Histories.{attempts-append, of_end-append, ordinary-append}
+use Rattle.dt_buffer.specs.laws.Choices.{choice_more, concat-push}
 use Rattle.dt_alone.specs.Happened.{all_to, comes_to, fitting_on}
 use Rattle.dt_alone.specs.Shown.{IsBeginningOf, events_of, of_kind}
 use Rattle.dt_alone.specs.declared.happened.Happened.{Happened}

@@ -1,13 +1,13 @@
 -- The items or the entries so far, and one more.
-use Rattle.std.proofs.Common.{◌≡◌, ℕ, ◌+◌, ◌<◌, ◌↔◌, Bool, true, false, List, [], ◌∷◌, ◌++◌, cond, length, get_or}
-use Rattle.std.proofs.Common.{take, drop, map, reverse, IsTrue, refl, sym, ap, ◌∙◌, inl, inr, arith}
+use Rattle.std.proofs.Common.{◌≡◌, ℕ, ◌+◌, ◌<◌, ◌↔◌, Bool, true, false, List, [], ◌∷◌, ◌++◌, cond, length, get_or, take}
+use Rattle.std.proofs.Common.{drop, map, reverse, IsTrue, refl, sym, ap, ◌∙◌, inl, inr, arith}
 use Rattle.std.proofs.lemmas.List.{drop_more, length-map, length-take-le, map-append, map_more, reverse-append}
 use Rattle.std.proofs.lemmas.List.{take-append-drop}
 use Rattle.dt_cred.specs.declared.account.Account.{Account}
 use Rattle.dt_machine.specs.Registry.{Registry}
 use Rattle.dt_cred.specs.declared.firing.Firing.{Firing}
-use Rattle.dt_consumer.specs.Life.{Item, fired}
-use Rattle.dt_consumer.specs.Sees.{Sees}
+use Rattle.dt_life.specs.Life.{Item, fired}
+use Rattle.dt_life.specs.Sees.{Sees}
 use Rattle.dt_proto.specs.Alone.{IsAfterFiring}
 
 -- the newest first, of what a function makes of the elements so far

@@ -9,10 +9,10 @@ use Rattle.dt_aggstore.specs.declared.store.AggStore.{AggStore}
 use Rattle.dt_alone.specs.Happened.{given_as, gives_to}
 use Rattle.dt_alone.specs.declared.happened.Happened.TheVariants as happened
 use Rattle.dt_alone.specs.declared.happened.Left as left
-use Rattle.dt_consumer.specs.Uses.{AreGiven, given_then}
-use Rattle.dt_consumer.proofs.Giving.{given_none}
-use Rattle.dt_consumer.proofs.Lists.{found_at, nothing_past, replaced}
-use Rattle.dt_consumer.proofs.Taken.{if_some_map}
+use Rattle.dt_life.specs.Uses.{AreGiven, given_then}
+use Rattle.dt_life.specs.laws.Giving.{given_none}
+use Rattle.dt_life.specs.laws.Lists.{found_at, nothing_past, replaced}
+use Rattle.dt_life.specs.laws.Options.{if_some_map}
 
 module _ (pasts : ℕ → store.Past) (stores : List AggStore) (there : ℕ) (in_end : Bool) (what : left.Left)
     (at : AreGiven pasts stores) where

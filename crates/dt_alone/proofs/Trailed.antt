@@ -7,20 +7,20 @@ use Rattle.std.proofs.lemmas.List.{reverse-append}
 use Rattle.dt_cred.specs.declared.account.Account.{Account}
 use Rattle.dt_machine.specs.Registry.{Contents, firing_at}
 use Rattle.dt_cred.specs.declared.firing.Firing.{Firing}
-use Rattle.dt_consumer.specs.Answer.{Answer}
-use Rattle.dt_consumer.specs.Draft.{after_line}
-use Rattle.dt_consumer.specs.Life.{Item, asked, fired, is_over}
-use Rattle.dt_consumer.specs.Reply.{Replies}
-use Rattle.dt_consumer.specs.Sees.{Sees}
+use Rattle.dt_life.specs.Answer.{Answer}
+use Rattle.dt_life.specs.Acceptance.{after_line}
+use Rattle.dt_life.specs.Life.{Item, asked, fired, is_over}
+use Rattle.dt_life.specs.Reply.{Replies}
+use Rattle.dt_life.specs.Sees.{Sees}
 use Rattle.dt_proto.specs.Alone.{Reached, own_line, firing_made, IsLifeOf}
 use Rattle.dt_proto.specs.Line.{ask_in}
 use Rattle.dt_proto.specs.Lines.{LineForm, short_line, long_line, line_form}
 use Rattle.dt_proto.specs.Session.{session_account}
 use Rattle.dt_proto.specs.Trail.{TrailEntry, fired_at, IsEntryOf, IsLineTold, IsToldFiring, IsTrailOf, SpellsTrail}
 use Rattle.dt_proto.specs.declared.limits.TheConstants.{LINE_MAX}
-use Rattle.dt_alone.specs.Legal.{Agrees, IsAbove, life_of_trail}
+use Rattle.dt_proto.specs.Legal.{Agrees, IsAbove, life_of_trail}
 use Rattle.dt_alone.specs.Verdicts.{IsVerdictOn, replies_in}
-use Rattle.dt_alone.specs.Views.{IsBrought, IsInForm, IsLower}
+use Rattle.dt_proto.specs.Brought.{IsBrought, IsInForm, IsLower}
 use Rattle.dt_alone.specs.declared.verdict.Verdict.TheVariants.{Agree}
 
 in_form : (bytes : List ℕ) → length bytes ≤ LINE_MAX → line_form bytes ≡ short_line bytes

@@ -6,7 +6,7 @@ use Rattle.dt_cred.specs.declared.account.Account.{Account}
 use Rattle.dt_machine.specs.Registry.{Contents}
 use Rattle.dt_proto.specs.Trail.{TrailEntry}
 use Rattle.dt_proto.specs.Session.{session_account}
-use Rattle.dt_alone.specs.Legal.{Agrees, MayStand, IsRight}
+use Rattle.dt_proto.specs.Legal.{Agrees, MayStand, IsRight}
 use Rattle.dt_alone.specs.Verdicts.{IsTrailVerdict, IsVerdictOn, replies_in}
 use Rattle.dt_alone.specs.declared.verdict.Verdict.{Verdict}
 use Rattle.dt_alone.specs.declared.verdict.Verdict.TheVariants.{Agree, Differs, Illegal}

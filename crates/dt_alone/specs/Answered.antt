@@ -2,12 +2,12 @@
 use Rattle.std.specs.Prelude.{◌≡◌, ℕ, List, Result}
 use Rattle.dt_cred.specs.declared.account.Account.{Account}
 use Rattle.dt_machine.specs.Registry.{Registry}
-use Rattle.dt_consumer.specs.Answer.{Answer}
-use Rattle.dt_consumer.specs.Ask.{Ask}
-use Rattle.dt_consumer.specs.Draft.{after_line}
-use Rattle.dt_consumer.specs.Life.{Item}
-use Rattle.dt_consumer.specs.Reply.{Replies}
-use Rattle.dt_consumer.specs.declared.refusal.Refusal.{Refusal}
+use Rattle.dt_life.specs.Answer.{Answer}
+use Rattle.dt_life.specs.Ask.{Ask}
+use Rattle.dt_life.specs.Acceptance.{after_line}
+use Rattle.dt_life.specs.Life.{Item}
+use Rattle.dt_life.specs.Reply.{Replies}
+use Rattle.dt_life.specs.declared.refusal.Refusal.{Refusal}
 use Rattle.dt_proto.specs.Reply.{reply_text}
 use Rattle.dt_alone.specs.Runs.{Runs}
 use Rattle.dt_alone.specs.declared.runner.Runner.{Runner}

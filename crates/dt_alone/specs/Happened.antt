@@ -10,10 +10,10 @@ use Rattle.dt_ecb.specs.Shapes.{ShapeForm}
 use Rattle.dt_alone.specs.declared.happened.Happened.{Happened}
 use Rattle.dt_alone.specs.declared.happened.Happened.TheVariants.{Failed, Left, Read, Truncated}
 use Rattle.dt_alone.specs.declared.happened.Contribution.{Contribution}
-use Rattle.dt_consumer.specs.Aggregations.{contributions}
-use Rattle.dt_consumer.specs.Buffers.{attempts_of}
-use Rattle.dt_consumer.specs.Keeps.{where_taken}
-use Rattle.dt_consumer.specs.Takings.{Taking, faults}
+use Rattle.dt_life.specs.Aggregations.{contributions}
+use Rattle.dt_life.specs.Buffers.{attempts_of}
+use Rattle.dt_life.specs.Following.{where_taken}
+use Rattle.dt_life.specs.Takings.{Taking, faults}
 
 -- a contribution as stores are given it
 abbrev pub given_as : Contribution → store.Event

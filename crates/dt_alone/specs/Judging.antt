@@ -2,9 +2,9 @@
 use Rattle.std.specs.Prelude.{ℕ, ◌<◌, ◌≤◌, ◌↔◌, List, ◌∷◌, slice_index}
 use Rattle.dt_cred.specs.declared.account.Account.{Account}
 use Rattle.dt_machine.specs.Registry.{Contents}
-use Rattle.dt_machine.specs.declared.limits.TheConstants.{CPUS_MAX}
+use Rattle.dt_machine.specs.Limits.{cpus_max}
 use Rattle.dt_proto.specs.Trail.{TrailEntry}
-use Rattle.dt_alone.specs.Legal.{IsAbove, life_of_trail, MayStand, IsRight}
+use Rattle.dt_proto.specs.Legal.{IsAbove, life_of_trail, MayStand, IsRight}
 use Rattle.dt_alone.specs.Runs.{Runs}
 use Rattle.dt_alone.specs.declared.judge.Judge.{Judge}
 use Rattle.dt_alone.specs.declared.judge.Ruling.{Ruling}
@@ -15,7 +15,7 @@ module _ (account : Account) (contents : Contents) where
   -- that is above those of its firings.
   pub record HasJudged (past : List TrailEntry) (judge : Judge) : Type 0 where
     pub runs : Runs account contents.registry judge.runner (life_of_trail account contents past)
-    pub least : (cpu place : ℕ) → cpu < CPUS_MAX → (IsAbove past cpu place ↔ (slice_index judge.least cpu ≤ place))
+    pub least : (cpu place : ℕ) → cpu < cpus_max → (IsAbove past cpu place ↔ (slice_index judge.least cpu ≤ place))
 
   -- The ruling on an entry: it may not stand, or its reply is not the one that is due; or both are in order, and the
   -- judge is after it.

@@ -4,26 +4,26 @@ use Rattle.dt_cred.specs.declared.account.Account.{Account}
 use Rattle.dt_lang.specs.Program.{form_of_clause}
 use Rattle.dt_machine.specs.Registry.{Registry}
 use Rattle.dt_ecb.specs.Forms.{shapes_of}
-use Rattle.dt_alone.specs.Forms.{form_of_own_options}
+use Rattle.dt_life.specs.Forms.{form_of_options}
 use Rattle.dt_alone.specs.Happened.{Brings}
 use Rattle.dt_alone.specs.declared.runner.Runner.{Runner}
-use Rattle.dt_consumer.specs.Answer.{answer_of}
-use Rattle.dt_consumer.specs.Ask.{Ask}
-use Rattle.dt_consumer.specs.Buffers.{comes_since, errors_in}
-use Rattle.dt_consumer.specs.Keeps.{AreEcbs}
-use Rattle.dt_consumer.specs.Life.{Item, asked, SetUp, ecbs_in, lines, phase_of, seen_count, set_up, shapes_in}
-use Rattle.dt_consumer.specs.Reply.{RepliesInQuota}
-use Rattle.dt_consumer.specs.Stores.{given_since}
-use Rattle.dt_consumer.specs.Takings.{TracingEvent, began, seen}
-use Rattle.dt_consumer.specs.declared.phase.Phase.{Phase}
-use Rattle.dt_consumer.specs.declared.phase.Phase.TheVariants.{Inactive}
-use Rattle.dt_consumer.specs.declared.reply.Reply.{Reply}
+use Rattle.dt_life.specs.Answer.{answer_of}
+use Rattle.dt_life.specs.Ask.{Ask}
+use Rattle.dt_life.specs.Buffers.{comes_since, errors_in}
+use Rattle.dt_life.specs.Placed.{AreEcbs}
+use Rattle.dt_life.specs.Life.{Item, asked, SetUp, ecbs_in, lines, phase_of, seen_count, set_up, shapes_in}
+use Rattle.dt_life.specs.Reply.{RepliesInQuota}
+use Rattle.dt_life.specs.Stores.{given_since}
+use Rattle.dt_life.specs.Takings.{TracingEvent, began, seen}
+use Rattle.dt_life.specs.declared.phase.Phase.{Phase}
+use Rattle.dt_life.specs.declared.phase.Phase.TheVariants.{Inactive}
+use Rattle.dt_life.specs.declared.reply.Reply.{Reply}
 
 module _ (account : Account) (registry : Registry) where
   -- A runner has a set-up as plain data, but its phase is this one.
   pub record HasIn (s : SetUp) (phase : Phase) (runner : Runner) : Type 0 where
     pub same_account : runner.account ≡ account
-    pub options : form_of_own_options runner.options ≡ s.options
+    pub options : form_of_options runner.options ≡ s.options
     pub clauses : map form_of_clause runner.programs.clauses.items ≡ s.clauses
     pub ecbs : AreEcbs s.clauses (ecbs_in account registry s) runner.programs.ecbs.items
     pub shapes : shapes_of runner.programs.shapes ≡ shapes_in s

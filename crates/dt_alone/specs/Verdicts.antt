@@ -3,13 +3,13 @@ use Rattle.std.specs.Prelude.{◌≡◌, ℕ, ◌+◌, List, [], ◌∷◌, ◌+
 use Rattle.std.specs.List.{flat_map}
 use Rattle.dt_cred.specs.declared.account.Account.{Account}
 use Rattle.dt_machine.specs.Registry.{Registry, Contents}
-use Rattle.dt_consumer.specs.Answer.{Answer}
+use Rattle.dt_life.specs.Answer.{Answer}
 use Rattle.dt_proto.specs.Alone.{Reached, Alone}
 use Rattle.dt_proto.specs.Reply.{reply_text}
 use Rattle.dt_proto.specs.Session.{session_account}
 use Rattle.dt_proto.specs.Splits.{with_newline}
 use Rattle.dt_proto.specs.Trail.{TrailEntry, line_asked, long_asked, fired_at, SpellsTrail}
-use Rattle.dt_alone.specs.Legal.{Agrees, MayStand, IsRight, reached_by}
+use Rattle.dt_proto.specs.Legal.{Agrees, MayStand, IsRight, reached_by}
 use Rattle.dt_alone.specs.declared.verdict.Verdict.{Verdict}
 use Rattle.dt_alone.specs.declared.verdict.Verdict.TheVariants.{Agree, Differs, Illegal}
 

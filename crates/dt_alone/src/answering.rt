@@ -1,7 +1,7 @@
 //! The bytes that a runner answers.
 ghost use Rattle.std.specs.Prelude.{List, IfOk};
 ghost use Rattle.dt_cred.specs.declared.account.Account.{Account};
-ghost use Rattle.dt_consumer.specs.Life.{Item};
+ghost use Rattle.dt_life.specs.Life.{Item};
 ghost use Rattle.dt_proto.specs.Line.{ask_in};
 ghost use Rattle.dt_proto.specs.Asked.{form_lent};
 ghost use Rattle.dt_alone.specs.Answered.{AnswersAsk};

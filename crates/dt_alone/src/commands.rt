@@ -9,33 +9,32 @@ ghost use Rattle.dt_aggstore.specs.IsAt.{IsAt};
 ghost use Rattle.dt_aggstore.specs.declared.limits.TheConstants.{STORES_MAX};
 ghost use Rattle.std.specs.List.{AllZip};
 ghost use Rattle.dt_alone.specs.Runs.{Answers, Has, HasAsked};
-ghost use Rattle.dt_consumer.specs.Answer.{answer_of, described};
-ghost use Rattle.dt_consumer.specs.Ask.{Ask, ask_of, reading_of, description_of, agg, enable, go, snap, status, list, describe, option, stop, trunc, close};
-ghost use Rattle.dt_consumer.specs.Buffers.{past, reserve_on};
-ghost use Rattle.dt_consumer.specs.Life.{Item, SetUp, set_up, phase, phase_of, has_room, is_inactive, is_readable};
-ghost use Rattle.dt_consumer.specs.Options.{setting_of};
-ghost use Rattle.dt_consumer.specs.Refusal.{refused_as};
-ghost use Rattle.dt_consumer.specs.Reply.{RepliesInQuota, ecb_of, all_aggdrops, all_errors, refusal_of};
-ghost use Rattle.dt_consumer.specs.Stores.{stores_in};
-ghost use Rattle.dt_consumer.specs.declared.phase.Phase.TheVariants.{Inactive};
+ghost use Rattle.dt_life.specs.Answer.{answer_of, described};
+ghost use Rattle.dt_life.specs.Ask.{Ask, ask_of, reading_of, description_of, agg, enable, go, snap, status, list, describe, option, stop, trunc, close};
+ghost use Rattle.dt_life.specs.Buffers.{past, reserve_on};
+ghost use Rattle.dt_life.specs.Life.{Item, SetUp, set_up, phase, phase_of, has_room, is_inactive, is_readable};
+ghost use Rattle.dt_life.specs.Options.{setting_of};
+ghost use Rattle.dt_life.specs.Refusal.{refused_as};
+ghost use Rattle.dt_life.specs.Reply.{RepliesInQuota, ecb_of, all_aggdrops, all_errors, refusal_of};
+ghost use Rattle.dt_life.specs.Stores.{stores_in};
+ghost use Rattle.dt_life.specs.declared.phase.Phase.TheVariants.{Inactive};
 ghost use Rattle.dt_ecb.specs.Forms.{verdict_of};
 ghost use Rattle.dt_record.specs.Layout.{layout_of};
 ghost use Rattle.std.specs.Option.{option_and_then};
 ghost use Rattle.std.specs.String.{string_bytes};
 
 use crate::happened::Happened;
-use crate::known::Known;
-use crate::limits::BEGIN;
-use crate::moment::Moment;
-use crate::own::{own_firing, own_process};
 use crate::runner::Runner;
 use crate::shown::shown_on;
 use crate::stores::{faults_on, stores_on};
 use dt_aggstore::AggStore;
 use dt_buffer::Policy;
-use dt_consumer::{Command, End, OptionValue, Phase, Refusal, Reply};
 use dt_ecb::{EnableFault, ecbs_go_on, enable, listed, one_verdict, uses_of_both};
 use dt_lang::{Description, LangFault, ParseProgram, Program, Why, one_description, one_reading};
+use dt_life::{
+    BEGIN, Command, End, Known, Moment, OptionValue, Phase, Refusal, Reply, left_by_end, own_firing,
+    own_process,
+};
 use dt_machine::Machine;
 use dt_record::Layout;
 use std::alloc::{AllocError, Global};
@@ -191,7 +190,7 @@ impl Runner {
     {
         let size = self.options.bufsize;
         match self.options.bufpolicy {
-            Policy::Fill => Some(size - self.programs.left_by_end(size)?),
+            Policy::Fill => Some(size - left_by_end(&self.programs.clauses, &self.programs.ecbs, size)?),
             Policy::Switch | Policy::Ring => Some(0),
         }
     }

@@ -2,12 +2,11 @@
 ghost use Rattle.std.specs.Prelude.{◌≡◌, ◌≤◌, ◌-◌, ℕ, All, length, vec_len};
 ghost use Rattle.dt_aggstore.specs.History.{Past, after, truncated};
 ghost use Rattle.dt_aggstore.specs.declared.limits.TheConstants.{ADDED_LIMIT};
-ghost use Rattle.dt_consumer.specs.Counts.{GivenAtMost};
-ghost use Rattle.dt_consumer.specs.Uses.{AreGiven};
+ghost use Rattle.dt_life.specs.Uses.{GivenAtMost};
+ghost use Rattle.dt_life.specs.Uses.{AreGiven};
 ghost use Rattle.dt_program.specs.declared.clause.TheConstants.{STATEMENTS_MAX};
 
-use crate::known::Known;
-use crate::values::{number_in, parts_at};
+use dt_life::{Known, number_in, parts_at};
 use dt_aggstore::{AggStore, Aggregation, Key};
 use dt_ecb::Shapes;
 use dt_expr::Value;
@@ -46,7 +45,7 @@ pub(crate) struct Contribution {
 impl Contribution {
     ghost use Rattle.std.specs.Prelude.{◌≡◌, ◌*◌, ◌+◌, map, length, IfOk};
     ghost use Rattle.dt_alone.specs.Happened.{given_as};
-    ghost use Rattle.dt_consumer.specs.Uses.{split_by, uses_by};
+    ghost use Rattle.dt_life.specs.Uses.{split_by, uses_by};
     ghost use Rattle.dt_ecb.specs.Forms.{shapes_of};
     ghost use Rattle.dt_lang.specs.Program.{form_of_statement};
     ghost use Rattle.dt_program.specs.declared.clause.TheConstants.{KEYS_MAX};
@@ -90,7 +89,7 @@ impl Happened {
     ghost use Rattle.dt_aggstore.specs.IsAt.{IsAt, added_of};
     ghost use Rattle.dt_aggstore.specs.declared.limits.TheConstants.{ADDED_LIMIT};
     ghost use Rattle.dt_alone.specs.Happened.{gives_to, is_fault_on};
-    ghost use Rattle.dt_consumer.specs.Uses.{given_then};
+    ghost use Rattle.dt_life.specs.Uses.{given_then};
 
     /// Counts it for its processor, where it is a division by zero.
     pub(crate) fn count_fault(&self, faults: &mut [u64])
@@ -147,7 +146,7 @@ impl Left {
     ghost use Rattle.dt_aggstore.specs.IsAt.{IsAt, added_of};
     ghost use Rattle.dt_aggstore.specs.declared.limits.TheConstants.{ADDED_LIMIT};
     ghost use Rattle.dt_alone.specs.Happened.{given_as};
-    ghost use Rattle.dt_consumer.specs.Uses.{given_then};
+    ghost use Rattle.dt_life.specs.Uses.{given_then};
 
     /// Gives the contributions to a store, in order.
     fn give(&self, store: &mut AggStore)

@@ -1,8 +1,8 @@
 //! The judge of a trail's entries, taken one by one.
+use dt_life::one_reply;
 use crate::answering::answer;
 use crate::entry::Entry;
 use crate::runner::Runner;
-use dt_consumer::one_reply;
 use dt_cred::Account;
 use dt_machine::{CPUS_MAX, Machine};
 use dt_proto::WholeLine;

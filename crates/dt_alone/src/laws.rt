@@ -6,9 +6,9 @@ ghost use Rattle.dt_machine.specs.Registry.{Contents};
 ghost use Rattle.dt_proto.specs.Alone.{Reached};
 ghost use Rattle.dt_proto.specs.Session.{session_account};
 ghost use Rattle.dt_proto.specs.Trail.{TrailEntry, IsTrailOf, SpellsTrail};
-ghost use Rattle.dt_alone.specs.Legal.{Agrees, IsLegal};
+ghost use Rattle.dt_proto.specs.Legal.{Agrees, IsLegal};
 ghost use Rattle.dt_alone.specs.Verdicts.{AreRepliesAlone, IsVerdictOn, replies_in};
-ghost use Rattle.dt_alone.specs.Views.{IsBrought};
+ghost use Rattle.dt_proto.specs.Brought.{IsBrought};
 ghost use Rattle.dt_alone.specs.declared.verdict.Verdict.{Verdict};
 ghost use Rattle.dt_alone.specs.declared.verdict.Verdict.TheVariants.{Agree};
 

@@ -2,21 +2,17 @@
 ghost use Rattle.std.specs.Prelude.{◌≡◌, ◌+◌, ◌≤◌, ◌<◌, ◌++◌, ◌==◌, ◌^◌, ◌∷◌, [], List, All, IfOk, IfSome, MatchOption, false, find, length, map, sum, vec_len};
 ghost use Rattle.std.specs.List.{list_any};
 ghost use Rattle.std.specs.Option.{option_copied};
-ghost use Rattle.dt_lang.specs.Program.{ClauseForm, form_of_clause};
-ghost use Rattle.dt_record.specs.Layout.{layout_of, layout_size};
-ghost use Rattle.dt_ecb.specs.Ecbs.{of_probe};
+ghost use Rattle.dt_lang.specs.Program.{form_of_clause};
 ghost use Rattle.dt_ecb.specs.Forms.{form_of_ecb, shapes_of};
 ghost use Rattle.dt_ecb.specs.declared.limits.TheConstants.{ECBS_MAX};
-ghost use Rattle.dt_consumer.specs.Keeps.{placed_after as at_place};
-ghost use Rattle.dt_alone.specs.declared.limits.TheConstants.{END};
+ghost use Rattle.dt_life.specs.Placed.{placed_after as at_place};
 
+use dt_life::{Moment, placed_after};
 use crate::happened::{Contribution, Happened, Left};
-use crate::limits::END;
-use crate::moment::Moment;
 use dt_ecb::{ECBS_MAX, Ecb, Shapes};
 use dt_expr::EvalFault;
 use dt_lang::Clause;
-use dt_record::{Layout, Taken, taken};
+use dt_record::{Taken, taken};
 use std::alloc::{AllocError, Global};
 
 /// The clauses of the accepted programs, their ECBs, and the aggregations that they use. An ECB has the place of its
@@ -32,10 +28,10 @@ pub(crate) struct Programs {
 impl Programs {
     ghost use Rattle.dt_alone.specs.Happened.{Adds, given_as};
     ghost use Rattle.std.specs.Option.{option_map};
-    ghost use Rattle.dt_consumer.specs.Uses.{split_by, uses_by};
-    ghost use Rattle.dt_alone.specs.Forms.{form_of_own_moment};
-    ghost use Rattle.dt_consumer.specs.Keeps.{taking_by};
-    ghost use Rattle.dt_consumer.specs.Takings.{exit_of, first_exit, taken_at};
+    ghost use Rattle.dt_life.specs.Uses.{split_by, uses_by};
+    ghost use Rattle.dt_life.specs.Forms.{form_of_moment};
+    ghost use Rattle.dt_life.specs.Following.{taking_by};
+    ghost use Rattle.dt_life.specs.Takings.{exit_of, first_exit, taken_at};
 
     /// None yet.
     pub(crate) fn new(alloc: Global) -> Self
@@ -62,26 +58,6 @@ impl Programs {
         ensures { option_copied result ≡ find (λ ecb. ecb.epid == epid) self.now.ecbs.items }
     {
         self.ecbs.iter().find(|ecb| u64::from(ecb.epid) == epid)
-    }
-
-    /// What is left of so many bytes after one record of each of END's ECBs, or `None` where they don't suffice.
-    pub(crate) fn left_by_end(&self, size: usize) -> Option<usize>
-        ensures within { IfSome result (λ left. left ≤ size) }
-        // none where one record of each of END's ECBs doesn't fit the size, else what these leave of it
-        ensures left { (clauses : List ClauseForm) → map form_of_clause self.now.clauses.items ≡ clauses
-            → All (λ ecb. ecb.clause < length clauses) self.now.ecbs.items
-            → (let sizes = sum (map (λ ecb. layout_size (layout_of ecb.clause))
-            (of_probe END (map (form_of_ecb clauses) self.now.ecbs.items))) in
-            MatchOption result (size < sizes) (λ left. left + sizes ≡ size)) }
-    {
-        let mut left = size;
-        for ecb in &self.ecbs {
-            if ecb.probe == END {
-                let clause = self.clauses.get(ecb.clause)?;
-                left = left.checked_sub(Layout::of(clause).size())?;
-            }
-        }
-        Some(left)
     }
 
     /// Adds the clauses of a program and its ECBs, which name places among its own clauses. The aggregations are all
@@ -118,14 +94,14 @@ impl Programs {
     ) -> Result<Option<i64>, AllocError>
         // listed on the firing's processor is what is taken there: up to the first exit, in END all
         ensures taken { All (λ ecb. ecb.clause < length self.now.clauses.items) self.now.ecbs.items
-            → (let m = form_of_own_moment moment.now in
+            → (let m = form_of_moment moment.now in
             IfOk result (λ _. Adds (shapes_of self.now.shapes) m.firing.cpu (taken_at in_end
             (map (form_of_ecb (map form_of_clause self.now.clauses.items)) self.now.ecbs.items) m)
             happened.old.items happened.new.items)) }
         ensures exit { All (λ ecb. ecb.clause < length self.now.clauses.items) self.now.ecbs.items → in_end ≡ false
             → IfOk result (λ exit. exit ≡ first_exit (taken_at false
             (map (form_of_ecb (map form_of_clause self.now.clauses.items)) self.now.ecbs.items)
-            (form_of_own_moment moment.now))) }
+            (form_of_moment moment.now))) }
         ensures few { vec_len happened.new ≤ vec_len happened.old + ECBS_MAX }
     {
         let mut exit = None;
@@ -147,12 +123,12 @@ impl Programs {
         moment: &Moment,
         in_end: bool,
     ) -> Result<Option<i64>, AllocError>
-        ensures taken { ecb.clause < length self.now.clauses.items → (let m = form_of_own_moment moment.now in
+        ensures taken { ecb.clause < length self.now.clauses.items → (let m = form_of_moment moment.now in
             IfOk result (λ _. Adds (shapes_of self.now.shapes) m.firing.cpu
             (taking_by in_end m (map form_of_clause self.now.clauses.items) ecb ∷ [])
             happened.old.items happened.new.items)) }
         ensures exit { ecb.clause < length self.now.clauses.items → IfOk result (λ exit. exit
-            ≡ exit_of (taking_by in_end (form_of_own_moment moment.now) (map form_of_clause self.now.clauses.items) ecb)) }
+            ≡ exit_of (taking_by in_end (form_of_moment moment.now) (map form_of_clause self.now.clauses.items) ecb)) }
         ensures few { vec_len happened.new ≤ vec_len happened.old + 1 }
     {
         let cpu = moment.firing.cpu;
@@ -189,20 +165,4 @@ impl Programs {
         let given = Contribution::all(alloc, &self.shapes, &clause.statements, &taken.values)?;
         Ok(Left { bytes, given })
     }
-}
-
-/// The ECBs of a program, each with the place of its clause after so many others.
-fn placed_after(alloc: Global, before: usize, ecbs: &[Ecb]) -> Result<Vec<Ecb>, AllocError>
-    requires { All (λ ecb. before + ecb.clause < 2 ^ 64) ecbs.now }
-    ensures { IfOk result (λ placed. placed.items ≡ map (at_place before) ecbs.now) }
-{
-    let mut placed = Vec::new(alloc);
-    for ecb in ecbs {
-        placed.push(Ecb {
-            epid: ecb.epid,
-            probe: ecb.probe,
-            clause: before + ecb.clause,
-        })?;
-    }
-    Ok(placed)
 }

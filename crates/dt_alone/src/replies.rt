@@ -1,7 +1,7 @@
 //! The replies that a consumer is given that traces alone.
 ghost use Rattle.std.specs.Prelude.{◌≡◌, List, IfOk, map};
 ghost use Rattle.dt_cred.specs.declared.account.Account.{Account};
-ghost use Rattle.dt_consumer.specs.Answer.{Answer};
+ghost use Rattle.dt_life.specs.Answer.{Answer};
 ghost use Rattle.dt_proto.specs.Alone.{Alone};
 ghost use Rattle.dt_proto.specs.Reply.{reply_text};
 ghost use Rattle.dt_alone.specs.Items.{view_of};

@@ -1,19 +1,17 @@
 //! The plain runner of one life: it has all that happened in it.
 ghost use Rattle.std.specs.Prelude.{◌≡◌, ◌≤◌, ◌<◌, ◌+◌, ◌*◌, ◌==◌, None, Some, if◌then◌else◌, vec_len};
 ghost use Rattle.std.specs.Option.{option_map, option_or};
-ghost use Rattle.dt_consumer.specs.declared.limits.TheConstants.{HISTORY_MAX, LINES_MAX};
-ghost use Rattle.dt_consumer.specs.declared.phase.Phase.TheVariants as phases;
+ghost use Rattle.dt_life.specs.declared.limits.TheConstants.{HISTORY_MAX, LINES_MAX};
+ghost use Rattle.dt_life.specs.declared.phase.Phase.TheVariants as phases;
 ghost use Rattle.dt_ecb.specs.declared.limits.TheConstants.{ECBS_MAX};
 
 use crate::happened::Happened;
-use crate::limits::{BEGIN, END};
-use crate::moment::Moment;
-use crate::options::Options;
-use crate::own::{own_firing, own_process};
 use crate::programs::Programs;
-use crate::visibility::shown;
-use dt_consumer::{Command, End, LINES_MAX, Phase, Refusal, Reply};
 use dt_cred::Account;
+use dt_life::{
+    BEGIN, Command, END, End, LINES_MAX, Moment, Options, Phase, Refusal, Reply, own_firing,
+    own_process, shown,
+};
 use dt_machine::{Firing, Machine};
 use std::alloc::{AllocError, Global};
 
@@ -39,16 +37,16 @@ impl Runner {
     ghost use Rattle.std.specs.Prelude.{◌↔◌, ◌∷◌, ℕ, List, [], Option, Result, Ok, Some, None, IsTrue, IfOk, nat_le, false, length, if◌then◌else◌, ◌==◌};
     ghost use Rattle.dt_cred.specs.declared.account.Account.{Account};
     ghost use Rattle.dt_machine.specs.Registry.{Registry};
-    ghost use Rattle.dt_alone.specs.Forms.{form_of_own_moment};
+    ghost use Rattle.dt_life.specs.Forms.{form_of_moment};
     ghost use Rattle.dt_alone.specs.Runs.{Answers, Has, HasIn, HasAsked, IsFiring, Runs};
-    ghost use Rattle.dt_consumer.specs.Answer.{answer_of};
-    ghost use Rattle.dt_consumer.specs.Ask.{line_asks, ask_of};
-    ghost use Rattle.dt_consumer.specs.Draft.{after_line};
-    ghost use Rattle.dt_consumer.specs.Life.{Item, SetUp, asked, fired, happens, phase_after, seen_count, set_up, with_event, is_over as over};
-    ghost use Rattle.dt_consumer.specs.Reply.{Replies, RepliesInQuota};
-    ghost use Rattle.dt_consumer.specs.Sees.{Sees};
-    ghost use Rattle.dt_consumer.specs.Takings.{TracingEvent, ended, is_end, moment_at};
-    ghost use Rattle.dt_consumer.specs.declared.phase.End.{End};
+    ghost use Rattle.dt_life.specs.Answer.{answer_of};
+    ghost use Rattle.dt_life.specs.Ask.{line_asks, ask_of};
+    ghost use Rattle.dt_life.specs.Acceptance.{after_line};
+    ghost use Rattle.dt_life.specs.Life.{Item, SetUp, asked, fired, happens, phase_after, seen_count, set_up, with_event, is_over as over};
+    ghost use Rattle.dt_life.specs.Reply.{Replies, RepliesInQuota};
+    ghost use Rattle.dt_life.specs.Sees.{Sees};
+    ghost use Rattle.dt_life.specs.Takings.{TracingEvent, ended, is_end, moment_at};
+    ghost use Rattle.dt_life.specs.declared.phase.End.{End};
 
     /// A runner of the empty life.
     pub(crate) fn new(
@@ -149,7 +147,7 @@ impl Runner {
         // for each set-up that it has: it then has the one with this firing, and END's where tracing ends
         ensures happens { IfOk result (λ _. (account : Account) (s : SetUp) (event : TracingEvent)
             → Has account machine.now.registry s self.old → IsFiring event
-            → moment_at account machine.now.registry event ≡ Some (form_of_own_moment moment.now)
+            → moment_at account machine.now.registry event ≡ Some (form_of_moment moment.now)
             → phase_after (event ∷ s.since) ≡ phases.Active → seen ≡ seen_count (event ∷ s.since)
             → Has account machine.now.registry (happens account machine.now.registry s event) self.new) }
         ensures lines { self.new.lines ≡ self.old.lines }

@@ -9,8 +9,8 @@ ghost use Rattle.dt_buffer.specs.Ending.{ShowsRing, too_long};
 ghost use Rattle.dt_buffer.specs.History.{attempts, of_end, ordinary, since_swap};
 ghost use Rattle.dt_buffer.specs.Shows.{Shows};
 
+use dt_life::Options;
 use crate::happened::Happened;
-use crate::options::Options;
 use dt_buffer::Policy;
 use std::alloc::{AllocError, Global};
 

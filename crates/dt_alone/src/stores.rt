@@ -6,8 +6,8 @@ ghost use Rattle.dt_aggstore.specs.declared.limits.TheConstants.{AGGSIZE_MAX, AD
 ghost use Rattle.dt_program.specs.declared.clause.TheConstants.{STATEMENTS_MAX};
 ghost use Rattle.dt_alone.specs.Happened as happenings;
 ghost use Rattle.dt_alone.specs.Happened.{given_to};
-ghost use Rattle.dt_consumer.specs.Counts.{GivenAtMost};
-ghost use Rattle.dt_consumer.specs.Uses.{AreGiven};
+ghost use Rattle.dt_life.specs.Uses.{GivenAtMost};
+ghost use Rattle.dt_life.specs.Uses.{AreGiven};
 
 use crate::happened::Happened;
 use dt_aggstore::AggStore;

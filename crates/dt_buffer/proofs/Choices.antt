@@ -4,7 +4,7 @@ use Rattle.std.proofs.Common.{get_or, take, ◌-◌, refl, sym, ap, ◌∙◌, s
 use Rattle.std.proofs.Math.Seq.{take-suc}
 use Rattle.std.proofs.lemmas.Bool.{cases_lt, false≢true}
 use Rattle.std.proofs.lemmas.List.{append_assoc, append-nil, take_all}
-use Rattle.dt_buffer.proofs.Keeping.{choice_more, get_or-last}
+use Rattle.dt_buffer.specs.laws.Choices.{choice_more, get_or-last}
 use Rattle.dt_buffer.specs.Choice.{IsFittingChoice, ShowsSwitch, KeepsSwitch, chosen_of, chosen_bytes}
 
 -- what is true exactly where the same holds is the same

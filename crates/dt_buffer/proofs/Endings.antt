@@ -4,8 +4,8 @@ use Rattle.std.proofs.Common.{◌∙◌, ⊎_elim, arith}
 use Rattle.std.specs.List.{concat}
 use Rattle.std.proofs.lemmas.Bool.{cases_lt}
 use Rattle.std.proofs.lemmas.List.{length-append, length-drop, length_push, drop-append-le, drop-drop, drop_at}
-use Rattle.dt_buffer.proofs.Beginnings.{size_push}
-use Rattle.dt_buffer.proofs.Keeping.{concat-push}
+use Rattle.dt_buffer.specs.laws.Beginnings.{size_push}
+use Rattle.dt_buffer.specs.laws.Choices.{concat-push}
 use Rattle.dt_buffer.specs.Beginning.{size_of}
 use Rattle.dt_buffer.specs.Ending.{IsLongestEnd, lengths_of}
 use Rattle.dt_buffer.specs.Stores.{MakesRoom}

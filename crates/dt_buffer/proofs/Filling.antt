@@ -4,8 +4,8 @@ use Rattle.std.proofs.Common.{length, take, refl, sym, ap, ◌∙◌, subst, inl
 use Rattle.std.specs.List.{concat}
 use Rattle.std.proofs.lemmas.Bool.{cases_lt, false≢true}
 use Rattle.std.proofs.lemmas.List.{append_assoc, append-nil, length-append, length_push, take-append-le, take_all}
-use Rattle.dt_buffer.proofs.Beginnings.{begins_all, begins_none, begins_same, one_begins, size_push}
-use Rattle.dt_buffer.proofs.Keeping.{concat-push, take-whole}
+use Rattle.dt_buffer.specs.laws.Beginnings.{begins_all, begins_none, begins_same, one_begins, size_push}
+use Rattle.dt_buffer.specs.laws.Choices.{concat-push, take-whole}
 use Rattle.dt_buffer.specs.Beginning.{IsLongestBeginning, ShowsFill, KeepsOrdinary, KeepsOfEnd, size_of}
 use Rattle.dt_buffer.specs.Stores.{FillHolds, FillIsAt}
 use Rattle.dt_buffer.specs.declared.fill.FillStore.{FillStore}

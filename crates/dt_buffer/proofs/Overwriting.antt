@@ -6,8 +6,7 @@ use Rattle.std.proofs.lemmas.Bool.{cases_lt, le-leb, lt-leb, lt-ltb, le-ltb}
 use Rattle.std.proofs.lemmas.List.{append-nil, length-append, length_push, drop_all, drop_at}
 use Rattle.std.proofs.lemmas.List.Elements.{filter-append}
 use Rattle.circular_buffer.specs.Buffer.{Buffer, buffer, keep_last}
-use Rattle.dt_buffer.proofs.Endings.{ends_more, kept_more, lengths_more, some_ends, room_more, room_all}
-use Rattle.dt_buffer.proofs.Endings.{lengths_within}
+use Rattle.dt_buffer.proofs.Endings.{ends_more, kept_more, lengths_more, some_ends, room_more, room_all, lengths_within}
 use Rattle.dt_buffer.specs.Beginning.{size_of}
 use Rattle.dt_buffer.specs.Ending.{IsLongestEnd, KeepsRing, fitting, too_long, lengths_of}
 use Rattle.dt_buffer.specs.Stores.{MakesRoom, RingIsAt}

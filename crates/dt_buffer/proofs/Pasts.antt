@@ -5,7 +5,7 @@ use Rattle.std.proofs.lemmas.Bool.{false≢true}
 use Rattle.std.proofs.lemmas.List.{append-nil}
 use Rattle.dt_buffer.proofs.Choices.{keeps_switch}
 use Rattle.dt_buffer.proofs.Filling.{fill_shows}
-use Rattle.dt_buffer.proofs.Histories.{attempts-append, of_end-append, ordinary-append, since-put, since-swap}
+use Rattle.dt_buffer.specs.laws.Histories.{attempts-append, of_end-append, ordinary-append, since-put, since-swap}
 use Rattle.dt_buffer.proofs.Overwriting.{keeps_ring}
 use Rattle.dt_buffer.specs.Beginning.{KeepsOrdinary, KeepsOfEnd}
 use Rattle.dt_buffer.specs.History.{BufferPast, attempt, swap, buffer_after, attempts, ordinary, of_end, since_swap}

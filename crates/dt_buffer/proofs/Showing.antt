@@ -3,7 +3,7 @@ use Rattle.std.proofs.Common.{◌≡◌, ℕ, ◌-◌, ◌<◌, ◌≤◌, ◌�
 use Rattle.std.proofs.Common.{sym, ap, ◌∙◌, subst, inl, inr, ⊎_elim, IsTrue, arith}
 use Rattle.std.specs.List.{concat}
 use Rattle.std.proofs.lemmas.Bool.{cases_lt, false≢true}
-use Rattle.dt_buffer.proofs.Beginnings.{one_begins, some_begins}
+use Rattle.dt_buffer.specs.laws.Beginnings.{one_begins, some_begins}
 use Rattle.dt_buffer.proofs.Choices.{one_switch, some_switch, same_bits}
 use Rattle.dt_buffer.proofs.Endings.{one_ends, some_ends}
 use Rattle.dt_buffer.specs.Beginning.{IsLongestBeginning, ShowsFill, size_of}

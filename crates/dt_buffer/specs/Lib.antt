@@ -1,4 +1,5 @@
 -- What the contracts of this crate cite.
+pub mod Limits
 pub mod History
 pub mod Choice
 pub mod Beginning
@@ -6,3 +7,4 @@ pub mod Ending
 pub mod Shows
 pub mod Stores
 pub mod IsAt
+pub mod laws

@@ -10,6 +10,7 @@
 
 mod fill;
 mod laws;
+mod limit_laws;
 mod limits;
 mod policy;
 mod principal;
@@ -17,6 +18,7 @@ mod ring;
 mod switch;
 
 pub use laws::{one_beginning, one_choice, one_end, one_shown, some_shown};
+pub use limit_laws::limits_agree;
 pub use limits::{DROPS_LIMIT, SIZE_MAX};
 pub use policy::{Policy, Put};
 pub use principal::{Principal, Rings};

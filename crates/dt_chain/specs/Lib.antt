@@ -1,6 +1,10 @@
 -- The definitions of the crate.
+
+pub mod Limits
 pub mod Writes
 pub mod Look
 pub mod Seats
 pub mod Kept
 pub mod IsAt
+pub mod Tests
+pub mod laws

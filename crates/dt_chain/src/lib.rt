@@ -9,6 +9,7 @@
 
 mod entries;
 mod laws;
+mod limit_laws;
 mod lists;
 mod seat;
 mod seat_mask;
@@ -16,5 +17,6 @@ mod seat_set;
 
 pub use entries::Entries;
 pub use laws::one_look;
+pub use limit_laws::limits_agree;
 pub use seat::{SEATS, Seat};
 pub use seat_mask::SeatMask;

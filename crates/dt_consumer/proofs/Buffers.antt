@@ -1,24 +1,17 @@
 -- What takings bring to a processor's buffer.
-use Rattle.std.proofs.Common.{◌≡◌, ℕ, suc, ◌+◌, ◌<◌, ◌≤◌, get_or, take, drop, true, false, List, [], ◌∷◌, ◌++◌, length}
-use Rattle.std.proofs.Common.{Option, Some, None, map, refl, sym, ap, ◌∙◌, subst, arith}
-use Rattle.std.specs.Option.{is_some, option_map, option_to_list}
+use Rattle.std.proofs.Common.{◌≡◌, ℕ, suc, ◌+◌, ◌<◌, ◌≤◌, get_or, take, drop, true, List, [], ◌∷◌, ◌++◌, length, None}
+use Rattle.std.proofs.Common.{map, sym, ap, ◌∙◌, subst, arith}
+use Rattle.std.specs.Option.{is_some}
 use Rattle.std.proofs.lemmas.List.{append-nil, append_assoc, take_all}
-use Rattle.std.proofs.lemmas.Grind.{flat_map-append}
-use Rattle.dt_buffer.specs.History.{BufferPast, attempt, swap, of_end, buffer_after}
-use Rattle.dt_buffer.specs.History as buffer
-use Rattle.dt_buffer.specs.Shows.{EndLast}
+use Rattle.dt_buffer.specs.History.{BufferPast}
 use Rattle.dt_ecb.specs.declared.parts.Ecb.{Ecb}
-use Rattle.dt_lang.specs.Program.{ClauseForm}
-use Rattle.dt_consumer.specs.Buffers.{attempts_of}
-use Rattle.dt_consumer.specs.Keeps.{HasTaken, followed_by, taking_by}
-use Rattle.dt_consumer.specs.Takings.{Taking, MomentForm, exit_of, faults, first_exit, record_of, through_exit}
+use Rattle.dt_life.specs.Buffers.{attempts_of}
+use Rattle.dt_consumer.specs.Keeps.{HasTaken}
+use Rattle.dt_life.specs.Following.{followed_by}
+use Rattle.dt_life.specs.Takings.{Taking, exit_of, faults, first_exit, through_exit}
 use Rattle.dt_consumer.specs.declared.processor.Processor.{Processor}
-use Rattle.dt_consumer.proofs.Takings.{faults-append, row_more, row_split, through_first, through_none}
-
-pub attempts-append : (xs ys : List Taking) → attempts_of (xs ++ ys) ≡ attempts_of xs ++ attempts_of ys
-attempts-append xs ys =
-    flat_map-append
-    (λ (t : Taking). option_to_list (option_map (λ bytes. attempt bytes t.in_end) (record_of t))) xs ys
+use Rattle.dt_life.specs.laws.Takings.{faults-append, row_more, row_split, through_first, through_none}
+use Rattle.dt_life.specs.laws.Buffers.{attempts-append}
 
 -- the same past and the same errors, written in another way
 pub same_has : (past past' : BufferPast) (n m : ℕ) (p : Processor) → past ≡ past' → n ≡ m → HasTaken past n p
@@ -49,36 +42,6 @@ has_none past errors p h =
     (sym (append-nil past.events)))
     (omega arith)
     h
-
--- the attempts of END's among those of others
-pub of_end-append : (xs ys : List buffer.BufferEvent) → of_end (xs ++ ys) ≡ of_end xs ++ of_end ys
-of_end-append [] ys = refl
-of_end-append (attempt bytes true ∷ xs) ys = ap (λ rest. bytes ∷ rest) (of_end-append xs ys)
-of_end-append (attempt bytes false ∷ xs) ys = of_end-append xs ys
-of_end-append (swap ∷ xs) ys = of_end-append xs ys
-
-pub ordinary_one : (o : Option (List ℕ)) (rest : List buffer.BufferEvent) → of_end rest ≡ []
-    → of_end (option_to_list (option_map (λ bytes. attempt bytes false) o) ++ rest) ≡ []
-ordinary_one None rest e = e
-ordinary_one (Some bytes) rest e = e
-
--- ordinary takings attempt no record of END
-pub none_of_end : (m : MomentForm) (forms : List ClauseForm) (row : List Ecb)
-    → of_end (attempts_of (map (taking_by false m forms) row)) ≡ []
-none_of_end m forms [] = refl
-none_of_end m forms (ecb ∷ row) =
-    ordinary_one (record_of (taking_by false m forms ecb)) (attempts_of (map (taking_by false m forms) row))
-    (none_of_end m forms row)
-
-pub still_last : (past : BufferPast) (events : List buffer.BufferEvent) → of_end events ≡ [] → EndLast past false
-    → EndLast (followed_by past events) false
-still_last past events none last = λ fill e.
-    of_end-append past.events events ∙ ap (λ xs. of_end past.events ++ xs) none ∙ append-nil (of_end past.events)
-    ∙ last fill e
-
--- nothing of END comes after what is of END
-pub in_end_last : (past : BufferPast) → EndLast past true
-in_end_last past = λ fill e. cc
 
 -- one ECB of a row more was taken
 pub took_more : (f : Ecb → Taking) (row : List Ecb) (i : ℕ) (ecb : Ecb) (past : BufferPast) (errors : ℕ)

@@ -4,14 +4,14 @@ use Rattle.std.proofs.Common.{subst}
 use Rattle.std.specs.Option.{MatchOption}
 use Rattle.dt_cred.specs.declared.account.Account.{Account}
 use Rattle.dt_machine.specs.Registry.{Registry}
-use Rattle.dt_consumer.specs.Ask.{close}
+use Rattle.dt_life.specs.Ask.{close}
 use Rattle.dt_consumer.specs.Keeps.{IsTracing, IsUntraced, phase_untraced}
-use Rattle.dt_consumer.specs.Life.{Item, asked, SetUp, is_stopped, lines, phase_of, set_up, with_event}
+use Rattle.dt_life.specs.Life.{Item, asked, SetUp, is_stopped, lines, phase_of, set_up, with_event}
 use Rattle.dt_consumer.specs.StandsFor.{StandsFor}
-use Rattle.dt_consumer.specs.Takings.{closed}
+use Rattle.dt_life.specs.Takings.{closed}
 use Rattle.dt_consumer.specs.declared.consumer.Consumer.{Consumer}
 use Rattle.dt_consumer.specs.declared.tracing.Tracing.{Tracing}
-use Rattle.dt_consumer.proofs.DraftLemmas.{closed_by}
+use Rattle.dt_life.specs.laws.Verdicts.{closed_by}
 use Rattle.dt_consumer.proofs.Stands.{keeps_quiet, keeps_traced, stands_changed, traced, untraced}
 
 module _ (account : Account) (registry : Registry) (consumer : Consumer) (life : List Item)

@@ -8,11 +8,12 @@ use Rattle.dt_aggstore.specs.declared.limits.TheConstants.{ADDED_LIMIT}
 use Rattle.dt_aggstore.specs.declared.store.AggStore.{AggStore}
 use Rattle.dt_buffer.specs.declared.limits.TheConstants.{DROPS_LIMIT}
 use Rattle.dt_ecb.specs.declared.limits.TheConstants.{ECBS_MAX}
-use Rattle.dt_consumer.specs.Counts.{AtMost, GivenAtMost, GIVES_MAX, must_be_left, own_firings}
-use Rattle.dt_consumer.specs.declared.limits.TheConstants.{HISTORY_MAX}
-use Rattle.dt_consumer.specs.declared.phase.Course.{Course}
-use Rattle.dt_consumer.specs.declared.phase.Course.TheVariants.{Running}
-use Rattle.dt_consumer.specs.declared.phase.End.TheVariants.{Exit, History}
+use Rattle.dt_consumer.specs.Counts.{AtMost, GIVES_MAX, must_be_left, own_firings}
+use Rattle.dt_life.specs.Uses.{GivenAtMost}
+use Rattle.dt_life.specs.declared.limits.TheConstants.{HISTORY_MAX}
+use Rattle.dt_consumer.specs.declared.course.Course.{Course}
+use Rattle.dt_consumer.specs.declared.course.Course.TheVariants.{Running}
+use Rattle.dt_life.specs.declared.phase.End.TheVariants.{Exit, History}
 use Rattle.dt_consumer.specs.declared.processor.Processor.{Processor}
 
 pub no_more : (n m : ℕ) (all : List Processor) → n ≤ m → All (AtMost n) all → All (AtMost m) all

@@ -23,31 +23,33 @@ use Rattle.dt_ecb.specs.Forms.{form_of_ecb, shapes_of}
 use Rattle.dt_ecb.specs.Shapes.{ShapeForm, uses_of}
 use Rattle.dt_ecb.specs.declared.parts.Ecb.{Ecb}
 use Rattle.dt_ecb.specs.declared.shapes.Shapes.{Shapes}
-use Rattle.dt_consumer.specs.Answer.{answer_of, done, enabled}
-use Rattle.dt_consumer.specs.Ask.{option, enable, go, stop, snap, close, reading_of, is_read}
-use Rattle.dt_consumer.specs.Buffers.{past}
+use Rattle.dt_life.specs.Answer.{answer_of, done, enabled}
+use Rattle.dt_life.specs.Ask.{option, enable, go, stop, snap, close, reading_of, is_read}
+use Rattle.dt_life.specs.Buffers.{past}
 use Rattle.dt_consumer.specs.Draft.{IsDraftOf}
-use Rattle.dt_consumer.specs.Keeps.{AreEcbs, IsTracing, Keeps, form_of_options}
-use Rattle.dt_consumer.specs.Life.{Item, SetUp, is_over, is_readable, set_up, phase, next_epid, has_room, happens}
-use Rattle.dt_consumer.specs.Life.{since_then, with_options, shapes_in}
-use Rattle.dt_consumer.specs.Options.{Setting, with_setting}
-use Rattle.dt_consumer.specs.Refusal.{refused_as}
-use Rattle.dt_consumer.specs.Reply.{Accepted, IsVerdictOnCommand, refusal_of}
-use Rattle.dt_consumer.specs.Takings.{began}
+use Rattle.dt_life.specs.Placed.{AreEcbs}
+use Rattle.dt_consumer.specs.Keeps.{IsTracing, Keeps}
+use Rattle.dt_life.specs.Forms.{form_of_options}
+use Rattle.dt_life.specs.Life.{Item, SetUp, is_over, is_readable, set_up, phase, next_epid, has_room, happens}
+use Rattle.dt_life.specs.Life.{since_then, with_options, shapes_in}
+use Rattle.dt_life.specs.Options.{Setting, with_setting}
+use Rattle.dt_life.specs.Refusal.{refused_as}
+use Rattle.dt_life.specs.Reply.{Accepted, IsVerdictOnCommand, refusal_of}
+use Rattle.dt_life.specs.Takings.{began}
 use Rattle.dt_consumer.specs.declared.consumer.Consumer.{Consumer}
 use Rattle.dt_consumer.specs.declared.draft.Change.TheVariants.{Nothing, Set, Enable, Go, Stop, Snap, Close}
 use Rattle.dt_consumer.specs.declared.draft.Draft.{Draft}
-use Rattle.dt_consumer.specs.declared.options.Options.{Options}
-use Rattle.dt_consumer.specs.declared.phase.Phase.TheVariants.{Inactive, Active}
-use Rattle.dt_consumer.specs.declared.refusal.Refusal.{Refusal}
-use Rattle.dt_consumer.specs.declared.refusal.Refusal.TheVariants as refusals
-use Rattle.dt_consumer.specs.declared.refusal.Refusal.TheVariants.{Program}
-use Rattle.dt_consumer.specs.declared.reply.Reply.{Reply}
-use Rattle.dt_consumer.specs.declared.reply.Reply.TheVariants.{Done, Enabled, Refused}
+use Rattle.dt_life.specs.declared.options.Options.{Options}
+use Rattle.dt_life.specs.declared.phase.Phase.TheVariants.{Inactive, Active}
+use Rattle.dt_life.specs.declared.refusal.Refusal.{Refusal}
+use Rattle.dt_life.specs.declared.refusal.Refusal.TheVariants as refusals
+use Rattle.dt_life.specs.declared.refusal.Refusal.TheVariants.{Program}
+use Rattle.dt_life.specs.declared.reply.Reply.{Reply}
+use Rattle.dt_life.specs.declared.reply.Reply.TheVariants.{Done, Enabled, Refused}
 use Rattle.dt_consumer.specs.declared.tracing.Tracing.{Tracing}
-use Rattle.dt_consumer.proofs.DraftLemmas.{in_quota, accepted_reply, refused_by, fault_refused, destructive_refused}
-use Rattle.dt_consumer.proofs.DraftLemmas.{program_verdict, idle_program, go_taken, snap_taken, option_taken, set_by}
-use Rattle.dt_consumer.proofs.DraftLemmas.{stop_taken}
+use Rattle.dt_life.specs.laws.Verdicts.{in_quota, accepted_reply, fault_refused, destructive_refused, program_verdict}
+use Rattle.dt_life.specs.laws.Verdicts.{idle_program, go_taken, snap_taken, option_taken, set_by, stop_taken}
+use Rattle.dt_consumer.proofs.DraftLemmas.{refused_by}
 
 -- what a buffer tells of its past, in three parts
 pub shown_all : ((past : BufferPast) (bytes other : List ℕ) (drops count : ℕ) (filled full : Bool)

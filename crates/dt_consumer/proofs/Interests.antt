@@ -9,8 +9,8 @@ use Rattle.dt_lang.specs.Program.{ClauseForm}
 use Rattle.dt_ecb.specs.Ecbs.{EcbForm, of_probe}
 use Rattle.dt_ecb.specs.Forms.{form_of_ecb}
 use Rattle.dt_ecb.specs.declared.parts.Ecb.{Ecb}
-use Rattle.dt_consumer.specs.Keeps.{AreEcbs}
-use Rattle.dt_consumer.proofs.Lists.{filter-map}
+use Rattle.dt_life.specs.Placed.{AreEcbs}
+use Rattle.dt_life.specs.laws.Lists.{filter-map}
 
 -- the ECBs of a probe
 abbrev pub naming : ℕ → List Ecb → List Ecb

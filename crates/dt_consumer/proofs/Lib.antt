@@ -1,8 +1,6 @@
 -- The lemmas of the crate, lowest first.
-pub mod Lists
-pub mod Takings
+
 pub mod Buffers
-pub mod Sizes
 pub mod Giving
 pub mod Taken
 pub mod Tracings
@@ -11,13 +9,9 @@ pub mod Reading
 pub mod Counted
 pub mod Stands
 pub mod DraftLemmas
-pub mod Happening
 pub mod Interests
-pub mod Placed
 pub mod Telling
-pub mod Names
 pub mod StoresTold
 pub mod Quiet
 pub mod Closing
 pub mod Drafting
-pub mod ReplyLaws

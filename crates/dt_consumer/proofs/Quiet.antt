@@ -13,10 +13,10 @@ use Rattle.dt_buffer.specs.declared.policy.Policy.TheVariants.{Switch, Fill, Rin
 use Rattle.dt_cred.specs.declared.account.Account.{Account}
 use Rattle.dt_ecb.specs.Ecbs.{EcbForm}
 use Rattle.dt_machine.specs.Registry.{Registry}
-use Rattle.dt_consumer.specs.Buffers.{comes_since, past_in}
+use Rattle.dt_life.specs.Buffers.{comes_since, past_in}
 use Rattle.dt_consumer.specs.Keeps.{is_quiet}
-use Rattle.dt_consumer.specs.Life.{SetUp, ecbs_in}
-use Rattle.dt_consumer.specs.Takings.{TracingEvent, began, seen, read, truncated, ended, closed}
+use Rattle.dt_life.specs.Life.{SetUp, ecbs_in}
+use Rattle.dt_life.specs.Takings.{TracingEvent, began, seen, read, truncated, ended, closed}
 
 abbrev are_swaps : List buffer.BufferEvent → Type 0
 are_swaps = AllByRecursion (λ event. event ≡ swap)

@@ -1,6 +1,6 @@
 -- What was taken, after an event at which no ECB is taken: a reading, a truncation or a close.
-use Rattle.std.proofs.Common.{◌≡◌, ◌≢◌, ℕ, ◌+◌, ◌<◌, ◌≤◌, Bool, true, false, cond, List, [], ◌∷◌, ◌++◌, length}
-use Rattle.std.proofs.Common.{get_or, refl, sym, ap, ◌∙◌, ⊎_elim, arith}
+use Rattle.std.proofs.Common.{◌≡◌, ◌≢◌, ℕ, ◌+◌, ◌<◌, ◌≤◌, Bool, true, false, cond, List, [], ◌∷◌, ◌++◌, length, get_or}
+use Rattle.std.proofs.Common.{refl, sym, ap, ◌∙◌, ⊎_elim, arith}
 use Rattle.std.specs.List.{slice_get, slice_set}
 use Rattle.std.specs.Option.{IfSome}
 use Rattle.std.proofs.lemmas.Bool.{cases_eq, eq-eqb, ne_eqb}
@@ -9,15 +9,17 @@ use Rattle.dt_buffer.specs.History.{BufferPast, buffer_after, of_end, swap}
 use Rattle.dt_buffer.specs.History as buffer
 use Rattle.dt_cred.specs.declared.account.Account.{Account}
 use Rattle.dt_machine.specs.Registry.{Registry}
-use Rattle.dt_consumer.specs.Buffers.{comes_by, errors_in, past_in}
-use Rattle.dt_consumer.specs.Keeps.{AreTaken, HasTaken, followed_by}
-use Rattle.dt_consumer.specs.Life.{SetUp, ecbs_in, with_event}
-use Rattle.dt_consumer.specs.Takings.{TracingEvent, read, faults, taken_on, taken_since}
+use Rattle.dt_life.specs.Buffers.{comes_by, errors_in, past_in}
+use Rattle.dt_consumer.specs.Keeps.{AreTaken, HasTaken}
+use Rattle.dt_life.specs.Following.{followed_by}
+use Rattle.dt_life.specs.Life.{SetUp, ecbs_in, with_event}
+use Rattle.dt_life.specs.Takings.{TracingEvent, read, faults, taken_on, taken_since}
 use Rattle.dt_consumer.specs.declared.processor.Processor.{Processor}
-use Rattle.dt_consumer.proofs.Buffers.{has_none, of_end-append, same_has}
-use Rattle.dt_consumer.proofs.Lists.{found_at, nothing_past, replaced}
-use Rattle.dt_consumer.proofs.Taken.{if_some_map}
-use Rattle.dt_consumer.proofs.Takings.{faults-append}
+use Rattle.dt_consumer.proofs.Buffers.{has_none, same_has}
+use Rattle.dt_life.specs.laws.Buffers.{of_end-append}
+use Rattle.dt_life.specs.laws.Lists.{found_at, nothing_past, replaced}
+use Rattle.dt_life.specs.laws.Options.{if_some_map}
+use Rattle.dt_life.specs.laws.Takings.{faults-append}
 
 -- nothing was taken on a processor, and nothing came to its buffer
 pub untouched : (account : Account) (registry : Registry) (s : SetUp) (event : TracingEvent) (all : List Processor)

@@ -17,15 +17,15 @@ use Rattle.dt_cred.specs.declared.account.Account.{Account}
 use Rattle.dt_ecb.specs.Ecbs.{EcbForm}
 use Rattle.dt_ecb.specs.Shapes.{ShapeForm}
 use Rattle.dt_machine.specs.Registry.{Registry}
-use Rattle.dt_consumer.specs.Aggregations.{aggregation_of}
+use Rattle.dt_life.specs.Aggregations.{aggregation_of}
 use Rattle.dt_consumer.specs.Keeps.{IsTracing, is_quiet}
-use Rattle.dt_consumer.specs.Life.{Item, SetUp, ecbs_in, set_up, shapes_in}
-use Rattle.dt_consumer.specs.Reply.{all_aggdrops}
-use Rattle.dt_consumer.specs.Stores.{aggdrops_in, given_in, given_since, stores_in}
-use Rattle.dt_consumer.specs.Takings.{TracingEvent, began, seen, read, truncated, ended, closed}
+use Rattle.dt_life.specs.Life.{Item, SetUp, ecbs_in, set_up, shapes_in}
+use Rattle.dt_life.specs.Reply.{all_aggdrops}
+use Rattle.dt_life.specs.Stores.{aggdrops_in, given_in, given_since, stores_in}
+use Rattle.dt_life.specs.Takings.{TracingEvent, began, seen, read, truncated, ended, closed}
 use Rattle.dt_consumer.specs.declared.tracing.Tracing.{Tracing}
-use Rattle.dt_consumer.proofs.Stores.{are_zipped}
-use Rattle.dt_consumer.proofs.Telling.{all_zero}
+use Rattle.dt_life.specs.laws.Stores.{are_zipped}
+use Rattle.dt_life.specs.laws.Lists.{all_zero}
 
 -- as many stores as processors
 all_stores : (account : Account) (registry : Registry) (s : SetUp) (t : Tracing) → IsTracing account registry s t

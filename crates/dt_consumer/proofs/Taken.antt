@@ -1,25 +1,18 @@
 -- What takings on one processor make of all.
-use Rattle.std.proofs.Common.{◌≡◌, ◌≢◌, ℕ, ◌+◌, ◌<◌, ◌≤◌, ◌==◌, true, false, cond, List, [], Option, Some, None}
-use Rattle.std.proofs.Common.{length, get_or, refl, sym, ap, ◌∙◌, subst, ⊎_elim, arith}
+use Rattle.std.proofs.Common.{◌≡◌, ◌≢◌, ℕ, ◌+◌, ◌<◌, ◌≤◌, ◌==◌, true, false, cond, List, [], length, get_or, refl, sym}
+use Rattle.std.proofs.Common.{subst, ⊎_elim, arith}
 use Rattle.std.specs.List.{slice_get, slice_set}
-use Rattle.std.specs.Option.{IfSome, IsSomeAnd, option_and_then, option_map}
+use Rattle.std.specs.Option.{IfSome}
 use Rattle.std.proofs.lemmas.Bool.{cases_eq, eq-eqb, ne_eqb}
 use Rattle.dt_buffer.specs.History.{BufferPast}
-use Rattle.dt_cred.specs.declared.account.Account.{Account}
-use Rattle.dt_cred.specs.declared.account.Process.{Process}
-use Rattle.dt_cred.specs.declared.probe.Probe.{Probe}
-use Rattle.dt_machine.specs.Registry.{Registry, probe_of}
-use Rattle.dt_cred.specs.declared.firing.Firing.{Firing}
-use Rattle.dt_consumer.specs.Buffers.{attempts_of}
-use Rattle.dt_consumer.specs.Keeps.{AreTaken, HasTaken, errors_and, followed_by, pasts_and, where_taken}
-use Rattle.dt_consumer.specs.Takings.{Taking, faults, own_firing, own_moment, own_process}
+use Rattle.dt_life.specs.Buffers.{attempts_of}
+use Rattle.dt_consumer.specs.Keeps.{AreTaken, HasTaken}
+use Rattle.dt_life.specs.Following.{errors_and, followed_by, pasts_and, where_taken}
+use Rattle.dt_life.specs.Takings.{Taking, faults}
 use Rattle.dt_consumer.specs.declared.processor.Processor.{Processor}
 use Rattle.dt_consumer.proofs.Buffers.{has_none}
-use Rattle.dt_consumer.proofs.Lists.{replaced, nothing_past, found_at}
-
-pub if_some_map : {X : Type 0} (P Q : X → Type 0) (o : Option X) → ((x : X) → P x → Q x) → IfSome o P → IfSome o Q
-if_some_map P Q None f h = tt
-if_some_map P Q (Some x) f h = f x h
+use Rattle.dt_life.specs.laws.Lists.{replaced, nothing_past, found_at}
+use Rattle.dt_life.specs.laws.Options.{if_some_map}
 
 module _ (pasts : ℕ → BufferPast) (errors : ℕ → ℕ) (all : List Processor) (there : ℕ) (new : List Taking)
     (taken : AreTaken pasts errors all) where
@@ -56,21 +49,3 @@ module _ (pasts : ℕ → BufferPast) (errors : ℕ → ℕ) (all : List Process
       (λ e. nothing_past (Wanted j) all j (omega arith))
       (elsewhere j)
       (cases_eq j there)
-
--- the moment of BEGIN or END
-pub own_is : (account : Account) (registry : Registry) (id : ℕ) (probe : Probe) (process : Process) (firing : Firing)
-    → Some probe ≡ probe_of registry id → process ≡ own_process account → firing ≡ own_firing id
-    → own_moment account registry id ≡ Some (record { probe = probe; process = process; firing = firing })
-own_is account registry id probe process firing is own fires =
-    ap
-    (λ o. option_and_then
-    (λ (p : Probe). option_map
-    (λ (q : Process). record { probe = p; process = q; firing = own_firing id })
-    (Some (own_process account)))
-    o)
-    (sym is)
-    ∙ ap (λ (q : Process). Some (record { probe = probe; process = q; firing = own_firing id })) (sym own)
-    ∙ ap (λ (f : Firing). Some (record { probe = probe; process = process; firing = f })) (sym fires)
-
-pub some_and : {X : Type 0} (o : Option X) (x : X) (P : X → Type 0) → o ≡ Some x → P x → IsSomeAnd o P
-some_and o x P e h = subst (λ p. IsSomeAnd p P) (sym e) h

@@ -1,73 +1,44 @@
 -- What a consumer has from `go` on, as more happens.
-use Rattle.std.proofs.Common.{◌≡◌, ℕ, ℤ, ◌+◌, ◌<◌, ◌==◌, ◌&&◌, Bool, true, false, cond, List, [], ◌∷◌, ◌++◌, Option}
-use Rattle.std.proofs.Common.{Some, None, length, get_or, filter, map, refl, sym, ap, ◌∙◌, subst, arith}
+use Rattle.std.proofs.Common.{◌≡◌, ℕ, ℤ, ◌+◌, ◌<◌, ◌==◌, ◌&&◌, Bool, true, false, cond, List, [], ◌∷◌, Option, Some}
+use Rattle.std.proofs.Common.{length, get_or, filter, map, refl, sym, ap, ◌∙◌, subst, arith}
 use Rattle.std.specs.List.{slice_get, All, AllByRecursion}
 use Rattle.std.proofs.lemmas.List.Elements.{All-from_recursion, recursion_from_All}
-use Rattle.std.specs.Option.{IfSome, IsSomeAnd, is_some, option_and_then, option_map, option_map_or, option_or}
+use Rattle.std.specs.Option.{IfSome, IsSomeAnd}
 use Rattle.std.proofs.lemmas.List.{length-map}
-use Rattle.dt_buffer.specs.History.{new_buffer_past, of_end}
-use Rattle.dt_buffer.specs.Shows.{EndLast}
+use Rattle.dt_buffer.specs.History.{new_buffer_past}
 use Rattle.dt_cred.specs.declared.account.Account.{Account}
-use Rattle.dt_cred.specs.declared.probe.Probe.{Probe}
-use Rattle.dt_machine.specs.Registry.{Registry, probe_of}
+use Rattle.dt_machine.specs.Registry.{Registry}
 use Rattle.dt_lang.specs.Program.{ClauseForm, form_of_clause}
 use Rattle.dt_program.specs.declared.clause.Clause.{Clause}
 use Rattle.dt_ecb.specs.Ecbs.{EcbForm, of_probe}
 use Rattle.dt_ecb.specs.Forms.{form_of_ecb}
 use Rattle.dt_ecb.specs.declared.parts.Ecb.{Ecb}
-use Rattle.dt_consumer.specs.Buffers.{attempts_of, comes_by, errors_in, past_in, reserve_on}
-use Rattle.dt_consumer.specs.Keeps.{AreEcbs, AreTaken, HasTaken, IsTracing, errors_and, followed_by, pasts_and}
-use Rattle.dt_consumer.specs.Keeps.{taking_by, where_taken}
-use Rattle.dt_consumer.specs.Life.{SetUp, ecbs_in, end_by, end_size, happens, seen_count, since_then, with_event}
-use Rattle.dt_consumer.specs.Options.{OptionsForm, is_fill}
-use Rattle.dt_consumer.specs.Takings.{TracingEvent, began, seen, read, truncated}
-use Rattle.dt_consumer.specs.Takings.{ended, closed, is_end, Taking, MomentForm}
-use Rattle.dt_consumer.specs.Takings.{exit_of, faults, first_exit, moment_at, own_firing, own_moment, own_process}
-use Rattle.dt_consumer.specs.Takings.{record_of, taken_at, taken_by, taken_on, taken_since, taking_of, through_exit}
-use Rattle.dt_consumer.specs.declared.limits.TheConstants.{END}
-use Rattle.dt_consumer.specs.declared.phase.End.{End}
-use Rattle.dt_consumer.specs.declared.phase.End.TheVariants.{Exit, History}
+use Rattle.dt_life.specs.Buffers.{attempts_of, errors_in, past_in, reserve_on}
+use Rattle.dt_life.specs.Placed.{AreEcbs}
+use Rattle.dt_consumer.specs.Keeps.{AreTaken, HasTaken, IsTracing}
+use Rattle.dt_life.specs.Following.{errors_and, followed_by, pasts_and, taking_by, where_taken}
+use Rattle.dt_life.specs.Life.{SetUp, ecbs_in, end_size, since_then, with_event}
+use Rattle.dt_life.specs.Options.{OptionsForm, is_fill}
+use Rattle.dt_life.specs.Takings.{TracingEvent, ended, is_end, Taking, MomentForm, faults, first_exit, moment_at}
+use Rattle.dt_life.specs.Takings.{own_moment, taken_at, taken_by, taken_on, taken_since, taking_of}
+use Rattle.dt_life.specs.declared.limits.TheConstants.{END}
+use Rattle.dt_life.specs.declared.phase.End.{End}
 use Rattle.dt_consumer.specs.declared.processor.Processor.{Processor}
 use Rattle.dt_consumer.specs.declared.rows.Row.{Row}
 use Rattle.dt_consumer.specs.declared.tracing.Tracing.{Tracing}
-use Rattle.dt_consumer.proofs.Buffers.{ordinary_one, same_has, of_end-append}
-use Rattle.dt_consumer.proofs.Lists.{filter-map, found_at, map_twice}
-use Rattle.dt_consumer.proofs.Takings.{faults-append, first_through}
-use Rattle.dt_consumer.proofs.Taken.{if_some_map}
-
--- an event at which ECBs are taken
-abbrev pub IsFiring : TracingEvent → Type 0
-IsFiring (read cpu) = ⊥
-IsFiring (truncated name) = ⊥
-IsFiring _ = Unit {0}
+use Rattle.dt_consumer.proofs.Buffers.{same_has}
+use Rattle.dt_life.specs.laws.Lists.{filter-map, found_at, map_twice}
+use Rattle.dt_life.specs.laws.Takings.{faults-append, first_through}
+use Rattle.dt_life.specs.laws.Options.{if_some_map}
+use Rattle.dt_life.specs.laws.Tracings.{IsFiring, comes_firing, on_is, by_is}
+use Rattle.dt_life.specs.laws.Moments.{own_found}
 
 module _ (account : Account) (registry : Registry) (s : SetUp) where
   abbrev own : List EcbForm
   own = ecbs_in account registry s
 
-  comes_firing : (cpu : ℕ) (event : TracingEvent) → IsFiring event
-      → comes_by account registry (ecbs_in account registry s) cpu event
-      ≡ attempts_of (taken_on account registry (ecbs_in account registry s) cpu event)
-  comes_firing cpu began is = refl
-  comes_firing cpu (seen firing) is = refl
-  comes_firing cpu (read n) is = absurd is
-  comes_firing cpu (truncated name) is = absurd is
-  comes_firing cpu (ended end) is = refl
-  comes_firing cpu closed is = refl
-
   module _ (event : TracingEvent) (m : MomentForm) (fires : IsFiring event)
       (at : moment_at account registry event ≡ Some m) where
-    pub on_is : (cpu : ℕ) → taken_on account registry (ecbs_in account registry s) cpu event
-        ≡ where_taken m.firing.cpu (taken_at (is_end event) (ecbs_in account registry s) m) cpu
-    on_is cpu = ap
-        (λ o. option_map_or
-        (λ (x : MomentForm). cond (x.firing.cpu == cpu) (taken_at (is_end event) own x) []) o [])
-        at
-
-    pub by_is : taken_by account registry (ecbs_in account registry s) event
-        ≡ taken_at (is_end event) (ecbs_in account registry s) m
-    by_is = ap (λ o. option_map_or (taken_at (is_end event) own) o []) at
-
     -- what was taken at an event is what the set-up with it says
     pub grown : (all : List Processor) (new : List Taking)
         → new ≡ taken_at (is_end event) (ecbs_in account registry s) m
@@ -77,36 +48,15 @@ module _ (account : Account) (registry : Registry) (s : SetUp) where
         (errors_in account registry (with_event s event)) all
     grown all new is h = λ cpu.
         let w : where_taken m.firing.cpu new cpu ≡ taken_on account registry own cpu event =
-        ap (λ xs. where_taken m.firing.cpu xs cpu) is ∙ sym (on_is cpu) in
+        ap (λ xs. where_taken m.firing.cpu xs cpu) is ∙ sym (on_is account registry s event m fires at cpu) in
         if_some_map _ _ (slice_get all cpu)
         (λ p. same_has _ _ _ _ p
         (ap (λ xs. followed_by (past_in account registry s cpu) (attempts_of xs)) w
-        ∙ ap (followed_by (past_in account registry s cpu)) (sym (comes_firing cpu event fires)))
+        ∙ ap (followed_by (past_in account registry s cpu)) (sym (comes_firing account registry s cpu event fires)))
         (ap (λ xs. errors_in account registry s cpu + faults xs) w
         ∙ sym
         (faults-append (taken_since account registry own cpu s.since) (taken_on account registry own cpu event))))
         (h cpu)
-
--- why tracing ends, written by what is known of it
-pub end_is : (account : Account) (registry : Registry) (s : SetUp) (event : TracingEvent) (exit : Option ℤ) (b : Bool)
-    → first_exit (taken_by account registry (ecbs_in account registry s) event) ≡ exit
-    → (seen_count s.since == s.options.histsize) ≡ b
-    → end_by account registry s event ≡ option_or (option_map Exit exit) (cond b (Some History) None)
-end_is account registry s event exit b e f =
-    ap (λ x. option_or (option_map Exit x) (cond (seen_count s.since == s.options.histsize) (Some History) None)) e
-    ∙ ap (λ x. option_or (option_map Exit exit) (cond x (Some History) None)) f
-
-pub happens_on : (account : Account) (registry : Registry) (s : SetUp) (event : TracingEvent)
-    → end_by account registry (with_event s event) event ≡ None
-    → happens account registry s event ≡ with_event s event
-happens_on account registry s event e = ap
-    (λ o. option_map_or (λ end. with_event (with_event s event) (ended end)) o (with_event s event)) e
-
-pub happens_last : (account : Account) (registry : Registry) (s : SetUp) (event : TracingEvent) (end : End)
-    → end_by account registry (with_event s event) event ≡ Some end
-    → happens account registry s event ≡ with_event (with_event s event) (ended end)
-happens_last account registry s event end e = ap
-    (λ o. option_map_or (λ end. with_event (with_event s event) (ended end)) o (with_event s event)) e
 
 -- the row of a probe
 pub record RowOf (account : Account) (registry : Registry) (s : SetUp) (probe : ℕ) (row : Row) : Type 0 where
@@ -139,33 +89,6 @@ module _ (account : Account) (registry : Registry) (s : SetUp) (probe : ℕ) (ro
       ∙ ap (λ cs. map (taking_of in_end m) (map (form_of_ecb cs) row.ecbs.items)) own_clauses
       ∙ ap (map (taking_of in_end m)) r.its.forms
 
--- a moment of the consumer's own
-pub record OwnMoment (account : Account) (registry : Registry) (id : ℕ) (P : MomentForm → Type 0) : Type 0 where
-  pub probe : Probe
-  pub is : own_moment account registry id
-      ≡ Some (record { probe = probe; process = own_process account; firing = own_firing id })
-  pub holds : P (record { probe = probe; process = own_process account; firing = own_firing id })
-
-own_of : (account : Account) (registry : Registry) (id : ℕ) (P : MomentForm → Type 0) (o : Option Probe)
-    → probe_of registry id ≡ o
-    → IsSomeAnd (option_and_then
-    (λ (p : Probe). option_map
-    (λ q. record { probe = p; process = q; firing = own_firing id }) (Some (own_process account))) o) P
-    → OwnMoment account registry id P
-own_of account registry id P None e h = absurd h
-own_of account registry id P (Some probe) e h = record {
-  probe = probe;
-  is = ap
-      (λ o. option_and_then
-      (λ (p : Probe). option_map
-      (λ q. record { probe = p; process = q; firing = own_firing id }) (Some (own_process account))) o) e;
-  holds = h;
-}
-
-pub own_found : (account : Account) (registry : Registry) (id : ℕ) (P : MomentForm → Type 0)
-    → IsSomeAnd (own_moment account registry id) P → OwnMoment account registry id P
-own_found account registry id P h = own_of account registry id P (probe_of registry id) refl h
-
 -- END fired on what had been taken
 pub end_fired : (account : Account) (registry : Registry) (s : SetUp) (end : End) (row : Row) (all : List Processor)
     (clauses : List Clause) → map form_of_clause clauses ≡ s.clauses → RowOf account registry s END row
@@ -180,43 +103,6 @@ end_fired account registry s end row all clauses own_clauses r h =
     grown account registry s (ended end) _ tt found.is all _
     (row_taken account registry s END row r clauses own_clauses true _)
     found.holds
-
--- what is put at an ordinary firing is none of END's
-attempts_first : (m : MomentForm) (es : List EcbForm) (b : Bool)
-    → of_end (attempts_of (through_exit (map (taking_of false m) es))) ≡ []
-    → of_end (attempts_of (cond b [] (through_exit (map (taking_of false m) es)))) ≡ []
-attempts_first m es true e = refl
-attempts_first m es false e = e
-
-none_at : (m : MomentForm) (es : List EcbForm) → of_end (attempts_of (through_exit (map (taking_of false m) es))) ≡ []
-none_at m [] = refl
-none_at m (ecb ∷ es) =
-    ordinary_one (record_of (taking_of false m ecb))
-    (attempts_of (cond (is_some (exit_of (taking_of false m ecb))) [] (through_exit (map (taking_of false m) es))))
-    (attempts_first m es (is_some (exit_of (taking_of false m ecb))) (none_at m es))
-
-none_where : (b : Bool) (xs : List Taking) → of_end (attempts_of xs) ≡ [] → of_end (attempts_of (cond b xs [])) ≡ []
-none_where true xs e = e
-none_where false xs e = refl
-
-pub still_open : (account : Account) (registry : Registry) (s : SetUp) (event : TracingEvent) (m : MomentForm)
-    → IsFiring event → moment_at account registry event ≡ Some m → is_end event ≡ false
-    → ((cpu : ℕ) → of_end (past_in account registry s cpu).events ≡ [])
-    → (cpu : ℕ) → of_end (past_in account registry (with_event s event) cpu).events ≡ []
-still_open account registry s event m fires at ordinary none cpu =
-    let es = ecbs_in account registry s in
-    of_end-append (past_in account registry s cpu).events (comes_by account registry es cpu event)
-    ∙ ap (λ xs. xs ++ of_end (comes_by account registry es cpu event)) (none cpu)
-    ∙ ap of_end (comes_firing account registry s cpu event fires)
-    ∙ ap (λ xs. of_end (attempts_of xs)) (on_is account registry s event m fires at cpu)
-    ∙ ap (λ b. of_end (attempts_of (where_taken m.firing.cpu (taken_at b es m) cpu))) ordinary
-    ∙ none_where (m.firing.cpu == cpu) (taken_at false es m) (none_at m (of_probe m.firing.probe es))
-
--- pasts with nothing of END
-pub all_last : (account : Account) (registry : Registry) (s : SetUp)
-    → ((cpu : ℕ) → of_end (past_in account registry s cpu).events ≡ [])
-    → (cpu : ℕ) → EndLast (past_in account registry s cpu) false
-all_last account registry s none = λ cpu fill e. none cpu
 
 -- the first exit of a row is that of what is taken
 pub exit_is : (account : Account) (registry : Registry) (s : SetUp) (row : Row) (clauses : List Clause)

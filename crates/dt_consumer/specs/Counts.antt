@@ -1,12 +1,10 @@
 -- How much a consumer that traces counts at most. Only invariants and proofs need these definitions.
 use Rattle.std.specs.Prelude.{ℕ, ◌+◌, ◌*◌, ◌≤◌}
-use Rattle.dt_aggstore.specs.IsAt.{added_of}
-use Rattle.dt_aggstore.specs.declared.store.AggStore.{AggStore}
 use Rattle.dt_buffer.specs.IsAt.{drops_of}
-use Rattle.dt_ecb.specs.declared.limits.TheConstants.{ECBS_MAX}
-use Rattle.dt_program.specs.declared.clause.TheConstants.{STATEMENTS_MAX}
-use Rattle.dt_consumer.specs.declared.phase.Course.{Course}
-use Rattle.dt_consumer.specs.declared.phase.Course.TheVariants.{Running, Over}
+use Rattle.dt_ecb.specs.Limits.{ecbs_max}
+use Rattle.dt_program.specs.Limits.{statements_max}
+use Rattle.dt_consumer.specs.declared.course.Course.{Course}
+use Rattle.dt_consumer.specs.declared.course.Course.TheVariants.{Running, Over}
 use Rattle.dt_consumer.specs.declared.processor.Processor.{Processor}
 
 -- A processor counts at most so many drops, and as many errors.
@@ -17,13 +15,9 @@ AtMost n processor = (drops_of processor.buffer ≤ n) × (processor.errors ≤ 
 abbrev pub AtMostMore : ℕ → Processor → Processor → Type 0
 AtMostMore n old new = (drops_of new.buffer ≤ drops_of old.buffer + n) × (new.errors ≤ old.errors + n)
 
--- A store counts at most so many contributions.
-abbrev pub GivenAtMost : ℕ → AggStore → Type 0
-GivenAtMost n store = added_of store ≤ n
-
 -- the most contributions of one firing
 abbrev pub GIVES_MAX : ℕ
-GIVES_MAX = STATEMENTS_MAX * ECBS_MAX
+GIVES_MAX = statements_max * ecbs_max
 
 -- how many firings of a consumer's own there were at most: BEGIN, and END where tracing is over
 abbrev pub own_firings : Course → ℕ

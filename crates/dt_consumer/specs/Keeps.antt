@@ -1,65 +1,28 @@
 -- How a consumer keeps its set-up, and what happened on each processor. Only proofs need these definitions.
-use Rattle.std.specs.Prelude.{◌≡◌, ℕ, ◌+◌, ◌<◌, ◌==◌, Bool, true, false, List, [], ◌∷◌, ◌++◌, None, IfSome, if◌then◌else◌, MatchOption, All, length, map, slice_get}
+use Rattle.std.specs.Prelude.{◌≡◌, ℕ, ◌+◌, Bool, true, false, List, [], ◌∷◌, None, IfSome, if◌then◌else◌, MatchOption}
+use Rattle.std.specs.Prelude.{length, map, slice_get}
 use Rattle.dt_buffer.specs.History.{BufferPast, of_end}
-use Rattle.dt_buffer.specs.History as buffer
 use Rattle.dt_buffer.specs.IsAt.{BufferIsAt}
 use Rattle.dt_cred.specs.declared.account.Account.{Account}
 use Rattle.dt_machine.specs.Registry.{Registry}
-use Rattle.dt_lang.specs.Program.{ClauseForm, form_of_clause}
-use Rattle.dt_ecb.specs.Ecbs.{EcbForm, of_probe}
-use Rattle.dt_ecb.specs.Forms.{form_of_ecb, shapes_of}
-use Rattle.dt_ecb.specs.declared.parts.Ecb.{Ecb}
-use Rattle.dt_consumer.specs.Buffers.{attempts_of, errors_in, past_in}
-use Rattle.dt_consumer.specs.Life.{SetUp, ecbs_in, phase_of, seen_count, shapes_in}
-use Rattle.dt_consumer.specs.Options.{OptionsForm}
-use Rattle.dt_consumer.specs.Stores.{given_in}
-use Rattle.dt_consumer.specs.Takings.{TracingEvent, read, truncated, closed, Taking, MomentForm, faults, taking_of}
-use Rattle.dt_consumer.specs.Uses.{AreGiven, AreUses}
+use Rattle.dt_lang.specs.Program.{form_of_clause}
+use Rattle.dt_ecb.specs.Ecbs.{of_probe}
+use Rattle.dt_ecb.specs.Forms.{shapes_of}
+use Rattle.dt_life.specs.Buffers.{errors_in, past_in}
+use Rattle.dt_life.specs.Life.{SetUp, ecbs_in, phase_of, seen_count, shapes_in}
+use Rattle.dt_life.specs.Stores.{given_in}
+use Rattle.dt_life.specs.Takings.{TracingEvent, read, truncated, closed}
+use Rattle.dt_life.specs.Uses.{AreGiven}
+use Rattle.dt_consumer.specs.Uses.{AreUses}
 use Rattle.dt_consumer.specs.declared.consumer.Consumer.{Consumer}
-use Rattle.dt_consumer.specs.declared.moment.Moment.{Moment}
-use Rattle.dt_consumer.specs.declared.options.Options.{Options}
-use Rattle.dt_consumer.specs.declared.phase.Course.{Course}
-use Rattle.dt_consumer.specs.declared.phase.Course.TheVariants.{Running, Over}
-use Rattle.dt_consumer.specs.declared.phase.Phase.{Phase}
-use Rattle.dt_consumer.specs.declared.phase.Phase.TheVariants.{Inactive, Active, Stopped}
+use Rattle.dt_consumer.specs.declared.course.Course.{Course}
+use Rattle.dt_consumer.specs.declared.course.Course.TheVariants.{Running, Over}
+use Rattle.dt_life.specs.declared.phase.Phase.{Phase}
+use Rattle.dt_life.specs.declared.phase.Phase.TheVariants.{Inactive, Active, Stopped}
 use Rattle.dt_consumer.specs.declared.processor.Processor.{Processor}
 use Rattle.dt_consumer.specs.declared.tracing.Tracing.{Tracing}
-
--- a moment without where its parts lie in memory
-abbrev pub form_of_moment : Moment → MomentForm
-form_of_moment moment = record { probe = moment.probe.now; process = moment.process.now; firing = moment.firing.now }
-
--- options without their invariants
-abbrev pub form_of_options : Options → OptionsForm
-form_of_options o = record {
-  bufsize = o.bufsize;
-  bufpolicy = o.bufpolicy;
-  aggsize = o.aggsize;
-  histsize = o.histsize;
-}
-
--- The ECBs are these, each kept by the place of its clause.
-pub record AreEcbs (clauses : List ClauseForm) (wanted : List EcbForm) (kept : List Ecb) : Type 0 where
-  pub forms : map (form_of_ecb clauses) kept ≡ wanted
-  pub placed : All (λ ecb. ecb.clause < length clauses) kept
-
--- what is taken at a moment by an ECB that is kept so
-abbrev pub taking_by : Bool → MomentForm → List ClauseForm → Ecb → Taking
-taking_by in_end moment clauses ecb = taking_of in_end moment (form_of_ecb clauses ecb)
-
--- an ECB of a program, whose clause stands after so many others
-abbrev pub placed_after : ℕ → Ecb → Ecb
-placed_after before ecb =
-    record { epid = ecb.epid; probe = ecb.probe; clause = before + ecb.clause; known = ecb.known }
-
--- a past, and then these
-abbrev pub followed_by : BufferPast → List buffer.BufferEvent → BufferPast
-followed_by past events = record {
-  policy = past.policy;
-  size = past.size;
-  reserve = past.reserve;
-  events = past.events ++ events;
-}
+use Rattle.dt_life.specs.Forms.{form_of_options}
+use Rattle.dt_life.specs.Placed.{AreEcbs}
 
 -- What was taken on a processor: its buffer is at the end of this past, and so many errors are counted.
 pub record HasTaken (past : BufferPast) (errors : ℕ) (processor : Processor) : Type 0 where
@@ -69,17 +32,6 @@ pub record HasTaken (past : BufferPast) (errors : ℕ) (processor : Processor) :
 -- Each processor has taken what leads to its past, and counts its errors.
 abbrev pub AreTaken : (ℕ → BufferPast) → (ℕ → ℕ) → List Processor → Type 0
 AreTaken pasts errors all = (cpu : ℕ) → IfSome (slice_get all cpu) (HasTaken (pasts cpu) (errors cpu))
-
--- these takings where a processor is the one on which they were taken, and else none
-abbrev pub where_taken : ℕ → List Taking → ℕ → List Taking
-where_taken there takings cpu = if there == cpu then takings else []
-
--- pasts and errors, and then these takings of each processor
-abbrev pub pasts_and : (ℕ → BufferPast) → (ℕ → List Taking) → ℕ → BufferPast
-pasts_and pasts new cpu = followed_by (pasts cpu) (attempts_of (new cpu))
-
-abbrev pub errors_and : (ℕ → ℕ) → (ℕ → List Taking) → ℕ → ℕ
-errors_and errors new cpu = errors cpu + faults (new cpu)
 
 -- the phase of a consumer that traces or has traced
 abbrev pub phase_by : Course → Phase

@@ -20,7 +20,7 @@ use Rattle.std.specs.Prelude.{◌≡◌, false, List}
 use Rattle.dt_cred.specs.declared.account.Account.{Account}
 use Rattle.dt_machine.specs.Registry.{Registry}
 use Rattle.dt_consumer.specs.Keeps.{Keeps}
-use Rattle.dt_consumer.specs.Life.{Item, lines, is_over, set_up}
+use Rattle.dt_life.specs.Life.{Item, lines, is_over, set_up}
 use Rattle.dt_consumer.specs.declared.consumer.Consumer.{Consumer}
 
 module _ (account : Account) (registry : Registry) where

@@ -1,10 +1,8 @@
 //! One consumer, from its first line to its last.
+use dt_life::{Options, Phase, shown};
 use crate::draft::{Change, Draft};
-use crate::options::Options;
-use crate::phase::Phase;
 use crate::programs::Programs;
 use crate::tracing::Tracing;
-use crate::visibility::shown;
 use dt_aggstore::Aggregation;
 use dt_cred::Account;
 use dt_ecb::{Ecb, Shapes, ecbs_go_on, uses_of_both};
@@ -27,14 +25,15 @@ pub struct Consumer {
 impl Consumer {
     ghost use Rattle.std.specs.Prelude.{◌≡◌, ◌≢◌, ◌↔◌, ℕ, List, [], ◌∷◌, Result, false, IsOk, IsTrue, IfOk};
     ghost use Rattle.dt_cred.specs.declared.account.Account.{Account};
-    ghost use Rattle.dt_consumer.specs.Life.{Item, fired, phase, ecbs as ecbs_after};
+    ghost use Rattle.dt_life.specs.Life.{Item, fired, phase, ecbs as ecbs_after};
     ghost use Rattle.dt_ecb.specs.Ecbs.{of_probe};
     ghost use Rattle.dt_machine.specs.Interest.{Names};
     ghost use Rattle.dt_machine.specs.Registry.{Registry};
-    ghost use Rattle.dt_consumer.specs.Ask.{Ask};
-    ghost use Rattle.dt_consumer.specs.Draft.{Drafted, IsDraftOf, after_line};
-    ghost use Rattle.dt_consumer.specs.Sees.{Sees};
-    ghost use Rattle.dt_consumer.specs.declared.refusal.Refusal.{Refusal};
+    ghost use Rattle.dt_life.specs.Ask.{Ask};
+    ghost use Rattle.dt_consumer.specs.Draft.{Drafted, IsDraftOf};
+    ghost use Rattle.dt_life.specs.Acceptance.{after_line};
+    ghost use Rattle.dt_life.specs.Sees.{Sees};
+    ghost use Rattle.dt_life.specs.declared.refusal.Refusal.{Refusal};
     ghost use Rattle.dt_consumer.specs.StandsFor.{StandsFor};
 
     /// A consumer that has asked nothing, with the room for all that it may enable. The machine is the one that the

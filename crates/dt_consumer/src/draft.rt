@@ -1,9 +1,7 @@
 //! The draft of a line: its reply, and what it will change.
 ghost use Rattle.std.specs.Prelude.{◌≡◌, ◌↔◌, List, Result, IsTrue};
 
-use crate::options::Options;
-use crate::refusal::Refusal;
-use crate::reply::Reply;
+use dt_life::{Options, Refusal, Reply};
 use crate::tracing::Tracing;
 use dt_aggstore::Aggregation;
 use dt_ecb::{Ecb, Shapes};
@@ -55,12 +53,13 @@ pub struct Draft {
 impl Draft {
     ghost use Rattle.dt_cred.specs.declared.account.Account.{Account};
     ghost use Rattle.dt_machine.specs.Registry.{Registry};
-    ghost use Rattle.dt_consumer.specs.Ask.{Ask};
-    ghost use Rattle.dt_consumer.specs.Draft.{IsAcceptedClose, IsAcceptedGo, IsDraftOf};
-    ghost use Rattle.dt_consumer.specs.Answer.{answer_of};
-    ghost use Rattle.dt_consumer.specs.Life.{Item};
-    ghost use Rattle.dt_consumer.specs.Reply.{Replies};
-    ghost use Rattle.dt_consumer.specs.declared.refusal.Refusal.{Refusal};
+    ghost use Rattle.dt_life.specs.Ask.{Ask};
+    ghost use Rattle.dt_life.specs.Acceptance.{IsAcceptedClose, IsAcceptedGo};
+    ghost use Rattle.dt_consumer.specs.Draft.{IsDraftOf};
+    ghost use Rattle.dt_life.specs.Answer.{answer_of};
+    ghost use Rattle.dt_life.specs.Life.{Item};
+    ghost use Rattle.dt_life.specs.Reply.{Replies};
+    ghost use Rattle.dt_life.specs.declared.refusal.Refusal.{Refusal};
 
     /// A line that is refused, counted, and changes nothing else.
     pub(crate) fn refused(refusal: Refusal) -> Self

@@ -12,34 +12,27 @@ ghost use Rattle.dt_ecb.specs.Enable as verdict;
 ghost use Rattle.dt_ecb.specs.Enable.{IsVerdict};
 ghost use Rattle.dt_ecb.specs.Forms.{form_of_ecb, shapes_of, verdict_of};
 ghost use Rattle.dt_ecb.specs.declared.limits.TheConstants.{ECBS_MAX};
-ghost use Rattle.dt_consumer.specs.Answer.{answer_of, described};
-ghost use Rattle.dt_consumer.specs.Ask.{Ask, ask_of, line_asks, reading_of, description_of, agg, enable, go, snap, status, list, describe, option, stop, trunc, close};
-ghost use Rattle.dt_consumer.specs.Buffers.{errors, past, reserve_on};
-ghost use Rattle.dt_consumer.specs.Options.{setting_of};
+ghost use Rattle.dt_life.specs.Answer.{answer_of, described};
+ghost use Rattle.dt_life.specs.Ask.{Ask, ask_of, line_asks, reading_of, description_of, agg, enable, go, snap, status, list, describe, option, stop, trunc, close};
+ghost use Rattle.dt_life.specs.Buffers.{errors, past, reserve_on};
+ghost use Rattle.dt_life.specs.Options.{setting_of};
 ghost use Rattle.dt_consumer.specs.Keeps.{HasTaken, Keeps, is_quiet};
-ghost use Rattle.dt_consumer.specs.declared.phase.Phase.TheVariants.{Inactive};
+ghost use Rattle.dt_life.specs.declared.phase.Phase.TheVariants.{Inactive};
 ghost use Rattle.std.specs.String.{string_bytes};
 ghost use Rattle.std.specs.Option.{option_copied};
 ghost use Rattle.dt_consumer.specs.Draft.{IsDraftOf};
-ghost use Rattle.dt_consumer.specs.Life.{Item, SetUp, set_up, phase, phase_of, next_epid, has_room, is_inactive, is_readable};
-ghost use Rattle.dt_consumer.specs.Refusal.{IsNoCommand, refused_as};
-ghost use Rattle.dt_consumer.specs.Reply.{Accepted, ecb_of, all_aggdrops, all_errors, refusal_of, seen_firings};
-ghost use Rattle.dt_consumer.specs.Stores.{stores_in};
+ghost use Rattle.dt_life.specs.Life.{Item, SetUp, set_up, phase, phase_of, next_epid, has_room, is_inactive, is_readable};
+ghost use Rattle.dt_life.specs.Refusal.{IsNoCommand, refused_as};
+ghost use Rattle.dt_life.specs.Reply.{Accepted, ecb_of, all_aggdrops, all_errors, refusal_of, seen_firings};
+ghost use Rattle.dt_life.specs.Stores.{stores_in};
 ghost use Rattle.dt_consumer.specs.StandsFor.{StandsFor, MayAsk};
-ghost use Rattle.dt_consumer.specs.declared.reply.Reply.{Reply};
+ghost use Rattle.dt_life.specs.declared.reply.Reply.{Reply};
 ghost use Rattle.dt_record.specs.Layout.{layout_of};
 
-use crate::command::{Command, OptionValue};
+use dt_life::{Command, Known, LINES_MAX, OptionValue, Options, Phase, Refusal, Reply, left_by_end, placed_after};
 use crate::consumer::Consumer;
 use crate::draft::{Change, Draft};
-use crate::known::Known;
-use crate::limits::LINES_MAX;
-use crate::options::Options;
-use crate::phase::Phase;
-use crate::placing::placed_after;
 use crate::processor::Processor;
-use crate::refusal::Refusal;
-use crate::reply::Reply;
 use crate::tracing::Tracing;
 use dt_aggstore::{AggStore, Aggregation, Row, drops_go_on};
 use dt_buffer::{Policy, one_shown};
@@ -259,7 +252,7 @@ impl Consumer {
             ..
         } = self.options;
         match bufpolicy {
-            Policy::Fill => Some(bufsize - self.programs.left_by_end(bufsize)?),
+            Policy::Fill => Some(bufsize - left_by_end(self.programs.clauses(), self.programs.ecbs(), bufsize)?),
             Policy::Switch | Policy::Ring => Some(0),
         }
     }

@@ -1,6 +1,5 @@
 //! What a consumer has of one processor from its `go` on.
-use crate::moment::Moment;
-use crate::options::Options;
+use dt_life::{Moment, Options};
 use crate::rows::Row;
 use crate::uses::Uses;
 use dt_aggstore::AggStore;
@@ -34,12 +33,16 @@ impl Processor {
     ghost use Rattle.dt_lang.specs.Program.{form_of_clause};
     ghost use Rattle.dt_program.specs.declared.clause.TheConstants.{STATEMENTS_MAX};
     ghost use Rattle.dt_ecb.specs.Shapes.{ShapeForm};
-    ghost use Rattle.dt_consumer.specs.Aggregations.{contributions, contributions_of};
-    ghost use Rattle.dt_consumer.specs.Buffers.{attempts_of};
-    ghost use Rattle.dt_consumer.specs.Counts.{AtMost, AtMostMore, GivenAtMost, GIVES_MAX};
-    ghost use Rattle.dt_consumer.specs.Uses.{AreUses, given_then};
-    ghost use Rattle.dt_consumer.specs.Keeps.{form_of_moment, followed_by, HasTaken, taking_by};
-    ghost use Rattle.dt_consumer.specs.Takings.{Taking, exit_of, first_exit, through_exit, faults};
+    ghost use Rattle.dt_life.specs.Aggregations.{contributions, contributions_of};
+    ghost use Rattle.dt_life.specs.Buffers.{attempts_of};
+    ghost use Rattle.dt_consumer.specs.Counts.{AtMost, AtMostMore, GIVES_MAX};
+    ghost use Rattle.dt_life.specs.Uses.{GivenAtMost};
+    ghost use Rattle.dt_consumer.specs.Uses.{AreUses};
+    ghost use Rattle.dt_life.specs.Uses.{given_then};
+    ghost use Rattle.dt_life.specs.Forms.{form_of_moment};
+    ghost use Rattle.dt_life.specs.Following.{followed_by, taking_by};
+    ghost use Rattle.dt_consumer.specs.Keeps.{HasTaken};
+    ghost use Rattle.dt_life.specs.Takings.{Taking, exit_of, first_exit, through_exit, faults};
 
     /// A processor on which nothing was taken, with the room that the options ask for.
     pub(crate) fn new(alloc: Global, options: Options, reserve: usize) -> Result<Self, AllocError>

@@ -2,10 +2,7 @@
 ghost use Rattle.std.specs.Prelude.{◌≡◌, ◌≤◌, vec_len};
 ghost use Rattle.dt_aggstore.specs.declared.limits.TheConstants.{STORES_MAX};
 
-use crate::limits::END;
-use crate::moment::Moment;
-use crate::options::Options;
-use crate::own::{own_firing, own_process};
+use dt_life::{END, Moment, Options, own_firing, own_process};
 use crate::processor::Processor;
 use crate::rows::Row;
 use crate::uses::Uses;
@@ -36,11 +33,15 @@ impl Processors {
     ghost use Rattle.dt_buffer.specs.declared.limits.TheConstants.{DROPS_LIMIT};
     ghost use Rattle.dt_ecb.specs.declared.limits.TheConstants.{ECBS_MAX};
     ghost use Rattle.dt_lang.specs.Program.{form_of_clause};
-    ghost use Rattle.dt_consumer.specs.Counts.{AtMost, GivenAtMost, GIVES_MAX};
-    ghost use Rattle.dt_consumer.specs.Uses.{AreGiven, AreUses, given_and};
-    ghost use Rattle.dt_consumer.specs.Keeps.{form_of_moment, AreTaken, HasTaken, errors_and, pasts_and, taking_by, where_taken};
-    ghost use Rattle.dt_consumer.specs.Takings.{first_exit, own_moment, through_exit};
-    ghost use Rattle.dt_consumer.specs.declared.limits.TheConstants.{END};
+    ghost use Rattle.dt_consumer.specs.Counts.{AtMost, GIVES_MAX};
+    ghost use Rattle.dt_life.specs.Uses.{GivenAtMost};
+    ghost use Rattle.dt_life.specs.Uses.{AreGiven, given_and};
+    ghost use Rattle.dt_consumer.specs.Uses.{AreUses};
+    ghost use Rattle.dt_life.specs.Forms.{form_of_moment};
+    ghost use Rattle.dt_consumer.specs.Keeps.{AreTaken, HasTaken};
+    ghost use Rattle.dt_life.specs.Following.{errors_and, pasts_and, taking_by, where_taken};
+    ghost use Rattle.dt_life.specs.Takings.{first_exit, own_moment, through_exit};
+    ghost use Rattle.dt_life.specs.declared.limits.TheConstants.{END};
 
     /// As many processors as these, on which nothing was taken. The first has the reserve.
     pub(crate) fn new(

@@ -1,19 +1,13 @@
 //! What a consumer's accepted programs come to.
 ghost use Rattle.std.specs.Prelude.{◌≡◌, ◌≢◌, ◌↔◌, ℕ, ◌+◌, ◌≤◌, ◌<◌, ◌++◌, List, [], length, ◌==◌, filter, find, map, sum, All, IfOk, IfSome, MatchOption, vec_len, vec_capacity};
 ghost use Rattle.std.specs.Option.{option_copied};
-ghost use Rattle.dt_lang.specs.Program.{ClauseForm, form_of_clause};
 ghost use Rattle.dt_machine.specs.Interest.{Names};
-ghost use Rattle.dt_record.specs.Layout.{layout_of, layout_size};
-ghost use Rattle.dt_ecb.specs.Ecbs.{of_probe};
-ghost use Rattle.dt_ecb.specs.Forms.{form_of_ecb, shapes_of};
+ghost use Rattle.dt_ecb.specs.Forms.{shapes_of};
 ghost use Rattle.dt_ecb.specs.declared.limits.TheConstants.{ECBS_MAX};
-ghost use Rattle.dt_consumer.specs.declared.limits.TheConstants.{END};
 
-use crate::limits::END;
 use dt_ecb::{ECBS_MAX, Ecb, Shapes};
 use dt_lang::Clause;
 use dt_machine::Interest;
-use dt_record::Layout;
 use std::alloc::{AllocError, Global};
 
 /// The clauses of the accepted programs, their ECBs, with the room for as many as one consumer may have, and the
@@ -75,26 +69,6 @@ impl Programs {
             interest.insert(ecb.probe);
         }
         interest
-    }
-
-    /// What is left of so many bytes after one record of each of END's ECBs, or `None` where they don't suffice.
-    pub(crate) fn left_by_end(&self, size: usize) -> Option<usize>
-        ensures within { IfSome result (λ left. left ≤ size) }
-        // none where one record of each of END's ECBs doesn't fit the size, else what these leave of it
-        ensures left { (clauses : List ClauseForm) → map form_of_clause self.now.clauses.items ≡ clauses
-            → All (λ ecb. ecb.clause < length clauses) self.now.ecbs.items
-            → (let sizes = sum (map (λ ecb. layout_size (layout_of ecb.clause))
-            (of_probe END (map (form_of_ecb clauses) self.now.ecbs.items))) in
-            MatchOption result (size < sizes) (λ left. left + sizes ≡ size)) }
-    {
-        let mut left = size;
-        for ecb in &self.ecbs {
-            if ecb.probe == END {
-                let clause = self.clauses.get(ecb.clause)?;
-                left = left.checked_sub(Layout::of(clause).size())?;
-            }
-        }
-        Some(left)
     }
 
     /// Adds clauses, of which each has an ECB at least, and their ECBs, if there is room, and replaces the

@@ -2,14 +2,12 @@
 ghost use Rattle.std.specs.Prelude.{◌≡◌, ◌≤◌, ◌<◌, ◌+◌, ◌*◌, ◌==◌, All, None, Some, vec_len, if◌then◌else◌};
 ghost use Rattle.std.specs.Option.{option_map, option_or};
 ghost use Rattle.dt_ecb.specs.declared.limits.TheConstants.{ECBS_MAX};
-ghost use Rattle.dt_consumer.specs.Counts.{AtMost, GivenAtMost, GIVES_MAX, own_firings, must_be_left};
-ghost use Rattle.dt_consumer.specs.declared.limits.TheConstants.{END, HISTORY_MAX};
+ghost use Rattle.dt_consumer.specs.Counts.{AtMost, GIVES_MAX, own_firings, must_be_left};
+ghost use Rattle.dt_life.specs.Uses.{GivenAtMost};
+ghost use Rattle.dt_life.specs.declared.limits.TheConstants.{END, HISTORY_MAX};
 
-use crate::limits::{BEGIN, END, HISTORY_MAX};
-use crate::moment::Moment;
-use crate::options::Options;
-use crate::own::{own_firing, own_process};
-use crate::phase::{Course, End, Phase};
+use dt_life::{BEGIN, END, End, HISTORY_MAX, Moment, Options, Phase, own_firing, own_process};
+use crate::course::Course;
 use crate::processors::Processors;
 use crate::programs::Programs;
 use crate::rows::Row;
@@ -45,14 +43,16 @@ impl Tracing {
     ghost use Rattle.dt_cred.specs.declared.firing.Firing.{Firing};
     ghost use Rattle.dt_lang.specs.Program.{form_of_clause};
     ghost use Rattle.dt_ecb.specs.Ecbs.{of_probe};
-    ghost use Rattle.dt_consumer.specs.Keeps.{AreEcbs, IsTracing, form_of_moment, form_of_options, phase_by};
+    ghost use Rattle.dt_life.specs.Placed.{AreEcbs};
+    ghost use Rattle.dt_consumer.specs.Keeps.{IsTracing, phase_by};
+    ghost use Rattle.dt_life.specs.Forms.{form_of_moment, form_of_options};
     ghost use Rattle.dt_ecb.specs.Forms.{shapes_of};
     ghost use Rattle.dt_aggstore.specs.declared.key.Aggregation.{Aggregation};
-    ghost use Rattle.dt_consumer.specs.Aggregations.{aggregation_of};
-    ghost use Rattle.dt_consumer.specs.Buffers.{reserve_on};
-    ghost use Rattle.dt_consumer.specs.Life.{SetUp, ecbs_in, shapes_in, phase_of, with_event, since_then, happens, is_stopped};
-    ghost use Rattle.dt_consumer.specs.declared.phase.Phase.TheVariants.{Active};
-    ghost use Rattle.dt_consumer.specs.Takings.{began, seen as sees, read, truncated, ended as ends, closed, first_exit, moment_of, taken_by};
+    ghost use Rattle.dt_life.specs.Aggregations.{aggregation_of};
+    ghost use Rattle.dt_life.specs.Buffers.{reserve_on};
+    ghost use Rattle.dt_life.specs.Life.{SetUp, ecbs_in, shapes_in, phase_of, with_event, since_then, happens, is_stopped};
+    ghost use Rattle.dt_life.specs.declared.phase.Phase.TheVariants.{Active};
+    ghost use Rattle.dt_life.specs.Takings.{began, seen as sees, read, truncated, ended as ends, closed, first_exit, moment_of, taken_by};
 
     /// Begins to trace: makes all the room that tracing needs, fires BEGIN, and ends where one of its clauses exits. The
     /// reserve is that of the first processor's buffer.

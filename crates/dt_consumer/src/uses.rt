@@ -2,8 +2,7 @@
 ghost use Rattle.std.specs.Prelude.{◌≤◌, vec_len};
 ghost use Rattle.dt_program.specs.declared.clause.TheConstants.{KEYS_MAX, STATEMENTS_MAX};
 
-use crate::known::Known;
-use crate::values::{number_in, parts_at};
+use dt_life::{Known, number_in, parts_at};
 use dt_aggstore::{AggStore, Aggregation, Key};
 use dt_ecb::Shapes;
 use dt_expr::Value;
@@ -32,7 +31,8 @@ impl Uses {
     ghost use Rattle.dt_aggstore.specs.History.{Past};
     ghost use Rattle.dt_aggstore.specs.IsAt.{IsAt, added_of};
     ghost use Rattle.dt_aggstore.specs.declared.limits.TheConstants.{ADDED_LIMIT};
-    ghost use Rattle.dt_consumer.specs.Uses.{AreUses, form_of_uses, given_then, split_by, uses_by};
+    ghost use Rattle.dt_consumer.specs.Uses.{AreUses, form_of_uses};
+    ghost use Rattle.dt_life.specs.Uses.{given_then, split_by, uses_by};
 
     /// Those of each of some clauses.
     pub(crate) fn of_each(
@@ -89,7 +89,8 @@ impl Use {
     ghost use Rattle.dt_aggstore.specs.History.{Past};
     ghost use Rattle.dt_aggstore.specs.IsAt.{IsAt, added_of};
     ghost use Rattle.dt_aggstore.specs.declared.limits.TheConstants.{ADDED_LIMIT};
-    ghost use Rattle.dt_consumer.specs.Uses.{contribution_at, form_of_use, given_then};
+    ghost use Rattle.dt_life.specs.Uses.{contribution_at, given_then};
+    ghost use Rattle.dt_consumer.specs.Uses.{form_of_use};
 
     /// Gives what lies from a place on among the values: the keys, and then the number.
     fn give(&self, store: &mut AggStore, values: &[Value], place: usize)

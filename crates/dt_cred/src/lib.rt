@@ -9,11 +9,13 @@
 mod account;
 mod class;
 mod firing;
+mod limit_laws;
 mod probe;
 mod rights;
 
 pub use account::{Account, Privs, Process};
 pub use class::Class;
 pub use firing::{ARGS, FRAMES, Firing};
+pub use limit_laws::limits_agree;
 pub use probe::Probe;
 pub use rights::{Mode, admits, may_enable, permits, tests_agree};

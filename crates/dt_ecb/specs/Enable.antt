@@ -8,7 +8,7 @@ use Rattle.dt_program.specs.Program as program
 use Rattle.dt_ecb.specs.Ecbs.{added}
 use Rattle.dt_ecb.specs.Matching.{matched}
 use Rattle.dt_ecb.specs.Shapes.{ShapeForm, uses_of, IsFirstClash, any_clash, names_count}
-use Rattle.dt_ecb.specs.declared.limits.TheConstants.{ECBS_MAX, AGGREGATIONS_MAX}
+use Rattle.dt_ecb.specs.Limits.{ecbs_max, aggregations_max}
 
 -- the first clause for which a test holds has this number, counted from 1
 pub record IsFirstSuch (holds : ClauseForm → Bool) (clauses : List ClauseForm) (number : ℕ) : Type 0 where
@@ -47,8 +47,8 @@ module _ (account : Account) (registry : Registry) where
     -- more than one consumer may have
     abbrev pub is_too_much : Bool
     is_too_much =
-        nat_lt ECBS_MAX (epid - 1 + length (added account registry epid clauses))
-        || nat_lt AGGREGATIONS_MAX (names_count (accepted ++ uses_of clauses))
+        nat_lt ecbs_max (epid - 1 + length (added account registry epid clauses))
+        || nat_lt aggregations_max (names_count (accepted ++ uses_of clauses))
 
     -- A program is enabled after these accepted aggregations and with this next EPID.
     abbrev pub is_enabled : Bool

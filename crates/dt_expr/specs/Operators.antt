@@ -1,6 +1,6 @@
 -- What the operators do to whole numbers. Guide, Types, Operators and Expressions.
 use Rattle.std.specs.Prelude.{◌≡◌, ℕ, ◌*◌, ◌^◌, Bool, true, false, not, ◌&&◌, ◌||◌, List, Option, Some, None, ℤ, pos, ◌+ℤ◌, ◌-ℤ◌, ◌*ℤ◌, neg_ℤ, int_lt, int_le, int_div, int_rem, unsigned_abs, if◌then◌else◌}
-use Rattle.std.specs.Int.{w64, int_wrap, int_bit_and, int_bit_or, int_bit_xor, int_bit_not, int_div_euclid, int_rem_euclid}
+use Rattle.std.specs.Int.{w64, bit_at, cast_unsigned, int_wrap, int_bit_and, int_bit_or, int_bit_xor, int_bit_not, int_div_euclid, int_rem_euclid}
 use Rattle.std.specs.Ordering.{int_eq}
 use Rattle.std.specs.Str.{bytes_eq}
 use Rattle.dt_expr.specs.declared.operators.BinaryOp.{BinaryOp}
@@ -17,6 +17,10 @@ wrapped z = int_wrap w64 z
 -- two numbers differ by a multiple of m
 abbrev pub DifferBy : ℕ → ℤ → ℤ → Type 0
 DifferBy m a b = (j : ℕ) × (k : ℕ) × (a +ℤ pos (j * m) ≡ b +ℤ pos (k * m))
+
+-- the bit at a place of the 64 bits of two's complement
+abbrev pub bit_of : ℤ → ℕ → ℕ
+bit_of z place = bit_at (cast_unsigned w64 z) place
 
 -- a truth as a number
 abbrev pub truth : Bool → ℤ

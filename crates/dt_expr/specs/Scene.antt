@@ -3,7 +3,7 @@ use Rattle.std.specs.Prelude.{ℕ, ◌-◌, ◌++◌, List, length, replicate, �
 use Rattle.dt_cred.specs.declared.account.Process.{Process}
 use Rattle.dt_cred.specs.declared.probe.Probe.{Probe}
 use Rattle.dt_cred.specs.declared.firing.Firing.{Firing}
-use Rattle.dt_names.specs.declared.short_text.TheConstants.{PADDED_SIZE}
+use Rattle.dt_names.specs.Limits.{padded_size}
 use Rattle.dt_expr.specs.declared.scene.NumberVariable.{NumberVariable}
 use Rattle.dt_expr.specs.declared.scene.NumberVariable.TheVariants.{Arg0, Arg1, Arg2, Arg3, Arg4, Arg5, Arg6, Arg7, Arg8, Arg9, Cpu, Pid, Tid, Uid, Timestamp, Id, Epid}
 use Rattle.dt_expr.specs.declared.scene.Scene.{Scene}
@@ -65,7 +65,7 @@ text_bytes scene (Variable variable) = text_named scene variable
 
 -- the bytes, and zeros up to 32 bytes in all
 abbrev pub padded : List ℕ → List ℕ
-padded bytes = bytes ++ replicate (PADDED_SIZE - length bytes) 0
+padded bytes = bytes ++ replicate (padded_size - length bytes) 0
 
 -- a text as a record shows it
 abbrev pub text_value : SceneForm → Text → Value

@@ -1,9 +1,9 @@
 //! What the words of the definitions come to, in plain facts.
-ghost use Rattle.std.specs.Prelude.{◌≡◌, ◌≢◌, ℕ, ◌^◌, ◌<◌, Some, None, ℤ, pos, negsuc, ◌+ℤ◌, ◌-ℤ◌, ◌*ℤ◌, neg_ℤ, ◌≤ℤ◌, FitsSigned, int_div, int_rem, unsigned_abs};
-ghost use Rattle.std.specs.Int.{w64, int_bit_not};
-ghost use Rattle.dt_expr.specs.declared.operators.BinaryOp.TheVariants.{Or, Xor, And};
+ghost use Rattle.std.specs.Prelude.{◌≡◌, ◌≢◌, ℕ, ◌+◌, ◌%◌, ◌^◌, ◌<◌, min, max, Some, None, ℤ, pos, negsuc, ◌+ℤ◌, ◌-ℤ◌, ◌*ℤ◌, neg_ℤ, ◌≤ℤ◌, FitsSigned, int_div, int_rem, unsigned_abs};
+ghost use Rattle.std.specs.Int.{w64, int_bit_and, int_bit_not, int_bit_or, int_bit_xor};
+ghost use Rattle.dt_expr.specs.declared.operators.BinaryOp.TheVariants.{Or, Xor, And, BitOr, BitXor, BitAnd};
 ghost use Rattle.dt_expr.specs.Form.{Form, Joined};
-ghost use Rattle.dt_expr.specs.Operators.{wrapped, DifferBy, shift_count, shifted_right, quotient, remainder};
+ghost use Rattle.dt_expr.specs.Operators.{bit_of, binary, wrapped, DifferBy, shift_count, shifted_right, quotient, remainder};
 ghost use Rattle.dt_expr.specs.Scene.{SceneForm};
 ghost use Rattle.dt_expr.specs.Value.{value};
 
@@ -45,4 +45,18 @@ pub fn decisions()
         → value scene (Joined Or left right) ≡ Some (pos 1) }
     ensures xor { (scene : SceneForm) (left right : Form) → value scene right ≡ None
         → value scene (Joined Xor left right) ≡ None }
+{}
+
+/// Law: each of the 64 places of `x | y`, `x & y` and `x ^ y`, in two's complement, has the greater, the lesser and the sum
+/// without carry of the operands' bits there.
+pub fn places()
+    ensures or { (x y : ℤ) (place : ℕ) → FitsSigned w64 x → FitsSigned w64 y
+        → (binary BitOr x y ≡ Some (int_bit_or w64 x y))
+        × (bit_of (int_bit_or w64 x y) place ≡ max (bit_of x place) (bit_of y place)) }
+    ensures and { (x y : ℤ) (place : ℕ) → FitsSigned w64 x → FitsSigned w64 y
+        → (binary BitAnd x y ≡ Some (int_bit_and w64 x y))
+        × (bit_of (int_bit_and w64 x y) place ≡ min (bit_of x place) (bit_of y place)) }
+    ensures xor { (x y : ℤ) (place : ℕ) → FitsSigned w64 x → FitsSigned w64 y
+        → (binary BitXor x y ≡ Some (int_bit_xor w64 x y))
+        × (bit_of (int_bit_xor w64 x y) place ≡ (bit_of x place + bit_of y place) % 2) }
 {}

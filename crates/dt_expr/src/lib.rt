@@ -16,7 +16,7 @@ mod text;
 
 pub use evaluator::{EvalFault, eval};
 pub use expr::Expr;
-pub use laws::{bits, decisions, divisions, representatives};
+pub use laws::{bits, decisions, divisions, places, representatives};
 pub use operators::{BinaryOp, TextOp, UnaryOp};
 pub use scene::{NumberVariable, Scene, TextVariable};
 pub use text::{Text, Value};

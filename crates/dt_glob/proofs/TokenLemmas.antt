@@ -8,14 +8,13 @@ use Rattle.dt_glob.specs.declared.element.Element.TheVariants.{Single, Range}
 use Rattle.dt_glob.specs.Sign.{byte_of, sign_text, text_of_signs, IsSign, AreSigns, star, question, opening, closing}
 use Rattle.dt_glob.specs.Sign.{bang, dash}
 use Rattle.dt_glob.specs.PatternItem.{PatternItem, Star, AnyByte, Literal, OneOf, Holds, HoldsAny}
-use Rattle.dt_glob.specs.Spells.{BeginsRangeEnd, SpellsElements, Lacks, BeginsWithSign}
-use Rattle.dt_glob.specs.Spells.{SpellsSet, SpellsItem, SpellsItems}
-use Rattle.dt_glob.specs.Spells.{Spells}
+use Rattle.dt_glob.specs.Spells.{BeginsRangeEnd, SpellsElements, Lacks, BeginsWithSign, SpellsSet, SpellsItem}
+use Rattle.dt_glob.specs.Spells.{SpellsItems, Spells}
 use Rattle.dt_glob.specs.Token.{ShowsElements, ReadsElement, IsToken, ReadsToken, ClosesAt, BeginsSet}
 use Rattle.dt_glob.specs.declared.token.Token.{Token}
 use Rattle.dt_glob.specs.declared.token.Token.TheVariants as token
-use Rattle.dt_glob.proofs.SignLemmas.{text_of_signs-append, AreSigns-append, AreSigns-front, AreSigns-back, same_sign}
-use Rattle.dt_glob.proofs.SignLemmas.{plain_apart, Lacks-mark}
+use Rattle.dt_glob.specs.laws.Signs.{text_of_signs-append, AreSigns-append, AreSigns-front, AreSigns-back, same_sign}
+use Rattle.dt_glob.specs.laws.Signs.{plain_apart, Lacks-mark}
 
 -- what is left to read of the elements
 pub record LeftOf (elements : List Element) (rest : List ℕ) (byte : ℕ) : Type 0 where

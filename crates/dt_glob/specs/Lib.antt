@@ -1,4 +1,5 @@
 -- Patterns: what texts spell, what they match, and their faults.
+pub mod Limits
 pub mod Sign
 pub mod PatternItem
 pub mod Matches
@@ -9,3 +10,4 @@ pub mod Reading
 pub mod Place
 pub mod Token
 pub mod Run
+pub mod laws

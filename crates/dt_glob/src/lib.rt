@@ -12,6 +12,7 @@
 
 mod element;
 mod fault;
+mod limit_laws;
 mod pattern;
 mod place;
 mod run;
@@ -19,4 +20,5 @@ mod sign;
 mod token;
 
 pub use fault::GlobFault;
+pub use limit_laws::limits_agree;
 pub use pattern::{PATTERN_MAX, Pattern, one_answer, tests_agree};

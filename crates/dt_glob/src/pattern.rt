@@ -82,13 +82,6 @@ impl Pattern {
     {
         self.text.is_empty()
     }
-
-    /// The text that the pattern was read from.
-    pub fn as_bytes(&self) -> &[u8]
-        ensures { Spells result.now self.now }
-    {
-        self.text.as_slice()
-    }
 }
 
 /// Whether a text is a pattern, and if not its first fault.

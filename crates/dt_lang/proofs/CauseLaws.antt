@@ -23,12 +23,11 @@ use Rattle.dt_program.specs.Clause.{ArgForm, number, text, ClauseForm}
 use Rattle.dt_lang.specs.Stand.{Slot, predicate, traced, exited, key, value}
 use Rattle.dt_lang.specs.declared.fault.Why.TheVariants.{Syntax}
 use Rattle.dt_lang.specs.Refused.{Cause, because, StatementBegins, IsDestructive, NameStands, a_statement, a_function}
-use Rattle.dt_lang.specs.Refused.{IsNoAction, VariableStands, a_number, a_text}
-use Rattle.dt_lang.specs.Refused.{NamesNoVariable, IsNoVariable, CauseHolds}
-use Rattle.dt_lang.specs.Refused.{Refused}
+use Rattle.dt_lang.specs.Refused.{IsNoAction, VariableStands, a_number, a_text, NamesNoVariable, IsNoVariable}
+use Rattle.dt_lang.specs.Refused.{CauseHolds, Refused}
 use Rattle.dt_lang.specs.ClauseState.{PlaceForm, body, assigned, within, bounded, at_lower, at_upper, at_step}
-use Rattle.dt_lang.specs.ClauseState.{ProgramState, program_at, shut, go_on, from_within}
-use Rattle.dt_lang.specs.ClauseState.{program_step_from, step, run, program_start}
+use Rattle.dt_lang.specs.ClauseState.{ProgramState, program_at, shut, go_on, from_within, program_step_from, step, run}
+use Rattle.dt_lang.specs.ClauseState.{program_start}
 use Rattle.dt_lang.specs.Cause.{too_long_at, out_of_range_at, is_word, names_no_variable, destructive_of}
 use Rattle.dt_lang.specs.Cause.{is_no_description, statement_at, name_may_stand, operand_at, destroys_at, cause_of}
 use Rattle.dt_lang.proofs.ExpressionLaws.{foreign}

@@ -1,6 +1,6 @@
 -- What is read as a program leads through the states of its reading to its end.
-use Rattle.std.proofs.Common.{◌≡◌, ◌≢◌, ℕ, ◌+◌, leb, true, false, ◌&&◌, List, [], ◌∷◌, ◌++◌, length, Option, Some}
-use Rattle.std.proofs.Common.{None, refl, sym, ap, ◌∙◌, append_assoc, ℤ, le-leb, add-zero, suc, arith}
+use Rattle.std.proofs.Common.{◌≡◌, ◌≢◌, ℕ, ◌+◌, leb, true, false, ◌&&◌, List, [], ◌∷◌, ◌++◌, length, Option, Some, None}
+use Rattle.std.proofs.Common.{refl, sym, ap, ◌∙◌, append_assoc, ℤ, le-leb, add-zero, suc, arith}
 use Rattle.std.specs.Prelude.{option_and_then}
 use Rattle.dt_expr.specs.Form.{Form}
 use Rattle.dt_program.specs.Description.{DescForm}
@@ -14,18 +14,16 @@ use Rattle.dt_lang.specs.ExpressionState as expression
 use Rattle.dt_lang.specs.ExpressionState.{IsRead, ends_argument}
 use Rattle.dt_lang.specs.Grammar.{ReadsHead, a_description, another, ReadsOpening, always, ReadsKeys, a_key}
 use Rattle.dt_lang.specs.Grammar.{ReadsTarget, bare, ReadsConstant, plain, negative, ReadsBounds, by_one, stepped}
-use Rattle.dt_lang.specs.Grammar.{call_of, ReadsCall, counting, of_one}
-use Rattle.dt_lang.specs.Grammar.{in_levels, IsFrameCount, ReadsStatement, tracing}
-use Rattle.dt_lang.specs.Grammar.{of_stack, of_ustack, exiting, aggregating, Spot, begins, ends, ReadsBody, nothing}
-use Rattle.dt_lang.specs.Grammar.{stated, separated, ReadsClause, a_clause, ReadsClauses, ReadsProgram}
+use Rattle.dt_lang.specs.Grammar.{call_of, ReadsCall, counting, of_one, in_levels, IsFrameCount, ReadsStatement}
+use Rattle.dt_lang.specs.Grammar.{tracing, of_stack, of_ustack, exiting, aggregating, Spot, begins, ends, ReadsBody}
+use Rattle.dt_lang.specs.Grammar.{nothing, stated, separated, ReadsClause, a_clause, ReadsClauses, ReadsProgram}
 use Rattle.dt_lang.specs.Grammar as grammar
 use Rattle.dt_program.specs.Clause.{ArgForm, number, CallForm, lquantize, StatementForm, aggregate, ClauseForm}
 use Rattle.dt_lang.specs.Stand.{HeadStands, BodyStands, KeysStand, TargetStands, Slot, predicate, traced, exited, key}
 use Rattle.dt_lang.specs.Stand.{value, divides_in, SlotOpens}
 use Rattle.dt_lang.specs.Stand as stand
-use Rattle.dt_lang.specs.ClauseState.{BoundForm, at_lower, at_upper, at_step, outside, described, body, keyed}
-use Rattle.dt_lang.specs.ClauseState.{assigned, within, bounding, bounded, ProgramState}
-use Rattle.dt_lang.specs.ClauseState.{program_at, headed, ended, entered}
+use Rattle.dt_lang.specs.ClauseState.{BoundForm, at_lower, at_upper, at_step, outside, described, body, keyed, assigned}
+use Rattle.dt_lang.specs.ClauseState.{within, bounding, bounded, ProgramState, program_at, headed, ended, entered}
 use Rattle.dt_lang.specs.ClauseState.{function_given, shut, step, run, program_start, whole, finished}
 use Rattle.dt_lang.proofs.ExpressionLaws.{complete, complete_argument}
 use Rattle.dt_lang.proofs.ExpressionLaws as laws

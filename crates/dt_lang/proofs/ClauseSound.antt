@@ -15,10 +15,9 @@ use Rattle.dt_lang.specs.declared.word.Function.TheVariants as function
 use Rattle.dt_lang.specs.declared.word.Word.TheVariants as word
 use Rattle.dt_lang.specs.Expression.{ReadsExpr, ReadsArgument}
 use Rattle.dt_lang.specs.ExpressionState as expression
-use Rattle.dt_lang.specs.Grammar.{ReadsKeys, ReadsTarget, ReadsConstant, ReadsBounds, by_one, stepped, call_of}
-use Rattle.dt_lang.specs.Grammar.{ReadsCall, counting, of_one, in_levels}
-use Rattle.dt_lang.specs.Grammar.{IsFrameCount, ReadsStatement, tracing, of_stack}
-use Rattle.dt_lang.specs.Grammar.{of_ustack, exiting, aggregating, Spot, begins, ends, ReadsClauses}
+use Rattle.dt_lang.specs.Grammar.{ReadsBounds, by_one, stepped, call_of, ReadsCall, counting, of_one, in_levels}
+use Rattle.dt_lang.specs.Grammar.{IsFrameCount, ReadsStatement, tracing, of_stack, of_ustack, exiting, aggregating}
+use Rattle.dt_lang.specs.Grammar.{begins, ends, ReadsClauses}
 use Rattle.dt_lang.specs.Grammar as grammar
 use Rattle.dt_program.specs.Clause.{ArgForm, number, CallForm, count, lquantize, StatementForm, trace, exit, aggregate}
 use Rattle.dt_program.specs.Clause.{ClauseForm}
@@ -27,14 +26,12 @@ use Rattle.dt_lang.specs.Stand.{value, divides_in, SlotOpens, a_predicate, an_ar
 use Rattle.dt_lang.specs.Stand.{a_value}
 use Rattle.dt_lang.specs.ClauseState.{BoundForm, at_lower, at_upper, at_step, PlaceForm, outside, described, listed}
 use Rattle.dt_lang.specs.ClauseState.{guarded, body, called, framed, closing, named, keyed, assigned, applied, within}
-use Rattle.dt_lang.specs.ClauseState.{bounding, negating, bounded, ProgramState}
-use Rattle.dt_lang.specs.ClauseState.{program_at, headed, with_statement, ended}
-use Rattle.dt_lang.specs.ClauseState.{entered, from_outside, from_described, from_listed, from_guarded, from_begins}
-use Rattle.dt_lang.specs.ClauseState.{from_ends, opened, from_called, stack_of, from_framed, from_closing, from_named}
-use Rattle.dt_lang.specs.ClauseState.{from_keyed, from_assigned, function_given}
-use Rattle.dt_lang.specs.ClauseState.{from_applied, shut_predicate, shut_traced}
-use Rattle.dt_lang.specs.ClauseState.{shut_exited, shut_key, shut_levels, shut_value, shut, go_on, from_within}
-use Rattle.dt_lang.specs.ClauseState.{from_bounding, from_negating, from_bounded, program_step_from}
+use Rattle.dt_lang.specs.ClauseState.{bounding, negating, bounded, ProgramState, program_at, headed, with_statement}
+use Rattle.dt_lang.specs.ClauseState.{ended, entered, from_outside, from_described, from_listed, from_guarded}
+use Rattle.dt_lang.specs.ClauseState.{from_begins, from_ends, opened, from_called, stack_of, from_framed, from_closing}
+use Rattle.dt_lang.specs.ClauseState.{from_named, from_keyed, from_assigned, function_given, from_applied}
+use Rattle.dt_lang.specs.ClauseState.{shut_predicate, shut_traced, shut_exited, shut_key, shut_levels, shut_value, shut}
+use Rattle.dt_lang.specs.ClauseState.{go_on, from_within, from_bounding, from_negating, from_bounded, program_step_from}
 use Rattle.dt_lang.specs.ClauseState.{step, run, program_start}
 use Rattle.dt_lang.proofs.ExpressionLaws.{sound, sound_argument, run-append}
 use Rattle.dt_lang.proofs.Reading.{HeadRead, ListRead, GuardRead, Follows, FollowsTarget, Closing, Within, BoundsBegin}

@@ -1,6 +1,6 @@
 -- Whatever was read of a program goes on to a whole one.
-use Rattle.std.proofs.Common.{◌≡◌, ◌≢◌, ℕ, ◌+◌, Bool, true, false, List, [], ◌∷◌, ◌++◌, length, Some, refl, sym, ◌∙◌}
-use Rattle.std.proofs.Common.{ℤ, pos}
+use Rattle.std.proofs.Common.{◌≡◌, ◌≢◌, ℕ, ◌+◌, Bool, true, false, List, [], ◌∷◌, ◌++◌, length, Some, refl, sym, ◌∙◌, ℤ}
+use Rattle.std.proofs.Common.{pos}
 use Rattle.dt_expr.specs.Form.{Form}
 use Rattle.dt_program.specs.declared.description.Description.{Description}
 use Rattle.dt_lang.specs.declared.token.Sign.TheVariants as sign
@@ -12,15 +12,14 @@ use Rattle.dt_lang.specs.declared.word.Function.{Function}
 use Rattle.dt_lang.specs.declared.word.Function.TheVariants as function
 use Rattle.dt_lang.specs.declared.word.Word.TheVariants as word
 use Rattle.dt_lang.specs.ExpressionState as expression
-use Rattle.dt_lang.specs.ExpressionState.{IsRead, ends_argument}
+use Rattle.dt_lang.specs.ExpressionState.{ends_argument}
 use Rattle.dt_lang.specs.Grammar.{Spot, begins, ends}
 use Rattle.dt_program.specs.Clause.{ArgForm, number, StatementForm, ClauseForm}
 use Rattle.dt_lang.specs.Stand.{Slot, predicate, traced, exited, key, value, divides_in, SlotOpens, a_value}
 use Rattle.dt_lang.specs.ClauseState.{BoundForm, at_lower, at_upper, at_step, PlaceForm, outside, described, listed}
 use Rattle.dt_lang.specs.ClauseState.{guarded, body, called, framed, closing, named, keyed, assigned, applied, within}
-use Rattle.dt_lang.specs.ClauseState.{bounding, negating, bounded, ProgramState, program_at}
-use Rattle.dt_lang.specs.ClauseState.{entered, function_given, shut, step}
-use Rattle.dt_lang.specs.ClauseState.{run}
+use Rattle.dt_lang.specs.ClauseState.{bounding, negating, bounded, ProgramState, program_at, entered, function_given}
+use Rattle.dt_lang.specs.ClauseState.{shut, step, run}
 use Rattle.dt_lang.proofs.ExpressionLaws.{complete, run_beginning}
 use Rattle.dt_lang.proofs.ExpressionLaws as laws
 use Rattle.dt_lang.proofs.Reading.{Within, ReadAt, Read}

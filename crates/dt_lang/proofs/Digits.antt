@@ -1,4 +1,5 @@
 -- Digits in a base, one after another.
+use mir.Val.{to_z, of_z}
 use Rattle.std.proofs.Common.{◌≡◌, ◌^◌, ◌+◌, ◌*◌, ◌≤◌, ◌%◌, pos, w64, ℕ, zero, suc, ◌<◌, List, [], ◌∷◌, length, get_or}
 use Rattle.std.proofs.Common.{ap, sym, ◌∙◌, arith}
 use Rattle.std.proofs.lemmas.Int.{of_z-to_z}
@@ -7,7 +8,6 @@ use Rattle.std.specs.Int.{int_wrap}
 use Rattle.std.specs.Char.{digit_value}
 use Rattle.std.specs.Str.Parse.{AllDigits}
 use Rattle.dt_expr.specs.Operators.{wrapped}
-use mir.Val.{to_z, of_z}
 
 pub digit_at : (radix : ℕ) (digits : List ℕ) (i : ℕ) → i < length digits → AllDigits radix digits
     → digit_value (get_or digits i 0) < radix

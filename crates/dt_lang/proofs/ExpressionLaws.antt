@@ -41,8 +41,7 @@ use Rattle.dt_lang.specs.declared.token.Sign.TheVariants as sign
 use Rattle.dt_lang.specs.declared.token.Token.{Token}
 use Rattle.dt_lang.specs.declared.token.Token.TheVariants as token
 use Rattle.dt_lang.specs.declared.word.Word.TheVariants as word
-use Rattle.dt_lang.specs.Expression.{BeginsExpr, OPERAND, EQUALITY, text_token}
-use Rattle.dt_lang.specs.Expression.{comparison_of, ReadsExpr, ReadsArgument}
+use Rattle.dt_lang.specs.Expression.{BeginsExpr, OPERAND, EQUALITY, text_token, comparison_of, ReadsExpr, ReadsArgument}
 use Rattle.dt_lang.specs.Expression.{a_text, an_expression}
 use Rattle.dt_lang.specs.ExpressionState.{IsRead, IsReadBy, IsOneText, RunsBy, is_operand, FrameForm, opened, before}
 use Rattle.dt_lang.specs.ExpressionState.{after, HandForm, nothing, whole, lone, compares, State, level_next, Closed}

@@ -15,9 +15,9 @@ use Rattle.dt_lang.specs.declared.word.Word.TheVariants as word
 use Rattle.dt_lang.specs.Expression.{prefix_of, binding, OPERAND, comparison_of, EQUALITY, text_token, IsOperator}
 use Rattle.dt_lang.specs.Expression.{ReadsExpr, a_number, a_variable, prefixed, grouped, compared, looser, joined}
 use Rattle.dt_lang.specs.ExpressionState.{FrameForm, opened, before, after, HandForm, nothing, whole, lone, compares}
-use Rattle.dt_lang.specs.ExpressionState.{State, level_next, Closed, close, state, start, begin_sign, begin_text}
-use Rattle.dt_lang.specs.ExpressionState.{begin, operator_in, wait, join, leave, follow_sign, follow, compare}
-use Rattle.dt_lang.specs.ExpressionState.{step_from, step, run}
+use Rattle.dt_lang.specs.ExpressionState.{State, level_next, Closed, close, state, start, begin_sign, begin_text, begin}
+use Rattle.dt_lang.specs.ExpressionState.{operator_in, wait, join, leave, follow_sign, follow, compare, step_from, step}
+use Rattle.dt_lang.specs.ExpressionState.{run}
 use Rattle.dt_lang.proofs.ExpressionSteps.{binding-lt, operator_is}
 
 -- These tokens lead to these frames. `outer` is whether `/` divided at first.

@@ -20,14 +20,12 @@ use Rattle.dt_program.specs.Clause.{ArgForm, number, CallForm, StatementForm, ag
 use Rattle.dt_lang.specs.Stand.{Slot, predicate, traced, exited, key, value}
 use Rattle.dt_lang.specs.ClauseState.{BoundForm, at_lower, at_upper, at_step, PlaceForm, outside, described, listed}
 use Rattle.dt_lang.specs.ClauseState.{guarded, body, called, framed, closing, named, keyed, assigned, applied, within}
-use Rattle.dt_lang.specs.ClauseState.{bounding, negating, bounded, ProgramState}
-use Rattle.dt_lang.specs.ClauseState.{program_at, ended, entered, from_outside}
-use Rattle.dt_lang.specs.ClauseState.{from_described, from_listed, from_guarded, from_begins, from_ends, opened}
-use Rattle.dt_lang.specs.ClauseState.{from_called, stack_of, from_framed, from_closing, from_named, from_keyed}
-use Rattle.dt_lang.specs.ClauseState.{from_assigned, function_given, from_applied}
-use Rattle.dt_lang.specs.ClauseState.{shut_predicate, shut_traced, shut_exited}
-use Rattle.dt_lang.specs.ClauseState.{shut_key, shut_levels, shut_value, shut, go_on, from_within, from_bounding}
-use Rattle.dt_lang.specs.ClauseState.{from_negating, from_bounded, program_step_from, step}
+use Rattle.dt_lang.specs.ClauseState.{bounding, negating, bounded, ProgramState, program_at, ended, entered}
+use Rattle.dt_lang.specs.ClauseState.{from_outside, from_described, from_listed, from_guarded, from_begins, from_ends}
+use Rattle.dt_lang.specs.ClauseState.{opened, from_called, stack_of, from_framed, from_closing, from_named, from_keyed}
+use Rattle.dt_lang.specs.ClauseState.{from_assigned, function_given, from_applied, shut_predicate, shut_traced}
+use Rattle.dt_lang.specs.ClauseState.{shut_exited, shut_key, shut_levels, shut_value, shut, go_on, from_within}
+use Rattle.dt_lang.specs.ClauseState.{from_bounding, from_negating, from_bounded, program_step_from, step}
 use Rattle.dt_lang.specs.Cause.{takes_token, full, too_long_at}
 use Rattle.dt_lang.specs.Fits.{FitsClause, FitsStatement, FitsTarget, FitsKey, FitsSlot, FitsWithin, FitsAt, Fits}
 use Rattle.dt_lang.proofs.ClauseSound.{none_some, same_some}

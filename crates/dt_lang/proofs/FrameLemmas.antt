@@ -1,4 +1,5 @@
 -- The frames of a stack, the last first.
+use denote.Ref.{Bor}
 use Rattle.std.proofs.Common.{◌≡◌, ℕ, ◌+◌, ◌-◌, Bool, true, false, ◌||◌, List, [], ◌∷◌, ◌++◌, map, reverse, length}
 use Rattle.std.proofs.Common.{Option, Some, None, MatchOption, option_to_list, option_copied, take, vec_len, refl, sym}
 use Rattle.std.proofs.Common.{ap, ◌∙◌, arith, if◌then◌else◌}
@@ -16,7 +17,6 @@ use Rattle.dt_lang.specs.ExpressionState.{Closed, binds, is_bound, around, close
 use Rattle.dt_lang.proofs.ExpressionSteps.{close_ends}
 use Rattle.dt_lang.specs.ExpressionView.{frame_of}
 use Rattle.std.specs.Global.{Vec}
-use denote.Ref.{Bor}
 
 pub shown_push : (xs : List Frame) (x : Frame) → reverse (map frame_of (xs ++ x ∷ []))
     ≡ frame_of x ∷ reverse (map frame_of xs)

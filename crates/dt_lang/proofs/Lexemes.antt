@@ -2,8 +2,7 @@
 use Rattle.std.proofs.Common.{◌≡◌, ℕ, ◌-◌, ◌≤◌, List, Option, length, drop, refl, sym, ap, ◌∙◌, subst, arith}
 use Rattle.std.proofs.Common.{length-drop}
 use Rattle.dt_program.specs.Description.{DescForm, ReadsDescription}
-use Rattle.dt_lang.specs.Lexeme.{placed, Lexes, LiesWithin}
-use Rattle.dt_lang.specs.Lexeme.{Stands}
+use Rattle.dt_lang.specs.Lexeme.{placed, Lexes, LiesWithin, Stands}
 use Rattle.dt_lang.specs.declared.lexer.Lexeme.{Lexeme}
 use Rattle.dt_lang.specs.declared.mode.Mode.{Mode}
 use Rattle.dt_lang.specs.declared.piece.Piece.{Piece}

@@ -1,4 +1,5 @@
 -- The lemmas of this crate's proofs.
+
 pub mod ExpressionSteps
 pub mod ExpressionComplete
 pub mod ExpressionSound

@@ -14,9 +14,8 @@ use Rattle.dt_lang.specs.Grammar.{ReadsConstant, plain, negative, ReadsBounds, b
 use Rattle.dt_program.specs.Clause.{ArgForm, number, ClauseForm}
 use Rattle.dt_lang.specs.Stand.{value}
 use Rattle.dt_lang.specs.Refused.{IsOutOfRange}
-use Rattle.dt_lang.specs.ClauseState.{BoundForm, at_lower, at_upper, at_step}
-use Rattle.dt_lang.specs.ClauseState.{PlaceForm, bounding, bounded, ProgramState}
-use Rattle.dt_lang.specs.ClauseState.{program_at, entered, step, run, program_start}
+use Rattle.dt_lang.specs.ClauseState.{BoundForm, at_lower, at_upper, at_step, PlaceForm, bounding, bounded}
+use Rattle.dt_lang.specs.ClauseState.{ProgramState, program_at, entered, step, run, program_start}
 use Rattle.dt_lang.specs.Cause.{are_bounds, no_levels, out_of_range_at}
 use Rattle.dt_lang.specs.ExpressionState.{IsRead}
 use Rattle.dt_lang.proofs.ExpressionLaws.{complete}

@@ -13,9 +13,8 @@ use Rattle.dt_lang.specs.declared.word.Function.TheVariants as function
 use Rattle.dt_lang.specs.declared.word.Word.TheVariants as word
 use Rattle.dt_lang.specs.Expression.{ReadsExpr}
 use Rattle.dt_lang.specs.ExpressionState as expression
-use Rattle.dt_lang.specs.Grammar.{ReadsHead, a_description, another, ReadsOpening, always, guarded, ReadsKeys, a_key}
-use Rattle.dt_lang.specs.Grammar.{ReadsTarget, bare, keyed, ReadsConstant, ReadsStatement, Spot, begins, ends}
-use Rattle.dt_lang.specs.Grammar.{ReadsBody, nothing, stated, separated, ReadsClause, a_clause, ReadsClauses}
+use Rattle.dt_lang.specs.Grammar.{a_description, another, always, guarded, keyed, ReadsConstant, ReadsStatement, Spot}
+use Rattle.dt_lang.specs.Grammar.{begins, ends, nothing, stated, separated, a_clause, ReadsClauses}
 use Rattle.dt_lang.specs.Grammar as grammar
 use Rattle.dt_program.specs.Clause.{ArgForm, StatementForm, ClauseForm}
 use Rattle.dt_lang.specs.Stand.{HeadStands, BodyStands, TargetStands, Slot, value, divides_in, SlotOpens}

@@ -2,12 +2,12 @@
 use Rattle.std.proofs.Common.{◌≡◌, ℕ, List, Option}
 use Rattle.dt_glob.specs.PatternItem.{PatternItem}
 use Rattle.dt_glob.specs.Spells.{Spells}
-use Rattle.dt_glob.proofs.ReadingLemmas.{reading_of-spelled}
+use Rattle.dt_glob.specs.laws.Readings.{reading_of-spelled}
 use Rattle.dt_program.specs.Description.{DescForm, ReadsDescription}
 use Rattle.dt_lang.specs.Reads.{Reading, Reads}
-use Rattle.dt_program.proofs.Descriptions.{same_reading_of_description}
+use Rattle.dt_program.specs.laws.Descriptions.{same_reading_of_description}
 use Rattle.dt_lang.proofs.Lexemes.{some_lexed, one_lexed, lexed_within}
-use Rattle.dt_program.proofs.SomeDescription.{some_description}
+use Rattle.dt_program.specs.laws.SomeDescription.{some_description}
 use Rattle.dt_lang.proofs.TextLaws as texts
 
 same_pattern : (text : List ℕ) (a b : List PatternItem) → Spells text a → Spells text b → a ≡ b

@@ -1,7 +1,7 @@
 -- Each text has one reading.
+use native.Mathlib.Decide.{dec_le}
 use Rattle.std.proofs.Common.{◌≡◌, ◌≢◌, ◌⊎◌, inl, inr, ℕ, zero, suc, ◌+◌, ◌≤◌, List, [], ◌∷◌, ◌++◌, length, Option}
 use Rattle.std.proofs.Common.{Some, None, refl, sym, ap, ◌∙◌, subst, append_assoc, length-append, arith}
-use native.Mathlib.Decide.{dec_le}
 use Rattle.dt_lang.specs.declared.fault.Why.TheVariants.{Syntax, TooLong}
 use Rattle.dt_lang.specs.declared.lexer.Lexeme.{Lexeme}
 use Rattle.dt_lang.specs.declared.lexer.Lexeme.TheVariants as lexeme
@@ -13,9 +13,8 @@ use Rattle.dt_lang.specs.Mode.{mode_after}
 use Rattle.dt_program.specs.Clause.{ClauseForm}
 use Rattle.dt_lang.specs.Grammar.{ReadsProgram}
 use Rattle.dt_lang.specs.Refused.{Cause, because, destroys, CauseHolds, Refused, NoneRefused}
-use Rattle.dt_lang.specs.Reads.{TokensTo, none, another, IsRefusedProgram, a_token}
-use Rattle.dt_lang.specs.Reads.{overlong, stray, unfinished, IsProgram}
-use Rattle.dt_lang.specs.Reads.{Reading, program, fault, destructive, Reads}
+use Rattle.dt_lang.specs.Reads.{TokensTo, none, another, IsRefusedProgram, a_token, overlong, stray, unfinished}
+use Rattle.dt_lang.specs.Reads.{IsProgram, Reading, program, fault, destructive, Reads}
 use Rattle.dt_lang.specs.ClauseState.{ProgramState, step, run, program_start, finished}
 use Rattle.dt_lang.specs.Cause.{cause_of}
 use Rattle.dt_lang.proofs.ClauseSound.{none_some, same_some}

@@ -1,6 +1,6 @@
 -- A token is one too many exactly where the state of the reading says so.
-use Rattle.std.proofs.Common.{◌≡◌, inl, inr, ℕ, ◌+◌, ◌≤◌, leb, eqb, true, ◌&&◌, List, [], ◌∷◌, ◌++◌, length, Some}
-use Rattle.std.proofs.Common.{refl, sym, ◌∙◌, subst, arith, leb-true, le-leb, eqb-true, append-nil, Decides}
+use Rattle.std.proofs.Common.{◌≡◌, inl, inr, ℕ, ◌+◌, ◌≤◌, leb, eqb, true, ◌&&◌, List, [], ◌∷◌, ◌++◌, length, Some, refl}
+use Rattle.std.proofs.Common.{sym, ◌∙◌, subst, arith, leb-true, le-leb, eqb-true, append-nil, Decides}
 use Rattle.dt_program.specs.declared.clause.TheConstants.{DESCRIPTIONS_MAX, STATEMENTS_MAX, KEYS_MAX}
 use Rattle.dt_program.specs.declared.program.TheConstants.{CLAUSES_MAX, TOKENS_MAX}
 use Rattle.dt_lang.specs.declared.token.Sign.TheVariants as sign
@@ -13,10 +13,9 @@ use Rattle.dt_lang.specs.Stand.{BodyStands, Slot, predicate, traced, exited, key
 use Rattle.dt_lang.specs.Stand.{first_key, a_key}
 use Rattle.dt_lang.specs.Refused.{GoesOn, IsForStatement, IsTooLong, a_clause, a_description, a_statement, a_token}
 use Rattle.dt_lang.specs.Refused as refused
-use Rattle.dt_lang.specs.ClauseState.{PlaceForm, outside, described, listed, guarded}
-use Rattle.dt_lang.specs.ClauseState.{body, called, framed, closing, named}
-use Rattle.dt_lang.specs.ClauseState.{keyed, assigned, applied, within, bounding, negating, bounded, ProgramState}
-use Rattle.dt_lang.specs.ClauseState.{program_at, headed, step, run, program_start}
+use Rattle.dt_lang.specs.ClauseState.{PlaceForm, outside, described, listed, guarded, body, called, framed, closing}
+use Rattle.dt_lang.specs.ClauseState.{named, keyed, assigned, applied, within, bounding, negating, bounded}
+use Rattle.dt_lang.specs.ClauseState.{ProgramState, program_at, headed, step, run, program_start}
 use Rattle.dt_lang.specs.Cause.{is_for_statement, takes_token, keys_full, full, too_long_at}
 use Rattle.dt_lang.proofs.Reading.{ListRead, Within, ReadAt}
 use Rattle.dt_lang.proofs.ClauseSound.{same_some}

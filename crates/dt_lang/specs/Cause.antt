@@ -3,8 +3,8 @@
 use Rattle.std.specs.Prelude.{◌==◌, ℕ, leb, Bool, true, false, not, ◌&&◌, ◌||◌, List, length, Option, Some, None, is_some, ℤ, pos, ◌-ℤ◌, int_lt, int_le, int_div, int_rem}
 use Rattle.std.specs.Ordering.{int_eq}
 use Rattle.dt_lang.specs.declared.fault.Why.TheVariants.{Syntax, Probe, Action, Variable, TooLong, Range}
-use Rattle.dt_program.specs.declared.clause.TheConstants.{DESCRIPTIONS_MAX, STATEMENTS_MAX, KEYS_MAX, LEVELS_MAX}
-use Rattle.dt_program.specs.declared.program.TheConstants.{CLAUSES_MAX, TOKENS_MAX}
+use Rattle.dt_program.specs.Limits.{descriptions_max, statements_max, keys_max, levels_max}
+use Rattle.dt_program.specs.Limits.{clauses_max, tokens_max}
 use Rattle.dt_lang.specs.declared.token.Sign.TheVariants as sign
 use Rattle.dt_lang.specs.declared.token.Token.{Token}
 use Rattle.dt_lang.specs.declared.token.Token.TheVariants as token
@@ -56,17 +56,17 @@ takes_token e t = is_some (expression.step e t) || (is_operand t && expression.w
 
 -- whether a further key would be one too many
 abbrev pub keys_full : Slot → Bool
-keys_full (key name keys) = leb KEYS_MAX (length keys)
+keys_full (key name keys) = leb keys_max (length keys)
 keys_full _ = false
 
 -- whether a further token of what is read for a slot would be one too many, or the first of one thing too many
 abbrev pub full : Slot → ℕ → Bool
-full slot n = leb TOKENS_MAX n || ((n == 0) && keys_full slot)
+full slot n = leb tokens_max n || ((n == 0) && keys_full slot)
 
 abbrev pub too_long_at : List ClauseForm → ClauseForm → PlaceForm → Token → Bool
-too_long_at cs c outside t = is_description t && leb CLAUSES_MAX (length cs)
-too_long_at cs c listed t = is_description t && leb DESCRIPTIONS_MAX (length c.descriptions)
-too_long_at cs c (body begins) t = leb STATEMENTS_MAX (length c.statements) && is_for_statement t
+too_long_at cs c outside t = is_description t && leb clauses_max (length cs)
+too_long_at cs c listed t = is_description t && leb descriptions_max (length c.descriptions)
+too_long_at cs c (body begins) t = leb statements_max (length c.statements) && is_for_statement t
 too_long_at cs c (within slot n e) t = full slot n && takes_token e t
 too_long_at cs c _ _ = false
 
@@ -90,7 +90,7 @@ operand_at _ = false
 abbrev pub are_bounds : (lower upper step : ℤ) → Bool
 are_bounds lower upper by =
     int_lt lower upper && (int_lt (pos 0) by && (int_eq (int_rem (upper -ℤ lower) by) (pos 0)
-    && int_le (int_div (upper -ℤ lower) by) (pos LEVELS_MAX)))
+    && int_le (int_div (upper -ℤ lower) by) (pos levels_max)))
 
 -- whether the last bound makes them no levels
 abbrev pub no_levels : BoundForm → ℤ → Bool

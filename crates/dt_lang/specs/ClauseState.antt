@@ -3,7 +3,7 @@
 use Rattle.std.specs.Prelude.{ℕ, ◌+◌, leb, Bool, true, false, ◌&&◌, if◌then◌else◌, List, [], ◌∷◌, ◌++◌, Option, Some, None, option_and_then, ℤ, pos, neg_ℤ}
 use Rattle.dt_expr.specs.Form.{Form}
 use Rattle.dt_program.specs.Description.{DescForm, form_of_description}
-use Rattle.dt_program.specs.declared.clause.TheConstants.{FRAMES_MAX}
+use Rattle.dt_program.specs.Limits.{frames_max}
 use Rattle.dt_lang.specs.declared.token.Sign.TheVariants as sign
 use Rattle.dt_lang.specs.declared.token.Token.{Token}
 use Rattle.dt_lang.specs.declared.token.Token.TheVariants as token
@@ -132,7 +132,7 @@ stack_of false n = stack n
 
 abbrev pub from_framed : List ClauseForm → ClauseForm → (process : Bool) → Token → Option ProgramState
 from_framed cs c process (token.Number (pos n)) =
-    if leb 1 n && leb n FRAMES_MAX then Some (program_at cs c (closing (stack_of process n))) else None
+    if leb 1 n && leb n frames_max then Some (program_at cs c (closing (stack_of process n))) else None
 from_framed cs c process _ = None
 
 abbrev pub from_closing : List ClauseForm → ClauseForm → StatementForm → Token → Option ProgramState

@@ -1,7 +1,7 @@
 -- The lists of a state of the reading of programs are no longer than the limits.
 use Rattle.std.specs.Prelude.{◌≡◌, ◌⊎◌, ℕ, ◌<◌, ◌≤◌, List, length, None}
-use Rattle.dt_program.specs.declared.clause.TheConstants.{DESCRIPTIONS_MAX, STATEMENTS_MAX, KEYS_MAX}
-use Rattle.dt_program.specs.declared.program.TheConstants.{CLAUSES_MAX, TOKENS_MAX}
+use Rattle.dt_program.specs.Limits.{descriptions_max, statements_max, keys_max}
+use Rattle.dt_program.specs.Limits.{clauses_max, tokens_max}
 use Rattle.dt_lang.specs.ExpressionState as expression
 use Rattle.dt_lang.specs.ClauseState.{PlaceForm, outside, described, listed, guarded, body, called, framed, closing, named, keyed, assigned, applied, within, bounding, negating, bounded, ProgramState}
 use Rattle.dt_program.specs.Clause.{ArgForm, ClauseForm}
@@ -9,26 +9,26 @@ use Rattle.dt_lang.specs.Stand.{Slot, predicate, traced, exited, key, value}
 
 -- within a clause
 pub record FitsClause (cs : List ClauseForm) (c : ClauseForm) : Type 0 where
-  pub room : length cs < CLAUSES_MAX
+  pub room : length cs < clauses_max
   pub described : 1 ≤ length c.descriptions
-  pub few_descriptions : length c.descriptions ≤ DESCRIPTIONS_MAX
-  pub few : length c.statements ≤ STATEMENTS_MAX
+  pub few_descriptions : length c.descriptions ≤ descriptions_max
+  pub few : length c.statements ≤ statements_max
 
 -- within a statement
 pub record FitsStatement (cs : List ClauseForm) (c : ClauseForm) : Type 0 where
   pub clause : FitsClause cs c
-  pub room : length c.statements < STATEMENTS_MAX
+  pub room : length c.statements < statements_max
 
 -- within an aggregation
 pub record FitsTarget (cs : List ClauseForm) (c : ClauseForm) (keys : List ArgForm) : Type 0 where
   pub statement : FitsStatement cs c
-  pub few : length keys ≤ KEYS_MAX
+  pub few : length keys ≤ keys_max
 
 -- a further key may stand, or nothing was read for it
 pub record FitsKey (cs : List ClauseForm) (c : ClauseForm) (keys : List ArgForm) (n : ℕ) (e : expression.State) :
     Type 0 where
   pub target : FitsTarget cs c keys
-  pub room : (length keys < KEYS_MAX) ⊎ ((n ≡ 0) × (expression.done e ≡ None))
+  pub room : (length keys < keys_max) ⊎ ((n ≡ 0) × (expression.done e ≡ None))
 
 abbrev pub FitsSlot : List ClauseForm → ClauseForm → Slot → ℕ → expression.State → Type 0
 FitsSlot cs c predicate n e = FitsClause cs c
@@ -39,17 +39,17 @@ FitsSlot cs c (value name keys fn) n e = FitsTarget cs c keys
 
 -- what was read for a slot may be kept
 abbrev pub SlotHasRoom : Slot → Type 0
-SlotHasRoom (key name keys) = length keys < KEYS_MAX
-SlotHasRoom (value name keys fn) = length keys ≤ KEYS_MAX
+SlotHasRoom (key name keys) = length keys < keys_max
+SlotHasRoom (value name keys fn) = length keys ≤ keys_max
 SlotHasRoom _ = Unit {0}
 
 -- within what is read for a slot
 pub record FitsWithin (cs : List ClauseForm) (c : ClauseForm) (slot : Slot) (n : ℕ) (e : expression.State) : Type 0 where
   pub fits : FitsSlot cs c slot n e
-  pub few : n ≤ TOKENS_MAX
+  pub few : n ≤ tokens_max
 
 abbrev pub FitsAt : List ClauseForm → ClauseForm → PlaceForm → Type 0
-FitsAt cs c outside = length cs ≤ CLAUSES_MAX
+FitsAt cs c outside = length cs ≤ clauses_max
 FitsAt cs c described = FitsClause cs c
 FitsAt cs c listed = FitsClause cs c
 FitsAt cs c guarded = FitsClause cs c

@@ -4,7 +4,7 @@ use Rattle.std.specs.Prelude.{◌≡◌, ◌≢◌, ℕ, ◌≤◌, true, false,
 use Rattle.dt_expr.specs.Form.{Form}
 use Rattle.dt_program.specs.declared.description.Description.{Description}
 use Rattle.dt_program.specs.Description.{DescForm, form_of_description}
-use Rattle.dt_program.specs.declared.clause.TheConstants.{FRAMES_MAX}
+use Rattle.dt_program.specs.Limits.{frames_max}
 use Rattle.dt_lang.specs.declared.token.Sign.TheVariants as sign
 use Rattle.dt_lang.specs.declared.token.Token.{Token}
 use Rattle.dt_lang.specs.declared.token.Token.TheVariants as token
@@ -83,7 +83,7 @@ pub data ReadsCall : List Token → CallForm → Type 0 where
 -- some frames of a stack: 1 to 8
 pub record IsFrameCount (n : ℕ) : Type 0 where
   pub some : 1 ≤ n
-  pub few : n ≤ FRAMES_MAX
+  pub few : n ≤ frames_max
 
 -- The tokens are a statement.
 pub data ReadsStatement : List Token → StatementForm → Type 0 where

@@ -6,7 +6,7 @@ use Rattle.std.specs.Option.{option_map}
 use Rattle.dt_expr.specs.Operators.{wrapped}
 use Rattle.dt_program.specs.Description.{form_of_description, ReadsDescription}
 use Rattle.dt_names.specs.Name.{IsNameByte}
-use Rattle.dt_names.specs.declared.short_text.TheConstants.{SHORT_TEXT_MAX}
+use Rattle.dt_names.specs.Limits.{short_text_max}
 use Rattle.dt_lang.specs.declared.lexer.Lexeme.{Lexeme}
 use Rattle.dt_lang.specs.declared.lexer.Lexeme.TheVariants as lexeme
 use Rattle.dt_lang.specs.declared.mode.Mode.{Mode}
@@ -44,8 +44,8 @@ abbrev pub IsBodyToken : List ℕ → Token → Type 0
 IsBodyToken bytes (token.Word w) = IsIdentifier bytes × IsWord bytes w
 IsBodyToken bytes (token.Number z) = (n : ℕ) × IsNumber bytes n × (z ≡ wrapped (pos n))
 IsBodyToken bytes (token.Text t) = (bytes ≡ 34 ∷ (t ++ (34 ∷ []))) × AllPass is_text_byte t
-    × (length t ≤ SHORT_TEXT_MAX)
-IsBodyToken bytes (token.Aggregation name) = (bytes ≡ 64 ∷ name) × IsAggregationName name × (length name ≤ SHORT_TEXT_MAX)
+    × (length t ≤ short_text_max)
+IsBodyToken bytes (token.Aggregation name) = (bytes ≡ 64 ∷ name) × IsAggregationName name × (length name ≤ short_text_max)
 IsBodyToken bytes (token.Sign s) = bytes ≡ spelling s
 IsBodyToken bytes (token.Description d) = ⊥
 
@@ -53,7 +53,7 @@ IsBodyToken bytes (token.Description d) = ⊥
 pub record IsOverlong (bytes : List ℕ) : Type 0 where
   pub inside : List ℕ
   pub begins : ((bytes ≡ 34 ∷ inside) × AllPass is_text_byte inside) ⊎ ((bytes ≡ 64 ∷ inside) × IsIdentifier inside)
-  pub long : SHORT_TEXT_MAX < length inside
+  pub long : short_text_max < length inside
 
 -- a comment's beginning, which where no blanks stand is one of a comment that isn't closed
 abbrev pub OPENING : List ℕ

@@ -6,7 +6,7 @@ use Rattle.std.specs.Option.{option_map}
 use Rattle.dt_expr.specs.Operators.{wrapped}
 use Rattle.dt_program.specs.Description.{form_of_description, ReadsDescription}
 use Rattle.dt_program.specs.declared.description.Description.{Description}
-use Rattle.dt_names.specs.declared.short_text.TheConstants.{SHORT_TEXT_MAX}
+use Rattle.dt_names.specs.Limits.{short_text_max}
 use Rattle.dt_lang.specs.declared.mode.Mode.{Mode}
 use Rattle.dt_lang.specs.declared.mode.Mode.TheVariants.{Head, Predicate, Tail, Body}
 use Rattle.dt_lang.specs.declared.piece.Piece.{Piece}
@@ -44,13 +44,13 @@ NumberOf run _ = ⊥
 
 -- a text behind its opening `"`, whose bytes these are
 abbrev pub text_piece : List ℕ → List ℕ → Piece
-text_piece bytes rest = if nat_lt SHORT_TEXT_MAX (length bytes) then piece.Overlong
+text_piece bytes rest = if nat_lt short_text_max (length bytes) then piece.Overlong
     else (if slice_index rest (length bytes) == 34 then piece.Token (token.Text bytes) (length bytes + 2)
     else piece.Stray)
 
 -- an aggregation's name behind its `@`
 abbrev pub aggregation_read : List ℕ → Piece
-aggregation_read name = if nat_lt SHORT_TEXT_MAX (length name) then piece.Overlong
+aggregation_read name = if nat_lt short_text_max (length name) then piece.Overlong
     else piece.Token (token.Aggregation name) (length name + 1)
 
 abbrev pub BeginsWith : List ℕ → List ℕ → Type 0

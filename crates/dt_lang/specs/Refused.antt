@@ -8,8 +8,8 @@ use Rattle.dt_program.specs.declared.description.Description.{Description}
 use Rattle.dt_program.specs.Bounds.{AreBounds}
 use Rattle.dt_lang.specs.declared.fault.Why.{Why}
 use Rattle.dt_lang.specs.declared.fault.Why.TheVariants.{Syntax, Probe, Action, Variable, TooLong, Range}
-use Rattle.dt_program.specs.declared.clause.TheConstants.{DESCRIPTIONS_MAX, STATEMENTS_MAX, KEYS_MAX}
-use Rattle.dt_program.specs.declared.program.TheConstants.{CLAUSES_MAX, TOKENS_MAX}
+use Rattle.dt_program.specs.Limits.{descriptions_max, statements_max, keys_max}
+use Rattle.dt_program.specs.Limits.{clauses_max, tokens_max}
 use Rattle.dt_lang.specs.declared.token.Sign.TheVariants as sign
 use Rattle.dt_lang.specs.declared.token.Token.{Token}
 use Rattle.dt_lang.specs.declared.token.Token.TheVariants as token
@@ -65,17 +65,17 @@ IsForStatement _ = ⊥
 -- one more of the tokens of a predicate, an argument, a key or a value.
 pub data IsTooLong : List Token → Token → Type 0 where
   a_clause : (ts : List Token) (cs : List ClauseForm) (d : Option Description) → ReadsClauses ts cs
-      → CLAUSES_MAX ≤ length cs → IsTooLong ts (token.Description d)
+      → clauses_max ≤ length cs → IsTooLong ts (token.Description d)
   a_description : (ts : List Token) (cs : List ClauseForm) (ds : List DescForm) (d : Option Description)
-      → HeadStands ts cs ds → DESCRIPTIONS_MAX ≤ length ds
+      → HeadStands ts cs ds → descriptions_max ≤ length ds
       → IsTooLong (ts ++ (token.Sign sign.Comma ∷ [])) (token.Description d)
   a_statement : (ts : List Token) (cs : List ClauseForm) (c : ClauseForm) (t : Token) → BodyStands begins ts cs c
-      → STATEMENTS_MAX ≤ length c.statements → IsForStatement t → IsTooLong ts t
+      → statements_max ≤ length c.statements → IsForStatement t → IsTooLong ts t
   a_key : (ts : List Token) (cs : List ClauseForm) (c : ClauseForm) (name : List ℕ) (keys : List ArgForm) (t : Token)
-      → KeysStand ts cs c name keys → KEYS_MAX ≤ length keys → GoesOn true [] t
+      → KeysStand ts cs c name keys → keys_max ≤ length keys → GoesOn true [] t
       → IsTooLong (ts ++ (token.Sign sign.Comma ∷ [])) t
   a_token : (slot : Slot) (ts us : List Token) (cs : List ClauseForm) (c : ClauseForm) (t : Token)
-      → SlotOpens slot ts cs c → TOKENS_MAX ≤ length us → GoesOn (divides_in slot) us t → IsTooLong (ts ++ us) t
+      → SlotOpens slot ts cs c → tokens_max ≤ length us → GoesOn (divides_in slot) us t → IsTooLong (ts ++ us) t
 
 -- A statement may begin behind these tokens.
 abbrev pub StatementBegins : List Token → Type 0

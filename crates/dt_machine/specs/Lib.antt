@@ -1,4 +1,5 @@
 -- What the contracts of this crate cite.
+pub mod Limits
 pub mod Interest
 pub mod Registry
 pub mod Shown
@@ -8,3 +9,5 @@ pub mod Shape
 pub mod Rows
 pub mod Reading
 pub mod Sections
+pub mod Tests
+pub mod laws

@@ -9,7 +9,7 @@ use Rattle.dt_machine.specs.Given.{unsigned_at, text_of, list_at}
 use Rattle.dt_machine.specs.Shape.{is_machine}
 use Rattle.dt_machine.specs.Rows.{AccountRow, ProcessRow, FiringRow, account_row, process_row, script_rows, account, process, scripts, AreProbes, IsRightAccount, IsRightProcess, IsRightProbe, IsRightFiring, HasRoom}
 use Rattle.dt_machine.specs.Registry.{Registry, Contents, Belongs}
-use Rattle.dt_machine.specs.declared.limits.TheConstants.{CPUS_MAX}
+use Rattle.dt_machine.specs.Limits.{cpus_max}
 
 -- each row is right, given those before it
 abbrev pub AllRight : {A : Type 0} → (List A → A → Type 0) → List A → Type 0
@@ -61,7 +61,7 @@ pub record Registers (d : Data) (registry : Registry) : Type 0 where
 abbrev pub Passes : FaultNumber → Data → Type 0
 Passes Json d = Unit {0}
 Passes Shape d = is_machine d ≡ true
-Passes Cpus d = IsSomeAnd (cpus_in d) (λ cpus. (1 ≤ cpus) × (cpus ≤ CPUS_MAX))
+Passes Cpus d = IsSomeAnd (cpus_in d) (λ cpus. (1 ≤ cpus) × (cpus ≤ cpus_max))
 Passes Account d = AllRight IsRightAccount (accounts_in d)
 Passes Process d = AllRight IsRightProcess (processes_in d)
 Passes Probe d = AllRight (IsRightProbe (map process (processes_in d))) (probes_in d)

@@ -9,7 +9,7 @@ use Rattle.dt_cred.specs.declared.account.Process.{Process}
 use Rattle.dt_cred.specs.declared.class.Class.TheVariants.{Pid}
 use Rattle.dt_cred.specs.declared.probe.Probe.{Probe}
 use Rattle.dt_cred.specs.declared.firing.Firing.{Firing}
-use Rattle.dt_machine.specs.declared.limits.TheConstants.{CPUS_MAX, ACCOUNTS_MAX, FIRST_PROBE_ID, PROCESSES_MAX, PID_MAX, PROBE_ID_MAX, SCRIPT_MAX}
+use Rattle.dt_machine.specs.Limits.{cpus_max, accounts_max, first_probe_id, processes_max, pid_max, probe_id_max, script_max}
 
 -- what every run on a machine has in common: all of its file but the scripts
 pub record Registry : Type 0 where
@@ -44,7 +44,7 @@ firing_at scripts cpu place = option_and_then (λ script. slice_get script place
 -- and the process is the one that the probe's `pid` provider names, where it has such a provider.
 pub record Belongs (registry : Registry) (firing : Firing) : Type 0 where
   pub cpu : firing.cpu < registry.cpus
-  pub of_file : FIRST_PROBE_ID ≤ firing.probe
+  pub of_file : first_probe_id ≤ firing.probe
   pub probe : IsSome (probe_of registry firing.probe)
   pub process : IsSome (process_of registry firing.pid)
   pub traced : IfSome (probe_of registry firing.probe) (λ probe. (pid : ℕ) → probe.class ≡ Pid pid → firing.pid ≡ pid)
@@ -66,16 +66,16 @@ pub record IsPlaced (registry : Registry) (cpu place : ℕ) (firing : Firing) : 
 -- What holds of every machine.
 pub record IsSound (contents : Contents) : Type 0 where
   pub some_cpu : 1 ≤ contents.registry.cpus
-  pub few_cpus : contents.registry.cpus ≤ CPUS_MAX
-  pub few_accounts : length contents.registry.accounts ≤ ACCOUNTS_MAX
+  pub few_cpus : contents.registry.cpus ≤ cpus_max
+  pub few_accounts : length contents.registry.accounts ≤ accounts_max
   pub names : AllPairs (λ a b. a.name ≢ b.name) contents.registry.accounts
-  pub few_processes : length contents.registry.processes ≤ PROCESSES_MAX
+  pub few_processes : length contents.registry.processes ≤ processes_max
   pub pids : AllPairs (λ a b. a.pid ≢ b.pid) contents.registry.processes
-  pub small_pids : (pid : ℕ) → IfSome (process_of contents.registry pid) (λ process. process.pid ≤ PID_MAX)
-  pub few_probes : length contents.registry.probes ≤ PROBE_ID_MAX
+  pub small_pids : (pid : ℕ) → IfSome (process_of contents.registry pid) (λ process. process.pid ≤ pid_max)
+  pub few_probes : length contents.registry.probes ≤ probe_id_max
   pub first : IsSomeAnd (probe_of contents.registry 1) (λ probe. SpellsTuple (codes "dtrace:::BEGIN") probe.tuple)
   pub second : IsSomeAnd (probe_of contents.registry 2) (λ probe. SpellsTuple (codes "dtrace:::END") probe.tuple)
   pub numbered : (id : ℕ) → IfSome (probe_of contents.registry id) (IsNumbered id)
   pub scripts : length contents.scripts ≡ contents.registry.cpus
-  pub short : (cpu : ℕ) → IfSome (slice_get contents.scripts cpu) (λ script. length script ≤ SCRIPT_MAX)
+  pub short : (cpu : ℕ) → IfSome (slice_get contents.scripts cpu) (λ script. length script ≤ script_max)
   pub placed : (cpu place : ℕ) → IfSome (firing_at contents.scripts cpu place) (IsPlaced contents.registry cpu place)

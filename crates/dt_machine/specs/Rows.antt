@@ -4,8 +4,8 @@ use Rattle.std.specs.List.{list_any}
 use Rattle.std.specs.Str.{bytes_eq}
 use Rattle.serde_json.specs.Data.{Data}
 use Rattle.dt_names.specs.Tuple.{SpellsTuple}
-use Rattle.dt_names.specs.declared.name.TheConstants.{NAME_MAX}
-use Rattle.dt_names.specs.declared.short_text.TheConstants.{SHORT_TEXT_MAX}
+use Rattle.dt_names.specs.Limits.{name_max}
+use Rattle.dt_names.specs.Limits.{short_text_max}
 use Rattle.dt_names.specs.declared.tuple.ProbeTuple.{ProbeTuple}
 use Rattle.dt_cred.specs.Class.{NamesProcess, IsClassOf}
 use Rattle.dt_cred.specs.declared.account.Account.{Account}
@@ -17,8 +17,8 @@ use Rattle.dt_cred.specs.declared.rights.Mode.TheVariants.{User, Kernel}
 use Rattle.dt_cred.specs.declared.firing.Firing.{Firing}
 use Rattle.dt_machine.specs.Given.{unsigned, signed, unsigned_at, text_of, text_at, items_of, list_at}
 use Rattle.dt_machine.specs.Registry.{Registry, probe_of, process_of}
-use Rattle.dt_machine.specs.declared.limits.TheConstants.{ACCOUNTS_MAX, FIRST_PROBE_ID, SCRIPT_MAX, PID_MAX, PROBES_MAX, PROCESSES_MAX}
-use Rattle.dt_cred.specs.declared.firing.TheConstants.{ARGS, FRAMES}
+use Rattle.dt_machine.specs.Limits.{accounts_max, first_probe_id, script_max, pid_max, probes_max, processes_max}
+use Rattle.dt_cred.specs.Limits.{argument_count, frame_count}
 
 -- The rows. A number that is None is one that no such number can be: negative, or past 64 bits.
 pub record AccountRow : Type 0 where
@@ -97,11 +97,11 @@ mode text = if bytes_eq text (codes "kernel") then Kernel else User
 
 -- the arguments that are given, and zeros up to as many as a firing has
 abbrev pub arguments : List (Option ℤ) → List ℤ
-arguments given = map (λ number. unwrap_or number (pos 0)) given ++ replicate (ARGS - length given) (pos 0)
+arguments given = map (λ number. unwrap_or number (pos 0)) given ++ replicate (argument_count - length given) (pos 0)
 
 -- the frames that are given, and zeros up to as many as a stack has
 abbrev pub frames : List (Option ℕ) → List ℕ
-frames given = map number_in given ++ replicate (FRAMES - length given) 0
+frames given = map number_in given ++ replicate (frame_count - length given) 0
 
 abbrev pub firing : ℕ → ℕ → FiringRow → Firing
 firing cpu place row = record {
@@ -149,11 +149,11 @@ IsPriv text = (text ≡ codes "dtrace_user")
 
 pub record IsAccountName (text : List ℕ) : Type 0 where
   pub some : text ≢ []
-  pub short : length text ≤ NAME_MAX
+  pub short : length text ≤ name_max
   pub plain : All IsAccountByte text
 
 pub record IsRightAccount (before : List AccountRow) (row : AccountRow) : Type 0 where
-  pub few : length before < ACCOUNTS_MAX
+  pub few : length before < accounts_max
   pub named : IsAccountName row.name
   pub new : All (λ earlier. earlier.name ≢ row.name) before
   pub uid : IsGivenBelow (2 ^ 32) row.uid
@@ -161,19 +161,19 @@ pub record IsRightAccount (before : List AccountRow) (row : AccountRow) : Type 0
 
 -- visible ASCII characters and spaces
 pub record IsExecname (text : List ℕ) : Type 0 where
-  pub short : length text ≤ SHORT_TEXT_MAX
+  pub short : length text ≤ short_text_max
   pub plain : All (λ byte. (32 ≤ byte) × (byte ≤ 126)) text
 
 pub record IsRightProcess (before : List ProcessRow) (row : ProcessRow) : Type 0 where
-  pub few : length before < PROCESSES_MAX
-  pub pid : IsGivenBelow (PID_MAX + 1) row.pid
+  pub few : length before < processes_max
+  pub pid : IsGivenBelow (pid_max + 1) row.pid
   pub new : All (λ earlier. earlier.pid ≢ row.pid) before
   pub uid : IsGivenBelow (2 ^ 32) row.uid
   pub named : IsExecname row.execname
 
 -- A probe is not of the provider `dtrace`, and its `pid` provider names one of the processes, if it has one.
 pub record IsRightProbe (processes : List Process) (before : List (List ℕ)) (text : List ℕ) : Type 0 where
-  pub few : length before < PROBES_MAX
+  pub few : length before < probes_max
   pub tuple : ProbeTuple
   pub spelled : SpellsTuple text tuple
   pub given : tuple.provider ≢ codes "dtrace"
@@ -184,19 +184,19 @@ abbrev pub IsMode : List ℕ → Type 0
 IsMode text = (text ≡ codes "user") ⊎ (text ≡ codes "kernel")
 
 pub record AreArguments (given : List (Option ℤ)) : Type 0 where
-  pub few : length given ≤ ARGS
+  pub few : length given ≤ argument_count
   pub each : All IsSome given
 
 pub record AreGivenFrames (given : List (Option ℕ)) : Type 0 where
-  pub few : length given ≤ FRAMES
+  pub few : length given ≤ frame_count
   pub each : All IsSome given
 
 abbrev pub HasRoom : List FiringRow → FiringRow → Type 0
-HasRoom before row = length before < SCRIPT_MAX
+HasRoom before row = length before < script_max
 
 -- the identifier of one of the file's probes
 abbrev pub IsGivenProbe : Registry → ℕ → Type 0
-IsGivenProbe registry id = (FIRST_PROBE_ID ≤ id) × IsSome (probe_of registry id)
+IsGivenProbe registry id = (first_probe_id ≤ id) × IsSome (probe_of registry id)
 
 pub record IsRightFiring (registry : Registry) (before : List FiringRow) (row : FiringRow) : Type 0 where
   pub probe : IsSomeAnd row.probe (IsGivenProbe registry)

@@ -21,7 +21,7 @@ use Rattle.dt_cred.specs.declared.firing.Firing.{Firing}
 use Rattle.dt_cred.specs.declared.class.Class.{Class}
 use Rattle.dt_cred.specs.declared.class.Class.TheVariants.{Dtrace, Syscall, Profile, Pid, Other}
 use Rattle.dt_machine.specs.declared.sections.Sections.{Sections}
-use Rattle.dt_machine.specs.declared.limits.TheConstants.{PROBE_ID_MAX}
+use Rattle.dt_machine.specs.Limits.{probe_id_max}
 
 -- the fault is that memory ran out, or it is as said
 abbrev pub UnlessMemory : MachineFault → Type 0 → Type 0
@@ -84,7 +84,7 @@ registry_of s = record {
 pub record IsReady (s : Sections) : Type 0 where
   pub finds : Indexes s.by_pid s.processes.items
   pub small : All (λ process. process.pid < 2 ^ 32) s.processes.items
-  pub few : length s.probes.items ≤ PROBE_ID_MAX
+  pub few : length s.probes.items ≤ probe_id_max
 
 -- the tests of the numbers before this one find nothing
 abbrev pub PassesBefore : ℕ → Data → Type 0

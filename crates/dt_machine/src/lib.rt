@@ -16,6 +16,7 @@ mod fault;
 mod interest;
 mod keys;
 mod law;
+mod limit_laws;
 mod limits;
 mod machine;
 mod numbers;
@@ -29,6 +30,7 @@ pub use dt_cred::{ARGS, FRAMES, Firing};
 pub use fault::{FaultNumber, MachineFault};
 pub use interest::Interest;
 pub use law::one_answer;
+pub use limit_laws::limits_agree;
 pub use limits::{
     ACCOUNTS_MAX, CPUS_MAX, FIRST_PROBE_ID, PID_MAX, PROBE_ID_MAX, PROBES_MAX, PROCESSES_MAX,
     SCRIPT_MAX,

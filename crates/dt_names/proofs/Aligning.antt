@@ -1,6 +1,6 @@
 -- The last four of some fields, as each further field shifts them.
-use Rattle.std.proofs.Common.{◌≡◌, ℕ, zero, suc, ◌+◌, ◌-◌, ◌≤◌, List, [], ◌∷◌, ◌++◌, length, drop, replicate, refl}
-use Rattle.std.proofs.Common.{sym, ap, ◌∙◌, map, count_by, add-one, arith}
+use Rattle.std.proofs.Common.{◌≡◌, ℕ, zero, suc, ◌+◌, ◌-◌, ◌≤◌, List, [], ◌∷◌, ◌++◌, length, drop, replicate, refl, sym}
+use Rattle.std.proofs.Common.{ap, ◌∙◌, map, count_by, add-one, arith}
 use Rattle.std.proofs.lemmas.List.Splits.{length-slice_split}
 use Rattle.dt_names.specs.Desc.{is_colon, fields}
 use Rattle.std.proofs.lemmas.List.{drop-append-le, drop-replicate, length-map, map-append, length_push}

@@ -5,7 +5,7 @@ use Rattle.dt_names.specs.Name.{IsNameByte}
 use Rattle.dt_names.specs.declared.desc.NameFault.{NameFault}
 use Rattle.dt_names.specs.declared.desc.NameFault.TheVariants.{BadByte, TooLong, TooManyFields}
 use Rattle.dt_names.specs.declared.desc.ProbeDesc.{ProbeDesc}
-use Rattle.dt_names.specs.declared.desc.TheConstants.{FIELD_MAX, FIELDS_MAX}
+use Rattle.dt_names.specs.Limits.{field_max, fields_max}
 
 -- the four fields of a description, of which an empty one asks for nothing
 pub record Desc : Type 0 where
@@ -27,15 +27,15 @@ fields text = slice_split is_colon text
 
 -- A field of a description has at most 63 bytes, each of them a name byte.
 pub record IsField (field : List ℕ) : Type 0 where
-  pub short : length field ≤ FIELD_MAX
+  pub short : length field ≤ field_max
   pub plain : AllByRecursion IsNameByte field
 
 -- The text is one to four fields, and read from right to left they are those of the description: where there are
 -- fewer than four, the first ones are empty.
 pub record Describes (text : List ℕ) (desc : Desc) : Type 0 where
-  pub few : length (fields text) ≤ FIELDS_MAX
+  pub few : length (fields text) ≤ fields_max
   pub each : AllByRecursion IsField (fields text)
-  pub aligned : replicate (FIELDS_MAX - length (fields text)) [] ++ fields text
+  pub aligned : replicate (fields_max - length (fields text)) [] ++ fields text
       ≡ desc.provider ∷ desc.module ∷ desc.function ∷ desc.name ∷ []
 
 -- the bytes from place `from` on and before place `at` are no colons
@@ -46,9 +46,9 @@ NoColonWithin text from at = (k : ℕ) → from ≤ k → k < at → slice_index
 -- fourth colon.
 abbrev pub ShowsFault : List ℕ → ℕ → NameFault → Type 0
 ShowsFault text at BadByte = (IsNameByte (slice_index text at) → ⊥) × (slice_index text at ≢ 58)
-ShowsFault text at TooLong = IsNameByte (slice_index text at) × (FIELD_MAX ≤ at)
-    × NoColonWithin text (at - FIELD_MAX) at
-ShowsFault text at TooManyFields = (slice_index text at ≡ 58) × (count_by is_colon (take at text) ≡ FIELDS_MAX - 1)
+ShowsFault text at TooLong = IsNameByte (slice_index text at) × (field_max ≤ at)
+    × NoColonWithin text (at - field_max) at
+ShowsFault text at TooManyFields = (slice_index text at ≡ 58) × (count_by is_colon (take at text) ≡ fields_max - 1)
 
 -- no byte before this place shows a fault
 abbrev pub NoneShown : List ℕ → ℕ → Type 0

@@ -1,6 +1,6 @@
 -- What a name is.
 use Rattle.std.specs.Prelude.{◌≢◌, ℕ, ◌≤◌, List, length, All}
-use Rattle.dt_names.specs.declared.name.TheConstants.{NAME_MAX}
+use Rattle.dt_names.specs.Limits.{name_max}
 
 -- A name byte is a visible ASCII character, but none of : , / { } and the double quote.
 pub record IsNameByte (byte : ℕ) : Type 0 where
@@ -15,5 +15,5 @@ pub record IsNameByte (byte : ℕ) : Type 0 where
 
 -- A name has at most 31 bytes, each of them a name byte.
 pub record IsName (bytes : List ℕ) : Type 0 where
-  pub short : length bytes ≤ NAME_MAX
+  pub short : length bytes ≤ name_max
   pub plain : All IsNameByte bytes

@@ -7,11 +7,13 @@
 #![tactic(auto)]
 
 mod desc;
+mod limit_laws;
 mod name;
 mod short_text;
 mod tuple;
 
 pub use desc::{FIELD_MAX, FIELDS_MAX, NameFault, ProbeDesc, one_answer};
+pub use limit_laws::limits_agree;
 pub use name::{NAME_MAX, Name, is_name_byte};
 pub use short_text::{PADDED_SIZE, SHORT_TEXT_MAX, ShortText};
 pub use tuple::ProbeTuple;

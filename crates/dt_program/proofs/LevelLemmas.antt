@@ -1,10 +1,10 @@
 -- The tests of bounds, which are done in 128 bits.
+use mir.Syntax.{w128}
+use mir.Val.{SFits}
 use Rattle.std.proofs.Common.{◌≡◌, ℕ, ◌<◌, ◌^◌, ◌/◌, negsuc, div-le_self, true, false, ℤ, pos, to_z, of_z, int_lt}
 use Rattle.std.proofs.Common.{int_le, int_div, int_rem, sym, ap, ◌∙◌, arith}
 use Rattle.std.proofs.lemmas.Int.{ints, to_z-of_z}
 use Rattle.std.specs.Int.Signed.{mag, mag_rem, rem_z, quot_z}
-use mir.Syntax.{w128}
-use mir.Val.{SFits}
 
 pub no_rest : (width by : ℤ) → mag width < 2 ^ 127 → of_z w128 (rem_z width by) ≡ 0 → int_rem width by ≡ pos 0
 no_rest width by h e =

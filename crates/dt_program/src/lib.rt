@@ -7,6 +7,7 @@
 
 mod clause;
 mod description;
+mod limit_laws;
 mod program;
 
 pub use clause::{
@@ -14,4 +15,5 @@ pub use clause::{
     LEVELS_MAX, STATEMENTS_MAX, Statement,
 };
 pub use description::{Description, one_description, some_description};
+pub use limit_laws::limits_agree;
 pub use program::{CLAUSES_MAX, Program, TOKENS_MAX};

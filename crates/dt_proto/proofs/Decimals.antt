@@ -1,7 +1,6 @@
 -- The digits of a number, and the number that `parse` reads of them.
-use Rattle.std.proofs.Common.{◌≡◌, ◌≢◌, ℕ, ◌+◌, ◌^◌, ◌<◌, List, [], ◌∷◌, length, get_or, decimal, Result, Ok, Err}
-use Rattle.std.proofs.Common.{Some, None, IfSome, IfNone, IsUtf8, ◌⊎◌, ⊎_elim, inl, inr, refl, sym, ap, subst, ◌∙◌}
-use Rattle.std.proofs.Common.{arith}
+use Rattle.std.proofs.Common.{◌≡◌, ◌≢◌, ℕ, ◌+◌, ◌^◌, ◌<◌, List, [], ◌∷◌, length, get_or, decimal, Result, Ok, Err, Some}
+use Rattle.std.proofs.Common.{None, IfSome, IfNone, IsUtf8, ◌⊎◌, ⊎_elim, inl, inr, refl, sym, ap, subst, ◌∙◌, arith}
 use Rattle.std.proofs.lemmas.Bool.{cases_eq, ne_eqb}
 use Rattle.std.proofs.lemmas.Fmt.{decimal_digit, first_decimal, decimal-digits_value, parse-decimal, IsAscii-decimal}
 use Rattle.std.proofs.lemmas.Str.{IsUtf8-from_ascii}

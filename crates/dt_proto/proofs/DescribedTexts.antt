@@ -1,7 +1,7 @@
 -- How the description of an ECB is written.
 use Rattle.std.proofs.Common.{◌≡◌, ℕ, zero, suc, ◌+◌, ◌/◌, ◌%◌, ◌<◌, ◌≤◌, ◌==◌, Bool, true, false, List, [], ◌∷◌, ◌++◌}
-use Rattle.std.proofs.Common.{Some, None, codes, decimal, drop, map, nat_lt, if◌then◌else◌, append_assoc, refl, ap}
-use Rattle.std.proofs.Common.{◌∙◌, arith}
+use Rattle.std.proofs.Common.{Some, None, codes, decimal, drop, map, nat_lt, if◌then◌else◌, append_assoc, refl, ap, ◌∙◌}
+use Rattle.std.proofs.Common.{arith}
 use Rattle.std.proofs.lemmas.Bool.{le-ltb, lt-ltb, ne_eqb}
 use Rattle.std.specs.Fmt.{digits, digits_onto, digit_glyph}
 use Rattle.std.specs.List.{join_with_byte}
@@ -11,7 +11,7 @@ use Rattle.serde_json.specs.Written.{compact_text, items_text}
 use Rattle.serde_json.proofs.OnLiterals.{serde_json_on_literals}
 use Rattle.dt_cred.specs.declared.probe.Probe.{Probe}
 use Rattle.dt_record.specs.Layout.{FieldForm, number, text, stack, ustack, layout_size}
-use Rattle.dt_consumer.specs.Answer.{described}
+use Rattle.dt_life.specs.Answer.{described}
 use Rattle.dt_proto.specs.Reply.{describe_text, field_data, quoted_word, reply_text, tuple_text}
 use Rattle.dt_proto.proofs.ItemTexts.{items_written}
 use Rattle.dt_proto.proofs.Texts.{IsPlain}

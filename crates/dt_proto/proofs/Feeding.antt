@@ -1,6 +1,6 @@
 -- What bytes fed do to the lines and the rest.
-use Rattle.std.proofs.Common.{◌≡◌, ◌≢◌, ℕ, ◌+◌, ◌<◌, false, true, List, [], ◌∷◌, ◌++◌, take, drop, length, map, sym}
-use Rattle.std.proofs.Common.{ap, ◌∙◌, inl, inr, ◌⊎◌, arith, append_assoc}
+use Rattle.std.proofs.Common.{◌≡◌, ◌≢◌, ℕ, ◌+◌, ◌<◌, false, true, List, [], ◌∷◌, ◌++◌, take, drop, length, map, sym, ap}
+use Rattle.std.proofs.Common.{◌∙◌, inl, inr, ◌⊎◌, arith, append_assoc}
 use Rattle.std.proofs.lemmas.List.{length-append, length-take, take_at}
 use Rattle.std.proofs.lemmas.List.Elements.{All-append}
 use Rattle.std.proofs.Math.Seq.{take-length}
@@ -8,8 +8,8 @@ use Rattle.dt_proto.specs.Lines.{LineForm, all_but_last, last_of, parts_of, line
 use Rattle.dt_proto.specs.Splits.{HasNoNewline, with_newline, IsCut}
 use Rattle.dt_proto.specs.HasRead.{HasRead, is_whole, form_held}
 use Rattle.dt_proto.specs.declared.lines.Lines.{Lines}
-use Rattle.dt_proto.proofs.Parts.{lines-append, rest-append}
-use Rattle.dt_proto.proofs.Splitting.{parts-none, parts-line, splits}
+use Rattle.dt_proto.specs.laws.Parts.{lines-append, rest-append}
+use Rattle.dt_proto.specs.laws.Splitting.{parts-none, parts-line, splits}
 
 unmarked_behind : (input bytes : List ℕ) → HasNoNewline bytes → HasNoNewline (rest_of input ++ bytes)
 unmarked_behind input bytes none = All-append (λ byte. byte ≢ 10) (rest_of input) bytes (splits input).last none

@@ -10,15 +10,15 @@ use Rattle.dt_aggstore.specs.declared.key.KeyPart.{KeyPart}
 use Rattle.dt_aggstore.specs.declared.key.KeyPart.TheVariants.{Number, Text}
 use Rattle.dt_cred.specs.declared.probe.Probe.{Probe}
 use Rattle.dt_record.specs.Layout.{FieldForm}
-use Rattle.dt_consumer.specs.Answer.{Answer, done, enabled, snapped, aggregated, status, listed, described, refused}
-use Rattle.dt_consumer.specs.declared.phase.Phase.{Phase}
-use Rattle.dt_consumer.specs.declared.phase.Phase.TheVariants.{Inactive, Active, Stopped}
-use Rattle.dt_consumer.specs.declared.phase.End.TheVariants.{Stop, Exit, History}
-use Rattle.dt_consumer.specs.declared.refusal.Refusal.{Refusal}
-use Rattle.dt_consumer.specs.declared.refusal.Refusal.TheVariants.{Json, Request, LineLong, Program, Privilege}
-use Rattle.dt_consumer.specs.declared.refusal.Refusal.TheVariants.{Destructive, AggClash, NoAgg, NoEpid, NoMatch}
-use Rattle.dt_consumer.specs.declared.refusal.Refusal.TheVariants.{Limit, Busy, NoCpu, Quota, Memory}
-use Rattle.dt_consumer.specs.declared.refusal.Refusal.TheVariants as refusal
+use Rattle.dt_life.specs.Answer.{Answer, done, enabled, snapped, aggregated, status, listed, described, refused}
+use Rattle.dt_life.specs.declared.phase.Phase.{Phase}
+use Rattle.dt_life.specs.declared.phase.Phase.TheVariants.{Inactive, Active, Stopped}
+use Rattle.dt_life.specs.declared.phase.End.TheVariants.{Stop, Exit, History}
+use Rattle.dt_life.specs.declared.refusal.Refusal.{Refusal}
+use Rattle.dt_life.specs.declared.refusal.Refusal.TheVariants.{Json, Request, LineLong, Program, Privilege, Destructive}
+use Rattle.dt_life.specs.declared.refusal.Refusal.TheVariants.{AggClash, NoAgg, NoEpid, NoMatch, Limit, Busy, NoCpu}
+use Rattle.dt_life.specs.declared.refusal.Refusal.TheVariants.{Quota, Memory}
+use Rattle.dt_life.specs.declared.refusal.Refusal.TheVariants as refusal
 use Rattle.dt_proto.specs.Reply.{cause_data, exit_data, field_data, fields_in, probe_data, refusal_members}
 use Rattle.dt_proto.specs.Reply.{reply_members}
 use Rattle.dt_proto.specs.Rows.{counted_data, least_data, part_data, row_data, value_data}

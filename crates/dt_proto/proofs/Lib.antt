@@ -1,11 +1,8 @@
 -- What the prover was told of lines and replies.
-pub mod Parts
-pub mod Splitting
+
 pub mod Feeding
 pub mod Giving
 pub mod Requests
-pub mod Entries
-pub mod Quota
 pub mod Decimals
 pub mod Texts
 pub mod Floats

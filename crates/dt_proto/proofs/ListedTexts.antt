@@ -6,7 +6,7 @@ use Rattle.serde_json.specs.View.{items_of}
 use Rattle.serde_json.specs.Written.{compact_text, items_text}
 use Rattle.serde_json.proofs.OnLiterals.{serde_json_on_literals}
 use Rattle.dt_cred.specs.declared.probe.Probe.{Probe}
-use Rattle.dt_consumer.specs.Answer.{listed}
+use Rattle.dt_life.specs.Answer.{listed}
 use Rattle.dt_proto.specs.Reply.{probe_data, probe_text, tuple_text, reply_text}
 use Rattle.dt_proto.proofs.ItemTexts.{items_written}
 

@@ -4,7 +4,7 @@ use Rattle.std.specs.Str.{is_utf8}
 use Rattle.std.proofs.lemmas.Str.{IsUtf8-from_is_utf8, is_utf8-from_IsUtf8}
 use Rattle.serde_json.specs.Data.{Data}
 use Rattle.serde_json.specs.Read.{read}
-use Rattle.dt_consumer.specs.declared.refusal.Refusal.TheVariants.{Json}
+use Rattle.dt_life.specs.declared.refusal.Refusal.TheVariants.{Json}
 use Rattle.dt_proto.specs.Line.{requested, requested_by, requested_or_no_json}
 
 pub requested-read : (line : List ℕ) (d : Data) → IsUtf8 line → read line ≡ Some d → requested line ≡ requested_by d

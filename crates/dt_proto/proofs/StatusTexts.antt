@@ -6,11 +6,11 @@ use Rattle.serde_json.specs.Data.{string}
 use Rattle.serde_json.specs.View.{items_of}
 use Rattle.serde_json.specs.Written.{compact_text, items_text}
 use Rattle.serde_json.proofs.OnLiterals.{serde_json_on_literals}
-use Rattle.dt_consumer.specs.Answer.{status}
-use Rattle.dt_consumer.specs.Phase.{phase_word}
-use Rattle.dt_consumer.specs.declared.phase.Phase.{Phase}
-use Rattle.dt_consumer.specs.declared.phase.Phase.TheVariants.{Inactive, Active, Stopped}
-use Rattle.dt_consumer.specs.declared.phase.End.TheVariants.{Stop, Exit, History}
+use Rattle.dt_life.specs.Answer.{status}
+use Rattle.dt_life.specs.Phase.{phase_word}
+use Rattle.dt_life.specs.declared.phase.Phase.{Phase}
+use Rattle.dt_life.specs.declared.phase.Phase.TheVariants.{Inactive, Active, Stopped}
+use Rattle.dt_life.specs.declared.phase.End.TheVariants.{Stop, Exit, History}
 use Rattle.dt_proto.specs.Reply.{cause_data, exit_data, numbers_text, reply_text, status_text}
 use Rattle.dt_proto.specs.Scalars.{of_number}
 use Rattle.dt_proto.proofs.ItemTexts.{numbers_written}

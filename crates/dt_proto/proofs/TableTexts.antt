@@ -12,10 +12,10 @@ use Rattle.dt_aggfn.specs.declared.function.AggFn.TheVariants.{Count, Sum, Avg, 
 use Rattle.dt_aggstore.specs.Table.{RowForm}
 use Rattle.dt_aggstore.specs.declared.key.KeyPart.{KeyPart}
 use Rattle.dt_aggstore.specs.declared.key.KeyPart.TheVariants.{Number, Text}
-use Rattle.dt_consumer.specs.Answer.{aggregated}
+use Rattle.dt_life.specs.Answer.{aggregated}
 use Rattle.dt_proto.specs.Reply.{reply_text}
-use Rattle.dt_proto.specs.Rows.{counted_data, counted_text, function_word, least_data, least_text, part_data}
-use Rattle.dt_proto.specs.Rows.{part_text, row_data, row_text, value_data, value_text}
+use Rattle.dt_proto.specs.Rows.{counted_data, counted_text, function_word, least_data, least_text, part_data, part_text}
+use Rattle.dt_proto.specs.Rows.{row_data, row_text, value_data, value_text}
 use Rattle.dt_proto.specs.Scalars.{characters}
 use Rattle.dt_proto.proofs.ItemTexts.{items_written}
 use Rattle.dt_proto.proofs.Texts.{signed_written}

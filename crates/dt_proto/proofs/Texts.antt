@@ -9,7 +9,7 @@ use Rattle.serde_json.specs.Data.{boolean, string}
 use Rattle.serde_json.specs.Find.{of_integer}
 use Rattle.serde_json.specs.Written.{compact_text, number_text}
 use Rattle.serde_json.proofs.OnLiterals.{serde_json_on_literals}
-use Rattle.dt_consumer.specs.Answer.{snapped}
+use Rattle.dt_life.specs.Answer.{snapped}
 use Rattle.dt_proto.specs.Reply.{reply_text}
 
 pub signed_written : (z : ℤ) → number_text (of_integer z) ≡ signed_decimal z

@@ -1,15 +1,16 @@
 -- What a consumer that traces alone is answered.
-use Rattle.std.specs.Prelude.{◌≡◌, ◌⊎◌, List, [], ◌∷◌, ◌++◌}
+use Rattle.std.specs.Prelude.{◌≡◌, ◌⊎◌, List, [], ◌∷◌, ◌++◌, ℕ}
 use Rattle.dt_cred.specs.declared.account.Account.{Account}
 use Rattle.dt_machine.specs.Registry.{Registry}
 use Rattle.dt_cred.specs.declared.firing.Firing.{Firing}
-use Rattle.dt_consumer.specs.Answer.{Answer}
-use Rattle.dt_consumer.specs.Draft.{after_line}
-use Rattle.dt_consumer.specs.Life.{Item, fired}
-use Rattle.dt_consumer.specs.Reply.{Replies}
-use Rattle.dt_consumer.specs.Sees.{Sees}
+use Rattle.dt_life.specs.Answer.{Answer}
+use Rattle.dt_life.specs.Acceptance.{after_line}
+use Rattle.dt_life.specs.Life.{Item, fired}
+use Rattle.dt_life.specs.Reply.{Replies}
+use Rattle.dt_life.specs.Sees.{Sees}
 use Rattle.dt_proto.specs.Line.{ask_in}
 use Rattle.dt_proto.specs.Lines.{LineForm}
+use Rattle.dt_proto.specs.Reply.{reply_text}
 
 -- What reaches a consumer: an own line, or a firing.
 pub data Reached : Type 0 where
@@ -44,3 +45,8 @@ module _ (account : Account) (registry : Registry) where
       (earlier : List Answer) × (answer : Answer) × Alone view earlier × IsReplyTo view line answer
       × (answers ≡ earlier ++ answer ∷ [])
   Alone (firing_made firing ∷ view) answers = Alone view answers
+
+-- The text is that of the reply to a line, after what reached a session before.
+abbrev pub IsText : Account → Registry → List Reached → LineForm → List ℕ → Type 0
+IsText account registry view line text =
+    (answer : Answer) × IsReplyTo account registry view line answer × (text ≡ reply_text answer)

@@ -1,4 +1,6 @@
 -- What the contracts of this crate cite.
+
+pub mod Limits
 pub mod Lines
 pub mod Splits
 pub mod HasRead
@@ -10,3 +12,7 @@ pub mod Reply
 pub mod Alone
 pub mod Session
 pub mod Trail
+pub mod Views
+pub mod Legal
+pub mod Brought
+pub mod laws

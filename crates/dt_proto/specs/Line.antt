@@ -1,19 +1,22 @@
 -- What a consumer asks for by a line.
-use Rattle.std.specs.Prelude.{ℕ, List, codes, bytes_eq, if◌then◌else◌, Option, Some, None, option_map, option_and_then, ok_or, Result, Ok, Err}
+use Rattle.std.specs.Prelude.{ℕ, List, codes, bytes_eq, if◌then◌else◌, Option, Some, None, option_map, option_and_then}
+use Rattle.std.specs.Prelude.{ok_or, Result, Ok, Err}
 use Rattle.std.specs.Str.{is_utf8}
 use Rattle.std.specs.String.{string_bytes}
 use Rattle.serde_json.specs.Data.{Data, number, unsigned, string}
 use Rattle.serde_json.specs.Read.{read}
 use Rattle.serde_json.specs.Find.{get, as_str, as_number, as_u64}
-use Rattle.dt_consumer.specs.Ask.{Ask, option, enable, go, stop, snap, agg, trunc, status, list, describe, close, reading_of, description_of}
-use Rattle.dt_consumer.specs.Options.{Setting, policy, number_set, policy_of}
+use Rattle.dt_life.specs.Ask.{Ask, option, enable, go, stop, snap, agg, trunc, status, list, describe, close}
+use Rattle.dt_life.specs.Ask.{reading_of, description_of}
+use Rattle.dt_life.specs.Options.{Setting, policy, number_set, policy_of}
 use Rattle.dt_proto.specs.Lines.{LineForm, short_line, long_line}
-use Rattle.dt_consumer.specs.declared.command.Command.{Command}
-use Rattle.dt_consumer.specs.declared.command.Command.TheVariants.{Option as SetOption, Enable, Go, Stop, Snap, Agg, Trunc, Status, List as ListOf, Describe, Close}
-use Rattle.dt_consumer.specs.declared.command.OptionValue.{OptionValue}
-use Rattle.dt_consumer.specs.declared.command.OptionValue.TheVariants.{Number, Text, Other}
-use Rattle.dt_consumer.specs.declared.refusal.Refusal.{Refusal}
-use Rattle.dt_consumer.specs.declared.refusal.Refusal.TheVariants.{Json, Request as NoRequest, LineLong}
+use Rattle.dt_life.specs.declared.command.Command.{Command}
+use Rattle.dt_life.specs.declared.command.Command.TheVariants.{Option as SetOption, Enable, Go, Stop, Snap, Agg, Trunc}
+use Rattle.dt_life.specs.declared.command.Command.TheVariants.{Status, List as ListOf, Describe, Close}
+use Rattle.dt_life.specs.declared.command.OptionValue.{OptionValue}
+use Rattle.dt_life.specs.declared.command.OptionValue.TheVariants.{Number, Text, Other}
+use Rattle.dt_life.specs.declared.refusal.Refusal.{Refusal}
+use Rattle.dt_life.specs.declared.refusal.Refusal.TheVariants.{Json, Request as NoRequest, LineLong}
 
 -- a value that a line gives for an option: a number from 0 on, a text, or anything else
 pub data Value : Type 0 where

@@ -1,7 +1,7 @@
 -- The lines of an input, each with its form.
 use Rattle.std.specs.Prelude.{ℕ, ◌+◌, ◌==◌, Bool, List, [], ◌∷◌, length, map, min, nat_lt, Contains, if◌then◌else◌}
 use Rattle.std.specs.List.{slice_split, position_or_len}
-use Rattle.dt_proto.specs.declared.limits.TheConstants.{LINE_MAX}
+use Rattle.dt_proto.specs.Limits.{line_max}
 
 abbrev pub is_newline : ℕ → Bool
 is_newline byte = byte == 10
@@ -14,9 +14,9 @@ pub data LineForm : Type 0 where
   short_line : (bytes : List ℕ) → LineForm
   long_line : LineForm
 
--- a line of more than LINE_MAX bytes is long, whatever they are
+-- a line of more than line_max bytes is long, whatever they are
 abbrev pub line_form : List ℕ → LineForm
-line_form bytes = if nat_lt LINE_MAX (length bytes) then long_line else short_line bytes
+line_form bytes = if nat_lt line_max (length bytes) then long_line else short_line bytes
 
 -- what stands between the newlines: one part more than there are newlines
 abbrev pub parts_of : List ℕ → List (List ℕ)

@@ -11,14 +11,14 @@ use Rattle.dt_lang.specs.Fault.{why_word}
 use Rattle.dt_lang.specs.Word.{name_of_destructive}
 use Rattle.dt_ecb.specs.Fault.{action_word as word_of_action}
 use Rattle.dt_record.specs.Layout.{FieldForm, number, text, stack, ustack, layout_size}
-use Rattle.dt_consumer.specs.Phase.{phase_word, cause_word}
-use Rattle.dt_consumer.specs.Refusal.{refusal_number, refusal_name}
-use Rattle.dt_consumer.specs.Answer.{Answer, done, enabled, snapped, aggregated, status, listed, described, refused}
-use Rattle.dt_consumer.specs.declared.phase.Phase.{Phase}
-use Rattle.dt_consumer.specs.declared.phase.Phase.TheVariants.{Stopped}
-use Rattle.dt_consumer.specs.declared.phase.End.TheVariants.{Exit}
-use Rattle.dt_consumer.specs.declared.refusal.Refusal.{Refusal}
-use Rattle.dt_consumer.specs.declared.refusal.Refusal.TheVariants.{Program, Privilege, Destructive, AggClash, NoMatch}
+use Rattle.dt_life.specs.Phase.{phase_word, cause_word}
+use Rattle.dt_life.specs.Refusal.{refusal_number, refusal_name}
+use Rattle.dt_life.specs.Answer.{Answer, done, enabled, snapped, aggregated, status, listed, described, refused}
+use Rattle.dt_life.specs.declared.phase.Phase.{Phase}
+use Rattle.dt_life.specs.declared.phase.Phase.TheVariants.{Stopped}
+use Rattle.dt_life.specs.declared.phase.End.TheVariants.{Exit}
+use Rattle.dt_life.specs.declared.refusal.Refusal.{Refusal}
+use Rattle.dt_life.specs.declared.refusal.Refusal.TheVariants.{Program, Privilege, Destructive, AggClash, NoMatch}
 use Rattle.dt_proto.specs.Rows.{function_word, row_data}
 use Rattle.dt_proto.specs.Scalars.{characters, of_number, of_signed}
 

@@ -4,10 +4,10 @@ use Rattle.std.specs.List.{flat_map, AllByRecursion}
 use Rattle.dt_cred.specs.declared.account.Account.{Account}
 use Rattle.dt_machine.specs.Registry.{Registry}
 use Rattle.dt_cred.specs.declared.firing.Firing.{Firing}
-use Rattle.dt_consumer.specs.Answer.{Answer}
-use Rattle.dt_consumer.specs.Life.{Item, is_over}
-use Rattle.dt_consumer.specs.Reply.{Replies}
-use Rattle.dt_consumer.specs.Sees.{Sees}
+use Rattle.dt_life.specs.Answer.{Answer}
+use Rattle.dt_life.specs.Life.{Item, is_over}
+use Rattle.dt_life.specs.Reply.{Replies}
+use Rattle.dt_life.specs.Sees.{Sees}
 use Rattle.dt_proto.specs.Alone.{Reached, own_line, firing_made, IsLifeOf}
 use Rattle.dt_proto.specs.Line.{ask_in}
 use Rattle.dt_proto.specs.Lines.{LineForm, short_line, long_line}

@@ -13,6 +13,7 @@
 mod asked;
 mod decimal;
 mod laws;
+mod limit_laws;
 mod limits;
 mod line;
 mod lines;
@@ -24,6 +25,7 @@ mod text;
 pub use asked::{Asked, WholeLine};
 pub use decimal::number_of;
 pub use laws::{one_cutting, one_splitting};
+pub use limit_laws::limits_agree;
 pub use limits::LINE_MAX;
 pub use line::{command_of, read_line};
 pub use lines::{Fed, Lines};

@@ -2,14 +2,14 @@
 ghost use Rattle.std.specs.Prelude.{◌≡◌, ◌≢◌, Some, None, Ok, Err, IfOk, IfErr, option_map};
 ghost use Rattle.std.specs.String.{string_bytes};
 ghost use Rattle.serde_json.specs.View.{view};
-ghost use Rattle.dt_consumer.specs.Ask.{line_asks};
-ghost use Rattle.dt_consumer.specs.Refusal.{IsNoCommand};
+ghost use Rattle.dt_life.specs.Ask.{line_asks};
+ghost use Rattle.dt_life.specs.Refusal.{IsNoCommand};
 ghost use Rattle.dt_proto.specs.Line.{field_text, field_number, option_request, request_of, requested_by, requested, value_in, value_of, ask_in};
 ghost use Rattle.dt_proto.specs.Asked.{form_lent};
 
 use crate::asked::WholeLine;
 use crate::limits::LINE_MAX;
-use dt_consumer::{Command, OptionValue, Refusal};
+use dt_life::{Command, OptionValue, Refusal};
 use serde_json::Value;
 use std::alloc::{AllocError, Global};
 

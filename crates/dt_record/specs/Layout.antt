@@ -4,9 +4,9 @@ use Rattle.std.specs.List.{flat_map}
 use Rattle.std.specs.Option.{option_to_list}
 use Rattle.dt_program.specs.Clause.{ClauseForm, StatementForm}
 use Rattle.dt_program.specs.Clause as program
-use Rattle.dt_names.specs.declared.short_text.TheConstants.{PADDED_SIZE}
+use Rattle.dt_names.specs.Limits.{padded_size}
 use Rattle.dt_record.specs.Taking.{leaves_record}
-use Rattle.dt_record.specs.declared.limits.TheConstants.{EPID_SIZE}
+use Rattle.dt_record.specs.Limits.{epid_size}
 
 -- a value of a record: a number, a text, or so many frames of one of the stacks
 pub data FieldForm : Type 0 where
@@ -32,11 +32,11 @@ layout_of clause = if leaves_record clause.statements then Some (fields_of claus
 -- how many bytes a value takes
 abbrev pub field_size : FieldForm → ℕ
 field_size number = 8
-field_size text = PADDED_SIZE
+field_size text = padded_size
 field_size (stack n) = 8 * n
 field_size (ustack n) = 8 * n
 
 -- the length of the record: the EPID's four bytes and the values; 0 where there is none
 abbrev pub layout_size : Option (List FieldForm) → ℕ
 layout_size None = 0
-layout_size (Some fields) = EPID_SIZE + sum (map field_size fields)
+layout_size (Some fields) = epid_size + sum (map field_size fields)

@@ -1,4 +1,5 @@
 -- What a clause does where it is taken, and its records.
+pub mod Limits
 pub mod Taking
 pub mod Forms
 pub mod Layout

@@ -3,7 +3,7 @@ use Rattle.std.specs.Prelude.{◌≡◌, ℕ, ℤ, ◌+◌, ◌<◌, ◌^◌, Li
 use Rattle.std.specs.List.{flat_map, AllByRecursion}
 use Rattle.byteorder.specs.Endian.{big_bytes}
 use Rattle.dt_expr.specs.Operators.{wrapped}
-use Rattle.dt_names.specs.declared.short_text.TheConstants.{PADDED_SIZE}
+use Rattle.dt_names.specs.Limits.{padded_size}
 use Rattle.dt_record.specs.Layout.{FieldForm}
 use Rattle.dt_record.specs.Layout as layout
 use Rattle.dt_record.specs.Taking.{number_bytes, epid_bytes}
@@ -31,7 +31,7 @@ pub record AreFrames (n : ℕ) (list : List ℕ) : Type 0 where
 -- A value is one of its field: a signed number of 64 bits, a text with its zeros, so many frames.
 abbrev pub FitsField : FieldForm → RecordedForm → Type 0
 FitsField layout.number (number z) = wrapped z ≡ z
-FitsField layout.text (text bytes) = length bytes ≡ PADDED_SIZE
+FitsField layout.text (text bytes) = length bytes ≡ padded_size
 FitsField (layout.stack n) (frames list) = AreFrames n list
 FitsField (layout.ustack n) (frames list) = AreFrames n list
 FitsField _ _ = ⊥

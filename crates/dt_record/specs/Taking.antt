@@ -12,7 +12,7 @@ use Rattle.dt_expr.specs.declared.text.Value.{Value}
 use Rattle.dt_expr.specs.declared.text.Value.TheVariants as val
 use Rattle.dt_program.specs.Clause.{ArgForm, CallForm, ClauseForm, StatementForm}
 use Rattle.dt_program.specs.Clause as program
-use Rattle.dt_record.specs.declared.limits.TheConstants.{EPID_SIZE}
+use Rattle.dt_record.specs.Limits.{epid_size}
 
 -- a number in a record: eight bytes, two's complement, the highest first
 abbrev pub number_bytes : ℤ → List ℕ
@@ -20,7 +20,7 @@ number_bytes z = big_bytes 8 (cast_unsigned w64 z)
 
 -- an EPID in a record: four bytes, the highest first
 abbrev pub epid_bytes : ℕ → List ℕ
-epid_bytes epid = big_bytes EPID_SIZE epid
+epid_bytes epid = big_bytes epid_size epid
 
 -- the first frames of a stack in a record: eight bytes each, the highest first
 abbrev pub frames_bytes : ℕ → List ℕ → List ℕ

@@ -11,6 +11,7 @@ mod building;
 mod effects;
 mod laws;
 mod layout;
+mod limit_laws;
 mod limits;
 mod parts;
 mod recorded;
@@ -21,6 +22,7 @@ mod values;
 
 pub use laws::one_split;
 pub use layout::{Field, Layout};
+pub use limit_laws::limits_agree;
 pub use limits::{EPID_SIZE, RECORD_MAX, VALUES_MAX};
 pub use parts::Taken;
 pub use recorded::{Record, Recorded};

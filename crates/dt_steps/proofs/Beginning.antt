@@ -2,12 +2,12 @@
 use Rattle.std.proofs.Common.{◌≡◌, true, Result, Ok, Err, refl, ap}
 use Rattle.std.proofs.lemmas.Bool.{and_parts, and_from, not-true, not_from_false}
 use Rattle.dt_machine.specs.Registry.{Registry}
-use Rattle.dt_consumer.specs.Ask.{Ask, option, enable, go, stop, snap, agg, trunc, status, list, describe, close}
-use Rattle.dt_consumer.specs.Draft.{IsAcceptedGo}
-use Rattle.dt_consumer.specs.Life.{is_over, phase, is_inactive}
-use Rattle.dt_consumer.specs.declared.phase.Phase.{Phase}
-use Rattle.dt_consumer.specs.declared.phase.Phase.TheVariants.{Inactive, Active, Stopped}
-use Rattle.dt_consumer.specs.declared.refusal.Refusal.{Refusal}
+use Rattle.dt_life.specs.Ask.{Ask, option, enable, go, stop, snap, agg, trunc, status, list, describe, close}
+use Rattle.dt_life.specs.Acceptance.{IsAcceptedGo}
+use Rattle.dt_life.specs.Life.{is_over, phase, is_inactive}
+use Rattle.dt_life.specs.declared.phase.Phase.{Phase}
+use Rattle.dt_life.specs.declared.phase.Phase.TheVariants.{Inactive, Active, Stopped}
+use Rattle.dt_life.specs.declared.refusal.Refusal.{Refusal}
 use Rattle.dt_proto.specs.Line.{ask_in}
 use Rattle.dt_proto.specs.Lines.{LineForm}
 use Rattle.dt_steps.specs.World.{Session, life_in, is_go, begins}

@@ -1,6 +1,6 @@
 -- A seat after each of its calls.
 use Rattle.std.proofs.Common.{◌≡◌, ℕ, ◌+◌, true, false, List, Option, Some, None, IfSome, is_some, refl, sym, ap, ◌∙◌}
-use Rattle.std.proofs.Common.{subst, arith}
+use Rattle.std.proofs.Common.{arith}
 use Rattle.dt_machine.specs.Registry.{Registry}
 use Rattle.dt_proto.specs.Lines.{LineForm}
 use Rattle.dt_steps.specs.Stands.{IsSession, IsPresent, IsHeld, IsAsked, IsAskedOn, IsFinishing, IsFinishedOn}
@@ -70,6 +70,3 @@ module _ (registry : Registry) where
 pub some_weaker : {A : Type 0} (o : Option A) (P Q : A → Type 0) → ((a : A) → P a → Q a) → IfSome o P → IfSome o Q
 some_weaker None P Q f h = h
 some_weaker (Some a) P Q f h = f a h
-
-pub some_of : {A : Type 0} (o : Option A) (a : A) (P : A → Type 0) → o ≡ Some a → IfSome o P → P a
-some_of o a P is h = subst (λ x. IfSome x P) is h

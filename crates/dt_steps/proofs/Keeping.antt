@@ -9,17 +9,17 @@ use Rattle.dt_machine.specs.Registry.{Registry}
 use Rattle.dt_cred.specs.declared.firing.Firing.{Firing}
 use Rattle.dt_ecb.specs.Ecbs.{ecbs_of}
 use Rattle.dt_lang.specs.Reads.{program, fault, destructive}
-use Rattle.dt_consumer.specs.Aggregations.{aggregation_of}
-use Rattle.dt_consumer.specs.Ask.{Ask, option, enable, go, stop, snap, agg, trunc, status, list, describe, close}
-use Rattle.dt_consumer.specs.Draft.{after_line}
-use Rattle.dt_consumer.specs.Life.{Item, asked, fired, SetUp, with_event, is_over, set_up, phase_of, ecbs, is_active}
-use Rattle.dt_consumer.specs.Life.{is_inactive, is_stopped, is_readable, has_room, accepts, happens, end_by}
-use Rattle.dt_consumer.specs.Life.{after_item, since_then, shapes_in}
-use Rattle.dt_consumer.specs.Takings.{TracingEvent, began, seen, read, truncated, ended}
-use Rattle.dt_consumer.specs.declared.phase.End.{End}
-use Rattle.dt_consumer.specs.declared.phase.Phase.{Phase}
-use Rattle.dt_consumer.specs.declared.phase.Phase.TheVariants.{Inactive, Active, Stopped}
-use Rattle.dt_consumer.specs.declared.refusal.Refusal.{Refusal}
+use Rattle.dt_life.specs.Aggregations.{aggregation_of}
+use Rattle.dt_life.specs.Ask.{Ask, option, enable, go, stop, snap, agg, trunc, status, list, describe, close}
+use Rattle.dt_life.specs.Acceptance.{after_line}
+use Rattle.dt_life.specs.Life.{Item, asked, fired, SetUp, with_event, is_over, set_up, phase_of, ecbs, is_active}
+use Rattle.dt_life.specs.Life.{is_inactive, is_stopped, is_readable, has_room, accepts, happens, end_by, after_item}
+use Rattle.dt_life.specs.Life.{since_then, shapes_in}
+use Rattle.dt_life.specs.Takings.{TracingEvent, began, seen, read, truncated, ended}
+use Rattle.dt_life.specs.declared.phase.End.{End}
+use Rattle.dt_life.specs.declared.phase.Phase.{Phase}
+use Rattle.dt_life.specs.declared.phase.Phase.TheVariants.{Inactive, Active, Stopped}
+use Rattle.dt_life.specs.declared.refusal.Refusal.{Refusal}
 
 -- where the second traces, the first traced already, with the same clauses
 pub record Keeps (before after : SetUp) : Type 0 where

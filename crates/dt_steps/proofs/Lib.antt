@@ -1,7 +1,5 @@
 -- The lemmas of the crate, lowest first.
-pub mod Seeing
-pub mod Looking
-pub mod Lives
+
 pub mod Beginning
 pub mod Keeping
 pub mod Soundness

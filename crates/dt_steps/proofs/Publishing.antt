@@ -1,57 +1,22 @@
 -- A seat after its interest was published.
-use Rattle.std.proofs.Common.{◌≡◌, ◌≢◌, ℕ, ◌==◌, Bool, true, false, cond, not, List, [], ◌∷◌, Option, Some, None}
-use Rattle.std.proofs.Common.{IsSomeAnd, IsTrue, ◌↔◌, MatchOption, MatchBool, length, refl, sym, subst}
-use Rattle.std.specs.List.{slice_index_or}
-use Rattle.std.specs.Option.{option_map, option_map_or}
-use Rattle.dt_cred.specs.declared.account.Account.{Account}
+use Rattle.std.proofs.Common.{◌≡◌, ◌≢◌, ℕ, Bool, true, false, not, List, [], ◌∷◌, Option, Some, None, ◌↔◌, MatchOption}
+use Rattle.std.proofs.Common.{MatchBool, length, refl, sym, subst}
+use Rattle.std.specs.Option.{option_map_or}
 use Rattle.dt_machine.specs.Interest as interest
 use Rattle.dt_machine.specs.Registry.{Registry}
 use Rattle.dt_chain.specs.IsAt as chain
-use Rattle.dt_chain.specs.Kept.{is_seat_listed, slot_of}
-use Rattle.dt_chain.specs.Writes.{Write, Published, published, published_on}
+use Rattle.dt_chain.specs.Writes.{Write, published}
 use Rattle.dt_chain.specs.declared.entries.Entries.{Entries}
-use Rattle.dt_chain.specs.declared.entries.Slot.{Slot}
 use Rattle.dt_ecb.specs.Ecbs.{EcbForm, of_probe}
-use Rattle.dt_consumer.specs.Life.{ecbs}
+use Rattle.dt_life.specs.Life.{ecbs}
 use Rattle.dt_steps.specs.Stands.{IsSession, IsHeld, IsPublishedOn, is_unpublished, with_present}
-use Rattle.dt_steps.specs.Tests.{interest_of}
+use Rattle.dt_ecb.specs.Interest.{interest_of}
 use Rattle.dt_steps.specs.World.{Session, Place, Pending, life_in, waiting}
 use Rattle.dt_steps.specs.declared.held.Held.{Held}
 use Rattle.dt_steps.specs.declared.served.Served.{Served}
 use Rattle.dt_steps.proofs.Holding.{serves}
-use Rattle.dt_steps.proofs.Looking.{interest_from, interest_to}
-use Rattle.dt_steps.proofs.Seeing.{wanted_from, wanted_to}
-
--- entries see what was published by the probes that it names
-slot_at : (n : ℕ) (account : Account) (probes others : List Bool) (before : Option Published) (same : Bool)
-    (slot : Option Slot)
-    → slot ≡ option_map slot_of (cond same (Some (record { life = n; account = account; probes = probes })) before)
-    → slot ≡ option_map slot_of (cond same (Some (record { life = n; account = account; probes = others })) before)
-slot_at n account probes others before true slot h = h
-slot_at n account probes others before false slot h = h
-
-listed_at : (n : ℕ) (account : Account) (probes others : List Bool) (before : Option Published) (same : Bool)
-    (probe : ℕ)
-    (listed : Bool) → interest.Names probes probe ↔ interest.Names others probe
-    → IsTrue listed ↔ IsSomeAnd (cond same (Some (record { life = n; account = account; probes = probes })) before)
-    (λ (entry : Published). interest.Names entry.probes probe)
-    → IsTrue listed ↔ IsSomeAnd (cond same (Some (record { life = n; account = account; probes = others })) before)
-    (λ (entry : Published). interest.Names entry.probes probe)
-listed_at n account probes others before true probe listed alike h =
-    (λ e. alike.0 (h.0 e), λ names. h.1 (alike.1 names))
-listed_at n account probes others before false probe listed alike h = h
-
-entered_alike : (seat n : ℕ) (account : Account) (probes others : List Bool) (writes : List Write) (entries : Entries)
-    → ((id : ℕ) → interest.Names probes id ↔ interest.Names others id)
-    → chain.EntriesAreAt (published seat n account probes ∷ writes) entries
-    → chain.EntriesAreAt (published seat n account others ∷ writes) entries
-entered_alike seat n account probes others writes entries alike h = record {
-  kept = λ at. slot_at n account probes others (published_on writes at) (seat == at)
-      (slice_index_or entries.slots at None)
-      (h.kept at);
-  listed = λ probe at. listed_at n account probes others (published_on writes at) (seat == at) probe
-      (is_seat_listed entries.lists.items probe at) (alike probe) (h.listed probe at);
-}
+use Rattle.dt_ecb.specs.laws.Interest.{interest_from, interest_to, wanted_from, wanted_to}
+use Rattle.dt_chain.specs.laws.Publishing.{entered_alike}
 
 -- the probes that ECBs name are those of their interest
 interest_alike : (own : List EcbForm) (flags : List Bool)

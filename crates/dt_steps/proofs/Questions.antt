@@ -1,6 +1,6 @@
 -- The questions of each session are the lines of its view.
-use Rattle.std.proofs.Common.{◌≡◌, ℕ, ◌≤◌, ◌&&◌, ◌==◌, Bool, true, false, cond, List, [], ◌∷◌, ◌++◌, Option, Some}
-use Rattle.std.proofs.Common.{None, is_none, nat_lt, length, map, fold, refl, sym, ap, ◌∙◌, subst, arith}
+use Rattle.std.proofs.Common.{◌≡◌, ℕ, ◌≤◌, ◌&&◌, ◌==◌, Bool, true, false, cond, List, [], ◌∷◌, ◌++◌, Option, Some, None}
+use Rattle.std.proofs.Common.{is_none, nat_lt, length, map, fold, refl, sym, ap, ◌∙◌, subst, arith}
 use Rattle.std.proofs.lemmas.Bool.{eqb-true, eq-eqb, and_parts, and_left, cond_both}
 use Rattle.std.proofs.lemmas.List.{append-nil, map-append}
 use Rattle.std.proofs.lemmas.List.Elements.{filter-append}
@@ -10,19 +10,19 @@ use Rattle.dt_cred.specs.declared.account.Account.{Account}
 use Rattle.dt_machine.specs.Registry.{Registry}
 use Rattle.dt_cred.specs.declared.firing.Firing.{Firing}
 use Rattle.dt_chain.specs.declared.seat.TheConstants.{SEATS}
-use Rattle.dt_consumer.specs.Answer.{Answer}
-use Rattle.dt_proto.specs.Alone.{Reached, own_line, firing_made, Alone}
+use Rattle.dt_life.specs.Answer.{Answer}
+use Rattle.dt_proto.specs.Alone.{Reached, own_line, firing_made, Alone, IsText}
 use Rattle.dt_proto.specs.Lines.{LineForm}
 use Rattle.dt_proto.specs.Reply.{reply_text}
 use Rattle.dt_proto.specs.Session.{session_account}
-use Rattle.dt_steps.specs.Ran.{Told, IsText, IsReply, AreReplies, is_of, told_to, IsAnsweredAlone}
+use Rattle.dt_steps.specs.Ran.{Told, IsReply, AreReplies, is_of, told_to, IsAnsweredAlone}
 use Rattle.dt_steps.specs.Steps.{Act, opens, asks, publishes, finishes, withdraws, looks, offers, closes, after_act}
 use Rattle.dt_steps.specs.Steps.{with_session, question_of, answering, opening, asking, publishing, finishing}
 use Rattle.dt_steps.specs.Steps.{withdrawing, passed, looking, is_done, offered, offering, closing, world_after}
-use Rattle.dt_steps.specs.Tests.{mask_of}
-use Rattle.dt_steps.specs.World.{World, Session, Place, Due, Question}
-use Rattle.dt_steps.specs.World.{new_world, number_on, session_numbered, sessions_on}
-use Rattle.dt_steps.specs.World.{session_of, new_session, reached, answered, waiting, may_ask, begins, may_withdraw}
+use Rattle.dt_chain.specs.Tests.{mask_of}
+use Rattle.dt_steps.specs.World.{World, Session, Place, Due, Question, new_world, number_on, session_numbered}
+use Rattle.dt_steps.specs.World.{sessions_on, session_of, new_session, reached, answered, waiting, may_ask, begins}
+use Rattle.dt_steps.specs.World.{may_withdraw}
 use Rattle.dt_steps.proofs.Soundness.{updated, updated_others, option_case}
 
 -- the questions of a session, by its view, the oldest first

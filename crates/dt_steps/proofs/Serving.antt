@@ -7,32 +7,33 @@ use Rattle.std.specs.Option.{option_map_or}
 use Rattle.dt_cred.specs.declared.account.Account.{Account}
 use Rattle.dt_machine.specs.Registry.{Registry}
 use Rattle.dt_cred.specs.declared.firing.Firing.{Firing}
-use Rattle.dt_consumer.specs.Answer.{Answer}
-use Rattle.dt_consumer.specs.Ask as ask
-use Rattle.dt_consumer.specs.Ask.{Ask}
-use Rattle.dt_consumer.specs.Draft.{IsAcceptedGo, IsAcceptedClose, IsDraftOf, after_line, is_close}
-use Rattle.dt_consumer.specs.Life.{Item, asked, fired, is_over, is_active}
-use Rattle.dt_consumer.specs.Reply.{Replies}
-use Rattle.dt_consumer.specs.Sees.{Sees}
+use Rattle.dt_life.specs.Answer.{Answer}
+use Rattle.dt_life.specs.Ask as ask
+use Rattle.dt_life.specs.Ask.{Ask}
+use Rattle.dt_life.specs.Acceptance.{IsAcceptedGo, IsAcceptedClose, after_line, is_close}
+use Rattle.dt_consumer.specs.Draft.{IsDraftOf}
+use Rattle.dt_life.specs.Life.{Item, asked, fired, is_over, is_active}
+use Rattle.dt_life.specs.Reply.{Replies}
+use Rattle.dt_life.specs.Sees.{Sees}
 use Rattle.dt_consumer.specs.StandsFor.{StandsFor}
 use Rattle.dt_consumer.specs.declared.consumer.Consumer.{Consumer}
 use Rattle.dt_consumer.specs.declared.draft.Draft.{Draft}
-use Rattle.dt_consumer.specs.declared.phase.Phase.{Phase}
-use Rattle.dt_consumer.specs.declared.phase.Phase.TheVariants.{Inactive, Active, Stopped}
-use Rattle.dt_consumer.specs.declared.refusal.Refusal.{Refusal}
+use Rattle.dt_life.specs.declared.phase.Phase.{Phase}
+use Rattle.dt_life.specs.declared.phase.Phase.TheVariants.{Inactive, Active, Stopped}
+use Rattle.dt_life.specs.declared.refusal.Refusal.{Refusal}
 use Rattle.dt_proto.specs.Asked.{form_asked}
 use Rattle.dt_proto.specs.Line.{ask_in}
 use Rattle.dt_proto.specs.Lines.{LineForm}
 use Rattle.dt_proto.specs.Reply.{reply_text}
 use Rattle.dt_proto.specs.declared.asked.Asked.{Asked}
 use Rattle.dt_steps.specs.Stands.{IsWaiting, IsPending, IsServed, IsSession, IsAsked, IsFinishing}
-use Rattle.dt_steps.specs.Tests.{is_seen}
+use Rattle.dt_life.specs.Tests.{is_seen}
 use Rattle.dt_steps.specs.World.{Session, Pending, life_in, is_closing, is_tracing, may_ask, begins, may_withdraw}
 use Rattle.dt_steps.specs.declared.served.Served.{Served}
 use Rattle.dt_steps.specs.declared.served.Waiting.{Waiting}
 use Rattle.dt_steps.proofs.Beginning.{begins_from, begins_to}
-use Rattle.dt_steps.proofs.Lives.{reply_to}
-use Rattle.dt_steps.proofs.Seeing.{seen_to, unseen_to}
+use Rattle.dt_proto.specs.laws.Views.{reply_to}
+use Rattle.dt_life.specs.laws.Seeing.{seen_to, unseen_to}
 
 module _ (registry : Registry) (account : Account) (life : List Item) where
   -- where one has a pending `go`, so has the other

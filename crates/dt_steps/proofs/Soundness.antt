@@ -9,11 +9,11 @@ use Rattle.dt_cred.specs.declared.firing.Firing.{Firing}
 use Rattle.dt_chain.specs.Writes.{Published, published_on}
 use Rattle.dt_chain.specs.declared.seat.TheConstants.{SEATS}
 use Rattle.dt_ecb.specs.Ecbs.{EcbForm, ecbs_of}
-use Rattle.dt_consumer.specs.Ask.{Ask, go}
-use Rattle.dt_consumer.specs.Draft.{IsAcceptedGo, after_line}
-use Rattle.dt_consumer.specs.Life.{Item, asked, fired, set_up, is_over, phase, ecbs, is_active}
-use Rattle.dt_consumer.specs.declared.phase.Phase.TheVariants.{Inactive, Active}
-use Rattle.dt_consumer.specs.declared.refusal.Refusal.{Refusal}
+use Rattle.dt_life.specs.Ask.{Ask, go}
+use Rattle.dt_life.specs.Acceptance.{IsAcceptedGo, after_line}
+use Rattle.dt_life.specs.Life.{Item, asked, fired, set_up, is_over, phase, ecbs, is_active}
+use Rattle.dt_life.specs.declared.phase.Phase.TheVariants.{Inactive, Active}
+use Rattle.dt_life.specs.declared.refusal.Refusal.{Refusal}
 use Rattle.dt_proto.specs.Alone.{firing_made}
 use Rattle.dt_proto.specs.Line.{ask_in}
 use Rattle.dt_proto.specs.Lines.{LineForm}
@@ -22,12 +22,14 @@ use Rattle.dt_steps.specs.Sound.{publication_of, IsEntered, IsSoundSeat, IsSound
 use Rattle.dt_steps.specs.Steps.{Act, opens, asks, publishes, finishes, withdraws, looks, offers, closes, after_act}
 use Rattle.dt_steps.specs.Steps.{world_after, with_session, answering, opening, asking, publishing, finishing}
 use Rattle.dt_steps.specs.Steps.{withdrawing, passed, looking, is_done, offered, offering, closing}
-use Rattle.dt_steps.specs.Tests.{is_seen, interest_of, mask_of}
+use Rattle.dt_life.specs.Tests.{is_seen}
+use Rattle.dt_ecb.specs.Interest.{interest_of}
+use Rattle.dt_chain.specs.Tests.{mask_of}
 use Rattle.dt_steps.specs.World.{World, Session, Place, Pending, Due, new_world, number_on, life_in, is_tracing}
 use Rattle.dt_steps.specs.World.{new_session, reached, answered, waiting, may_ask, begins, may_withdraw}
 use Rattle.dt_steps.proofs.Beginning.{begins_from, begins_to, inactive_from}
 use Rattle.dt_steps.proofs.Keeping.{Keeps, may_begin, life-after_line, life-fired, ecbs-go}
-use Rattle.dt_steps.proofs.Seeing.{seen_from}
+use Rattle.dt_life.specs.laws.Seeing.{seen_from}
 
 -- what holds at each seat, where what is on one of them changes
 updated_at : (P : ℕ → Place → Type 0) (places : ℕ → Place) (seat other : ℕ) (place : Place) (same : Bool)

@@ -3,7 +3,7 @@ use Rattle.std.proofs.Common.{◌≡◌, ◌≢◌, ℕ, zero, suc, ◌+◌, ◌
 use Rattle.std.proofs.Common.{List, ◌∷◌, Option, Some, None, is_none, is_some, IfSome, IsTrue, ◌↔◌, nat_lt, length}
 use Rattle.std.proofs.Common.{get_or, set, MatchBool, MatchOption, ⊎_elim, refl, sym, ap, ◌∙◌, subst, arith}
 use Rattle.std.proofs.lemmas.Bool.{eqb-true, eqb-false, eq-eqb, ne_eqb, ltb-true, lt-ltb, le-ltb, and_parts, and_from}
-use Rattle.std.proofs.lemmas.Bool.{and_left, and_right, both_ways, false_from_ne_true, cases_lt, cases_eq}
+use Rattle.std.proofs.lemmas.Bool.{and_left, and_right, false_from_ne_true, cases_lt, cases_eq}
 use Rattle.std.proofs.lemmas.List.{get_or-set_same, get_or-set_other, length-set, set-get_or}
 use Rattle.std.proofs.lemmas.Option.{slice_get_read, slice_get_past, slice_get_within, slice_get-get_or}
 use Rattle.std.specs.List.{slice_get, list_all, range_with_len}
@@ -18,24 +18,27 @@ use Rattle.dt_chain.specs.Writes.{Write, Published, published, withdrawn, publis
 use Rattle.dt_chain.specs.declared.entries.Entries.{Entries}
 use Rattle.dt_chain.specs.declared.seat.TheConstants.{SEATS}
 use Rattle.dt_chain.specs.declared.seat_mask.SeatMask.{SeatMask}
-use Rattle.dt_consumer.specs.Life.{Item, phase, ecbs, is_active}
+use Rattle.dt_life.specs.Life.{ecbs}
 use Rattle.dt_proto.specs.Alone.{firing_made}
 use Rattle.dt_proto.specs.Lines.{LineForm}
 use Rattle.dt_proto.specs.Session.{session_account}
-use Rattle.dt_steps.specs.Sound.{publication_of, IsEntered, IsSoundSeat, IsSoundWorld}
+use Rattle.dt_steps.specs.Sound.{IsSoundSeat, IsSoundWorld}
 use Rattle.dt_steps.specs.Stands.{IsSession, IsPresent, IsHeld, IsAsked, IsAskedOn, IsFinishing, IsFinishedOn}
 use Rattle.dt_steps.specs.Stands.{IsPublishedOn, WorldIsKept, IsAnswered, IsLooked, with_present, opened_on, closed_on}
 use Rattle.dt_steps.specs.Stands.{due_of, due_in, sees_on, seen_in}
 use Rattle.dt_steps.specs.Steps.{with_place, with_session, question_of, answering, opening, asking, publishing}
 use Rattle.dt_steps.specs.Steps.{publishing_of, finishing, withdrawing, passed, looking, is_done, offered, offering}
 use Rattle.dt_steps.specs.Steps.{closing}
-use Rattle.dt_steps.specs.Tests.{is_seen, is_named, interest_of, mask_of}
+use Rattle.dt_life.specs.Tests.{is_seen}
+use Rattle.dt_chain.specs.Tests.{is_named, mask_of}
+use Rattle.dt_ecb.specs.Interest.{interest_of}
 use Rattle.dt_steps.specs.World.{World, Session, Pending, Place, Due, number_on, life_in, new_session, reached}
 use Rattle.dt_steps.specs.World.{answered, waiting, may_ask, begins, may_withdraw}
 use Rattle.dt_steps.specs.declared.held.Held.{Held}
 use Rattle.dt_steps.specs.declared.looked.Looked.{Looked}
 use Rattle.dt_steps.specs.declared.served.Served.{Served}
-use Rattle.dt_steps.proofs.Looking.{mask_is_look, interest_flag}
+use Rattle.dt_chain.specs.laws.Tests.{mask_is_look}
+use Rattle.dt_steps.specs.laws.Unseen.{unseen_unless_named}
 
 -- what holds of what a step leaves, where it depends on a session or on none
 option_both : {A B : Type 0} (P : B → Type 0) (f : A → B) (b : B) (o : Option A) → (o ≡ None → P b)
@@ -415,36 +418,6 @@ module _ (registry : Registry) where
               cpus = kept.cpus;
               due = kept.due;
             }
-
--- a session that a look doesn't name doesn't see the firing
-module _ (registry : Registry) (account : Account) (life : List Item) (n : ℕ) (firing : Firing) where
-  named_own : is_seen account registry life firing ≡ true
-      → is_named registry (publication_of registry account life n) firing ≡ true
-  unfolding is_seen is_named
-  named_own h =
-      let a = and_parts _ _ h in
-      let b = and_parts _ _ a.1 in
-      let c = and_parts _ _ b.1 in
-      and_from _ _ b.0 (and_from _ _ (interest_flag (ecbs account registry life) firing.probe ∙ c.0) c.1)
-
-  seen_active : is_seen account registry life firing ≡ true → is_active (phase account registry life) ≡ true
-  unfolding is_seen
-  seen_active h = (and_parts _ _ h).0
-
-  abbrev pub named_by : Option Published → Option ℕ
-  named_by entry = option_and_then (λ one. cond (is_named registry one firing) (Some one.life) None) entry
-
-  pub unseen_unless_named : (go : Option Pending) (entry : Option Published)
-      → IsEntered registry account life go n entry
-      → option_map_or (λ own. own == n) (named_by entry) false ≡ false → is_seen account registry life firing ≡ false
-  unseen_unless_named go entry entered unnamed =
-      false_from_ne_true (is_seen account registry life firing) (λ seen.
-      let own : entry ≡ Some (publication_of registry account life n) = entered.traces (seen_active seen) in
-      let named : named_by entry ≡ Some n =
-      ap named_by own ∙ ap (λ b. cond b (Some n) None) (named_own seen) in
-      let yes : option_map_or (λ m. m == n) (named_by entry) false ≡ true =
-      ap (λ o. option_map_or (λ m. m == n) o false) named ∙ eq-eqb n n refl in
-      both_ways (option_map_or (λ m. m == n) (named_by entry) false) unnamed yes)
 
 -- what is named is one
 same_life : (some other : Option ℕ) → ((life : ℕ) → (some ≡ Some life) ↔ (other ≡ Some life)) → some ≡ other

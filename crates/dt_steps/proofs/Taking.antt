@@ -17,7 +17,7 @@ use Rattle.dt_steps.specs.Steps.{world_after, with_session, answering, opening, 
 use Rattle.dt_steps.specs.Steps.{finishing, withdrawing, passed, looking_at, looking, is_done, offered, offering}
 use Rattle.dt_steps.specs.Steps.{closing}
 use Rattle.dt_steps.specs.Telling.{IsTelling}
-use Rattle.dt_steps.specs.Tests.{mask_of}
+use Rattle.dt_chain.specs.Tests.{mask_of}
 use Rattle.dt_steps.specs.World.{World, Place, Due, Question, new_world, number_on, new_session, answered, waiting}
 use Rattle.dt_steps.specs.World.{may_ask, begins, may_withdraw}
 use Rattle.dt_steps.specs.declared.outcome.Outcome.TheVariants.{Quiet, Replied, Looked}

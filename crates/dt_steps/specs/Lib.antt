@@ -1,9 +1,9 @@
 -- The world of many consumers: what its steps do, and what a run of them answers.
-pub mod Tests
-pub mod Views
+
 pub mod World
 pub mod Steps
 pub mod Sound
 pub mod Ran
 pub mod Stands
 pub mod Telling
+pub mod laws

@@ -1,23 +1,16 @@
 -- What a run answers.
 use Rattle.std.specs.Prelude.{◌≡◌, ℕ, ◌==◌, ◌&&◌, Bool, List, [], ◌∷◌, Option, map, MatchOption, if◌then◌else◌}
-use Rattle.dt_cred.specs.declared.account.Account.{Account}
 use Rattle.dt_machine.specs.Registry.{Registry}
 use Rattle.dt_chain.specs.Seats.{life_at}
 use Rattle.dt_chain.specs.declared.seat_mask.SeatMask.{SeatMask}
-use Rattle.dt_consumer.specs.Answer.{Answer}
-use Rattle.dt_proto.specs.Alone.{Reached, IsReplyTo, Alone}
-use Rattle.dt_proto.specs.Lines.{LineForm}
+use Rattle.dt_life.specs.Answer.{Answer}
+use Rattle.dt_proto.specs.Alone.{Alone, IsText}
 use Rattle.dt_proto.specs.Reply.{reply_text}
 use Rattle.dt_steps.specs.World.{World, Session, Question}
 
 -- a reply as the number of its seat and its bytes
 abbrev pub Told : Type 0
 Told = ℕ × List ℕ
-
--- The text is that of the reply to a line, after what reached a session before.
-abbrev pub IsText : Account → Registry → List Reached → LineForm → List ℕ → Type 0
-IsText account registry view line text =
-    (answer : Answer) × IsReplyTo account registry view line answer × (text ≡ reply_text answer)
 
 -- The reply to a question, at its seat.
 abbrev pub IsReply : Registry → Question → Told → Type 0

@@ -4,12 +4,12 @@ use Rattle.std.specs.Prelude.{◌≡◌, ℕ, ◌<◌, ◌≤◌, true, List, Op
 use Rattle.dt_cred.specs.declared.account.Account.{Account}
 use Rattle.dt_machine.specs.Registry.{Registry}
 use Rattle.dt_chain.specs.Writes.{Published, published_on}
-use Rattle.dt_chain.specs.declared.seat.TheConstants.{SEATS}
-use Rattle.dt_consumer.specs.Draft.{IsAcceptedGo}
-use Rattle.dt_consumer.specs.Life.{Item, phase, ecbs, is_active}
+use Rattle.dt_chain.specs.Limits.{seat_count}
+use Rattle.dt_life.specs.Acceptance.{IsAcceptedGo}
+use Rattle.dt_life.specs.Life.{Item, phase, ecbs, is_active}
 use Rattle.dt_proto.specs.Line.{ask_in}
 use Rattle.dt_proto.specs.Lines.{LineForm}
-use Rattle.dt_steps.specs.Tests.{interest_of}
+use Rattle.dt_ecb.specs.Interest.{interest_of}
 use Rattle.dt_steps.specs.World.{World, Place, Pending, life_in}
 
 module _ (registry : Registry) where
@@ -28,10 +28,10 @@ module _ (registry : Registry) where
 
   -- A seat is sound: its session is soundly entered. What is no seat has neither a session nor an entry.
   abbrev pub IsSoundSeat : (seat : ℕ) → Option Published → Place → Type 0
-  IsSoundSeat seat entry place = MatchOption place.present (SEATS ≤ seat → entry ≡ None)
-      (λ session. (seat < SEATS)
+  IsSoundSeat seat entry place = MatchOption place.present (seat_count ≤ seat → entry ≡ None)
+      (λ session. (seat < seat_count)
       × IsEntered session.account (life_in registry session) session.go (length place.earlier) entry)
 
   pub record IsSoundWorld (world : World) : Type 0 where
     pub seats : (seat : ℕ) → IsSoundSeat seat (published_on world.writes seat) (world.places seat)
-    pub due : (cpu seat : ℕ) → SEATS ≤ seat → world.due cpu seat ≡ None
+    pub due : (cpu seat : ℕ) → seat_count ≤ seat → world.due cpu seat ≡ None

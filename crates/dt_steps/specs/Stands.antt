@@ -1,5 +1,6 @@
 -- When the seats with their consumers stand for a world.
-use Rattle.std.specs.Prelude.{◌≡◌, ◌==◌, ◌&&◌, ℕ, Bool, true, false, not, List, [], ◌∷◌, ◌++◌, Option, Some, None, IfSome, MatchOption, MatchBool, is_some, length, slice_get, if◌then◌else◌}
+use Rattle.std.specs.Prelude.{◌≡◌, ◌==◌, ◌&&◌, ℕ, Bool, true, false, not, List, [], ◌∷◌, ◌++◌, Option, Some, None}
+use Rattle.std.specs.Prelude.{IfSome, MatchOption, MatchBool, is_some, length, slice_get, if◌then◌else◌}
 use Rattle.std.specs.List.{list_any}
 use Rattle.std.specs.Option.{option_map, option_map_or, option_and_then}
 use Rattle.dt_cred.specs.declared.account.Account.{Account}
@@ -9,19 +10,23 @@ use Rattle.dt_chain.specs.IsAt as chain
 use Rattle.dt_chain.specs.Seats.{life_at}
 use Rattle.dt_chain.specs.Writes.{Write, published}
 use Rattle.dt_chain.specs.declared.entries.Entries.{Entries}
-use Rattle.dt_chain.specs.declared.seat.TheConstants.{SEATS}
+use Rattle.dt_chain.specs.Limits.{seat_count}
 use Rattle.dt_chain.specs.declared.seat_mask.SeatMask.{SeatMask}
-use Rattle.dt_consumer.specs.Draft.{IsAcceptedGo, IsDraftOf}
-use Rattle.dt_consumer.specs.Life.{Item, ecbs}
+use Rattle.dt_life.specs.Acceptance.{IsAcceptedGo}
+use Rattle.dt_consumer.specs.Draft.{IsDraftOf}
+use Rattle.dt_life.specs.Life.{Item, ecbs}
 use Rattle.dt_consumer.specs.StandsFor.{StandsFor}
 use Rattle.dt_proto.specs.Asked.{form_asked}
 use Rattle.dt_proto.specs.Line.{ask_in}
 use Rattle.dt_proto.specs.Lines.{LineForm}
 use Rattle.dt_proto.specs.Session.{session_account}
-use Rattle.dt_steps.specs.Ran.{IsText, IsReply}
+use Rattle.dt_proto.specs.Alone.{IsText}
+use Rattle.dt_steps.specs.Ran.{IsReply}
 use Rattle.dt_steps.specs.Sound.{IsSoundWorld}
-use Rattle.dt_steps.specs.Tests.{is_seen, interest_of}
-use Rattle.dt_steps.specs.World.{World, Session, Place, Pending, Due, Question, life_in, is_closing, new_session, answered, waiting, may_ask, begins}
+use Rattle.dt_life.specs.Tests.{is_seen}
+use Rattle.dt_ecb.specs.Interest.{interest_of}
+use Rattle.dt_steps.specs.World.{World, Session, Place, Pending, Due, Question, life_in, is_closing, new_session}
+use Rattle.dt_steps.specs.World.{answered, waiting, may_ask, begins}
 use Rattle.dt_steps.specs.declared.engine.Engine.{Engine}
 use Rattle.dt_steps.specs.declared.held.Held.{Held}
 use Rattle.dt_steps.specs.declared.looked.Looked.{Looked}
@@ -156,7 +161,7 @@ module _ (registry : Registry) where
   -- What is kept is that of a world: of each seat, of each processor, and the entries.
   pub record WorldIsKept (world : World) (seats : List Held) (entries : Entries) (processors : List (Option Looked))
       : Type 0 where
-    pub all : length seats ≡ SEATS
+    pub all : length seats ≡ seat_count
     pub held : (seat : ℕ) → IfSome (slice_get seats seat) (IsHeld (world.places seat))
     pub entered : chain.EntriesAreAt world.writes entries
     pub cpus : length processors ≡ registry.cpus

@@ -1,18 +1,21 @@
 -- The steps of the world, and what each does. A step that isn't enabled does nothing.
-use Rattle.std.specs.Prelude.{ℕ, ◌==◌, ◌&&◌, Bool, true, false, List, [], ◌∷◌, ◌++◌, Option, Some, None, is_none, length, fold, nat_lt, if◌then◌else◌}
+use Rattle.std.specs.Prelude.{ℕ, ◌==◌, ◌&&◌, Bool, true, false, List, [], ◌∷◌, ◌++◌, Option, Some, None, is_none}
+use Rattle.std.specs.Prelude.{length, fold, nat_lt, if◌then◌else◌}
 use Rattle.std.specs.List.{list_all, range_with_len}
 use Rattle.std.specs.Option.{option_map, option_map_or}
 use Rattle.dt_machine.specs.Registry.{Registry}
 use Rattle.dt_cred.specs.declared.firing.Firing.{Firing}
 use Rattle.dt_chain.specs.Writes.{published, withdrawn}
-use Rattle.dt_chain.specs.declared.seat.TheConstants.{SEATS}
-use Rattle.dt_consumer.specs.Life.{ecbs}
+use Rattle.dt_chain.specs.Limits.{seat_count}
+use Rattle.dt_life.specs.Life.{ecbs}
 use Rattle.dt_proto.specs.Alone.{firing_made}
 use Rattle.dt_proto.specs.Asked.{form_asked}
 use Rattle.dt_proto.specs.Lines.{LineForm}
 use Rattle.dt_proto.specs.Session.{session_account}
-use Rattle.dt_steps.specs.Tests.{interest_of, mask_of}
-use Rattle.dt_steps.specs.World.{World, Session, Place, Pending, Due, Question, new_world, number_on, life_in, new_session, reached, answered, waiting, may_ask, begins, may_withdraw}
+use Rattle.dt_ecb.specs.Interest.{interest_of}
+use Rattle.dt_chain.specs.Tests.{mask_of}
+use Rattle.dt_steps.specs.World.{World, Session, Place, Pending, Due, Question, new_world, number_on, life_in}
+use Rattle.dt_steps.specs.World.{new_session, reached, answered, waiting, may_ask, begins, may_withdraw}
 use Rattle.dt_steps.specs.declared.step.Step.{Step}
 use Rattle.dt_steps.specs.declared.step.Step.TheVariants.{Open, Ask, Publish, Finish, Withdraw, Look, Offer, Close}
 
@@ -65,7 +68,7 @@ answering world seat session line = record (with_session world seat (answered se
 -- Open, on a free seat: an account of the machine with a dtrace privilege begins a session.
 unfoldable pub opening : Registry → World → (seat : ℕ) → (name : List ℕ) → World
 opening registry world seat name =
-    if nat_lt seat SEATS && is_none (world.places seat).present then
+    if nat_lt seat seat_count && is_none (world.places seat).present then
     option_map_or (λ account. with_session world seat (new_session account)) (session_account registry name) world
     else world
 
@@ -109,7 +112,7 @@ withdrawing registry world seat =
 
 -- no offer is left
 unfoldable pub is_done : (ℕ → Option Due) → Bool
-is_done due = list_all (λ seat. is_none (due seat)) (range_with_len 0 SEATS)
+is_done due = list_all (λ seat. is_none (due seat)) (range_with_len 0 seat_count)
 
 -- what is on a seat after a look named this life of it, or none: the firing reaches a session that isn't named
 abbrev pub passed : Firing → (named : Option ℕ) → Place → Place

@@ -1,19 +1,20 @@
 -- The world: what is on each seat, what is published, and which offers are left. No consumer is in it.
-use Rattle.std.specs.Prelude.{ℕ, ◌==◌, ◌&&◌, Bool, true, false, not, List, [], ◌∷◌, Option, Some, None, is_none, is_some, length, if◌then◌else◌, Result, Ok}
+use Rattle.std.specs.Prelude.{ℕ, ◌==◌, ◌&&◌, Bool, true, false, not, List, [], ◌∷◌, Option, Some, None, is_none}
+use Rattle.std.specs.Prelude.{is_some, length, if◌then◌else◌, Result, Ok}
 use Rattle.std.specs.List.{list_any}
 use Rattle.std.specs.Option.{option_map_or}
 use Rattle.dt_cred.specs.declared.account.Account.{Account}
 use Rattle.dt_machine.specs.Registry.{Registry}
 use Rattle.dt_cred.specs.declared.firing.Firing.{Firing}
 use Rattle.dt_chain.specs.Writes.{Write}
-use Rattle.dt_consumer.specs.Ask.{Ask, go}
-use Rattle.dt_consumer.specs.Draft.{is_close}
-use Rattle.dt_consumer.specs.Life.{Item, asked, fired, is_over, set_up, phase, has_room, is_active, is_inactive}
-use Rattle.dt_consumer.specs.declared.refusal.Refusal.{Refusal}
+use Rattle.dt_life.specs.Ask.{Ask, go}
+use Rattle.dt_life.specs.Acceptance.{is_close}
+use Rattle.dt_life.specs.Life.{Item, asked, fired, is_over, set_up, phase, has_room, is_active, is_inactive}
+use Rattle.dt_life.specs.declared.refusal.Refusal.{Refusal}
 use Rattle.dt_proto.specs.Alone.{Reached, own_line}
 use Rattle.dt_proto.specs.Line.{ask_in}
 use Rattle.dt_proto.specs.Lines.{LineForm}
-use Rattle.dt_steps.specs.Views.{life_of}
+use Rattle.dt_proto.specs.Views.{life_of}
 
 -- a `go` that was accepted and has not taken effect yet: its line, and whether the interest was published
 pub record Pending : Type 0 where

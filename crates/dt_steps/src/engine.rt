@@ -25,7 +25,7 @@ pub struct Engine {
 impl Engine {
     ghost use Rattle.std.specs.Prelude.{ℕ, ◌+◌, ◌<◌, ◌^◌, ◌&&◌, Some, IsTrue, IfOk, IfSome, OnOk, is_some, option_map, nat_lt};
     ghost use Rattle.dt_machine.specs.Registry.{Registry};
-    ghost use Rattle.dt_consumer.specs.Life.{is_over};
+    ghost use Rattle.dt_life.specs.Life.{is_over};
     ghost use Rattle.dt_proto.specs.Asked.{form_lent, form_asked};
     ghost use Rattle.dt_steps.specs.Stands.{EngineIsAt, IsAnswered, IsLooked, first_account, place_of, seen_in};
     ghost use Rattle.dt_steps.specs.Steps as steps;

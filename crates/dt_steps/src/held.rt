@@ -24,7 +24,7 @@ impl Held {
     ghost use Rattle.std.specs.Option.{option_map_or};
     ghost use Rattle.dt_chain.specs.IsAt.{EntriesAreAt};
     ghost use Rattle.dt_chain.specs.Writes.{Write};
-    ghost use Rattle.dt_consumer.specs.Life.{is_over};
+    ghost use Rattle.dt_life.specs.Life.{is_over};
     ghost use Rattle.dt_proto.specs.Asked.{form_lent, form_asked};
     ghost use Rattle.dt_steps.specs.Stands.{IsAskedOn, IsFinishedOn, IsPublishedOn, opened_on, closed_on, first_account, sees_on};
     ghost use Rattle.dt_steps.specs.Steps as steps;

@@ -7,21 +7,23 @@ ghost use Rattle.dt_cred.specs.declared.firing.Firing.{Firing};
 ghost use Rattle.dt_chain.specs.Look.{IsLook};
 ghost use Rattle.dt_chain.specs.Writes.{Write};
 ghost use Rattle.dt_ecb.specs.Ecbs.{EcbForm, of_probe};
-ghost use Rattle.dt_consumer.specs.Answer.{Answer};
-ghost use Rattle.dt_consumer.specs.Draft.{IsAcceptedGo};
-ghost use Rattle.dt_consumer.specs.Life.{Item};
-ghost use Rattle.dt_consumer.specs.Sees.{Sees};
+ghost use Rattle.dt_life.specs.Answer.{Answer};
+ghost use Rattle.dt_life.specs.Acceptance.{IsAcceptedGo};
+ghost use Rattle.dt_life.specs.Life.{Item};
+ghost use Rattle.dt_life.specs.Sees.{Sees};
 ghost use Rattle.dt_proto.specs.Alone.{Reached, IsLifeOf, Alone};
 ghost use Rattle.dt_proto.specs.Line.{ask_in};
 ghost use Rattle.dt_proto.specs.Lines.{LineForm};
 ghost use Rattle.dt_steps.specs.Ran.{Told, AreReplies, told_to, IsAnsweredAlone};
 ghost use Rattle.dt_steps.specs.Sound.{IsSoundWorld};
 ghost use Rattle.dt_steps.specs.Steps.{Act, world_after};
-ghost use Rattle.dt_steps.specs.Tests.{is_seen, interest_of, mask_of};
-ghost use Rattle.dt_steps.specs.Views.{life_of, seen_view};
+ghost use Rattle.dt_life.specs.Tests.{is_seen};
+ghost use Rattle.dt_ecb.specs.Interest.{interest_of};
+ghost use Rattle.dt_chain.specs.Tests.{mask_of};
+ghost use Rattle.dt_proto.specs.Views.{life_of, seen_view};
 ghost use Rattle.dt_steps.specs.World.{Session, session_of, life_in, begins};
 
-use dt_consumer::one_reply;
+use dt_life::one_reply;
 
 /// Law: two sessions on behalf of equal accounts, of two worlds on equal registries, whose seen views are equal, are
 /// answered alike, whatever else happened in the two worlds: on other seats, with other numbers, other scripts and

@@ -1,9 +1,10 @@
 //! A session that goes on, with its consumer.
 ghost use Rattle.std.specs.Prelude.{◌≡◌, ◌↔◌, IsTrue};
-ghost use Rattle.dt_consumer.specs.Answer.{answer_of, refused};
+ghost use Rattle.dt_life.specs.Answer.{answer_of, refused};
 
-use dt_consumer::{Consumer, Draft, Phase, Refusal, Reply};
+use dt_consumer::{Consumer, Draft};
 use dt_cred::Account;
+use dt_life::{Phase, Refusal, Reply};
 use dt_machine::{Firing, Machine};
 use dt_proto::{Asked, WholeLine, read_line, reply_bytes};
 use std::alloc::{AllocError, Global};
@@ -48,10 +49,10 @@ impl Served {
     ghost use Rattle.std.specs.Prelude.{◌≡◌, List, [], ◌∷◌, Option, Some, None, true, IfOk, IfSome, option_map, if◌then◌else◌};
     ghost use Rattle.dt_cred.specs.declared.account.Account.{Account};
     ghost use Rattle.dt_machine.specs.Registry.{Registry};
-    ghost use Rattle.dt_consumer.specs.Life.{Item, fired, is_over};
+    ghost use Rattle.dt_life.specs.Life.{Item, fired, is_over};
     ghost use Rattle.dt_proto.specs.Asked.{form_lent, form_asked};
     ghost use Rattle.dt_steps.specs.Stands.{IsServed, IsSession, IsAsked, IsFinishing, is_unpublished};
-    ghost use Rattle.dt_steps.specs.Tests.{is_seen};
+    ghost use Rattle.dt_life.specs.Tests.{is_seen};
     ghost use Rattle.dt_steps.specs.World as world;
     ghost use Rattle.dt_steps.specs.World.{Session, Pending};
 

@@ -1,7 +1,8 @@
 //! Consumers: what each line is answered, and which firings are seen.
 use dt_aggfn::{AggFn, Answer};
 use dt_aggstore::{KeyPart, Row};
-use dt_consumer::{Command, Consumer, Draft, OptionValue, Refusal, Reply};
+use dt_consumer::{Consumer, Draft};
+use dt_life::{Command, OptionValue, Refusal, Reply};
 use dt_machine::{Interest, Machine, PROBE_ID_MAX};
 use std::alloc::Global;
 use std::test::Fail;

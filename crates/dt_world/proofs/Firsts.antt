@@ -7,19 +7,19 @@ use Rattle.dt_cred.specs.declared.account.Account.{Account}
 use Rattle.dt_machine.specs.Registry.{Registry}
 use Rattle.dt_cred.specs.declared.firing.Firing.{Firing}
 use Rattle.dt_chain.specs.Writes.{Published}
-use Rattle.dt_consumer.specs.Life.{is_over}
-use Rattle.dt_proto.specs.Alone.{Reached, firing_made}
+use Rattle.dt_life.specs.Life.{is_over}
+use Rattle.dt_proto.specs.Alone.{Reached, firing_made, IsText}
 use Rattle.dt_proto.specs.Lines.{LineForm}
 use Rattle.dt_proto.specs.Trail.{fired_at, entry_text}
-use Rattle.dt_steps.specs.Ran.{IsText}
 use Rattle.dt_world.specs.Replay.{IsTrailText}
 use Rattle.dt_steps.specs.Sound.{IsSoundSeat}
 use Rattle.dt_steps.specs.Stands.{first_account, sees_on}
 use Rattle.dt_steps.specs.Steps.{passed, offered}
-use Rattle.dt_steps.specs.Tests.{is_seen, is_named}
+use Rattle.dt_life.specs.Tests.{is_seen}
+use Rattle.dt_chain.specs.Tests.{is_named}
 use Rattle.dt_world.specs.Told.{answer_told}
 use Rattle.dt_steps.specs.World.{Session, Place, Due, life_in, session_numbered, sessions_on, reached, answered}
-use Rattle.dt_steps.proofs.Standing.{unseen_unless_named}
+use Rattle.dt_steps.specs.laws.Unseen.{unseen_unless_named}
 use Rattle.dt_world.proofs.Telling.{trail-answered, trail-seen, trail-unseen}
 
 -- the first session on a seat

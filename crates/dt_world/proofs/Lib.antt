@@ -1,4 +1,5 @@
 -- The lemmas of the crate, lowest first.
+
 pub mod Cuts
 pub mod Decimals
 pub mod Behind

@@ -3,8 +3,8 @@ use Rattle.std.proofs.Common.{◌≡◌, ℕ, ◌+◌, List, [], ◌∷◌, ◌+
 use Rattle.std.proofs.lemmas.List.{append-nil, length-append}
 use Rattle.dt_proto.specs.Lines.{all_but_last, parts_of}
 use Rattle.dt_proto.specs.Splits.{HasNoNewline, IsCut}
-use Rattle.dt_proto.proofs.Parts.{some_part, all_but_last-cons}
-use Rattle.dt_proto.proofs.Splitting.{parts-none, parts-line}
+use Rattle.dt_proto.specs.laws.Parts.{some_part, all_but_last-cons}
+use Rattle.dt_proto.specs.laws.Splitting.{parts-none, parts-line}
 use Rattle.dt_world.specs.Input.{input_lines}
 
 pub lines_of-cut : (text line rest : List ℕ) → IsCut text line rest → input_lines text ≡ line ∷ input_lines rest

@@ -17,7 +17,7 @@ use Rattle.dt_world.specs.Replay.{Replayed, after_step_line, next_of}
 use Rattle.dt_steps.specs.Stands.{IsLooked}
 use Rattle.dt_world.specs.StepLine.{look_line}
 use Rattle.dt_steps.specs.Steps.{looking, looking_at, is_done}
-use Rattle.dt_steps.specs.Tests.{mask_of}
+use Rattle.dt_chain.specs.Tests.{mask_of}
 use Rattle.dt_steps.specs.World.{World}
 
 module _ (registry : Registry) (world : World) (cpu : ℕ) (firing : Firing) where

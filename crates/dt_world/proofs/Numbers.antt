@@ -16,9 +16,9 @@ use Rattle.dt_steps.specs.Steps.{Act, opens, asks, publishes, finishes, withdraw
 use Rattle.dt_steps.specs.Steps.{with_place, with_session, answering, opening, asking, publishing, publishing_of}
 use Rattle.dt_steps.specs.Steps.{finishing, withdrawing, passed, looking_at, looking, is_done, offered, offering_of}
 use Rattle.dt_steps.specs.Steps.{offering, closing}
-use Rattle.dt_steps.specs.Tests.{mask_of}
-use Rattle.dt_steps.specs.World.{World, Session, Place, Due, number_on, new_session, answered, waiting, may_ask}
-use Rattle.dt_steps.specs.World.{begins, may_withdraw, waits, has_closed}
+use Rattle.dt_chain.specs.Tests.{mask_of}
+use Rattle.dt_steps.specs.World.{World, Session, Place, Due, number_on, new_session, answered, waiting, may_ask, begins}
+use Rattle.dt_steps.specs.World.{may_withdraw, waits, has_closed}
 
 -- what a step adds to the number of closed sessions, at most
 abbrev adds : Act → ℕ

@@ -7,19 +7,19 @@ use Rattle.std.proofs.lemmas.List.Sums.{fold-append}
 use Rattle.dt_cred.specs.declared.account.Account.{Account}
 use Rattle.dt_machine.specs.Registry.{Registry, Contents}
 use Rattle.dt_cred.specs.declared.firing.Firing.{Firing}
-use Rattle.dt_consumer.specs.Answer.{Answer}
-use Rattle.dt_consumer.specs.Ask.{Ask}
-use Rattle.dt_consumer.specs.Draft.{after_line}
-use Rattle.dt_consumer.specs.Life.{Item, is_over}
-use Rattle.dt_consumer.specs.Reply.{Replies}
-use Rattle.dt_consumer.specs.declared.refusal.Refusal.{Refusal}
+use Rattle.dt_life.specs.Answer.{Answer}
+use Rattle.dt_life.specs.Ask.{Ask}
+use Rattle.dt_life.specs.Acceptance.{after_line}
+use Rattle.dt_life.specs.Life.{Item, is_over}
+use Rattle.dt_life.specs.Reply.{Replies}
+use Rattle.dt_life.specs.declared.refusal.Refusal.{Refusal}
 use Rattle.dt_proto.specs.Alone.{Reached, own_line, firing_made, IsAfterFiring, IsLifeOf, IsReplyTo}
 use Rattle.dt_proto.specs.Line.{ask_in}
 use Rattle.dt_proto.specs.Lines.{LineForm, short_line, long_line}
 use Rattle.dt_proto.specs.Reply.{reply_text}
 use Rattle.dt_proto.specs.Splits.{with_newline}
-use Rattle.dt_proto.specs.Trail.{TrailEntry, line_asked, long_asked, IsEntryOf}
-use Rattle.dt_proto.specs.Trail.{IsLineTold, IsToldFiring, IsTrailOf, trail_text}
+use Rattle.dt_proto.specs.Trail.{TrailEntry, line_asked, long_asked, IsEntryOf, IsLineTold, IsToldFiring, IsTrailOf}
+use Rattle.dt_proto.specs.Trail.{trail_text}
 use Rattle.dt_steps.specs.Ran.{Told, IsReply, AreReplies}
 use Rattle.dt_world.specs.Replay as replay
 use Rattle.dt_world.specs.Replay.{Replayed, IsReplay, IsTrailReplay, IsTrailText, replayed, acts_of, acts_from}

@@ -12,7 +12,8 @@ use Rattle.dt_world.specs.Replay.{Replayed, after_step_line}
 use Rattle.dt_world.specs.StepLine.{call_line}
 use Rattle.dt_steps.specs.Steps.{with_place, with_session, asking, finishing, opening, publishing, publishing_of}
 use Rattle.dt_steps.specs.Steps.{withdrawing, offering, offering_of, closing}
-use Rattle.dt_steps.specs.World.{World, Session, Place, session_of, new_session, waiting, may_withdraw, waits, has_closed}
+use Rattle.dt_steps.specs.World.{World, Session, Place, session_of, new_session, waiting, may_withdraw, waits}
+use Rattle.dt_steps.specs.World.{has_closed}
 use Rattle.dt_world.proofs.Firsts.{first_on, seen_as, first-same}
 
 pub either : {A B : Type 0} (P : B → Type 0) (f : A → B) (b : B) (o : Option A) → P b → ((a : A) → P (f a))

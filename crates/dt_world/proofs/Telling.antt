@@ -8,23 +8,22 @@ use Rattle.std.specs.List.{flat_map}
 use Rattle.dt_cred.specs.declared.account.Account.{Account}
 use Rattle.dt_machine.specs.Registry.{Registry}
 use Rattle.dt_cred.specs.declared.firing.Firing.{Firing}
-use Rattle.dt_consumer.specs.Answer.{Answer}
-use Rattle.dt_consumer.specs.Life.{is_over}
-use Rattle.dt_consumer.specs.Reply.{Replies}
-use Rattle.dt_proto.specs.Alone.{Reached, own_line, firing_made}
+use Rattle.dt_life.specs.Answer.{Answer}
+use Rattle.dt_life.specs.Life.{is_over}
+use Rattle.dt_life.specs.Reply.{Replies}
+use Rattle.dt_proto.specs.Alone.{Reached, own_line, firing_made, IsText}
 use Rattle.dt_proto.specs.Line.{ask_in}
 use Rattle.dt_proto.specs.Lines.{LineForm, short_line, long_line}
 use Rattle.dt_proto.specs.Reply.{reply_text}
 use Rattle.dt_proto.specs.Splits.{with_newline}
 use Rattle.dt_proto.specs.Trail.{TrailEntry, line_asked, long_asked, fired_at, entry_text, IsEntryOf, IsTrailOf}
 use Rattle.dt_proto.specs.Trail.{IsLineTold as IsTrailOfLine, trail_text}
-use Rattle.dt_proto.proofs.Entries.{reply_line_of}
-use Rattle.dt_steps.specs.Ran.{IsText}
+use Rattle.dt_proto.specs.laws.Entries.{reply_line_of}
 use Rattle.dt_world.specs.Told.{line_told, answer_told}
-use Rattle.dt_steps.specs.Tests.{is_seen}
-use Rattle.dt_steps.specs.Views.{life_of}
-use Rattle.dt_steps.proofs.Lives.{is_life, reply_from}
-use Rattle.dt_steps.proofs.Seeing.{seen_from, seen_to}
+use Rattle.dt_life.specs.Tests.{is_seen}
+use Rattle.dt_proto.specs.Views.{life_of}
+use Rattle.dt_proto.specs.laws.Views.{is_life, reply_from}
+use Rattle.dt_life.specs.laws.Seeing.{seen_from, seen_to}
 
 -- The text is the trail of this view.
 abbrev pub IsTrail : Account → Registry → List Reached → List ℕ → Type 0

@@ -10,18 +10,18 @@ use Rattle.dt_machine.specs.Registry.{Registry}
 use Rattle.dt_cred.specs.declared.firing.Firing.{Firing}
 use Rattle.dt_chain.specs.Writes.{published_on}
 use Rattle.dt_chain.specs.declared.seat.TheConstants.{SEATS}
-use Rattle.dt_consumer.specs.Life.{is_over}
+use Rattle.dt_life.specs.Life.{is_over}
 use Rattle.dt_proto.specs.Lines.{LineForm}
 use Rattle.dt_proto.specs.Session.{session_account}
 use Rattle.dt_proto.specs.Splits.{with_newline}
 use Rattle.dt_proto.specs.Trail.{fired_at, entry_text}
-use Rattle.dt_steps.specs.Ran.{IsText}
+use Rattle.dt_proto.specs.Alone.{IsText}
 use Rattle.dt_world.specs.Replay.{IsTrailText, told_line}
 use Rattle.dt_steps.specs.Stands.{IsAnswered, first_account, place_of, sees_on, seen_in}
 use Rattle.dt_steps.specs.Steps.{with_session, question_of, answering, opening, asking, finishing, offered, offering}
 use Rattle.dt_steps.specs.Steps.{offering_of, looking, looking_at, is_done}
 use Rattle.dt_steps.specs.Sound.{IsSoundWorld}
-use Rattle.dt_steps.specs.Tests.{mask_of}
+use Rattle.dt_chain.specs.Tests.{mask_of}
 use Rattle.dt_world.specs.Told.{IsTold, IsToldText, opening_text, reply_told, answer_told, firing_told}
 use Rattle.dt_steps.specs.World.{World, Session, Pending, Place, Due, Question, life_in, session_of, new_session}
 use Rattle.dt_steps.specs.World.{answered, waiting, may_ask, begins, session_numbered}

@@ -1,9 +1,11 @@
 -- Which step lines an input is, or at which line it is refused.
-use Rattle.std.specs.Prelude.{◌≡◌, ℕ, ◌-◌, ◌<◌, ◌≤◌, Bool, true, false, List, [], ◌∷◌, length, take, map, filter, IsSome}
+use Rattle.std.specs.Prelude.{◌≡◌, ℕ, ◌-◌, ◌<◌, ◌≤◌, Bool, true, false, List, [], ◌∷◌, length, take, map, filter}
+use Rattle.std.specs.Prelude.{IsSome}
 use Rattle.std.specs.List.{AllByRecursion}
 use Rattle.dt_machine.specs.Registry.{Registry, account_of}
 use Rattle.dt_proto.specs.Lines.{all_but_last, parts_of}
-use Rattle.dt_world.specs.StepLine.{StepLineForm, open_line, look_line, offer_line, fire_line, step_line_text, IsWritableStep}
+use Rattle.dt_world.specs.StepLine.{StepLineForm, open_line, look_line, offer_line, fire_line, step_line_text}
+use Rattle.dt_world.specs.StepLine.{IsWritableStep}
 
 -- what stands before each newline; what stands after the last one is no line
 abbrev pub input_lines : List ℕ → List (List ℕ)

@@ -4,7 +4,7 @@ use Rattle.dt_chain.specs.Seats.{life_at}
 use Rattle.dt_chain.specs.declared.seat_mask.SeatMask.{SeatMask}
 use Rattle.dt_machine.specs.Registry.{Contents}
 use Rattle.dt_cred.specs.declared.firing.Firing.{Firing}
-use Rattle.dt_machine.specs.declared.limits.TheConstants.{CPUS_MAX}
+use Rattle.dt_machine.specs.Limits.{cpus_max}
 use Rattle.dt_world.specs.Input.{AreStepLines}
 use Rattle.dt_world.specs.Replay.{Replayed, replayed, next_of}
 use Rattle.dt_steps.specs.Stands.{EngineIsAt}
@@ -19,7 +19,7 @@ use Rattle.dt_world.specs.declared.output.Wanted.{Wanted}
 -- were taken, and what is to be written, as it is wanted.
 pub record IsAfter (wanted : Wanted) (contents : Contents) (now : Replayed) (progress : Progress) : Type 0 where
   pub at : EngineIsAt contents.registry now.world progress.engine
-  pub taken : (cpu : ℕ) → cpu < CPUS_MAX → slice_index progress.taken cpu ≡ now.taken cpu
+  pub taken : (cpu : ℕ) → cpu < cpus_max → slice_index progress.taken cpu ≡ now.taken cpu
   pub same : progress.output.wanted ≡ wanted
   pub told : IsTold wanted contents.registry now.world progress.output.text.items
 

@@ -1,16 +1,19 @@
 -- What a replay does, line by line, and what it writes.
-use Rattle.std.specs.Prelude.{◌≡◌, ℕ, ◌+◌, ◌==◌, ◌&&◌, Bool, false, List, [], ◌∷◌, ◌++◌, codes, decimal, Option, None, is_some, MatchOption, filter, fold, map, if◌then◌else◌}
+use Rattle.std.specs.Prelude.{◌≡◌, ℕ, ◌+◌, ◌==◌, ◌&&◌, Bool, false, List, [], ◌∷◌, ◌++◌, codes, decimal, Option, None}
+use Rattle.std.specs.Prelude.{is_some, MatchOption, filter, fold, map, if◌then◌else◌}
 use Rattle.std.specs.List.{flat_map, range_with_len}
 use Rattle.std.specs.Option.{option_map_or}
-use Rattle.dt_chain.specs.declared.seat.TheConstants.{SEATS}
+use Rattle.dt_chain.specs.Limits.{seat_count}
 use Rattle.dt_machine.specs.Registry.{Registry, Contents, firing_at}
 use Rattle.dt_cred.specs.declared.firing.Firing.{Firing}
 use Rattle.dt_proto.specs.Lines.{line_form}
 use Rattle.dt_proto.specs.Trail.{TrailEntry, IsTrailOf, trail_text}
 use Rattle.dt_world.specs.Input.{AreStepLines, input_lines}
 use Rattle.dt_steps.specs.Ran.{Told, AreReplies}
-use Rattle.dt_world.specs.StepLine.{StepLineForm, open_line, close_line, withdraw_line, ask_line, publish_line, finish_line, look_line, offer_line, call_line, fire_line}
-use Rattle.dt_steps.specs.Steps.{Act, opens, asks, publishes, finishes, withdraws, looks, offers, closes, after_act, asking, looking, is_done}
+use Rattle.dt_world.specs.StepLine.{StepLineForm, open_line, close_line, withdraw_line, ask_line, publish_line}
+use Rattle.dt_world.specs.StepLine.{finish_line, look_line, offer_line, call_line, fire_line}
+use Rattle.dt_steps.specs.Steps.{Act, opens, asks, publishes, finishes, withdraws, looks, offers, closes, after_act}
+use Rattle.dt_steps.specs.Steps.{asking, looking, is_done}
 use Rattle.dt_steps.specs.World.{World, Session, new_world, session_of, waits, has_closed}
 
 -- Where a replay stands: the world, and how many firings of each processor's script were taken.
@@ -23,7 +26,7 @@ beginning = record { world = new_world; taken = λ cpu. 0 }
 
 -- the seats to which a processor owes an offer, by rising seat
 unfoldable pub seats_due : World → (cpu : ℕ) → List ℕ
-seats_due world cpu = filter (λ seat. is_some (world.due cpu seat)) (range_with_len 0 SEATS)
+seats_due world cpu = filter (λ seat. is_some (world.due cpu seat)) (range_with_len 0 seat_count)
 
 -- what a `call` does after its ask: a pending `go` is published and finished; an accepted `close` ends the session
 abbrev pub after_ask : Registry → World → (seat : ℕ) → List Act

@@ -1,8 +1,9 @@
 -- How the steps of a replay are written.
 use Rattle.std.specs.Prelude.{◌≡◌, ℕ, ◌^◌, ◌<◌, List, ◌++◌, codes, decimal}
-use Rattle.dt_chain.specs.declared.seat.TheConstants.{SEATS}
+use Rattle.dt_chain.specs.Limits.{seat_count}
 use Rattle.dt_world.specs.declared.step_line.StepLine.{StepLine}
-use Rattle.dt_world.specs.declared.step_line.StepLine.TheVariants.{Open, Close, Withdraw, Ask, Publish, Finish, Look, Offer, Call, Fire}
+use Rattle.dt_world.specs.declared.step_line.StepLine.TheVariants.{Open, Close, Withdraw, Ask, Publish, Finish, Look}
+use Rattle.dt_world.specs.declared.step_line.StepLine.TheVariants.{Offer, Call, Fire}
 
 -- a step line without where it lies in memory
 pub data StepLineForm : Type 0 where
@@ -45,15 +46,15 @@ step_line_text (fire_line cpu) = codes "fire " ++ decimal cpu
 
 -- a seat is one that there is, a processor has a number of 32 bits
 abbrev pub IsWritableStep : StepLineForm → Type 0
-IsWritableStep (open_line seat account) = seat < SEATS
-IsWritableStep (close_line seat) = seat < SEATS
-IsWritableStep (withdraw_line seat) = seat < SEATS
-IsWritableStep (ask_line seat line) = seat < SEATS
-IsWritableStep (publish_line seat) = seat < SEATS
-IsWritableStep (finish_line seat) = seat < SEATS
+IsWritableStep (open_line seat account) = seat < seat_count
+IsWritableStep (close_line seat) = seat < seat_count
+IsWritableStep (withdraw_line seat) = seat < seat_count
+IsWritableStep (ask_line seat line) = seat < seat_count
+IsWritableStep (publish_line seat) = seat < seat_count
+IsWritableStep (finish_line seat) = seat < seat_count
 IsWritableStep (look_line cpu) = cpu < 2 ^ 32
-IsWritableStep (offer_line cpu seat) = (cpu < 2 ^ 32) × (seat < SEATS)
-IsWritableStep (call_line seat line) = seat < SEATS
+IsWritableStep (offer_line cpu seat) = (cpu < 2 ^ 32) × (seat < seat_count)
+IsWritableStep (call_line seat line) = seat < seat_count
 IsWritableStep (fire_line cpu) = cpu < 2 ^ 32
 
 -- The text is the line of this step.

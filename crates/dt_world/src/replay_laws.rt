@@ -5,7 +5,7 @@ ghost use Rattle.dt_world.specs.Replay.{IsReplay, IsTrailReplay, replayed, acts_
 ghost use Rattle.dt_world.specs.StepLine.{StepLineForm};
 ghost use Rattle.dt_steps.specs.Steps.{world_after};
 
-use dt_consumer::one_reply;
+use dt_life::one_reply;
 
 /// Law: the world of a replay is the one after all steps of its lines. So what is proved of every list of steps holds of
 /// every replay.

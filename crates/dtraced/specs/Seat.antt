@@ -1,8 +1,8 @@
 -- How a seat is written.
 use Rattle.std.specs.Prelude.{◌≡◌, ℕ, ◌<◌, List, decimal}
-use Rattle.dt_chain.specs.declared.seat.TheConstants.{SEATS}
+use Rattle.dt_chain.specs.Limits.{seat_count}
 
--- The text is the seat's number: decimal, without a sign or a leading zero, below SEATS.
+-- The text is the seat's number: decimal, without a sign or a leading zero, below seat_count.
 pub record SpellsSeat (text : List ℕ) (number : ℕ) : Type 0 where
-  pub within : number < SEATS
+  pub within : number < seat_count
   pub spelled : text ≡ decimal number

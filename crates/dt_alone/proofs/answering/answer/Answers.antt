@@ -1,10 +1,10 @@
 -- The bytes are those of the runner's reply.
 use Rattle.std.proofs.Common.{◌≡◌, Result, Ok, Err, IfOk, subst}
-use Rattle.dt_consumer.specs.Answer.{answer_of}
-use Rattle.dt_consumer.specs.Ask.{Ask}
-use Rattle.dt_consumer.specs.Draft.{after_line}
-use Rattle.dt_consumer.specs.Reply.{Replies}
-use Rattle.dt_consumer.specs.declared.refusal.Refusal.{Refusal}
+use Rattle.dt_life.specs.Answer.{answer_of}
+use Rattle.dt_life.specs.Ask.{Ask}
+use Rattle.dt_life.specs.Acceptance.{after_line}
+use Rattle.dt_life.specs.Reply.{Replies}
+use Rattle.dt_life.specs.declared.refusal.Refusal.{Refusal}
 use Rattle.dt_proto.specs.Reply.{reply_text}
 use Rattle.dt_alone.specs.Runs.{Runs}
 use Rattle.dt_alone.proofs.answering.answer.Goals as goal

@@ -1,7 +1,7 @@
 -- What holds at each turn of a loop of `judge`.
 use Rattle.std.proofs.Common.{take, reverse}
 use Rattle.dt_alone.specs.Judging.{HasJudged}
-use Rattle.dt_alone.specs.Legal.{Agrees}
+use Rattle.dt_proto.specs.Legal.{Agrees}
 use Rattle.dt_alone.specs.Lent.{entries_of}
 use Rattle.dt_alone.proofs.checking.judge.Given as goal
 

@@ -1,7 +1,7 @@
 -- What holds at each turn of a loop of `alone`.
 use Rattle.std.proofs.Common.{◌≡◌, List, take, map}
-use Rattle.dt_consumer.specs.Answer.{Answer}
-use Rattle.dt_consumer.specs.Life.{Item}
+use Rattle.dt_life.specs.Answer.{Answer}
+use Rattle.dt_life.specs.Life.{Item}
 use Rattle.dt_proto.specs.Alone.{IsLifeOf, Alone}
 use Rattle.dt_proto.specs.Reply.{reply_text}
 use Rattle.dt_alone.specs.Items.{view_of}

@@ -7,7 +7,7 @@ use Rattle.std.proofs.lemmas.List.{append-nil}
 use Rattle.dt_alone.specs.Happened.{all_to}
 use Rattle.dt_buffer.specs.Ending.{fitting}
 use Rattle.dt_buffer.specs.History.{attempts}
-use Rattle.dt_buffer.proofs.Keeping.{concat-push}
+use Rattle.dt_buffer.specs.laws.Choices.{concat-push}
 use Rattle.dt_alone.proofs.Showing.{all_more, fitting_more, no_attempts}
 use Rattle.dt_alone.proofs.shown.fitting_bytes.Goals as goal
 use Rattle.dt_alone.proofs.shown.fitting_bytes.Goals.{in-Put+then-bytes-size+in_ok-extend_from_slice}

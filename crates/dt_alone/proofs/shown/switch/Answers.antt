@@ -4,7 +4,7 @@ use Rattle.std.specs.Global.{Vec}
 use Rattle.std.proofs.lemmas.List.{append-nil, length-append}
 use Rattle.dt_alone.specs.Happened.{all_to}
 use Rattle.dt_buffer.specs.History.{since_swap}
-use Rattle.dt_buffer.proofs.Histories.{since-put, since-swap}
+use Rattle.dt_buffer.specs.laws.Histories.{since-put, since-swap}
 use Rattle.dt_alone.proofs.Showing.{all_more, same_switch, switch_dropped, switch_kept, switch_nothing}
 use Rattle.dt_alone.proofs.shown.switch.Goals as goal
 use Rattle.dt_alone.proofs.shown.switch.Goals.{in-Put+then-more-size+in_ok-extend_from_slice-in-Put}

@@ -5,8 +5,8 @@ use Rattle.std.proofs.lemmas.List.Elements.{All-push}
 use Rattle.dt_aggstore.specs.History.{new_past}
 use Rattle.dt_aggstore.specs.IsAt.{IsAt}
 use Rattle.dt_aggstore.specs.declared.store.AggStore.{AggStore}
-use Rattle.dt_consumer.specs.Counts.{GivenAtMost}
-use Rattle.dt_consumer.proofs.Lists.{pushed}
+use Rattle.dt_life.specs.Uses.{GivenAtMost}
+use Rattle.dt_life.specs.laws.Lists.{pushed}
 use Rattle.dt_alone.proofs.stores.empty_stores.Goals as goal
 
 pub loop-cpu-preserved : goal.loop-cpu-preserved

@@ -7,10 +7,9 @@ use Rattle.std.proofs.lemmas.Grind.{flat_map-append}
 use Rattle.dt_aggstore.specs.History.{Past}
 use Rattle.dt_program.specs.declared.clause.TheConstants.{STATEMENTS_MAX}
 use Rattle.dt_alone.specs.Happened.{given_to, gives_to}
-use Rattle.dt_consumer.specs.Counts.{GivenAtMost}
-use Rattle.dt_consumer.specs.Uses.{AreGiven, given_then}
-use Rattle.dt_consumer.proofs.Giving.{same_at}
-use Rattle.dt_consumer.proofs.Taken.{if_some_map}
+use Rattle.dt_life.specs.Uses.{GivenAtMost, AreGiven, given_then}
+use Rattle.dt_life.specs.laws.Giving.{same_at}
+use Rattle.dt_life.specs.laws.Options.{if_some_map}
 use Rattle.dt_alone.proofs.stores.stores_on.Goals as goal
 
 pub loop-one-preserved : goal.loop-one-preserved

@@ -3,8 +3,7 @@ use Rattle.std.proofs.Common.{◌≡◌, ◌*◌, length, take}
 use Rattle.std.specs.List.{All}
 use Rattle.dt_program.specs.declared.clause.TheConstants.{STATEMENTS_MAX}
 use Rattle.dt_alone.specs.Happened.{given_to}
-use Rattle.dt_consumer.specs.Counts.{GivenAtMost}
-use Rattle.dt_consumer.specs.Uses.{AreGiven}
+use Rattle.dt_life.specs.Uses.{GivenAtMost, AreGiven}
 use Rattle.dt_alone.proofs.stores.stores_on.Given as goal
 
 abbrev pub invariant-loop-one : goal.invariant-loop-one

@@ -3,8 +3,8 @@ use Rattle.std.proofs.Common.{◌∙◌, ℕ, sym, ap, List, ◌++◌, ◌∷◌
 use Rattle.std.proofs.lemmas.Result.{err_from_is_err_and}
 use Rattle.dt_glob.specs.Place.{step_of}
 use Rattle.dt_glob.specs.Sign.{AreSigns, text_of_signs}
-use Rattle.dt_glob.proofs.SignLemmas.{AreSigns-append}
-use Rattle.dt_glob.proofs.PlaceLemmas.{stepped, Leads, FaultOf-empty, text_of_signs-more}
+use Rattle.dt_glob.specs.laws.Signs.{AreSigns-append}
+use Rattle.dt_glob.specs.laws.Places.{stepped, Leads, FaultOf-empty, text_of_signs-more}
 use Rattle.dt_glob.proofs.pattern.check.Goals as goal
 
 pub loop-sign-preserved : goal.loop-sign-preserved

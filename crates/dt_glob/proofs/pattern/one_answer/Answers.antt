@@ -1,6 +1,6 @@
 -- What the proof of `one_answer` is told at its goals.
-use Rattle.dt_glob.proofs.ReadingLemmas.{reading_of-spelled, reading_of-fault}
-use Rattle.dt_glob.proofs.PlaceLemmas.{answer}
+use Rattle.dt_glob.specs.laws.Readings.{reading_of-spelled, reading_of-fault}
+use Rattle.dt_glob.specs.laws.Places.{answer}
 use Rattle.dt_glob.proofs.pattern.one_answer.Goals as goal
 
 pub returns-clause-some : goal.returns-clause-some

@@ -1,9 +1,9 @@
 -- What is to be shown of `number`.
+use mir.Val.{to_z, of_z}
 use Rattle.std.proofs.Common.{ap, refl, ◌∙◌, ℤ, w64}
 use Rattle.dt_lang.specs.declared.token.Token.TheVariants as token
 use Rattle.dt_lang.proofs.Digits.{representative}
 use Rattle.dt_lang.proofs.piece.number.Goals as goal
-use mir.Val.{to_z, of_z}
 
 pub returns-in-Some : goal.returns-in-Some
 returns-in-Some c =

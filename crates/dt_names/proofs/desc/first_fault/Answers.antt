@@ -1,6 +1,6 @@
 -- What the proof of `first_fault` is told at its goals.
 use Rattle.std.proofs.Common.{arith}
-use Rattle.dt_names.proofs.Clean.{scanned_colon, scanned_byte, few_fields, clean_fields}
+use Rattle.dt_names.specs.laws.Clean.{scanned_colon, scanned_byte, few_fields, clean_fields}
 use Rattle.dt_names.proofs.desc.first_fault.Goals as goal
 use Rattle.dt_names.proofs.desc.first_fault.Goals.{then-byte-eq58+else-colons}
 use Rattle.dt_names.proofs.desc.first_fault.Goals.{else-byte-eq58+else-not-is_name_byte+else-field_len-eq-FIELD_MAX}

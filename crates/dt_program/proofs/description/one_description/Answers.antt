@@ -1,5 +1,5 @@
 -- What is to be shown of `one_description`.
-use Rattle.dt_program.proofs.Descriptions.{same_reading_of_description}
+use Rattle.dt_program.specs.laws.Descriptions.{same_reading_of_description}
 use Rattle.dt_program.proofs.description.one_description.Goals as goal
 
 pub returns : goal.returns

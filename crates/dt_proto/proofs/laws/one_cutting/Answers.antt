@@ -1,5 +1,5 @@
 -- The lines and the rest of two pieces.
-use Rattle.dt_proto.proofs.Parts.{lines-append, rest-append}
+use Rattle.dt_proto.specs.laws.Parts.{lines-append, rest-append}
 use Rattle.dt_proto.proofs.laws.one_cutting.Goals as goal
 
 pub returns-clause-lines : goal.returns-clause-lines

@@ -1,5 +1,5 @@
 -- An input is its lines and a rest, in one way.
-use Rattle.dt_proto.proofs.Splitting.{splits, one_way}
+use Rattle.dt_proto.specs.laws.Splitting.{splits, one_way}
 use Rattle.dt_proto.proofs.laws.one_splitting.Goals as goal
 
 pub returns-clause-some : goal.returns-clause-some

@@ -1,7 +1,7 @@
 -- What is to be shown of `reply_bytes`.
 use Rattle.std.proofs.Common.{◌≡◌, ◌∷◌, ◌++◌, [], ap, ◌∙◌, rules}
 use Rattle.serde_json.specs.Written.{has_float, compact_text}
-use Rattle.dt_consumer.specs.Answer.{answer_of}
+use Rattle.dt_life.specs.Answer.{answer_of}
 use Rattle.dt_proto.proofs.Floats.{no_float}
 use Rattle.dt_proto.proofs.reply.reply_bytes.Goals as goal
 

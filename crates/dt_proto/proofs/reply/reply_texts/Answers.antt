@@ -8,8 +8,8 @@ use Rattle.dt_lang.specs.declared.fault.Why.TheVariants.{Syntax, Probe, Action, 
 use Rattle.dt_lang.specs.declared.word.Destructive.{Destructive}
 use Rattle.dt_lang.specs.declared.word.Destructive.TheVariants.{Stop, Raise, Copyout, Copyoutstr, System, Breakpoint}
 use Rattle.dt_lang.specs.declared.word.Destructive.TheVariants.{Panic, Chill}
-use Rattle.dt_consumer.specs.Answer.{refused}
-use Rattle.dt_consumer.specs.declared.refusal.Refusal.TheVariants as Refusal
+use Rattle.dt_life.specs.Answer.{refused}
+use Rattle.dt_life.specs.declared.refusal.Refusal.TheVariants as Refusal
 use Rattle.dt_proto.specs.Reply.{reply_text}
 use Rattle.serde_json.proofs.OnLiterals.{serde_json_on_literals}
 use Rattle.dt_proto.proofs.ListedTexts.{text-listed}

@@ -1,8 +1,8 @@
 -- Equal seen views are answered alike.
 use Rattle.std.proofs.Common.{◌≡◌, subst, sym, ap, ◌∙◌}
 use Rattle.dt_proto.specs.Alone.{Alone}
-use Rattle.dt_steps.specs.Views.{seen_view}
-use Rattle.dt_steps.proofs.Lives.{alike}
+use Rattle.dt_proto.specs.Views.{seen_view}
+use Rattle.dt_proto.specs.laws.Views.{alike}
 use Rattle.dt_steps.proofs.laws.agree_alike.Goals as goal
 
 pub returns : goal.returns

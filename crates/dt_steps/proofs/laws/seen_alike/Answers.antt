@@ -1,5 +1,5 @@
 -- The seen view has the life of the view.
-use Rattle.dt_steps.proofs.Lives.{life-seen_view, alone_seen, alone_of_seen}
+use Rattle.dt_proto.specs.laws.Views.{life-seen_view, alone_seen, alone_of_seen}
 use Rattle.dt_steps.proofs.laws.seen_alike.Goals as goal
 
 pub returns : goal.returns

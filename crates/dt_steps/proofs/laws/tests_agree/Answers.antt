@@ -2,9 +2,10 @@
 use Rattle.std.proofs.Common.{subst, sym}
 use Rattle.dt_proto.specs.Alone.{IsLifeOf}
 use Rattle.dt_steps.proofs.Beginning.{begins_from, begins_to}
-use Rattle.dt_steps.proofs.Lives.{is_life, one_life}
-use Rattle.dt_steps.proofs.Looking.{mask_is_look, interest_from, interest_to}
-use Rattle.dt_steps.proofs.Seeing.{seen_from, seen_to, wanted_from, wanted_to}
+use Rattle.dt_proto.specs.laws.Views.{is_life, one_life}
+use Rattle.dt_chain.specs.laws.Tests.{mask_is_look}
+use Rattle.dt_ecb.specs.laws.Interest.{interest_from, interest_to, wanted_from, wanted_to}
+use Rattle.dt_life.specs.laws.Seeing.{seen_from, seen_to}
 use Rattle.dt_steps.proofs.laws.tests_agree.Goals as goal
 
 pub returns : goal.returns

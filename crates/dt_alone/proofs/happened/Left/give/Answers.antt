@@ -4,8 +4,8 @@ use Rattle.std.proofs.lemmas.Int.{ints}
 use Rattle.std.proofs.lemmas.List.{map-append, take_more}
 use Rattle.dt_aggstore.specs.History.{given}
 use Rattle.dt_alone.specs.Happened.{given_as}
-use Rattle.dt_consumer.specs.Uses.{given_then}
-use Rattle.dt_consumer.proofs.Giving.{given_both, same_at}
+use Rattle.dt_life.specs.Uses.{given_then}
+use Rattle.dt_life.specs.laws.Giving.{given_both, same_at}
 use Rattle.dt_alone.proofs.happened.Left.give.Goals as goal
 
 pub loop-one-preserved : goal.loop-one-preserved

@@ -3,7 +3,7 @@ use Rattle.std.proofs.Common.{◌≤◌, ◌+◌, map, take}
 use Rattle.dt_aggstore.specs.History.{Past}
 use Rattle.dt_aggstore.specs.IsAt.{IsAt, added_of}
 use Rattle.dt_alone.specs.Happened.{given_as}
-use Rattle.dt_consumer.specs.Uses.{given_then}
+use Rattle.dt_life.specs.Uses.{given_then}
 use Rattle.dt_alone.proofs.happened.Left.give.Given as goal
 
 abbrev pub invariant-loop-one : goal.invariant-loop-one

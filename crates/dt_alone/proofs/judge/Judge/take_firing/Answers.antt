@@ -2,8 +2,8 @@
 use Rattle.std.proofs.Common.{◌≡◌, Some, sym, ◌∙◌, subst, arith, rules}
 use Rattle.std.proofs.lemmas.Bool.{true≢false}
 use Rattle.dt_cred.specs.declared.firing.Firing.{Firing}
-use Rattle.dt_consumer.specs.Sees.{Sees}
-use Rattle.dt_alone.specs.Legal.{life_of_trail}
+use Rattle.dt_life.specs.Sees.{Sees}
+use Rattle.dt_proto.specs.Legal.{life_of_trail}
 use Rattle.dt_alone.proofs.Judging.{inside, least_more}
 use Rattle.dt_alone.proofs.judge.Judge.take_firing.Goals as goal
 

@@ -3,7 +3,7 @@ use Rattle.std.proofs.Common.{refl, sym, subst, ◌∙◌}
 use Rattle.std.proofs.lemmas.Bool.{true≢false}
 use Rattle.dt_proto.specs.Splits.{with_newline}
 use Rattle.dt_alone.specs.Compared.{IsCompared}
-use Rattle.dt_alone.specs.Legal.{life_of_trail}
+use Rattle.dt_proto.specs.Legal.{life_of_trail}
 use Rattle.dt_alone.proofs.Judging.{long_ruled}
 use Rattle.dt_alone.proofs.judge.Judge.take_long.Goals as goal
 

@@ -8,15 +8,15 @@ use Rattle.std.proofs.lemmas.List.{take_all}
 use Rattle.dt_ecb.specs.Forms.{shapes_of}
 use Rattle.dt_ecb.specs.declared.parts.Ecb.{Ecb}
 use Rattle.dt_lang.specs.Program.{form_of_clause}
-use Rattle.dt_alone.specs.Forms.{form_of_own_moment}
+use Rattle.dt_life.specs.Forms.{form_of_moment}
 use Rattle.dt_alone.specs.Happened.{Adds}
 use Rattle.dt_alone.specs.declared.happened.Happened.{Happened}
 use Rattle.dt_alone.proofs.Bringing.{adds_both}
 use Rattle.dt_alone.proofs.Firing.{exit_all, exited, exited_here, exited_other, exited_past, none_is, some_exit}
 use Rattle.dt_alone.proofs.Firing.{some_is, taken, taken_here, taken_other, taken_past}
-use Rattle.dt_consumer.proofs.Takings.{there_at}
-use Rattle.dt_consumer.specs.Keeps.{taking_by}
-use Rattle.dt_consumer.specs.Takings.{exit_of, first_exit}
+use Rattle.dt_life.specs.laws.Takings.{there_at}
+use Rattle.dt_life.specs.Following.{taking_by}
+use Rattle.dt_life.specs.Takings.{exit_of, first_exit}
 use Rattle.dt_alone.proofs.programs.Programs.take.Goals as goal
 use Rattle.dt_alone.proofs.programs.Programs.take.Goals.{then-ecb-moment+then-is_none+in_ok-status+then-in_end}
 use Rattle.dt_alone.proofs.programs.Programs.take.Goals.{then-ecb-moment+then-is_none+in_ok-status+else-in_end}
@@ -26,7 +26,7 @@ use Rattle.dt_alone.proofs.programs.Programs.take.Goals.{else-ecb-moment-via-els
 
 pub loop-ecb-preserved : goal.loop-ecb-preserved
 loop-ecb-preserved c =
-    let m = form_of_own_moment c.args.moment.now in
+    let m = form_of_moment c.args.moment.now in
     let cs = map form_of_clause c.args.self.now.clauses.items in
     let shapes = shapes_of c.args.self.now.shapes in
     let all = c.deref-ecb-items.result.now in
@@ -119,7 +119,7 @@ loop-ecb-preserved c =
 
 pub returns-clause-taken : goal.returns-clause-taken
 returns-clause-taken c = λ placed.
-    let m = form_of_own_moment c.args.moment.now in
+    let m = form_of_moment c.args.moment.now in
     let cs = map form_of_clause c.args.self.now.clauses.items in
     let all : take c.loop-ecb.ecb-index c.deref-ecb-items.result.now ≡ c.args.self.now.ecbs.items =
     take_all c.loop-ecb.ecb-index c.deref-ecb-items.result.now (omega (arith, c.loop-ecb-test.false))
@@ -130,7 +130,7 @@ returns-clause-taken c = λ placed.
 
 pub returns-clause-exit : goal.returns-clause-exit
 returns-clause-exit c = λ placed ordinary.
-    let m = form_of_own_moment c.args.moment.now in
+    let m = form_of_moment c.args.moment.now in
     let cs = map form_of_clause c.args.self.now.clauses.items in
     let all : take c.loop-ecb.ecb-index c.deref-ecb-items.result.now ≡ c.args.self.now.ecbs.items =
     take_all c.loop-ecb.ecb-index c.deref-ecb-items.result.now (omega (arith, c.loop-ecb-test.false))

@@ -3,7 +3,7 @@ use Rattle.std.proofs.Common.{◌≡◌, ◌≤◌, ◌<◌, ◌+◌, length, ma
 use Rattle.std.specs.List.{All}
 use Rattle.dt_ecb.specs.Forms.{shapes_of}
 use Rattle.dt_lang.specs.Program.{form_of_clause}
-use Rattle.dt_alone.specs.Forms.{form_of_own_moment}
+use Rattle.dt_life.specs.Forms.{form_of_moment}
 use Rattle.dt_alone.specs.Happened.{Adds}
 use Rattle.dt_alone.proofs.Firing.{exited, taken}
 use Rattle.dt_alone.proofs.programs.Programs.take.Given as goal
@@ -11,11 +11,11 @@ use Rattle.dt_alone.proofs.programs.Programs.take.Given as goal
 abbrev pub invariant-loop-ecb : goal.invariant-loop-ecb
 invariant-loop-ecb l = record {
   adds : All (λ ecb. ecb.clause < length l.self.clauses.items) l.self.ecbs.items
-      → Adds (shapes_of l.self.shapes) (form_of_own_moment l.moment).firing.cpu
-      (taken l.in_end (form_of_own_moment l.moment) (map form_of_clause l.self.clauses.items)
+      → Adds (shapes_of l.self.shapes) (form_of_moment l.moment).firing.cpu
+      (taken l.in_end (form_of_moment l.moment) (map form_of_clause l.self.clauses.items)
       (take l.ecb-index l.ecb-items)) l.fn.happened.items l.happened.items;
   exit : All (λ ecb. ecb.clause < length l.self.clauses.items) l.self.ecbs.items
-      → l.exit ≡ exited l.in_end (form_of_own_moment l.moment) (map form_of_clause l.self.clauses.items)
+      → l.exit ≡ exited l.in_end (form_of_moment l.moment) (map form_of_clause l.self.clauses.items)
       (take l.ecb-index l.ecb-items);
   few : length l.happened.items ≤ length l.fn.happened.items + l.ecb-index;
 }

@@ -6,17 +6,17 @@ use Rattle.dt_expr.specs.Scene.{SceneForm}
 use Rattle.dt_lang.specs.Program.{form_of_clause}
 use Rattle.dt_record.specs.Forms.{form_of_taken}
 use Rattle.dt_record.specs.Taking.{taking}
-use Rattle.dt_alone.specs.Forms.{form_of_own_moment}
+use Rattle.dt_life.specs.Forms.{form_of_moment}
 use Rattle.dt_alone.specs.Happened.{Adds}
 use Rattle.dt_alone.proofs.Bringing.{adds_left}
 use Rattle.dt_alone.proofs.Leaving.{came_is, left_given}
-use Rattle.dt_consumer.specs.Keeps.{taking_by}
-use Rattle.dt_consumer.specs.Takings.{scene_at}
+use Rattle.dt_life.specs.Following.{taking_by}
+use Rattle.dt_life.specs.Takings.{scene_at}
 use Rattle.dt_alone.proofs.programs.Programs.take_one.Goals as goal
 
 pub returns-in_ok-push-in-Ok-Some-clause-taken : goal.returns-in_ok-push-in-Ok-Some-clause-taken
 returns-in_ok-push-in-Ok-Some-clause-taken c = λ inside.
-    let m = form_of_own_moment c.args.moment.now in
+    let m = form_of_moment c.args.moment.now in
     let shapes = shapes_of c.args.self.now.shapes in
     let clauses = c.args.self.now.clauses.items in
     let clause = c.in-Some.clause.now in

@@ -3,9 +3,9 @@ use Rattle.std.proofs.Common.{ℕ, ◌∙◌, sym, subst}
 use Rattle.dt_aggstore.specs.History.{Past}
 use Rattle.dt_aggstore.specs.IsAt.{IsAt}
 use Rattle.dt_alone.specs.Happened.{given_to}
-use Rattle.dt_consumer.specs.Uses.{AreGiven}
-use Rattle.dt_consumer.proofs.Lists.{found_at}
-use Rattle.dt_consumer.proofs.Stores.{dropped_more}
+use Rattle.dt_life.specs.Uses.{AreGiven}
+use Rattle.dt_life.specs.laws.Lists.{found_at}
+use Rattle.dt_life.specs.laws.Stores.{dropped_more}
 use Rattle.dt_alone.proofs.runner.Runner.aggdrops.Goals as goal
 
 pub loop-store-preserved : goal.loop-store-preserved

@@ -2,14 +2,14 @@
 use Rattle.std.proofs.Common.{Ok, refl, sym, ap, ◌∙◌, subst, arith}
 use Rattle.dt_alone.specs.Runs.{Runs}
 use Rattle.dt_alone.proofs.Replying.{has_alike}
-use Rattle.dt_consumer.specs.Answer.{answer_of}
-use Rattle.dt_consumer.specs.Ask.{ask_of, line_asks}
-use Rattle.dt_consumer.specs.Draft.{after_line}
-use Rattle.dt_consumer.specs.Reply.{Replies}
-use Rattle.dt_consumer.specs.Life.{phase_of, set_up}
-use Rattle.dt_consumer.proofs.DraftLemmas.{in_quota}
-use Rattle.dt_consumer.proofs.Stands.{after_counted}
-use Rattle.dt_consumer.proofs.Telling.{if_ok_map}
+use Rattle.dt_life.specs.Answer.{answer_of}
+use Rattle.dt_life.specs.Ask.{ask_of, line_asks}
+use Rattle.dt_life.specs.Acceptance.{after_line}
+use Rattle.dt_life.specs.Reply.{Replies}
+use Rattle.dt_life.specs.Life.{phase_of, set_up}
+use Rattle.dt_life.specs.laws.Verdicts.{in_quota}
+use Rattle.dt_life.specs.laws.Lines.{after_counted}
+use Rattle.dt_life.specs.laws.Options.{if_ok_map}
 use Rattle.dt_alone.proofs.runner.Runner.ask.Goals as goal
 
 pub returns-in-Ok : goal.returns-in-Ok

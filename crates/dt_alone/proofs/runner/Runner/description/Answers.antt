@@ -5,10 +5,11 @@ use Rattle.dt_record.specs.Layout.{layout_of}
 use Rattle.dt_record.specs.Fields.{form_of_layout}
 use Rattle.dt_ecb.specs.Forms.{no_clause}
 use Rattle.dt_alone.proofs.Replying.{clause_known, ecb_none, ecb_some, probe_none}
-use Rattle.dt_consumer.specs.Answer.{described}
-use Rattle.dt_consumer.specs.Life.{set_up}
-use Rattle.dt_consumer.proofs.Takings.{clause_found}
-use Rattle.dt_consumer.proofs.Telling.{match_none, match_some, number_found}
+use Rattle.dt_life.specs.Answer.{described}
+use Rattle.dt_life.specs.Life.{set_up}
+use Rattle.dt_life.specs.laws.Takings.{clause_found}
+use Rattle.dt_life.specs.laws.Options.{match_none, match_some}
+use Rattle.dt_life.specs.laws.Placed.{number_found}
 use Rattle.dt_alone.proofs.runner.Runner.description.Goals as goal
 
 pub returns-in_err-ecb : goal.returns-in_err-ecb

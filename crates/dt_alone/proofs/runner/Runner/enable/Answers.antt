@@ -4,10 +4,10 @@ use Rattle.dt_lang.specs.Program.{form_of_program}
 use Rattle.dt_lang.specs.Reads.{program}
 use Rattle.dt_alone.specs.Runs.{Answers}
 use Rattle.dt_alone.proofs.Replying.{begun, early, refuses, text_refused}
-use Rattle.dt_consumer.specs.Ask.{enable, reading_of, is_read}
-use Rattle.dt_consumer.specs.declared.refusal.Refusal.TheVariants.{Busy}
-use Rattle.dt_consumer.proofs.DraftLemmas.{enable_busy, idle_late}
-use Rattle.dt_consumer.proofs.Telling.{if_ok_map}
+use Rattle.dt_life.specs.Ask.{enable, reading_of, is_read}
+use Rattle.dt_life.specs.declared.refusal.Refusal.TheVariants.{Busy}
+use Rattle.dt_life.specs.laws.Verdicts.{enable_busy, idle_late}
+use Rattle.dt_life.specs.laws.Options.{if_ok_map}
 use Rattle.dt_alone.proofs.runner.Runner.enable.Goals as goal
 
 pub returns-then-not-is_inactive : goal.returns-then-not-is_inactive

@@ -3,7 +3,7 @@ use Rattle.std.proofs.Common.{◌++◌, refl, length, map, ap, ◌∙◌, arith}
 use Rattle.dt_lang.specs.Program.{form_of_program}
 use Rattle.dt_ecb.specs.Forms.{shapes_of, verdict_of}
 use Rattle.dt_alone.proofs.Replying.{next_is, program_asked, program_done, program_refused}
-use Rattle.dt_consumer.specs.Keeps.{placed_after}
+use Rattle.dt_life.specs.Placed.{placed_after}
 use Rattle.dt_alone.proofs.runner.Runner.enable_program.Goals as goal
 
 pub returns-in-Ok : goal.returns-in-Ok

@@ -3,8 +3,8 @@ use Rattle.std.proofs.Common.{map, ap, ◌∙◌}
 use Rattle.std.specs.List.{range_with_len}
 use Rattle.dt_alone.specs.Happened.{faults_on}
 use Rattle.dt_alone.proofs.Recounting.{all_faults}
-use Rattle.dt_consumer.specs.Life.{set_up}
-use Rattle.dt_consumer.proofs.Telling.{if_ok_map}
+use Rattle.dt_life.specs.Life.{set_up}
+use Rattle.dt_life.specs.laws.Options.{if_ok_map}
 use Rattle.dt_alone.proofs.runner.Runner.errors.Goals as goal
 
 pub returns : goal.returns

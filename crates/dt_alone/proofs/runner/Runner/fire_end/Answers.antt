@@ -2,10 +2,10 @@
 use Rattle.std.proofs.Common.{Some, true, refl, sym, ap, ◌∙◌}
 use Rattle.std.specs.Option.{option_copied}
 use Rattle.dt_alone.proofs.Running.{has_since, own_adds, own_placed, told_firing}
-use Rattle.dt_consumer.specs.Takings.{ended, own_process}
-use Rattle.dt_consumer.specs.declared.phase.Phase.TheVariants as phases
-use Rattle.dt_consumer.proofs.Taken.{own_is}
-use Rattle.dt_alone.specs.declared.limits.TheConstants.{END}
+use Rattle.dt_life.specs.Takings.{ended, own_process}
+use Rattle.dt_life.specs.declared.phase.Phase.TheVariants as phases
+use Rattle.dt_life.specs.laws.Moments.{own_is}
+use Rattle.dt_life.specs.declared.limits.TheConstants.{END}
 use Rattle.dt_alone.proofs.runner.Runner.fire_end.Goals as goal
 
 pub returns-clause-ends : goal.returns-clause-ends

@@ -2,10 +2,10 @@
 use Rattle.std.proofs.Common.{refl, sym, ap, ◌∙◌}
 use Rattle.std.specs.Option.{option_copied}
 use Rattle.dt_alone.proofs.Replying.{early, go_done, some_room}
-use Rattle.dt_alone.specs.declared.limits.TheConstants.{BEGIN}
-use Rattle.dt_consumer.specs.Life.{has_room, set_up}
-use Rattle.dt_consumer.specs.Takings.{began, own_process}
-use Rattle.dt_consumer.proofs.Taken.{own_is}
+use Rattle.dt_life.specs.declared.limits.TheConstants.{BEGIN}
+use Rattle.dt_life.specs.Life.{has_room, set_up}
+use Rattle.dt_life.specs.Takings.{began, own_process}
+use Rattle.dt_life.specs.laws.Moments.{own_is}
 use Rattle.dt_alone.proofs.runner.Runner.go.Goals as goal
 
 pub returns : goal.returns

@@ -1,11 +1,11 @@
 -- ECBs were taken, and tracing goes on or ends.
 use Rattle.std.proofs.Common.{Some, refl, sym, ap, ◌∙◌}
-use Rattle.dt_alone.specs.Forms.{form_of_own_moment}
+use Rattle.dt_life.specs.Forms.{form_of_moment}
 use Rattle.dt_alone.proofs.Running.{ends_at, goes_on, has_since, never_none, never_some, own_placed, took_exit}
 use Rattle.dt_alone.proofs.Running.{took_told}
-use Rattle.dt_consumer.specs.Life.{phase_of}
-use Rattle.dt_consumer.specs.Options.{OptionsForm}
-use Rattle.dt_consumer.specs.declared.phase.Phase.TheVariants as phases
+use Rattle.dt_life.specs.Life.{phase_of}
+use Rattle.dt_life.specs.Options.{OptionsForm}
+use Rattle.dt_life.specs.declared.phase.Phase.TheVariants as phases
 use Rattle.dt_alone.proofs.runner.Runner.happen.Goals as goal
 use Rattle.dt_alone.proofs.runner.Runner.happen.Goals.{in-Some, in-None}
 
@@ -13,7 +13,7 @@ pub returns-in_ok-fire_end-clause-happens : goal.returns-in_ok-fire_end-clause-h
 returns-in_ok-fire_end-clause-happens c = λ account s event h fires at active counts.
     let registry = c.args.machine.now.registry in
     let old = c.args.self.now in
-    let m = form_of_own_moment c.args.moment.now in
+    let m = form_of_moment c.args.moment.now in
     let placed = own_placed account registry s (phase_of s) old h in
     let told = took_told account registry s event m old h fires at c.take.new.happened.items
     (c.in_ok-exit.ensures.taken placed) in
@@ -36,7 +36,7 @@ pub returns-else-is_some-clause-happens : goal.returns-else-is_some-clause-happe
 returns-else-is_some-clause-happens c = λ account s event h fires at active counts.
     let registry = c.args.machine.now.registry in
     let old = c.args.self.now in
-    let m = form_of_own_moment c.args.moment.now in
+    let m = form_of_moment c.args.moment.now in
     let placed = own_placed account registry s (phase_of s) old h in
     let told = took_told account registry s event m old h fires at c.take.new.happened.items
     (c.in_ok-exit.ensures.taken placed) in

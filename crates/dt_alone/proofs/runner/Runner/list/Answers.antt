@@ -3,9 +3,9 @@ use Rattle.std.proofs.Common.{Some, None, refl, ap, ◌∙◌}
 use Rattle.dt_lang.specs.Description.{form_of_description}
 use Rattle.dt_lang.specs.declared.fault.Why.TheVariants.{Probe}
 use Rattle.dt_ecb.specs.Matching as matching
-use Rattle.dt_consumer.specs.Answer.{listed}
-use Rattle.dt_consumer.specs.Ask.{description_of, is_described}
-use Rattle.dt_consumer.specs.declared.refusal.Refusal.TheVariants.{Program}
+use Rattle.dt_life.specs.Answer.{listed}
+use Rattle.dt_life.specs.Ask.{description_of, is_described}
+use Rattle.dt_life.specs.declared.refusal.Refusal.TheVariants.{Program}
 use Rattle.dt_alone.proofs.runner.Runner.list.Goals as goal
 
 pub returns-in_default : goal.returns-in_default

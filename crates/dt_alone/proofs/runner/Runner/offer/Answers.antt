@@ -5,9 +5,9 @@ use Rattle.dt_cred.specs.declared.account.Account.{Account}
 use Rattle.dt_machine.specs.Shown.{IsShown}
 use Rattle.dt_alone.specs.Runs.{Has}
 use Rattle.dt_alone.proofs.Running.{named, unnamed}
-use Rattle.dt_consumer.specs.Life.{happens, is_active, phase_of, set_up}
-use Rattle.dt_consumer.specs.Takings.{seen}
-use Rattle.dt_consumer.specs.declared.phase.Phase.TheVariants as phases
+use Rattle.dt_life.specs.Life.{happens, is_active, phase_of, set_up}
+use Rattle.dt_life.specs.Takings.{seen}
+use Rattle.dt_life.specs.declared.phase.Phase.TheVariants as phases
 use Rattle.dt_alone.proofs.runner.Runner.offer.Goals as goal
 use Rattle.dt_alone.proofs.runner.Runner.offer.Goals.{in-Active, in_default}
 

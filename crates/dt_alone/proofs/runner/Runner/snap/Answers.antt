@@ -1,8 +1,8 @@
 -- A buffer is read.
 use Rattle.std.proofs.Common.{◌≡◌, ◌-◌, refl, sym, ◌∙◌, arith}
 use Rattle.dt_alone.proofs.Replying.{room_on, room_other, shows_past, snap_done}
-use Rattle.dt_consumer.specs.Buffers.{reserve_on}
-use Rattle.dt_consumer.specs.Life.{set_up}
+use Rattle.dt_life.specs.Buffers.{reserve_on}
+use Rattle.dt_life.specs.Life.{set_up}
 use Rattle.dt_alone.proofs.runner.Runner.snap.Goals as goal
 use Rattle.dt_alone.proofs.runner.Runner.snap.Goals.{then-cpu-eq0, else-cpu-eq0}
 

@@ -1,8 +1,8 @@
 -- The phase and the counts are the life's.
 use Rattle.std.proofs.Common.{None, refl, ap, ◌∙◌}
-use Rattle.dt_consumer.specs.Answer as answers
-use Rattle.dt_consumer.specs.Life.{phase}
-use Rattle.dt_consumer.specs.Reply.{all_errors, seen_firings}
+use Rattle.dt_life.specs.Answer as answers
+use Rattle.dt_life.specs.Life.{phase}
+use Rattle.dt_life.specs.Reply.{all_errors, seen_firings}
 use Rattle.dt_alone.proofs.runner.Runner.status.Goals as goal
 
 pub returns : goal.returns

@@ -2,9 +2,9 @@
 use Rattle.std.proofs.Common.{◌≡◌, Some, refl, sym, ◌∙◌}
 use Rattle.std.proofs.lemmas.Bool.{false≢true}
 use Rattle.dt_alone.proofs.Replying.{has_alike, stop_done}
-use Rattle.dt_consumer.specs.Life.{phase_of, set_up}
-use Rattle.dt_consumer.specs.declared.phase.End.TheVariants as ends
-use Rattle.dt_consumer.specs.declared.phase.Phase.TheVariants as phases
+use Rattle.dt_life.specs.Life.{phase_of, set_up}
+use Rattle.dt_life.specs.declared.phase.End.TheVariants as ends
+use Rattle.dt_life.specs.declared.phase.Phase.TheVariants as phases
 use Rattle.dt_alone.proofs.runner.Runner.stop.Goals as goal
 use Rattle.dt_alone.proofs.runner.Runner.stop.Goals.{in-Active, in_default}
 

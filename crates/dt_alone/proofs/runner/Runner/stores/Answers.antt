@@ -3,10 +3,10 @@ use Rattle.std.proofs.Common.{ap, ◌∙◌}
 use Rattle.std.specs.List.{slice_get}
 use Rattle.dt_alone.specs.Happened.{given_to}
 use Rattle.dt_alone.proofs.Recounting.{given_is, if_ok_both}
-use Rattle.dt_consumer.specs.Stores.{given_in}
-use Rattle.dt_consumer.proofs.Giving.{same_at}
-use Rattle.dt_consumer.proofs.Stores.{are_zipped}
-use Rattle.dt_consumer.proofs.Taken.{if_some_map}
+use Rattle.dt_life.specs.Stores.{given_in}
+use Rattle.dt_life.specs.laws.Giving.{same_at}
+use Rattle.dt_life.specs.laws.Stores.{are_zipped}
+use Rattle.dt_life.specs.laws.Options.{if_some_map}
 use Rattle.dt_alone.proofs.runner.Runner.stores.Goals as goal
 
 pub returns-clause-stand : goal.returns-clause-stand

@@ -1,7 +1,7 @@
 -- A record is put into the store of the policy.
 use Rattle.std.proofs.Common.{Bool, sym, subst, true, false}
-use Rattle.dt_buffer.proofs.Pasts.{put_switch, answer_switch, put_ring, answer_ring, put_ordinary_past}
-use Rattle.dt_buffer.proofs.Pasts.{answer_ordinary, put_end_past, answer_end}
+use Rattle.dt_buffer.proofs.Pasts.{put_switch, answer_switch, put_ring, answer_ring, put_ordinary_past, answer_ordinary}
+use Rattle.dt_buffer.proofs.Pasts.{put_end_past, answer_end}
 use Rattle.dt_buffer.specs.History.{attempt, buffer_after, attempts, ordinary, of_end, since_swap}
 use Rattle.dt_buffer.specs.IsAt.{StoreIsAt}
 use Rattle.dt_buffer.specs.Shows.{PutAnswers, EndLast}

@@ -1,10 +1,10 @@
 -- The drops of each store, while it traces; and zeros before.
 use Rattle.std.proofs.Common.{replicate, ap, ◌∙◌}
-use Rattle.dt_consumer.specs.Life.{set_up}
-use Rattle.dt_consumer.specs.Stores.{given_in}
+use Rattle.dt_life.specs.Life.{set_up}
+use Rattle.dt_life.specs.Stores.{given_in}
 use Rattle.dt_consumer.proofs.Stands.{traced, untraced}
 use Rattle.dt_consumer.proofs.StoresTold.{aggdrops_told, no_aggdrops}
-use Rattle.dt_consumer.proofs.Telling.{if_ok_map}
+use Rattle.dt_life.specs.laws.Options.{if_ok_map}
 use Rattle.dt_consumer.proofs.consumer.Consumer.aggdrops.Goals as goal
 
 pub returns-in-Some : goal.returns-in-Some

@@ -1,10 +1,11 @@
 -- Tracing begins, and may have ended in the same step.
 use Rattle.std.proofs.Common.{[], arith}
-use Rattle.dt_consumer.specs.Life.{set_up, since_then, happens}
-use Rattle.dt_consumer.specs.Takings.{began}
-use Rattle.dt_consumer.proofs.DraftLemmas.{begun_by_go}
-use Rattle.dt_consumer.proofs.Happening.{same_options, same_clauses}
-use Rattle.dt_consumer.proofs.Stands.{after_counted, keeps_traced, quota_left, stands_changed}
+use Rattle.dt_life.specs.Life.{set_up, since_then, happens}
+use Rattle.dt_life.specs.Takings.{began}
+use Rattle.dt_life.specs.laws.Verdicts.{begun_by_go}
+use Rattle.dt_life.specs.laws.Happening.{same_options, same_clauses}
+use Rattle.dt_life.specs.laws.Lines.{after_counted, quota_left}
+use Rattle.dt_consumer.proofs.Stands.{keeps_traced, stands_changed}
 use Rattle.dt_consumer.proofs.consumer.Consumer.begin.Goals as goal
 
 pub returns : goal.returns

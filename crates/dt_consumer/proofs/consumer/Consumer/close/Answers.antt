@@ -1,9 +1,9 @@
 -- Tracing ends without a cause, or the consumer never traces.
 use Rattle.std.proofs.Common.{◌≡◌, ap, arith}
-use Rattle.dt_consumer.specs.Life.{set_up}
+use Rattle.dt_life.specs.Life.{set_up}
 use Rattle.dt_consumer.specs.declared.consumer.Consumer.{Consumer}
 use Rattle.dt_consumer.proofs.Closing.{closes_traced, closes_untraced}
-use Rattle.dt_consumer.proofs.Stands.{after_counted, quota_left}
+use Rattle.dt_life.specs.laws.Lines.{after_counted, quota_left}
 use Rattle.dt_consumer.proofs.consumer.Consumer.close.Goals as goal
 use Rattle.dt_consumer.proofs.consumer.Consumer.close.Goals.{in-Some, in-None}
 

@@ -1,6 +1,7 @@
 -- A line more is counted.
 use Rattle.std.proofs.Common.{arith}
-use Rattle.dt_consumer.proofs.Stands.{after_counted, quota_left, stands_same}
+use Rattle.dt_life.specs.laws.Lines.{after_counted, quota_left}
+use Rattle.dt_consumer.proofs.Stands.{stands_same}
 use Rattle.dt_consumer.proofs.consumer.Consumer.count.Goals as goal
 
 pub returns : goal.returns

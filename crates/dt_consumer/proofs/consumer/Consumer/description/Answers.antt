@@ -4,11 +4,12 @@ use Rattle.dt_lang.specs.Program.{ClauseForm, form_of_clause}
 use Rattle.dt_record.specs.Layout.{layout_of}
 use Rattle.dt_record.specs.Fields.{form_of_layout}
 use Rattle.dt_ecb.specs.Forms.{no_clause}
-use Rattle.dt_consumer.specs.Answer.{described}
-use Rattle.dt_consumer.specs.Life.{set_up}
-use Rattle.dt_consumer.proofs.Takings.{clause_found}
-use Rattle.dt_consumer.proofs.Telling.{ecb_none, probe_none, ecb_some, match_none, match_some, clause_known}
-use Rattle.dt_consumer.proofs.Telling.{number_found}
+use Rattle.dt_life.specs.Answer.{described}
+use Rattle.dt_life.specs.Life.{set_up}
+use Rattle.dt_life.specs.laws.Takings.{clause_found}
+use Rattle.dt_consumer.proofs.Telling.{ecb_none, probe_none, ecb_some, clause_known}
+use Rattle.dt_life.specs.laws.Options.{match_none, match_some}
+use Rattle.dt_life.specs.laws.Placed.{number_found}
 use Rattle.dt_consumer.proofs.consumer.Consumer.description.Goals as goal
 
 pub returns-in_err-ecb : goal.returns-in_err-ecb

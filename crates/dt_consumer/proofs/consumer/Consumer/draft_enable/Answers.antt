@@ -2,11 +2,12 @@
 use Rattle.std.proofs.Common.{Ok, Err, refl, ap, subst}
 use Rattle.dt_lang.specs.Program.{form_of_program}
 use Rattle.dt_lang.specs.Reads.{program}
-use Rattle.dt_consumer.specs.Ask.{enable, reading_of, is_read}
+use Rattle.dt_life.specs.Ask.{enable, reading_of, is_read}
 use Rattle.dt_consumer.specs.Draft.{IsDraftOf}
-use Rattle.dt_consumer.proofs.DraftLemmas.{refused_by, enable_busy, idle_late}
+use Rattle.dt_consumer.proofs.DraftLemmas.{refused_by}
+use Rattle.dt_life.specs.laws.Verdicts.{enable_busy, idle_late}
 use Rattle.dt_consumer.proofs.Drafting.{text_refused}
-use Rattle.dt_consumer.proofs.Telling.{if_ok_map}
+use Rattle.dt_life.specs.laws.Options.{if_ok_map}
 use Rattle.dt_consumer.proofs.consumer.Consumer.draft_enable.Goals as goal
 
 pub returns-then-is_late : goal.returns-then-is_late

@@ -5,10 +5,10 @@ use Rattle.std.proofs.lemmas.List.{length-map}
 use Rattle.dt_lang.specs.Program.{form_of_clause}
 use Rattle.dt_ecb.specs.Enable.{is_enabled}
 use Rattle.dt_ecb.specs.Shapes.{ShapeForm, uses_of}
-use Rattle.dt_consumer.specs.Keeps.{placed_after}
-use Rattle.dt_consumer.specs.Life.{SetUp, set_up}
+use Rattle.dt_life.specs.Placed.{placed_after}
+use Rattle.dt_life.specs.Life.{SetUp, set_up}
 use Rattle.dt_consumer.proofs.Drafting.{program_draft}
-use Rattle.dt_consumer.proofs.Stands.{are_placed}
+use Rattle.dt_life.specs.laws.Placed.{are_placed}
 use Rattle.dt_consumer.proofs.consumer.Consumer.draft_enabled.Goals as goal
 
 pub returns : goal.returns

@@ -1,10 +1,11 @@
 -- The room for tracing, and what is taken at BEGIN.
 use Rattle.std.proofs.Common.{◌≡◌, [], subst}
 use Rattle.dt_cred.specs.declared.account.Account.{Account}
-use Rattle.dt_consumer.specs.Buffers.{reserve_on}
-use Rattle.dt_consumer.specs.Keeps.{AreEcbs, IsTracing}
-use Rattle.dt_consumer.specs.Life.{ecbs_in, set_up, since_then, happens}
-use Rattle.dt_consumer.specs.Takings.{began}
+use Rattle.dt_life.specs.Buffers.{reserve_on}
+use Rattle.dt_life.specs.Placed.{AreEcbs}
+use Rattle.dt_consumer.specs.Keeps.{IsTracing}
+use Rattle.dt_life.specs.Life.{ecbs_in, set_up, since_then, happens}
+use Rattle.dt_life.specs.Takings.{began}
 use Rattle.dt_consumer.proofs.Drafting.{go_draft}
 use Rattle.dt_consumer.proofs.consumer.Consumer.draft_go.Goals as goal
 

@@ -3,9 +3,9 @@ use Rattle.std.proofs.Common.{Some, None, refl, ap, ◌∙◌}
 use Rattle.dt_lang.specs.Description.{form_of_description}
 use Rattle.dt_lang.specs.declared.fault.Why.TheVariants.{Probe}
 use Rattle.dt_ecb.specs.Matching as matching
-use Rattle.dt_consumer.specs.Answer.{listed}
-use Rattle.dt_consumer.specs.Ask.{list, description_of, is_described}
-use Rattle.dt_consumer.specs.declared.refusal.Refusal.TheVariants.{Program}
+use Rattle.dt_life.specs.Answer.{listed}
+use Rattle.dt_life.specs.Ask.{list, description_of, is_described}
+use Rattle.dt_life.specs.declared.refusal.Refusal.TheVariants.{Program}
 use Rattle.dt_consumer.proofs.DraftLemmas.{refused_by, told_draft}
 use Rattle.dt_consumer.proofs.consumer.Consumer.draft_list.Goals as goal
 

@@ -2,9 +2,9 @@
 use Rattle.std.proofs.Common.{length, ap, arith}
 use Rattle.dt_lang.specs.Program.{form_of_program}
 use Rattle.dt_ecb.specs.Forms.{verdict_of}
-use Rattle.dt_consumer.specs.Life.{set_up}
+use Rattle.dt_life.specs.Life.{set_up}
 use Rattle.dt_consumer.proofs.Drafting.{program_refused, program_asked, next_is, enabled_asked}
-use Rattle.dt_consumer.proofs.Telling.{if_ok_map}
+use Rattle.dt_life.specs.laws.Options.{if_ok_map}
 use Rattle.dt_consumer.proofs.consumer.Consumer.draft_program.Goals as goal
 
 pub returns-in-Ok : goal.returns-in-Ok

@@ -1,9 +1,9 @@
 -- The phase and the counts are the life's.
 use Rattle.std.proofs.Common.{refl, ap, ◌∙◌}
-use Rattle.dt_consumer.specs.Answer as answers
-use Rattle.dt_consumer.specs.Ask.{status}
-use Rattle.dt_consumer.specs.Life.{phase}
-use Rattle.dt_consumer.specs.Reply.{all_errors, seen_firings}
+use Rattle.dt_life.specs.Answer as answers
+use Rattle.dt_life.specs.Ask.{status}
+use Rattle.dt_life.specs.Life.{phase}
+use Rattle.dt_life.specs.Reply.{all_errors, seen_firings}
 use Rattle.dt_consumer.proofs.DraftLemmas.{told_draft}
 use Rattle.dt_consumer.proofs.consumer.Consumer.draft_status.Goals as goal
 

@@ -4,10 +4,10 @@ use Rattle.std.specs.Vec.{vec_len}
 use Rattle.dt_lang.specs.Program.{form_of_clause}
 use Rattle.dt_ecb.specs.Forms.{shapes_of}
 use Rattle.dt_ecb.specs.declared.limits.TheConstants.{ECBS_MAX}
-use Rattle.dt_consumer.specs.Life.{set_up, with_program}
-use Rattle.dt_consumer.proofs.DraftLemmas.{program_added}
-use Rattle.dt_consumer.proofs.Stands.{after_counted, quota_left, stands_changed, keeps_program, each_effective}
-use Rattle.dt_consumer.proofs.Stands.{ecbs_fit}
+use Rattle.dt_life.specs.Life.{set_up, with_program}
+use Rattle.dt_life.specs.laws.Verdicts.{program_added}
+use Rattle.dt_life.specs.laws.Lines.{after_counted, quota_left}
+use Rattle.dt_consumer.proofs.Stands.{stands_changed, keeps_program, each_effective, ecbs_fit}
 use Rattle.dt_consumer.proofs.consumer.Consumer.enable.Goals as goal
 
 pub returns : goal.returns

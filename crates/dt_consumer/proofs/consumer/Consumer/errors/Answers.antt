@@ -1,8 +1,9 @@
 -- The errors of each processor, while it traces; and zeros before.
 use Rattle.std.proofs.Common.{replicate, ap, ◌∙◌}
-use Rattle.dt_consumer.specs.Life.{set_up}
+use Rattle.dt_life.specs.Life.{set_up}
 use Rattle.dt_consumer.proofs.Stands.{traced, untraced}
-use Rattle.dt_consumer.proofs.Telling.{if_ok_map, errors_told, no_errors}
+use Rattle.dt_life.specs.laws.Options.{if_ok_map}
+use Rattle.dt_consumer.proofs.Telling.{errors_told, no_errors}
 use Rattle.dt_consumer.proofs.consumer.Consumer.errors.Goals as goal
 
 pub returns-in-Some : goal.returns-in-Some

@@ -1,5 +1,5 @@
 -- The set has the probes of the life's ECBs.
-use Rattle.dt_consumer.specs.Life.{ecbs_in, set_up}
+use Rattle.dt_life.specs.Life.{ecbs_in, set_up}
 use Rattle.dt_consumer.proofs.Interests.{has_forms}
 use Rattle.dt_consumer.proofs.consumer.Consumer.interest.Goals as goal
 

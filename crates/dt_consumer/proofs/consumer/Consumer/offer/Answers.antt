@@ -4,9 +4,9 @@ use Rattle.dt_cred.specs.declared.account.Account.{Account}
 use Rattle.dt_lang.specs.Program.{form_of_clause}
 use Rattle.dt_cred.specs.declared.firing.Firing.{Firing}
 use Rattle.dt_consumer.specs.Keeps.{IsTracing, phase_by}
-use Rattle.dt_consumer.specs.Life.{set_up, happens, is_active, phase_of}
-use Rattle.dt_consumer.specs.Takings.{seen}
-use Rattle.dt_consumer.proofs.Happening.{same_options, same_clauses}
+use Rattle.dt_life.specs.Life.{set_up, happens, is_active, phase_of}
+use Rattle.dt_life.specs.Takings.{seen}
+use Rattle.dt_life.specs.laws.Happening.{same_options, same_clauses}
 use Rattle.dt_consumer.proofs.Stands.{keeps_same, keeps_traced, traced}
 use Rattle.dt_consumer.proofs.consumer.Consumer.offer.Goals as goal
 

@@ -1,7 +1,7 @@
 -- A consumer that never traced is inactive, or stopped where it was closed.
 use Rattle.std.proofs.Common.{sym, ap, ◌∙◌}
 use Rattle.dt_consumer.specs.Keeps.{phase_untraced}
-use Rattle.dt_consumer.specs.Life.{set_up}
+use Rattle.dt_life.specs.Life.{set_up}
 use Rattle.dt_consumer.proofs.Stands.{untraced}
 use Rattle.dt_consumer.proofs.consumer.Consumer.phase.Goals as goal
 

@@ -1,6 +1,6 @@
 -- Before tracing begins nothing is seen.
 use Rattle.std.proofs.Common.{sym}
-use Rattle.dt_consumer.specs.Life.{set_up}
+use Rattle.dt_life.specs.Life.{set_up}
 use Rattle.dt_consumer.proofs.Stands.{untraced}
 use Rattle.dt_consumer.proofs.Telling.{none_seen}
 use Rattle.dt_consumer.proofs.consumer.Consumer.seen.Goals as goal

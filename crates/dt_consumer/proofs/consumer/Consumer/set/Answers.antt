@@ -1,8 +1,9 @@
 -- Other options.
 use Rattle.std.proofs.Common.{arith}
-use Rattle.dt_consumer.specs.Keeps.{form_of_options}
-use Rattle.dt_consumer.specs.Life.{set_up, with_options}
-use Rattle.dt_consumer.proofs.Stands.{after_counted, keeps_set, quota_left, stands_changed}
+use Rattle.dt_life.specs.Forms.{form_of_options}
+use Rattle.dt_life.specs.Life.{set_up, with_options}
+use Rattle.dt_life.specs.laws.Lines.{after_counted, quota_left}
+use Rattle.dt_consumer.proofs.Stands.{keeps_set, stands_changed}
 use Rattle.dt_consumer.proofs.consumer.Consumer.set.Goals as goal
 
 pub returns : goal.returns

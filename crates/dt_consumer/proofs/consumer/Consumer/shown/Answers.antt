@@ -1,8 +1,8 @@
 -- A buffer shows its past; where the consumer never traced, nothing.
 use Rattle.std.proofs.Common.{false, [], refl, ap}
-use Rattle.dt_consumer.specs.Answer.{snapped}
-use Rattle.dt_consumer.specs.Buffers.{past}
-use Rattle.dt_consumer.specs.Life.{set_up}
+use Rattle.dt_life.specs.Answer.{snapped}
+use Rattle.dt_life.specs.Buffers.{past}
+use Rattle.dt_life.specs.Life.{set_up}
 use Rattle.dt_consumer.proofs.Drafting.{shown_all}
 use Rattle.dt_consumer.proofs.Quiet.{nothing_shown}
 use Rattle.dt_consumer.proofs.consumer.Consumer.shown.Goals as goal

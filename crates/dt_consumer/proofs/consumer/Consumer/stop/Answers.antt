@@ -3,13 +3,13 @@ use Rattle.std.proofs.Common.{◌≡◌, map, refl, ap, ◌∙◌, subst, arith}
 use Rattle.dt_cred.specs.declared.account.Account.{Account}
 use Rattle.dt_lang.specs.Program.{form_of_clause}
 use Rattle.dt_consumer.specs.Keeps.{IsTracing}
-use Rattle.dt_consumer.specs.Life.{phase, set_up, with_event}
-use Rattle.dt_consumer.specs.Takings.{ended}
+use Rattle.dt_life.specs.Life.{phase, set_up, with_event}
+use Rattle.dt_life.specs.Takings.{ended}
 use Rattle.dt_consumer.specs.declared.consumer.Consumer.{Consumer}
-use Rattle.dt_consumer.specs.declared.phase.End.TheVariants.{Stop}
-use Rattle.dt_consumer.proofs.DraftLemmas.{stopped_by}
-use Rattle.dt_consumer.proofs.Stands.{after_counted, quota_left, stands_changed, keeps_traced, not_active, traced}
-use Rattle.dt_consumer.proofs.Stands.{untraced}
+use Rattle.dt_life.specs.declared.phase.End.TheVariants.{Stop}
+use Rattle.dt_life.specs.laws.Verdicts.{stopped_by}
+use Rattle.dt_life.specs.laws.Lines.{after_counted, quota_left}
+use Rattle.dt_consumer.proofs.Stands.{stands_changed, keeps_traced, not_active, traced, untraced}
 use Rattle.dt_consumer.proofs.consumer.Consumer.stop.Goals as goal
 use Rattle.dt_consumer.proofs.consumer.Consumer.stop.Goals.{in-Some, in_default}
 

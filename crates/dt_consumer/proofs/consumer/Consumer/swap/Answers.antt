@@ -1,11 +1,11 @@
 -- The buffer of a processor was read.
 use Rattle.std.proofs.Common.{◌≡◌, refl, ap, arith}
-use Rattle.dt_consumer.specs.Life.{set_up, with_event}
-use Rattle.dt_consumer.specs.Takings.{read}
+use Rattle.dt_life.specs.Life.{set_up, with_event}
+use Rattle.dt_life.specs.Takings.{read}
 use Rattle.dt_consumer.specs.declared.consumer.Consumer.{Consumer}
-use Rattle.dt_consumer.proofs.DraftLemmas.{read_by_snap}
-use Rattle.dt_consumer.proofs.Stands.{after_counted, quota_left, stands_changed, keeps_quiet, keeps_traced, traced}
-use Rattle.dt_consumer.proofs.Stands.{untraced}
+use Rattle.dt_life.specs.laws.Verdicts.{read_by_snap}
+use Rattle.dt_life.specs.laws.Lines.{after_counted, quota_left}
+use Rattle.dt_consumer.proofs.Stands.{stands_changed, keeps_quiet, keeps_traced, traced, untraced}
 use Rattle.dt_consumer.proofs.consumer.Consumer.swap.Goals as goal
 use Rattle.dt_consumer.proofs.consumer.Consumer.swap.Goals.{in-Some, in_default}
 

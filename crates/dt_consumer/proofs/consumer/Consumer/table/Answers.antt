@@ -3,11 +3,11 @@ use Rattle.std.proofs.Common.{map, sym, ap, ◌∙◌, subst}
 use Rattle.std.specs.List.{AllZip}
 use Rattle.dt_aggstore.specs.Entries.{form_of_row}
 use Rattle.dt_aggstore.specs.IsAt.{IsAt}
-use Rattle.dt_consumer.specs.Life.{set_up}
-use Rattle.dt_consumer.specs.Stores.{stores_in}
+use Rattle.dt_life.specs.Life.{set_up}
+use Rattle.dt_life.specs.Stores.{stores_in}
 use Rattle.dt_consumer.proofs.Stands.{traced, untraced}
 use Rattle.dt_consumer.proofs.StoresTold.{empty_table, stores_told}
-use Rattle.dt_consumer.proofs.Telling.{if_ok_each}
+use Rattle.dt_life.specs.laws.Options.{if_ok_each}
 use Rattle.dt_consumer.proofs.consumer.Consumer.table.Goals as goal
 
 pub returns-in-Some : goal.returns-in-Some

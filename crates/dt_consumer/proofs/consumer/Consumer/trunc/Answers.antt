@@ -1,11 +1,11 @@
 -- An aggregation was truncated.
 use Rattle.std.proofs.Common.{◌≡◌, refl, ap, arith}
-use Rattle.dt_consumer.specs.Life.{set_up, with_event}
-use Rattle.dt_consumer.specs.Takings.{truncated}
+use Rattle.dt_life.specs.Life.{set_up, with_event}
+use Rattle.dt_life.specs.Takings.{truncated}
 use Rattle.dt_consumer.specs.declared.consumer.Consumer.{Consumer}
-use Rattle.dt_consumer.proofs.DraftLemmas.{truncated_by}
-use Rattle.dt_consumer.proofs.Stands.{after_counted, quota_left, stands_changed, keeps_quiet, keeps_traced, traced}
-use Rattle.dt_consumer.proofs.Stands.{untraced}
+use Rattle.dt_life.specs.laws.Verdicts.{truncated_by}
+use Rattle.dt_life.specs.laws.Lines.{after_counted, quota_left}
+use Rattle.dt_consumer.proofs.Stands.{stands_changed, keeps_quiet, keeps_traced, traced, untraced}
 use Rattle.dt_consumer.proofs.consumer.Consumer.trunc.Goals as goal
 use Rattle.dt_consumer.proofs.consumer.Consumer.trunc.Goals.{in-Some, in_default}
 

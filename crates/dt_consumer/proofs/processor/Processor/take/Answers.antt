@@ -5,14 +5,17 @@ use Rattle.std.specs.Option.{is_some}
 use Rattle.dt_ecb.specs.declared.parts.Ecb.{Ecb}
 use Rattle.dt_lang.specs.Program.{form_of_clause}
 use Rattle.dt_aggstore.specs.IsAt.{IsAt}
-use Rattle.dt_consumer.specs.Aggregations.{contributions}
-use Rattle.dt_consumer.specs.Uses.{given_then}
-use Rattle.dt_consumer.specs.Buffers.{attempts_of}
-use Rattle.dt_consumer.specs.Keeps.{form_of_moment, followed_by, HasTaken, taking_by}
-use Rattle.dt_consumer.specs.Takings.{faults, first_exit, through_exit}
-use Rattle.dt_consumer.proofs.Buffers.{took_more, took_exit, took_through, still_last, none_of_end}
-use Rattle.dt_consumer.proofs.Giving.{gave_exit, gave_more, gave_through}
-use Rattle.dt_consumer.proofs.Takings.{exit_found, stays_more, there_at}
+use Rattle.dt_life.specs.Aggregations.{contributions}
+use Rattle.dt_life.specs.Uses.{given_then}
+use Rattle.dt_life.specs.Buffers.{attempts_of}
+use Rattle.dt_life.specs.Forms.{form_of_moment}
+use Rattle.dt_life.specs.Following.{followed_by, taking_by}
+use Rattle.dt_consumer.specs.Keeps.{HasTaken}
+use Rattle.dt_life.specs.Takings.{faults, first_exit, through_exit}
+use Rattle.dt_consumer.proofs.Buffers.{took_more, took_exit, took_through}
+use Rattle.dt_life.specs.laws.Buffers.{still_last, none_of_end}
+use Rattle.dt_life.specs.laws.Giving.{gave_exit, gave_more, gave_through}
+use Rattle.dt_life.specs.laws.Takings.{exit_found, stays_more, there_at}
 use Rattle.dt_consumer.proofs.processor.Processor.take.Goals as goal
 
 pub returns-then-is_some-clause-taken : goal.returns-then-is_some-clause-taken

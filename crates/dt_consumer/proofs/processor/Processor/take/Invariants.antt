@@ -5,15 +5,18 @@ use Rattle.dt_aggstore.specs.History as stores
 use Rattle.dt_aggstore.specs.IsAt.{IsAt, added_of}
 use Rattle.dt_ecb.specs.Shapes.{ShapeForm}
 use Rattle.dt_program.specs.declared.clause.TheConstants.{STATEMENTS_MAX}
-use Rattle.dt_consumer.specs.Aggregations.{contributions}
-use Rattle.dt_consumer.specs.Uses.{AreUses, given_then}
+use Rattle.dt_life.specs.Aggregations.{contributions}
+use Rattle.dt_consumer.specs.Uses.{AreUses}
+use Rattle.dt_life.specs.Uses.{given_then}
 use Rattle.dt_buffer.specs.History.{BufferPast}
 use Rattle.dt_buffer.specs.Shows.{EndLast}
 use Rattle.dt_lang.specs.Program.{form_of_clause}
-use Rattle.dt_consumer.specs.Buffers.{attempts_of}
+use Rattle.dt_life.specs.Buffers.{attempts_of}
 use Rattle.dt_consumer.specs.Counts.{AtMostMore}
-use Rattle.dt_consumer.specs.Keeps.{form_of_moment, followed_by, HasTaken, taking_by}
-use Rattle.dt_consumer.specs.Takings.{faults, first_exit}
+use Rattle.dt_life.specs.Forms.{form_of_moment}
+use Rattle.dt_life.specs.Following.{followed_by, taking_by}
+use Rattle.dt_consumer.specs.Keeps.{HasTaken}
+use Rattle.dt_life.specs.Takings.{faults, first_exit}
 use Rattle.dt_consumer.proofs.processor.Processor.take.Given as goal
 
 abbrev pub invariant-loop-ecb : goal.invariant-loop-ecb

@@ -4,14 +4,17 @@ use Rattle.std.specs.List.{All}
 use Rattle.dt_ecb.specs.declared.parts.Ecb.{Ecb}
 use Rattle.dt_lang.specs.Program.{form_of_clause}
 use Rattle.dt_aggstore.specs.IsAt.{IsAt}
-use Rattle.dt_consumer.specs.Aggregations.{contributions}
-use Rattle.dt_consumer.specs.Uses.{given_then}
-use Rattle.dt_consumer.specs.Buffers.{attempts_of}
-use Rattle.dt_consumer.specs.Keeps.{form_of_moment, followed_by, HasTaken, taking_by}
-use Rattle.dt_consumer.specs.Takings.{faults}
-use Rattle.dt_consumer.proofs.Buffers.{took_more, took_all, in_end_last}
-use Rattle.dt_consumer.proofs.Giving.{gave_all, gave_more}
-use Rattle.dt_consumer.proofs.Takings.{there_at}
+use Rattle.dt_life.specs.Aggregations.{contributions}
+use Rattle.dt_life.specs.Uses.{given_then}
+use Rattle.dt_life.specs.Buffers.{attempts_of}
+use Rattle.dt_life.specs.Forms.{form_of_moment}
+use Rattle.dt_life.specs.Following.{followed_by, taking_by}
+use Rattle.dt_consumer.specs.Keeps.{HasTaken}
+use Rattle.dt_life.specs.Takings.{faults}
+use Rattle.dt_consumer.proofs.Buffers.{took_more, took_all}
+use Rattle.dt_life.specs.laws.Buffers.{in_end_last}
+use Rattle.dt_life.specs.laws.Giving.{gave_all, gave_more}
+use Rattle.dt_life.specs.laws.Takings.{there_at}
 use Rattle.dt_consumer.proofs.processor.Processor.take_end.Goals as goal
 
 pub loop-ecb-preserved : goal.loop-ecb-preserved

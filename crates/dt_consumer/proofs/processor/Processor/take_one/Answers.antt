@@ -6,11 +6,13 @@ use Rattle.dt_lang.specs.Program.{form_of_clause}
 use Rattle.dt_expr.specs.Scene.{SceneForm}
 use Rattle.dt_record.specs.Forms.{form_of_taken}
 use Rattle.dt_record.specs.Taking.{taking}
-use Rattle.dt_consumer.specs.Takings.{scene_at}
-use Rattle.dt_consumer.specs.Aggregations.{contributions_of}
-use Rattle.dt_consumer.specs.Keeps.{form_of_moment, taking_by}
+use Rattle.dt_life.specs.Takings.{scene_at}
+use Rattle.dt_life.specs.Aggregations.{contributions_of}
+use Rattle.dt_life.specs.Forms.{form_of_moment}
+use Rattle.dt_life.specs.Following.{taking_by}
 use Rattle.dt_consumer.specs.declared.processor.Processor.{Processor}
-use Rattle.dt_consumer.specs.Uses.{form_of_uses, given_then, split_by}
+use Rattle.dt_consumer.specs.Uses.{form_of_uses}
+use Rattle.dt_life.specs.Uses.{given_then, split_by}
 use Rattle.dt_consumer.proofs.Giving.{gave_left, uses_long}
 use Rattle.dt_consumer.proofs.processor.Processor.take_one.Goals as goal
 use Rattle.dt_consumer.proofs.processor.Processor.take_one.Goals.{in-Some, in_default, in-Some-get, in_default-get}

@@ -1,9 +1,9 @@
 -- The drops of one store more.
 use Rattle.std.proofs.Common.{◌∙◌, sym, subst}
 use Rattle.dt_aggstore.specs.IsAt.{IsAt}
-use Rattle.dt_consumer.specs.Uses.{AreGiven}
-use Rattle.dt_consumer.proofs.Lists.{found_at}
-use Rattle.dt_consumer.proofs.Stores.{dropped_more}
+use Rattle.dt_life.specs.Uses.{AreGiven}
+use Rattle.dt_life.specs.laws.Lists.{found_at}
+use Rattle.dt_life.specs.laws.Stores.{dropped_more}
 use Rattle.dt_consumer.proofs.processors.Processors.aggdrops.Goals as goal
 
 pub loop-store-preserved : goal.loop-store-preserved

@@ -3,7 +3,7 @@ use Rattle.std.proofs.Common.{◌≡◌, ℕ, map}
 use Rattle.std.specs.List.{range_with_len}
 use Rattle.dt_aggstore.specs.Chosen.{drops}
 use Rattle.dt_aggstore.specs.History as stores
-use Rattle.dt_consumer.specs.Uses.{AreGiven}
+use Rattle.dt_life.specs.Uses.{AreGiven}
 use Rattle.dt_consumer.proofs.processors.Processors.aggdrops.Given as goal
 
 abbrev pub invariant-loop-store : goal.invariant-loop-store

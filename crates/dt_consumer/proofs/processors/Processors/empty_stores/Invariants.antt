@@ -2,8 +2,7 @@
 use Rattle.std.proofs.Common.{◌≡◌, length}
 use Rattle.std.specs.List.{All}
 use Rattle.dt_aggstore.specs.History.{new_past}
-use Rattle.dt_consumer.specs.Counts.{GivenAtMost}
-use Rattle.dt_consumer.specs.Uses.{AreGiven}
+use Rattle.dt_life.specs.Uses.{GivenAtMost, AreGiven}
 use Rattle.dt_consumer.proofs.processors.Processors.empty_stores.Given as goal
 
 abbrev pub invariant-loop-cpu : goal.invariant-loop-cpu

@@ -2,9 +2,11 @@
 use Rattle.std.proofs.Common.{sym, ap, ◌∙◌, arith}
 use Rattle.std.specs.Option.{option_copied}
 use Rattle.std.proofs.lemmas.Bool.{eqb-false}
-use Rattle.dt_consumer.specs.declared.limits.TheConstants.{END}
-use Rattle.dt_consumer.proofs.Stores.{gave_there}
-use Rattle.dt_consumer.proofs.Taken.{took_there, own_is, some_and}
+use Rattle.dt_life.specs.declared.limits.TheConstants.{END}
+use Rattle.dt_life.specs.laws.Stores.{gave_there}
+use Rattle.dt_consumer.proofs.Taken.{took_there}
+use Rattle.dt_life.specs.laws.Moments.{own_is}
+use Rattle.dt_life.specs.laws.Options.{some_and}
 use Rattle.dt_consumer.proofs.processors.Processors.fire_end.Goals as goal
 
 pub returns-then-not-is_empty-clause-taken : goal.returns-then-not-is_empty-clause-taken

@@ -1,6 +1,6 @@
 -- The ECBs of the probe were taken, where there is such a processor.
 use Rattle.std.proofs.Common.{arith}
-use Rattle.dt_consumer.proofs.Stores.{gave_there, gave_nowhere}
+use Rattle.dt_life.specs.laws.Stores.{gave_there, gave_nowhere}
 use Rattle.dt_consumer.proofs.Taken.{took_there, took_nowhere}
 use Rattle.dt_consumer.proofs.processors.Processors.take.Goals as goal
 

@@ -2,9 +2,8 @@
 use Rattle.std.proofs.Common.{◌≡◌, ℕ, length}
 use Rattle.std.specs.List.{All}
 use Rattle.dt_aggstore.specs.History as stores
-use Rattle.dt_consumer.specs.Counts.{GivenAtMost}
-use Rattle.dt_consumer.specs.Uses.{AreGiven}
-use Rattle.dt_consumer.proofs.Stores.{truncated_to}
+use Rattle.dt_life.specs.Uses.{GivenAtMost, AreGiven}
+use Rattle.dt_life.specs.laws.Stores.{truncated_to}
 use Rattle.dt_consumer.proofs.processors.Processors.trunc.Given as goal
 
 abbrev pub invariant-loop-cpu : goal.invariant-loop-cpu

@@ -3,7 +3,7 @@ use Rattle.std.proofs.Common.{◌≡◌, ◌==◌, filter, arith}
 use Rattle.std.proofs.lemmas.List.{length_push}
 use Rattle.dt_ecb.specs.declared.parts.Ecb.{Ecb}
 use Rattle.dt_consumer.specs.declared.rows.Row.{Row}
-use Rattle.dt_consumer.proofs.Lists.{pushed}
+use Rattle.dt_life.specs.laws.Lists.{pushed}
 use Rattle.dt_consumer.proofs.rows.Row.for_each.Goals as goal
 
 pub loop-probe-preserved : goal.loop-probe-preserved

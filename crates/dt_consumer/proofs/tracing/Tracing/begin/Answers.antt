@@ -1,10 +1,11 @@
 -- Tracing goes on after BEGIN, or ends by it.
 use Rattle.std.proofs.Common.{◌∙◌, ◌==◌, [], map, sym, ap}
 use Rattle.dt_lang.specs.Program.{form_of_clause}
-use Rattle.dt_consumer.specs.Life.{since_then, with_event}
-use Rattle.dt_consumer.specs.Options.{OptionsForm}
-use Rattle.dt_consumer.specs.Takings.{began, ended}
-use Rattle.dt_consumer.proofs.Tracings.{becomes, end_is, happens_last, happens_on}
+use Rattle.dt_life.specs.Life.{since_then, with_event}
+use Rattle.dt_life.specs.Options.{OptionsForm}
+use Rattle.dt_life.specs.Takings.{began, ended}
+use Rattle.dt_consumer.proofs.Tracings.{becomes}
+use Rattle.dt_life.specs.laws.Tracings.{end_is, happens_last, happens_on}
 use Rattle.dt_consumer.proofs.tracing.Tracing.begin.Goals as goal
 
 pub returns-in_default : goal.returns-in_default

@@ -6,16 +6,17 @@ use Rattle.dt_ecb.specs.declared.limits.TheConstants.{ECBS_MAX}
 use Rattle.dt_ecb.specs.Forms.{shapes_of}
 use Rattle.dt_lang.specs.Program.{form_of_clause}
 use Rattle.dt_cred.specs.declared.firing.Firing.{Firing}
-use Rattle.dt_consumer.specs.Keeps.{form_of_options}
-use Rattle.dt_consumer.specs.Life.{shapes_in, since_then}
-use Rattle.dt_consumer.specs.Options.{OptionsForm}
+use Rattle.dt_life.specs.Forms.{form_of_options}
+use Rattle.dt_life.specs.Life.{shapes_in, since_then}
+use Rattle.dt_life.specs.Options.{OptionsForm}
 use Rattle.dt_consumer.specs.Counts.{GIVES_MAX}
 use Rattle.dt_consumer.specs.Uses.{AreUses}
-use Rattle.dt_consumer.specs.Takings.{MomentForm, began}
-use Rattle.dt_consumer.specs.declared.limits.TheConstants.{BEGIN}
+use Rattle.dt_life.specs.Takings.{MomentForm, began}
+use Rattle.dt_life.specs.declared.limits.TheConstants.{BEGIN}
 use Rattle.dt_consumer.proofs.Counted.{no_more, none_more}
-use Rattle.dt_consumer.proofs.Stores.{fired_at, new_given}
-use Rattle.dt_consumer.proofs.Taken.{own_is}
+use Rattle.dt_consumer.proofs.Stores.{fired_at}
+use Rattle.dt_life.specs.laws.Stores.{new_given}
+use Rattle.dt_life.specs.laws.Moments.{own_is}
 use Rattle.dt_consumer.proofs.Tracings.{RowOf, new_taken, row_at, rows_kept, two_there}
 use Rattle.dt_consumer.proofs.tracing.Tracing.begun.Goals as goal
 

@@ -1,8 +1,8 @@
 -- Tracing ends without a cause where it goes on.
 use Rattle.std.proofs.Common.{refl}
-use Rattle.dt_consumer.specs.Takings.{closed}
+use Rattle.dt_life.specs.Takings.{closed}
 use Rattle.dt_consumer.proofs.Reading.{untouched}
-use Rattle.dt_consumer.proofs.Stores.{gave_none}
+use Rattle.dt_life.specs.laws.Stores.{gave_none}
 use Rattle.dt_consumer.proofs.tracing.Tracing.close.Goals as goal
 
 pub returns-then-is_running-clause-running : goal.returns-then-is_running-clause-running

@@ -3,8 +3,8 @@ use Rattle.std.proofs.Common.{◌≡◌, sym, ◌+◌, ◌*◌, subst, refl, ari
 use Rattle.std.specs.List.{All}
 use Rattle.dt_ecb.specs.declared.limits.TheConstants.{ECBS_MAX}
 use Rattle.dt_consumer.specs.Counts.{AtMost, own_firings}
-use Rattle.dt_consumer.specs.declared.limits.TheConstants.{END}
-use Rattle.dt_consumer.specs.Life.{shapes_in}
+use Rattle.dt_life.specs.declared.limits.TheConstants.{END}
+use Rattle.dt_life.specs.Life.{shapes_in}
 use Rattle.dt_consumer.specs.Uses.{AreUses}
 use Rattle.dt_consumer.proofs.Counted.{given_more, given_on}
 use Rattle.dt_consumer.proofs.Stores.{end_gave}

@@ -1,17 +1,20 @@
 -- A firing was seen, and perhaps it was the last.
 use Rattle.std.proofs.Common.{◌≡◌, ◌+◌, ◌*◌, ◌≤◌, ◌==◌, ℕ, refl, sym, ap, ◌∙◌, subst, arith}
-use Rattle.dt_consumer.specs.Keeps.{form_of_moment, phase_by}
-use Rattle.dt_consumer.specs.Life.{shapes_in, with_event}
-use Rattle.dt_consumer.specs.Takings.{seen}
-use Rattle.dt_consumer.specs.declared.limits.TheConstants.{END}
+use Rattle.dt_life.specs.Forms.{form_of_moment}
+use Rattle.dt_consumer.specs.Keeps.{phase_by}
+use Rattle.dt_life.specs.Life.{shapes_in, with_event}
+use Rattle.dt_life.specs.Takings.{seen}
+use Rattle.dt_life.specs.declared.limits.TheConstants.{END}
 use Rattle.std.specs.List.{All}
 use Rattle.dt_ecb.specs.declared.limits.TheConstants.{ECBS_MAX}
-use Rattle.dt_consumer.specs.Counts.{AtMost, GivenAtMost, GIVES_MAX, must_be_left, own_firings}
+use Rattle.dt_consumer.specs.Counts.{AtMost, GIVES_MAX, must_be_left, own_firings}
+use Rattle.dt_life.specs.Uses.{GivenAtMost}
 use Rattle.dt_consumer.specs.Uses.{AreUses}
 use Rattle.dt_consumer.proofs.Counted.{below_limit, counted_on, given_below, given_more, given_on, left_on, none_more}
 use Rattle.dt_consumer.proofs.Counted.{no_more, one_left, one_more}
 use Rattle.dt_consumer.proofs.Stores.{end_gave, fired_at}
-use Rattle.dt_consumer.proofs.Tracings.{becomes, end_fired, end_is, happens_last, happens_on, row_at, row_placed}
+use Rattle.dt_consumer.proofs.Tracings.{becomes, end_fired, row_at, row_placed}
+use Rattle.dt_life.specs.laws.Tracings.{end_is, happens_last, happens_on}
 use Rattle.dt_consumer.proofs.tracing.Tracing.see.Goals as goal
 
 counted_is : (a b c d : ℕ) → a ≡ b → c ≡ d → (b + 1 == d) ≡ (a + 1 == c)

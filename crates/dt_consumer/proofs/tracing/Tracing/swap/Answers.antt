@@ -1,10 +1,10 @@
 -- The buffer of a processor was read.
 use Rattle.std.proofs.Common.{◌==◌, ◌∙◌, refl, arith}
 use Rattle.std.proofs.Math.ListN.{length-set}
-use Rattle.dt_consumer.specs.Buffers.{past_in}
-use Rattle.dt_consumer.specs.Takings.{read}
+use Rattle.dt_life.specs.Buffers.{past_in}
+use Rattle.dt_life.specs.Takings.{read}
 use Rattle.dt_consumer.proofs.Reading.{still_with, taken_read, taken_read-past}
-use Rattle.dt_consumer.proofs.Stores.{gave_none}
+use Rattle.dt_life.specs.laws.Stores.{gave_none}
 use Rattle.dt_consumer.proofs.tracing.Tracing.swap.Goals as goal
 
 pub returns-then-cpu-len : goal.returns-then-cpu-len

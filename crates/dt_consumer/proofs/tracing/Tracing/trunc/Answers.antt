@@ -3,14 +3,14 @@ use Rattle.std.proofs.Common.{◌∙◌, ap, length, refl, subst, sym}
 use Rattle.std.specs.Global.{Vec}
 use Rattle.std.proofs.lemmas.List.{append-nil}
 use Rattle.dt_buffer.specs.History.{of_end}
-use Rattle.dt_consumer.specs.Buffers.{errors_in, past_in}
+use Rattle.dt_life.specs.Buffers.{errors_in, past_in}
 use Rattle.dt_consumer.specs.Keeps.{AreTaken}
-use Rattle.dt_consumer.specs.Stores.{given_in}
-use Rattle.dt_consumer.specs.Life.{with_event}
-use Rattle.dt_consumer.specs.Takings.{truncated}
+use Rattle.dt_life.specs.Stores.{given_in}
+use Rattle.dt_life.specs.Life.{with_event}
+use Rattle.dt_life.specs.Takings.{truncated}
 use Rattle.dt_consumer.specs.declared.processor.Processor.{Processor}
 use Rattle.dt_consumer.proofs.Reading.{untouched}
-use Rattle.dt_consumer.proofs.Stores.{trunc_given}
+use Rattle.dt_life.specs.laws.Stores.{trunc_given}
 use Rattle.dt_consumer.proofs.tracing.Tracing.trunc.Goals as goal
 
 pub returns : goal.returns

@@ -2,7 +2,7 @@
 use Rattle.std.proofs.Common.{get_or, map, sym, ap, ◌∙◌, arith}
 use Rattle.std.proofs.lemmas.Bool.{eqb-true}
 use Rattle.dt_ecb.specs.Forms.{form_of_ecb}
-use Rattle.dt_consumer.proofs.Lists.{empty-from_length, held}
+use Rattle.dt_life.specs.laws.Lists.{empty-from_length, held}
 use Rattle.dt_consumer.proofs.Tracings.{row_at}
 use Rattle.dt_consumer.proofs.tracing.Tracing.wants.Goals as goal
 

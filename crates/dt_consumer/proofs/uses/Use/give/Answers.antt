@@ -1,7 +1,7 @@
 -- The store is given the key and the number that lie there.
 use Rattle.std.proofs.Common.{◌≡◌, arith, to_z, of_z, w64, ◌∙◌}
 use Rattle.std.proofs.lemmas.Int.{ints}
-use Rattle.dt_consumer.proofs.Giving.{gave_one}
+use Rattle.dt_life.specs.laws.Giving.{gave_one}
 use Rattle.dt_consumer.proofs.uses.Use.give.Goals as goal
 
 pub returns-clause-stands : goal.returns-clause-stands

@@ -1,7 +1,7 @@
 -- What the proof of `Pattern::parse` is told at its goals.
 use Rattle.dt_glob.specs.Spells.{Spells}
 use Rattle.dt_glob.specs.Reading.{items_of_text}
-use Rattle.dt_glob.proofs.ReadingLemmas.{items_of_text-spelled}
+use Rattle.dt_glob.specs.laws.Readings.{items_of_text-spelled}
 use Rattle.dt_glob.proofs.pattern.Pattern.parse.Goals as goal
 
 spelled : (c : goal.In-Ok) → Spells c.args.text.now (items_of_text c.args.text.now)

@@ -3,7 +3,7 @@ use Rattle.std.proofs.Common.{◌≡◌, ◌≢◌, ℕ, ◌∙◌, ap, sym, ◌
 use Rattle.dt_glob.specs.declared.sign.Sign.{Sign}
 use Rattle.dt_glob.specs.declared.sign.Sign.TheVariants.{Plain}
 use Rattle.dt_glob.specs.Sign.{byte_of, sign_text, star, question, opening}
-use Rattle.dt_glob.proofs.SignLemmas.{escaped_apart}
+use Rattle.dt_glob.specs.laws.Signs.{escaped_apart}
 use Rattle.dt_glob.proofs.TokenLemmas.{no_spelling, star_read, question_read, literal_read, set_read, set_token}
 use Rattle.dt_glob.proofs.token.Token.split_first.Goals as goal
 use Rattle.dt_glob.proofs.token.Token.split_first.Goals.{in_default-via-in-Plain+in_default, in_default-via-in_default}

@@ -1,8 +1,8 @@
 -- The tests are what bounds are.
+use mir.Syntax.{w128}
 use Rattle.std.proofs.Common.{◌≡◌, ◌<◌, ◌^◌, ℤ, pos, ◌-ℤ◌, to_z, of_z, w64, arith, int_lt, int_div, true}
 use Rattle.std.proofs.lemmas.Int.{ints}
 use Rattle.std.specs.Int.Signed.{mag}
-use mir.Syntax.{w128}
 use Rattle.dt_program.proofs.LevelLemmas.{no_rest, same_quotient, not_above}
 use Rattle.dt_program.proofs.clause.Bounds.new.Goals as goal
 

@@ -1,6 +1,6 @@
 -- What is to be shown of `parse`.
 use Rattle.dt_names.specs.Desc.{desc_of}
-use Rattle.dt_program.proofs.Descriptions.{short_description, provider_of, module_of, function_of, name_of}
+use Rattle.dt_program.specs.laws.Descriptions.{short_description, provider_of, module_of, function_of, name_of}
 use Rattle.dt_program.proofs.description.Description.parse.Goals as goal
 
 pub returns-in_err-provider-clause-none : goal.returns-in_err-provider-clause-none

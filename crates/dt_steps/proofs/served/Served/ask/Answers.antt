@@ -1,10 +1,10 @@
 -- A line was asked of a session.
 use Rattle.std.proofs.Common.{◌≡◌, true, subst}
-use Rattle.dt_consumer.specs.Answer.{answer_of}
+use Rattle.dt_life.specs.Answer.{answer_of}
 use Rattle.dt_consumer.specs.Draft.{IsDraftOf}
 use Rattle.dt_proto.specs.Asked.{form_lent}
 use Rattle.dt_proto.specs.Line.{ask_in}
-use Rattle.dt_proto.proofs.Quota.{quota_told}
+use Rattle.dt_proto.specs.laws.Quota.{quota_told}
 use Rattle.dt_steps.specs.World.{life_in}
 use Rattle.dt_steps.proofs.Serving.{asked_go, asked_other}
 use Rattle.dt_steps.proofs.served.Served.ask.Goals as goal

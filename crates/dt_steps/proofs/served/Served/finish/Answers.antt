@@ -1,6 +1,6 @@
 -- A published `go` takes effect.
 use Rattle.std.proofs.Common.{◌≡◌, ◌∙◌, true, rules, sym, ap, subst}
-use Rattle.dt_consumer.specs.Answer.{answer_of}
+use Rattle.dt_life.specs.Answer.{answer_of}
 use Rattle.dt_consumer.specs.Draft.{IsDraftOf}
 use Rattle.dt_proto.specs.Asked.{form_asked}
 use Rattle.dt_proto.specs.Line.{ask_in}

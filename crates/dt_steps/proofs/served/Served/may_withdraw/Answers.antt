@@ -1,6 +1,6 @@
 -- The entry may be withdrawn where the session is not active and no `go` is pending.
 use Rattle.std.proofs.Common.{◌≡◌, ◌∙◌, sym, ap}
-use Rattle.dt_consumer.specs.Life.{is_active}
+use Rattle.dt_life.specs.Life.{is_active}
 use Rattle.dt_steps.specs.World.{life_in}
 use Rattle.dt_steps.proofs.Serving.{not_active, withdraws_free, withdraws_not}
 use Rattle.dt_steps.proofs.served.Served.may_withdraw.Goals as goal

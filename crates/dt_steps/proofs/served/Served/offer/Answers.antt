@@ -1,5 +1,5 @@
 -- A firing reaches a session.
-use Rattle.dt_steps.proofs.Seeing.{seen_told}
+use Rattle.dt_life.specs.laws.Seeing.{seen_told}
 use Rattle.dt_steps.proofs.Serving.{served_offered}
 use Rattle.dt_steps.proofs.served.Served.offer.Goals as goal
 

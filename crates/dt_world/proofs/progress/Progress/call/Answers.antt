@@ -2,9 +2,8 @@
 use Rattle.std.proofs.Common.{◌≡◌, ◌+◌, ◌<◌, ◌^◌, true, false, sym, ◌∙◌, subst, arith, refl}
 use Rattle.std.proofs.lemmas.Result.{on_ok_weaker}
 use Rattle.dt_world.specs.Progress.{IsAfter, with_world}
-use Rattle.dt_steps.specs.World.{waits, has_closed}
+use Rattle.dt_steps.specs.World.{waits, has_closed, number_on}
 use Rattle.dt_steps.specs.Steps.{publishing, withdrawing, closing}
-use Rattle.dt_steps.specs.World.{number_on}
 use Rattle.dt_world.proofs.Numbers.{after-asking, after-withdrawing}
 use Rattle.dt_world.proofs.After.{after-silent}
 use Rattle.dt_world.proofs.Silences.{asked_in, called_waiting, called_closed, publishing_silent, publishing_views}

@@ -6,7 +6,7 @@ use Rattle.dt_steps.specs.Stands.{IsAnswered, first_account}
 use Rattle.dt_steps.specs.Steps.{finishing}
 use Rattle.dt_world.specs.Told.{IsTold, reply_told}
 use Rattle.dt_world.proofs.After.{after-told, after-untold}
-use Rattle.dt_steps.proofs.Holding.{some_of}
+use Rattle.dt_life.specs.laws.Options.{some_of}
 use Rattle.dt_world.proofs.Trails.{told-answered, finishing-answers, told-unfinished, within_quota}
 use Rattle.dt_world.proofs.progress.Progress.finish.Goals as goal
 

@@ -1,0 +1,5 @@
+-- The lemmas of the crate, lowest first.
+
+pub mod Names
+pub mod Placed
+pub mod ReplyLaws

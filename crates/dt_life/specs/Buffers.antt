@@ -1,0 +1,54 @@
+-- What comes to the principal buffers of a consumer, and its errors. Guide, Buffers and Buffering.
+use Rattle.std.specs.Prelude.{ℕ, ◌==◌, ◌&&◌, List, [], ◌∷◌, ◌++◌, if◌then◌else◌}
+use Rattle.std.specs.List.{flat_map}
+use Rattle.std.specs.Option.{option_map, option_to_list}
+use Rattle.dt_buffer.specs.History.{BufferPast, attempt, swap}
+use Rattle.dt_buffer.specs.History as buffer
+use Rattle.dt_cred.specs.declared.account.Account.{Account}
+use Rattle.dt_ecb.specs.Ecbs.{EcbForm}
+use Rattle.dt_machine.specs.Registry.{Registry}
+use Rattle.dt_life.specs.Life.{Item, SetUp, ecbs_in, end_size, set_up}
+use Rattle.dt_life.specs.Options.{is_fill}
+use Rattle.dt_life.specs.Takings.{TracingEvent, read, Taking, record_of, faults, taken_on, taken_since}
+
+-- the attempts among takings
+abbrev pub attempts_of : List Taking → List buffer.BufferEvent
+attempts_of takings =
+    flat_map (λ t. option_to_list (option_map (λ bytes. attempt bytes t.in_end) (record_of t))) takings
+
+module _ (account : Account) (registry : Registry) where
+  module _ (ecbs : List EcbForm) (cpu : ℕ) where
+    -- what comes to a processor's buffer by an event: attempts, or a swap where the buffer is read
+    abbrev pub comes_by : TracingEvent → List buffer.BufferEvent
+    comes_by (read n) = if n == cpu then swap ∷ [] else []
+    comes_by event = attempts_of (taken_on account registry ecbs cpu event)
+
+    -- the same for events, the newest event first, the oldest attempt first
+    abbrev pub comes_since : List TracingEvent → List buffer.BufferEvent
+    comes_since [] = []
+    comes_since (event ∷ events) = comes_since events ++ comes_by event
+
+  -- Under fill, processor 0 keeps the bytes of one record of each of END's ECBs free for them.
+  abbrev pub reserve_on : SetUp → ℕ → ℕ
+  reserve_on s cpu = if is_fill s.options.bufpolicy && cpu == 0 then end_size account registry s else 0
+
+  -- the past of a processor's buffer
+  abbrev pub past_in : SetUp → ℕ → BufferPast
+  past_in s cpu = record {
+    policy = s.options.bufpolicy;
+    size = s.options.bufsize;
+    reserve = reserve_on s cpu;
+    events = comes_since (ecbs_in account registry s) cpu s.since;
+  }
+
+  -- the clauses that a division by zero ended on a processor
+  abbrev pub errors_in : SetUp → ℕ → ℕ
+  errors_in s cpu = faults (taken_since account registry (ecbs_in account registry s) cpu s.since)
+
+module _ (account : Account) (registry : Registry) (life : List Item) (cpu : ℕ) where
+  -- what came to the buffer of a processor in a life, and the errors there
+  abbrev pub past : BufferPast
+  past = past_in account registry (set_up account registry life) cpu
+
+  abbrev pub errors : ℕ
+  errors = errors_in account registry (set_up account registry life) cpu

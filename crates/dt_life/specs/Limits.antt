@@ -1,0 +1,34 @@
+-- The limits, with their numbers. The law `limits_agree` says that the code keeps these.
+use Rattle.std.specs.Prelude.{ℕ}
+
+-- the most lines of one session
+abbrev pub lines_max : ℕ
+lines_max = 1024
+
+-- how many bytes a principal buffer has where no option says otherwise
+abbrev pub buffer_size_default : ℕ
+buffer_size_default = 65536
+
+-- how many bytes the entries of aggregations may cost where no option says otherwise
+abbrev pub aggsize_default : ℕ
+aggsize_default = 65536
+
+-- the fewest bytes that `aggsize` may ask for
+abbrev pub aggsize_min : ℕ
+aggsize_min = 8
+
+-- after how many seen firings tracing ends where no option says otherwise
+abbrev pub history_default : ℕ
+history_default = 4096
+
+-- the most firings that `histsize` may ask for
+abbrev pub history_max : ℕ
+history_max = 65536
+
+-- the identifier of the probe that fires as tracing begins
+abbrev pub begin_id : ℕ
+begin_id = 1
+
+-- the identifier of the probe that fires as tracing ends
+abbrev pub end_id : ℕ
+end_id = 2

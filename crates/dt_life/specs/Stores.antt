@@ -1,0 +1,40 @@
+-- What comes to the stores of a consumer's aggregations, one on each processor. Guide, Aggregations.
+use Rattle.std.specs.Prelude.{ℕ, List, [], ◌∷◌, ◌++◌, map}
+use Rattle.std.specs.List.{range_with_len}
+use Rattle.std.specs.Option.{option_map, option_to_list}
+use Rattle.dt_aggstore.specs.Chosen.{drops}
+use Rattle.dt_aggstore.specs.History as store
+use Rattle.dt_cred.specs.declared.account.Account.{Account}
+use Rattle.dt_ecb.specs.Ecbs.{EcbForm}
+use Rattle.dt_ecb.specs.Shapes.{ShapeForm}
+use Rattle.dt_machine.specs.Registry.{Registry}
+use Rattle.dt_life.specs.Aggregations.{aggregation_of, contributions}
+use Rattle.dt_life.specs.Life.{SetUp, ecbs_in, shapes_in}
+use Rattle.dt_life.specs.Takings.{TracingEvent, truncated, taken_on}
+
+module _ (account : Account) (registry : Registry) where
+  module _ (shapes : List ShapeForm) (ecbs : List EcbForm) (cpu : ℕ) where
+    -- what comes to a processor's store by an event: contributions, or an aggregation is truncated
+    abbrev pub given_on : TracingEvent → List store.Event
+    given_on (truncated name) = option_to_list (option_map store.truncated (aggregation_of shapes name))
+    given_on event = contributions shapes (taken_on account registry ecbs cpu event)
+
+    -- the same for events, the newest event first, the oldest contribution first
+    abbrev pub given_since : List TracingEvent → List store.Event
+    given_since [] = []
+    given_since (event ∷ events) = given_since events ++ given_on event
+
+  -- the past of a processor's store
+  abbrev pub given_in : SetUp → ℕ → store.Past
+  given_in s cpu = record {
+    size = s.options.aggsize;
+    events = given_since (shapes_in s) (ecbs_in account registry s) cpu s.since;
+  }
+
+  -- the contributions that a processor's store doesn't keep
+  abbrev pub aggdrops_in : SetUp → ℕ → ℕ
+  aggdrops_in s cpu = drops (given_in s cpu)
+
+  -- the pasts of all stores
+  abbrev pub stores_in : SetUp → List store.Past
+  stores_in s = map (given_in s) (range_with_len 0 registry.cpus)

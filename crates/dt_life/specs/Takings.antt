@@ -1,0 +1,146 @@
+-- What a consumer takes: its ECBs, one after another, where a probe fires. Guide, Program Structure; Actions and
+-- Subroutines (exit).
+use Rattle.std.specs.Prelude.{ℕ, ℤ, pos, ◌==◌, Bool, true, false, List, [], ◌∷◌, ◌++◌, Option, Some, None, length, map}
+use Rattle.std.specs.Prelude.{filter, replicate, is_none, is_some, option_and_then, if◌then◌else◌}
+use Rattle.std.specs.Option.{option_map, option_map_or, option_or}
+use Rattle.dt_cred.specs.declared.account.Account.{Account}
+use Rattle.dt_cred.specs.declared.account.Process.{Process}
+use Rattle.dt_cred.specs.declared.probe.Probe.{Probe}
+use Rattle.dt_cred.specs.declared.rights.Mode.TheVariants.{User}
+use Rattle.dt_machine.specs.Registry.{Registry, probe_of, process_of}
+use Rattle.dt_cred.specs.declared.firing.Firing.{Firing}
+use Rattle.dt_cred.specs.Limits.{argument_count, frame_count}
+use Rattle.dt_expr.specs.Scene.{SceneForm}
+use Rattle.dt_ecb.specs.Ecbs.{EcbForm, of_probe}
+use Rattle.dt_record.specs.Taking.{TakenForm, taking}
+use Rattle.dt_life.specs.Limits.{begin_id, end_id}
+use Rattle.dt_life.specs.declared.phase.End.{End}
+
+-- what happens to a consumer's tracing: it begins, a firing is seen, the buffer of a processor is read, the aggregation of
+-- a name is truncated, it ends, or the session is closed
+pub data TracingEvent : Type 0 where
+  began : TracingEvent
+  seen : Firing → TracingEvent
+  read : (cpu : ℕ) → TracingEvent
+  truncated : (name : List ℕ) → TracingEvent
+  ended : End → TracingEvent
+  closed : TracingEvent
+
+abbrev pub is_end : TracingEvent → Bool
+is_end (ended end) = true
+is_end _ = false
+
+-- a probe that fires in a process
+pub record MomentForm : Type 0 where
+  pub probe : Probe
+  pub process : Process
+  pub firing : Firing
+
+-- An ECB that is taken: where, and what came of it. That is none where a division by zero is evaluated, or that the
+-- clause was passed over, its predicate being 0, or else what it leaves.
+pub record Taking : Type 0 where
+  pub scene : SceneForm
+  pub ecb : EcbForm
+  pub came : Option (Option TakenForm)
+  pub in_end : Bool
+
+abbrev pub scene_at : MomentForm → ℕ → SceneForm
+scene_at moment epid =
+    record { epid = epid; probe = moment.probe; process = moment.process; firing = moment.firing }
+
+abbrev pub taking_of : Bool → MomentForm → EcbForm → Taking
+taking_of in_end moment ecb = record {
+  scene = scene_at moment ecb.epid;
+  ecb = ecb;
+  came = taking ecb.epid (scene_at moment ecb.epid) ecb.clause;
+  in_end = in_end;
+}
+
+-- what a taking left, where it left something
+abbrev pub left_by : Taking → Option TakenForm
+left_by t = option_and_then (λ left. left) t.came
+
+-- the bytes of the record that it attempts to put into its processor's buffer, where it attempts one
+abbrev pub record_of : Taking → Option (List ℕ)
+record_of t = option_and_then (λ (form : TakenForm). form.record_bytes) (left_by t)
+
+-- the status that it exits with, where it exits
+abbrev pub exit_of : Taking → Option ℤ
+exit_of t = option_and_then (λ (form : TakenForm). form.exit) (left_by t)
+
+-- the status of the first exit
+abbrev pub first_exit : List Taking → Option ℤ
+first_exit [] = None
+first_exit (t ∷ later) = option_or (exit_of t) (first_exit later)
+
+-- the takings up to and including the first that exits
+abbrev pub through_exit : List Taking → List Taking
+through_exit [] = []
+through_exit (t ∷ later) = t ∷ (if is_some (exit_of t) then [] else through_exit later)
+
+-- how many takings a division by zero ended
+abbrev pub faults : List Taking → ℕ
+faults takings = length (filter (λ t. is_none t.came) takings)
+
+-- The ECBs of the probe that fires, in order of EPID. After an exit the later ones aren't taken; in end_id an exit is
+-- passed over.
+abbrev pub taken_at : Bool → List EcbForm → MomentForm → List Taking
+taken_at in_end ecbs moment =
+    let all = map (taking_of in_end moment) (of_probe moment.firing.probe ecbs) in
+    if in_end then all else through_exit all
+
+-- a firing, with the probe and the process of the machine that it names
+abbrev pub moment_in : Registry → Option Process → Firing → Option MomentForm
+moment_in registry process firing = option_and_then
+    (λ probe. option_map (λ process. record { probe = probe; process = process; firing = firing }) process)
+    (probe_of registry firing.probe)
+
+abbrev pub moment_of : Registry → Firing → Option MomentForm
+moment_of registry firing = moment_in registry (process_of registry firing.pid) firing
+
+-- begin_id and end_id fire on processor 0, in a process of the consumer's own: of number 0, with the account's uid and no
+-- name.
+abbrev pub own_firing : ℕ → Firing
+own_firing probe = record {
+  cpu = 0;
+  place = 0;
+  probe = probe;
+  pid = 0;
+  tid = 0;
+  mode = User;
+  timestamp = pos 0;
+  args = replicate argument_count (pos 0);
+  kstack = replicate frame_count 0;
+  ustack = replicate frame_count 0;
+}
+
+abbrev pub own_process : Account → Process
+own_process account = record { pid = 0; uid = account.uid; execname = [] }
+
+abbrev pub own_moment : Account → Registry → ℕ → Option MomentForm
+own_moment account registry probe = moment_in registry (Some (own_process account)) (own_firing probe)
+
+module _ (account : Account) (registry : Registry) where
+  -- the moment at which ECBs are taken by an event: BEGIN's, the firing's, END's
+  abbrev pub moment_at : TracingEvent → Option MomentForm
+  moment_at began = own_moment account registry begin_id
+  moment_at (seen firing) = moment_of registry firing
+  moment_at (read cpu) = None
+  moment_at (truncated name) = None
+  moment_at (ended end) = own_moment account registry end_id
+  moment_at closed = None
+
+  module _ (ecbs : List EcbForm) where
+    -- what is taken by an event
+    abbrev pub taken_by : TracingEvent → List Taking
+    taken_by event = option_map_or (taken_at (is_end event) ecbs) (moment_at event) []
+
+    -- the same, where it happens on this processor
+    abbrev pub taken_on : ℕ → TracingEvent → List Taking
+    taken_on cpu event = option_map_or
+        (λ m. if m.firing.cpu == cpu then taken_at (is_end event) ecbs m else []) (moment_at event) []
+
+    -- what is taken on a processor by events, the newest event first, the oldest taking first
+    abbrev pub taken_since : ℕ → List TracingEvent → List Taking
+    taken_since cpu [] = []
+    taken_since cpu (event ∷ events) = taken_since cpu events ++ taken_on cpu event

@@ -1,0 +1,17 @@
+-- What holds of the definitions, for those who prove that a program meets them. Lowest first.
+
+pub mod Options
+pub mod Lists
+pub mod Takings
+pub mod Buffers
+pub mod Moments
+pub mod Sizes
+pub mod Placed
+pub mod Enabled
+pub mod Lines
+pub mod Happening
+pub mod Tracings
+pub mod Giving
+pub mod Stores
+pub mod Verdicts
+pub mod Seeing

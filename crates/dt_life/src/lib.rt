@@ -1,0 +1,42 @@
+//! The life of one consumer: what its lines ask for, what a list of lines and seen firings has made of it, and what it
+//! answers to the next line.
+//!
+//! Nothing here keeps a consumer: `dt_consumer` does, step by step, and `dt_alone` computes the same anew from whole
+//! lists. What both mean is defined here, over a life (`specs/Life.antt`): the reply to a line stands in
+//! `specs/Reply.antt`, and a line has just one (`one_reply`, `some_reply`). The small parts that have one way to be
+//! written (options, the moments of BEGIN and END, keys out of values) are here too, for both.
+#![tactic(auto)]
+
+mod command;
+mod known;
+mod laws;
+mod limit_laws;
+mod limits;
+mod moment;
+mod options;
+mod own;
+mod phase;
+mod placing;
+mod refusal;
+mod reply;
+mod reserve;
+mod values;
+mod visibility;
+
+pub use command::{Command, OptionValue};
+pub use known::Known;
+pub use laws::{one_reply, some_reply};
+pub use limit_laws::limits_agree;
+pub use limits::{
+    AGGSIZE, AGGSIZE_MIN, BEGIN, BUFFER_SIZE, END, HISTORY, HISTORY_MAX, LINES_MAX,
+};
+pub use moment::Moment;
+pub use options::Options;
+pub use own::{own_firing, own_process};
+pub use phase::{End, Phase};
+pub use placing::placed_after;
+pub use refusal::Refusal;
+pub use reply::Reply;
+pub use reserve::left_by_end;
+pub use values::{number_in, parts_at};
+pub use visibility::shown;

@@ -1,0 +1,26 @@
+//! The crate's limits, by name: contracts, definitions and code cite these.
+
+/// The most lines of one session.
+pub const LINES_MAX: u32 = 1024;
+
+/// How many bytes a principal buffer has where no option says otherwise. The most are dt_buffer's `SIZE_MAX`.
+pub const BUFFER_SIZE: usize = 65_536;
+
+/// How many bytes the entries of aggregations may cost on each processor where no option says otherwise. The most are
+/// dt_aggstore's `AGGSIZE_MAX`.
+pub const AGGSIZE: usize = 65_536;
+
+/// The fewest bytes that `aggsize` may ask for.
+pub const AGGSIZE_MIN: usize = 8;
+
+/// After how many seen firings tracing ends, where no option says otherwise.
+pub const HISTORY: u32 = 4_096;
+
+/// The most firings that `histsize` may ask for.
+pub const HISTORY_MAX: u32 = 65_536;
+
+/// The identifier of the probe that fires as tracing begins.
+pub const BEGIN: u32 = 1;
+
+/// The identifier of the probe that fires as tracing ends.
+pub const END: u32 = 2;

@@ -1,0 +1,7 @@
+-- What holds of the definitions, for those who prove that a program meets them. Lowest first.
+
+pub mod Parts
+pub mod Splitting
+pub mod Entries
+pub mod Quota
+pub mod Views
