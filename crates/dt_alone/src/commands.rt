@@ -32,8 +32,8 @@ use dt_buffer::Policy;
 use dt_ecb::{EnableFault, ecbs_go_on, enable, listed, one_verdict, uses_of_both};
 use dt_lang::{Description, LangFault, ParseProgram, Program, Why, one_description, one_reading};
 use dt_life::{
-    BEGIN, Command, End, Known, Moment, OptionValue, Phase, Refusal, Reply, left_by_end, own_firing,
-    own_process,
+    BEGIN, Command, End, Known, Moment, OptionValue, Phase, Refusal, Reply, left_by_end,
+    own_firing, own_process,
 };
 use dt_machine::Machine;
 use dt_record::Layout;
@@ -190,7 +190,9 @@ impl Runner {
     {
         let size = self.options.bufsize;
         match self.options.bufpolicy {
-            Policy::Fill => Some(size - left_by_end(&self.programs.clauses, &self.programs.ecbs, size)?),
+            Policy::Fill => Some(
+                size - left_by_end(&self.programs.clauses, &self.programs.ecbs, size)?,
+            ),
             Policy::Switch | Policy::Ring => Some(0),
         }
     }

@@ -6,11 +6,11 @@ ghost use Rattle.dt_life.specs.Uses.{GivenAtMost};
 ghost use Rattle.dt_life.specs.Uses.{AreGiven};
 ghost use Rattle.dt_program.specs.declared.clause.TheConstants.{STATEMENTS_MAX};
 
-use dt_life::{Known, number_in, parts_at};
 use dt_aggstore::{AggStore, Aggregation, Key};
 use dt_ecb::Shapes;
 use dt_expr::Value;
 use dt_lang::{STATEMENTS_MAX, Statement};
+use dt_life::{Known, number_in, parts_at};
 use std::alloc::{AllocError, Global};
 
 /// One thing that happened.

@@ -1,9 +1,9 @@
 //! The judge of a trail's entries, taken one by one.
-use dt_life::one_reply;
 use crate::answering::answer;
 use crate::entry::Entry;
 use crate::runner::Runner;
 use dt_cred::Account;
+use dt_life::one_reply;
 use dt_machine::{CPUS_MAX, Machine};
 use dt_proto::WholeLine;
 use std::alloc::{AllocError, Global};

@@ -7,11 +7,11 @@ ghost use Rattle.dt_ecb.specs.Forms.{form_of_ecb, shapes_of};
 ghost use Rattle.dt_ecb.specs.declared.limits.TheConstants.{ECBS_MAX};
 ghost use Rattle.dt_life.specs.Placed.{placed_after as at_place};
 
-use dt_life::{Moment, placed_after};
 use crate::happened::{Contribution, Happened, Left};
 use dt_ecb::{ECBS_MAX, Ecb, Shapes};
 use dt_expr::EvalFault;
 use dt_lang::Clause;
+use dt_life::{Moment, placed_after};
 use dt_record::{Taken, taken};
 use std::alloc::{AllocError, Global};
 

@@ -9,9 +9,9 @@ ghost use Rattle.dt_buffer.specs.Ending.{ShowsRing, too_long};
 ghost use Rattle.dt_buffer.specs.History.{attempts, of_end, ordinary, since_swap};
 ghost use Rattle.dt_buffer.specs.Shows.{Shows};
 
-use dt_life::Options;
 use crate::happened::Happened;
 use dt_buffer::Policy;
+use dt_life::Options;
 use std::alloc::{AllocError, Global};
 
 /// What a buffer shows: the bytes of its records, how many it dropped, and whether it is filled.

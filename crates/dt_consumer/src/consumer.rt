@@ -1,5 +1,4 @@
 //! One consumer, from its first line to its last.
-use dt_life::{Options, Phase, shown};
 use crate::draft::{Change, Draft};
 use crate::programs::Programs;
 use crate::tracing::Tracing;
@@ -7,6 +6,7 @@ use dt_aggstore::Aggregation;
 use dt_cred::Account;
 use dt_ecb::{Ecb, Shapes, ecbs_go_on, uses_of_both};
 use dt_lang::Clause;
+use dt_life::{Options, Phase, shown};
 use dt_machine::{Firing, Interest, Machine};
 use std::alloc::{AllocError, Global};
 

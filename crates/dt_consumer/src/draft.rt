@@ -1,11 +1,11 @@
 //! The draft of a line: its reply, and what it will change.
 ghost use Rattle.std.specs.Prelude.{◌≡◌, ◌↔◌, List, Result, IsTrue};
 
-use dt_life::{Options, Refusal, Reply};
 use crate::tracing::Tracing;
 use dt_aggstore::Aggregation;
 use dt_ecb::{Ecb, Shapes};
 use dt_lang::Clause;
+use dt_life::{Options, Refusal, Reply};
 
 /// What a line changes.
 #[derive(Drop)]

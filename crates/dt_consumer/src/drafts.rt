@@ -29,7 +29,6 @@ ghost use Rattle.dt_consumer.specs.StandsFor.{StandsFor, MayAsk};
 ghost use Rattle.dt_life.specs.declared.reply.Reply.{Reply};
 ghost use Rattle.dt_record.specs.Layout.{layout_of};
 
-use dt_life::{Command, Known, LINES_MAX, OptionValue, Options, Phase, Refusal, Reply, left_by_end, placed_after};
 use crate::consumer::Consumer;
 use crate::draft::{Change, Draft};
 use crate::processor::Processor;
@@ -38,6 +37,10 @@ use dt_aggstore::{AggStore, Aggregation, Row, drops_go_on};
 use dt_buffer::{Policy, one_shown};
 use dt_ecb::{Ecb, EnableFault, enable, listed, one_verdict};
 use dt_lang::{Description, LangFault, ParseProgram, Program, Why, one_description, one_reading};
+use dt_life::{
+    Command, Known, LINES_MAX, OptionValue, Options, Phase, Refusal, Reply, left_by_end,
+    placed_after,
+};
 use dt_machine::Machine;
 use dt_record::Layout;
 use std::alloc::{AllocError, Global};
@@ -252,7 +255,9 @@ impl Consumer {
             ..
         } = self.options;
         match bufpolicy {
-            Policy::Fill => Some(bufsize - left_by_end(self.programs.clauses(), self.programs.ecbs(), bufsize)?),
+            Policy::Fill => Some(
+                bufsize - left_by_end(self.programs.clauses(), self.programs.ecbs(), bufsize)?,
+            ),
             Policy::Switch | Policy::Ring => Some(0),
         }
     }

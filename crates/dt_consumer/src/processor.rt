@@ -1,5 +1,4 @@
 //! What a consumer has of one processor from its `go` on.
-use dt_life::{Moment, Options};
 use crate::rows::Row;
 use crate::uses::Uses;
 use dt_aggstore::AggStore;
@@ -7,6 +6,7 @@ use dt_buffer::Principal;
 use dt_ecb::Ecb;
 use dt_expr::EvalFault;
 use dt_lang::Clause;
+use dt_life::{Moment, Options};
 use dt_record::Taken;
 use std::alloc::{AllocError, Global};
 

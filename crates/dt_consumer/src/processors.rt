@@ -2,13 +2,13 @@
 ghost use Rattle.std.specs.Prelude.{◌≡◌, ◌≤◌, vec_len};
 ghost use Rattle.dt_aggstore.specs.declared.limits.TheConstants.{STORES_MAX};
 
-use dt_life::{END, Moment, Options, own_firing, own_process};
 use crate::processor::Processor;
 use crate::rows::Row;
 use crate::uses::Uses;
 use dt_aggstore::{AggStore, Aggregation};
 use dt_cred::Account;
 use dt_lang::Clause;
+use dt_life::{END, Moment, Options, own_firing, own_process};
 use dt_machine::Machine;
 use std::alloc::{AllocError, Global};
 

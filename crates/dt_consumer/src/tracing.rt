@@ -6,7 +6,6 @@ ghost use Rattle.dt_consumer.specs.Counts.{AtMost, GIVES_MAX, own_firings, must_
 ghost use Rattle.dt_life.specs.Uses.{GivenAtMost};
 ghost use Rattle.dt_life.specs.declared.limits.TheConstants.{END, HISTORY_MAX};
 
-use dt_life::{BEGIN, END, End, HISTORY_MAX, Moment, Options, Phase, own_firing, own_process};
 use crate::course::Course;
 use crate::processors::Processors;
 use crate::programs::Programs;
@@ -15,6 +14,7 @@ use crate::uses::Uses;
 use dt_aggstore::Aggregation;
 use dt_cred::Account;
 use dt_lang::Clause;
+use dt_life::{BEGIN, END, End, HISTORY_MAX, Moment, Options, Phase, own_firing, own_process};
 use dt_machine::Machine;
 use std::alloc::{AllocError, Global};
 

@@ -2,11 +2,11 @@
 ghost use Rattle.std.specs.Prelude.{◌≤◌, vec_len};
 ghost use Rattle.dt_program.specs.declared.clause.TheConstants.{KEYS_MAX, STATEMENTS_MAX};
 
-use dt_life::{Known, number_in, parts_at};
 use dt_aggstore::{AggStore, Aggregation, Key};
 use dt_ecb::Shapes;
 use dt_expr::Value;
 use dt_lang::{Clause, KEYS_MAX, STATEMENTS_MAX, Statement};
+use dt_life::{Known, number_in, parts_at};
 use std::alloc::{AllocError, Global};
 
 /// A use of an aggregation by a statement: which one, and with how many keys.

@@ -27,9 +27,7 @@ pub use command::{Command, OptionValue};
 pub use known::Known;
 pub use laws::{one_reply, some_reply};
 pub use limit_laws::limits_agree;
-pub use limits::{
-    AGGSIZE, AGGSIZE_MIN, BEGIN, BUFFER_SIZE, END, HISTORY, HISTORY_MAX, LINES_MAX,
-};
+pub use limits::{AGGSIZE, AGGSIZE_MIN, BEGIN, BUFFER_SIZE, END, HISTORY, HISTORY_MAX, LINES_MAX};
 pub use moment::Moment;
 pub use options::Options;
 pub use own::{own_firing, own_process};

@@ -2,7 +2,9 @@
 ghost use Rattle.std.specs.Prelude.{◌≡◌};
 ghost use Rattle.dt_life.specs.Limits.{lines_max, buffer_size_default, aggsize_default, aggsize_min, history_default, history_max, begin_id, end_id};
 
-use crate::limits::{AGGSIZE, AGGSIZE_MIN, BEGIN, BUFFER_SIZE, END, HISTORY, HISTORY_MAX, LINES_MAX};
+use crate::limits::{
+    AGGSIZE, AGGSIZE_MIN, BEGIN, BUFFER_SIZE, END, HISTORY, HISTORY_MAX, LINES_MAX,
+};
 
 /// Law: the limits that the code keeps are the numbers of the definitions (`specs/Limits.antt`).
 pub fn limits_agree()

@@ -6,11 +6,7 @@ use dt_ecb::Ecb;
 use std::alloc::{AllocError, Global};
 
 /// The ECBs of a program, each with the place of its clause after so many others.
-pub fn placed_after(
-    alloc: Global,
-    before: usize,
-    ecbs: &[Ecb],
-) -> Result<Vec<Ecb>, AllocError>
+pub fn placed_after(alloc: Global, before: usize, ecbs: &[Ecb]) -> Result<Vec<Ecb>, AllocError>
     requires { All (λ ecb. before + ecb.clause < 2 ^ 64) ecbs.now }
     ensures { IfOk result (λ placed. placed.items ≡ map (spec.placed_after before) ecbs.now) }
 {

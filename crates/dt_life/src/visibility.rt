@@ -10,11 +10,7 @@ use dt_cred::{Account, admits};
 use dt_machine::{Firing, Machine};
 
 /// The firing with its probe and its process, where it belongs to the machine and the account is shown it.
-pub fn shown<'a>(
-    account: &Account,
-    machine: &'a Machine,
-    firing: &'a Firing,
-) -> Option<Moment<'a>>
+pub fn shown<'a>(account: &Account, machine: &'a Machine, firing: &'a Firing) -> Option<Moment<'a>>
     ensures of_firing { IfSome result (λ moment. moment.firing.now ≡ firing.now) }
     ensures shown { MatchOption result
         (Belongs machine.now.registry firing.now → IsShown account.now machine.now.registry firing.now → ⊥)

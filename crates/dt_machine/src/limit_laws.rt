@@ -2,7 +2,10 @@
 ghost use Rattle.std.specs.Prelude.{◌≡◌};
 ghost use Rattle.dt_machine.specs.Limits.{cpus_max, accounts_max, processes_max, pid_max, probes_max, first_probe_id, probe_id_max, script_max};
 
-use crate::limits::{ACCOUNTS_MAX, CPUS_MAX, FIRST_PROBE_ID, PID_MAX, PROBES_MAX, PROBE_ID_MAX, PROCESSES_MAX, SCRIPT_MAX};
+use crate::limits::{
+    ACCOUNTS_MAX, CPUS_MAX, FIRST_PROBE_ID, PID_MAX, PROBE_ID_MAX, PROBES_MAX, PROCESSES_MAX,
+    SCRIPT_MAX,
+};
 
 /// Law: the limits that the code keeps are the numbers of the definitions (`specs/Limits.antt`).
 pub fn limits_agree()

@@ -2,7 +2,7 @@
 ghost use Rattle.std.specs.Prelude.{◌≡◌};
 ghost use Rattle.dt_names.specs.Limits.{field_max, fields_max, short_text_max, padded_size, name_max};
 
-use crate::desc::{FIELDS_MAX, FIELD_MAX};
+use crate::desc::{FIELD_MAX, FIELDS_MAX};
 use crate::name::NAME_MAX;
 use crate::short_text::{PADDED_SIZE, SHORT_TEXT_MAX};
 

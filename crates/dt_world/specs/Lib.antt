@@ -3,7 +3,6 @@ pub use Rattle.dt_proto.specs.Views
 pub use Rattle.dt_steps.specs.World
 pub use Rattle.dt_steps.specs.Steps
 pub use Rattle.dt_steps.specs.Ran
-
 pub mod Words
 pub mod StepLine
 pub mod Input

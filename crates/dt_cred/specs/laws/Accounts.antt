@@ -1,5 +1,6 @@
 -- An account is its uid and its privileges: under another name it may do and is shown the same.
 use Rattle.std.proofs.Common.{◌≡◌, ℕ, List, Option, Some, None, refl}
+use Rattle.std.proofs.Math.Path.{fun_ext}
 use Rattle.dt_cred.specs.Rights.{may_enable, admits}
 use Rattle.dt_cred.specs.declared.account.Account.{Account}
 use Rattle.dt_cred.specs.declared.account.Process.{Process}
