@@ -19,7 +19,7 @@ use Rattle.dt_proto.specs.Reply.{reply_text}
 use Rattle.dt_proto.specs.Splits.{with_newline}
 use Rattle.dt_proto.specs.Trail.{TrailEntry, line_asked, long_asked, fired_at}
 use Rattle.dt_proto.specs.Legal.{Agrees, IsLegal, life_of_trail, reached_by}
-use Rattle.dt_alone.specs.Verdicts.{AreRepliesAlone, replies_by, replies_of}
+use Rattle.dt_alone.specs.Verdicts.{AreRepliesAlone}
 
 -- two lists that end alike
 not_longer : {A : Type 0} (xs : List A) (x y z : A) → x ∷ [] ≡ y ∷ (xs ++ z ∷ []) → ⊥

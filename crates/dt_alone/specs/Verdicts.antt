@@ -7,21 +7,10 @@ use Rattle.dt_life.specs.Answer.{Answer}
 use Rattle.dt_proto.specs.Alone.{Reached, Alone}
 use Rattle.dt_proto.specs.Reply.{reply_text}
 use Rattle.dt_proto.specs.Session.{session_account}
-use Rattle.dt_proto.specs.Splits.{with_newline}
-use Rattle.dt_proto.specs.Trail.{TrailEntry, line_asked, long_asked, fired_at, SpellsTrail}
+use Rattle.dt_proto.specs.Trail.{TrailEntry, replies_of, SpellsTrail}
 use Rattle.dt_proto.specs.Legal.{Agrees, MayStand, IsRight, reached_by}
 use Rattle.dt_alone.specs.declared.verdict.Verdict.{Verdict}
 use Rattle.dt_alone.specs.declared.verdict.Verdict.TheVariants.{Agree, Differs, Illegal}
-
--- the lines of replies that an entry has
-abbrev pub replies_by : TrailEntry → List (List ℕ)
-replies_by (line_asked line reply) = with_newline reply ∷ []
-replies_by (long_asked reply) = with_newline reply ∷ []
-replies_by (fired_at cpu place) = []
-
--- the replies of entries, each with its newline
-abbrev pub replies_of : List TrailEntry → List (List ℕ)
-replies_of entries = flat_map replies_by entries
 
 -- how many entries have replies
 abbrev pub replies_in : List TrailEntry → ℕ

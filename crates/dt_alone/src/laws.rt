@@ -37,3 +37,9 @@ pub fn trail_agrees()
         → IsTrailOf account contents.registry view entries → SpellsTrail text name entries
         → IsVerdictOn contents text (Agree (replies_in entries)) }
 {}
+
+/// Law: a text tells one trail at most: the account's name, each line, each reply and each number stand in it unambiguously.
+pub fn one_trail_told()
+    ensures { (text name other : List ℕ) (entries others : List TrailEntry) → SpellsTrail text name entries
+        → SpellsTrail text other others → (name ≡ other) × (entries ≡ others) }
+{}

@@ -28,6 +28,6 @@ mod verdict;
 
 pub use checking::{CheckFault, check};
 pub use item::Item;
-pub use laws::{agreement, one_verdict, trail_agrees};
+pub use laws::{agreement, one_trail_told, one_verdict, trail_agrees};
 pub use replies::alone;
 pub use verdict::Verdict;

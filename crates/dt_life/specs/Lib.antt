@@ -9,6 +9,7 @@ pub mod Takings
 pub mod Aggregations
 pub mod Life
 pub mod Acceptance
+pub mod Ending
 pub mod Buffers
 pub mod Stores
 pub mod Answer

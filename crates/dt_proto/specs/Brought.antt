@@ -5,6 +5,7 @@ use Rattle.dt_machine.specs.Registry.{Contents, firing_at}
 use Rattle.dt_proto.specs.Alone.{Reached, own_line, firing_made}
 use Rattle.dt_proto.specs.Lines.{LineForm, short_line, long_line}
 use Rattle.dt_proto.specs.Limits.{line_max}
+use Rattle.dt_proto.specs.Splits.{HasNoNewline}
 
 -- A line is in its form: more bytes than line_max would be long.
 abbrev pub IsInForm : LineForm → Type 0
@@ -23,3 +24,16 @@ IsBrought contents (own_line line ∷ view) = IsBrought contents view × IsInFor
 IsBrought contents (firing_made firing ∷ view) = IsBrought contents view
     × (firing_at contents.scripts firing.cpu firing.place ≡ Some firing)
     × AllByRecursion (IsLower firing.cpu firing.place) view
+
+-- A line as it stands in an input has no newline.
+abbrev pub IsOneLine : LineForm → Type 0
+IsOneLine (short_line bytes) = HasNoNewline bytes
+IsOneLine long_line = Unit {0}
+
+-- the lines of a view have no newlines
+abbrev pub HasOneLine : Reached → Type 0
+HasOneLine (own_line line) = IsOneLine line
+HasOneLine (firing_made firing) = Unit {0}
+
+abbrev pub HasOnlyLines : List Reached → Type 0
+HasOnlyLines view = AllByRecursion HasOneLine view

@@ -77,3 +77,13 @@ module _ (account : Account) (registry : Registry) where
   IsTrailOf (firing_made firing ∷ view) entries = (life : List Item) × (earlier : List TrailEntry) × (new : List TrailEntry)
       × IsLifeOf account registry view life × IsTrailOf view earlier × IsToldFiring life firing new
       × (entries ≡ earlier ++ new)
+
+-- the lines of replies that an entry has
+abbrev pub replies_by : TrailEntry → List (List ℕ)
+replies_by (line_asked line reply) = with_newline reply ∷ []
+replies_by (long_asked reply) = with_newline reply ∷ []
+replies_by (fired_at cpu place) = []
+
+-- the replies of entries, each with its newline
+abbrev pub replies_of : List TrailEntry → List (List ℕ)
+replies_of entries = flat_map replies_by entries

@@ -5,3 +5,8 @@ pub mod Splitting
 pub mod Entries
 pub mod Quota
 pub mod Views
+pub mod Accounts
+pub mod OneLine
+pub mod Trails
+pub mod FirstReplies
+pub mod Spelling

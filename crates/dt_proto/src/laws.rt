@@ -1,7 +1,18 @@
-//! What holds of the definitions alone: lines don't depend on how an input is cut into pieces.
-ghost use Rattle.std.specs.Prelude.{◌≡◌, ℕ, List, ◌++◌};
+//! What holds of the definitions alone: lines don't depend on how an input is cut into pieces, what a consumer is answered
+//! alone doesn't depend on its account's name, and a trail tells what was seen and answered.
+ghost use Rattle.std.specs.Prelude.{◌≡◌, ◌↔◌, ℕ, List, ◌++◌, map, take};
+ghost use Rattle.dt_cred.specs.declared.account.Account.{Account};
+ghost use Rattle.dt_life.specs.Answer.{Answer};
+ghost use Rattle.dt_life.specs.Limits.{lines_max};
+ghost use Rattle.dt_machine.specs.Registry.{Registry};
+ghost use Rattle.dt_proto.specs.Alone.{Reached, Alone};
 ghost use Rattle.dt_proto.specs.Lines.{all_but_last, parts_of, lines_of, rest_of};
-ghost use Rattle.dt_proto.specs.Splits.{Splits};
+ghost use Rattle.dt_proto.specs.Reply.{reply_text};
+ghost use Rattle.dt_proto.specs.Splits.{HasNoNewline, Splits, with_newline};
+ghost use Rattle.dt_proto.specs.Trail.{IsTrailOf, TrailEntry, replies_of};
+ghost use Rattle.dt_proto.specs.Views.{seen_view};
+
+use dt_life::one_reply;
 
 /// The lines of two pieces, one after the other, are those of the first and then those of the second, with the first's
 /// rest carried into its first line.
@@ -15,4 +26,34 @@ pub fn one_splitting()
     ensures some { (input : List ℕ) → Splits input (all_but_last (parts_of input)) (rest_of input) }
     ensures one { (input : List ℕ) (lines : List (List ℕ)) (rest : List ℕ) → Splits input lines rest
         → (lines ≡ all_but_last (parts_of input)) × (rest ≡ rest_of input) }
+{}
+
+/// An account is its uid and its privileges: two that are equal in these see the same of a view, and are answered the same
+/// alone, whatever their names are.
+pub fn equal_rights()
+    ensures seen { (a b : Account) (registry : Registry) (view : List Reached) → a.uid ≡ b.uid → a.privs ≡ b.privs
+        → seen_view a registry view ≡ seen_view b registry view }
+    ensures alone { (a b : Account) (registry : Registry) (view : List Reached) (answers : List Answer)
+        → a.uid ≡ b.uid → a.privs ≡ b.privs → Alone a registry view answers ↔ Alone b registry view answers }
+{}
+
+/// The trail of a view is the trail of its seen view: what a session didn't see isn't told.
+pub fn trails_are_seen()
+    ensures { (account : Account) (registry : Registry) (view : List Reached) (entries : List TrailEntry)
+        → IsTrailOf account registry view entries
+        ↔ IsTrailOf account registry (seen_view account registry view) entries }
+{}
+
+/// The replies that a trail tells are the first that its view is answered alone, as many as the quota of lines allows.
+pub fn first_replies()
+    ensures { (account : Account) (registry : Registry) (view : List Reached) (entries : List TrailEntry)
+        (answers : List Answer) → IsTrailOf account registry view entries → Alone account registry view answers
+        → replies_of entries ≡ map reply_text (take lines_max answers) }
+{
+    one_reply();
+}
+
+/// A reply is one line: it ends with a newline, and no other is in it.
+pub fn one_line()
+    ensures { (answer : Answer) → (reply : List ℕ) × (reply_text answer ≡ with_newline reply) × HasNoNewline reply }
 {}

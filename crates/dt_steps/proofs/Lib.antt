@@ -1,7 +1,6 @@
 -- The lemmas of the crate, lowest first.
 
 pub mod Beginning
-pub mod Keeping
 pub mod Soundness
 pub mod Questions
 pub mod Serving

@@ -4,7 +4,7 @@ ghost use Rattle.dt_cred.specs.declared.account.Account.{Account};
 ghost use Rattle.dt_machine.specs.Interest as interest;
 ghost use Rattle.dt_machine.specs.Registry.{Registry};
 ghost use Rattle.dt_cred.specs.declared.firing.Firing.{Firing};
-ghost use Rattle.dt_chain.specs.Look.{IsLook};
+ghost use Rattle.dt_chain.specs.Look.{IsLook, NamesFiring};
 ghost use Rattle.dt_chain.specs.Writes.{Write};
 ghost use Rattle.dt_ecb.specs.Ecbs.{EcbForm, of_probe};
 ghost use Rattle.dt_life.specs.Answer.{Answer};
@@ -15,7 +15,7 @@ ghost use Rattle.dt_proto.specs.Alone.{Reached, IsLifeOf, Alone};
 ghost use Rattle.dt_proto.specs.Line.{ask_in};
 ghost use Rattle.dt_proto.specs.Lines.{LineForm};
 ghost use Rattle.dt_steps.specs.Ran.{Told, AreReplies, told_to, IsAnsweredAlone};
-ghost use Rattle.dt_steps.specs.Sound.{IsSoundWorld};
+ghost use Rattle.dt_steps.specs.Sound.{IsSoundWorld, publication_of};
 ghost use Rattle.dt_steps.specs.Steps.{Act, world_after};
 ghost use Rattle.dt_life.specs.Tests.{is_seen};
 ghost use Rattle.dt_ecb.specs.Interest.{interest_of};
@@ -25,15 +25,15 @@ ghost use Rattle.dt_steps.specs.World.{Session, session_of, life_in, begins};
 
 use dt_life::one_reply;
 
-/// Law: two sessions on behalf of equal accounts, of two worlds on equal registries, whose seen views are equal, are
-/// answered alike, whatever else happened in the two worlds: on other seats, with other numbers, other scripts and
-/// other consumers.
+/// Law: two sessions of two worlds on equal registries, whose accounts have equal uids and equal privileges, and whose seen
+/// views are equal, are answered alike, whatever else happened in the two worlds: on other seats, with other numbers,
+/// other scripts and other consumers.
 pub fn agree_alike()
-    // two sessions of any two worlds on one registry: equal accounts and seen views have equal answers
+    // two sessions of any two worlds on one registry: equal uids, privileges and seen views have equal answers
     ensures { (registry : Registry) (acts others : List Act) (seat n other_seat other_n : ℕ) (a b : Session)
         → session_of (world_after registry acts) seat n ≡ Some a
         → session_of (world_after registry others) other_seat other_n ≡ Some b
-        → a.account ≡ b.account
+        → a.account.uid ≡ b.account.uid → a.account.privs ≡ b.account.privs
         → seen_view a.account registry a.view ≡ seen_view b.account registry b.view
         → (answers other_answers : List Answer)
         → Alone a.account registry a.view answers → Alone b.account registry b.view other_answers
@@ -72,6 +72,13 @@ pub fn told_alone()
         → AreReplies registry (world_after registry acts).questions told → (seat n : ℕ)
         → IsAnsweredAlone registry (session_of (world_after registry acts) seat n)
         (told_to seat n (world_after registry acts).questions told) }
+{}
+
+/// Law: a life that sees a firing is named by its own publication, the one that its interest makes at its `go`.
+pub fn named_by_own()
+    ensures { (account : Account) (registry : Registry) (life : List Item) (n : ℕ) (firing : Firing)
+        → Sees account registry life firing
+        → NamesFiring registry (publication_of registry account life n) firing }
 {}
 
 /// Law: every world is sound. A session that traces is published with exactly its own interest, so one that a look

@@ -18,7 +18,7 @@ mod served;
 mod step;
 
 pub use engine::Engine;
-pub use laws::{agree_alike, seen_alike, tests_agree, told_alone, worlds_are_sound};
+pub use laws::{agree_alike, named_by_own, seen_alike, tests_agree, told_alone, worlds_are_sound};
 pub use looked::ScriptPlace;
 pub use running::{Ran, run};
 pub use served::{Answered, Finished};

@@ -10,3 +10,5 @@ pub mod Replay
 pub mod Told
 pub mod Progress
 pub mod Faults
+pub mod Orderly
+pub mod laws

@@ -6,6 +6,7 @@
 #![tactic(auto)]
 
 pub mod fault;
+pub mod laws;
 pub mod seat;
 mod words;
 pub mod writing;

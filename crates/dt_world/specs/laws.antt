@@ -1,0 +1,4 @@
+-- What holds of the definitions, for those who prove that a program meets them.
+pub mod Orderly
+pub mod Firings
+pub mod Replays
