@@ -66,9 +66,3 @@ pub map_next : {A B : Type 0} (f : A → B) (rows : List A) (i : ℕ) (row : A) 
 map_next f rows i row ys there read =
     ap (λ zs. zs ++ f row ∷ []) read ∙ sym (map-append f (take i rows) (row ∷ []))
     ∙ ap (map f) (sym (take_next rows i row there))
-
-pub length-front : {A : Type 0} (rows : List A) (i : ℕ) (row : A) → slice_get rows i ≡ Some row
-    → length (take i rows) ≡ i
-length-front rows i row there =
-    let inside = slice_get_within rows i row there in
-    length-take-le i rows (omega arith)

@@ -1,2 +1,5 @@
 -- What holds of the definitions, for those who prove that a program meets them. Lowest first.
 pub mod Tests
+pub mod Scripts
+pub mod Spelling
+pub mod Soundness
