@@ -1,18 +1,14 @@
 -- The values of a record, one more, and what they determine.
-use Rattle.std.proofs.Common.{◌≡◌, ℕ, ◌+◌, ◌*◌, ◌^◌, ◌<◌, List, [], ◌∷◌, ◌++◌, map, take, drop, length, sum, refl, sym}
-use Rattle.std.proofs.Common.{ap, subst, ◌∙◌, arith}
+use Rattle.std.proofs.Common.{◌≡◌, ℕ, ◌+◌, ◌^◌, ◌<◌, List, [], ◌∷◌, ◌++◌, map, take, drop, length, sum, sym}
+use Rattle.std.proofs.Common.{ap, subst, ◌∙◌}
 use Rattle.std.proofs.Math.ListN.{get_or}
-use Rattle.std.proofs.lemmas.List.{take_more, drop_more, map-append, append-nil, length-append}
+use Rattle.std.proofs.lemmas.List.{take_more, drop_more, map-append, append-nil}
 use Rattle.std.proofs.Math.Seq.{take-append_seam, drop-append_seam}
-use Rattle.std.specs.Int.{w64, cast_unsigned}
-use Rattle.std.specs.List.{fold, flat_map}
-use Rattle.byteorder.specs.Endian.{big_bytes, big_number}
+use Rattle.byteorder.specs.Endian.{big_number}
 use Rattle.byteorder.specs.Numbers.{big_number-reads_back, length-bytes_high_first}
 use Rattle.dt_record.specs.Fields.{form_of_field}
 use Rattle.dt_record.specs.Layout.{FieldForm, field_size}
-use Rattle.dt_record.specs.Layout as layout
-use Rattle.dt_record.specs.Split as split
-use Rattle.dt_record.specs.Split.{RecordedForm, FitsField, FitAll, recorded_bytes}
+use Rattle.dt_record.specs.Split.{RecordedForm, FitsField, FitAll}
 use Rattle.dt_record.specs.Taking.{epid_bytes}
 use Rattle.dt_record.specs.declared.layout.Field.{Field}
 use Rattle.dt_record.specs.laws.Fitting.{sum_of}

@@ -1,18 +1,18 @@
 -- What a clause leaves is a record of its layout.
-use Rattle.std.proofs.Common.{◌≡◌, ℕ, zero, suc, ◌+◌, ◌-◌, ◌*◌, ◌^◌, ◌<◌, ◌≤◌, Bool, true, false, cond, List, [], ◌∷◌, ◌++◌}
+use Rattle.std.proofs.Common.{◌≡◌, ℕ, zero, suc, ◌+◌, ◌-◌, ◌*◌, ◌≤◌, Bool, true, false, List, [], ◌∷◌, ◌++◌}
 use Rattle.std.proofs.Common.{Option, Some, None, ℤ, map, take, length, sum, replicate, refl, sym, ap, subst, ◌∙◌, arith}
 use Rattle.std.proofs.lemmas.Int.{int_wrap_fits}
-use Rattle.std.proofs.lemmas.List.{append_assoc, append-nil, length-append, length-replicate, length-take-le}
+use Rattle.std.proofs.lemmas.List.{length-append, length-replicate, length-take-le}
 use Rattle.std.proofs.lemmas.Option.{slice_get-map}
 use Rattle.std.specs.Int.{w64, cast_unsigned}
 use Rattle.std.specs.List.{fold, flat_map, filter, AllByRecursion}
-use Rattle.std.specs.Option.{option_map, option_and_then, option_to_list}
+use Rattle.std.specs.Option.{option_map, option_and_then}
 use Rattle.std.specs.Prelude.{if◌then◌else◌}
 use Rattle.byteorder.specs.Endian.{big_bytes}
 use Rattle.byteorder.specs.Numbers.{length-bytes_high_first}
 use Rattle.dt_names.specs.Limits.{short_text_max}
 use Rattle.dt_expr.specs.Operators.{holds}
-use Rattle.dt_expr.specs.Scene.{SceneForm, padded, text_bytes, text_value}
+use Rattle.dt_expr.specs.Scene.{SceneForm, padded, text_bytes}
 use Rattle.dt_expr.specs.Value.{value}
 use Rattle.dt_expr.specs.declared.text.Text.{Text}
 use Rattle.dt_expr.specs.declared.text.Text.TheVariants.{Literal, Variable}
@@ -25,9 +25,9 @@ use Rattle.dt_record.specs.Layout as layout
 use Rattle.dt_record.specs.Split as split
 use Rattle.dt_record.specs.Split.{RecordedForm, RecordForm, AreFrames, FitsField, FitAll, IsFrame, IsRecordOf, IsSplit}
 use Rattle.dt_record.specs.Split.{recorded_bytes, record_bytes}
-use Rattle.dt_record.specs.Showing.{IsScene, IsText, IsStatement, CanBeTaken, Shows, ShowAll, IsRecordFrom, FitLayout}
+use Rattle.dt_record.specs.Showing.{IsScene, IsText, IsStatement, CanBeTaken, ShowAll, IsRecordFrom, FitLayout}
 use Rattle.dt_record.specs.Showing.{IsLeftBy}
-use Rattle.dt_record.specs.Taking.{TakenForm, Effect, records, gives, exits, each, effect, recorded, contributed}
+use Rattle.dt_record.specs.Taking.{TakenForm, Effect, records, gives, exits, each, effect, recorded}
 use Rattle.dt_record.specs.Taking.{epid_bytes, number_bytes, value_bytes, argument_value, given, leaves_record}
 use Rattle.dt_record.specs.Taking.{is_recording, predicate_value, taken_of, taking}
 use Rattle.dt_record.specs.laws.Numbers.{value_fits}
@@ -124,7 +124,7 @@ text_short scene is (Variable variable) short = is.texts variable
 padded_long : (bytes : List ℕ) → length bytes ≤ 31 → length (padded bytes) ≡ 32
 padded_long bytes short =
     let whole = length-append bytes (replicate (32 - length bytes) 0) in
-    let zeros = length-replicate (32 - length bytes) 0 in
+    let zeros = length-replicate {A = ℕ} (32 - length bytes) 0 in
     omega (arith, whole, zeros)
 
 first_frames : (n : ℕ) (list : List ℕ) → AllByRecursion IsFrame list → AllByRecursion IsFrame (take n list)
@@ -269,15 +269,18 @@ module _ (clauses : List ClauseForm) where
       (records-fit (is.place + 1) is.scene is.clause is.left is.can is.taken) is.these in
       let from = got.2 in
       let small = is.small in
-      let numbered = from.numbered in
-      (from.written, record {
-        place = is.place;
-        numbered = from.numbered;
-        small = omega (arith, small, numbered);
-        fields = got.0;
-        named = slice_get-map layout_of clauses is.place ∙ ap (option_map layout_of) is.there ∙ ap Some got.1;
-        fit = from.fit;
-      }, from.same)
+      let numbered = from.numbered in (
+        from.written,
+        record {
+          place = is.place;
+          numbered = from.numbered;
+          small = omega (arith, small, numbered);
+          fields = got.0;
+          named = slice_get-map layout_of clauses is.place ∙ ap (option_map layout_of) is.there ∙ ap Some got.1;
+          fit = from.fit;
+        },
+        from.same,
+      )
 
   -- records that clauses left, one after the other, are records of their layouts
   pub left-split : (pieces : List (List ℕ)) → AllByRecursion (IsLeftBy clauses) pieces
@@ -285,9 +288,11 @@ module _ (clauses : List ClauseForm) where
   left-split [] each = ([], record { each = tt; whole = refl })
   left-split (piece ∷ pieces) each =
       let first = one_left piece each.0 in
-      let more = left-split pieces each.1 in
-      (first.0 ∷ more.0, record {
-        each = (first.1, more.1.each);
-        whole = ap (λ l. record_bytes first.0 ++ l) more.1.whole
-            ∙ ap (λ l. l ++ flat_map (λ piece. piece) pieces) first.2;
-      })
+      let more = left-split pieces each.1 in (
+        first.0 ∷ more.0,
+        record {
+          each = (first.1, more.1.each);
+          whole = ap (λ l. record_bytes first.0 ++ l) more.1.whole
+              ∙ ap (λ l. l ++ flat_map (λ piece. piece) pieces) first.2;
+        },
+      )

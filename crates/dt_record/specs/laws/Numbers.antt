@@ -1,11 +1,11 @@
 -- The value of an expression has 64 bits with a sign, where the scene's numbers and those that it writes have.
-use Rattle.std.proofs.Common.{◌≡◌, ℕ, zero, suc, ◌+◌, ◌*◌, ◌%◌, ◌/◌, ◌^◌, ◌<◌, ◌≤◌, Bool, true, false, cond, List, ap, sym}
-use Rattle.std.proofs.Common.{◌∙◌, refl, subst, arith, lit<, Some, None, Option, ℤ, pos, negsuc, ◌+ℤ◌, ◌-ℤ◌, ◌*ℤ◌, neg_ℤ, FitsSigned}
+use Rattle.std.proofs.Common.{◌≡◌, ℕ, zero, suc, ◌%◌, ◌/◌, ◌^◌, ◌<◌, ◌≤◌, Bool, true, false, List}
+use Rattle.std.proofs.Common.{refl, subst, arith, lit<, Some, None, Option, ℤ, pos, negsuc, ◌+ℤ◌, ◌-ℤ◌, ◌*ℤ◌, neg_ℤ, FitsSigned}
 use Rattle.std.proofs.Math.Facts.{Fits-of_z, sfits_to_z, Fits-and, Fits-or, Fits-xor}
 use Rattle.std.proofs.Math.Nat.{div-le_self, mod-le}
 use Rattle.std.proofs.lemmas.Int.{SFits-int_wrap}
 use Rattle.std.specs.Prelude.{if◌then◌else◌, int_div, int_rem, unsigned_abs, not}
-use Rattle.std.specs.Int.{w64, cast_signed, cast_unsigned, int_div_euclid, bit_not}
+use Rattle.std.specs.Int.{w64, cast_unsigned, int_div_euclid}
 use Rattle.std.specs.Option.{option_map, option_and_then, option_or}
 use Rattle.std.specs.Ordering.{int_eq}
 use Rattle.dt_expr.specs.Form.{Form, Num, Named, Prefixed, Joined, Compared}
@@ -65,12 +65,15 @@ rest_fits (negsuc a) d f = negative_rest (suc a % unsigned_abs d) a (mod-le (suc
 abbrev Fit64 : Option ℤ → Type 0
 Fit64 o = (z : ℤ) → o ≡ Some z → Has64Bits z
 
+none_fits : Fit64 None
+none_fits z e = cc
+
 some_fits : (y : ℤ) → Has64Bits y → Fit64 (Some y)
 some_fits y f z e = let same : y ≡ z = cc in subst Has64Bits same f
 
 unless_zero : (b : Bool) (y : ℤ) → Has64Bits y → Fit64 (if b then None else Some y)
-unless_zero true y f z e = cc
-unless_zero false y f z e = some_fits y f z e
+unless_zero true y f = none_fits
+unless_zero false y f = some_fits y f
 
 binary_fits : (op : BinaryOp) (x y : ℤ) → Has64Bits x → Has64Bits y → Fit64 (binary op x y)
 binary_fits Or x y f g = some_fits _ (truth_fits _)
@@ -98,25 +101,25 @@ decided_fits Or x = if_held (holds x)
   where
     if_held : (b : Bool) → Fit64 (if b then Some (pos 1) else None)
     if_held true = some_fits (pos 1) (record { sfits = lit< tt })
-    if_held false z e = cc
+    if_held false = none_fits
 decided_fits And x = unless_zero (holds x) (pos 0) (record { sfits = lit< tt })
-decided_fits Xor x z e = cc
-decided_fits BitOr x z e = cc
-decided_fits BitXor x z e = cc
-decided_fits BitAnd x z e = cc
-decided_fits Equal x z e = cc
-decided_fits NotEqual x z e = cc
-decided_fits Less x z e = cc
-decided_fits LessEqual x z e = cc
-decided_fits Greater x z e = cc
-decided_fits GreaterEqual x z e = cc
-decided_fits ShiftLeft x z e = cc
-decided_fits ShiftRight x z e = cc
-decided_fits Add x z e = cc
-decided_fits Subtract x z e = cc
-decided_fits Multiply x z e = cc
-decided_fits Divide x z e = cc
-decided_fits Remainder x z e = cc
+decided_fits Xor x = none_fits
+decided_fits BitOr x = none_fits
+decided_fits BitXor x = none_fits
+decided_fits BitAnd x = none_fits
+decided_fits Equal x = none_fits
+decided_fits NotEqual x = none_fits
+decided_fits Less x = none_fits
+decided_fits LessEqual x = none_fits
+decided_fits Greater x = none_fits
+decided_fits GreaterEqual x = none_fits
+decided_fits ShiftLeft x = none_fits
+decided_fits ShiftRight x = none_fits
+decided_fits Add x = none_fits
+decided_fits Subtract x = none_fits
+decided_fits Multiply x = none_fits
+decided_fits Divide x = none_fits
+decided_fits Remainder x = none_fits
 
 either_fits : (a b : Option ℤ) → Fit64 a → Fit64 b → Fit64 (option_or a b)
 either_fits None b f g = g
@@ -124,17 +127,17 @@ either_fits (Some y) b f g = f
 
 right_fits : (op : BinaryOp) (x : ℤ) (right : Option ℤ) → Has64Bits x → Fit64 right
     → Fit64 (option_and_then (λ y. binary op x y) right)
-right_fits op x None f g z e = cc
+right_fits op x None f g = none_fits
 right_fits op x (Some y) f g = binary_fits op x y f (g y refl)
 
 joined_fits : (op : BinaryOp) (left right : Option ℤ) → Fit64 left → Fit64 right → Fit64 (joined op left right)
-joined_fits op None right f g z e = cc
+joined_fits op None right f g = none_fits
 joined_fits op (Some x) right f g =
     either_fits (decided op x) (option_and_then (λ y. binary op x y) right) (decided_fits op x)
     (right_fits op x right (f x refl) g)
 
 prefixed_fits : (op : UnaryOp) (operand : Option ℤ) → Fit64 operand → Fit64 (option_map (unary op) operand)
-prefixed_fits op None f z e = cc
+prefixed_fits op None f = none_fits
 prefixed_fits op (Some x) f = some_fits (unary op x) (unary_fits op x (f x refl))
 
 compared_fits : (op : TextOp) (a b : List ℕ) → Has64Bits (compared op a b)
