@@ -1,24 +1,17 @@
 -- A text has one answer.
-use Rattle.std.proofs.Common.{◌≡◌, ◌∙◌, ◌<◌, ◌+◌, ◌⊎◌, inl, inr, ℕ, [], ◌∷◌, List, Some, slice_get, get_or, length}
-use Rattle.std.proofs.Common.{codes, lit<, refl, sym, ap, subst, arith}
-use Rattle.std.proofs.Math.Logic.{∥∥₁_prop}
+use Rattle.std.proofs.Common.{◌≡◌, ◌∙◌, ◌<◌, ◌⊎◌, inl, inr, ℕ, List, Some, slice_get, length}
+use Rattle.std.proofs.Common.{sym, ap, subst, arith}
 use Rattle.std.proofs.lemmas.Bool.{false≢true}
-use mathlib.Core.HLevel.{is_prop→PathP}
 use Rattle.serde_json.specs.Data.{Data}
-use Rattle.dt_names.specs.declared.tuple.ProbeTuple.{ProbeTuple}
-use Rattle.dt_cred.specs.Class.{IsClassOf}
-use Rattle.dt_cred.specs.declared.class.Class.{Class}
-use Rattle.dt_cred.specs.declared.class.Class.TheVariants.{Dtrace, Syscall, Profile, Pid, Other}
-use Rattle.dt_cred.specs.declared.probe.Probe.{Probe as ProbeType}
 use Rattle.dt_machine.specs.declared.fault.FaultNumber.{FaultNumber}
 use Rattle.dt_machine.specs.declared.fault.FaultNumber.TheVariants.{Json, Shape, Cpus, Account, Process, Probe, Script}
 use Rattle.dt_machine.specs.declared.fault.FaultNumber.TheVariants.{Firing, Foreign, Memory}
 use Rattle.dt_machine.specs.declared.fault.MachineFault.{MachineFault}
 use Rattle.dt_machine.specs.Reading.{AllRight, AllRightIn, IsFirstWrong, IsFirstWrongIn, Passes, Finds, Registers}
 use Rattle.dt_machine.specs.Reading.{IsJson, IsFirstFinding, IsFaultOf, IsDescribed, IsScriptFault, rank_of}
-use Rattle.dt_machine.specs.Reading.{scripts_in, probes_in}
+use Rattle.dt_machine.specs.Reading.{scripts_in}
 use Rattle.dt_machine.specs.Registry.{Registry, Contents, Belongs}
-use Rattle.dt_machine.specs.Rows.{FiringRow, AreProbes, HasRoom, IsRightFiring, scripts}
+use Rattle.dt_machine.specs.Rows.{FiringRow, HasRoom, IsRightFiring, scripts}
 use Rattle.dt_machine.proofs.Faults.{one_number}
 use Rattle.dt_machine.specs.laws.Scripts.{same_some}
 use Rattle.dt_machine.specs.laws.Soundness.{registry_one}

@@ -1,6 +1,6 @@
 -- Scripts: how long they are, and the firings that their rows stand for.
-use Rattle.std.proofs.Common.{◌≡◌, ◌+◌, ◌<◌, ◌≤◌, ℕ, zero, suc, [], ◌∷◌, ◌++◌, List, Some, take, slice_get, length}
-use Rattle.std.proofs.Common.{refl, sym, ap, ◌∙◌, arith, add-zero}
+use Rattle.std.proofs.Common.{◌≡◌, ◌+◌, ◌<◌, ◌≤◌, ℕ, [], ◌∷◌, ◌++◌, List, Some, take, slice_get, length}
+use Rattle.std.proofs.Common.{sym, ap, ◌∙◌, arith, add-zero}
 use Rattle.std.proofs.lemmas.Option.{slice_get_within}
 use Rattle.dt_cred.specs.declared.firing.Firing.{Firing}
 use Rattle.dt_machine.specs.Reading.{AllRight, IsFirstWrong}

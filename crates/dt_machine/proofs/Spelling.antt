@@ -1,7 +1,7 @@
 -- The probes that texts spell.
-use Rattle.std.proofs.Common.{◌≡◌, ◌≢◌, ◌+◌, ◌<◌, ◌≤◌, ◌==◌, ◌&&◌, ℕ, zero, suc, [], ◌∷◌, ◌++◌, Bool, true, false}
-use Rattle.std.proofs.Common.{List, Option, Some, None, IsSome, IsSomeAnd, IfNone, All, drop, slice_get, get_or}
-use Rattle.std.proofs.Common.{length, codes, lit≤, lit<, refl, sym, ap, ◌∙◌, subst, arith, add-zero}
+use Rattle.std.proofs.Common.{◌≡◌, ◌≢◌, ◌+◌, ◌≤◌, ◌==◌, ◌&&◌, ℕ, [], ◌∷◌, ◌++◌, Bool, true, false}
+use Rattle.std.proofs.Common.{List, Option, Some, None, IsSome, IfNone, All, drop, slice_get}
+use Rattle.std.proofs.Common.{length, codes, lit≤, refl, sym, ap, ◌∙◌, subst, arith, add-zero}
 use Rattle.std.specs.Prelude.{find}
 use Rattle.std.specs.List.{AllByRecursion}
 use Rattle.std.proofs.lemmas.List.Elements.{All-cons, All-head, All-tail, All-from_recursion}
@@ -13,7 +13,7 @@ use Rattle.std.proofs.lemmas.Option.{slice_get_within, get_or_from_slice_get}
 use Rattle.dt_names.specs.Name.{IsName, IsNameByte}
 use Rattle.dt_names.specs.Tuple.{SpellsTuple}
 use Rattle.dt_names.specs.declared.tuple.ProbeTuple.{ProbeTuple}
-use Rattle.dt_cred.specs.Class.{IsClassOf, NamesProcess, number_of}
+use Rattle.dt_cred.specs.Class.{IsClassOf, NamesProcess}
 use Rattle.dt_cred.specs.declared.account.Process.{Process}
 use Rattle.dt_cred.specs.declared.class.Class.{Class}
 use Rattle.dt_cred.specs.declared.class.Class.TheVariants.{Dtrace, Syscall, Profile, Pid, Other}

@@ -2,7 +2,7 @@
 use Rattle.std.specs.Prelude.{◌≡◌, ℕ, ◌+◌, ◌^◌, ◌<◌, ◌≤◌, List, [], ◌∷◌, length, Option, Some, None, take, slice_get, FitsSigned}
 use Rattle.std.specs.Int.{w64}
 use Rattle.std.specs.List.{filter, AllByRecursion}
-use Rattle.dt_names.specs.Limits.{short_text_max}
+use Rattle.dt_names.specs.Limits.{padded_size}
 use Rattle.dt_cred.specs.Limits.{frame_count}
 use Rattle.dt_expr.specs.Form.{Form, Num, Named, Prefixed, Joined, Compared}
 use Rattle.dt_expr.specs.Scene.{SceneForm, number_named, text_named, text_bytes, padded}
@@ -19,38 +19,39 @@ use Rattle.dt_record.specs.Split.{RecordedForm, RecordForm, AreFrames, FitAll, r
 use Rattle.dt_record.specs.Split as split
 use Rattle.dt_record.specs.Taking.{TakenForm, is_recording, taking}
 
--- What holds of every scene: its numbers have 64 bits, its texts are short, and its stacks have so many frames.
-pub record IsScene (scene : SceneForm) : Type 0 where
+-- What holds of every scene: its numbers have 64 bits with a sign, its texts are no longer than a record shows them, and
+-- each of its stacks has so many frames.
+pub record IsSceneInBounds (scene : SceneForm) : Type 0 where
   pub numbers : (variable : NumberVariable) → FitsSigned w64 (number_named scene variable)
-  pub texts : (variable : TextVariable) → length (text_named scene variable) ≤ short_text_max
+  pub texts : (variable : TextVariable) → length (text_named scene variable) ≤ padded_size
   pub kstack : AreFrames frame_count scene.firing.kstack
   pub ustack : AreFrames frame_count scene.firing.ustack
 
--- the numbers that an expression writes have 64 bits
-abbrev pub IsExpression : Form → Type 0
-IsExpression (Num z) = FitsSigned w64 z
-IsExpression (Named variable) = Unit {0}
-IsExpression (Prefixed op operand) = IsExpression operand
-IsExpression (Joined op left right) = IsExpression left × IsExpression right
-IsExpression (Compared op left right) = Unit {0}
+-- the numbers that are written in an expression have 64 bits with a sign
+abbrev pub IsExpressionInBounds : Form → Type 0
+IsExpressionInBounds (Num z) = FitsSigned w64 z
+IsExpressionInBounds (Named variable) = Unit {0}
+IsExpressionInBounds (Prefixed op operand) = IsExpressionInBounds operand
+IsExpressionInBounds (Joined op left right) = IsExpressionInBounds left × IsExpressionInBounds right
+IsExpressionInBounds (Compared op left right) = Unit {0}
 
--- a text that is written is short
-abbrev pub IsText : Text → Type 0
-IsText (Literal bytes) = length bytes ≤ short_text_max
-IsText (Variable variable) = Unit {0}
+-- a text that is written is no longer than a record shows it
+abbrev pub IsTextInBounds : Text → Type 0
+IsTextInBounds (Literal bytes) = length bytes ≤ padded_size
+IsTextInBounds (Variable variable) = Unit {0}
 
--- what holds of every statement that records something
-abbrev pub IsStatement : StatementForm → Type 0
-IsStatement (program.trace (program.number f)) = IsExpression f
-IsStatement (program.trace (program.text t)) = IsText t
-IsStatement (program.stack n) = n ≤ frames_max
-IsStatement (program.ustack n) = n ≤ frames_max
-IsStatement _ = Unit {0}
+-- a stack is asked for no more frames than it has
+abbrev pub IsStatementInBounds : StatementForm → Type 0
+IsStatementInBounds (program.trace (program.number f)) = IsExpressionInBounds f
+IsStatementInBounds (program.trace (program.text t)) = IsTextInBounds t
+IsStatementInBounds (program.stack n) = n ≤ frames_max
+IsStatementInBounds (program.ustack n) = n ≤ frames_max
+IsStatementInBounds _ = Unit {0}
 
--- What holds wherever a clause is taken.
+-- What the types of a scene and of a clause guarantee wherever a clause is taken.
 pub record CanBeTaken (scene : SceneForm) (clause : ClauseForm) : Type 0 where
-  pub scene_is : IsScene scene
-  pub statements : AllByRecursion IsStatement clause.statements
+  pub scene_in_bounds : IsSceneInBounds scene
+  pub statements_in_bounds : AllByRecursion IsStatementInBounds clause.statements
 
 -- A value is what a statement shows of a scene: the expression's number, the text with its zeros, the first frames.
 abbrev pub Shows : SceneForm → StatementForm → RecordedForm → Type 0

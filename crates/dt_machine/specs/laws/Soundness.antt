@@ -1,5 +1,5 @@
 -- A machine that a text describes is sound.
-use Rattle.std.proofs.Common.{◌≡◌, ◌≢◌, ◌∙◌, ◌+◌, ◌<◌, ◌≤◌, ◌==◌, ℕ, Bool, true, false, cond, zero, suc, [], ◌∷◌, List}
+use Rattle.std.proofs.Common.{◌≡◌, ◌≢◌, ◌∙◌, ◌<◌, ◌≤◌, ◌==◌, ℕ, Bool, true, false, cond, zero, suc, [], ◌∷◌, List}
 use Rattle.std.proofs.Common.{Option, Some, None, IfSome, IsSomeAnd, All, AllPairs, map, take, slice_get, get_or}
 use Rattle.std.proofs.Common.{length, option_map, codes, refl, sym, ap, subst, arith}
 use Rattle.std.specs.Prelude.{find}
@@ -56,6 +56,10 @@ names_apart rows right =
     (λ i j x y _ right_y less there high. before_at rows i j x (λ (e : AccountRow). e.name ≢ y.name) less there
     (omega arith) right_y.new)
 
+pub below_some : (limit : ℕ) (number : Option ℕ) → IsGivenBelow limit number → number ≡ Some (number_in number)
+below_some limit None h = absurd h
+below_some limit (Some n) h = refl
+
 pids_differ : (x y : ProcessRow) (before earlier : List ProcessRow) → IsRightProcess earlier x
     → IsRightProcess before y → x.pid ≢ y.pid → number_in x.pid ≢ number_in y.pid
 pids_differ x y before earlier right_x right_y differ same =
@@ -67,10 +71,6 @@ pids_apart rows right =
     pairs process (λ (a b : ProcessType). a.pid ≢ b.pid) IsRightProcess rows right
     (λ i j x y right_x right_y less there high. pids_differ x y (take j rows) (take i rows) right_x right_y
     (before_at rows i j x (λ (e : ProcessRow). e.pid ≢ y.pid) less there (omega arith) right_y.new))
-
-pub below_some : (limit : ℕ) (number : Option ℕ) → IsGivenBelow limit number → number ≡ Some (number_in number)
-below_some limit None h = absurd h
-below_some limit (Some n) h = refl
 
 -- the number of every process is of six digits at most
 below_value : (number : Option ℕ) → IsGivenBelow 1000000 number → number_in number ≤ 999999

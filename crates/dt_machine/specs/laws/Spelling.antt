@@ -1,5 +1,5 @@
 -- The probes that texts spell: each text one, and each provider one class.
-use Rattle.std.proofs.Common.{◌≡◌, ◌≢◌, ◌+◌, ◌<◌, ℕ, zero, suc, [], ◌∷◌, ◌++◌, List, Some, IsSomeAnd, slice_get, get_or}
+use Rattle.std.proofs.Common.{◌≡◌, ◌+◌, ◌<◌, ℕ, zero, suc, [], ◌∷◌, ◌++◌, List, Some, IsSomeAnd, slice_get, get_or}
 use Rattle.std.proofs.Common.{length, codes, lit<, refl, sym, ap, ◌∙◌, subst, arith, add-zero}
 use Rattle.std.proofs.Math.Logic.{∥∥₁_prop}
 use mathlib.Core.HLevel.{is_prop→PathP}

@@ -10,7 +10,7 @@ use Rattle.std.specs.Option.{option_map, option_and_then}
 use Rattle.std.specs.Prelude.{if◌then◌else◌}
 use Rattle.byteorder.specs.Endian.{big_bytes}
 use Rattle.byteorder.specs.Numbers.{length-bytes_high_first}
-use Rattle.dt_names.specs.Limits.{short_text_max}
+use Rattle.dt_names.specs.Limits.{padded_size}
 use Rattle.dt_expr.specs.Operators.{holds}
 use Rattle.dt_expr.specs.Scene.{SceneForm, padded, text_bytes}
 use Rattle.dt_expr.specs.Value.{value}
@@ -25,7 +25,7 @@ use Rattle.dt_record.specs.Layout as layout
 use Rattle.dt_record.specs.Split as split
 use Rattle.dt_record.specs.Split.{RecordedForm, RecordForm, AreFrames, FitsField, FitAll, IsFrame, IsRecordOf, IsSplit}
 use Rattle.dt_record.specs.Split.{recorded_bytes, record_bytes}
-use Rattle.dt_record.specs.Showing.{IsScene, IsText, IsStatement, CanBeTaken, ShowAll, IsRecordFrom, FitLayout}
+use Rattle.dt_record.specs.Showing.{IsSceneInBounds, IsTextInBounds, IsStatementInBounds, CanBeTaken, ShowAll, IsRecordFrom, FitLayout}
 use Rattle.dt_record.specs.Showing.{IsLeftBy}
 use Rattle.dt_record.specs.Taking.{TakenForm, Effect, records, gives, exits, each, effect, recorded}
 use Rattle.dt_record.specs.Taking.{epid_bytes, number_bytes, value_bytes, argument_value, given, leaves_record}
@@ -117,11 +117,11 @@ no_bytes_of_use None number done e = cc
 no_bytes_of_use (Some values) None done e = cc
 no_bytes_of_use (Some values) (Some n) done e = let is : done ≡ gives (values ++ n ∷ []) = cc in ap recorded is
 
-text_short : (scene : SceneForm) → IsScene scene → (t : Text) → IsText t → length (text_bytes scene t) ≤ short_text_max
+text_short : (scene : SceneForm) → IsSceneInBounds scene → (t : Text) → IsTextInBounds t → length (text_bytes scene t) ≤ padded_size
 text_short scene is (Literal bytes) short = short
 text_short scene is (Variable variable) short = is.texts variable
 
-padded_long : (bytes : List ℕ) → length bytes ≤ 31 → length (padded bytes) ≡ 32
+padded_long : (bytes : List ℕ) → length bytes ≤ 32 → length (padded bytes) ≡ 32
 padded_long bytes short =
     let whole = length-append bytes (replicate (32 - length bytes) 0) in
     let zeros = length-replicate {A = ℕ} (32 - length bytes) 0 in
@@ -137,9 +137,9 @@ frames_put n list are few =
     let long = are.many in
     record { many = length-take-le n list (omega (arith, long)); each = first_frames n list are.each }
 
-module _ (scene : SceneForm) (is : IsScene scene) where
+module _ (scene : SceneForm) (is : IsSceneInBounds scene) where
   put : (statement : StatementForm) (statements : List StatementForm) (done : Effect) (effects : List Effect)
-      → IsStatement statement → effect scene statement ≡ Some done → Put scene statements effects
+      → IsStatementInBounds statement → effect scene statement ≡ Some done → Put scene statements effects
       → Put scene (statement ∷ statements) (done ∷ effects)
   put (program.trace (program.number f)) statements done effects right e rest =
       let got = number_put (value scene f) done e in
@@ -196,7 +196,7 @@ module _ (scene : SceneForm) (is : IsScene scene) where
             (sym (no_bytes_of_use (each (argument_value scene) keys) (given scene call) done e));
       }
 
-  put_all : (statements : List StatementForm) (effects : List Effect) → AllByRecursion IsStatement statements
+  put_all : (statements : List StatementForm) (effects : List Effect) → AllByRecursion IsStatementInBounds statements
       → each (effect scene) statements ≡ Some effects → Put scene statements effects
   put_all [] effects right e =
       let none : [] ≡ effects = cc in
@@ -233,7 +233,7 @@ pub records-fit : (epid : ℕ) (scene : SceneForm) (clause : ClauseForm) (left :
 records-fit epid scene clause left can e =
     let got = effects_of (predicate_value scene clause.predicate) left epid clause.statements
     (each (effect scene) clause.statements) e in
-    let all = put_all scene can.scene_is clause.statements got.0 can.statements got.1 in
+    let all = put_all scene can.scene_in_bounds clause.statements got.0 can.statements_in_bounds got.1 in
     let written : RecordForm = record { epid = epid; values = all.values } in
     let same : record_bytes written ≡ epid_bytes epid ++ flat_map recorded got.0 =
     ap (λ l. epid_bytes epid ++ l) all.same in

@@ -21,7 +21,7 @@ use Rattle.dt_expr.specs.declared.operators.TextOp.{TextOp}
 use Rattle.dt_expr.specs.declared.operators.TextOp.TheVariants.{Equal as SameText, NotEqual as OtherText}
 use Rattle.dt_expr.specs.declared.operators.UnaryOp.{UnaryOp}
 use Rattle.dt_expr.specs.declared.operators.UnaryOp.TheVariants.{Not, Complement, Negate, Plus}
-use Rattle.dt_record.specs.Showing.{IsScene, IsExpression}
+use Rattle.dt_record.specs.Showing.{IsSceneInBounds, IsExpressionInBounds}
 
 abbrev Has64Bits : ℤ → Type 0
 Has64Bits z = FitsSigned w64 z
@@ -144,7 +144,7 @@ compared_fits : (op : TextOp) (a b : List ℕ) → Has64Bits (compared op a b)
 compared_fits SameText a b = truth_fits _
 compared_fits OtherText a b = truth_fits _
 
-pub value_fits : (scene : SceneForm) → IsScene scene → (f : Form) → IsExpression f → (z : ℤ) → value scene f ≡ Some z
+pub value_fits : (scene : SceneForm) → IsSceneInBounds scene → (f : Form) → IsExpressionInBounds f → (z : ℤ) → value scene f ≡ Some z
     → FitsSigned w64 z
 value_fits scene is (Num number) h = some_fits number h
 value_fits scene is (Named variable) h = some_fits (number_named scene variable) (is.numbers variable)
