@@ -1,8 +1,9 @@
 //! Laws over the definitions.
-ghost use Rattle.std.specs.Prelude.{◌≡◌, ℕ, List, Option, Some, map};
+ghost use Rattle.std.specs.Prelude.{◌≡◌, ℕ, List, [], ◌∷◌, Option, Some, map};
 ghost use Rattle.std.specs.List.{AllByRecursion, flat_map};
 ghost use Rattle.dt_expr.specs.Scene.{SceneForm};
 ghost use Rattle.dt_program.specs.Clause.{ClauseForm};
+ghost use Rattle.dt_record.specs.Layout as layout;
 ghost use Rattle.dt_record.specs.Layout.{FieldForm, layout_of};
 ghost use Rattle.dt_record.specs.Showing.{CanBeTaken, FitLayout, IsLeftBy};
 ghost use Rattle.dt_record.specs.Split.{IsSplit, RecordForm};
@@ -16,11 +17,14 @@ pub fn one_split()
 
 /// Law: what a clause leaves of a scene is a record of the clause's layout. It has the EPID and, for each statement that
 /// records something, in order, the value that the statement shows of the scene; its bytes are as many as the layout
-/// says. Where the clause has no layout, it leaves no record.
+/// says. Where the clause has no layout, it leaves no record. The premises are met by a clause with each kind of field.
 pub fn records_fit()
-    ensures { (epid : ℕ) (scene : SceneForm) (clause : ClauseForm) (left : TakenForm) → CanBeTaken scene clause
+    ensures fit { (epid : ℕ) (scene : SceneForm) (clause : ClauseForm) (left : TakenForm) → CanBeTaken scene clause
         → taking epid scene clause ≡ Some (Some left)
         → FitLayout epid scene clause (layout_of clause) left.record_bytes }
+    ensures met { (scene : SceneForm) × (clause : ClauseForm) × (left : TakenForm) × CanBeTaken scene clause
+        × (taking 1 scene clause ≡ Some (Some left))
+        × (layout_of clause ≡ Some (layout.number ∷ layout.text ∷ layout.stack 2 ∷ layout.ustack 1 ∷ [])) }
 {}
 
 /// Law: records that clauses left, one after the other, are split into records of the clauses' layouts.
