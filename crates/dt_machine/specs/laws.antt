@@ -3,3 +3,5 @@ pub mod Tests
 pub mod Scripts
 pub mod Spelling
 pub mod Soundness
+pub mod Numbers
+pub mod Bounds

@@ -1,5 +1,6 @@
 //! Laws of the reading: a text has one answer, and what it describes is sound.
 ghost use Rattle.std.specs.Prelude.{◌≡◌, ℕ, List};
+ghost use Rattle.dt_machine.specs.Bounds.{IsInBounds};
 ghost use Rattle.dt_machine.specs.Registry.{Contents, IsSound};
 ghost use Rattle.dt_machine.specs.Reading.{IsDescribed, IsFaultOf};
 ghost use Rattle.dt_machine.specs.declared.fault.MachineFault.{MachineFault};
@@ -14,4 +15,9 @@ pub fn one_answer()
 /// Law: a machine that a text describes is sound.
 pub fn described_is_sound()
     ensures { (text : List ℕ) (contents : Contents) → IsDescribed text contents → IsSound contents }
+{}
+
+/// Law: the numbers, texts and lists of a machine that a text describes lie within their bounds.
+pub fn described_is_in_bounds()
+    ensures { (text : List ℕ) (contents : Contents) → IsDescribed text contents → IsInBounds contents }
 {}

@@ -53,6 +53,20 @@ pub record CanBeTaken (scene : SceneForm) (clause : ClauseForm) : Type 0 where
   pub scene_in_bounds : IsSceneInBounds scene
   pub statements_in_bounds : AllByRecursion IsStatementInBounds clause.statements
 
+-- What the length of a record hangs on: the texts of a scene are no longer than a record shows them, and its stacks have
+-- so many frames.
+pub record HasLengths (scene : SceneForm) : Type 0 where
+  pub texts : (variable : TextVariable) → length (text_named scene variable) ≤ padded_size
+  pub kstack : length scene.firing.kstack ≡ frame_count
+  pub ustack : length scene.firing.ustack ≡ frame_count
+
+-- the same of a statement, whatever numbers are written in it
+abbrev pub IsOfLength : StatementForm → Type 0
+IsOfLength (program.trace (program.text t)) = IsTextInBounds t
+IsOfLength (program.stack n) = n ≤ frames_max
+IsOfLength (program.ustack n) = n ≤ frames_max
+IsOfLength _ = Unit {0}
+
 -- A value is what a statement shows of a scene: the expression's number, the text with its zeros, the first frames.
 abbrev pub Shows : SceneForm → StatementForm → RecordedForm → Type 0
 Shows scene (program.trace (program.number f)) (split.number z) = value scene f ≡ Some z

@@ -1,11 +1,11 @@
 //! Laws over the definitions.
-ghost use Rattle.std.specs.Prelude.{◌≡◌, ℕ, List, [], ◌∷◌, Option, Some, map};
+ghost use Rattle.std.specs.Prelude.{◌≡◌, ℕ, List, [], ◌∷◌, Option, Some, length, map};
 ghost use Rattle.std.specs.List.{AllByRecursion, flat_map};
 ghost use Rattle.dt_expr.specs.Scene.{SceneForm};
 ghost use Rattle.dt_program.specs.Clause.{ClauseForm};
 ghost use Rattle.dt_record.specs.Layout as layout;
-ghost use Rattle.dt_record.specs.Layout.{FieldForm, layout_of};
-ghost use Rattle.dt_record.specs.Showing.{CanBeTaken, FitLayout, IsLeftBy};
+ghost use Rattle.dt_record.specs.Layout.{FieldForm, layout_of, layout_size};
+ghost use Rattle.dt_record.specs.Showing.{CanBeTaken, FitLayout, HasLengths, IsLeftBy, IsOfLength};
 ghost use Rattle.dt_record.specs.Split.{IsSplit, RecordForm};
 ghost use Rattle.dt_record.specs.Taking.{TakenForm, taking};
 
@@ -25,6 +25,14 @@ pub fn records_fit()
     ensures met { (scene : SceneForm) × (clause : ClauseForm) × (left : TakenForm) × CanBeTaken scene clause
         × (taking 1 scene clause ≡ Some (Some left))
         × (layout_of clause ≡ Some (layout.number ∷ layout.text ∷ layout.stack 2 ∷ layout.ustack 1 ∷ [])) }
+{}
+
+/// Law: the record that a clause leaves is as long as its layout says, whatever numbers are in it.
+pub fn records_have_lengths()
+    ensures { (epid : ℕ) (scene : SceneForm) (clause : ClauseForm) (left : TakenForm) (bytes : List ℕ)
+        → HasLengths scene → AllByRecursion IsOfLength clause.statements
+        → taking epid scene clause ≡ Some (Some left) → left.record_bytes ≡ Some bytes
+        → length bytes ≡ layout_size (layout_of clause) }
 {}
 
 /// Law: records that clauses left, one after the other, are split into records of the clauses' layouts.

@@ -20,7 +20,7 @@ mod splitting;
 mod taking;
 mod values;
 
-pub use laws::{left_is_split, one_split, records_fit};
+pub use laws::{left_is_split, one_split, records_fit, records_have_lengths};
 pub use layout::{Field, Layout};
 pub use limit_laws::limits_agree;
 pub use limits::{EPID_SIZE, RECORD_MAX, VALUES_MAX};

@@ -83,7 +83,7 @@ small_rows rows right k d inside =
     let is : get_or rows k d ≡ at.0 = get_or_from_slice_get rows k at.0 d at.1 in
     subst (λ (row : ProcessRow). number_in row.pid ≤ 999999) (sym is) (below_value at.0.pid (right k at.0 at.1).pid)
 
-one_or_other : {A : Type 0} (b : Bool) (x : A) (o : Option A) (P : A → Type 0) → P x → IfSome o P
+pub one_or_other : {A : Type 0} (b : Bool) (x : A) (o : Option A) (P : A → Type 0) → P x → IfSome o P
     → IfSome (cond b (Some x) o) P
 one_or_other true x o P here there = here
 one_or_other false x o P here there = there

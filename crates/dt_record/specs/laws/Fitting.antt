@@ -39,7 +39,7 @@ shift a (x ∷ xs) = let here = shift (a + x) xs in let there = shift (0 + x) xs
 pub sum_of : (x : ℕ) (xs : List ℕ) → sum (x ∷ xs) ≡ x + sum xs
 sum_of x xs = let turned = shift (0 + x) xs in omega arith
 
-frames_long : (list : List ℕ) → length (flat_map (big_bytes 8) list) ≡ 8 * length list
+pub frames_long : (list : List ℕ) → length (flat_map (big_bytes 8) list) ≡ 8 * length list
 frames_long [] = omega arith
 frames_long (frame ∷ list) =
     let front = length-append (big_bytes 8 frame) (flat_map (big_bytes 8) list) in
@@ -86,7 +86,7 @@ record_long fields r fit =
     omega (arith, front, four, rest)
 
 -- what each of a list gives, taken apart
-parts : {B : Type 0} (o : Option B) (os : Option (List B)) (all : List B)
+pub parts : {B : Type 0} (o : Option B) (os : Option (List B)) (all : List B)
     → option_and_then (λ y. option_map (λ ys. y ∷ ys) os) o ≡ Some all
     → (y : B) × (ys : List B) × (o ≡ Some y) × (os ≡ Some ys) × (all ≡ y ∷ ys)
 parts None os all e = cc
@@ -100,17 +100,17 @@ record Put (scene : SceneForm) (statements : List StatementForm) (effects : List
   fit : FitAll (fields_of statements) values
   same : flat_map recorded_bytes values ≡ flat_map recorded effects
 
-number_put : (o : Option ℤ) (done : Effect)
+pub number_put : (o : Option ℤ) (done : Effect)
     → option_map (λ v. records (value_bytes v)) (option_map val.Number o) ≡ Some done
     → (z : ℤ) × (o ≡ Some z) × (done ≡ records (number_bytes z))
 number_put None done e = cc
 number_put (Some z) done e = (z, refl, cc)
 
-no_bytes_of_exit : (o : Option ℤ) (done : Effect) → option_map exits o ≡ Some done → recorded done ≡ []
+pub no_bytes_of_exit : (o : Option ℤ) (done : Effect) → option_map exits o ≡ Some done → recorded done ≡ []
 no_bytes_of_exit None done e = cc
 no_bytes_of_exit (Some z) done e = let is : done ≡ exits z = cc in ap recorded is
 
-no_bytes_of_use : (keys : Option (List Value)) (number : Option Value) (done : Effect)
+pub no_bytes_of_use : (keys : Option (List Value)) (number : Option Value) (done : Effect)
     → option_and_then (λ values. option_map (λ n. gives (values ++ n ∷ [])) number) keys ≡ Some done
     → recorded done ≡ []
 no_bytes_of_use None number done e = cc
@@ -121,7 +121,7 @@ text_short : (scene : SceneForm) → IsSceneInBounds scene → (t : Text) → Is
 text_short scene is (Literal bytes) short = short
 text_short scene is (Variable variable) short = is.texts variable
 
-padded_long : (bytes : List ℕ) → length bytes ≤ 32 → length (padded bytes) ≡ 32
+pub padded_long : (bytes : List ℕ) → length bytes ≤ 32 → length (padded bytes) ≡ 32
 padded_long bytes short =
     let whole = length-append bytes (replicate (32 - length bytes) 0) in
     let zeros = length-replicate {A = ℕ} (32 - length bytes) 0 in
@@ -214,7 +214,7 @@ held true left epid statements None e = cc
 held true left epid statements (Some effects) e = (effects, refl, cc)
 held false left epid statements os e = cc
 
-effects_of : (p : Option ℤ) (left : TakenForm) (epid : ℕ) (statements : List StatementForm) (os : Option (List Effect))
+pub effects_of : (p : Option ℤ) (left : TakenForm) (epid : ℕ) (statements : List StatementForm) (os : Option (List Effect))
     → option_and_then (λ z. if holds z then option_map (λ effects. Some (taken_of epid statements effects)) os else Some None) p
     ≡ Some (Some left)
     → (effects : List Effect) × (os ≡ Some effects) × (left ≡ taken_of epid statements effects)
