@@ -1,7 +1,7 @@
--- Within which bounds the numbers, texts and lists of a machine's parts lie.
+-- Within which bounds the numbers, texts and lists of a machine's parts lie. How large its arguments and frames are, their
+-- types say.
 use Rattle.std.specs.Prelude.{◌≡◌, ℕ, ◌^◌, ◌<◌, ◌≤◌, List, length, IfSome, FitsSigned}
 use Rattle.std.specs.Int.{w64}
-use Rattle.std.specs.List.{AllByRecursion}
 use Rattle.dt_names.specs.Limits.{name_max, short_text_max}
 use Rattle.dt_cred.specs.Limits.{argument_count, frame_count}
 use Rattle.dt_cred.specs.declared.account.Process.{Process}
@@ -22,20 +22,14 @@ pub record IsProbeInBounds (probe : Probe) : Type 0 where
   pub function : length probe.tuple.function ≤ name_max
   pub name : length probe.tuple.name ≤ name_max
 
--- a stack's frames, of 64 bits each
-pub record IsStack (frames : List ℕ) : Type 0 where
-  pub many : length frames ≡ frame_count
-  pub each : AllByRecursion (λ frame. frame < 2 ^ 64) frames
-
 pub record IsFiringInBounds (firing : Firing) : Type 0 where
   pub cpu : firing.cpu < cpus_max
   pub pid : firing.pid ≤ pid_max
   pub tid : firing.tid < 2 ^ 32
   pub timestamp : FitsSigned w64 firing.timestamp
-  pub many_arguments : length firing.args ≡ argument_count
-  pub arguments : AllByRecursion (FitsSigned w64) firing.args
-  pub kstack : IsStack firing.kstack
-  pub ustack : IsStack firing.ustack
+  pub args : length firing.args ≡ argument_count
+  pub kstack : length firing.kstack ≡ frame_count
+  pub ustack : length firing.ustack ≡ frame_count
 
 -- What holds of the parts of a machine.
 pub record IsInBounds (contents : Contents) : Type 0 where

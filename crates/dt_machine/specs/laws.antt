@@ -3,5 +3,4 @@ pub mod Tests
 pub mod Scripts
 pub mod Spelling
 pub mod Soundness
-pub mod Numbers
 pub mod Bounds

@@ -1,28 +1,23 @@
 -- The parts of a machine that a text describes lie within their bounds.
-use Rattle.std.proofs.Common.{◌≡◌, ◌∙◌, ℕ, ◌+◌, ◌-◌, ◌^◌, ◌<◌, ◌≤◌, ◌==◌, Bool, true, false, cond, zero, suc, List, [], ◌∷◌, ◌++◌}
-use Rattle.std.proofs.Common.{Option, Some, None, IfSome, IsSome, ℤ, pos, FitsSigned, map, take, slice_get, length}
-use Rattle.std.proofs.Common.{replicate, codes, refl, sym, ap, subst, lit<, arith}
+use Rattle.std.proofs.Common.{◌≡◌, ℕ, ◌+◌, ◌-◌, ◌^◌, ◌<◌, ◌≤◌, Bool, true, false, cond, zero, suc, List, [], ◌∷◌}
+use Rattle.std.proofs.Common.{Option, Some, None, IfSome, IsSome, ℤ, pos, map, take, slice_get, length}
+use Rattle.std.proofs.Common.{replicate, codes, refl, sym, subst, arith}
 use Rattle.std.proofs.lemmas.Bool.{eqb-true}
 use Rattle.std.proofs.lemmas.List.{length-append, length-map, length-replicate}
 use Rattle.std.proofs.lemmas.Option.{slice_get_within}
 use Rattle.std.specs.Prelude.{find, unwrap_or, option_and_then}
-use Rattle.std.specs.Int.{w64}
-use Rattle.std.specs.List.{AllByRecursion}
 use Rattle.std.specs.Str.{bytes_eq}
-use Rattle.serde_json.specs.Data.{Data}
 use Rattle.dt_cred.specs.declared.account.Account.{Account as AccountType}
 use Rattle.dt_cred.specs.declared.account.Process.{Process as ProcessType}
 use Rattle.dt_cred.specs.declared.probe.Probe.{Probe as ProbeType}
 use Rattle.dt_cred.specs.declared.firing.Firing.{Firing as FiringType}
 use Rattle.dt_machine.specs.declared.fault.FaultNumber.TheVariants.{Account, Process, Firing, Foreign}
-use Rattle.dt_machine.specs.Bounds.{IsProcessInBounds, IsProbeInBounds, IsStack, IsFiringInBounds, IsInBounds}
-use Rattle.dt_machine.specs.Given.{items_of, list_at, signed, unsigned}
+use Rattle.dt_machine.specs.Bounds.{IsProcessInBounds, IsProbeInBounds, IsFiringInBounds, IsInBounds}
 use Rattle.dt_machine.specs.Reading.{IsDescribed, accounts_in, processes_in, probes_in, scripts_in}
 use Rattle.dt_machine.specs.Registry.{Registry, Contents, IsSound, Belongs, account_of, process_of, probe_of, firing_at}
-use Rattle.dt_machine.specs.Rows.{AccountRow, ProcessRow, FiringRow, account, process, firing, scripts, firing_row}
-use Rattle.dt_machine.specs.Rows.{script_rows, arguments, frames, number_in, IsGivenBelow, AreArguments, AreGivenFrames}
+use Rattle.dt_machine.specs.Rows.{ProcessRow, FiringRow, account, process, firing, scripts}
+use Rattle.dt_machine.specs.Rows.{arguments, frames, number_in, IsGivenBelow, AreArguments, AreGivenFrames}
 use Rattle.dt_machine.specs.Rows.{IsRightFiring}
-use Rattle.dt_machine.specs.laws.Numbers.{HasNumbers, read_has, items_of_have, list_at_have, signed_fits, unsigned_fits}
 use Rattle.dt_machine.specs.laws.Scripts.{script_at, scripts_at}
 use Rattle.dt_machine.specs.laws.Spelling.{spelled_at}
 use Rattle.dt_machine.specs.laws.Soundness.{at_pid, described_sound, registry_one, one_or_other}
@@ -59,98 +54,35 @@ known_pid processes pid limit few some = at (find (at_pid pid) processes) refl f
     at (Some p) e few some = subst (λ n. n ≤ limit)
         (eqb-true p.pid pid (found_passes (at_pid pid) processes p e)) few
 
--- lists whose elements are all so
-mapped_so : {A B : Type 0} (f : A → B) (P : A → Type 0) (Q : B → Type 0) → ((x : A) → P x → Q (f x)) → (xs : List A)
-    → AllByRecursion P xs → AllByRecursion Q (map f xs)
-mapped_so f P Q step [] all = tt
-mapped_so f P Q step (x ∷ xs) all = (step x all.0, mapped_so f P Q step xs all.1)
-
-joined_so : {A : Type 0} (P : A → Type 0) (xs ys : List A) → AllByRecursion P xs → AllByRecursion P ys
-    → AllByRecursion P (xs ++ ys)
-joined_so P [] ys all more = more
-joined_so P (x ∷ xs) ys all more = (all.0, joined_so P xs ys all.1 more)
-
-repeated_so : {A : Type 0} (P : A → Type 0) (x : A) (n : ℕ) → P x → AllByRecursion P (replicate n x)
-repeated_so P x zero is = tt
-repeated_so P x (suc n) is = (is, repeated_so P x n is)
-
-at_so : {A : Type 0} (P : A → Type 0) (xs : List A) (k : ℕ) (x : A) → AllByRecursion P xs → slice_get xs k ≡ Some x → P x
-at_so P [] k x all e = cc
-at_so P (y ∷ ys) zero x all e = let same : y ≡ x = cc in subst P same all.0
-at_so P (y ∷ ys) (suc k) x all e = at_so P ys k x all.1 e
-
--- the numbers of a row have 64 bits, with a sign or without
-record IsRowInBounds (row : FiringRow) : Type 0 where
-  args : AllByRecursion (λ o. IfSome o (FitsSigned w64)) row.args
-  kstack : AllByRecursion (λ o. IfSome o (λ n. n < 2 ^ 64)) row.kstack
-  ustack : AllByRecursion (λ o. IfSome o (λ n. n < 2 ^ 64)) row.ustack
-
-row_so : (d : Data) → HasNumbers d → IsRowInBounds (firing_row d)
-row_so d has = record {
-  args = mapped_so signed HasNumbers (λ o. IfSome o (FitsSigned w64)) signed_fits (list_at (codes "args") d)
-      (list_at_have (codes "args") d has);
-  kstack = mapped_so unsigned HasNumbers (λ o. IfSome o (λ n. n < 2 ^ 64)) unsigned_fits (list_at (codes "kstack") d)
-      (list_at_have (codes "kstack") d has);
-  ustack = mapped_so unsigned HasNumbers (λ o. IfSome o (λ n. n < 2 ^ 64)) unsigned_fits (list_at (codes "ustack") d)
-      (list_at_have (codes "ustack") d has);
-}
-
-rows_so : (d : Data) → HasNumbers d → AllByRecursion (AllByRecursion IsRowInBounds) (scripts_in d)
-rows_so d has = mapped_so script_rows HasNumbers (AllByRecursion IsRowInBounds)
-    (λ one h. mapped_so firing_row HasNumbers IsRowInBounds row_so (items_of one) (items_of_have one h))
-    (list_at (codes "scripts") d) (list_at_have (codes "scripts") d has)
-
-given_number : (o : Option ℤ) → IfSome o (FitsSigned w64) → FitsSigned w64 (unwrap_or o (pos 0))
-given_number None h = record { sfits = lit< tt }
-given_number (Some z) h = h
-
-given_frame : (o : Option ℕ) → IfSome o (λ n. n < 2 ^ 64) → number_in o < 2 ^ 64
-given_frame None h = lit< tt
-given_frame (Some n) h = h
-
-arguments_so : (given : List (Option ℤ)) → AllByRecursion (λ o. IfSome o (FitsSigned w64)) given
-    → AllByRecursion (FitsSigned w64) (arguments given)
-arguments_so given all =
-    joined_so (FitsSigned w64) (map (λ o. unwrap_or o (pos 0)) given) (replicate (10 - length given) (pos 0))
-    (mapped_so (λ o. unwrap_or o (pos 0)) (λ o. IfSome o (FitsSigned w64)) (FitsSigned w64) given_number given all)
-    (repeated_so (FitsSigned w64) (pos 0) (10 - length given) (record { sfits = lit< tt }))
-
-arguments_many : (given : List (Option ℤ)) → AreArguments given → length (arguments given) ≡ 10
-arguments_many given are =
+args_many : (given : List (Option ℤ)) → AreArguments given → length (arguments given) ≡ 10
+args_many given are =
     let few = are.few in
     let whole = length-append (map (λ o. unwrap_or o (pos 0)) given) (replicate (10 - length given) (pos 0)) in
     let front = length-map given (λ (o : Option ℤ). unwrap_or o (pos 0)) in
     let zeros = length-replicate {A = ℤ} (10 - length given) (pos 0) in
     omega (arith, few, whole, front, zeros)
 
-stack_so : (given : List (Option ℕ)) → AreGivenFrames given → AllByRecursion (λ o. IfSome o (λ n. n < 2 ^ 64)) given
-    → IsStack (frames given)
-stack_so given are all =
+frames_many : (given : List (Option ℕ)) → AreGivenFrames given → length (frames given) ≡ 8
+frames_many given are =
     let few = are.few in
     let whole = length-append (map number_in given) (replicate (8 - length given) 0) in
     let front = length-map given number_in in
     let zeros = length-replicate {A = ℕ} (8 - length given) 0 in
-    record {
-      many = omega (arith, few, whole, front, zeros);
-      each = joined_so (λ frame. frame < 2 ^ 64) (map number_in given) (replicate (8 - length given) 0)
-          (mapped_so number_in (λ o. IfSome o (λ n. n < 2 ^ 64)) (λ frame. frame < 2 ^ 64) given_frame given all)
-          (repeated_so (λ frame. frame < 2 ^ 64) 0 (8 - length given) (lit< tt));
-    }
+    omega (arith, few, whole, front, zeros)
 
 -- a firing of a right row that belongs to a sound machine
 firing_so : (registry : Registry) (other : Registry) (cpu place : ℕ) (before : List FiringRow) (row : FiringRow)
     → registry.cpus ≤ 64 → ((pid : ℕ) → IfSome (process_of registry pid) (λ p. p.pid ≤ 999999))
-    → IsRightFiring other before row → IsRowInBounds row → Belongs registry (firing cpu place row)
+    → IsRightFiring other before row → Belongs registry (firing cpu place row)
     → IsFiringInBounds (firing cpu place row)
-firing_so registry other cpu place before row few small right bounds belongs = record {
+firing_so registry other cpu place before row few small right belongs = record {
   cpu = let in_machine = belongs.cpu in omega (arith, in_machine, few);
   pid = known_pid registry.processes (number_in row.pid) 999999 (small (number_in row.pid)) belongs.process;
   tid = below (2 ^ 32) row.tid right.tid;
   timestamp = record { sfits = below (2 ^ 63) row.timestamp right.timestamp };
-  many_arguments = arguments_many row.args right.args;
-  arguments = arguments_so row.args bounds.args;
-  kstack = stack_so row.kstack right.kstack bounds.kstack;
-  ustack = stack_so row.ustack right.ustack bounds.ustack;
+  args = args_many row.args right.args;
+  kstack = frames_many row.kstack right.kstack;
+  ustack = frames_many row.ustack right.ustack;
 }
 
 module _ (text : List ℕ) (contents : Contents) (is : IsDescribed text contents) where
@@ -213,13 +145,9 @@ module _ (text : List ℕ) (contents : Contents) (is : IsDescribed text contents
           let B : Registry → Type 0 = λ r. Belongs r fired in
           let belongs : Belongs contents.registry fired =
           subst B same (foreign.2 cpu found there place fired at_place) in
-          let has = read_has _ is.data_of is.json.value in
-          let row = at_so IsRowInBounds at.rows place f.row
-          (at_so (AllByRecursion IsRowInBounds) (scripts_in is.data_of) cpu at.rows (rows_so is.data_of has) at.there)
-          f.there in
           subst IsFiringInBounds (sym f.is)
           (firing_so contents.registry all.0 (0 + cpu) (0 + place) (take place at.rows) f.row sound.few_cpus
-          sound.small_pids (all.2 cpu at.rows at.there place f.row f.there) row
+          sound.small_pids (all.2 cpu at.rows at.there place f.row f.there)
           (subst (Belongs contents.registry) f.is belongs))
 
       outer : (o : Option (List FiringType)) → slice_get (scripts 0 (scripts_in is.data_of)) cpu ≡ o
