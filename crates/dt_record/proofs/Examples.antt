@@ -1,5 +1,5 @@
 -- A clause with each kind of field, and a scene in which it can be taken.
-use Rattle.std.proofs.Common.{◌≡◌, ◌≤◌, ℕ, ℤ, pos, length, List, [], ◌∷◌, ◌++◌, Some, None, replicate, codes, refl, lit<, lit≤, FitsSigned}
+use Rattle.std.proofs.Common.{◌≡◌, ◌≤◌, ℕ, pos, length, List, [], ◌∷◌, Some, None, replicate, codes, refl, lit<, lit≤, FitsSigned}
 use Rattle.std.specs.Int.{w64, int_wrap}
 use Rattle.std.specs.List.{flat_map}
 use Rattle.byteorder.specs.Endian.{big_bytes}

@@ -1,11 +1,10 @@
 -- What a clause leaves is as long as its layout says, whatever numbers are in it.
-use Rattle.std.proofs.Common.{◌≡◌, ℕ, ◌+◌, ◌*◌, ◌≤◌, Bool, true, false, List, [], ◌∷◌, ◌++◌, Option, Some, None, ℤ, map, take}
-use Rattle.std.proofs.Common.{length, sum, refl, sym, ap, subst, ◌∙◌, arith}
+use Rattle.std.proofs.Common.{◌≡◌, ℕ, ◌*◌, ◌≤◌, Bool, true, false, List, [], ◌∷◌, ◌++◌, Some, None, map, take}
+use Rattle.std.proofs.Common.{length, sum, sym, ap, subst, ◌∙◌, arith}
 use Rattle.std.proofs.lemmas.List.{length-append, length-take-le}
 use Rattle.std.specs.Prelude.{if◌then◌else◌}
 use Rattle.std.specs.Int.{w64, cast_unsigned}
 use Rattle.std.specs.List.{flat_map, AllByRecursion}
-use Rattle.std.specs.Option.{option_map}
 use Rattle.byteorder.specs.Endian.{big_bytes}
 use Rattle.byteorder.specs.Numbers.{length-bytes_high_first}
 use Rattle.dt_names.specs.Limits.{padded_size}
@@ -18,7 +17,7 @@ use Rattle.dt_program.specs.Clause as program
 use Rattle.dt_record.specs.Layout.{FieldForm, fields_of, field_size, layout_of, layout_size}
 use Rattle.dt_record.specs.Layout as layout
 use Rattle.dt_record.specs.Showing.{HasLengths, IsTextInBounds, IsOfLength}
-use Rattle.dt_record.specs.Taking.{TakenForm, Effect, records, each, effect, recorded, epid_bytes, number_bytes}
+use Rattle.dt_record.specs.Taking.{TakenForm, Effect, records, each, effect, recorded, epid_bytes}
 use Rattle.dt_record.specs.Taking.{argument_value, given, leaves_record, predicate_value, taking}
 use Rattle.dt_record.specs.laws.Fitting.{sum_of, frames_long, padded_long, number_put, no_bytes_of_exit, no_bytes_of_use}
 use Rattle.dt_record.specs.laws.Fitting.{parts, effects_of}
