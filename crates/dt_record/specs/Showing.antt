@@ -1,4 +1,4 @@
--- What a clause's record shows of its scene, and what holds of every scene and every clause.
+-- What a clause's record shows of its scene, and within which bounds a scene and a clause lie.
 use Rattle.std.specs.Prelude.{◌≡◌, ℕ, ◌+◌, ◌^◌, ◌<◌, ◌≤◌, List, [], ◌∷◌, length, Option, Some, None, take, slice_get, FitsSigned}
 use Rattle.std.specs.Int.{w64}
 use Rattle.std.specs.List.{filter, AllByRecursion}
@@ -19,8 +19,8 @@ use Rattle.dt_record.specs.Split.{RecordedForm, RecordForm, AreFrames, FitAll, r
 use Rattle.dt_record.specs.Split as split
 use Rattle.dt_record.specs.Taking.{TakenForm, is_recording, taking}
 
--- What holds of every scene: its numbers have 64 bits with a sign, its texts are no longer than a record shows them, and
--- each of its stacks has so many frames.
+-- The numbers of the scene have 64 bits with a sign, its texts are no longer than a record shows them, and each of its
+-- stacks has so many frames.
 pub record IsSceneInBounds (scene : SceneForm) : Type 0 where
   pub numbers : (variable : NumberVariable) → FitsSigned w64 (number_named scene variable)
   pub texts : (variable : TextVariable) → length (text_named scene variable) ≤ padded_size
@@ -48,7 +48,7 @@ IsStatementInBounds (program.stack n) = n ≤ frames_max
 IsStatementInBounds (program.ustack n) = n ≤ frames_max
 IsStatementInBounds _ = Unit {0}
 
--- What the types of a scene and of a clause guarantee wherever a clause is taken.
+-- What a scene and a clause have to meet, so that what the clause leaves fits its layout. Their types hold nothing else.
 pub record CanBeTaken (scene : SceneForm) (clause : ClauseForm) : Type 0 where
   pub scene_in_bounds : IsSceneInBounds scene
   pub statements_in_bounds : AllByRecursion IsStatementInBounds clause.statements
