@@ -1,107 +1,24 @@
 -- A text has one answer.
-use Rattle.std.proofs.Common.{◌≡◌, ◌∙◌, ◌<◌, ◌+◌, ◌⊎◌, inl, inr, ℕ, [], ◌∷◌, List, Some, slice_get, get_or, length}
-use Rattle.std.proofs.Common.{codes, lit<, refl, sym, ap, subst, arith}
-use Rattle.std.proofs.Math.Logic.{∥∥₁_prop}
+use Rattle.std.proofs.Common.{◌≡◌, ◌∙◌, ◌<◌, ◌⊎◌, inl, inr, ℕ, List, Some, slice_get, length}
+use Rattle.std.proofs.Common.{sym, ap, subst, arith}
 use Rattle.std.proofs.lemmas.Bool.{false≢true}
-use mathlib.Core.HLevel.{is_prop→PathP}
 use Rattle.serde_json.specs.Data.{Data}
-use Rattle.dt_names.specs.declared.tuple.ProbeTuple.{ProbeTuple}
-use Rattle.dt_cred.specs.Class.{IsClassOf}
-use Rattle.dt_cred.specs.declared.class.Class.{Class}
-use Rattle.dt_cred.specs.declared.class.Class.TheVariants.{Dtrace, Syscall, Profile, Pid, Other}
-use Rattle.dt_cred.specs.declared.probe.Probe.{Probe as ProbeType}
 use Rattle.dt_machine.specs.declared.fault.FaultNumber.{FaultNumber}
 use Rattle.dt_machine.specs.declared.fault.FaultNumber.TheVariants.{Json, Shape, Cpus, Account, Process, Probe, Script}
 use Rattle.dt_machine.specs.declared.fault.FaultNumber.TheVariants.{Firing, Foreign, Memory}
 use Rattle.dt_machine.specs.declared.fault.MachineFault.{MachineFault}
 use Rattle.dt_machine.specs.Reading.{AllRight, AllRightIn, IsFirstWrong, IsFirstWrongIn, Passes, Finds, Registers}
 use Rattle.dt_machine.specs.Reading.{IsJson, IsFirstFinding, IsFaultOf, IsDescribed, IsScriptFault, rank_of}
-use Rattle.dt_machine.specs.Reading.{scripts_in, probes_in}
+use Rattle.dt_machine.specs.Reading.{scripts_in}
 use Rattle.dt_machine.specs.Registry.{Registry, Contents, Belongs}
-use Rattle.dt_machine.specs.Rows.{FiringRow, AreProbes, HasRoom, IsRightFiring, scripts}
+use Rattle.dt_machine.specs.Rows.{FiringRow, HasRoom, IsRightFiring, scripts}
 use Rattle.dt_machine.proofs.Faults.{one_number}
-use Rattle.dt_machine.proofs.Spelling.{spells_one, names_one, apart, no_pid_syscall, no_pid_profile, no_pid_dtrace}
-
-same_some : {A : Type 0} (x y : A) → Some x ≡ Some y → x ≡ y
-same_some x y e = cc
+use Rattle.dt_machine.specs.laws.Scripts.{same_some}
+use Rattle.dt_machine.specs.laws.Soundness.{registry_one}
 
 -- the three ways in which two numbers stand
 order : (a b : ℕ) → (a < b) ⊎ ((a ≡ b) ⊎ (b < a))
 order a b = grind arith
-
--- a provider has one class
-no_two : {C : Type 0} (a b : List ℕ) (provider : List ℕ) → provider ≡ a → provider ≡ b → (a ≡ b → ⊥) → C
-no_two a b provider p q differ = absurd (differ (sym p ∙ q))
-
-dtrace_syscall : codes "dtrace" ≡ codes "syscall" → ⊥
-dtrace_syscall e = cc
-
-dtrace_profile : codes "dtrace" ≡ codes "profile" → ⊥
-dtrace_profile e = cc
-
-syscall_profile : codes "syscall" ≡ codes "profile" → ⊥
-syscall_profile e = apart 115 112 (ap (λ (bytes : List ℕ). get_or bytes 0 0) e) (lit< tt)
-
-class_one : (provider : List ℕ) (a b : Class) → IsClassOf provider a → IsClassOf provider b → a ≡ b
-class_one provider Dtrace Dtrace p q = refl
-class_one provider Dtrace Syscall p q = absurd (dtrace_syscall (sym p ∙ q))
-class_one provider Dtrace Profile p q = absurd (dtrace_profile (sym p ∙ q))
-class_one provider Dtrace (Pid n) p q = absurd (no_pid_dtrace q.digits (sym q.spelled ∙ p))
-class_one provider Dtrace Other p q = absurd (q.0 p)
-class_one provider Syscall Dtrace p q = absurd (dtrace_syscall (sym q ∙ p))
-class_one provider Syscall Syscall p q = refl
-class_one provider Syscall Profile p q = absurd (syscall_profile (sym p ∙ q))
-class_one provider Syscall (Pid n) p q = absurd (no_pid_syscall q.digits (sym p ∙ q.spelled))
-class_one provider Syscall Other p q = absurd (q.1 p)
-class_one provider Profile Dtrace p q = absurd (dtrace_profile (sym q ∙ p))
-class_one provider Profile Syscall p q = absurd (syscall_profile (sym q ∙ p))
-class_one provider Profile Profile p q = refl
-class_one provider Profile (Pid n) p q = absurd (no_pid_profile q.digits (sym p ∙ q.spelled))
-class_one provider Profile Other p q = absurd (q.2 p)
-class_one provider (Pid m) Dtrace p q = absurd (no_pid_dtrace p.digits (sym p.spelled ∙ q))
-class_one provider (Pid m) Syscall p q = absurd (no_pid_syscall p.digits (sym q ∙ p.spelled))
-class_one provider (Pid m) Profile p q = absurd (no_pid_profile p.digits (sym q ∙ p.spelled))
-class_one provider (Pid m) (Pid n) p q = ap Pid (names_one provider m n p q)
-class_one provider (Pid m) Other p q = absurd (q.3 m p)
-class_one provider Other Dtrace p q = absurd (p.0 q)
-class_one provider Other Syscall p q = absurd (p.1 q)
-class_one provider Other Profile p q = absurd (p.2 q)
-class_one provider Other (Pid n) p q = absurd (p.3 n q)
-class_one provider Other Other p q = refl
-
--- a probe is its number, its names and its class
-probe_path : (p q : ProbeType) → p.id ≡ q.id → p.tuple ≡ q.tuple → p.class ≡ q.class → p ≡ q
-probe_path p q e f g = λ i. record {
-  id = e i;
-  tuple = f i;
-  class = g i;
-  classed =
-      is_prop→PathP (λ j. ∥ IsClassOf (f j).provider (g j) ∥₁) (λ j. ∥∥₁_prop) p.classed q.classed i;
-}
-
-probes_one : (id : ℕ) (texts : List (List ℕ)) (ps qs : List ProbeType) → AreProbes id texts ps
-    → AreProbes id texts qs → ps ≡ qs
-probes_one id [] [] [] a b = refl
-probes_one id [] [] (q ∷ qs) a b = absurd b
-probes_one id [] (p ∷ ps) qs a b = absurd a
-probes_one id (t ∷ ts) [] qs a b = absurd a
-probes_one id (t ∷ ts) (p ∷ ps) [] a b = absurd b
-probes_one id (t ∷ ts) (p ∷ ps) (q ∷ qs) a b =
-    let tuple = spells_one t p.tuple q.tuple a.1 b.1 in
-    let C : ProbeTuple → Type 0 = λ u. IsClassOf u.provider q.class in
-    let class = class_one p.tuple.provider p.class q.class a.2 (subst C (sym tuple) b.2) in
-    let head = probe_path p q (a.0 ∙ sym b.0) tuple class in
-    let tail = probes_one (id + 1) ts ps qs a.3 b.3 in
-    λ i. head i ∷ tail i
-
-pub registry_one : (d : Data) (r s : Registry) → Registers d r → Registers d s → r ≡ s
-registry_one d r s a b =
-    let cpus = same_some r.cpus s.cpus (sym a.cpus ∙ b.cpus) in
-    let accounts = a.accounts ∙ sym b.accounts in
-    let processes = a.processes ∙ sym b.processes in
-    let probes = probes_one 1 (codes "dtrace:::BEGIN" ∷ codes "dtrace:::END" ∷ probes_in d) r.probes s.probes
-    a.probes b.probes in
-    λ i. record { cpus = cpus i; accounts = accounts i; processes = processes i; probes = probes i }
 
 -- the first wrong row is one
 clash_rows : {A : Type 0} (R : List A → A → Type 0) (rows : List A) (i j : ℕ) → i < j → IsFirstWrong R rows i

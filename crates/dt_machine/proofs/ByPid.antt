@@ -16,6 +16,7 @@ use Rattle.std.specs.List.{list_any}
 use Rattle.std.specs.Option.{option_or, option_copied}
 use Rattle.dt_cred.specs.declared.account.Process.{Process}
 use Rattle.dt_machine.specs.Rows.{ProcessRow, process, number_in, IsGivenBelow}
+use Rattle.dt_machine.specs.laws.Soundness.{at_pid}
 use Rattle.dt_machine.proofs.Lists.{any_false, any_true, list_any-map}
 
 some_step : {A : Type 0} (b : Bool) (y : A) (o : Option A) (any : Bool) → is_some o ≡ any
@@ -33,16 +34,9 @@ pub looked_up : {A : Type 0} (r : Option (Bor A)) (o : Option A) (b : Bool) → 
 looked_up None o b e h = ap is_some (sym e) ∙ h
 looked_up (Some x) o b e h = ap is_some (sym e) ∙ h
 
-pub below_some : (limit : ℕ) (number : Option ℕ) → IsGivenBelow limit number → number ≡ Some (number_in number)
-below_some limit None h = absurd h
-below_some limit (Some n) h = refl
-
 pub none_of : {A : Type 0} (o : Option A) → is_some o ≡ false → o ≡ None
 none_of None h = refl
 none_of (Some x) h = cc
-
-abbrev pub at_pid : ℕ → Process → Bool
-at_pid pid p = p.pid == pid
 
 abbrev row_at_pid : ℕ → ProcessRow → Bool
 row_at_pid pid row = number_in row.pid == pid

@@ -1,16 +1,12 @@
 -- Scripts: how long they are, and the firings that their rows stand for.
-use Rattle.std.proofs.Common.{◌≡◌, ◌+◌, ◌<◌, ◌≤◌, ℕ, zero, suc, [], ◌∷◌, ◌++◌, List, Some, take, slice_get, length}
-use Rattle.std.proofs.Common.{refl, sym, ap, ◌∙◌, arith, add-zero}
+use Rattle.std.proofs.Common.{◌≡◌, ◌+◌, ◌<◌, ◌≤◌, ℕ, [], ◌∷◌, ◌++◌, List, Some, take, slice_get, length}
+use Rattle.std.proofs.Common.{sym, ap, ◌∙◌, arith, add-zero}
 use Rattle.std.proofs.lemmas.Option.{slice_get_within}
 use Rattle.dt_cred.specs.declared.firing.Firing.{Firing}
 use Rattle.dt_machine.specs.Reading.{AllRight, IsFirstWrong}
 use Rattle.dt_machine.specs.Rows.{FiringRow, firing, script, scripts}
-use Rattle.dt_machine.proofs.Searching.{take_next, length-front}
-
-pub within : {A : Type 0} (xs : List A) (k : ℕ) → k < length xs → (x : A) × (slice_get xs k ≡ Some x)
-within [] k h = absurd (omega arith)
-within (x ∷ xs) zero h = (x, refl)
-within (x ∷ xs) (suc k) h = within xs k (omega arith)
+use Rattle.dt_machine.specs.laws.Scripts.{within, length-front}
+use Rattle.dt_machine.proofs.Searching.{take_next}
 
 -- the first row too many
 pub too_long : {A : Type 0} (rows : List A) (n : ℕ) → n < length rows
@@ -29,15 +25,6 @@ pub short_enough : {A : Type 0} (rows : List A) (n : ℕ) → length rows ≤ n
 short_enough rows n h k row there =
     let inside = slice_get_within rows k row there in
     let front = length-front rows k row there in
-    omega arith
-
--- rows with room for each are few
-pub few_rows : {A : Type 0} (rows : List A) (n : ℕ) → AllRight (λ before _. length before < n) rows → length rows ≤ n
-few_rows [] n right = omega arith
-few_rows {A} (x ∷ xs) n right =
-    let last = within (x ∷ xs) (length xs) (omega arith) in
-    let less = right (length xs) last.0 last.1 in
-    let front = length-front (x ∷ xs) (length xs) last.0 last.1 in
     omega arith
 
 script-push : (cpu place : ℕ) (rows : List FiringRow) (row : FiringRow)

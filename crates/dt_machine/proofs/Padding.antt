@@ -6,7 +6,8 @@ use Rattle.std.proofs.Math.Seq.{set-append_seam}
 use Rattle.std.proofs.lemmas.List.{length-map}
 use Rattle.std.proofs.lemmas.List.Elements.{All-push}
 use Rattle.std.proofs.lemmas.Option.{slice_get_within, get_or_from_slice_get}
-use Rattle.dt_machine.proofs.Searching.{map_next, take_next, length-front}
+use Rattle.dt_machine.specs.laws.Scripts.{length-front}
+use Rattle.dt_machine.proofs.Searching.{map_next, take_next}
 
 pub pad_step : {A B : Type 0} (f : A → B) (rows : List A) (i n : ℕ) (row : A) (zero : B) (xs : List B)
     → slice_get rows i ≡ Some row → i < n → xs ≡ map f (take i rows) ++ replicate (n - i) zero

@@ -2,7 +2,7 @@
 use Rattle.std.proofs.Common.{◌≡◌, ℕ, [], ◌∷◌, ◌++◌, ◌+◌, ◌<◌, ◌≤◌, List, Some, length, take, slice_get, get_or, map}
 use Rattle.std.proofs.Common.{option_map, arith, refl, sym, ap, ◌∙◌, subst, inl, inr, ◌⊎◌}
 use Rattle.std.proofs.lemmas.Option.{slice_get-map, slice_get_read, slice_get_within, get_or_from_slice_get}
-use Rattle.std.proofs.lemmas.List.{length-map, length-take-le, take_more, map-append}
+use Rattle.std.proofs.lemmas.List.{length-map, take_more, map-append}
 use Rattle.serde_json.specs.Data.{Data}
 use Rattle.serde_json.specs.View.{view}
 use Rattle.serde_json.specs.declared.value.Value.{Value}
@@ -66,9 +66,3 @@ pub map_next : {A B : Type 0} (f : A → B) (rows : List A) (i : ℕ) (row : A) 
 map_next f rows i row ys there read =
     ap (λ zs. zs ++ f row ∷ []) read ∙ sym (map-append f (take i rows) (row ∷ []))
     ∙ ap (map f) (sym (take_next rows i row there))
-
-pub length-front : {A : Type 0} (rows : List A) (i : ℕ) (row : A) → slice_get rows i ≡ Some row
-    → length (take i rows) ≡ i
-length-front rows i row there =
-    let inside = slice_get_within rows i row there in
-    length-take-le i rows (omega arith)

@@ -1,7 +1,7 @@
 -- The probes that texts spell.
-use Rattle.std.proofs.Common.{◌≡◌, ◌≢◌, ◌+◌, ◌<◌, ◌≤◌, ◌==◌, ◌&&◌, ℕ, zero, suc, [], ◌∷◌, ◌++◌, Bool, true, false}
-use Rattle.std.proofs.Common.{List, Option, Some, None, IsSome, IsSomeAnd, IfNone, All, drop, slice_get, get_or}
-use Rattle.std.proofs.Common.{length, codes, lit≤, lit<, refl, sym, ap, ◌∙◌, subst, arith, add-zero}
+use Rattle.std.proofs.Common.{◌≡◌, ◌≢◌, ◌+◌, ◌≤◌, ◌==◌, ◌&&◌, ℕ, [], ◌∷◌, ◌++◌, Bool, true, false}
+use Rattle.std.proofs.Common.{List, Option, Some, None, IsSome, IfNone, All, drop, slice_get}
+use Rattle.std.proofs.Common.{length, codes, lit≤, refl, sym, ap, ◌∙◌, subst, arith, add-zero}
 use Rattle.std.specs.Prelude.{find}
 use Rattle.std.specs.List.{AllByRecursion}
 use Rattle.std.proofs.lemmas.List.Elements.{All-cons, All-head, All-tail, All-from_recursion}
@@ -13,34 +13,14 @@ use Rattle.std.proofs.lemmas.Option.{slice_get_within, get_or_from_slice_get}
 use Rattle.dt_names.specs.Name.{IsName, IsNameByte}
 use Rattle.dt_names.specs.Tuple.{SpellsTuple}
 use Rattle.dt_names.specs.declared.tuple.ProbeTuple.{ProbeTuple}
-use Rattle.dt_cred.specs.Class.{IsClassOf, NamesProcess, number_of}
+use Rattle.dt_cred.specs.Class.{IsClassOf, NamesProcess}
 use Rattle.dt_cred.specs.declared.account.Process.{Process}
 use Rattle.dt_cred.specs.declared.class.Class.{Class}
 use Rattle.dt_cred.specs.declared.class.Class.TheVariants.{Dtrace, Syscall, Profile, Pid, Other}
 use Rattle.dt_cred.specs.declared.probe.Probe.{Probe}
 use Rattle.dt_machine.specs.Rows.{AreProbes}
 use Rattle.dt_machine.specs.Sections.{IsTraced, eq_tuples}
-
--- a text spells one tuple
-same_parts : (a b c d a' b' c' d' : List ℕ) → a ∷ b ∷ c ∷ d ∷ [] ≡ a' ∷ b' ∷ c' ∷ d' ∷ []
-    → ◌≡◌ {A = ProbeTuple} (record { provider = a; «module» = b; function = c; name = d })
-    (record { provider = a'; «module» = b'; function = c'; name = d' })
-same_parts a b c d a' b' c' d' e =
-    let p : a ≡ a' = cc in
-    let q : b ≡ b' = cc in
-    let r : c ≡ c' = cc in
-    let s : d ≡ d' = cc in
-    λ i. record { provider = p i; «module» = q i; function = r i; name = s i }
-
-pub spells_one : (text : List ℕ) (a b : ProbeTuple) → SpellsTuple text a → SpellsTuple text b → a ≡ b
-spells_one text a b s t = same_parts _ _ _ _ _ _ _ _ (sym s.spelled ∙ t.spelled)
-
-pub length-probes : (id : ℕ) (texts : List (List ℕ)) (probes : List Probe) → AreProbes id texts probes
-    → length texts ≡ length probes
-length-probes id [] [] are = refl
-length-probes id [] (p ∷ ps) are = absurd are
-length-probes id (t ∷ ts) [] are = absurd are
-length-probes id (t ∷ ts) (p ∷ ps) are = ap suc (length-probes (id + 1) ts ps are.3)
+use Rattle.dt_machine.specs.laws.Spelling.{spells_one, names_one, no_pid_syscall, no_pid_profile, no_pid_dtrace}
 
 pub probes_push : (id : ℕ) (texts : List (List ℕ)) (probes : List Probe) (text : List ℕ) (probe : Probe)
     → AreProbes id texts probes → probe.id ≡ id + length probes → SpellsTuple text probe.tuple
@@ -57,45 +37,6 @@ own_dropped begin end texts [] are = absurd are
 own_dropped begin end texts (p ∷ []) are = absurd are.3
 own_dropped begin end texts (p ∷ q ∷ ps) are = are.3.3
 
--- the text of a probe that is there
-pub record SpelledAt (id : ℕ) (texts : List (List ℕ)) (k : ℕ) (probe : Probe) : Type 0 where
-  pub text : List ℕ
-  pub there : slice_get texts k ≡ Some text
-  pub spelled : SpellsTuple text probe.tuple
-  pub number : probe.id ≡ id + k
-  pub class : IsClassOf probe.tuple.provider probe.class
-
-same_some : {A : Type 0} (x y : A) → Some x ≡ Some y → x ≡ y
-same_some x y e = cc
-
-pub spelled_at : (id : ℕ) (texts : List (List ℕ)) (probes : List Probe) (k : ℕ) (probe : Probe)
-    → AreProbes id texts probes → slice_get probes k ≡ Some probe → SpelledAt id texts k probe
-spelled_at id [] [] k probe are there = absurd (cc)
-spelled_at id [] (p ∷ ps) k probe are there = absurd are
-spelled_at id (t ∷ ts) [] k probe are there = absurd are
-spelled_at id (t ∷ ts) (p ∷ ps) zero probe are there =
-    let e = same_some p probe there in
-    let S : Probe → Type 0 = λ q. SpellsTuple t q.tuple in
-    let C : Probe → Type 0 = λ q. IsClassOf q.tuple.provider q.class in
-    record {
-      text = t;
-      there = refl;
-      spelled = subst S e are.1;
-      class = subst C e are.2;
-      number =
-          sym (ap (λ (q : Probe). q.id) e) ∙ are.0 ∙ sym (add-zero id);
-    }
-spelled_at id (t ∷ ts) (p ∷ ps) (suc k) probe are there =
-    let more = spelled_at (id + 1) ts ps k probe are.3 there in
-    record {
-      text = more.text;
-      there = more.there;
-      spelled = more.spelled;
-      class = more.class;
-      number = more.number
-          ∙ omega arith;
-    }
-
 -- a tuple that no probe has is spelled by no text
 pub new_spelling : (id : ℕ) (texts : List (List ℕ)) (probes : List Probe) (tuple : ProbeTuple)
     → AreProbes id texts probes → All (λ (p : Probe). p.tuple ≢ tuple) probes
@@ -106,26 +47,6 @@ new_spelling id (t ∷ ts) (p ∷ ps) tuple are new =
     All-cons (λ text. SpellsTuple text tuple → ⊥) t ts
     (λ spelled. All-head (λ (q : Probe). q.tuple ≢ tuple) p ps new (spells_one t p.tuple tuple are.1 spelled))
     (new_spelling (id + 1) ts ps tuple are.3 (All-tail (λ (q : Probe). q.tuple ≢ tuple) p ps new))
-
--- a provider names one process
-named_number : (d e : List ℕ) → codes "pid" ++ d ≡ codes "pid" ++ e → number_of d ≡ number_of e
-named_number d e h = let same : d ≡ e = cc in ap number_of same
-
-pub names_one : (provider : List ℕ) (a b : ℕ) → NamesProcess provider a → NamesProcess provider b → a ≡ b
-names_one provider a b n m = sym n.stands_for ∙ named_number n.digits m.digits (sym n.spelled ∙ m.spelled)
-    ∙ m.stands_for
-
-pub apart : (a b : ℕ) → a ≡ b → b < a → ⊥
-apart a b e h = omega arith
-
-pub no_pid_syscall : (d : List ℕ) → codes "syscall" ≡ codes "pid" ++ d → ⊥
-no_pid_syscall d e = apart 115 112 (ap (λ (bytes : List ℕ). get_or bytes 0 0) e) (lit< tt)
-
-pub no_pid_profile : (d : List ℕ) → codes "profile" ≡ codes "pid" ++ d → ⊥
-no_pid_profile d e = apart 114 105 (ap (λ (bytes : List ℕ). get_or bytes 1 0) e) (lit< tt)
-
-pub no_pid_dtrace : (d : List ℕ) → codes "pid" ++ d ≡ codes "dtrace" → ⊥
-no_pid_dtrace d e = apart 112 100 (ap (λ (bytes : List ℕ). get_or bytes 0 0) e) (lit< tt)
 
 -- what the class of a provider tells of the process that it names
 pub traced_by_class : (processes : List Process) (provider : List ℕ) (class : Class) → IsClassOf provider class
@@ -255,14 +176,3 @@ pub all_at : {A : Type 0} (rows : List A) (k : ℕ) (row : A) (P : A → Type 0)
     → All P rows → P row
 all_at rows k row P there each =
     subst P (get_or_from_slice_get rows k row row there) (each k row (slice_get_within rows k row there))
-
-pub first_probe : (begin end : List ℕ) (texts : List (List ℕ)) (probes : List Probe)
-    → AreProbes 1 (begin ∷ end ∷ texts) probes → IsSomeAnd (slice_get probes 0) (λ p. SpellsTuple begin p.tuple)
-first_probe begin end texts [] are = absurd are
-first_probe begin end texts (p ∷ ps) are = are.1
-
-pub second_probe : (begin end : List ℕ) (texts : List (List ℕ)) (probes : List Probe)
-    → AreProbes 1 (begin ∷ end ∷ texts) probes → IsSomeAnd (slice_get probes 1) (λ p. SpellsTuple end p.tuple)
-second_probe begin end texts [] are = absurd are
-second_probe begin end texts (p ∷ []) are = absurd are.3
-second_probe begin end texts (p ∷ q ∷ ps) are = are.3.1

@@ -10,4 +10,5 @@ pub mod Rows
 pub mod Reading
 pub mod Sections
 pub mod Tests
+pub mod Bounds
 pub mod laws

@@ -2,3 +2,7 @@
 pub mod Tests
 pub mod Accounts
 pub mod Named
+pub mod Scripts
+pub mod Spelling
+pub mod Soundness
+pub mod Bounds

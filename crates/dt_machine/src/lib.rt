@@ -29,7 +29,7 @@ mod shape;
 pub use dt_cred::{ARGS, FRAMES, Firing};
 pub use fault::{FaultNumber, MachineFault};
 pub use interest::Interest;
-pub use law::one_answer;
+pub use law::{described_is_in_bounds, described_is_sound, one_answer};
 pub use limit_laws::limits_agree;
 pub use limits::{
     ACCOUNTS_MAX, CPUS_MAX, FIRST_PROBE_ID, PID_MAX, PROBE_ID_MAX, PROBES_MAX, PROCESSES_MAX,

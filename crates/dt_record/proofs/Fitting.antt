@@ -1,20 +1,17 @@
 -- The values of a record, one more, and what they determine.
-use Rattle.std.proofs.Common.{◌≡◌, ℕ, ◌+◌, ◌*◌, ◌^◌, ◌<◌, List, [], ◌∷◌, ◌++◌, map, take, drop, length, sum, refl, sym}
-use Rattle.std.proofs.Common.{ap, subst, ◌∙◌, arith}
+use Rattle.std.proofs.Common.{◌≡◌, ℕ, ◌+◌, ◌^◌, ◌<◌, List, [], ◌∷◌, ◌++◌, map, take, drop, length, sum, sym}
+use Rattle.std.proofs.Common.{ap, subst, ◌∙◌}
 use Rattle.std.proofs.Math.ListN.{get_or}
-use Rattle.std.proofs.lemmas.List.{take_more, drop_more, map-append, append-nil, length-append}
+use Rattle.std.proofs.lemmas.List.{take_more, drop_more, map-append, append-nil}
 use Rattle.std.proofs.Math.Seq.{take-append_seam, drop-append_seam}
-use Rattle.std.specs.Int.{w64, cast_unsigned}
-use Rattle.std.specs.List.{fold, flat_map}
-use Rattle.byteorder.specs.Endian.{big_bytes, big_number}
+use Rattle.byteorder.specs.Endian.{big_number}
 use Rattle.byteorder.specs.Numbers.{big_number-reads_back, length-bytes_high_first}
 use Rattle.dt_record.specs.Fields.{form_of_field}
 use Rattle.dt_record.specs.Layout.{FieldForm, field_size}
-use Rattle.dt_record.specs.Layout as layout
-use Rattle.dt_record.specs.Split as split
-use Rattle.dt_record.specs.Split.{RecordedForm, FitsField, FitAll, recorded_bytes}
+use Rattle.dt_record.specs.Split.{RecordedForm, FitsField, FitAll}
 use Rattle.dt_record.specs.Taking.{epid_bytes}
 use Rattle.dt_record.specs.declared.layout.Field.{Field}
+use Rattle.dt_record.specs.laws.Fitting.{sum_of}
 
 fit-more : (fields : List FieldForm) (values : List RecordedForm) (field : FieldForm) (value : RecordedForm)
     → FitAll fields values → FitsField field value → FitAll (fields ++ field ∷ []) (values ++ value ∷ [])
@@ -37,13 +34,6 @@ fit-turn fields i field inside is old new value pushed all one =
     (subst (FitAll (map form_of_field (take i fields) ++ form_of_field field ∷ [])) (sym pushed)
     (fit-more (map form_of_field (take i fields)) old (form_of_field field) value all one))
 
-shift : (a : ℕ) (xs : List ℕ) → fold ◌+◌ a xs ≡ a + sum xs
-shift a [] = omega arith
-shift a (x ∷ xs) = let here = shift (a + x) xs in let there = shift (0 + x) xs in omega arith
-
-sum_of : (x : ℕ) (xs : List ℕ) → sum (x ∷ xs) ≡ x + sum xs
-sum_of x xs = let turned = shift (0 + x) xs in omega arith
-
 -- one field less to come
 pub sum-turn : (fields : List Field) (i : ℕ) (field : Field) → i < length fields → field ≡ get_or fields i field
     → sum (map field_size (map form_of_field (drop i fields)))
@@ -59,43 +49,6 @@ cut xs ys us vs long e = (
   sym (take-append_seam xs us) ∙ ap (λ n. take n (xs ++ us)) long ∙ ap (take (length ys)) e ∙ take-append_seam ys vs,
   sym (drop-append_seam xs us) ∙ ap (λ n. drop n (xs ++ us)) long ∙ ap (drop (length ys)) e ∙ drop-append_seam ys vs,
 )
-
-frames_long : (list : List ℕ) → length (flat_map (big_bytes 8) list) ≡ 8 * length list
-frames_long [] = omega arith
-frames_long (frame ∷ list) =
-    let front = length-append (big_bytes 8 frame) (flat_map (big_bytes 8) list) in
-    let eight = length-bytes_high_first 8 frame in
-    let more = frames_long list in
-    omega (arith, front, eight, more)
-
--- a value that fits takes as many bytes as its field says
-pub fits-long : (field : FieldForm) (value : RecordedForm) → FitsField field value
-    → length (recorded_bytes value) ≡ field_size field
-fits-long layout.number (split.number z) fit = length-bytes_high_first 8 (cast_unsigned w64 z)
-fits-long layout.number (split.text bytes) fit = elim fit [ ]
-fits-long layout.number (split.frames list) fit = elim fit [ ]
-fits-long layout.text (split.number z) fit = elim fit [ ]
-fits-long layout.text (split.text bytes) fit = fit
-fits-long layout.text (split.frames list) fit = elim fit [ ]
-fits-long (layout.stack n) (split.number z) fit = elim fit [ ]
-fits-long (layout.stack n) (split.text bytes) fit = elim fit [ ]
-fits-long (layout.stack n) (split.frames list) fit = frames_long list ∙ ap (λ m. 8 * m) fit.many
-fits-long (layout.ustack n) (split.number z) fit = elim fit [ ]
-fits-long (layout.ustack n) (split.text bytes) fit = elim fit [ ]
-fits-long (layout.ustack n) (split.frames list) fit = frames_long list ∙ ap (λ m. 8 * m) fit.many
-
--- values that fit take as many bytes as their fields say
-pub all-long : (fields : List FieldForm) (values : List RecordedForm) → FitAll fields values
-    → length (flat_map recorded_bytes values) ≡ sum (map field_size fields)
-all-long [] [] fit = refl
-all-long [] (value ∷ values) fit = elim fit [ ]
-all-long (field ∷ fields) [] fit = elim fit [ ]
-all-long (field ∷ fields) (value ∷ values) fit =
-    let front = length-append (recorded_bytes value) (flat_map recorded_bytes values) in
-    let one = fits-long field value fit.0 in
-    let more = all-long fields values fit.1 in
-    let total = sum_of (field_size field) (map field_size fields) in
-    omega (arith, front, one, more, total)
 
 -- an EPID read back from the bytes with which a record begins
 pub epid-read : (epid : ℕ) (head rest after : List ℕ) → epid < 2 ^ 32 → length head ≡ 4

@@ -1,6 +1,7 @@
 -- The lemmas of this crate.
 pub mod Bytes
 pub mod Each
+pub mod Examples
 pub mod FieldLemmas
 pub mod Fitting
 pub mod LeftMore

@@ -15,7 +15,8 @@ use Rattle.dt_record.specs.Split as split
 use Rattle.dt_record.specs.Split.{RecordedForm, RecordForm, AreFrames, FitsField, FitAll, IsFrame, IsRecordOf, IsSplit}
 use Rattle.dt_record.specs.Split.{recorded_bytes, record_bytes}
 use Rattle.dt_record.specs.Taking.{epid_bytes, number_bytes}
-use Rattle.dt_record.proofs.Fitting.{cut, fits-long, epid-read}
+use Rattle.dt_record.specs.laws.Fitting.{fits-long}
+use Rattle.dt_record.proofs.Fitting.{cut, epid-read}
 
 -- the number that eight bytes were made of
 eight_back : (a b : ℕ) → a < 256 ^ 8 → b < 256 ^ 8 → big_bytes 8 a ≡ big_bytes 8 b → a ≡ b

@@ -1,4 +1,4 @@
--- What a clause does where it is taken, and its records.
+-- What a clause does where it is taken, and its records; then the laws of these.
 pub mod Limits
 pub mod Taking
 pub mod Forms
@@ -7,3 +7,5 @@ pub mod Fields
 pub mod Split
 pub mod Records
 pub mod Left
+pub mod Showing
+pub mod laws

@@ -1,10 +1,42 @@
 //! Laws over the definitions.
-ghost use Rattle.std.specs.Prelude.{◌≡◌, ℕ, List, Option};
-ghost use Rattle.dt_record.specs.Layout.{FieldForm};
+ghost use Rattle.std.specs.Prelude.{◌≡◌, ℕ, List, [], ◌∷◌, Option, Some, length, map};
+ghost use Rattle.std.specs.List.{AllByRecursion, flat_map};
+ghost use Rattle.dt_expr.specs.Scene.{SceneForm};
+ghost use Rattle.dt_program.specs.Clause.{ClauseForm};
+ghost use Rattle.dt_record.specs.Layout as layout;
+ghost use Rattle.dt_record.specs.Layout.{FieldForm, layout_of, layout_size};
+ghost use Rattle.dt_record.specs.Showing.{CanBeTaken, FitLayout, HasLengths, IsLeftBy, IsOfLength};
 ghost use Rattle.dt_record.specs.Split.{IsSplit, RecordForm};
+ghost use Rattle.dt_record.specs.Taking.{TakenForm, taking};
 
 /// Law: bytes are the records of these layouts in one way at most.
 pub fn one_split()
     ensures { (layouts : List (Option (List FieldForm))) (bytes : List ℕ) (a b : List RecordForm)
         → IsSplit layouts bytes a → IsSplit layouts bytes b → a ≡ b }
+{}
+
+/// Law: what a clause leaves of a scene is a record of the clause's layout. It has the EPID and, for each statement that
+/// records something, in order, the value that the statement shows of the scene; its bytes are as many as the layout
+/// says. Where the clause has no layout, it leaves no record. The premises are met by a clause with each kind of field.
+pub fn records_fit()
+    ensures fit { (epid : ℕ) (scene : SceneForm) (clause : ClauseForm) (left : TakenForm) → CanBeTaken scene clause
+        → taking epid scene clause ≡ Some (Some left)
+        → FitLayout epid scene clause (layout_of clause) left.record_bytes }
+    ensures met { (scene : SceneForm) × (clause : ClauseForm) × (left : TakenForm) × CanBeTaken scene clause
+        × (taking 1 scene clause ≡ Some (Some left))
+        × (layout_of clause ≡ Some (layout.number ∷ layout.text ∷ layout.stack 2 ∷ layout.ustack 1 ∷ [])) }
+{}
+
+/// Law: the record that a clause leaves is as long as its layout says, whatever numbers are in it.
+pub fn records_have_lengths()
+    ensures { (epid : ℕ) (scene : SceneForm) (clause : ClauseForm) (left : TakenForm) (bytes : List ℕ)
+        → HasLengths scene → AllByRecursion IsOfLength clause.statements
+        → taking epid scene clause ≡ Some (Some left) → left.record_bytes ≡ Some bytes
+        → length bytes ≡ layout_size (layout_of clause) }
+{}
+
+/// Law: records that clauses left, one after the other, are split into records of the clauses' layouts.
+pub fn left_is_split()
+    ensures { (clauses : List ClauseForm) (pieces : List (List ℕ)) → AllByRecursion (IsLeftBy clauses) pieces
+        → (records : List RecordForm) × IsSplit (map layout_of clauses) (flat_map (λ piece. piece) pieces) records }
 {}

@@ -4,7 +4,8 @@
 //! bytes, what its aggregating statements give, and the status of its first exit; or nothing where the predicate is
 //! 0; or the fault that abandons the clause. `taken` does so for one clause alone. Neither takes memory. `Layout`
 //! says of what a clause's record is made, and `split` gives the records that bytes are, one after the other
-//! (`IsSplit` in `specs/Split.antt`), of which there is one list at most (`one_split`).
+//! (`IsSplit` in `specs/Split.antt`), of which there is one list at most (`one_split`). What a clause leaves is a record
+//! of its layout (`records_fit`, over the definitions of `specs/Showing.antt`), and so is split again (`left_is_split`).
 #![tactic(auto)]
 
 mod building;
@@ -20,7 +21,7 @@ mod splitting;
 mod taking;
 mod values;
 
-pub use laws::one_split;
+pub use laws::{left_is_split, one_split, records_fit, records_have_lengths};
 pub use layout::{Field, Layout};
 pub use limit_laws::limits_agree;
 pub use limits::{EPID_SIZE, RECORD_MAX, VALUES_MAX};

@@ -5,7 +5,8 @@ use Rattle.serde_json.specs.View.{view}
 use Rattle.dt_machine.specs.Reading.{IsFirstWrong}
 use Rattle.dt_machine.specs.Rows.{account_row, account, IsRightAccount}
 use Rattle.dt_machine.specs.Sections.{account_rows}
-use Rattle.dt_machine.proofs.Searching.{row_at, first_wrong, right_more, right_all, map_next, length-front}
+use Rattle.dt_machine.specs.laws.Scripts.{length-front}
+use Rattle.dt_machine.proofs.Searching.{row_at, first_wrong, right_more, right_all, map_next}
 use Rattle.dt_machine.proofs.Searching.{length-rows}
 use Rattle.dt_machine.proofs.accounts.read_accounts.Goals as goal
 

@@ -1,6 +1,7 @@
 -- What the proof of `is_traced` is told at its goals.
 use Rattle.std.proofs.Common.{◌∙◌, sym}
-use Rattle.dt_machine.proofs.ByPid.{is_some-find, at_pid}
+use Rattle.dt_machine.specs.laws.Soundness.{at_pid}
+use Rattle.dt_machine.proofs.ByPid.{is_some-find}
 use Rattle.dt_machine.proofs.probes.is_traced.Goals as goal
 
 pub returns-in-Pid : goal.returns-in-Pid

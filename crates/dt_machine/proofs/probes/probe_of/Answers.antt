@@ -4,7 +4,8 @@ use Rattle.std.specs.Prelude.{find}
 use Rattle.dt_names.specs.Tuple.{SpellsTuple}
 use Rattle.dt_names.specs.declared.tuple.ProbeTuple.{ProbeTuple}
 use Rattle.dt_cred.specs.Class.{NamesProcess, IsClassOf}
-use Rattle.dt_machine.proofs.Spelling.{spells_one, length-probes, spelled_at, new_spelling, traced_by_class}
+use Rattle.dt_machine.specs.laws.Spelling.{spells_one, length-probes, spelled_at}
+use Rattle.dt_machine.proofs.Spelling.{new_spelling, traced_by_class}
 use Rattle.dt_machine.proofs.Spelling.{class_traced, all_at}
 use Rattle.dt_machine.proofs.probes.probe_of.Goals as goal
 

@@ -9,8 +9,10 @@ use Rattle.dt_machine.specs.Given.{text_of}
 use Rattle.dt_machine.specs.Reading.{IsFirstWrong}
 use Rattle.dt_machine.specs.Rows.{AreProbes, IsRightProbe}
 use Rattle.dt_machine.specs.Sections.{texts}
-use Rattle.dt_machine.proofs.Spelling.{length-probes, own_dropped, probes_push}
-use Rattle.dt_machine.proofs.Searching.{row_at, first_wrong, right_more, right_all, take_next, length-front}
+use Rattle.dt_machine.specs.laws.Spelling.{length-probes}
+use Rattle.dt_machine.proofs.Spelling.{own_dropped, probes_push}
+use Rattle.dt_machine.specs.laws.Scripts.{length-front}
+use Rattle.dt_machine.proofs.Searching.{row_at, first_wrong, right_more, right_all, take_next}
 use Rattle.dt_machine.proofs.Searching.{length-rows}
 use Rattle.dt_machine.proofs.probes.read_probes.Goals as goal
 

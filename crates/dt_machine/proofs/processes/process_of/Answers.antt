@@ -3,7 +3,8 @@ use Rattle.std.proofs.Common.{◌≡◌, ◌≢◌, ◌∙◌, ◌^◌, ℕ, tru
 use Rattle.serde_json.specs.View.{view}
 use Rattle.dt_cred.specs.declared.account.Process.{Process}
 use Rattle.dt_machine.specs.Rows.{ProcessRow, process_row, process, number_in, IsGivenBelow, IsExecname}
-use Rattle.dt_machine.proofs.ByPid.{indexed, seen, unseen, looked_up, below_some, none_of}
+use Rattle.dt_machine.specs.laws.Soundness.{below_some}
+use Rattle.dt_machine.proofs.ByPid.{indexed, seen, unseen, looked_up, none_of}
 use Rattle.dt_machine.proofs.processes.process_of.Goals as goal
 
 same : {pid pid' uid uid' : ℕ} {name name' : List ℕ} → pid ≡ pid' → uid ≡ uid' → name ≡ name'

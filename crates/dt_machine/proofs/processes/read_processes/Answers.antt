@@ -8,8 +8,10 @@ use Rattle.dt_cred.specs.declared.account.Process.{Process}
 use Rattle.dt_machine.specs.Reading.{IsFirstWrong}
 use Rattle.dt_machine.specs.Rows.{ProcessRow, process_row, process, number_in, IsGivenBelow, IsRightProcess}
 use Rattle.dt_machine.specs.Sections.{process_rows, Indexes}
-use Rattle.dt_machine.proofs.ByPid.{at_pid, indexes_more}
-use Rattle.dt_machine.proofs.Searching.{row_at, first_wrong, right_more, right_all, map_next, take_next, length-front}
+use Rattle.dt_machine.specs.laws.Soundness.{at_pid}
+use Rattle.dt_machine.proofs.ByPid.{indexes_more}
+use Rattle.dt_machine.specs.laws.Scripts.{length-front}
+use Rattle.dt_machine.proofs.Searching.{row_at, first_wrong, right_more, right_all, map_next, take_next}
 use Rattle.dt_machine.proofs.Searching.{length-rows}
 use Rattle.dt_machine.proofs.processes.read_processes.Goals as goal
 

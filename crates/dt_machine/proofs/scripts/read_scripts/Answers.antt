@@ -8,7 +8,8 @@ use Rattle.dt_machine.specs.Sections.{UnlessMemory, firing_rows, scripts_rows, r
 use Rattle.dt_machine.specs.declared.fault.FaultNumber.TheVariants.{Firing as FiringNumber}
 use Rattle.dt_cred.specs.declared.firing.Firing.{Firing}
 use Rattle.dt_machine.proofs.Exits.{passed_on}
-use Rattle.dt_machine.proofs.Firings.{few_rows, scripts_next}
+use Rattle.dt_machine.specs.laws.Scripts.{few_rows}
+use Rattle.dt_machine.proofs.Firings.{scripts_next}
 use Rattle.dt_machine.proofs.Searching.{row_at, right_more, right_all, length-rows}
 use Rattle.dt_machine.proofs.scripts.read_scripts.Goals as goal
 

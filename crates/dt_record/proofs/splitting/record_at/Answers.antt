@@ -6,7 +6,8 @@ use Rattle.dt_record.specs.Fields.{form_of_field, form_of_layout}
 use Rattle.dt_record.specs.Layout.{field_size}
 use Rattle.dt_record.specs.Split.{recorded_bytes}
 use Rattle.dt_record.specs.Taking.{epid_bytes}
-use Rattle.dt_record.proofs.Fitting.{all-long, epid-read}
+use Rattle.dt_record.specs.laws.Fitting.{all-long}
+use Rattle.dt_record.proofs.Fitting.{epid-read}
 use Rattle.dt_record.proofs.splitting.record_at.Goals as goal
 
 -- a rest that is too short for the fields that its EPID names

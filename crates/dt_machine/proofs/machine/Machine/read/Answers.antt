@@ -11,7 +11,9 @@ use Rattle.dt_machine.specs.Sections.{UnlessMemory, registry_of, scripts_rows}
 use Rattle.dt_machine.proofs.Exits.{passed_on}
 use Rattle.dt_machine.proofs.Faults.{one_more, first_fault, all_pass}
 use Rattle.dt_machine.proofs.Searching.{length-rows}
-use Rattle.dt_machine.proofs.Soundness.{has_passed, cpus_within, one_script_each, short_scripts, length-scripts, sound}
+use Rattle.dt_machine.specs.laws.Soundness.{cpus_within, one_script_each, sound}
+use Rattle.dt_machine.specs.laws.Scripts.{length-scripts}
+use Rattle.dt_machine.proofs.Soundness.{has_passed, short_scripts}
 use Rattle.dt_machine.proofs.machine.Machine.read.Goals as goal
 
 abbrev shown : Vec FiringType Global → List FiringType

@@ -11,9 +11,9 @@ use Rattle.dt_machine.specs.Rows.{process, AreProbes, IsRightAccount, IsRightPro
 use Rattle.dt_machine.specs.Sections.{UnlessMemory, account_rows, process_rows, texts}
 use Rattle.dt_machine.proofs.Exits.{passed_on}
 use Rattle.dt_machine.proofs.Faults.{json_passes, one_more, first_fault}
-use Rattle.dt_machine.proofs.Firings.{few_rows}
+use Rattle.dt_machine.specs.laws.Scripts.{few_rows}
 use Rattle.dt_machine.proofs.Searching.{length-rows}
-use Rattle.dt_machine.proofs.Spelling.{length-probes}
+use Rattle.dt_machine.specs.laws.Spelling.{length-probes}
 use Rattle.dt_machine.proofs.sections.Sections.read.Goals as goal
 
 pub returns-in_err-processes-clause-fault : goal.returns-in_err-processes-clause-fault
