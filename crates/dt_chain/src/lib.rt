@@ -14,9 +14,11 @@ mod lists;
 mod seat;
 mod seat_mask;
 mod seat_set;
+mod write;
 
 pub use entries::Entries;
-pub use laws::one_look;
+pub use laws::{copies_agree, last_write_tells, last_writes_suffice, one_look, own_writes_tell};
 pub use limit_laws::limits_agree;
 pub use seat::{SEATS, Seat};
 pub use seat_mask::SeatMask;
+pub use write::Write;
