@@ -101,7 +101,8 @@ impl Entries {
     pub fn apply(&mut self, write: &Write) -> Result<(), AllocError>
         ensures ok { OnOk result ((writes : List Write) → EntriesAreAt writes self.old
             → EntriesAreAt (write.now ∷ writes) self.new) }
-        ensures err { OnErr result ((writes : List Write) → EntriesAreAt writes self.old → EntriesAreAt writes self.new) }
+        ensures err { OnErr result ((writes : List Write) → EntriesAreAt writes self.old
+            → EntriesAreAt writes self.new) }
         ensures room { OnOk result (IsSome (entry_of write.now) → HasListRoom self.new) }
         ensures room_stays { HasListRoom self.old → HasListRoom self.new }
         ensures succeeds { HasListRoom self.old → IsOk result }

@@ -15,7 +15,8 @@ use Rattle.dt_chain.specs.Writes.{seat_of, entry_of, writes_of, last_write_of, S
 use Rattle.dt_chain.specs.declared.entries.Entries.{Entries}
 
 entry_after : (own : Bool) (write : Write) (earlier : Option Write)
-    → option_and_then entry_of (cond own (Some write) earlier) ≡ cond own (entry_of write) (option_and_then entry_of earlier)
+    → option_and_then entry_of (cond own (Some write) earlier)
+    ≡ cond own (entry_of write) (option_and_then entry_of earlier)
 entry_after true write earlier = refl
 entry_after false write earlier = refl
 
@@ -30,7 +31,8 @@ published_on-last (withdrawn at ∷ earlier) seat =
     rw (published_on-last earlier seat) (sym (entry_after (at == seat) (withdrawn at) (last_write_of earlier seat)))
 
 -- A write is the last one of its seat.
-pub last_write_of-own : (write : Write) (writes : List Write) → last_write_of (write ∷ writes) (seat_of write) ≡ Some write
+pub last_write_of-own : (write : Write) (writes : List Write)
+    → last_write_of (write ∷ writes) (seat_of write) ≡ Some write
 last_write_of-own write writes = rw (eq-eqb (seat_of write) (seat_of write) refl) refl
 
 -- It doesn't touch the other seats.
@@ -53,7 +55,8 @@ pub last_write_of-writes_of : (writes : List Write) (seat : ℕ)
     → last_write_of (writes_of writes seat) seat ≡ last_write_of writes seat
 last_write_of-writes_of writes seat = found_among (λ write. eqb (seat_of write) seat) writes
 
-pub published_on-writes_of : (writes : List Write) (seat : ℕ) → published_on (writes_of writes seat) seat ≡ published_on writes seat
+pub published_on-writes_of : (writes : List Write) (seat : ℕ)
+    → published_on (writes_of writes seat) seat ≡ published_on writes seat
 published_on-writes_of writes seat =
     published_on-last (writes_of writes seat) seat
     ∙ ap (option_and_then entry_of) (last_write_of-writes_of writes seat)
@@ -98,8 +101,8 @@ through : {P Q R : Type 0} → (P ↔ Q) → (P ↔ R) → (Q ↔ R)
 through a b = (λ q. b.0 (a.1 q), λ r. a.0 (b.1 r))
 
 -- Two entries at the end of one history go on alike: where one is, the other is too.
-pub copies_agree : (writes others : List Write) (some other : Entries) → EntriesAreAt writes some → EntriesAreAt writes other
-    → EntriesAreAt others some → EntriesAreAt others other
+pub copies_agree : (writes others : List Write) (some other : Entries)
+    → EntriesAreAt writes some → EntriesAreAt writes other → EntriesAreAt others some → EntriesAreAt others other
 copies_agree writes others some other a b c = record {
   kept = λ seat. b.kept seat ∙ sym (a.kept seat) ∙ c.kept seat;
   listed = λ probe seat.
