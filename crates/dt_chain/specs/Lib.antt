@@ -2,6 +2,7 @@
 
 pub mod Limits
 pub mod Writes
+pub mod Kinds
 pub mod Look
 pub mod Seats
 pub mod Kept

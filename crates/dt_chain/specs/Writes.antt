@@ -1,5 +1,5 @@
 -- What the seats have published, and the entries that they have by it.
-use Rattle.std.specs.Prelude.{ℕ, Bool, List, [], ◌∷◌, Option, Some, None, ◌==◌, if◌then◌else◌}
+use Rattle.std.specs.Prelude.{◌≡◌, ℕ, Bool, List, [], ◌∷◌, Option, Some, None, ◌==◌, find, filter, if◌then◌else◌}
 use Rattle.dt_cred.specs.declared.account.Account.{Account}
 
 -- A seat publishes an entry, for a life of its own: on whose behalf it traces, and in which probes it is interested,
@@ -20,3 +20,25 @@ published_on [] seat = None
 published_on (published at life account probes ∷ earlier) seat =
     if at == seat then Some (record { life = life; account = account; probes = probes }) else published_on earlier seat
 published_on (withdrawn at ∷ earlier) seat = if at == seat then None else published_on earlier seat
+
+-- whose write it is
+abbrev pub seat_of : Write → ℕ
+seat_of (published seat life account probes) = seat
+seat_of (withdrawn seat) = seat
+
+-- the entry that a write leaves to its seat
+abbrev pub entry_of : Write → Option Published
+entry_of (published seat life account probes) = Some (record { life = life; account = account; probes = probes })
+entry_of (withdrawn seat) = None
+
+-- the writes of one seat
+abbrev pub writes_of : List Write → ℕ → List Write
+writes_of writes seat = filter (λ write. seat_of write == seat) writes
+
+-- the last write of a seat, if it made one: the newest is the first in the list
+abbrev pub last_write_of : List Write → ℕ → Option Write
+last_write_of writes seat = find (λ write. seat_of write == seat) writes
+
+-- In both histories each seat has the same last write.
+pub record SameLastWrites (writes others : List Write) : Type 0 where
+  pub each : (seat : ℕ) → last_write_of writes seat ≡ last_write_of others seat

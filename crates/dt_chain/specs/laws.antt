@@ -2,3 +2,4 @@
 
 pub mod Tests
 pub mod Publishing
+pub mod LastWrites

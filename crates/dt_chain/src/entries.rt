@@ -1,18 +1,19 @@
 //! The entries of all seats.
-ghost use Rattle.std.specs.Prelude.{◌≡◌, ◌≤◌, ℕ, List, [], ◌∷◌, None, IsOk, OnOk, OnErr, vec_len, slice_index_or, if◌then◌else◌};
+ghost use Rattle.std.specs.Prelude.{◌≡◌, ◌≤◌, ℕ, List, [], ◌∷◌, None, IsOk, IsSome, IsNone, OnOk, OnErr, vec_len, slice_index_or, if◌then◌else◌};
 ghost use Rattle.dt_chain.specs.declared.lists.TheConstants.{LISTS};
 
 use crate::lists::{LISTS, list, strike};
 use crate::seat::{SEATS, Seat};
 use crate::seat_mask::SeatMask;
 use crate::seat_set::SeatSet;
+use crate::write::{Kind, Write};
 use dt_cred::{Account, Mode, Probe, Process, admits};
 use dt_machine::{Firing, Interest, Machine};
 use std::alloc::{AllocError, Global};
 
 /// The entries of all seats: for each the last that it published, if it didn't withdraw it since.
 ///
-/// Contracts speak of the list of all writes, the newest first: `IsAt writes entries`.
+/// Contracts speak of the list of all writes, the newest first: `EntriesAreAt writes entries`.
 #[derive(Drop)]
 pub struct Entries {
     pub(crate) slots: [Option<Slot>; SEATS],
@@ -28,7 +29,7 @@ pub(crate) struct Slot {
 }
 
 impl Entries {
-    ghost use Rattle.dt_chain.specs.Writes.{Write, published, withdrawn};
+    ghost use Rattle.dt_chain.specs.Writes.{Write, published, withdrawn, entry_of};
     ghost use Rattle.dt_chain.specs.Look.{IsLook};
     ghost use Rattle.dt_chain.specs.Seats.{has, life_at};
     ghost use Rattle.dt_chain.specs.Kept.{is_seat_listed, life_shown};
@@ -91,6 +92,29 @@ impl Entries {
     {
         strike(self.lists.as_mut_slice(), seat);
         self.slots[seat.number() as usize] = None;
+    }
+
+    /// Does what a write says. A publication takes the room for all that may be published, if that isn't taken yet; a
+    /// withdrawal takes no memory.
+    ///
+    /// `Err`: there was no memory, and the entries are as they were.
+    pub fn apply(&mut self, write: &Write) -> Result<(), AllocError>
+        ensures ok { OnOk result ((writes : List Write) → EntriesAreAt writes self.old
+            → EntriesAreAt (write.now ∷ writes) self.new) }
+        ensures err { OnErr result ((writes : List Write) → EntriesAreAt writes self.old
+            → EntriesAreAt writes self.new) }
+        ensures room { OnOk result (IsSome (entry_of write.now) → HasListRoom self.new) }
+        ensures room_stays { HasListRoom self.old → HasListRoom self.new }
+        ensures succeeds { HasListRoom self.old → IsOk result }
+        ensures withdraws { IsNone (entry_of write.now) → IsOk result }
+    {
+        match &write.kind {
+            Kind::Publication(it) => self.publish(it.seat, it.life, &it.account, &it.interest),
+            Kind::Withdrawal(seat) => {
+                self.withdraw(*seat);
+                Ok(())
+            }
+        }
     }
 
     /// The seats whose entries name a firing, each with the life of its entry: the firing belongs to the machine,

@@ -1,10 +1,12 @@
 //! The published entries of the seats: who is interested in which probes, and so whom a firing is offered to.
 //!
 //! Consumers trace one machine together, each on one of [`SEATS`] seats. A seat publishes an entry, which says on
-//! whose behalf it traces and in which probes it is interested, and withdraws it ([`Entries`]). A processor that makes
-//! a firing looks which seats' entries name it, and offers it to these alone ([`SeatMask`]). What is named is defined
-//! over the list of all publications and withdrawals (`specs/Writes.antt`, `specs/Look.antt`), and not over how
-//! entries are kept; `one_look` says that there is one answer. Looking takes no memory.
+//! whose behalf it traces and in which probes it is interested, and withdraws it ([`Entries`]). A publication or a
+//! withdrawal is also a value, which can be kept and applied to several copies of the entries ([`Write`]). A processor
+//! that makes a firing looks which seats' entries name it, and offers it to these alone ([`SeatMask`]). What is named
+//! is defined over the list of all publications and withdrawals (`specs/Writes.antt`, `specs/Look.antt`), and not over
+//! how entries are kept; `one_look` says that there is one answer, and `last_writes_suffice` that the last write of
+//! each seat is all that counts. Looking takes no memory.
 #![tactic(auto)]
 
 mod entries;
@@ -14,9 +16,11 @@ mod lists;
 mod seat;
 mod seat_mask;
 mod seat_set;
+mod write;
 
 pub use entries::Entries;
-pub use laws::one_look;
+pub use laws::{copies_agree, last_write_tells, last_writes_suffice, one_look, own_writes_tell};
 pub use limit_laws::limits_agree;
 pub use seat::{SEATS, Seat};
 pub use seat_mask::SeatMask;
+pub use write::Write;

@@ -1,5 +1,5 @@
 //! Publications, withdrawals and looks, as a table of them with what is named.
-use dt_chain::{Entries, SEATS, Seat, SeatMask};
+use dt_chain::{Entries, SEATS, Seat, SeatMask, Write};
 use dt_cred::Account;
 use dt_machine::{Firing, Interest, Machine, PROBE_ID_MAX};
 use std::alloc::Global;
@@ -51,9 +51,10 @@ fn looks_name_what_the_table_says(rt: HostRuntime) -> Result<(), Fail> {
     Ok(())
 }
 
-/// Does what a line's words say, and compares what is named.
+/// Does what a line's words say, by calls and, on a copy, by writes that are applied, and compares what both name.
 fn plays(rt: &impl Abort, alloc: Global, machine: &Machine, line: &str) -> Result<(), Fail> {
     let mut entries = Entries::new(alloc);
+    let mut copy = Entries::new(alloc);
     let mut words = line.split_whitespace();
     while let Some(word) = words.next() {
         let first = words.next().ok_or("no word")?;
@@ -64,13 +65,22 @@ fn plays(rt: &impl Abort, alloc: Global, machine: &Machine, line: &str) -> Resul
                     .account(words.next().ok_or("no account")?.as_bytes())
                     .ok_or("no account")?;
                 let interest = interest_of(words.next().ok_or("no probes")?)?;
-                published(&mut entries, seat_of(first)?, life, account, &interest)?;
+                let seat = seat_of(first)?;
+                published(&mut entries, seat, life, account, &interest)?;
+                let write = Write::publication(alloc, seat, life, account, &interest)?;
+                applied(&mut copy, &write)?;
             }
-            "-" => withdrawn(&mut entries, seat_of(first)?),
+            "-" => {
+                let seat = seat_of(first)?;
+                withdrawn(&mut entries, seat);
+                applied(&mut copy, &Write::withdrawal(seat))?;
+            }
             _ => {
                 let firing = firing_of(machine, first)?;
-                let named = named(rt, alloc, looked(&entries, machine, &firing))?;
-                assert!(rt; Some(named.as_str()) == words.next(), "{first} in {line}");
+                let seats = words.next().ok_or("no seats")?;
+                let by_calls = named(rt, alloc, looked(&entries, machine, &firing))?;
+                let by_writes = named(rt, alloc, looked(&copy, machine, &firing))?;
+                assert!(rt; by_calls.as_str() == seats && by_writes.as_str() == seats, "{first} in {line}");
             }
         }
     }
@@ -89,6 +99,11 @@ fn published(
 
 fn withdrawn(entries: &mut Entries, seat: Seat) {
     entries.withdraw(seat);
+}
+
+/// A write may be copied, and each copy applied.
+fn applied(entries: &mut Entries, write: &Write) -> Result<(), Fail> {
+    Ok(entries.apply(&write.clone()?)?)
 }
 
 fn looked(entries: &Entries, machine: &Machine, firing: &Firing) -> SeatMask {
