@@ -57,7 +57,7 @@ impl Draft {
     ghost use Rattle.dt_life.specs.Acceptance.{IsAcceptedClose, IsAcceptedGo};
     ghost use Rattle.dt_consumer.specs.Draft.{IsDraftOf};
     ghost use Rattle.dt_life.specs.Answer.{answer_of};
-    ghost use Rattle.dt_life.specs.Life.{Item};
+    ghost use Rattle.dt_life.specs.Life.{Item, is_over};
     ghost use Rattle.dt_life.specs.Reply.{Replies};
     ghost use Rattle.dt_life.specs.declared.refusal.Refusal.{Refusal};
 
@@ -109,6 +109,14 @@ impl Draft {
             → (IsTrue result ↔ IsAcceptedClose account registry life line) }
     {
         matches!(&self.change, Change::Close)
+    }
+
+    /// Whether the line is one over the quota: its reply is that refusal, and it is no part of the life.
+    pub fn is_over_quota(&self) -> bool
+        ensures { (account : Account) (registry : Registry) (life : List Item) (line : Result Ask Refusal)
+            → IsDraftOf account registry life line self.now → (IsTrue result ↔ IsTrue (is_over life)) }
+    {
+        matches!(&self.change, Change::Refuse)
     }
 
     /// The change alone.

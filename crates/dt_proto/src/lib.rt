@@ -30,4 +30,4 @@ pub use limits::LINE_MAX;
 pub use line::{command_of, read_line};
 pub use lines::{Fed, Lines};
 pub use pieces::asked_in;
-pub use reply::{reply_bytes, reply_texts};
+pub use reply::{memory_line, reply_bytes, reply_texts};

@@ -42,6 +42,13 @@ pub fn reply_bytes(alloc: Global, reply: &Reply) -> Result<Vec<u8>, AllocError>
     Ok(bytes)
 }
 
+/// The line that stands in place of any answer where memory ran out: refusal 16, with its newline. It takes no memory.
+pub fn memory_line() -> &'static [u8]
+    ensures { result.now ≡ reply_text (refused Refusal.Memory) }
+{
+    b"{\"error\":16,\"name\":\"Memory\"}\n"
+}
+
 fn reply_value(alloc: Global, reply: &Reply) -> Result<Value, AllocError>
     ensures { IfOk result (λ value. view value ≡ object (reply_members (answer_of reply.now))) }
 {
