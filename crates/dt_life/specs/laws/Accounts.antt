@@ -131,6 +131,14 @@ module _ (account : Account) (name : List ℕ) (registry : Registry) where
     room_alike : has_room other registry s ≡ has_room account registry s
     room_alike = ap (λ size. not (is_fill s.options.bufpolicy) || nat_le size s.options.bufsize) end_alike
 
+    abbrev past_with : ℕ → List buffer.BufferEvent → buffer.BufferPast
+    past_with reserve events = record {
+      policy = s.options.bufpolicy;
+      size = s.options.bufsize;
+      reserve = reserve;
+      events = events;
+    }
+
     past_alike : (cpu : ℕ) → past_in other registry s cpu ≡ past_in account registry s cpu
     past_alike cpu =
         ap (λ size. past_with (cond (is_fill s.options.bufpolicy && cpu == 0) size 0)
@@ -138,27 +146,19 @@ module _ (account : Account) (name : List ℕ) (registry : Registry) where
         ∙ ap (λ own. past_with (reserve_on account registry s cpu) (comes_since other registry own cpu s.since)) own_ecbs
         ∙ ap (past_with (reserve_on account registry s cpu))
         (comes_since_alike (ecbs_in account registry s) cpu s.since)
-      where
-        abbrev past_with : ℕ → List buffer.BufferEvent → buffer.BufferPast
-        past_with reserve events = record {
-          policy = s.options.bufpolicy;
-          size = s.options.bufsize;
-          reserve = reserve;
-          events = events;
-        }
 
     errors_alike : (cpu : ℕ) → errors_in other registry s cpu ≡ errors_in account registry s cpu
     errors_alike cpu =
         ap (λ own. faults (taken_since other registry own cpu s.since)) own_ecbs
         ∙ ap faults (taken_since_alike (ecbs_in account registry s) cpu s.since)
 
+    abbrev given_with : List store.Event → store.Past
+    given_with events = record { size = s.options.aggsize; events = events }
+
     given_alike : (cpu : ℕ) → given_in other registry s cpu ≡ given_in account registry s cpu
     given_alike cpu =
         ap (λ own. given_with (given_since other registry (shapes_in s) own cpu s.since)) own_ecbs
         ∙ ap given_with (given_since_alike (ecbs_in account registry s) (shapes_in s) cpu s.since)
-      where
-        abbrev given_with : List store.Event → store.Past
-        given_with events = record { size = s.options.aggsize; events = events }
 
     stores_alike : stores_in other registry s ≡ stores_in account registry s
     stores_alike = ap (λ (given : ℕ → store.Past). map given (range_with_len 0 registry.cpus)) (fun_ext given_alike)

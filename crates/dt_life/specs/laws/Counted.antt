@@ -41,7 +41,7 @@ not_both (Stopped cause) h k = cc
 
 not_last : (exit : Option ℤ) (n most : ℕ) → n ≤ most
     → option_or (option_map Exit exit) (cond (n == most) (Some History) None) ≡ None → n < most
-not_last (Some status) n most le h = cc
+not_last (Some z) n most le h = cc
 not_last None n most le h =
     elim (eqb_tells n most) [
       | inl is ↦

@@ -2,8 +2,7 @@
 -- no more firings are seen than the history has.
 use Rattle.std.proofs.Common.{◌≡◌, ◌≢◌, ℕ, ◌+◌, ◌<◌, ◌≤◌, ◌==◌, ◌&&◌, ◌||◌, Bool, true, false, cond, not, List, [], ◌∷◌}
 use Rattle.std.proofs.Common.{Option, Some, None, Result, Ok, Err, refl, ap, sym, subst, ◌∙◌, arith, is_none}
-use Rattle.std.proofs.lemmas.Bool.{and_parts, eqb-true, ne_eqb}
-use Rattle.std.proofs.lemmas.Bool.Decides.{eqb_tells}
+use Rattle.std.proofs.lemmas.Bool.{and_parts, both_ways}
 use Rattle.std.specs.Bool.{nat_lt}
 use Rattle.std.specs.Option.{option_map, option_map_or, option_or}
 use Rattle.dt_cred.specs.declared.account.Account.{Account}
@@ -176,7 +175,10 @@ module _ (account : Account) (registry : Registry) where
   keeping s on (asked (Ok (enable (program clauses)))) = either (accepts account registry s clauses) refl
     where
       either : (b : Bool) → accepts account registry s clauses ≡ b → (cond b (with_program s clauses) s).clauses ≡ s.clauses
-      either true is = let quiet = (and_parts _ _ is).0 in cc
+      either true is =
+          let quiet : is_inactive (phase_of s) ≡ true =
+          (and_parts (is_inactive (phase_of s)) _ is).0 in
+          absurd (both_ways (is_inactive (phase_of s)) on quiet)
       either false is = refl
   keeping s on (asked (Ok (enable (fault at why)))) = refl
   keeping s on (asked (Ok (enable (destructive at what)))) = refl

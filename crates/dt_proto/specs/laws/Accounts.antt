@@ -56,13 +56,13 @@ module _ (account : Account) (name : List ℕ) (registry : Registry) where
 
 -- two accounts of the same rights
 module _ (a b : Account) (uid : a.uid ≡ b.uid) (privs : a.privs ≡ b.privs) where
+  abbrev account_with : ℕ → Privs → Account
+  account_with n p = record { name = a.name; uid = n; privs = p }
+
   -- the one is the other, under its own name
   is_renamed : a ≡ renamed b a.name
   is_renamed =
       ap (λ (n : ℕ). account_with n a.privs) uid ∙ ap (λ (p : Privs). account_with b.uid p) privs
-    where
-      abbrev account_with : ℕ → Privs → Account
-      account_with n p = record { name = a.name; uid = n; privs = p }
 
   pub same_life : (registry : Registry) (view : List Reached) → life_of a registry view ≡ life_of b registry view
   same_life registry view =

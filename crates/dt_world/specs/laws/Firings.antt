@@ -75,8 +75,7 @@ module _ (contents : Contents) (taken : ℕ → ℕ) where
             before = offer.before;
             next = λ new same life.
                 subst (λ (s : Session). AllByRecursion (IsLower other one.firing.place) s.view)
-                (same_session (reached session (firing_made firing)) new same)
-                (
+                (same_session (reached session (firing_made firing)) new same) (
                   of_other firing cpu own other one.firing.place
                       (λ equal. none one (subst (λ n. due n ≡ Some one) equal owed) life),
                   offer.next session is life,

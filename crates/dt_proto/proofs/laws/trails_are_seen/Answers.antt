@@ -4,6 +4,6 @@ use Rattle.dt_proto.proofs.laws.trails_are_seen.Goals as goal
 
 pub returns : goal.returns
 returns c = λ account registry view entries. (
-    trail_seen account registry view entries,
-    trail_of_seen account registry view entries,
+  trail_seen account registry view entries,
+  trail_of_seen account registry view entries,
 )
