@@ -61,7 +61,7 @@ module _ (one_reply : (account : Account) (registry : Registry) (life : List Ite
         let left : lines life < lines_max = quota_left life within in
         let more = length-append answers (answer ∷ []) in
         record {
-          full = λ over. let most = leb-true lines_max (lines life + 1) over in omega (arith, many, more, most);
+          full = λ over. let most = leb-true lines_max (lines (asked (ask_in line) ∷ life)) over in omega (arith, many, more, most);
           few = λ _. omega (arith, many, more);
           told =
               flat_map-append replies_by entries (entry ∷ [])

@@ -1,11 +1,12 @@
 -- The text of JSON without blanks is one line: no byte of it is a newline. So a reply is one line.
 use Rattle.std.proofs.Common.{◌≡◌, ◌≢◌, ℕ, zero, suc, ◌+◌, ◌/◌, ◌%◌, ◌==◌, ◌||◌, Bool, true, false, cond, ℤ, pos, negsuc, List, []}
 use Rattle.std.proofs.Common.{◌∷◌, ◌++◌, nat_lt, decimal, refl, ap, sym, subst, ◌∙◌, arith, inl, inr}
-use Rattle.std.proofs.lemmas.Bool.{cond_both}
+use Rattle.std.proofs.lemmas.Bool.{both_ways, cond_both, eq-eqb}
 use Rattle.std.proofs.lemmas.Bool.Decides.{eqb_tells}
 use Rattle.std.proofs.lemmas.List.Elements.{All-nil, All-cons, All-append}
+use Rattle.std.specs.List.{list_any}
 use Rattle.std.specs.Fmt.{digit_glyph, digits_onto, digits, signed_decimal}
-use Rattle.core.specs.Char.{digit_char}
+use Rattle.std.specs.Char.{digit_char}
 use Rattle.json.specs.Print.{escape_letter, escape_byte, escape, quoted}
 use Rattle.serde_json.specs.Data.{Num, unsigned, negative, float, Data, null, boolean, number, string, array, object}
 use Rattle.serde_json.specs.Data.{Items, no_items, item, Members, no_members, member}
@@ -26,6 +27,17 @@ more = All-cons Other
 
 pub both : (a b : List ℕ) → HasNoNewline a → HasNoNewline b → HasNoNewline (a ++ b)
 both = All-append Other
+
+or_false : (a b : Bool) → (a || b) ≡ false → (a ≡ false) × (b ≡ false)
+or_false true b h = cc
+or_false false b h = (refl, h)
+
+-- a text of which each byte was looked at
+free : (text : List ℕ) → list_any (λ byte. byte == 10) text ≡ false → HasNoNewline text
+free [] h = none
+free (byte ∷ text) h =
+    let parts = or_false (byte == 10) (list_any (λ other. other == 10) text) h in
+    more byte text (λ same. both_ways (byte == 10) parts.0 (eq-eqb byte 10 same)) (free text parts.1)
 
 -- digits
 glyph_other : (upper : Bool) (d : ℕ) → digit_glyph upper d ≢ 10
@@ -64,6 +76,15 @@ letter_other x other =
     (λ _. cond_both (x == 13) 114 _ Other (λ _ e. cc)
     (λ _. cond_both (x == 9) 116 0 Other (λ _ e. cc) (λ _ e. cc))))))
 
+-- six bytes, of which the last two are digits
+hexadecimal : (high low : ℕ) → high ≢ 10 → low ≢ 10 → HasNoNewline (92 ∷ 117 ∷ 48 ∷ 48 ∷ high ∷ low ∷ [])
+hexadecimal high low h l =
+    more 92 (117 ∷ 48 ∷ 48 ∷ high ∷ low ∷ []) (λ e. cc)
+    (more 117 (48 ∷ 48 ∷ high ∷ low ∷ []) (λ e. cc)
+    (more 48 (48 ∷ high ∷ low ∷ []) (λ e. cc)
+    (more 48 (high ∷ low ∷ []) (λ e. cc)
+    (more high (low ∷ []) h (more low [] l none)))))
+
 escaped_other : (x : ℕ) → x ≢ 10 → HasNoNewline (escape_byte x)
 unfolding escape_byte
 escaped_other x other =
@@ -71,8 +92,7 @@ escaped_other x other =
     (λ _. more 92 (escape_letter x ∷ []) (λ e. cc) (more (escape_letter x) [] (letter_other x other) none))
     (λ _. cond_both (nat_lt x 32) (92 ∷ 117 ∷ 48 ∷ 48 ∷ digit_char (x / 16) ∷ digit_char (x % 16) ∷ []) (x ∷ [])
     HasNoNewline
-    (λ _. more 92 _ (λ e. cc) (more 117 _ (λ e. cc) (more 48 _ (λ e. cc) (more 48 _ (λ e. cc)
-    (more (digit_char (x / 16)) _ (char_other (x / 16)) (more (digit_char (x % 16)) [] (char_other (x % 16)) none))))))
+    (λ _. hexadecimal (digit_char (x / 16)) (digit_char (x % 16)) (char_other (x / 16)) (char_other (x % 16)))
     (λ _. more x [] other none))
 
 newline_escaped : HasNoNewline (escape_byte 10)
@@ -104,12 +124,9 @@ comma_line false = none
 
 mutual
   pub value_line : (d : Data) → HasNoNewline (compact_text d)
-  value_line null = more 110 _ (λ e. cc) (more 117 _ (λ e. cc) (more 108 _ (λ e. cc) (more 108 [] (λ e. cc) none)))
-  value_line (boolean true) =
-      more 116 _ (λ e. cc) (more 114 _ (λ e. cc) (more 117 _ (λ e. cc) (more 101 [] (λ e. cc) none)))
-  value_line (boolean false) =
-      more 102 _ (λ e. cc) (more 97 _ (λ e. cc) (more 108 _ (λ e. cc) (more 115 _ (λ e. cc)
-      (more 101 [] (λ e. cc) none))))
+  value_line null = free (110 ∷ 117 ∷ 108 ∷ 108 ∷ []) refl
+  value_line (boolean true) = free (116 ∷ 114 ∷ 117 ∷ 101 ∷ []) refl
+  value_line (boolean false) = free (102 ∷ 97 ∷ 108 ∷ 115 ∷ 101 ∷ []) refl
   value_line (number n) = number_line n
   value_line (string s) = quoted_line s
   value_line (array ds) = more 91 (items_text false ds) (λ e. cc) (items_line false ds)
