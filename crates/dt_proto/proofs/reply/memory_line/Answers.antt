@@ -1,0 +1,9 @@
+-- The line of a lack of memory is its letters.
+use Rattle.std.proofs.Common.{refl}
+use Rattle.std.specs.Fmt.{digits}
+use Rattle.serde_json.proofs.OnLiterals.{serde_json_on_literals}
+use Rattle.dt_proto.proofs.reply.memory_line.Goals as goal
+
+pub returns : goal.returns
+unfolding serde_json_on_literals digits
+returns c = refl
