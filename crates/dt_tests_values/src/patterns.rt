@@ -122,11 +122,9 @@ fn many_stars_are_quick(rt: HostRuntime) -> Result<(), Fail> {
 }
 
 #[test]
-fn patterns_are_their_texts(rt: HostRuntime) -> Result<(), Fail> {
+fn only_the_empty_pattern_is_empty(rt: HostRuntime) -> Result<(), Fail> {
     for (text, is_empty) in [(b"".as_slice(), true), (b"[a]", false), (b"***", false)] {
-        let pattern = pattern(text)?;
-        assert!(rt; pattern.is_empty() == is_empty);
-        assert!(rt; pattern.as_bytes() == text);
+        assert!(rt; pattern(text)?.is_empty() == is_empty);
     }
     Ok(())
 }
