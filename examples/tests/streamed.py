@@ -9,8 +9,15 @@ import threading
 from running import PROGRAM, call, judge, machine, text_of
 
 FAULT = b"fault\n"
-INPUT = text_of(["open 0 root", *[call(cmd="status")] * 500])
-OUTPUT = b'0 {"aggdrops":[0],"cause":null,"errors":[0],"exit":null,"ok":true,"phase":"inactive","seen":0}\n' * 500
+REPLY = b'0 {"aggdrops":[0],"cause":null,"errors":[0],"exit":null,"ok":true,"phase":"inactive","seen":0}\n'
+
+
+def session(lines):
+    """The input of a session that asks so many lines, and what is answered."""
+    return text_of(["open 0 root", *[call(cmd="status")] * lines]), REPLY * lines
+
+
+INPUT, OUTPUT = session(500)
 TRAIL = "account root\n"
 
 
@@ -68,7 +75,7 @@ def broken_inputs(folder):
 def slow_streams(folder):
     """An input that comes byte by byte, and an output that is taken a hundred bytes at a time."""
     path, _trail = files(folder)
-    text, wanted = INPUT[:len(INPUT) // 10], OUTPUT[:len(OUTPUT) // 10]
+    text, wanted = session(50)
     with subprocess.Popen([PROGRAM, "replay", path], stdin=subprocess.PIPE, stdout=subprocess.PIPE, bufsize=0) as program:
         def give():
             for byte in text:
