@@ -143,11 +143,11 @@ def histories():
 
 
 def stores():
-    """Stores for each number of entries, and one entry more, which is dropped; last a store of the largest size."""
+    """Stores for each number of entries, and one entry more, which is dropped; last one of ten times as many."""
     place = 0
-    for count in [*near(600), (1 << 20) // 24]:
+    for count in [*near(600), 6_000]:
         first, place = place, place + count + 1
-        size = min(24 * count + 23, 1 << 20)
+        size = 24 * count + 23
         yield [option("aggsize", size), option("histsize", FIRINGS_MAX), (enable("read:entry{@[arg0] = count()}"), enabled(1)), go(), *fires(count + 1),
                table("count", [{"key": [it], "value": 1} for it in range(first, first + count)]), status(count + 1, aggdrops=1)]
 
