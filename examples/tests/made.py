@@ -84,6 +84,7 @@ def texts():
     yield from (begun(f"BEGIN{{trace({sums(tokens)[0]})}}", number(sums(tokens)[1])) for tokens in range(1, 65))
     yield from ([(enable(f"BEGIN/{sums(tokens)[0]}/{{}}"), enabled(1))] for tokens in range(1, 65))
     yield from ([(enable("read:entry{}" * count), enabled(count))] for count in range(1, 65))
+    yield from ([(enable("*{}" * count), enabled(4 * count))] for count in range(1, 65))
     yield from ([(enable(",".join(["read:entry"] * count) + "{}"), enabled(1))] for count in range(1, 17))
     yield from (begun("BEGIN{" + ";".join(f"trace({place})" for place in range(count)) + "}", "".join(map(number, range(count))))
                 for count in range(1, 9))

@@ -212,3 +212,29 @@ fn a_write_that_fails_is_told_after_what_was_written(rt: HostRuntime) -> Result<
     assert_eq!(rt; bytes.as_slice(), ANSWERED.as_bytes());
     Ok(())
 }
+
+/// Failures in the middle of long streams, and where the end would be.
+#[test]
+fn a_failure_in_the_middle_is_the_same(rt: HostRuntime) -> Result<(), Fail> {
+    let alloc = rt.alloc();
+    let (asked, answered) = long_session(alloc, 5_000)?;
+    for at in [8_191, 8_192, 8_193, 100_000, asked.as_str().len()] {
+        let mut input = Input::new(asked.as_str());
+        input.until_failure = at;
+        let (bytes, fault) = told(input, Output::new(alloc), alloc);
+        assert_eq!(rt; fault, Some(ReplayFault::Read), "{at}");
+        assert!(rt; bytes.is_empty());
+    }
+    for at in [8_192usize, 65_536, 100_000] {
+        let mut output = Output::new(alloc);
+        output.at_once = 4_096;
+        output.until_failure = at;
+        let (bytes, fault) = told(Input::new(asked.as_str()), output, alloc);
+        assert_eq!(rt; fault, Some(ReplayFault::Write), "{at}");
+        assert!(rt;
+            Some(bytes.as_slice()) == answered.as_bytes().get(..at),
+            "{at}"
+        );
+    }
+    Ok(())
+}
