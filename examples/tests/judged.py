@@ -172,4 +172,42 @@ def quota(folder):
         yield f"1,024 lines, a firing and {entry}", found, (b"illegal at %d\n" % (LINES_MAX + 2), 1)
 
 
-judge(longest_trail, random_trails, changed_commands, cut_trails, quota)
+READS = {"cmd": "enable", "text": "read:entry{}"}
+GO = {"cmd": "go"}
+HISTORY = {"cmd": "option", "name": "histsize", "value": 1}
+LONG, JSON = 'reply {"error":3,"name":"LineLong"}', 'reply {"error":1,"name":"Json"}'
+# what a session of an account does, one entry behind it, and what is found then
+FURTHER = [
+    ("a firing before the go", "root", [READS], ["fired 0 0"], "illegal at {entry}"),
+    ("a firing of a probe that isn't enabled", "root", [{"cmd": "enable", "text": "tick-1sec{}"}, GO], ["fired 0 0"], "illegal at {entry}"),
+    ("a firing of another's process", "ann", [READS, GO], ["fired 1 0"], "illegal at {entry}"),
+    ("a firing after the stop", "root", [READS, GO, {"cmd": "stop"}], ["fired 0 0"], "illegal at {entry}"),
+    ("a firing after the close", "root", [READS, GO, {"cmd": "close"}], ["fired 0 0"], "illegal at {entry}"),
+    ("a firing after the exit", "root", [{"cmd": "enable", "text": "read:entry{exit(1)}"}, GO, "fire 0"], ["fired 0 1"], "illegal at {entry}"),
+    ("a firing after the history", "root", [HISTORY, READS, GO, "fire 0"], ["fired 0 1"], "illegal at {entry}"),
+    ("a firing after a later one", "root", [READS, GO, "fire 0", "fire 0"], ["fired 0 0"], "illegal at {entry}"),
+    ("the last firing again", "root", [READS, GO, "fire 0", "fire 0"], ["fired 0 1"], "illegal at {entry}"),
+    ("a firing after the script", "root", [READS, GO, "fire 0"], ["fired 0 3"], "illegal at {entry}"),
+    ("a firing of a processor that isn't there", "root", [READS, GO, "fire 0"], ["fired 2 0"], "illegal at {entry}"),
+    ("a firing that skips two", "root", [READS, GO], ["fired 0 2"], "agree {replies}"),
+    ("a long line", "root", [READS, GO], ["long", LONG], "agree {reply}"),
+    ("a long line with another reply", "root", [READS, GO, "fire 0"], ["long", JSON], "differs at {reply}"),
+    ("a short line told as long", "root", [READS, GO], ["line x", LONG], "differs at {reply}"),
+]
+
+
+def further_entries(folder):
+    """One entry behind a trail that agrees, of each kind, in and out of place."""
+    path, trail = folder / "machine.json", folder / "trail"
+    path.write_text(machine([[fired(0), fired(1), fired(2)], [fired(0, pid=200)]], ["root", "ann"]))
+    for what, account, did, entry, found in FURTHER:
+        steps = [f"open 0 {account}", *(step if isinstance(step, str) else call(**step) for step in did)]
+        told, status = run("replay", path, "--trail", 0, text=text_of(steps))
+        first, entries = entries_of(told)
+        replies = sum(len(it) == 2 for it in entries)
+        yield f"a trail before {what}", (status, len(entries), checked(path, trail, told)), (0, len(did), (b"agree %d\n" % replies, 0))
+        wanted = found.format(entry=len(entries) + 1, replies=replies, reply=replies + 1) + "\n"
+        yield f"a trail and {what}", checked(path, trail, text(first, [*entries, entry])), (wanted.encode(), int(not found.startswith("agree")))
+
+
+judge(longest_trail, random_trails, changed_commands, cut_trails, further_entries, quota)
