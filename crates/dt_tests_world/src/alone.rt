@@ -48,6 +48,29 @@ fn a_consumer_is_answered_alone(rt: HostRuntime) -> Result<(), Fail> {
     Ok(())
 }
 
+/// More lines than a session may ask: each but the first two is none, and after 1,024 lines the quota is used up.
+#[test]
+fn a_long_life_is_answered_alone(rt: HostRuntime) -> Result<(), Fail> {
+    let alloc = rt.alloc();
+    let machine = machine_of(alloc, MACHINE)?;
+    let mut items = items_of(alloc, &machine, &[ENABLE, GO, "fired"])?;
+    for _line in 0..1_100usize {
+        items.push(Item::Line(asked(alloc, b"[]")?))?;
+    }
+    let told = answered_alone(alloc, &machine, "root", &items)?;
+    assert_eq!(rt; told.len(), 1_102usize);
+    for (place, reply) in told.iter().enumerate() {
+        let wanted = match place {
+            0 => "{\"count\":1,\"first\":1,\"ok\":true}\n",
+            1 => "{\"ok\":true}\n",
+            2..=1_023 => "{\"error\":2,\"name\":\"Request\"}\n",
+            _ => "{\"error\":15,\"name\":\"Quota\"}\n",
+        };
+        assert_eq!(rt; reply.as_slice(), wanted.as_bytes(), "{place}");
+    }
+    Ok(())
+}
+
 fn items_of(alloc: Global, machine: &Machine, words: &[&str]) -> Result<Vec<Item>, Fail> {
     let mut items = Vec::new(alloc);
     for word in words {

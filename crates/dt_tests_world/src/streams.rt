@@ -136,18 +136,19 @@ fn long_session(alloc: Global, lines: usize) -> Result<(String, String), Fail> {
     Ok((asked, answered))
 }
 
-/// An input of 1.2 megabytes, which comes at once or by one byte, interrupted or not; an output that takes as many.
+/// An input that comes at once or by few bytes, interrupted or not, and an output that takes as many: the longest, of 1.2
+/// megabytes, by one byte.
 #[test]
 fn slow_streams_are_read_and_written_to_their_end(rt: HostRuntime) -> Result<(), Fail> {
     let alloc = rt.alloc();
-    let (asked, answered) = long_session(alloc, 50_000)?;
-    for (at_once, interruptions) in [
-        (usize::MAX, 0u32),
-        (1, 0),
-        (1, 1),
-        (1000, 1),
-        (100_000, 10_000),
+    for (lines, at_once, interruptions) in [
+        (50_000usize, 1, 0u32),
+        (5_000, usize::MAX, 0),
+        (5_000, 1, 1),
+        (5_000, 1000, 1),
+        (5_000, 100_000, 10_000),
     ] {
+        let (asked, answered) = long_session(alloc, lines)?;
         let mut input = Input::new(asked.as_str());
         input.at_once = at_once;
         input.interruptions = interruptions;
@@ -210,5 +211,31 @@ fn a_write_that_fails_is_told_after_what_was_written(rt: HostRuntime) -> Result<
     let (bytes, fault) = told(Input::new(ASKED), output, alloc);
     assert_eq!(rt; fault, Some(ReplayFault::Write));
     assert_eq!(rt; bytes.as_slice(), ANSWERED.as_bytes());
+    Ok(())
+}
+
+/// Failures in the middle of long streams, and where the end would be.
+#[test]
+fn a_failure_in_the_middle_is_the_same(rt: HostRuntime) -> Result<(), Fail> {
+    let alloc = rt.alloc();
+    let (asked, answered) = long_session(alloc, 5_000)?;
+    for at in [8_191, 8_192, 8_193, 100_000, asked.as_str().len()] {
+        let mut input = Input::new(asked.as_str());
+        input.until_failure = at;
+        let (bytes, fault) = told(input, Output::new(alloc), alloc);
+        assert_eq!(rt; fault, Some(ReplayFault::Read), "{at}");
+        assert!(rt; bytes.is_empty());
+    }
+    for at in [8_192usize, 65_536, 100_000] {
+        let mut output = Output::new(alloc);
+        output.at_once = 4_096;
+        output.until_failure = at;
+        let (bytes, fault) = told(Input::new(asked.as_str()), output, alloc);
+        assert_eq!(rt; fault, Some(ReplayFault::Write), "{at}");
+        assert!(rt;
+            Some(bytes.as_slice()) == answered.as_bytes().get(..at),
+            "{at}"
+        );
+    }
     Ok(())
 }
