@@ -75,6 +75,8 @@ pub fn replay<R: Read, W: Write>(
     // Only a write that fails leaves anything written: a beginning of what would have been.
     ensures nothing_written { IfErr result (λ fault. fault ≢ ReplayFault.Write
         → Keeps (W.contents writer.old) (W.contents writer.new)) }
+    // On any other fault the writer wasn't even asked: a writer that fails is never told as a lack of memory.
+    ensures untouched { IfErr result (λ fault. fault ≢ ReplayFault.Write → writer.new ≡ writer.old) }
     ensures beginning_written { IfErr result (λ fault. fault ≡ ReplayFault.Write
         → IfSome (R.remaining reader.old) (λ input.
         (contents : Contents) × (output : List ℕ) × (count : ℕ) × IsDescribed machine.now contents
@@ -114,6 +116,8 @@ pub fn replay_trail<R: Read, W: Write>(
     // Only a write that fails leaves anything written: a beginning of what would have been.
     ensures nothing_written { IfErr result (λ fault. fault ≢ ReplayFault.Write
         → Keeps (W.contents writer.old) (W.contents writer.new)) }
+    // On any other fault the writer wasn't even asked: a writer that fails is never told as a lack of memory.
+    ensures untouched { IfErr result (λ fault. fault ≢ ReplayFault.Write → writer.new ≡ writer.old) }
     ensures beginning_written { IfErr result (λ fault. fault ≡ ReplayFault.Write
         → IfSome (R.remaining reader.old) (λ input.
         (contents : Contents) × (output : List ℕ) × (count : ℕ) × IsDescribed machine.now contents
@@ -151,6 +155,8 @@ fn replay_as<R: Read, W: Write>(
     // Only a write that fails leaves anything written: a beginning of what would have been.
     ensures nothing_written { IfErr result (λ fault. fault ≢ ReplayFault.Write
         → Keeps (W.contents writer.old) (W.contents writer.new)) }
+    // On any other fault the writer wasn't even asked: a writer that fails is never told as a lack of memory.
+    ensures untouched { IfErr result (λ fault. fault ≢ ReplayFault.Write → writer.new ≡ writer.old) }
     ensures beginning_written { IfErr result (λ fault. fault ≡ ReplayFault.Write
         → IfSome (R.remaining reader.old) (λ input.
         (contents : Contents) × (output : List ℕ) × (count : ℕ) × IsDescribed machine.now contents

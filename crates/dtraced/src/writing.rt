@@ -48,6 +48,8 @@ pub fn write_replay<R: Read, W: Write>(
     // Only a write that fails leaves anything written: a beginning of what would have been.
     ensures nothing_written { IfErr result (λ fault. fault ≢ ReplayFault.Write
         → Keeps (W.contents writer.old) (W.contents writer.new)) }
+    // On any other fault the writer wasn't even asked: a writer that fails is never told as a lack of memory.
+    ensures untouched { IfErr result (λ fault. fault ≢ ReplayFault.Write → writer.new ≡ writer.old) }
     // What a failed write leaves are the first bytes of what the definition gives, and no others.
     ensures beginning_written { IfErr result (λ fault. fault ≡ ReplayFault.Write
         → IfSome (R.remaining reader.old) (λ input.
