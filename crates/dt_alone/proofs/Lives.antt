@@ -17,7 +17,7 @@ use Rattle.dt_proto.specs.Line.{ask_in}
 use Rattle.dt_proto.specs.Lines.{LineForm, line_form, long_line}
 use Rattle.dt_proto.specs.Reply.{reply_text}
 use Rattle.dt_proto.specs.Splits.{with_newline}
-use Rattle.dt_proto.specs.Trail.{TrailEntry, line_asked, long_asked, fired_at}
+use Rattle.dt_proto.specs.Trail.{TrailEntry, line_asked, long_asked, fired_at, replies_by, replies_of}
 use Rattle.dt_proto.specs.Legal.{Agrees, IsLegal, life_of_trail, reached_by}
 use Rattle.dt_alone.specs.Verdicts.{AreRepliesAlone}
 

@@ -1,5 +1,5 @@
 -- The sessions of a replay are orderly, so the trail of one is the trail of a view that the machine can bring.
-use Rattle.std.proofs.Common.{◌≡◌, ℕ, ◌+◌, ◌==◌, ◌&&◌, Bool, true, false, cond, List, [], ◌∷◌, ◌++◌, codes, decimal, Option, Some, None}
+use Rattle.std.proofs.Common.{◌≡◌, ◌≢◌, ℕ, ◌+◌, ◌==◌, ◌&&◌, Bool, true, false, cond, List, [], ◌∷◌, ◌++◌, codes, decimal, Option, Some, None}
 use Rattle.std.proofs.Common.{filter, fold, is_some, length, map, nat_lt, refl, sym, ap, ◌∙◌, subst, arith}
 use Rattle.std.proofs.lemmas.Bool.{ltb-false}
 use Rattle.std.proofs.Math.Seq.{drop-append_seam}
@@ -41,10 +41,10 @@ one_line bytes none = by_length (nat_lt line_max (length bytes)) where
 -- the lines of an input have no newlines
 asked_line : (word : List ℕ) (seat : ℕ) (line : List ℕ)
     → HasNoNewline (word ++ (decimal seat ++ (codes " " ++ line))) → HasNoNewline line
-asked_line word seat line none = after (codes " ") line (after (decimal seat) (codes " " ++ line) (after word _ none))
+asked_line word seat line none = after (codes " ") line (after (decimal seat) (codes " " ++ line) (after word (decimal seat ++ (codes " " ++ line)) none))
   where
     after : (front back : List ℕ) → HasNoNewline (front ++ back) → HasNoNewline back
-    after front back h = subst HasNoNewline (drop-append_seam front back) (All-drop _ (length front) (front ++ back) h)
+    after front back h = subst HasNoNewline (drop-append_seam front back) (All-drop (λ byte. byte ≢ 10) (length front) (front ++ back) h)
 
 module _ (contents : Contents) (sound : IsSound contents) where
   abbrev registry : Registry
@@ -197,7 +197,7 @@ module _ (contents : Contents) (sound : IsSound contents) where
   numbered : (taken : ℕ → ℕ) (sessions : List Session) (n : ℕ) (session : Session)
       → AllByRecursion (IsOrderly contents taken) sessions → session_numbered sessions n ≡ Some session
       → IsOrderly contents taken session
-  numbered taken [] n session h e = cc
+  numbered taken [] n session h = λ e. cc
   numbered taken (one ∷ earlier) n session h = by_number (length earlier == n) (numbered taken earlier n session h.1)
     where
       by_number : (b : Bool) → (session_numbered earlier n ≡ Some session → IsOrderly contents taken session)
