@@ -80,7 +80,10 @@ fn plays(rt: &impl Abort, alloc: Global, machine: &Machine, line: &str) -> Resul
                 let seats = words.next().ok_or("no seats")?;
                 let by_calls = named(rt, alloc, looked(&entries, machine, &firing))?;
                 let by_writes = named(rt, alloc, looked(&copy, machine, &firing))?;
-                assert!(rt; by_calls.as_str() == seats && by_writes.as_str() == seats, "{first} in {line}");
+                assert!(rt;
+                    by_calls.as_str() == seats && by_writes.as_str() == seats,
+                    "{first} in {line}"
+                );
             }
         }
     }
