@@ -1,8 +1,8 @@
 //! The words that the program is called with.
-ghost use Rattle.std.specs.Prelude.{◌≡◌, ◌↔◌, ℕ, List, [], IfOk, IfErr, IfSome, codes, map, option_map, Option, Some};
+ghost use Rattle.std.specs.Prelude.{◌≡◌, ◌↔◌, ℕ, List, [], IfOk, IfErr, false, map, option_map, Option};
 ghost use Rattle.std.specs.Borrow.{Bor};
 ghost use Rattle.clap.specs.Words.{app_of, fault_of, first_of, found_of, kind_of, rows_of, rule_of, subcommand_of, subcommand_rows_of};
-ghost use Rattle.dtraced.specs.Words.{Asks, HasValues, IsSeatOf, file, program};
+ghost use Rattle.dtraced.specs.Words.{Asks, HasValues, IsSeatOf, file, name_of, program};
 
 use crate::seat::seat_of;
 use clap::error::ErrorKind;
@@ -57,13 +57,26 @@ impl<'a> Words<'a> {
             → Asks (map (λ word. word.now) words.now) asked → fault ≡ WordsFault.Memory) }
     {
         let matches = matches_of(alloc, words)?;
-        let (word, given) = matches.subcommand().ok_or(WordsFault::Usage)?;
-        match word {
-            "replay" => Words::of_replay(given),
-            "check" => Words::of_check(given),
-            // clap answers a call for help itself, and knows no other word
-            _ => Err(WordsFault::Usage),
+        let Some((name, given)) = matches.subcommand() else {
+            return Err(WordsFault::Usage);
+        };
+        Words::of_subcommand(name, given)
+    }
+
+    /// What the subcommand of this name asks for with these values.
+    fn of_subcommand(name: &str, given: &ArgMatches<'a>) -> Result<Self, WordsFault>
+        ensures ok { IfOk result (λ asked. (name_of asked ≡ name.now) × HasValues (rows_of (found_of given.now)) asked) }
+        ensures err { IfErr result (λ _. (asked : Words)
+            → name_of asked ≡ name.now → HasValues (rows_of (found_of given.now)) asked → ⊥) }
+    {
+        if name == "replay" {
+            return Words::of_replay(given);
         }
+        if name == "check" {
+            return Words::of_check(given);
+        }
+        // clap answers a call for help itself, and knows no other word
+        Err(WordsFault::Usage)
     }
 
     /// What `replay` asks for with these values.
@@ -73,9 +86,13 @@ impl<'a> Words<'a> {
         ensures err { IfErr result (λ _. (machine : Bor (List ℕ)) (trail : Option ℕ)
             → HasValues (rows_of (found_of given.now)) (Words.Replay machine trail) → ⊥) }
     {
-        let machine = given.get_str("machine").ok_or(WordsFault::Usage)?;
-        let trail = seat_in(given.get_str("trail"))?;
-        Ok(Words::Replay { machine, trail })
+        let Some(machine) = value_in(given, "machine") else {
+            return Err(WordsFault::Usage);
+        };
+        match seat_in(value_in(given, "trail")) {
+            Ok(trail) => Ok(Words::Replay { machine, trail }),
+            Err(fault) => Err(fault),
+        }
     }
 
     /// What `check` asks for with these values.
@@ -85,16 +102,27 @@ impl<'a> Words<'a> {
         ensures err { IfErr result (λ _. (machine trail : Bor (List ℕ))
             → HasValues (rows_of (found_of given.now)) (Words.Check machine trail) → ⊥) }
     {
-        let machine = given.get_str("machine").ok_or(WordsFault::Usage)?;
-        let trail = given.get_str("trail").ok_or(WordsFault::Usage)?;
+        let Some(machine) = value_in(given, "machine") else {
+            return Err(WordsFault::Usage);
+        };
+        let Some(trail) = value_in(given, "trail") else {
+            return Err(WordsFault::Usage);
+        };
         Ok(Words::Check { machine, trail })
     }
 }
 
+/// The first value that is given to this argument.
+fn value_in<'a>(given: &ArgMatches<'a>, id: &str) -> Option<&'a str>
+    ensures { option_map (λ s. s.now) result ≡ first_of id.now (rows_of (found_of given.now)) }
+{
+    given.get_str(id)
+}
+
 /// The seat that the word spells, where there is one.
 fn seat_in(word: Option<&str>) -> Result<Option<Seat>, WordsFault>
-    ensures ok { IfOk result (λ seat. IsSeatOf (option_map (λ w. w.now) word) seat) }
-    ensures err { IfErr result (λ _. (seat : Option ℕ) → IsSeatOf (option_map (λ w. w.now) word) seat → ⊥) }
+    ensures ok { IfOk result (λ seat. IsSeatOf (option_map (λ w. w.now) word.entry) seat) }
+    ensures err { IfErr result (λ _. (seat : Option ℕ) → IsSeatOf (option_map (λ w. w.now) word.entry) seat → ⊥) }
 {
     match word {
         Some(word) => match seat_of(word) {
