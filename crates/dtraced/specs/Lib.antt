@@ -2,3 +2,4 @@
 pub mod Seat
 pub mod Writing
 pub mod Status
+pub mod Words

@@ -1,4 +1,9 @@
 //! The words that the program is called with.
+ghost use Rattle.std.specs.Prelude.{◌≡◌, ◌↔◌, ℕ, List, [], IfOk, IfErr, false, map, option_map, Option};
+ghost use Rattle.std.specs.Borrow.{Bor};
+ghost use Rattle.clap.specs.Words.{app_of, fault_of, first_of, found_of, kind_of, rows_of, rule_of, subcommand_of, subcommand_rows_of};
+ghost use Rattle.dtraced.specs.Words.{Asks, HasValues, IsSeatOf, file, name_of, program};
+
 use crate::seat::seat_of;
 use clap::error::ErrorKind;
 use clap::{Arg, ArgAction, ArgMatches, Command};
@@ -32,7 +37,9 @@ pub(crate) enum WordsFault {
 }
 
 impl WordsFault {
-    fn of(error: &clap::Error) -> Self {
+    fn of(error: &clap::Error) -> Self
+        ensures { result ≡ WordsFault.Memory ↔ kind_of error.now ≡ ErrorKind.OutOfMemory }
+    {
         if error.kind() == ErrorKind::OutOfMemory {
             WordsFault::Memory
         } else {
@@ -43,26 +50,81 @@ impl WordsFault {
 
 impl<'a> Words<'a> {
     /// Reads the program's words, of which the first is its own name.
-    pub(crate) fn read(alloc: Global, words: &'a [&'a str]) -> Result<Self, WordsFault> {
-        let matches = program(alloc)
-            .map_err(|_| WordsFault::Memory)?
-            .try_get_matches_from(words)
-            .map_err(|error| WordsFault::of(&error))?;
-        let (word, found) = matches.subcommand().ok_or(WordsFault::Usage)?;
-        let machine = found.get_str("machine").ok_or(WordsFault::Usage)?;
-        // in a check `trail` names a file, in a replay a seat, so each is read in its own way
-        if word == "check" {
-            let trail = found.get_str("trail").ok_or(WordsFault::Usage)?;
-            return Ok(Words::Check { machine, trail });
+    pub(crate) fn read(alloc: Global, words: &'a [&'a str]) -> Result<Self, WordsFault>
+        ensures ok { IfOk result (λ asked. Asks (map (λ word. word.now) words.now) asked) }
+        // Where they ask for anything, only memory can have run out.
+        ensures err { IfErr result (λ fault. (asked : Words)
+            → Asks (map (λ word. word.now) words.now) asked → fault ≡ WordsFault.Memory) }
+    {
+        let matches = matches_of(alloc, words)?;
+        let Some((name, given)) = matches.subcommand() else {
+            return Err(WordsFault::Usage);
+        };
+        Words::of_subcommand(name, given)
+    }
+
+    /// What the subcommand of this name asks for with these values.
+    fn of_subcommand(name: &str, given: &ArgMatches<'a>) -> Result<Self, WordsFault>
+        ensures ok { IfOk result (λ asked. (name_of asked ≡ name.now) × HasValues (rows_of (found_of given.now)) asked) }
+        ensures err { IfErr result (λ _. (asked : Words)
+            → name_of asked ≡ name.now → HasValues (rows_of (found_of given.now)) asked → ⊥) }
+    {
+        if name == "replay" {
+            return Words::of_replay(given);
         }
-        let trail = seat_in(found)?;
-        Ok(Words::Replay { machine, trail })
+        if name == "check" {
+            return Words::of_check(given);
+        }
+        // clap answers a call for help itself, and knows no other word
+        Err(WordsFault::Usage)
+    }
+
+    /// What `replay` asks for with these values.
+    fn of_replay(given: &ArgMatches<'a>) -> Result<Self, WordsFault>
+        ensures ok { IfOk result (λ asked. (machine : Bor (List ℕ)) × (trail : Option ℕ)
+            × (asked ≡ Words.Replay machine trail) × HasValues (rows_of (found_of given.now)) asked) }
+        ensures err { IfErr result (λ _. (machine : Bor (List ℕ)) (trail : Option ℕ)
+            → HasValues (rows_of (found_of given.now)) (Words.Replay machine trail) → ⊥) }
+    {
+        let Some(machine) = value_in(given, "machine") else {
+            return Err(WordsFault::Usage);
+        };
+        match seat_in(value_in(given, "trail")) {
+            Ok(trail) => Ok(Words::Replay { machine, trail }),
+            Err(fault) => Err(fault),
+        }
+    }
+
+    /// What `check` asks for with these values.
+    fn of_check(given: &ArgMatches<'a>) -> Result<Self, WordsFault>
+        ensures ok { IfOk result (λ asked. (machine trail : Bor (List ℕ))
+            × (asked ≡ Words.Check machine trail) × HasValues (rows_of (found_of given.now)) asked) }
+        ensures err { IfErr result (λ _. (machine trail : Bor (List ℕ))
+            → HasValues (rows_of (found_of given.now)) (Words.Check machine trail) → ⊥) }
+    {
+        let Some(machine) = value_in(given, "machine") else {
+            return Err(WordsFault::Usage);
+        };
+        let Some(trail) = value_in(given, "trail") else {
+            return Err(WordsFault::Usage);
+        };
+        Ok(Words::Check { machine, trail })
     }
 }
 
-/// The seat whose trail is asked for.
-fn seat_in(found: &ArgMatches<'_>) -> Result<Option<Seat>, WordsFault> {
-    match found.get_str("trail") {
+/// The first value that is given to this argument.
+fn value_in<'a>(given: &ArgMatches<'a>, id: &str) -> Option<&'a str>
+    ensures { option_map (λ s. s.now) result ≡ first_of id.now (rows_of (found_of given.now)) }
+{
+    given.get_str(id)
+}
+
+/// The seat that the word spells, where there is one.
+fn seat_in(word: Option<&str>) -> Result<Option<Seat>, WordsFault>
+    ensures ok { IfOk result (λ seat. IsSeatOf (option_map (λ w. w.now) word.entry) seat) }
+    ensures err { IfErr result (λ _. (seat : Option ℕ) → IsSeatOf (option_map (λ w. w.now) word.entry) seat → ⊥) }
+{
+    match word {
         Some(word) => match seat_of(word) {
             Some(seat) => Ok(Some(seat)),
             None => Err(WordsFault::Usage),
@@ -71,8 +133,26 @@ fn seat_in(found: &ArgMatches<'_>) -> Result<Option<Seat>, WordsFault> {
     }
 }
 
+/// What clap finds in the program's words.
+fn matches_of<'a>(alloc: Global, words: &'a [&'a str]) -> Result<ArgMatches<'a>, WordsFault>
+    ensures ok { IfOk result (λ matches. (fault_of program (map (λ word. word.now) words.now) ≡ [])
+        × (subcommand_rows_of matches ≡ subcommand_of program (map (λ word. word.now) words.now))) }
+    ensures err { IfErr result (λ fault. fault_of program (map (λ word. word.now) words.now) ≡ []
+        → fault ≡ WordsFault.Memory) }
+{
+    let Ok(command) = program(alloc) else {
+        return Err(WordsFault::Memory);
+    };
+    match command.try_get_matches_from(words) {
+        Ok(matches) => Ok(matches),
+        Err(error) => Err(WordsFault::of(&error)),
+    }
+}
+
 /// The forms of the program's words.
-fn program<'a>(alloc: Global) -> Result<Command<'a>, AllocError> {
+fn program<'a>(alloc: Global) -> Result<Command<'a>, AllocError>
+    ensures { IfOk result (λ command. app_of command ≡ program) }
+{
     let replay = Command::new(alloc, "replay")
         .arg(file(alloc, "machine"))?
         .arg(
@@ -88,7 +168,10 @@ fn program<'a>(alloc: Global) -> Result<Command<'a>, AllocError> {
         .subcommand(check)
 }
 
-/// A word that names a file.
-fn file<'a>(alloc: Global, id: &'a str) -> Arg<'a> {
+/// The word of a file, which must be there.
+fn file<'a>(alloc: Global, id: &'a str) -> Arg<'a>
+    ensures rule { rule_of result ≡ file id.entry.now }
+    ensures local { result.global ≡ false }
+{
     Arg::new(alloc, id).required(true).action(ArgAction::Set)
 }

@@ -1,0 +1,8 @@
+-- What clap's getter reads, by the rows.
+use Rattle.std.proofs.Common.{◌∙◌}
+use Rattle.clap.proofs.WalkLemmas.{first_value-rows}
+use Rattle.clap.specs.Words.{found_of}
+use Rattle.dtraced.proofs.words.value_in.Goals as goal
+
+pub returns : goal.returns
+returns c = c.get_str.ensures ∙ first_value-rows (found_of c.args.given.now) c.args.id.now
