@@ -3,7 +3,7 @@ use Rattle.std.specs.Prelude.{ℕ}
 use Rattle.dt_alone.specs.declared.verdict.Verdict.{Verdict}
 use Rattle.dt_alone.specs.declared.verdict.Verdict.TheVariants.{Agree}
 use Rattle.dtraced.specs.declared.fault.Fault.{Fault}
-use Rattle.dtraced.specs.declared.fault.Fault.TheVariants.{Device, Usage}
+use Rattle.dtraced.specs.declared.fault.Fault.TheVariants.{Check, Device, Usage}
 use Rattle.std.specs.declared.io.ErrorKind.{ErrorKind}
 use Rattle.std.specs.declared.io.ErrorKind.TheVariants.{InvalidData}
 
@@ -16,6 +16,12 @@ status_of _ = 1
 abbrev pub status_found : Verdict → ℕ
 status_found (Agree _) = 0
 status_found _ = 1
+
+-- The faults of a check whose machine was read: its text isn't judged, or its line couldn't be written.
+abbrev pub IsOfCheck : Fault → Type 0
+IsOfCheck (Check fault) = Unit {0}
+IsOfCheck Device = Unit {0}
+IsOfCheck _ = ⊥
 
 -- words that aren't UTF-8 are words of no form; whatever else fails is a device
 abbrev pub fault_of_words : ErrorKind → Fault

@@ -9,6 +9,7 @@ ghost use Rattle.dt_machine.specs.Sections.{NowhereIfMemory, UnlessMemory};
 ghost use Rattle.dt_machine.specs.declared.fault.MachineFault.{MachineFault};
 ghost use Rattle.dt_world.specs.Faults.{IsOfMachine};
 ghost use Rattle.dt_world.specs.Input.{input_lines, IsRefused};
+ghost use Rattle.dtraced.specs.Status.{IsOfCheck};
 ghost use Rattle.dtraced.specs.Writing.{IsWritten};
 
 use crate::fault::Fault;
@@ -76,6 +77,7 @@ pub fn write_check<W: Write>(
     ensures ok { IfOk result (λ verdict. IsVerdictOn machine.now trail.now verdict
         × Appends (W.contents writer.old) (W.contents writer.new) (verdict_text verdict ++ codes "\n")) }
     ensures refused { result ≡ Err (Fault.Check CheckFault.Text) → IsTrail machine.now.registry trail.now → ⊥ }
+    ensures faults { IfErr result IsOfCheck }
     ensures nothing_written { (fault : CheckFault) → result ≡ Err (Fault.Check fault)
         → Keeps (W.contents writer.old) (W.contents writer.new) }
 {
