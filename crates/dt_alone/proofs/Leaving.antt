@@ -1,16 +1,14 @@
 -- What a clause that is taken leaves.
-use Rattle.std.proofs.Common.{◌≡◌, ℕ, ℤ, pos, ◌+◌, ◌<◌, Bool, true, false, cond, List, [], ◌∷◌, ◌++◌, length, get_or}
+use Rattle.std.proofs.Common.{◌≡◌, ℕ, ℤ, pos, ◌+◌, ◌<◌, cond, List, [], ◌∷◌, ◌++◌, length, get_or}
 use Rattle.std.proofs.Common.{map, take, drop, Option, Some, None, refl, sym, ap, ◌∙◌}
 use Rattle.std.specs.List.{flat_map}
-use Rattle.std.specs.Option.{is_some, option_and_then, option_map, option_to_list}
+use Rattle.std.specs.Option.{is_some, option_and_then, option_to_list}
 use Rattle.std.proofs.lemmas.List.{append-nil, get_or-drop, length-map, map-append, take_more}
 use Rattle.dt_aggstore.specs.History as store
 use Rattle.dt_aggstore.specs.declared.key.Aggregation.{Aggregation}
 use Rattle.dt_aggstore.specs.declared.key.KeyPart.{KeyPart}
 use Rattle.dt_ecb.specs.Shapes.{ShapeForm}
 use Rattle.dt_ecb.specs.declared.parts.Ecb.{Ecb}
-use Rattle.dt_expr.specs.Operators.{holds}
-use Rattle.dt_expr.specs.Scene.{SceneForm}
 use Rattle.dt_expr.specs.declared.text.Value.{Value}
 use Rattle.dt_expr.specs.declared.text.Value.TheVariants as val
 use Rattle.dt_lang.specs.Program.{ClauseForm, form_of_argument, form_of_clause, form_of_statement}
@@ -18,47 +16,13 @@ use Rattle.dt_program.specs.declared.clause.Clause.{Clause}
 use Rattle.dt_program.specs.declared.clause.Aggregation as program
 use Rattle.dt_program.specs.declared.clause.Statement.{Statement}
 use Rattle.dt_program.specs.declared.clause.Statement.TheVariants.{Aggregate, Exit, Stack, Trace, Ustack}
-use Rattle.dt_record.specs.Taking.{Effect, contributed, each, effect, predicate_value, taken_of, TakenForm, taking}
+use Rattle.dt_record.specs.Taking.{TakenForm, taking}
 use Rattle.dt_life.specs.Aggregations.{aggregation_of, contributions_of, given_by, number_given}
 use Rattle.dt_life.specs.Following.{taking_by}
 use Rattle.dt_life.specs.Takings.{Taking, MomentForm, scene_at, taking_of}
 use Rattle.dt_life.specs.Uses.{UseForm, contribution_at, key_at, number_at, split_by, use_by, uses_by}
-use Rattle.dt_life.specs.laws.Giving.{span, span_more, split_given, split_more, uses_more}
+use Rattle.dt_life.specs.laws.Giving.{left_of, span, span_more, split_given, split_more, uses_more}
 use Rattle.dt_life.specs.laws.Takings.{clause_found}
-
--- what a clause leaves that is taken whole
-record Left (scene : SceneForm) (clause : ClauseForm) (form : TakenForm) : Type 0 where
-  effects : List Effect
-  are : each (effect scene) clause.statements ≡ Some effects
-  values : form.values ≡ flat_map contributed effects
-
-left_when : (epid : ℕ) (scene : SceneForm) (clause : ClauseForm) (form : TakenForm) (b : Bool)
-    (p : Option (List Effect)) → each (effect scene) clause.statements ≡ p
-    → cond b (option_map (λ effects. Some (taken_of epid clause.statements effects)) p) (Some None)
-    ≡ Some (Some form) → Left scene clause form
-left_when epid scene clause form false p e h = cc
-left_when epid scene clause form true None e h = cc
-left_when epid scene clause form true (Some effects) e h = record {
-  effects = effects;
-  are = e;
-  values = sym (ap (λ (f : TakenForm). f.values) (some_is (some_is h)));
-}
-  where
-    some_is : {X : Type 0} {a b : X} → Some a ≡ Some b → a ≡ b
-    some_is h = cc
-
-left_by_predicate : (epid : ℕ) (scene : SceneForm) (clause : ClauseForm) (form : TakenForm) (o : Option ℤ)
-    → option_and_then
-    (λ z. cond (holds z) (option_map (λ effects. Some (taken_of epid clause.statements effects))
-    (each (effect scene) clause.statements)) (Some None)) o ≡ Some (Some form) → Left scene clause form
-left_by_predicate epid scene clause form None h = cc
-left_by_predicate epid scene clause form (Some z) h =
-    left_when epid scene clause form (holds z) (each (effect scene) clause.statements) refl h
-
-left_of : (epid : ℕ) (scene : SceneForm) (clause : ClauseForm) (form : TakenForm)
-    → taking epid scene clause ≡ Some (Some form) → Left scene clause form
-left_of epid scene clause form h =
-    left_by_predicate epid scene clause form (predicate_value scene clause.predicate) h
 
 module _ (shapes : List ShapeForm) (in_end : Bool) (m : MomentForm) (clauses : List Clause) (ecb : Ecb)
     (clause : Clause) (inside : ecb.clause < length clauses) (at : clause ≡ get_or clauses ecb.clause clause) where

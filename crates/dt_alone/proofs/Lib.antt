@@ -5,7 +5,6 @@ pub mod Firing
 pub mod Leaving
 pub mod Running
 pub mod Showing
-pub mod Placing
 pub mod Replying
 pub mod Recounting
 pub mod Storing

@@ -54,12 +54,12 @@ use Rattle.dt_life.specs.declared.refusal.Refusal.TheVariants.{Program}
 use Rattle.dt_life.specs.declared.reply.Reply.{Reply}
 use Rattle.dt_life.specs.declared.reply.Reply.TheVariants.{Done, Enabled, Refused, Snapped}
 use Rattle.dt_life.specs.laws.Verdicts.{begun_by_go, destructive_refused, fault_refused, go_taken, read_by_snap}
+use Rattle.dt_life.specs.laws.Placed.{are_both}
 use Rattle.dt_life.specs.laws.Verdicts.{snap_taken, some_trunc, stop_taken, stopped_by, truncated_by, idle_program}
 use Rattle.dt_life.specs.laws.Verdicts.{idle_unset, option_refused, option_taken, program_added, program_verdict}
 use Rattle.dt_life.specs.laws.Verdicts.{set_by}
 use Rattle.dt_life.specs.laws.Lists.{find-map, find_all}
 use Rattle.dt_life.specs.laws.Placed.{are_placed}
-use Rattle.dt_alone.proofs.Placing.{are_both}
 use Rattle.dt_alone.proofs.Running.{Told, has_since, told_read, told_truncated}
 
 pub idle_phase : (phase : Phase) → is_inactive phase ≡ true → phase ≡ Inactive

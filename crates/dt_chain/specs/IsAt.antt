@@ -3,9 +3,9 @@ use Rattle.std.specs.Prelude.{◌≡◌, ◌≤◌, vec_capacity, ◌↔◌, ℕ
 use Rattle.std.specs.Option.{option_map}
 use Rattle.dt_machine.specs.Interest as interest
 use Rattle.dt_chain.specs.Kept.{is_seat_listed, slot_of}
+use Rattle.dt_chain.specs.Limits.{list_count}
 use Rattle.dt_chain.specs.Writes.{Write, published_on}
 use Rattle.dt_chain.specs.declared.entries.Entries.{Entries}
-use Rattle.dt_chain.specs.declared.lists.TheConstants.{LISTS}
 
 -- Entries are at the end of a list of writes: for each seat they keep what its entry says, and each probe lists the
 -- seats whose entries have it.
@@ -16,4 +16,4 @@ pub record EntriesAreAt (writes : List Write) (entries : Entries) : Type 0 where
 
 -- Entries have the room for all that may be published.
 abbrev pub HasListRoom : Entries → Type 0
-HasListRoom entries = LISTS ≤ vec_capacity entries.lists
+HasListRoom entries = list_count ≤ vec_capacity entries.lists

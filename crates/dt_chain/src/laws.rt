@@ -4,6 +4,7 @@ ghost use Rattle.dt_machine.specs.Registry.{Registry};
 ghost use Rattle.dt_cred.specs.declared.firing.Firing.{Firing};
 ghost use Rattle.dt_chain.specs.IsAt.{EntriesAreAt};
 ghost use Rattle.dt_chain.specs.Look.{IsLook};
+ghost use Rattle.dt_chain.specs.Tests.{mask_of};
 ghost use Rattle.dt_chain.specs.Writes.{Write, published_on, seat_of, entry_of, writes_of, last_write_of, SameLastWrites};
 ghost use Rattle.dt_chain.specs.declared.entries.Entries.{Entries};
 
@@ -46,4 +47,10 @@ pub fn last_writes_suffice()
 pub fn copies_agree()
     ensures { (writes others : List Write) (some other : Entries)
         → EntriesAreAt writes some → EntriesAreAt writes other → EntriesAreAt others some → EntriesAreAt others other }
+{}
+
+/// The function by which what a look names is computed is the relation that it stands for.
+pub fn tests_agree()
+    ensures { (registry : Registry) (writes : List Write) (firing : Firing)
+        → IsLook registry writes firing (mask_of registry writes firing) }
 {}

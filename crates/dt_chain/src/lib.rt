@@ -19,7 +19,9 @@ mod seat_set;
 mod write;
 
 pub use entries::Entries;
-pub use laws::{copies_agree, last_write_tells, last_writes_suffice, one_look, own_writes_tell};
+pub use laws::{
+    copies_agree, last_write_tells, last_writes_suffice, one_look, own_writes_tell, tests_agree,
+};
 pub use limit_laws::limits_agree;
 pub use seat::{SEATS, Seat};
 pub use seat_mask::SeatMask;

@@ -1,11 +1,13 @@
 //! What holds of the definitions alone: a program has one verdict, the ECBs and the uses of programs go on from one
 //! another, and each aggregation that is used has a number.
-ghost use Rattle.std.specs.Prelude.{◌≡◌, ◌+◌, ◌++◌, ℕ, List, length, Contains, IsSome};
+ghost use Rattle.std.specs.Prelude.{◌≡◌, ◌≢◌, ◌↔◌, ◌+◌, ◌++◌, ℕ, List, [], length, Contains, IsSome};
 ghost use Rattle.dt_cred.specs.declared.account.Account.{Account};
 ghost use Rattle.dt_machine.specs.Registry.{Registry};
 ghost use Rattle.dt_program.specs.Program.{ArgForm, CallForm, ClauseForm, aggregate};
-ghost use Rattle.dt_ecb.specs.Ecbs.{added, ecbs_of};
+ghost use Rattle.dt_machine.specs.Interest as interest;
+ghost use Rattle.dt_ecb.specs.Ecbs.{EcbForm, added, ecbs_of, of_probe};
 ghost use Rattle.dt_ecb.specs.Enable.{Verdict, IsVerdict};
+ghost use Rattle.dt_ecb.specs.Interest.{interest_of};
 ghost use Rattle.dt_ecb.specs.Shapes.{ShapeForm, named, uses_of};
 
 /// Law: two verdicts on one program are the same.
@@ -47,4 +49,9 @@ pub fn uses_are_named()
 pub fn numbers_stay()
     ensures { (before after : List ShapeForm) (name : List ℕ) → IsSome (named before name)
         → named (before ++ after) name ≡ named before name }
+{}
+
+/// Law: the interest of ECBs has exactly the probes that they name.
+pub fn tests_agree()
+    ensures { (ecbs : List EcbForm) (id : ℕ) → interest.Names (interest_of ecbs) id ↔ (of_probe id ecbs ≢ []) }
 {}

@@ -21,7 +21,9 @@ mod shapes;
 
 pub use enabling::enable;
 pub use fault::{EnableFault, RestrictedAction};
-pub use laws::{ecbs_go_on, numbers_stay, one_verdict, some_verdict, uses_are_named, uses_of_both};
+pub use laws::{
+    ecbs_go_on, numbers_stay, one_verdict, some_verdict, tests_agree, uses_are_named, uses_of_both,
+};
 pub use limit_laws::limits_agree;
 pub use limits::{AGGREGATIONS_MAX, ECBS_MAX};
 pub use matches::listed;

@@ -20,7 +20,7 @@ use Rattle.dt_lang.specs.Cause.{is_word, names_no_variable, is_no_description, n
 use Rattle.dt_lang.specs.Cause.{too_long_at, out_of_range_at, first_cause, cause_of}
 use Rattle.dt_lang.specs.EarlyCause.{cause_of_refusal, early_elsewhere, early_within, early_at, Outcome, AnswersToken}
 use Rattle.dt_lang.specs.Fits.{Fits}
-use Rattle.dt_lang.proofs.ClauseSound.{none_some}
+use Rattle.dt_lang.specs.laws.ClauseSound.{none_some}
 use Rattle.dt_lang.proofs.FitsLaws.{fits_step}
 
 elsewhere_is : (t : Token) → early_elsewhere t

@@ -28,8 +28,8 @@ use Rattle.dt_lang.specs.ClauseState.{shut_exited, shut_key, shut_levels, shut_v
 use Rattle.dt_lang.specs.ClauseState.{from_bounding, from_negating, from_bounded, program_step_from, step}
 use Rattle.dt_lang.specs.Cause.{takes_token, full, too_long_at}
 use Rattle.dt_lang.specs.Fits.{FitsClause, FitsStatement, FitsTarget, FitsKey, FitsSlot, FitsWithin, FitsAt, Fits}
-use Rattle.dt_lang.proofs.ClauseSound.{none_some, same_some}
-use Rattle.dt_lang.proofs.TakesLaws.{or_left}
+use Rattle.dt_lang.specs.laws.ClauseSound.{none_some, same_some}
+use Rattle.dt_lang.specs.laws.TakesLaws.{or_left}
 
 landed : (s next : ProgramState) → Some s ≡ Some next → Fits s → Fits next
 landed s next e h = subst (λ (x : ProgramState). Fits x) (same_some e) h

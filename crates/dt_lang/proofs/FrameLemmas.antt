@@ -14,7 +14,7 @@ use Rattle.dt_lang.specs.Expression.{OPERAND}
 use Rattle.dt_lang.specs.ExpressionState.{FrameForm, opened, before, after, HandForm, nothing, whole, lone, compares}
 use Rattle.dt_lang.specs.ExpressionState.{wants_at, State, state, done, done_from, number_alone, text_alone, leave}
 use Rattle.dt_lang.specs.ExpressionState.{Closed, binds, is_bound, around, close, is_opened}
-use Rattle.dt_lang.proofs.ExpressionSteps.{close_ends}
+use Rattle.dt_lang.specs.laws.ExpressionSteps.{close_ends}
 use Rattle.dt_lang.specs.ExpressionView.{frame_of}
 use Rattle.std.specs.Global.{Vec}
 

@@ -18,8 +18,8 @@ use Rattle.dt_lang.specs.Lexeme.{Lexes, LiesWithin}
 use Rattle.dt_lang.specs.Mode.{mode_after}
 use Rattle.dt_program.specs.Program.{form_of_program}
 use Rattle.dt_lang.specs.Reads.{Answered}
-use Rattle.dt_lang.proofs.TextLaws.{Going, going_on, going_first, refused_at, overlong_at, stray_at, ended_whole}
-use Rattle.dt_lang.proofs.TextLaws.{ended_early}
+use Rattle.dt_lang.specs.laws.TextLaws.{Going, going_on, going_first, refused_at, overlong_at, stray_at, ended_whole}
+use Rattle.dt_lang.specs.laws.TextLaws.{ended_early}
 use Rattle.dt_lang.specs.declared.mode.Mode.TheVariants.{Head}
 
 -- What was read up to this byte.

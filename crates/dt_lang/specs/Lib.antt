@@ -24,3 +24,4 @@ pub use Rattle.dt_program.specs.Program
 pub mod Spelling
 pub mod Word
 pub use Rattle.dt_program.specs.Description
+pub mod laws

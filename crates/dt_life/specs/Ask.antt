@@ -4,7 +4,7 @@ use Rattle.std.specs.String.{string_bytes}
 use Rattle.dt_lang.specs.Description.{DescForm, ReadsDescription}
 use Rattle.dt_program.specs.laws.SomeDescription.{some_description}
 use Rattle.dt_lang.specs.Reads.{Reading, Reads}
-use Rattle.dt_lang.proofs.SomeReading.{some_reading}
+use Rattle.dt_lang.specs.laws.SomeReading.{some_reading}
 use Rattle.dt_life.specs.declared.command.Command.{Command}
 use Rattle.dt_life.specs.declared.command.Command.TheVariants.{Option as SetOption, Enable, Go, Stop, Snap, Agg, Trunc}
 use Rattle.dt_life.specs.declared.command.Command.TheVariants.{Status, List as ListOf, Describe, Close}

@@ -80,7 +80,7 @@ with_event s event = since_then s (event ∷ s.since)
 abbrev pub shapes_in : SetUp → List ShapeForm
 shapes_in s = uses_of s.clauses
 
--- Tracing begins as BEGIN fires, and ends, for good, as end_id fires, or as the session is closed: then end_id doesn't fire, and
+-- Tracing begins as BEGIN fires, and ends, for good, as END fires, or as the session is closed: then END doesn't fire, and
 -- there is no cause.
 abbrev pub phase_after : List TracingEvent → Phase
 phase_after [] = Inactive
@@ -136,7 +136,7 @@ module _ (account : Account) (registry : Registry) where
       (option_map Exit (first_exit (taken_by account registry (ecbs_in s) event)))
       (if seen_count s.since == s.options.histsize then Some History else None)
 
-  -- Something happens, and where tracing ends by it, end_id fires in the same step.
+  -- Something happens, and where tracing ends by it, END fires in the same step.
   abbrev pub happens : SetUp → TracingEvent → SetUp
   happens s event = option_map_or
       (λ end. with_event (with_event s event) (ended end)) (end_by (with_event s event) event) (with_event s event)

@@ -82,7 +82,7 @@ through_exit (t ∷ later) = t ∷ (if is_some (exit_of t) then [] else through_
 abbrev pub faults : List Taking → ℕ
 faults takings = length (filter (λ t. is_none t.came) takings)
 
--- The ECBs of the probe that fires, in order of EPID. After an exit the later ones aren't taken; in end_id an exit is
+-- The ECBs of the probe that fires, in order of EPID. After an exit the later ones aren't taken; in END an exit is
 -- passed over.
 abbrev pub taken_at : Bool → List EcbForm → MomentForm → List Taking
 taken_at in_end ecbs moment =
@@ -98,7 +98,7 @@ moment_in registry process firing = option_and_then
 abbrev pub moment_of : Registry → Firing → Option MomentForm
 moment_of registry firing = moment_in registry (process_of registry firing.pid) firing
 
--- begin_id and end_id fire on processor 0, in a process of the consumer's own: of number 0, with the account's uid and no
+-- BEGIN and END fire on processor 0, in a process of the consumer's own: of number 0, with the account's uid and no
 -- name.
 abbrev pub own_firing : ℕ → Firing
 own_firing probe = record {

@@ -15,6 +15,7 @@ pub mod Giving
 pub mod Stores
 pub mod Verdicts
 pub mod Seeing
+pub mod Beginning
 pub mod Accounts
 pub mod Keeping
 pub mod Phases

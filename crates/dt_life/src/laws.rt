@@ -1,13 +1,20 @@
 //! What holds of the definitions alone: a line has one reply; and the phase of a life, in words.
-ghost use Rattle.std.specs.Prelude.{◌≡◌, ◌≢◌, ◌≤◌, true, List, [], ◌∷◌, Option, Result, Ok};
+ghost use Rattle.std.specs.Prelude.{◌≡◌, ◌≢◌, ◌↔◌, ◌≤◌, true, IsTrue, List, [], ◌∷◌, Option, None, Result, Ok};
 ghost use Rattle.dt_cred.specs.declared.account.Account.{Account};
-ghost use Rattle.dt_machine.specs.Registry.{Registry};
+ghost use Rattle.dt_cred.specs.declared.firing.Firing.{Firing};
+ghost use Rattle.dt_ecb.specs.Interest.{interest_of};
+ghost use Rattle.dt_machine.specs.Interest as interest;
+ghost use Rattle.dt_machine.specs.Registry.{Registry, Belongs};
+ghost use Rattle.dt_machine.specs.Shown.{IsShown};
+ghost use Rattle.dt_life.specs.Acceptance.{IsAcceptedGo};
 ghost use Rattle.dt_life.specs.Answer.{Answer};
 ghost use Rattle.dt_life.specs.Ask.{Ask, go, close};
 ghost use Rattle.dt_life.specs.Ending.{unless_ended, ended_at, ended_by};
 ghost use Rattle.dt_life.specs.Life.{Item, asked, ecbs, has_room, phase, seen_count, set_up, since_then};
 ghost use Rattle.dt_life.specs.Reply.{Replies};
+ghost use Rattle.dt_life.specs.Sees.{Sees};
 ghost use Rattle.dt_life.specs.Takings.{began};
+ghost use Rattle.dt_life.specs.Tests.{is_accepted_go, is_seen};
 ghost use Rattle.dt_life.specs.declared.phase.End.{End};
 ghost use Rattle.dt_life.specs.declared.phase.Phase.TheVariants.{Inactive, Active, Stopped};
 ghost use Rattle.dt_life.specs.declared.refusal.Refusal.{Refusal};
@@ -41,6 +48,8 @@ pub fn phases()
         → phase account registry life ≡ Inactive
         → (item ≡ asked (Ok go) → has_room account registry (set_up account registry life) ≡ true → ⊥)
         → item ≢ asked (Ok close) → phase account registry (item ∷ life) ≡ Inactive }
+    ensures closes { (account : Account) (registry : Registry) (life : List Item)
+        → phase account registry life ≡ Inactive → phase account registry (asked (Ok close) ∷ life) ≡ Stopped None }
     // the `go` begins tracing, which ends at once where a clause of BEGIN exits
     ensures begins { (account : Account) (registry : Registry) (life : List Item)
         → phase account registry life ≡ Inactive → has_room account registry (set_up account registry life) ≡ true
@@ -64,4 +73,25 @@ pub fn ecbs_stay()
 pub fn seen_within_history()
     ensures { (account : Account) (registry : Registry) (life : List Item)
         → seen_count (set_up account registry life).since ≤ (set_up account registry life).options.histsize }
+{}
+
+/// Law: the tests by which it is computed what is seen, and which line begins tracing, are the relations that they stand
+/// for.
+pub fn tests_agree()
+    ensures seen { (account : Account) (registry : Registry) (life : List Item) (firing : Firing)
+        → IsTrue (is_seen account registry life firing) ↔ Sees account registry life firing }
+    ensures go { (account : Account) (registry : Registry) (life : List Item) (line : Result Ask Refusal)
+        → IsTrue (is_accepted_go account registry life line) ↔ IsAcceptedGo account registry life line }
+{}
+
+/// Law: a life sees a firing only by its own interest, which is what is published at its `go`: the firing belongs to the
+/// machine, the interest of the life's ECBs has its probe, and the account is shown it.
+pub fn seen_by_interest()
+    ensures belongs { (account : Account) (registry : Registry) (life : List Item) (firing : Firing)
+        → Sees account registry life firing → Belongs registry firing }
+    ensures interested { (account : Account) (registry : Registry) (life : List Item) (firing : Firing)
+        → Sees account registry life firing
+        → interest.Names (interest_of (ecbs account registry life)) firing.probe }
+    ensures admitted { (account : Account) (registry : Registry) (life : List Item) (firing : Firing)
+        → Sees account registry life firing → IsShown account registry firing }
 {}

@@ -7,7 +7,7 @@ use Rattle.dt_proto.specs.Lines.{LineForm, short_line, long_line}
 use Rattle.dt_proto.specs.Limits.{line_max}
 use Rattle.dt_proto.specs.Splits.{HasNoNewline}
 
--- A line is in its form: more bytes than line_max would be long.
+-- A line is in its form: more than 65,536 bytes would be long.
 abbrev pub IsInForm : LineForm → Type 0
 IsInForm (short_line bytes) = length bytes ≤ line_max
 IsInForm long_line = Unit {0}

@@ -14,7 +14,7 @@ pub data LineForm : Type 0 where
   short_line : (bytes : List ℕ) → LineForm
   long_line : LineForm
 
--- a line of more than line_max bytes is long, whatever they are
+-- a line of more than 65,536 bytes is long, whatever they are
 abbrev pub line_form : List ℕ → LineForm
 line_form bytes = if nat_lt line_max (length bytes) then long_line else short_line bytes
 

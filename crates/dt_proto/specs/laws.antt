@@ -3,7 +3,6 @@
 pub mod Parts
 pub mod Splitting
 pub mod Entries
-pub mod Quota
 pub mod Views
 pub mod Accounts
 pub mod OneLine

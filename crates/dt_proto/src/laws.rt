@@ -3,14 +3,15 @@
 ghost use Rattle.std.specs.Prelude.{◌≡◌, ◌↔◌, ℕ, List, ◌++◌, map, take};
 ghost use Rattle.dt_cred.specs.declared.account.Account.{Account};
 ghost use Rattle.dt_life.specs.Answer.{Answer};
+ghost use Rattle.dt_life.specs.Life.{Item};
 ghost use Rattle.dt_life.specs.Limits.{lines_max};
 ghost use Rattle.dt_machine.specs.Registry.{Registry};
-ghost use Rattle.dt_proto.specs.Alone.{Reached, Alone};
+ghost use Rattle.dt_proto.specs.Alone.{Reached, IsLifeOf, Alone};
 ghost use Rattle.dt_proto.specs.Lines.{all_but_last, parts_of, lines_of, rest_of};
 ghost use Rattle.dt_proto.specs.Reply.{reply_text};
 ghost use Rattle.dt_proto.specs.Splits.{HasNoNewline, Splits, with_newline};
 ghost use Rattle.dt_proto.specs.Trail.{IsTrailOf, TrailEntry, replies_of};
-ghost use Rattle.dt_proto.specs.Views.{seen_view};
+ghost use Rattle.dt_proto.specs.Views.{life_of, seen_view};
 
 use dt_life::one_reply;
 
@@ -35,6 +36,20 @@ pub fn equal_rights()
         → seen_view a registry view ≡ seen_view b registry view }
     ensures alone { (a b : Account) (registry : Registry) (view : List Reached) (answers : List Answer)
         → a.uid ≡ b.uid → a.privs ≡ b.privs → Alone a registry view answers ↔ Alone b registry view answers }
+{}
+
+/// The function by which the life of a view is computed is the relation that it stands for.
+pub fn tests_agree()
+    ensures { (account : Account) (registry : Registry) (view : List Reached) (life : List Item)
+        → IsLifeOf account registry view life ↔ (life ≡ life_of account registry view) }
+{}
+
+/// The seen view has the life of the view, and what is answered to one alone is answered to the other.
+pub fn seen_alike()
+    ensures life { (account : Account) (registry : Registry) (view : List Reached)
+        → life_of account registry (seen_view account registry view) ≡ life_of account registry view }
+    ensures alone { (account : Account) (registry : Registry) (view : List Reached) (answers : List Answer)
+        → Alone account registry view answers ↔ Alone account registry (seen_view account registry view) answers }
 {}
 
 /// The trail of a view is the trail of its seen view: what a session didn't see isn't told.

@@ -25,7 +25,8 @@ mod text;
 pub use asked::{Asked, WholeLine};
 pub use decimal::number_of;
 pub use laws::{
-    equal_rights, first_replies, one_cutting, one_line, one_splitting, trails_are_seen,
+    equal_rights, first_replies, one_cutting, one_line, one_splitting, seen_alike, tests_agree,
+    trails_are_seen,
 };
 pub use limit_laws::limits_agree;
 pub use limits::LINE_MAX;

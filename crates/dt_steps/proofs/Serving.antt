@@ -115,7 +115,7 @@ close_from (Ok (ask.list desc)) h = cc
 close_from (Ok (ask.describe epid)) h = cc
 close_from (Ok ask.close) h = refl
 
-same_test : (a b : Bool) → (a ≡ true → b ≡ true) → (b ≡ true → a ≡ true) → a ≡ b
+pub same_test : (a b : Bool) → (a ≡ true → b ≡ true) → (b ≡ true → a ≡ true) → a ≡ b
 same_test true b h k = sym (h refl)
 same_test false true h k = k refl
 same_test false false h k = refl

@@ -27,7 +27,8 @@ use Rattle.dt_ecb.specs.Interest.{interest_of}
 use Rattle.dt_chain.specs.Tests.{mask_of}
 use Rattle.dt_steps.specs.World.{World, Session, Place, Pending, Due, new_world, number_on, life_in, is_tracing}
 use Rattle.dt_steps.specs.World.{new_session, reached, answered, waiting, may_ask, begins, may_withdraw}
-use Rattle.dt_steps.proofs.Beginning.{begins_from, begins_to, inactive_from}
+use Rattle.dt_life.specs.laws.Beginning.{inactive_from}
+use Rattle.dt_steps.proofs.Beginning.{begins_from, begins_to}
 use Rattle.dt_life.specs.laws.Keeping.{Keeps, may_begin, life-after_line, life-fired, ecbs-go}
 use Rattle.dt_life.specs.laws.Seeing.{seen_from}
 

@@ -1,16 +1,15 @@
 -- The world: what is on each seat, what is published, and which offers are left. No consumer is in it.
-use Rattle.std.specs.Prelude.{ℕ, ◌==◌, ◌&&◌, Bool, true, false, not, List, [], ◌∷◌, Option, Some, None, is_none}
-use Rattle.std.specs.Prelude.{is_some, length, if◌then◌else◌, Result, Ok}
+use Rattle.std.specs.Prelude.{ℕ, ◌==◌, ◌&&◌, Bool, false, not, List, [], ◌∷◌, Option, Some, None, is_none, is_some}
+use Rattle.std.specs.Prelude.{length, if◌then◌else◌}
 use Rattle.std.specs.List.{list_any}
 use Rattle.std.specs.Option.{option_map_or}
 use Rattle.dt_cred.specs.declared.account.Account.{Account}
 use Rattle.dt_machine.specs.Registry.{Registry}
 use Rattle.dt_cred.specs.declared.firing.Firing.{Firing}
 use Rattle.dt_chain.specs.Writes.{Write}
-use Rattle.dt_life.specs.Ask.{Ask, go}
 use Rattle.dt_life.specs.Acceptance.{is_close}
-use Rattle.dt_life.specs.Life.{Item, asked, fired, is_over, set_up, phase, has_room, is_active, is_inactive}
-use Rattle.dt_life.specs.declared.refusal.Refusal.{Refusal}
+use Rattle.dt_life.specs.Life.{Item, asked, fired, phase, is_active}
+use Rattle.dt_life.specs.Tests.{is_accepted_go}
 use Rattle.dt_proto.specs.Alone.{Reached, own_line}
 use Rattle.dt_proto.specs.Line.{ask_in}
 use Rattle.dt_proto.specs.Lines.{LineForm}
@@ -101,10 +100,6 @@ abbrev pub is_closing : Item → Bool
 is_closing (asked line) = is_close line
 is_closing (fired firing) = false
 
-abbrev pub is_go : Result Ask Refusal → Bool
-is_go (Ok go) = true
-is_go _ = false
-
 -- a `go` of the session on a seat is pending
 abbrev pub waits : Place → Bool
 waits place = option_map_or (λ session. is_some session.go) place.present false
@@ -123,9 +118,7 @@ module _ (registry : Registry) where
 
   -- the line is a `go` that is accepted
   unfoldable pub begins : Session → LineForm → Bool
-  begins session line =
-      not (is_over (life_in session)) && (is_inactive (phase session.account registry (life_in session))
-      && (has_room session.account registry (set_up session.account registry (life_in session)) && is_go (ask_in line)))
+  begins session line = is_accepted_go session.account registry (life_in session) (ask_in line)
 
   -- the entry may be withdrawn: the session is not active, and no `go` is pending
   unfoldable pub may_withdraw : Session → Bool

@@ -17,8 +17,9 @@ mod running;
 mod served;
 mod step;
 
+pub use dt_proto::seen_alike;
 pub use engine::Engine;
-pub use laws::{agree_alike, named_by_own, seen_alike, tests_agree, told_alone, worlds_are_sound};
+pub use laws::{agree_alike, named_by_own, told_alone, worlds_are_sound};
 pub use looked::ScriptPlace;
 pub use running::{Ran, run};
 pub use served::{Answered, Finished};

@@ -1,10 +1,9 @@
 //! A session that goes on, with its consumer.
 ghost use Rattle.std.specs.Prelude.{◌≡◌, ◌↔◌, IsTrue};
-ghost use Rattle.dt_life.specs.Answer.{answer_of, refused};
 
 use dt_consumer::{Consumer, Draft};
 use dt_cred::Account;
-use dt_life::{Phase, Refusal, Reply};
+use dt_life::Phase;
 use dt_machine::{Firing, Machine};
 use dt_proto::{Asked, WholeLine, read_line, reply_bytes};
 use std::alloc::{AllocError, Global};
@@ -106,9 +105,8 @@ impl Served {
             });
             return Ok(None);
         }
-        let reply = draft.reply();
-        let is_over = is_over_quota(reply);
-        let text = reply_bytes(alloc, reply)?;
+        let text = reply_bytes(alloc, draft.reply())?;
+        let is_over = draft.is_over_quota();
         self.is_closed = draft.closes();
         self.consumer.apply(machine, draft);
         Ok(Some(Answered { text, is_over }))
@@ -188,11 +186,4 @@ impl Served {
     {
         self.consumer.offer(machine, firing)
     }
-}
-
-/// Whether a reply is the refusal of a line over the quota.
-fn is_over_quota(reply: &Reply) -> bool
-    ensures { IsTrue result ↔ (answer_of reply.now ≡ refused Refusal.Quota) }
-{
-    matches!(reply, Reply::Refused(Refusal::Quota))
 }

@@ -1,4 +1,4 @@
-//! Inputs with their lines, cut at each place, and lines about the limit.
+//! Inputs with their lines, cut at each place, lines about the limit, and long inputs.
 use dt_proto::{Asked, Lines, asked_in, read_line};
 use std::alloc::Global;
 use std::process::Abort;
@@ -152,5 +152,71 @@ fn is_long(rt: &impl Abort, alloc: Global, pieces: [&[u8]; 2], long: bool) -> Re
         found == (2, Some(Asked::Line(b"y".to_vec(alloc)?))),
         "after a line cut at {cut}"
     );
+    Ok(())
+}
+
+/// Inputs of 1,310,770 bytes or more, ten times the longest above: the bytes of each line, and how many lines there are.
+const LONG_INPUTS: &[(usize, usize)] = &[(9, 131_077), (65_536, 21), (1_310_769, 1)];
+
+/// An input of so many lines of this length, and what each of them is.
+fn long_input(alloc: Global, length: usize, count: usize) -> Result<(Vec<u8>, Asked), Fail> {
+    let mut line = vec![in alloc; b'x'; length]?;
+    let asked = if length > 65_536 {
+        Asked::Long
+    } else {
+        Asked::Line(line.to_vec(alloc)?)
+    };
+    line.push(b'\n')?;
+    Ok((line.repeat(alloc, count)?, asked))
+}
+
+#[test]
+fn long_inputs_have_all_their_lines(rt: HostRuntime) -> Result<(), Fail> {
+    let alloc = rt.alloc();
+    for (length, count) in LONG_INPUTS {
+        let (input, wanted) = long_input(alloc, *length, *count)?;
+        let found = lines_in(alloc, &[&input])?;
+        assert!(rt; found.len() == *count, "{count} lines of {length}");
+        assert!(rt;
+            found.iter().all(|line| *line == wanted),
+            "lines of {length}"
+        );
+    }
+    Ok(())
+}
+
+#[test]
+fn long_inputs_are_fed_as_one_piece(rt: HostRuntime) -> Result<(), Fail> {
+    let alloc = rt.alloc();
+    for (length, count) in LONG_INPUTS {
+        let (input, asked) = long_input(alloc, *length, *count)?;
+        let wanted = (length.saturating_add(1), Some(asked));
+        let mut lines = Lines::new(alloc)?;
+        let mut rest = input.as_slice();
+        for place in 0..*count {
+            let found = fed(alloc, &mut lines, rest)?;
+            assert!(rt; found == wanted, "line {place} of {length} bytes");
+            rest = rest.get(found.0..).ok_or("more was used than fed")?;
+        }
+        assert!(rt; rest.is_empty(), "lines of {length} bytes");
+    }
+    Ok(())
+}
+
+#[test]
+fn a_long_input_is_fed_byte_by_byte(rt: HostRuntime) -> Result<(), Fail> {
+    let alloc = rt.alloc();
+    let (input, wanted) = long_input(alloc, 65_536, 21)?;
+    let mut lines = Lines::new(alloc)?;
+    let mut whole = 0usize;
+    for byte in &input {
+        let (used, line) = fed(alloc, &mut lines, &[*byte])?;
+        assert!(rt; used == 1, "after {whole} lines");
+        if let Some(line) = line {
+            assert!(rt; line == wanted, "after {whole} lines");
+            whole = whole.saturating_add(1);
+        }
+    }
+    assert_eq!(rt; whole, 21);
     Ok(())
 }

@@ -1,4 +1,4 @@
-//! What clauses leave, byte by byte, and records back from their bytes.
+//! What clauses leave, byte by byte, and records back from their bytes, up to a megabyte of them.
 use dt_cred::{Mode, Probe, Process};
 use dt_expr::{Scene, Value};
 use dt_lang::{ParseProgram, Program};
@@ -151,5 +151,24 @@ fn reads_records_back(rt: HostRuntime) -> Result<(), Fail> {
         let found = records(alloc, layout, bytes.get(..length).ok_or("too long")?)?;
         assert!(rt; found.as_str() == wanted, "{length}");
     }
+    Ok(())
+}
+
+#[test]
+fn reads_a_megabyte_of_records_back(rt: HostRuntime) -> Result<(), Fail> {
+    let alloc = rt.alloc();
+    let program = parsed(alloc, "read:entry{trace(arg0);trace(epid)}")?;
+    let clause = program.clauses.first().ok_or("no clause")?;
+    let record: &[u8] = &[
+        0, 0, 0, 1, 128, 0, 0, 0, 0, 0, 0, 0, 128, 0, 0, 0, 0, 0, 0, 0,
+    ];
+    // 1,048,560 bytes: as many of these records as the largest buffer holds
+    let bytes = record.repeat(alloc, 52_428)?;
+    let all = " 1:2".repeat(alloc, 52_428)?;
+    let found = records(alloc, Layout::of(clause), &bytes)?;
+    assert!(rt; found == all, "all records");
+    let (_, cut) = bytes.split_last().ok_or("no bytes")?;
+    let found = records(alloc, Layout::of(clause), cut)?;
+    assert!(rt; found.as_str() == "none", "a byte too few");
     Ok(())
 }

@@ -1,10 +1,14 @@
-//! What holds of a replay's trail and a check together.
-ghost use Rattle.std.specs.Prelude.{◌≡◌, ◌⊎◌, ℕ, List, []};
+//! What holds of a replay's trail and a check together, and what the program's words ask for, written out.
+ghost use Rattle.std.specs.Borrow.{Bor};
+ghost use Rattle.std.specs.Prelude.{◌≡◌, ◌⊎◌, ℕ, ⊥, List, [], ◌∷◌, Some, None, codes};
 ghost use Rattle.dt_alone.specs.Verdicts.{IsVerdictOn};
 ghost use Rattle.dt_alone.specs.declared.verdict.Verdict.TheVariants.{Agree};
 ghost use Rattle.dt_machine.specs.Reading.{IsDescribed};
 ghost use Rattle.dt_machine.specs.Registry.{Contents};
 ghost use Rattle.dt_world.specs.Replay.{IsTrailReplay};
+ghost use Rattle.dtraced.specs.Words.{Asks};
+ghost use Rattle.dtraced.specs.declared.words.Words.{Words};
+ghost use Rattle.dtraced.specs.declared.words.Words.TheVariants.{Replay, Check};
 
 use dt_alone::trail_agrees;
 use dt_machine::described_is_sound;
@@ -19,3 +23,17 @@ pub fn written_trails_agree()
     trail_agrees();
     described_is_sound();
 }
+
+/// Law: what the words of a call ask for, by clap's definitions worked out: `dtraced replay m`, `dtraced replay m --trail 5`,
+/// and `dtraced check m t`. Without the trail's file, or with a word too many, they ask for nothing.
+pub fn words_ask()
+    ensures replay { (machine : Bor (List ℕ)) → machine.now ≡ codes "m"
+        → Asks (codes "dtraced" ∷ codes "replay" ∷ codes "m" ∷ []) (Replay machine None) }
+    ensures trail { (machine : Bor (List ℕ)) → machine.now ≡ codes "m"
+        → Asks (codes "dtraced" ∷ codes "replay" ∷ codes "m" ∷ codes "--trail" ∷ codes "5" ∷ []) (Replay machine (Some 5)) }
+    ensures check { (machine trail : Bor (List ℕ)) → machine.now ≡ codes "m" → trail.now ≡ codes "t"
+        → Asks (codes "dtraced" ∷ codes "check" ∷ codes "m" ∷ codes "t" ∷ []) (Check machine trail) }
+    ensures no_trail { (asked : Words) → Asks (codes "dtraced" ∷ codes "check" ∷ codes "m" ∷ []) asked → ⊥ }
+    ensures too_many { (asked : Words)
+        → Asks (codes "dtraced" ∷ codes "replay" ∷ codes "m" ∷ codes "t" ∷ []) asked → ⊥ }
+{}

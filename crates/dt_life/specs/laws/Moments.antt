@@ -1,4 +1,4 @@
--- The moments at which BEGIN and end_id fire.
+-- The moments at which BEGIN and END fire.
 use Rattle.std.proofs.Common.{◌≡◌, ℕ, Option, Some, None, refl, sym, ap, ◌∙◌}
 use Rattle.std.specs.Option.{IsSomeAnd, option_and_then, option_map}
 use Rattle.dt_cred.specs.declared.account.Account.{Account}
@@ -9,7 +9,7 @@ use Rattle.dt_cred.specs.declared.firing.Firing.{Firing}
 use Rattle.dt_life.specs.Takings.{own_firing, own_moment, own_process, MomentForm}
 use Rattle.dt_life.specs.Limits.{end_id}
 
--- the moment of BEGIN or end_id
+-- the moment of BEGIN or END
 pub own_is : (account : Account) (registry : Registry) (id : ℕ) (probe : Probe) (process : Process) (firing : Firing)
     → Some probe ≡ probe_of registry id → process ≡ own_process account → firing ≡ own_firing id
     → own_moment account registry id ≡ Some (record { probe = probe; process = process; firing = firing })

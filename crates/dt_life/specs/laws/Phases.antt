@@ -165,6 +165,11 @@ module _ (account : Account) (registry : Registry) where
   waiting s quiet (fired firing) no_go no_close =
       ap (λ p. phase_of (cond (is_active p) (happens account registry s (seen firing)) s)) quiet ∙ quiet
 
+  -- A `close` before tracing stops it too, without a cause.
+  pub closing : (s : SetUp) → phase_of s ≡ Inactive
+      → phase_of (after_item account registry s (asked (Ok close))) ≡ Stopped None
+  closing s quiet = ap (λ p. phase_of (cond (is_stopped p) s (with_event s closed))) quiet
+
   -- From its `go` on a consumer keeps its clauses, and so its ECBs.
   pub keeping : (s : SetUp) → is_inactive (phase_of s) ≡ false → (item : Item)
       → (after_item account registry s item).clauses ≡ s.clauses

@@ -103,7 +103,7 @@ still_open account registry s event m fires at ordinary none cpu =
     ∙ ap (λ b. of_end (attempts_of (where_taken m.firing.cpu (taken_at b es m) cpu))) ordinary
     ∙ none_where (m.firing.cpu == cpu) (taken_at false es m) (none_at m (of_probe m.firing.probe es))
 
--- pasts with nothing of end_id
+-- pasts with nothing of END
 pub all_last : (account : Account) (registry : Registry) (s : SetUp)
     → ((cpu : ℕ) → of_end (past_in account registry s cpu).events ≡ [])
     → (cpu : ℕ) → EndLast (past_in account registry s cpu) false

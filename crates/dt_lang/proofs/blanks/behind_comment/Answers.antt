@@ -1,6 +1,6 @@
 -- What is to be shown of `behind_comment`.
 use Rattle.std.proofs.Common.{arith}
-use Rattle.dt_lang.proofs.Comments.{before_all, before_next, ends_here, nothing_left}
+use Rattle.dt_lang.specs.laws.Comments.{before_all, before_next, ends_here, nothing_left}
 use Rattle.dt_lang.proofs.blanks.behind_comment.Goals as goal
 
 pub loop-behind-init : goal.loop-behind-init

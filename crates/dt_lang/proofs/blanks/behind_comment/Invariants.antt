@@ -1,6 +1,6 @@
 -- What holds at each turn of a loop of `behind_comment`.
 use Rattle.std.proofs.Common.{◌≤◌, length}
-use Rattle.dt_lang.proofs.Comments.{Before}
+use Rattle.dt_lang.specs.laws.Comments.{Before}
 use Rattle.dt_lang.proofs.blanks.behind_comment.Given as goal
 
 abbrev pub invariant-loop-behind : goal.invariant-loop-behind

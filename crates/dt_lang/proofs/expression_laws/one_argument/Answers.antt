@@ -1,5 +1,5 @@
 -- What is to be shown of `one_argument`.
-use Rattle.dt_lang.proofs.ExpressionLaws.{one_argument}
+use Rattle.dt_lang.specs.laws.ExpressionLaws.{one_argument}
 use Rattle.dt_lang.proofs.expression_laws.one_argument.Goals as goal
 
 pub returns : goal.returns

@@ -1,5 +1,5 @@
 -- What is to be shown of `reading_by_tokens`.
-use Rattle.dt_lang.proofs.ExpressionLaws.{complete, complete_argument, sound, sound_argument, viable}
+use Rattle.dt_lang.specs.laws.ExpressionLaws.{complete, complete_argument, sound, sound_argument, viable}
 use Rattle.dt_lang.proofs.expression_laws.reading_by_tokens.Goals as goal
 
 pub returns : goal.returns

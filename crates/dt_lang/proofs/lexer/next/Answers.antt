@@ -1,6 +1,6 @@
 -- What is to be shown of `next`.
 use Rattle.std.proofs.Common.{arith}
-use Rattle.dt_lang.proofs.Progress.{token_within}
+use Rattle.dt_lang.specs.laws.Progress.{token_within}
 use Rattle.dt_lang.proofs.lexer.next.Goals as goal
 
 pub overflow_add-result : goal.overflow_add-result

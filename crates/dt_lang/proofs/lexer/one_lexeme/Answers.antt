@@ -1,5 +1,5 @@
 -- What is to be shown of `one_lexeme`.
-use Rattle.dt_lang.proofs.Lexemes.{one_lexed, lexed_within}
+use Rattle.dt_lang.specs.laws.Lexemes.{one_lexed, lexed_within}
 use Rattle.dt_lang.proofs.lexer.one_lexeme.Goals as goal
 
 pub returns-clause-one : goal.returns-clause-one

@@ -1,5 +1,5 @@
 -- What is to be shown of `some_lexeme`.
-use Rattle.dt_lang.proofs.Lexemes.{some_lexed}
+use Rattle.dt_lang.specs.laws.Lexemes.{some_lexed}
 use Rattle.dt_lang.proofs.lexer.some_lexeme.Goals as goal
 
 pub returns : goal.returns

@@ -1,5 +1,5 @@
 -- By the laws of lexemes.
-use Rattle.dt_lang.proofs.TextLaws.{one_reading}
+use Rattle.dt_lang.specs.laws.TextLaws.{one_reading}
 use Rattle.dt_lang.proofs.parse.one_reading.Goals as goal
 
 pub returns : goal.returns

@@ -1,5 +1,5 @@
 -- What is to be shown of `sign_at`.
-use Rattle.dt_lang.proofs.Signs.{longest_pair, some_single, no_single}
+use Rattle.dt_lang.specs.laws.Signs.{longest_pair, some_single, no_single}
 use Rattle.dt_lang.proofs.sign.sign_at.Goals as goal
 
 pub returns-in-Some-clause-some : goal.returns-in-Some-clause-some

@@ -1,6 +1,6 @@
 -- What is to be shown of `one_word`.
-use Rattle.dt_lang.proofs.Existence.{some_word}
-use Rattle.dt_lang.proofs.Names.{one_word}
+use Rattle.dt_lang.specs.laws.Existence.{some_word}
+use Rattle.dt_lang.specs.laws.Names.{one_word}
 use Rattle.dt_lang.proofs.word.one_word.Goals as goal
 
 pub returns-clause-some : goal.returns-clause-some

@@ -1,7 +1,7 @@
 -- What is to be shown of `of`.
 use Rattle.std.proofs.Common.{sym, ◌∙◌}
 use Rattle.dt_lang.proofs.Pieces.{finds, commented, head_mode, body_mode}
-use Rattle.dt_lang.proofs.Standing.{stands_found}
+use Rattle.dt_lang.specs.laws.Standing.{stands_found}
 use Rattle.dt_lang.proofs.piece.Piece.of.Goals as goal
 
 pub returns-then-opens_comment : goal.returns-then-opens_comment

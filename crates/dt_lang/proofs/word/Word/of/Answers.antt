@@ -1,5 +1,5 @@
 -- What is to be shown of `of`.
-use Rattle.dt_lang.proofs.Words.{named, unknown}
+use Rattle.dt_lang.specs.laws.Words.{named, unknown}
 use Rattle.dt_lang.proofs.word.Word.of.Goals as goal
 
 pub returns-in-Some : goal.returns-in-Some

@@ -1,12 +1,12 @@
 -- A line was asked of a session.
 use Rattle.std.proofs.Common.{◌≡◌, true, subst}
 use Rattle.dt_life.specs.Answer.{answer_of}
+use Rattle.dt_life.specs.Life.{is_over}
 use Rattle.dt_consumer.specs.Draft.{IsDraftOf}
 use Rattle.dt_proto.specs.Asked.{form_lent}
 use Rattle.dt_proto.specs.Line.{ask_in}
-use Rattle.dt_proto.specs.laws.Quota.{quota_told}
 use Rattle.dt_steps.specs.World.{life_in}
-use Rattle.dt_steps.proofs.Serving.{asked_go, asked_other}
+use Rattle.dt_steps.proofs.Serving.{asked_go, asked_other, same_test}
 use Rattle.dt_steps.proofs.served.Served.ask.Goals as goal
 
 pub returns-then-publishes-clause-asked : goal.returns-then-publishes-clause-asked
@@ -48,5 +48,5 @@ returns-clause-over c = λ session h.
     let drafted : IsDraftOf session.account registry life (ask_in line) draft =
     subst (λ own. IsDraftOf session.account registry life own draft) c.in_ok-asked.ensures.asks
     (c.in_ok-draft.ensures session.account life h.stands) in
-    quota_told session.account registry life line (answer_of c.reply-reply.result.now) c.is_over_quota-is_over.result
-    (c.reply-reply.ensures session.account registry life (ask_in line) drafted) c.is_over_quota-is_over.ensures
+    let told = c.is_over_quota-is_over.ensures session.account registry life (ask_in line) drafted in
+    same_test c.is_over_quota-is_over.result (is_over life) told.0 told.1

@@ -1,0 +1,310 @@
+-- The laws of refusing: a token is refused for the cause that the state says, and where it says none, none holds. For
+-- all
+-- tokens `t` and `ts`, and states `s` with `run start ts ≡ Some s`:
+--
+--     refused    cause_of s t ≡ Some cause → Refused ts t cause
+--     unrefused  cause_of s t ≡ None → Holds ts t cause → ⊥
+--     one_cause  Refused ts t cause → Refused ts t other → cause ≡ other
+use Rattle.std.proofs.Common.{◌≡◌, ◌⊎◌, inl, inr, ℕ, ◌+◌, Bool, true, false, not, ◌&&◌, List, [], ◌∷◌, ◌++◌, Option}
+use Rattle.std.proofs.Common.{Some, None, is_some, refl, sym, ap, ◌∙◌, Decides}
+use Rattle.std.specs.Prelude.{option_and_then}
+use Rattle.dt_expr.specs.declared.scene.NumberVariable.TheVariants as variable
+use Rattle.dt_expr.specs.declared.scene.TextVariable.TheVariants as text_variable
+use Rattle.dt_lang.specs.declared.token.Token.{Token}
+use Rattle.dt_lang.specs.declared.token.Token.TheVariants as token
+use Rattle.dt_lang.specs.declared.word.Action.TheVariants as action
+use Rattle.dt_lang.specs.declared.word.Destructive.{Destructive}
+use Rattle.dt_lang.specs.declared.word.Function.TheVariants as function
+use Rattle.dt_lang.specs.declared.word.Word.{Word}
+use Rattle.dt_lang.specs.declared.word.Word.TheVariants as word
+use Rattle.dt_lang.specs.ExpressionState as expression
+use Rattle.dt_lang.specs.Grammar.{begins, ends, Begins}
+use Rattle.dt_program.specs.Clause.{ArgForm, number, text, ClauseForm}
+use Rattle.dt_lang.specs.Stand.{Slot, predicate, traced, exited, key, value}
+use Rattle.dt_lang.specs.declared.fault.Why.TheVariants.{Syntax}
+use Rattle.dt_lang.specs.Refused.{Cause, because, StatementBegins, IsDestructive, NameStands, a_statement, a_function}
+use Rattle.dt_lang.specs.Refused.{IsNoAction, VariableStands, a_number, a_text, NamesNoVariable, IsNoVariable}
+use Rattle.dt_lang.specs.Refused.{CauseHolds, Refused}
+use Rattle.dt_lang.specs.ClauseState.{PlaceForm, body, assigned, within, bounded, at_lower, at_upper, at_step}
+use Rattle.dt_lang.specs.ClauseState.{ProgramState, program_at, shut, go_on, from_within, program_step_from, step, run}
+use Rattle.dt_lang.specs.ClauseState.{program_start}
+use Rattle.dt_lang.specs.Cause.{too_long_at, out_of_range_at, is_word, names_no_variable, destructive_of}
+use Rattle.dt_lang.specs.Cause.{is_no_description, statement_at, name_may_stand, operand_at, destroys_at, cause_of}
+use Rattle.dt_lang.specs.laws.ExpressionLaws.{foreign}
+use Rattle.dt_lang.specs.laws.ClauseSound.{none_some, same_some}
+use Rattle.dt_lang.specs.laws.ClauseLaws.{Steps, goes_on, begins_on}
+use Rattle.dt_lang.specs.laws.CauseOrder.{Tests, refused_by, unrefused_by}
+pub use Rattle.dt_lang.specs.laws.CauseOrder.{one_cause}
+use Rattle.dt_lang.specs.laws.TakesLaws.{both_left, both_right, wants_where_number, wants_where_text, operand_goes_on}
+use Rattle.dt_lang.specs.laws.TooLongLaws.{too_long_decides}
+use Rattle.dt_lang.specs.laws.RangeLaws.{out_of_range_decides}
+
+-- no word ends what is read for a slot
+shut_word : (cs : List ClauseForm) (c : ClauseForm) (slot : Slot) (w : Word) (a : ArgForm)
+    → shut cs c slot (token.Word w) a ≡ None
+shut_word cs c predicate w (number f) = refl
+shut_word cs c predicate w (text a) = refl
+shut_word cs c traced w a = refl
+shut_word cs c exited w (number f) = refl
+shut_word cs c exited w (text a) = refl
+shut_word cs c (key name keys) w a = refl
+shut_word cs c (value name keys fn) w (number f) = refl
+shut_word cs c (value name keys fn) w (text a) = refl
+
+done_word : (cs : List ClauseForm) (c : ClauseForm) (slot : Slot) (w : Word) (d : Option ArgForm)
+    → option_and_then (shut cs c slot (token.Word w)) d ≡ None
+done_word cs c slot w (Some a) = shut_word cs c slot w a
+done_word cs c slot w None = refl
+
+-- a word that goes on with what is read for a slot goes on with the expression
+within_word : (cs : List ClauseForm) (c : ClauseForm) (slot : Slot) (n : ℕ) (e : expression.State) (w : Word)
+    (next : ProgramState) (o : Option expression.State) → expression.step e (token.Word w) ≡ o
+    → go_on cs c slot n e (token.Word w) o ≡ Some next
+    → (m : expression.State) × (expression.step e (token.Word w) ≡ Some m)
+within_word cs c slot n e w next (Some m) h k = (m, h)
+within_word cs c slot n e w next None h k = absurd (none_some (sym (done_word cs c slot w (expression.done e)) ∙ k))
+
+-- a foreign word doesn't go on there
+within_foreign : (cs : List ClauseForm) (c : ClauseForm) (slot : Slot) (n : ℕ) (e : expression.State) (w : Word)
+    (next : ProgramState) → expression.step e (token.Word w) ≡ None
+    → from_within cs c slot n e (token.Word w) ≡ Some next → ⊥
+within_foreign cs c slot n e w next h k =
+    let r = within_word cs c slot n e w next (expression.step e (token.Word w)) refl k in
+    none_some (sym h ∙ r.1)
+
+statement_place : (cs : List ClauseForm) (c : ClauseForm) (p : PlaceForm) (next : ProgramState)
+    → program_step_from cs c p (token.Word (word.Action action.Trace)) ≡ Some next → statement_at p ≡ true
+statement_place cs c (body begins) next h = refl
+statement_place cs c (within slot n e) next h =
+    absurd (within_foreign cs c slot n e (word.Action action.Trace) next (foreign e _ refl) h)
+statement_place cs c (bounded name keys f at_lower z) next h = absurd (none_some h)
+statement_place cs c (bounded name keys f (at_upper lower) z) next h = absurd (none_some h)
+statement_place cs c (bounded name keys f (at_step lower upper) z) next h = absurd (none_some h)
+statement_place cs c _ next h = absurd (none_some h)
+
+function_place : (cs : List ClauseForm) (c : ClauseForm) (p : PlaceForm) (next : ProgramState)
+    → program_step_from cs c p (token.Word (word.Function function.Count)) ≡ Some next → name_may_stand p ≡ true
+function_place cs c (body begins) next h = refl
+function_place cs c (assigned name keys) next h = refl
+function_place cs c (within slot n e) next h =
+    absurd (within_foreign cs c slot n e (word.Function function.Count) next (foreign e _ refl) h)
+function_place cs c (bounded name keys f at_lower z) next h = absurd (none_some h)
+function_place cs c (bounded name keys f (at_upper lower) z) next h = absurd (none_some h)
+function_place cs c (bounded name keys f (at_step lower upper) z) next h = absurd (none_some h)
+function_place cs c _ next h = absurd (none_some h)
+
+number_place : (cs : List ClauseForm) (c : ClauseForm) (p : PlaceForm) (next : ProgramState)
+    → program_step_from cs c p (token.Word (word.Number variable.Pid)) ≡ Some next → operand_at p ≡ true
+number_place cs c (within slot n e) next h =
+    let r = within_word cs c slot n e (word.Number variable.Pid) next (expression.step e _) refl h in
+    wants_where_number e r.0 r.1
+number_place cs c (body begins) next h = absurd (none_some h)
+number_place cs c (body ends) next h = absurd (none_some h)
+number_place cs c (bounded name keys f at_lower z) next h = absurd (none_some h)
+number_place cs c (bounded name keys f (at_upper lower) z) next h = absurd (none_some h)
+number_place cs c (bounded name keys f (at_step lower upper) z) next h = absurd (none_some h)
+number_place cs c _ next h = absurd (none_some h)
+
+text_place : (cs : List ClauseForm) (c : ClauseForm) (p : PlaceForm) (next : ProgramState)
+    → program_step_from cs c p (token.Word (word.Text text_variable.Execname)) ≡ Some next → operand_at p ≡ true
+text_place cs c (within slot n e) next h =
+    let r = within_word cs c slot n e (word.Text text_variable.Execname) next (expression.step e _) refl h in
+    wants_where_text e r.0 r.1
+text_place cs c (body begins) next h = absurd (none_some h)
+text_place cs c (body ends) next h = absurd (none_some h)
+text_place cs c (bounded name keys f at_lower z) next h = absurd (none_some h)
+text_place cs c (bounded name keys f (at_upper lower) z) next h = absurd (none_some h)
+text_place cs c (bounded name keys f (at_step lower upper) z) next h = absurd (none_some h)
+text_place cs c _ next h = absurd (none_some h)
+
+-- what steps from places
+statement_steps : (cs : List ClauseForm) (c : ClauseForm) (p : PlaceForm) → statement_at p ≡ true
+    → Steps (program_at cs c p) (token.Word (word.Action action.Trace))
+unfolding step
+statement_steps cs c (body begins) e = record { next = _; steps = refl }
+statement_steps cs c _ e = cc
+
+name_steps : (cs : List ClauseForm) (c : ClauseForm) (p : PlaceForm) → name_may_stand p ≡ true
+    → Steps (program_at cs c p) (token.Word (word.Action action.Trace))
+    ⊎ Steps (program_at cs c p) (token.Word (word.Function function.Count))
+unfolding step
+name_steps cs c (body begins) e = inl (record { next = _; steps = refl })
+name_steps cs c (assigned name keys) e = inr (record { next = _; steps = refl })
+name_steps cs c _ e = cc
+
+within_steps : (cs : List ClauseForm) (c : ClauseForm) (slot : Slot) (n : ℕ) (e next : expression.State) (t : Token)
+    → expression.step e t ≡ Some next → Steps (program_at cs c (within slot n e)) t
+unfolding step
+within_steps cs c slot n e next t h = record { next = program_at cs c (within slot (n + 1) next); steps = rw h refl }
+
+operand_steps : (cs : List ClauseForm) (c : ClauseForm) (p : PlaceForm) → operand_at p ≡ true
+    → Steps (program_at cs c p) (token.Word (word.Number variable.Pid))
+    ⊎ Steps (program_at cs c p) (token.Word (word.Text text_variable.Execname))
+operand_steps cs c (within slot n e) h = elim (operand_goes_on e h) [
+  | inl k ↦ inl (within_steps cs c slot n e k.0 _ k.1)
+  | inr k ↦ inr (within_steps cs c slot n e k.0 _ k.1)
+]
+operand_steps cs c _ h = cc
+
+module _ (ts : List Token) (t : Token) (s : ProgramState) (h : run program_start ts ≡ Some s) where
+  statement_where : StatementBegins ts → statement_at s.place ≡ true
+  unfolding step
+  statement_where b =
+      let k = goes_on ts s _ h b in statement_place s.clauses s.clause s.place k.next k.steps
+
+  statement_there : statement_at s.place ≡ true → StatementBegins ts
+  statement_there e = begins_on ts s _ h (statement_steps s.clauses s.clause s.place e)
+
+  name_where : NameStands ts → name_may_stand s.place ≡ true
+  unfolding step
+  name_where (a_statement b) = let k =
+      goes_on ts s _ h b in from_statement s.place (statement_place s.clauses s.clause s.place k.next k.steps)
+    where
+      from_statement : (p : PlaceForm) → statement_at p ≡ true → name_may_stand p ≡ true
+      from_statement (body begins) e = refl
+      from_statement _ e = cc
+  name_where (a_function b) =
+      let k = goes_on ts s _ h b in function_place s.clauses s.clause s.place k.next k.steps
+
+  name_there : name_may_stand s.place ≡ true → NameStands ts
+  name_there e = elim (name_steps s.clauses s.clause s.place e) [
+    | inl k ↦ a_statement (begins_on ts s _ h k)
+    | inr k ↦ a_function (begins_on ts s _ h k)
+  ]
+
+  operand_where : VariableStands ts → operand_at s.place ≡ true
+  unfolding step
+  operand_where (a_number b) =
+      let k = goes_on ts s _ h b in number_place s.clauses s.clause s.place k.next k.steps
+  operand_where (a_text b) = let k = goes_on ts s _ h b in text_place s.clauses s.clause s.place k.next k.steps
+
+  operand_there : operand_at s.place ≡ true → VariableStands ts
+  operand_there e = elim (operand_steps s.clauses s.clause s.place e) [
+    | inl k ↦ a_number (begins_on ts s _ h k)
+    | inr k ↦ a_text (begins_on ts s _ h k)
+  ]
+
+  syntax_decides : Decides (not (is_some (step s t))) (Begins (ts ++ (t ∷ [])) → ⊥)
+  syntax_decides = (λ e b. go (step s t) (goes_on ts s t h b) e, λ n. back (step s t) refl n)
+    where
+      go : (o : Option ProgramState) → Steps s t → not (is_some (step s t)) ≡ true → ⊥
+      go o k e = let i : not (is_some (step s t)) ≡ false =
+          ap (λ (x : Option ProgramState). not (is_some x)) k.steps in cc
+
+      back : (o : Option ProgramState) → step s t ≡ o → (Begins (ts ++ (t ∷ [])) → ⊥) → not (is_some o) ≡ true
+      back None k n = refl
+      back (Some next) k n = absurd (n (begins_on ts s t h (record { next = next; steps = k })))
+
+-- tests on tokens alone
+is_word_is : (t : Token) → is_word t ≡ true → (w : Word) × (t ≡ token.Word w)
+is_word_is (token.Word w) e = (w, refl)
+is_word_is _ e = cc
+
+is_word_true : (t : Token) (w : Word) → t ≡ token.Word w → is_word t ≡ true
+is_word_true t w e = ap is_word e
+
+no_variable_is : (t : Token) → names_no_variable t ≡ true → NamesNoVariable t
+no_variable_is (token.Word (word.Number v)) e = cc
+no_variable_is (token.Word (word.Text v)) e = cc
+no_variable_is (token.Word w) e = tt
+no_variable_is _ e = cc
+
+no_variable_true : (t : Token) → NamesNoVariable t → names_no_variable t ≡ true
+no_variable_true (token.Word (word.Number v)) h = absurd h
+no_variable_true (token.Word (word.Text v)) h = absurd h
+no_variable_true (token.Word w) h = refl
+no_variable_true _ h = absurd h
+
+no_description_decides : (t : Token) → Decides (is_no_description t) (t ≡ token.Description None)
+no_description_decides t = (λ e. go t e, λ e. ap is_no_description e)
+  where
+    go : (t : Token) → is_no_description t ≡ true → t ≡ token.Description None
+    go (token.Description None) e = refl
+    go _ e = cc
+
+destructive_is : (t : Token) (what : Destructive) → destructive_of t ≡ Some what
+    → t ≡ token.Word (word.Destructive what)
+destructive_is (token.Word (word.Destructive other)) what e =
+    ap (λ (x : Destructive). token.Word (word.Destructive x)) (same_some e)
+destructive_is _ what e = absurd (none_some e)
+
+destroys_is : (p : PlaceForm) (t : Token) (what : Destructive) → destroys_at p t ≡ Some what
+    → (t ≡ token.Word (word.Destructive what)) × (statement_at p ≡ true)
+destroys_is (body begins) t what e = (destructive_is t what e, refl)
+destroys_is _ t what e = absurd (none_some e)
+
+destroys_true : (p : PlaceForm) (t : Token) (what : Destructive) → t ≡ token.Word (word.Destructive what)
+    → statement_at p ≡ true → destroys_at p t ≡ Some what
+destroys_true (body begins) t what e k = ap destructive_of e
+destroys_true _ t what e k = cc
+
+false_of_not : (b : Bool) → not b ≡ true → b ≡ true → ⊥
+false_of_not true e k = cc
+false_of_not false e k = cc
+
+module _ (ts : List Token) (t : Token) (s : ProgramState) (h : run program_start ts ≡ Some s) where
+  action_is : is_word t && (name_may_stand s.place && not (is_some (step s t))) ≡ true → IsNoAction ts t
+  action_is e =
+      let w = is_word_is t (both_left _ _ e) in
+      let k = both_right (is_word t) _ e in
+      record {
+        word = w.0;
+        is_word = w.1;
+        stands = name_there ts t s h (both_left _ _ k);
+        unfit = (syntax_decides ts t s h).0 (both_right (name_may_stand s.place) _ k);
+      }
+
+  action_true : IsNoAction ts t → is_word t && (name_may_stand s.place && not (is_some (step s t))) ≡ true
+  action_true k =
+      let a = is_word_true t k.word k.is_word in
+      let b = name_where ts t s h k.stands in
+      let c = (syntax_decides ts t s h).1 k.unfit in
+      rw (a, b, c) refl
+
+  variable_is : names_no_variable t && operand_at s.place ≡ true → IsNoVariable ts t
+  variable_is e = record {
+    unknown = no_variable_is t (both_left _ _ e);
+    stands = operand_there ts t s h (both_right (names_no_variable t) _ e);
+  }
+
+  variable_true : IsNoVariable ts t → names_no_variable t && operand_at s.place ≡ true
+  variable_true k = rw (no_variable_true t k.unknown, operand_where ts t s h k.stands) refl
+
+  destructive_there : (what : Destructive) → destroys_at s.place t ≡ Some what → IsDestructive ts t what
+  destructive_there what e =
+      let k = destroys_is s.place t what e in
+      record { names = k.0; stands = statement_there ts t s h k.1 }
+
+  destructive_where : (what : Destructive) → IsDestructive ts t what → destroys_at s.place t ≡ Some what
+  destructive_where what k = destroys_true s.place t what k.names (statement_where ts t s h k.stands)
+
+  tests : Tests ts t (too_long_at s.clauses s.clause s.place t) (destroys_at s.place t) (is_no_description t)
+      (is_word t && (name_may_stand s.place && not (is_some (step s t)))) (names_no_variable t && operand_at s.place)
+      (out_of_range_at s.place t) (not (is_some (step s t)))
+  tests = record {
+    too_long_is = too_long_decides ts t s h;
+    destructive_is = destructive_there;
+    is_destructive = destructive_where;
+    probe_is = no_description_decides t;
+    action_is = (action_is, action_true);
+    variable_is = (variable_is, variable_true);
+    range_is = out_of_range_decides ts t s h;
+    syntax_is = syntax_decides ts t s h;
+  }
+
+  pub refused : (cause : Cause) → cause_of s t ≡ Some cause → Refused ts t cause
+  unfolding cause_of
+  refused cause e = refused_by ts t _ _ _ _ _ _ _ cause tests e
+
+  pub unrefused : cause_of s t ≡ None → (cause : Cause) → CauseHolds ts t cause → ⊥
+  unfolding cause_of
+  unrefused e cause k = unrefused_by ts t _ _ _ _ _ _ _ tests e cause k
+
+  -- what is not refused leads on
+  pub unrefused_steps : cause_of s t ≡ None → Steps s t
+  unrefused_steps e = go (step s t) refl
+    where
+      go : (o : Option ProgramState) → step s t ≡ o → Steps s t
+      go None k = absurd (unrefused e (because Syntax)
+          ((syntax_decides ts t s h).0 (ap (λ (x : Option ProgramState). not (is_some x)) k)))
+      go (Some next) k = record { next = next; steps = k }

@@ -1,0 +1,381 @@
+-- What is read as a program leads through the states of its reading to its end.
+use Rattle.std.proofs.Common.{◌≡◌, ◌≢◌, ℕ, ◌+◌, leb, true, false, ◌&&◌, List, [], ◌∷◌, ◌++◌, length, Option, Some, None}
+use Rattle.std.proofs.Common.{refl, sym, ap, ◌∙◌, append_assoc, ℤ, le-leb, add-zero, suc, arith}
+use Rattle.std.specs.Prelude.{option_and_then}
+use Rattle.dt_expr.specs.Form.{Form}
+use Rattle.dt_program.specs.Description.{DescForm}
+use Rattle.dt_program.specs.declared.clause.TheConstants.{FRAMES_MAX}
+use Rattle.dt_lang.specs.declared.token.Sign.TheVariants as sign
+use Rattle.dt_lang.specs.declared.token.Token.{Token}
+use Rattle.dt_lang.specs.declared.token.Token.TheVariants as token
+use Rattle.dt_lang.specs.declared.word.Function.{Function}
+use Rattle.dt_lang.specs.declared.word.Function.TheVariants as function
+use Rattle.dt_lang.specs.ExpressionState as expression
+use Rattle.dt_lang.specs.ExpressionState.{IsRead, ends_argument}
+use Rattle.dt_lang.specs.Grammar.{ReadsHead, a_description, another, ReadsOpening, always, ReadsKeys, a_key}
+use Rattle.dt_lang.specs.Grammar.{ReadsTarget, bare, ReadsConstant, plain, negative, ReadsBounds, by_one, stepped}
+use Rattle.dt_lang.specs.Grammar.{call_of, ReadsCall, counting, of_one, in_levels, IsFrameCount, ReadsStatement}
+use Rattle.dt_lang.specs.Grammar.{tracing, of_stack, of_ustack, exiting, aggregating, Spot, begins, ends, ReadsBody}
+use Rattle.dt_lang.specs.Grammar.{nothing, stated, separated, ReadsClause, a_clause, ReadsClauses, ReadsProgram}
+use Rattle.dt_lang.specs.Grammar as grammar
+use Rattle.dt_program.specs.Clause.{ArgForm, number, CallForm, lquantize, StatementForm, aggregate, ClauseForm}
+use Rattle.dt_lang.specs.Stand.{HeadStands, BodyStands, KeysStand, TargetStands, Slot, predicate, traced, exited, key}
+use Rattle.dt_lang.specs.Stand.{value, divides_in, SlotOpens}
+use Rattle.dt_lang.specs.Stand as stand
+use Rattle.dt_lang.specs.ClauseState.{BoundForm, at_lower, at_upper, at_step, outside, described, body, keyed, assigned}
+use Rattle.dt_lang.specs.ClauseState.{within, bounding, bounded, ProgramState, program_at, headed, ended, entered}
+use Rattle.dt_lang.specs.ClauseState.{function_given, shut, step, run, program_start, whole, finished}
+use Rattle.dt_lang.specs.laws.ExpressionLaws.{complete, complete_argument}
+use Rattle.dt_lang.specs.laws.ExpressionLaws as laws
+use Rattle.dt_lang.specs.laws.Reading.{split_last, split_two}
+
+pub run-append : (ts us : List Token) (s : ProgramState) → run s (ts ++ us)
+    ≡ option_and_then (λ next. run next us) (run s ts)
+unfolding run
+run-append [] us s = refl
+run-append (t ∷ ts) us s = go (step s t) (λ next. run-append ts us next)
+  where
+    go : (o : Option ProgramState)
+        → ((next : ProgramState) → run next (ts ++ us) ≡ option_and_then (λ m. run m us) (run next ts))
+        → option_and_then (λ next. run next (ts ++ us)) o
+        ≡ option_and_then (λ next. run next us) (option_and_then (λ next. run next ts) o)
+    go None again = refl
+    go (Some next) again = again next
+
+-- some tokens, and then others
+pub run_on : (s middle last : ProgramState) (ts us : List Token) → run s ts ≡ Some middle → run middle us ≡ Some last
+    → run s (ts ++ us) ≡ Some last
+run_on s middle last ts us h k = run-append ts us s ∙ rw h k
+
+-- the rest is read where the first tokens lead
+pub run_over : (s middle : ProgramState) (ts us : List Token) → run s ts ≡ Some middle → run s (ts ++ us)
+    ≡ run middle us
+run_over s middle ts us h = run-append ts us s ∙ rw h refl
+
+-- one more token
+pub run_step : (s middle last : ProgramState) (ts : List Token) (t : Token) → run s ts ≡ Some middle
+    → step middle t ≡ Some last → run s (ts ++ (t ∷ [])) ≡ Some last
+unfolding run
+run_step s middle last ts t h k = run_over s middle ts (t ∷ []) h ∙ rw k refl
+
+pub step_within : (cs : List ClauseForm) (c : ClauseForm) (slot : Slot) (n : ℕ) (e next : expression.State) (t : Token)
+    → expression.step e t ≡ Some next
+    → step (program_at cs c (within slot n e)) t ≡ Some (program_at cs c (within slot (n + 1) next))
+unfolding step
+step_within cs c slot n e next t h = rw h refl
+
+pub step_shut : (cs : List ClauseForm) (c : ClauseForm) (slot : Slot) (n : ℕ) (e : expression.State) (a : ArgForm)
+    (t : Token) → expression.step e t ≡ None → expression.done e ≡ Some a
+    → step (program_at cs c (within slot n e)) t ≡ shut cs c slot t a
+unfolding step
+step_shut cs c slot n e a t h d = rw (h, d) refl
+
+-- what is read for a slot
+pub run_within : (cs : List ClauseForm) (c : ClauseForm) (slot : Slot) (ts : List Token) (n : ℕ)
+    (e next : expression.State) → expression.run e ts ≡ Some next
+    → run (program_at cs c (within slot n e)) ts ≡ Some (program_at cs c (within slot (n + length ts) next))
+unfolding run expression.run
+run_within cs c slot [] n e next h =
+    let k : e ≡ next = cc in
+    rw (k, add-zero n) refl
+run_within cs c slot (t ∷ ts) n e next h =
+    go (expression.step e t) refl h (λ m r. run_within cs c slot ts (n + 1) m next r)
+  where
+    go : (o : Option expression.State) → expression.step e t ≡ o
+        → option_and_then (λ m. expression.run m ts) o ≡ Some next
+        → ((m : expression.State) → expression.run m ts ≡ Some next
+        → run (program_at cs c (within slot (n + 1) m)) ts
+        ≡ Some (program_at cs c (within slot ((n + 1) + length ts) next)))
+        → run (program_at cs c (within slot n e)) (t ∷ ts)
+        ≡ Some (program_at cs c (within slot (n + length (t ∷ ts)) next))
+    go (Some m) k r again =
+        let i : (n + 1) + length ts ≡ n + suc (length ts) = omega arith in
+        rw (step_within cs c slot n e m t k)
+        (again m r ∙ ap (λ (x : ℕ). Some (program_at cs c (within slot x next))) i)
+    go None k r again = cc
+
+-- what is read for a slot, with the token that ends it
+pub slot_over : (cs : List ClauseForm) (c : ClauseForm) (slot : Slot) (ts us : List Token) (a : ArgForm) (t : Token)
+    (next : ProgramState) → IsRead (divides_in slot) ts a → ends_argument (divides_in slot) t ≡ true
+    → shut cs c slot t a ≡ Some next → run (entered cs c slot) (ts ++ (t ∷ us)) ≡ run next us
+unfolding run
+slot_over cs c slot ts us a t next h k e =
+    let i = laws.ends (divides_in slot) ts h.at a t h.runs h.is_done k in
+    let j = run_within cs c slot ts 0 (expression.start (divides_in slot)) h.at h.runs in
+    run_over _ _ ts (t ∷ us) j ∙ rw (step_shut cs c slot (0 + length ts) h.at a t i h.is_done, e) refl
+
+-- statements
+frames_true : (n : ℕ) → IsFrameCount n → leb 1 n && leb n FRAMES_MAX ≡ true
+frames_true n h = rw (le-leb 1 n h.some, le-leb n FRAMES_MAX h.few) refl
+
+given_value : (cs : List ClauseForm) (c : ClauseForm) (name : List ℕ) (keys : List ArgForm) (fn : Function) (f : Form)
+    (call : CallForm) → call_of fn f ≡ Some call → function_given cs c name keys fn ≡ entered cs c (value name keys fn)
+given_value cs c name keys function.Count f call h = cc
+given_value cs c name keys function.Sum f call h = refl
+given_value cs c name keys function.Avg f call h = refl
+given_value cs c name keys function.Min f call h = refl
+given_value cs c name keys function.Max f call h = refl
+given_value cs c name keys function.Quantize f call h = refl
+given_value cs c name keys function.Lquantize f call h = refl
+
+pub constant_over : (cs : List ClauseForm) (c : ClauseForm) (name : List ℕ) (keys : List ArgForm) (f : Form)
+    (b : BoundForm) (ts us : List Token) (z : ℤ) → ReadsConstant ts z
+    → run (program_at cs c (bounding name keys f b)) (ts ++ us) ≡ run (program_at cs c (bounded name keys f b z)) us
+unfolding run step
+constant_over cs c name keys f b _ us _ (plain n) = refl
+constant_over cs c name keys f b _ us _ (negative n) = refl
+
+-- bounds and the `)` behind them, where an `lquantize`'s value was read
+bounds_lead : (cs : List ClauseForm) (c : ClauseForm) (name : List ℕ) (keys : List ArgForm) (f : Form)
+    (ts us : List Token) (lower upper by : ℤ) → IsRead true ts (number f) → ReadsBounds us lower upper by
+    → run (entered cs c (value name keys function.Lquantize)) (ts ++ (us ++ (token.Sign sign.CloseParen ∷ [])))
+    ≡ Some (ended cs c (aggregate name keys (lquantize f lower upper by)))
+unfolding run step
+bounds_lead cs c name keys f ts _ _ _ _ r (by_one vs ws lower upper h k) =
+    rw append_assoc
+    (slot_over cs c (value name keys function.Lquantize) ts _ (number f) (token.Sign sign.Comma) _ r refl refl
+    ∙ constant_over cs c name keys f at_lower vs _ lower h
+    ∙ constant_over cs c name keys f (at_upper lower) ws _ upper k)
+bounds_lead cs c name keys f ts _ _ _ _ r (stepped vs ws xs lower upper by h k l) =
+    rw append_assoc
+    (slot_over cs c (value name keys function.Lquantize) ts _ (number f) (token.Sign sign.Comma) _ r refl refl
+    ∙ constant_over cs c name keys f at_lower vs _ lower h
+    ∙ ap (λ (x : List Token). run (program_at cs c (bounding name keys f (at_upper lower))) x)
+    (append_assoc ws (token.Sign sign.Comma ∷ xs) (token.Sign sign.CloseParen ∷ []))
+    ∙ constant_over cs c name keys f (at_upper lower) ws _ upper k
+    ∙ constant_over cs c name keys f (at_step lower upper) xs _ by l)
+
+call_leads : (cs : List ClauseForm) (c : ClauseForm) (name : List ℕ) (keys : List ArgForm) (ts : List Token)
+    (call : CallForm) → ReadsCall ts call
+    → run (program_at cs c (assigned name keys)) ts ≡ Some (ended cs c (aggregate name keys call))
+unfolding run step
+call_leads cs c name keys _ _ counting = refl
+call_leads cs c name keys _ _ (of_one fn ts f call m h) =
+    rw (given_value cs c name keys fn f call m)
+    (slot_over cs c (value name keys fn) ts [] (number f) (token.Sign sign.CloseParen) _ (complete true ts f h) refl
+    (rw m refl))
+call_leads cs c name keys _ _ (in_levels ts us f lower upper by h k) =
+    bounds_lead cs c name keys f ts us lower upper by (complete true ts f h) k
+
+-- where keys lead: into the last of them
+pub record KeysLead (cs : List ClauseForm) (c : ClauseForm) (name : List ℕ) (ts : List Token) (keys : List ArgForm) :
+    Type 0 where
+  pub before : List ArgForm
+  pub last : ArgForm
+  pub keys_are : keys ≡ before ++ (last ∷ [])
+  pub tokens : List Token
+  pub read : IsRead true tokens last
+  pub count : ℕ
+  pub runs : run (entered cs c (key name [])) ts ≡ Some (program_at cs c (within (key name before) count read.at))
+
+-- behind keys a `,` or a `]` leads on
+pub key_ends : (cs : List ClauseForm) (c : ClauseForm) (name : List ℕ) (ts : List Token) (keys : List ArgForm)
+    (t : Token) (next : ProgramState) (h : KeysLead cs c name ts keys) → ends_argument true t ≡ true
+    → shut cs c (key name h.before) t h.last ≡ Some next
+    → run (entered cs c (key name [])) (ts ++ (t ∷ [])) ≡ Some next
+key_ends cs c name ts keys t next h k e =
+    let i = laws.ends true h.tokens h.read.at h.last t h.read.runs h.read.is_done k in
+    run_step _ _ next ts t h.runs (step_shut cs c (key name h.before) h.count h.read.at h.last t i h.read.is_done ∙ e)
+
+pub keys_lead : (cs : List ClauseForm) (c : ClauseForm) (name : List ℕ) (ts : List Token) (keys : List ArgForm)
+    → ReadsKeys ts keys → KeysLead cs c name ts keys
+keys_lead cs c name _ _ (a_key ts a h) =
+    let r = complete_argument ts a h in
+    record {
+      before = [];
+      last = a;
+      keys_are = refl;
+      tokens = ts;
+      read = r;
+      count = 0 + length ts;
+      runs = run_within cs c (key name []) ts 0 _ r.at r.runs;
+    }
+keys_lead cs c name _ _ (grammar.another ts us keys a h k) =
+    let l = keys_lead cs c name ts keys h in
+    let r = complete_argument us a k in
+    let first : run (entered cs c (key name [])) (ts ++ (token.Sign sign.Comma ∷ []))
+    ≡ Some (entered cs c (key name keys))
+    = key_ends cs c name ts keys (token.Sign sign.Comma) _ l refl
+    (ap (λ (x : List ArgForm). Some (entered cs c (key name x))) (sym l.keys_are)) in
+    let all : run (entered cs c (key name [])) ((ts ++ (token.Sign sign.Comma ∷ [])) ++ us)
+    ≡ Some (program_at cs c (within (key name keys) (0 + length us) r.at))
+    = run_on _ _ _ (ts ++ (token.Sign sign.Comma ∷ [])) us first
+    (run_within cs c (key name keys) us 0 _ r.at r.runs) in
+    record {
+      before = keys;
+      last = a;
+      keys_are = refl;
+      tokens = us;
+      read = r;
+      count = 0 + length us;
+      runs = rw append_assoc at all;
+    }
+
+-- an aggregation with its keys, and `=`
+target_over : (cs : List ClauseForm) (c : ClauseForm) (name : List ℕ) (keys : List ArgForm) (ts us : List Token)
+    → ReadsTarget ts name keys
+    → run (program_at cs c (body begins)) (ts ++ (token.Sign sign.Equal ∷ us))
+    ≡ run (program_at cs c (assigned name keys)) us
+unfolding run step
+target_over cs c _ _ _ us (bare name) = refl
+target_over cs c _ _ _ us (grammar.keyed name ts keys h) =
+    let l = keys_lead cs c name ts keys h in
+    run_over (entered cs c (key name [])) (program_at cs c (keyed name keys))
+    (ts ++ (token.Sign sign.CloseBracket ∷ []))
+    (token.Sign sign.Equal ∷ us)
+    (key_ends cs c name ts keys (token.Sign sign.CloseBracket) _ l refl
+    (ap (λ (x : List ArgForm). Some (program_at cs c (keyed name x))) (sym l.keys_are)))
+
+statement_leads : (cs : List ClauseForm) (c : ClauseForm) (ts : List Token) (s : StatementForm) → ReadsStatement ts s
+    → run (program_at cs c (body begins)) ts ≡ Some (ended cs c s)
+unfolding run step
+statement_leads cs c _ _ (tracing ts a h) =
+    slot_over cs c traced ts [] a (token.Sign sign.CloseParen) _ (complete_argument ts a h) refl refl
+statement_leads cs c _ _ (of_stack n h) = rw (frames_true n h) refl
+statement_leads cs c _ _ (of_ustack n h) = rw (frames_true n h) refl
+statement_leads cs c _ _ (exiting ts f h) =
+    slot_over cs c exited ts [] (number f) (token.Sign sign.CloseParen) _ (complete true ts f h) refl refl
+statement_leads cs c _ _ (aggregating ts us name keys call h k) =
+    target_over cs c name keys ts us h ∙ call_leads cs c name keys us call k
+
+-- bodies
+separated_step : (cs : List ClauseForm) (c : ClauseForm) (spot : Spot)
+    → step (program_at cs c (body spot)) (token.Sign sign.Semicolon) ≡ Some (program_at cs c (body begins))
+unfolding step
+separated_step cs c begins = refl
+separated_step cs c ends = refl
+
+closed_step : (cs : List ClauseForm) (c : ClauseForm) (spot : Spot)
+    → step (program_at cs c (body spot)) (token.Sign sign.CloseBrace)
+    ≡ Some (program_at (cs ++ (c ∷ [])) (headed []) outside)
+unfolding step
+closed_step cs c begins = refl
+closed_step cs c ends = refl
+
+-- a clause up to here
+abbrev clause_of : List DescForm → Option Form → List StatementForm → ClauseForm
+clause_of ds p ss = record { descriptions = ds; predicate = p; statements = ss }
+
+body_leads : (cs : List ClauseForm) (ds : List DescForm) (p : Option Form) (spot : Spot) (ts : List Token)
+    (ss : List StatementForm) → ReadsBody spot ts ss
+    → run (program_at cs (clause_of ds p []) (body begins)) ts ≡ Some (program_at cs (clause_of ds p ss) (body spot))
+unfolding run
+body_leads cs ds p _ _ _ nothing = refl
+body_leads cs ds p _ _ _ (stated ts us ss s h k) =
+    run_on _ _ _ ts us (body_leads cs ds p begins ts ss h) (statement_leads cs (clause_of ds p ss) us s k)
+body_leads cs ds p _ _ _ (separated spot ts ss h) =
+    run_step _ _ _ ts _ (body_leads cs ds p spot ts ss h) (separated_step cs (clause_of ds p ss) spot)
+
+-- heads
+head_leads : (cs : List ClauseForm) (c : ClauseForm) (ts : List Token) (ds : List DescForm) → ReadsHead ts ds
+    → run (program_at cs c outside) ts ≡ Some (program_at cs (headed ds) described)
+unfolding run step
+head_leads cs c _ _ (a_description d) = refl
+head_leads cs c _ _ (another ts ds d h) = run_on _ _ _ ts _ (head_leads cs c ts ds h) refl
+
+opening_leads : (cs : List ClauseForm) (c : ClauseForm) (ts : List Token) (ds : List DescForm) (p : Option Form)
+    → ReadsOpening ts ds p → run (program_at cs c outside) ts ≡ Some (program_at cs (clause_of ds p []) (body begins))
+unfolding run step
+opening_leads cs c _ _ _ (always ts ds h) = run_over _ _ ts _ (head_leads cs c ts ds h)
+opening_leads cs c _ _ _ (grammar.guarded ts us ds f h k) =
+    run_over _ _ ts _ (head_leads cs c ts ds h)
+    ∙ slot_over cs (headed ds) predicate us _ (number f) (token.Sign sign.Slash) _ (complete false us f k) refl refl
+
+-- clauses
+clause_leads : (cs : List ClauseForm) (before : ClauseForm) (ts : List Token) (c : ClauseForm) → ReadsClause ts c
+    → run (program_at cs before outside) ts ≡ Some (program_at (cs ++ (c ∷ [])) (headed []) outside)
+clause_leads cs before _ _ (a_clause spot ts us ds p ss h k) =
+    run_over _ _ ts _ (opening_leads cs before ts ds p h)
+    ∙ run_step _ _ _ us _ (body_leads cs ds p spot us ss k) (closed_step cs (clause_of ds p ss) spot)
+
+pub clauses_lead : (ts : List Token) (cs : List ClauseForm) → ReadsClauses ts cs
+    → run program_start ts ≡ Some (program_at cs (headed []) outside)
+unfolding run
+clauses_lead _ _ grammar.nothing = refl
+clauses_lead _ _ (grammar.another ts us cs c h k) =
+    run_on _ _ _ ts us (clauses_lead ts cs h) (clause_leads cs (headed []) us c k)
+
+-- a whole program is read to its end
+pub record ProgramLeads (ts : List Token) (cs : List ClauseForm) : Type 0 where
+  pub at : ProgramState
+  pub runs : run program_start ts ≡ Some at
+  pub is_finished : finished at ≡ Some cs
+
+whole_is : (cs : List ClauseForm) → cs ≢ [] → whole cs ≡ Some cs
+whole_is [] n = absurd (n refl)
+whole_is (c ∷ cs) n = refl
+
+pub program_leads : (ts : List Token) (cs : List ClauseForm) → ReadsProgram ts cs → ProgramLeads ts cs
+unfolding finished
+program_leads ts cs h =
+    record {
+      at = program_at cs (headed []) outside;
+      runs = clauses_lead ts cs h.reads;
+      is_finished = whole_is cs
+          h.some;
+    }
+
+-- where a program's beginnings lead
+pub head_stands_lead : (ts : List Token) (cs : List ClauseForm) (ds : List DescForm) → HeadStands ts cs ds
+    → run program_start ts ≡ Some (program_at cs (headed ds) described)
+head_stands_lead ts cs ds h =
+    rw h.split
+    (run_on _ _ _ h.clauses h.head (clauses_lead h.clauses cs h.before) (head_leads cs (headed []) h.head ds h.reads))
+
+pub body_stands_lead : (spot : Spot) (ts : List Token) (cs : List ClauseForm) (c : ClauseForm)
+    → BodyStands spot ts cs c → run program_start ts ≡ Some (program_at cs c (body spot))
+body_stands_lead spot ts cs c h =
+    rw h.split
+    (run_on _ _ _ h.clauses (h.opening ++ h.body) (clauses_lead h.clauses cs h.before)
+    (run_on _ _ _ h.opening h.body (opening_leads cs (headed []) h.opening c.descriptions c.predicate h.opened)
+    (body_leads cs c.descriptions c.predicate spot h.body c.statements h.reads)))
+
+-- where a program's beginning with an aggregation's keys leads
+pub record KeysStandLead (ts : List Token) (cs : List ClauseForm) (c : ClauseForm) (name : List ℕ)
+    (keys : List ArgForm) : Type 0 where
+  pub back : List Token
+  pub keys_lead : KeysLead cs c name back keys
+  pub runs : (t : Token) (next : ProgramState) → run (entered cs c (key name [])) (back ++ (t ∷ [])) ≡ Some next
+      → run program_start (ts ++ (t ∷ [])) ≡ Some next
+
+pub keys_stand_lead : (ts : List Token) (cs : List ClauseForm) (c : ClauseForm) (name : List ℕ) (keys : List ArgForm)
+    → KeysStand ts cs c name keys → KeysStandLead ts cs c name keys
+unfolding run step
+keys_stand_lead ts cs c name keys h = record {
+  back = h.back;
+  keys_lead = keys_lead cs c name h.back keys h.reads;
+  runs = λ t next k. rw (split_last ts h.front _ t h.split)
+      (run_over _ _ h.front _ (body_stands_lead begins h.front cs c h.stands) ∙ k);
+}
+
+pub target_stands_lead : (ts us : List Token) (cs : List ClauseForm) (c : ClauseForm) (name : List ℕ)
+    (keys : List ArgForm) → TargetStands ts cs c name keys
+    → run program_start (ts ++ (token.Sign sign.Equal ∷ us)) ≡ run (program_at cs c (assigned name keys)) us
+target_stands_lead ts us cs c name keys h =
+    rw (split_two ts h.front h.back (token.Sign sign.Equal ∷ us) h.split)
+    (run_over _ _ h.front _ (body_stands_lead begins h.front cs c h.stands)
+    ∙ target_over cs c name keys h.back us h.reads)
+
+given_other : (cs : List ClauseForm) (c : ClauseForm) (name : List ℕ) (keys : List ArgForm) (fn : Function)
+    → fn ≢ function.Count → function_given cs c name keys fn ≡ entered cs c (value name keys fn)
+given_other cs c name keys function.Count n = absurd (n refl)
+given_other cs c name keys function.Sum n = refl
+given_other cs c name keys function.Avg n = refl
+given_other cs c name keys function.Min n = refl
+given_other cs c name keys function.Max n = refl
+given_other cs c name keys function.Quantize n = refl
+given_other cs c name keys function.Lquantize n = refl
+
+pub slot_leads : (slot : Slot) (ts : List Token) (cs : List ClauseForm) (c : ClauseForm) → SlotOpens slot ts cs c
+    → run program_start ts ≡ Some (entered cs c slot)
+unfolding run step
+slot_leads _ _ _ _ (stand.a_predicate ts cs ds h) = run_over _ _ ts _ (head_stands_lead ts cs ds h)
+slot_leads _ _ _ _ (stand.an_argument ts cs c h) = run_over _ _ ts _ (body_stands_lead begins ts cs c h)
+slot_leads _ _ _ _ (stand.a_status ts cs c h) = run_over _ _ ts _ (body_stands_lead begins ts cs c h)
+slot_leads _ _ _ _ (stand.first_key ts cs c name h) = run_over _ _ ts _ (body_stands_lead begins ts cs c h)
+slot_leads _ _ _ _ (stand.a_key ts cs c name keys h) =
+    let k = keys_stand_lead ts cs c name keys h in
+    k.runs _ _ (key_ends cs c name k.back keys (token.Sign sign.Comma) _ k.keys_lead refl
+    (ap (λ (x : List ArgForm). Some (entered cs c (key name x))) (sym k.keys_lead.keys_are)))
+slot_leads _ _ _ _ (stand.a_value ts cs c name keys fn n h) =
+    target_stands_lead ts _ cs c name keys h ∙ ap Some (given_other cs c name keys fn n)

@@ -1,0 +1,282 @@
+-- Whatever was read of a program goes on to a whole one.
+use Rattle.std.proofs.Common.{◌≡◌, ◌≢◌, ℕ, ◌+◌, Bool, true, false, List, [], ◌∷◌, ◌++◌, length, Some, refl, sym, ◌∙◌, ℤ}
+use Rattle.std.proofs.Common.{pos}
+use Rattle.dt_expr.specs.Form.{Form}
+use Rattle.dt_program.specs.declared.description.Description.{Description}
+use Rattle.dt_lang.specs.declared.token.Sign.TheVariants as sign
+use Rattle.dt_lang.specs.declared.token.Token.{Token}
+use Rattle.dt_lang.specs.declared.token.Token.TheVariants as token
+use Rattle.dt_lang.specs.declared.word.Action.{Action}
+use Rattle.dt_lang.specs.declared.word.Action.TheVariants as action
+use Rattle.dt_lang.specs.declared.word.Function.{Function}
+use Rattle.dt_lang.specs.declared.word.Function.TheVariants as function
+use Rattle.dt_lang.specs.declared.word.Word.TheVariants as word
+use Rattle.dt_lang.specs.ExpressionState as expression
+use Rattle.dt_lang.specs.ExpressionState.{ends_argument}
+use Rattle.dt_lang.specs.Grammar.{Spot, begins, ends}
+use Rattle.dt_program.specs.Clause.{ArgForm, number, StatementForm, ClauseForm}
+use Rattle.dt_lang.specs.Stand.{Slot, predicate, traced, exited, key, value, divides_in, SlotOpens, a_value}
+use Rattle.dt_lang.specs.ClauseState.{BoundForm, at_lower, at_upper, at_step, PlaceForm, outside, described, listed}
+use Rattle.dt_lang.specs.ClauseState.{guarded, body, called, framed, closing, named, keyed, assigned, applied, within}
+use Rattle.dt_lang.specs.ClauseState.{bounding, negating, bounded, ProgramState, program_at, entered, function_given}
+use Rattle.dt_lang.specs.ClauseState.{shut, step, run}
+use Rattle.dt_lang.specs.laws.ExpressionLaws.{complete, run_beginning}
+use Rattle.dt_lang.specs.laws.ExpressionLaws as laws
+use Rattle.dt_lang.specs.laws.Reading.{Within, ReadAt, Read}
+use Rattle.dt_lang.specs.laws.ClauseSound.{same_some, sound_step}
+use Rattle.dt_lang.specs.laws.ClauseComplete.{run_over, run_within, step_shut}
+
+-- From here some tokens lead to the end of a clause.
+pub record Completes (s : ProgramState) : Type 0 where
+  pub more : List Token
+  pub clauses : List ClauseForm
+  pub clause : ClauseForm
+  pub runs : run s more ≡ Some (program_at clauses clause outside)
+  pub some : clauses ≢ []
+
+-- one token before
+back : (s next : ProgramState) (t : Token) → step s t ≡ Some next → Completes next → Completes s
+unfolding run
+back s next t e h = record {
+  more = t ∷ h.more;
+  clauses = h.clauses;
+  clause = h.clause;
+  runs = rw e h.runs;
+  some = h.some;
+}
+
+some_clauses : (cs : List ClauseForm) (c : ClauseForm) → cs ++ (c ∷ []) ≢ []
+some_clauses [] c e = cc
+some_clauses (first ∷ cs) c e = cc
+
+module _ (cs : List ClauseForm) (c : ClauseForm) where
+  whole_clause : (before : ClauseForm) → Completes (program_at (cs ++ (c ∷ [])) before outside)
+  unfolding run
+  whole_clause before = record {
+    more = [];
+    clauses = cs ++ (c ∷ []);
+    clause = before;
+    runs = refl;
+    some = some_clauses cs c;
+  }
+
+  body_completes : (spot : Spot) → Completes (program_at cs c (body spot))
+  unfolding step
+  body_completes begins = back _ _ (token.Sign sign.CloseBrace) refl (whole_clause _)
+  body_completes ends = back _ _ (token.Sign sign.CloseBrace) refl (whole_clause _)
+
+closing_completes : (cs : List ClauseForm) (c : ClauseForm) (s : StatementForm)
+    → Completes (program_at cs c (closing s))
+unfolding step
+closing_completes cs c s = back _ _ (token.Sign sign.CloseParen) refl (body_completes cs _ ends)
+
+guarded_completes : (cs : List ClauseForm) (c : ClauseForm) → Completes (program_at cs c guarded)
+unfolding step
+guarded_completes cs c = back _ _ (token.Sign sign.OpenBrace) refl (body_completes cs c begins)
+
+described_completes : (cs : List ClauseForm) (c : ClauseForm) → Completes (program_at cs c described)
+unfolding step
+described_completes cs c = back _ _ (token.Sign sign.OpenBrace) refl (body_completes cs c begins)
+
+-- the description that asks for nothing
+all_probes : Description
+all_probes = record { provider = []; «module» = []; function = []; name = [] }
+
+listed_completes : (cs : List ClauseForm) (c : ClauseForm) → Completes (program_at cs c listed)
+unfolding step
+listed_completes cs c = back _ _ (token.Description (Some all_probes)) refl (described_completes cs _)
+
+outside_completes : (cs : List ClauseForm) (c : ClauseForm) → Completes (program_at cs c outside)
+unfolding step
+outside_completes cs c = back _ _ (token.Description (Some all_probes)) refl (described_completes cs _)
+
+framed_completes : (cs : List ClauseForm) (c : ClauseForm) (process : Bool)
+    → Completes (program_at cs c (framed process))
+unfolding step
+framed_completes cs c process = back _ _ (token.Number (pos 1)) refl (closing_completes cs c _)
+
+-- aggregations
+applied_completes : (cs : List ClauseForm) (c : ClauseForm) (name : List ℕ) (keys : List ArgForm)
+    → Completes (program_at cs c (applied name keys function.Count))
+unfolding step
+applied_completes cs c name keys = back _ _ (token.Sign sign.OpenParen) refl (closing_completes cs c _)
+
+assigned_completes : (cs : List ClauseForm) (c : ClauseForm) (name : List ℕ) (keys : List ArgForm)
+    → Completes (program_at cs c (assigned name keys))
+unfolding step
+assigned_completes cs c name keys =
+    back _ _ (token.Word (word.Function function.Count)) refl (applied_completes cs c name keys)
+
+keyed_completes : (cs : List ClauseForm) (c : ClauseForm) (name : List ℕ) (keys : List ArgForm)
+    → Completes (program_at cs c (keyed name keys))
+unfolding step
+keyed_completes cs c name keys = back _ _ (token.Sign sign.Equal) refl (assigned_completes cs c name keys)
+
+named_completes : (cs : List ClauseForm) (c : ClauseForm) (name : List ℕ) → Completes (program_at cs c (named name))
+unfolding step
+named_completes cs c name = back _ _ (token.Sign sign.Equal) refl (assigned_completes cs c name [])
+
+-- bounds
+module _ (cs : List ClauseForm) (c : ClauseForm) (name : List ℕ) (keys : List ArgForm) (f : Form) where
+  upper_completes : (lower z : ℤ) → Completes (program_at cs c (bounded name keys f (at_upper lower) z))
+  unfolding step
+  upper_completes lower z = back _ _ (token.Sign sign.CloseParen) refl (body_completes cs _ ends)
+
+  next_completes : (lower : ℤ) → Completes (program_at cs c (bounding name keys f (at_upper lower)))
+  unfolding step
+  next_completes lower = back _ _ (token.Number (pos 0)) refl (upper_completes lower (pos 0))
+
+  bounded_completes : (b : BoundForm) (z : ℤ) → Completes (program_at cs c (bounded name keys f b z))
+  unfolding step
+  bounded_completes at_lower z = back _ _ (token.Sign sign.Comma) refl (next_completes z)
+  bounded_completes (at_upper lower) z = upper_completes lower z
+  bounded_completes (at_step lower upper) z = back _ _ (token.Sign sign.CloseParen) refl (body_completes cs _ ends)
+
+  bounding_completes : (b : BoundForm) → Completes (program_at cs c (bounding name keys f b))
+  unfolding step
+  bounding_completes b = back _ _ (token.Number (pos 0)) refl (bounded_completes b (pos 0))
+
+  negating_completes : (b : BoundForm) → Completes (program_at cs c (negating name keys f b))
+  unfolding step
+  negating_completes b = back _ _ (token.Number (pos 0)) refl (bounded_completes b _)
+
+-- a token that ends a number that was read for a slot, and what it leads to
+record Shuts (cs : List ClauseForm) (c : ClauseForm) (slot : Slot) (f : Form) : Type 0 where
+  end : Token
+  next : ProgramState
+  ends_it : ends_argument (divides_in slot) end ≡ true
+  leads : shut cs c slot end (number f) ≡ Some next
+  completes : Completes next
+
+value_shuts : (cs : List ClauseForm) (c : ClauseForm) (name : List ℕ) (keys : List ArgForm) (fn : Function) (f : Form)
+    → fn ≢ function.Count → Shuts cs c (value name keys fn) f
+value_shuts cs c name keys function.Count f n = absurd (n refl)
+value_shuts cs c name keys function.Lquantize f n = record {
+  end = token.Sign sign.Comma;
+  next = program_at cs c (bounding name keys f at_lower);
+  ends_it = refl;
+  leads = refl;
+  completes = bounding_completes cs c name keys f at_lower;
+}
+value_shuts cs c name keys fn f n = record {
+  end = token.Sign sign.CloseParen;
+  next = _;
+  ends_it = refl;
+  leads = refl;
+  completes = body_completes cs _ ends;
+}
+
+slot_shuts : (ts : List Token) (cs : List ClauseForm) (c : ClauseForm) (slot : Slot) (f : Form)
+    → SlotOpens slot ts cs c → Shuts cs c slot f
+slot_shuts ts cs c predicate f h = record {
+  end = token.Sign sign.Slash;
+  next = _;
+  ends_it = refl;
+  leads = refl;
+  completes = guarded_completes cs _;
+}
+slot_shuts ts cs c traced f h = record {
+  end = token.Sign sign.CloseParen;
+  next = _;
+  ends_it = refl;
+  leads = refl;
+  completes = body_completes cs _ ends;
+}
+slot_shuts ts cs c exited f h = record {
+  end = token.Sign sign.CloseParen;
+  next = _;
+  ends_it = refl;
+  leads = refl;
+  completes = body_completes cs _ ends;
+}
+slot_shuts ts cs c (key name keys) f h = record {
+  end = token.Sign sign.CloseBracket;
+  next = _;
+  ends_it = refl;
+  leads = refl;
+  completes = keyed_completes cs c name _;
+}
+slot_shuts ts cs c (value name keys fn) f h = value_shuts cs c name keys fn f (takes_value h)
+  where
+    takes_value : {ts : List Token} {cs : List ClauseForm} {c : ClauseForm} {name : List ℕ} {keys : List ArgForm}
+        {fn : Function} → SlotOpens (value name keys fn) ts cs c → fn ≢ function.Count
+    takes_value (a_value ts cs c name keys fn n h) = n
+
+-- what was read for a slot goes on to a whole number, and this ends
+within_completes : (cs : List ClauseForm) (c : ClauseForm) (slot : Slot) (n : ℕ) (e : expression.State)
+    (ts : List Token) → Within ts cs c slot n e → Completes (program_at cs c (within slot n e))
+unfolding run
+within_completes cs c slot n e ts h =
+    let v = laws.viable (divides_in slot) h.back e h.runs in
+    let r = complete (divides_in slot) (h.back ++ v.more) v.form v.reads in
+    let b = run_beginning (expression.start (divides_in slot)) r.at h.back v.more r.runs in
+    let same : b.at ≡ e = same_some (sym b.first ∙ h.runs) in
+    let on : expression.run e v.more ≡ Some r.at = rw same at b.second in
+    let k = slot_shuts h.front cs c slot v.form h.opens in
+    let i = laws.ends (divides_in slot) (h.back ++ v.more) r.at (number v.form) k.end r.runs r.is_done k.ends_it in
+    let d = k.completes in
+    record {
+      more = v.more ++ (k.end ∷ d.more);
+      clauses = d.clauses;
+      clause = d.clause;
+      runs = run_over _ _ v.more (k.end ∷ d.more) (run_within cs c slot v.more n e r.at on)
+          ∙ rw (step_shut cs c slot (n + length v.more) r.at (number v.form) k.end i r.is_done, k.leads) d.runs;
+      some = d.some;
+    }
+
+-- what a word or a name leads to goes on where what its `(` leads to does
+called_completes : (cs : List ClauseForm) (c : ClauseForm) (a : Action) (ts : List Token)
+    → Read (program_at cs c (called a)) ts → Completes (program_at cs c (called a))
+unfolding step
+called_completes cs c action.Trace ts h =
+    let r = sound_step (program_at cs c (called action.Trace)) (entered cs c traced) ts
+    (token.Sign sign.OpenParen) h refl in
+    back _ _ (token.Sign sign.OpenParen) refl (within_completes cs c traced 0 _ _ r)
+called_completes cs c action.Exit ts h =
+    let r = sound_step (program_at cs c (called action.Exit)) (entered cs c exited) ts (token.Sign sign.OpenParen)
+    h refl in
+    back _ _ (token.Sign sign.OpenParen) refl (within_completes cs c exited 0 _ _ r)
+called_completes cs c action.Stack ts h = back _ _ (token.Sign sign.OpenParen) refl (framed_completes cs c false)
+called_completes cs c action.Ustack ts h = back _ _ (token.Sign sign.OpenParen) refl (framed_completes cs c true)
+
+given_completes : (cs : List ClauseForm) (c : ClauseForm) (name : List ℕ) (keys : List ArgForm) (fn : Function)
+    (ts : List Token) → Read (function_given cs c name keys fn) ts → Completes (function_given cs c name keys fn)
+given_completes cs c name keys function.Count ts h = closing_completes cs c _
+given_completes cs c name keys function.Sum ts h = within_completes cs c _ 0 _ ts h
+given_completes cs c name keys function.Avg ts h = within_completes cs c _ 0 _ ts h
+given_completes cs c name keys function.Min ts h = within_completes cs c _ 0 _ ts h
+given_completes cs c name keys function.Max ts h = within_completes cs c _ 0 _ ts h
+given_completes cs c name keys function.Quantize ts h = within_completes cs c _ 0 _ ts h
+given_completes cs c name keys function.Lquantize ts h = within_completes cs c _ 0 _ ts h
+
+function_completes : (cs : List ClauseForm) (c : ClauseForm) (name : List ℕ) (keys : List ArgForm) (fn : Function)
+    (ts : List Token) → Read (program_at cs c (applied name keys fn)) ts
+    → Completes (program_at cs c (applied name keys fn))
+unfolding step
+function_completes cs c name keys fn ts h =
+    let r = sound_step (program_at cs c (applied name keys fn)) (function_given cs c name keys fn) ts
+    (token.Sign sign.OpenParen) h refl in
+    back _ _ (token.Sign sign.OpenParen) refl (given_completes cs c name keys fn _ r)
+
+place_completes : (cs : List ClauseForm) (c : ClauseForm) (p : PlaceForm) (ts : List Token) → ReadAt cs c p ts
+    → Completes (program_at cs c p)
+place_completes cs c outside ts h = outside_completes cs c
+place_completes cs c described ts h = described_completes cs c
+place_completes cs c listed ts h = listed_completes cs c
+place_completes cs c guarded ts h = guarded_completes cs c
+place_completes cs c (body spot) ts h = body_completes cs c spot
+place_completes cs c (called a) ts h = called_completes cs c a ts h
+place_completes cs c (framed process) ts h = framed_completes cs c process
+place_completes cs c (closing s) ts h = closing_completes cs c s
+place_completes cs c (named name) ts h = named_completes cs c name
+place_completes cs c (keyed name keys) ts h = keyed_completes cs c name keys
+place_completes cs c (assigned name keys) ts h = assigned_completes cs c name keys
+place_completes cs c (applied name keys fn) ts h = function_completes cs c name keys fn ts h
+place_completes cs c (within slot n e) ts h = within_completes cs c slot n e ts h
+place_completes cs c (bounding name keys f b) ts h = bounding_completes cs c name keys f b
+place_completes cs c (negating name keys f b) ts h = negating_completes cs c name keys f b
+place_completes cs c (bounded name keys f b z) ts h = bounded_completes cs c name keys f b z
+
+-- From each state that was reached some tokens lead to the end of a clause.
+pub completes : (s : ProgramState) (ts : List Token) → Read s ts → Completes s
+completes s ts h = place_completes s.clauses s.clause s.place ts h

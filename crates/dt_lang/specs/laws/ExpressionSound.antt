@@ -1,0 +1,355 @@
+-- What is read as an expression is one.
+use Rattle.std.proofs.Common.{◌≡◌, ℕ, zero, suc, ◌+◌, ◌-◌, ◌≤◌, leb, Bool, true, false, if◌then◌else◌, List, [], ◌∷◌}
+use Rattle.std.proofs.Common.{◌++◌, Option, Some, None, option_map, option_and_then, IfSome, refl, sym, ap, ◌∙◌, subst}
+use Rattle.std.proofs.Common.{arith, leb-true, leb-false, append_assoc, append-nil, add-zero}
+use Rattle.dt_expr.specs.Form.{Form, Num, Named, Prefixed, Joined, Compared}
+use Rattle.dt_expr.specs.declared.operators.BinaryOp.{BinaryOp}
+use Rattle.dt_expr.specs.declared.operators.UnaryOp.{UnaryOp}
+use Rattle.dt_expr.specs.declared.operators.TextOp.{TextOp}
+use Rattle.dt_expr.specs.declared.text.Text.{Text}
+use Rattle.dt_lang.specs.declared.token.Sign.{Sign}
+use Rattle.dt_lang.specs.declared.token.Sign.TheVariants as sign
+use Rattle.dt_lang.specs.declared.token.Token.{Token}
+use Rattle.dt_lang.specs.declared.token.Token.TheVariants as token
+use Rattle.dt_lang.specs.declared.word.Word.TheVariants as word
+use Rattle.dt_lang.specs.Expression.{prefix_of, binding, OPERAND, comparison_of, EQUALITY, text_token, IsOperator}
+use Rattle.dt_lang.specs.Expression.{ReadsExpr, a_number, a_variable, prefixed, grouped, compared, looser, joined}
+use Rattle.dt_lang.specs.ExpressionState.{FrameForm, opened, before, after, HandForm, nothing, whole, lone, compares}
+use Rattle.dt_lang.specs.ExpressionState.{State, level_next, Closed, close, state, start, begin_sign, begin_text, begin}
+use Rattle.dt_lang.specs.ExpressionState.{operator_in, wait, join, leave, follow_sign, follow, compare, step_from, step}
+use Rattle.dt_lang.specs.ExpressionState.{run}
+use Rattle.dt_lang.specs.laws.ExpressionSteps.{binding-lt, operator_is}
+
+-- These tokens lead to these frames. `outer` is whether `/` divided at first.
+abbrev pub Waits : (outer divides : Bool) → List FrameForm → List Token → Type 0
+Waits outer divides [] ts = (divides ≡ outer) × (ts ≡ [])
+Waits outer divides (opened outside ∷ frames) ts =
+    (front : List Token) × (divides ≡ true) × (ts ≡ front ++ (token.Sign sign.OpenParen ∷ []))
+    × Waits outer outside frames front
+Waits outer divides (before op ∷ frames) ts =
+    (front : List Token) × (s : Sign) × (prefix_of s ≡ Some op) × (ts ≡ front ++ (token.Sign s ∷ []))
+    × Waits outer divides frames front
+Waits outer divides (after left op ∷ frames) ts =
+    (front : List Token) × (s : Sign) × (us : List Token) × IsOperator divides s op × (level_next frames ≤ binding op)
+    × ReadsExpr divides (binding op) us left × (ts ≡ front ++ (us ++ (token.Sign s ∷ [])))
+    × Waits outer divides frames front
+
+-- These tokens lead to these frames, and then are an expression that binds tightly enough for what waits.
+pub record HoldsWhole (outer divides : Bool) (frames : List FrameForm) (level : ℕ) (f : Form) (ts : List Token)
+    : Type 0 where
+  pub front : List Token
+  pub us : List Token
+  pub waits : Waits outer divides frames front
+  pub loose : level_next frames ≤ level
+  pub bound : level ≤ OPERAND
+  pub reads : ReadsExpr divides level us f
+  pub tokens : ts ≡ front ++ us
+
+pub record HoldsText (outer divides : Bool) (frames : List FrameForm) (a : Text) (ts : List Token) : Type 0 where
+  pub front : List Token
+  pub t : Token
+  pub waits : Waits outer divides frames front
+  pub loose : level_next frames ≤ EQUALITY
+  pub is_text : text_token t ≡ Some a
+  pub tokens : ts ≡ front ++ (t ∷ [])
+
+pub record HoldsCompare (outer divides : Bool) (frames : List FrameForm) (op : TextOp) (a : Text) (ts : List Token)
+    : Type 0 where
+  pub front : List Token
+  pub t : Token
+  pub s : Sign
+  pub waits : Waits outer divides frames front
+  pub loose : level_next frames ≤ EQUALITY
+  pub is_text : text_token t ≡ Some a
+  pub is_comparison : comparison_of s ≡ Some op
+  pub tokens : ts ≡ front ++ (t ∷ token.Sign s ∷ [])
+
+abbrev pub Holds : (outer divides : Bool) → List FrameForm → HandForm → List Token → Type 0
+Holds outer divides frames nothing ts = Waits outer divides frames ts
+Holds outer divides frames (whole level f) ts = HoldsWhole outer divides frames level f ts
+Holds outer divides frames (lone a) ts = HoldsText outer divides frames a ts
+Holds outer divides frames (compares op a) ts = HoldsCompare outer divides frames op a ts
+
+-- These tokens lead to this state.
+abbrev pub Reaches : (outer : Bool) → List Token → State → Type 0
+Reaches outer ts s = Holds outer s.divides s.frames s.hand ts
+
+pub level_next-le : (frames : List FrameForm) → level_next frames ≤ OPERAND
+level_next-le [] = omega arith
+level_next-le (opened outside ∷ frames) = omega arith
+level_next-le (before op ∷ frames) = omega arith
+level_next-le (after left op ∷ frames) = omega (arith, binding-lt op)
+
+-- what binds more tightly binds so tightly
+loosen_by : (n level : ℕ) {divides : Bool} {ts : List Token} {f : Form} → ReadsExpr divides (level + n) ts f
+    → level + n ≤ OPERAND → ReadsExpr divides level ts f
+loosen_by zero level {divides} {ts} {f} r h =
+    subst (λ (k : ℕ). ReadsExpr divides k ts f) (add-zero level) r
+loosen_by (suc n) level {divides} {ts} {f} r h =
+    let e : level + suc n ≡ level + 1 + n = omega arith in
+    looser divides level ts f (omega arith)
+    (loosen_by n (level + 1) (subst (λ (k : ℕ). ReadsExpr divides k ts f) e r) (omega arith))
+
+pub loosen : (level bound : ℕ) {divides : Bool} {ts : List Token} {f : Form} → ReadsExpr divides bound ts f
+    → level ≤ bound → bound ≤ OPERAND → ReadsExpr divides level ts f
+loosen level bound {divides} {ts} {f} r h k =
+    let e : bound ≡ level + (bound - level) = omega arith in
+    loosen_by (bound - level) level (subst (λ (n : ℕ). ReadsExpr divides n ts f) e r) (omega arith)
+
+-- These tokens lead to what is left when all is ended that binds so tightly.
+pub record ClosesTo (outer divides : Bool) (level : ℕ) (ts : List Token) (c : Closed) : Type 0 where
+  pub front : List Token
+  pub us : List Token
+  pub waits : Waits outer divides c.frames front
+  pub loose : level_next c.frames ≤ level
+  pub reads : ReadsExpr divides level us c.form
+  pub tokens : ts ≡ front ++ us
+
+same_tokens : {outer divides : Bool} {level : ℕ} {ts us : List Token} {c : Closed} → ts ≡ us
+    → ClosesTo outer divides level us c → ClosesTo outer divides level ts c
+same_tokens e h = record {
+  front = h.front;
+  us = h.us;
+  waits = h.waits;
+  loose = h.loose;
+  reads = h.reads;
+  tokens = e ∙ h.tokens;
+}
+
+pub close_reads : (outer divides : Bool) (level bound : ℕ) (frames : List FrameForm) (f : Form)
+    (front us : List Token) → Waits outer divides frames front → level_next frames ≤ bound → level ≤ bound
+    → bound ≤ OPERAND → ReadsExpr divides bound us f
+    → ClosesTo outer divides level (front ++ us) (close level frames f)
+unfolding close
+close_reads outer divides level bound [] f front us w h k b r =
+    record { front = front; us = us; waits = w; loose = omega arith; reads = loosen level bound r k b; tokens = refl }
+close_reads outer divides level bound (opened outside ∷ frames) f front us w h k b r =
+    record { front = front; us = us; waits = w; loose = omega arith; reads = loosen level bound r k b; tokens = refl }
+close_reads outer divides level bound (before op ∷ frames) f front us (ts, s, p, e, w) h k b r =
+    let tight : bound ≡ OPERAND = omega arith in
+    let whole = prefixed divides s op us f p (subst (λ (n : ℕ). ReadsExpr divides n us f) tight r) in
+    same_tokens
+    (ap (λ (x : List Token). x ++ us) e ∙ append_assoc ts (token.Sign s ∷ []) us)
+    (close_reads outer divides level OPERAND frames (Prefixed op f) ts (token.Sign s ∷ us) w (level_next-le frames)
+    (omega arith) (omega arith) whole)
+close_reads outer divides level bound (after left op ∷ frames) f front us (ts, s, vs, i, n, l, e, w) h k b r =
+    go (leb level (binding op)) refl
+    (λ m. close_reads outer divides level (binding op) frames (Joined op left f) ts (vs ++ (token.Sign s ∷ us)) w n m
+    (omega (arith, binding-lt op)) (joined divides s op vs us left f i l (loosen (binding op + 1) bound r h b)))
+  where
+    tokens : front ++ us ≡ ts ++ (vs ++ (token.Sign s ∷ us))
+    tokens = ap (λ (x : List Token). x ++ us) e ∙ simp append_assoc
+
+    go : (x : Bool) → leb level (binding op) ≡ x
+        → (level ≤ binding op → ClosesTo outer divides level (ts ++ (vs ++ (token.Sign s ∷ us)))
+        (close level frames (Joined op left f)))
+        → ClosesTo outer divides level (front ++ us)
+        (if x then close level frames (Joined op left f) else record { frames = after left op ∷ frames; form = f })
+    go true q c = same_tokens tokens (c (leb-true level (binding op) q))
+    go false q c = let m = leb-false level (binding op) q in
+        record {
+          front = front;
+          us = us;
+          waits = (ts, s, vs, i, n, l, e, w);
+          loose = omega arith;
+          reads = loosen level bound r k b;
+          tokens = refl;
+        }
+
+-- an operand alone is at hand
+holds_alone : (outer divides : Bool) (frames : List FrameForm) (f : Form) (t : Token) (ts : List Token)
+    → ReadsExpr divides OPERAND (t ∷ []) f → Waits outer divides frames ts
+    → Holds outer divides frames (whole OPERAND f) (ts ++ (t ∷ []))
+holds_alone outer divides frames f t ts r w =
+    record {
+      front = ts;
+      us = t ∷ [];
+      waits = w;
+      loose = level_next-le frames;
+      bound = omega arith;
+      reads = r;
+      tokens = refl;
+    }
+
+-- what holds of each state that a step leads to
+abbrev pub Leads : (outer : Bool) → List Token → Option State → Type 0
+Leads outer ts next = IfSome next (Reaches outer ts)
+
+begin_text_holds : (outer divides : Bool) (frames : List FrameForm) (t : Token) (a : Text) (ts : List Token)
+    → text_token t ≡ Some a → Waits outer divides frames ts
+    → Leads outer (ts ++ (t ∷ [])) (begin_text divides frames a)
+begin_text_holds outer divides frames t a ts h w = go (leb (level_next frames) EQUALITY) refl
+  where
+    go : (x : Bool) → leb (level_next frames) EQUALITY ≡ x
+        → Leads outer (ts ++ (t ∷ [])) (if x then Some (state divides frames (lone a)) else None)
+    go true q = record {
+      front = ts;
+      t = t;
+      waits = w;
+      loose = leb-true (level_next frames) EQUALITY q;
+      is_text = h;
+      tokens = refl;
+    }
+    go false q = tt
+
+before_holds : (outer divides : Bool) (frames : List FrameForm) (s : Sign) (ts : List Token)
+    → Waits outer divides frames ts
+    → Leads outer (ts ++ (token.Sign s ∷ []))
+    (option_map (λ op. state divides (before op ∷ frames) nothing) (prefix_of s))
+before_holds outer divides frames s ts w = go (prefix_of s) refl
+  where
+    go : (o : Option UnaryOp) → prefix_of s ≡ o
+        → Leads outer (ts ++ (token.Sign s ∷ [])) (option_map (λ op. state divides (before op ∷ frames) nothing) o)
+    go None q = tt
+    go (Some op) q = (ts, s, q, refl, w)
+
+begin_sign_holds : (outer divides : Bool) (frames : List FrameForm) (s : Sign) (ts : List Token)
+    → Waits outer divides frames ts → Leads outer (ts ++ (token.Sign s ∷ [])) (begin_sign divides frames s)
+begin_sign_holds outer divides frames sign.OpenParen ts w = (ts, refl, refl, w)
+begin_sign_holds outer divides frames s ts w = before_holds outer divides frames s ts w
+
+begin_holds : (outer divides : Bool) (frames : List FrameForm) (t : Token) (ts : List Token)
+    → Waits outer divides frames ts → Leads outer (ts ++ (t ∷ [])) (begin divides frames t)
+begin_holds outer divides frames (token.Number z) ts w =
+    holds_alone outer divides frames (Num z) (token.Number z) ts (a_number divides z) w
+begin_holds outer divides frames (token.Word (word.Number v)) ts w =
+    holds_alone outer divides frames (Named v) (token.Word (word.Number v)) ts (a_variable divides v) w
+begin_holds outer divides frames (token.Word (word.Text v)) ts w =
+    begin_text_holds outer divides frames (token.Word (word.Text v)) _ ts refl w
+begin_holds outer divides frames (token.Text bytes) ts w =
+    begin_text_holds outer divides frames (token.Text bytes) _ ts refl w
+begin_holds outer divides frames (token.Sign s) ts w = begin_sign_holds outer divides frames s ts w
+begin_holds outer divides frames _ ts w = tt
+
+leave_holds : (outer divides : Bool) (frames : List FrameForm) (f : Form) (ts front us : List Token)
+    → Waits outer divides frames front → ReadsExpr divides 0 us f → ts ≡ front ++ us
+    → Leads outer (ts ++ (token.Sign sign.CloseParen ∷ [])) (leave frames f)
+leave_holds outer divides [] f ts front us w r e = tt
+leave_holds outer divides (opened outside ∷ frames) f ts front us (begin_tokens, d, q, w) r e =
+    record {
+      front = begin_tokens;
+      us = token.Sign sign.OpenParen ∷ (us ++ (token.Sign sign.CloseParen ∷ []));
+      waits = w;
+      loose = level_next-le frames;
+      bound = omega arith;
+      reads = grouped outside us f (subst (λ (x : Bool). ReadsExpr x 0 us f) d r);
+      tokens = ap (λ (x : List Token). x ++ (token.Sign sign.CloseParen ∷ []))
+          (e ∙ ap (λ (x : List Token). x ++ us) q)
+          ∙ simp append_assoc;
+    }
+leave_holds outer divides (_ ∷ frames) f ts front us w r e = tt
+
+join_holds : (outer divides : Bool) (frames : List FrameForm) (level : ℕ) (f : Form) (s : Sign) (ts : List Token)
+    → HoldsWhole outer divides frames level f ts
+    → Leads outer (ts ++ (token.Sign s ∷ []))
+    (option_and_then (join divides frames level f) (operator_in divides s))
+join_holds outer divides frames level f s ts h = go (operator_in divides s) refl
+  where
+    test : (op : BinaryOp) → operator_in divides s ≡ Some op → (x : Bool) → leb (binding op) level ≡ x
+        → Leads outer (ts ++ (token.Sign s ∷ []))
+        (if x then Some (wait divides (close (binding op) frames f) op) else None)
+    test op q false k = tt
+    test op q true k =
+        let c = close_reads outer divides (binding op) level frames f h.front h.us h.waits h.loose
+        (leb-true (binding op) level k) h.bound h.reads in (
+          c.front,
+          s,
+          c.us,
+          operator_is divides s op q,
+          c.loose,
+          c.reads,
+          ap (λ (x : List Token). x ++ (token.Sign s ∷ [])) (h.tokens ∙ c.tokens)
+              ∙ append_assoc c.front c.us (token.Sign s ∷ []),
+          c.waits,
+        )
+
+    go : (o : Option BinaryOp) → operator_in divides s ≡ o
+        → Leads outer (ts ++ (token.Sign s ∷ [])) (option_and_then (join divides frames level f) o)
+    go None q = tt
+    go (Some op) q = test op q (leb (binding op) level) refl
+
+follow_sign_holds : (outer divides : Bool) (frames : List FrameForm) (level : ℕ) (f : Form) (s : Sign)
+    (ts : List Token) → HoldsWhole outer divides frames level f ts
+    → Leads outer (ts ++ (token.Sign s ∷ [])) (follow_sign divides frames level f s)
+follow_sign_holds outer divides frames level f sign.CloseParen ts h =
+    let c = close_reads outer divides 0 level frames f h.front h.us h.waits h.loose (omega arith) h.bound h.reads in
+    leave_holds outer divides (close 0 frames f).frames (close 0 frames f).form ts c.front c.us c.waits c.reads
+    (h.tokens ∙ c.tokens)
+follow_sign_holds outer divides frames level f s ts h = join_holds outer divides frames level f s ts h
+
+follow_holds : (outer divides : Bool) (frames : List FrameForm) (level : ℕ) (f : Form) (t : Token) (ts : List Token)
+    → HoldsWhole outer divides frames level f ts → Leads outer (ts ++ (t ∷ [])) (follow divides frames level f t)
+follow_holds outer divides frames level f (token.Sign s) ts h = follow_sign_holds outer divides frames level f s ts h
+follow_holds outer divides frames level f _ ts h = tt
+
+compare_holds : (outer divides : Bool) (frames : List FrameForm) (a : Text) (t : Token) (ts : List Token)
+    → HoldsText outer divides frames a ts → Leads outer (ts ++ (t ∷ [])) (compare divides frames a t)
+compare_holds outer divides frames a (token.Sign s) ts h = go (comparison_of s) refl
+  where
+    go : (o : Option TextOp) → comparison_of s ≡ o
+        → Leads outer (ts ++ (token.Sign s ∷ [])) (option_map (λ op. state divides frames (compares op a)) o)
+    go None q = tt
+    go (Some op) q = record {
+      front = h.front;
+      t = h.t;
+      s = s;
+      waits = h.waits;
+      loose = h.loose;
+      is_text = h.is_text;
+      is_comparison = q;
+      tokens = ap (λ (x : List Token). x ++ (token.Sign s ∷ [])) h.tokens
+          ∙ append_assoc h.front (h.t ∷ []) (token.Sign s ∷ []);
+    }
+compare_holds outer divides frames a _ ts h = tt
+
+second_holds : (outer divides : Bool) (frames : List FrameForm) (op : TextOp) (a : Text) (t : Token) (ts : List Token)
+    → HoldsCompare outer divides frames op a ts
+    → Leads outer (ts ++ (t ∷ []))
+    (option_map (λ b. state divides frames (whole EQUALITY (Compared op a b))) (text_token t))
+second_holds outer divides frames op a t ts h = go (text_token t) refl
+  where
+    go : (o : Option Text) → text_token t ≡ o
+        → Leads outer (ts ++ (t ∷ [])) (option_map (λ b. state divides frames (whole EQUALITY (Compared op a b))) o)
+    go None q = tt
+    go (Some b) q = record {
+      front = h.front;
+      us = h.t ∷ token.Sign h.s ∷ t ∷ [];
+      waits = h.waits;
+      loose = h.loose;
+      bound = omega arith;
+      reads = compared divides h.s op h.t t a b h.is_comparison h.is_text q;
+      tokens = ap (λ (x : List Token). x ++ (t ∷ [])) h.tokens
+          ∙ append_assoc h.front (h.t ∷ token.Sign h.s ∷ []) (t ∷ []);
+    }
+
+step_from_holds : (outer divides : Bool) (frames : List FrameForm) (hand : HandForm) (t : Token) (ts : List Token)
+    → Holds outer divides frames hand ts → Leads outer (ts ++ (t ∷ [])) (step_from divides frames hand t)
+step_from_holds outer divides frames nothing t ts h = begin_holds outer divides frames t ts h
+step_from_holds outer divides frames (whole level f) t ts h = follow_holds outer divides frames level f t ts h
+step_from_holds outer divides frames (lone a) t ts h = compare_holds outer divides frames a t ts h
+step_from_holds outer divides frames (compares op a) t ts h = second_holds outer divides frames op a t ts h
+
+-- a token leads from what its forerunners lead to
+pub step_holds : (outer : Bool) (s : State) (t : Token) (ts : List Token) → Reaches outer ts s
+    → Leads outer (ts ++ (t ∷ [])) (step s t)
+unfolding step
+step_holds outer s t ts h = step_from_holds outer s.divides s.frames s.hand t ts h
+
+run_holds : (outer : Bool) (s : State) (ts us : List Token) → Reaches outer ts s → Leads outer (ts ++ us) (run s us)
+unfolding run
+run_holds outer s ts [] h = subst (λ (x : List Token). Reaches outer x s) (sym (append-nil ts)) h
+run_holds outer s ts (t ∷ us) h = go (step s t) (step_holds outer s t ts h)
+    (λ next k. subst (λ (x : List Token). Leads outer x (run next us)) (append_assoc ts (t ∷ []) us)
+    (run_holds outer next (ts ++ (t ∷ [])) us k))
+  where
+    go : (o : Option State) → Leads outer (ts ++ (t ∷ [])) o
+        → ((next : State) → Reaches outer (ts ++ (t ∷ [])) next → Leads outer (ts ++ (t ∷ us)) (run next us))
+        → Leads outer (ts ++ (t ∷ us)) (option_and_then (λ next. run next us) o)
+    go None k rest = tt
+    go (Some next) k rest = rest next k
+
+-- what the tokens lead to from the start, they lead to by the grammar
+pub run_reaches : (outer : Bool) (s : State) (ts : List Token) → run (start outer) ts ≡ Some s → Reaches outer ts s
+run_reaches outer s ts h =
+    let all : Leads outer ts (run (start outer) ts) = run_holds outer (start outer) [] ts (refl, refl) in
+    subst (Leads outer ts) h all

@@ -1,0 +1,69 @@
+-- What words ask for that are written out: clap's definitions are worked out on them.
+use Rattle.std.proofs.Common.{◌≡◌, ℕ, Bool, true, false, List, [], ◌∷◌, Option, Some, None, codes, refl, sym, ap, arith}
+use Rattle.std.specs.Option.{option_map_or}
+use Rattle.clap.specs.Words.{Row, Text, fault_of, subcommand_of}
+use Rattle.clap.proofs.OnLiterals.{clap_on_literals}
+use Rattle.dtraced.specs.Words.{program}
+use Rattle.dtraced.proofs.laws.words_ask.Goals as goal
+
+-- the values that a subcommand is given
+abbrev given_by : List Text → List Row
+given_by words = option_map_or (λ p. p.1) (subcommand_of program words) []
+
+abbrev is_nothing : {A : Type 0} → List A → Bool
+is_nothing [] = true
+is_nothing (x ∷ xs) = false
+
+abbrev replayed : List Text
+replayed = codes "dtraced" ∷ codes "replay" ∷ codes "m" ∷ []
+
+abbrev followed : List Text
+followed = codes "dtraced" ∷ codes "replay" ∷ codes "m" ∷ codes "--trail" ∷ codes "5" ∷ []
+
+abbrev checked : List Text
+checked = codes "dtraced" ∷ codes "check" ∷ codes "m" ∷ codes "t" ∷ []
+
+pub returns-clause-replay : goal.returns-clause-replay
+unfolding clap_on_literals
+returns-clause-replay c = λ machine is. record {
+  faultless = refl;
+  given = given_by replayed;
+  named = refl;
+  values = (ap Some (sym is), tt);
+}
+
+pub returns-clause-trail : goal.returns-clause-trail
+unfolding clap_on_literals
+returns-clause-trail c = λ machine is. record {
+  faultless = refl;
+  given = given_by followed;
+  named = refl;
+  values = (ap Some (sym is), record { within = omega arith; spelled = refl });
+}
+
+pub returns-clause-check : goal.returns-clause-check
+unfolding clap_on_literals
+returns-clause-check c = λ machine trail is told. record {
+  faultless = refl;
+  given = given_by checked;
+  named = refl;
+  values = (ap Some (sym is), ap Some (sym told));
+}
+
+-- a fault is found
+pub returns-clause-no_trail : goal.returns-clause-no_trail
+unfolding clap_on_literals
+returns-clause-no_trail c = λ asked h.
+    let found : is_nothing (fault_of program (codes "dtraced" ∷ codes "check" ∷ codes "m" ∷ [])) ≡ false = refl in
+    let none : is_nothing (fault_of program (codes "dtraced" ∷ codes "check" ∷ codes "m" ∷ [])) ≡ true =
+    ap is_nothing h.faultless in
+    cc
+
+pub returns-clause-too_many : goal.returns-clause-too_many
+unfolding clap_on_literals
+returns-clause-too_many c = λ asked h.
+    let found : is_nothing (fault_of program (codes "dtraced" ∷ codes "replay" ∷ codes "m" ∷ codes "t" ∷ [])) ≡ false =
+    refl in
+    let none : is_nothing (fault_of program (codes "dtraced" ∷ codes "replay" ∷ codes "m" ∷ codes "t" ∷ [])) ≡ true =
+    ap is_nothing h.faultless in
+    cc
