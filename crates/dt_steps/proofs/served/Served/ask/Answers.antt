@@ -30,13 +30,13 @@ returns-clause-asked c = λ session h may.
     subst (λ own. IsDraftOf session.account registry life own draft) c.in_ok-asked.ensures.asks
     (c.in_ok-draft.ensures session.account life h.stands) in
     asked_other registry session line c.args.self.now h c.apply.new.self c.closes-self.result
-    (answer_of c.reply-reply.result.now) c.in_ok-text.text.items may
+    (answer_of c.reply.result.now) c.in_ok-text.text.items may
     (λ go. let bad : c.publishes.result
     ≡ true = (c.publishes.ensures session.account registry life (ask_in line) drafted).1 go in
     cc)
     (c.closes-self.ensures session.account registry life (ask_in line) drafted)
     (c.apply.ensures session.account life (ask_in line) h.stands drafted)
-    (c.reply-reply.ensures session.account registry life (ask_in line) drafted)
+    (c.reply.ensures session.account registry life (ask_in line) drafted)
     c.in_ok-text.ensures
 
 pub returns-clause-over : goal.returns-clause-over
