@@ -31,3 +31,5 @@ pub mod RangeLaws
 pub mod CauseLaws
 pub mod TextLaws
 pub mod SomeReading
+pub mod WrittenTokens
+pub mod WrittenPrograms

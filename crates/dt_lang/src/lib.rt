@@ -30,6 +30,6 @@ pub use dt_program::{
 };
 pub use expression_laws::{one_argument, one_expression};
 pub use fault::{LangFault, Why};
-pub use parse::{ParseProgram, one_reading, some_reading};
+pub use parse::{ParseProgram, one_reading, read_is_in_bounds, some_reading};
 pub use token::{Sign, Token};
 pub use word::{Action, Destructive, Function, Word, one_word};

@@ -1,7 +1,8 @@
 //! A text is read as a program, or refused with the place and the cause.
 ghost use Rattle.std.specs.Prelude.{◌≡◌, ℕ, Err, IfOk, List};
 ghost use Rattle.dt_lang.specs.ClauseState.{program_start};
-ghost use Rattle.dt_program.specs.Program.{form_of_program};
+ghost use Rattle.dt_program.specs.Program.{ClauseForm, form_of_program};
+ghost use Rattle.dt_program.specs.Written.{IsWrittenProgram};
 ghost use Rattle.dt_lang.specs.ReaderView.{program_state_of};
 ghost use Rattle.dt_lang.specs.Reads.{Answered, Reading, Reads, destructive, fault, program};
 ghost use Rattle.dt_lang.specs.declared.fault.Why.{Why};
@@ -93,3 +94,9 @@ pub fn some_reading()
     one_lexeme();
     some_lexeme();
 }
+
+/// Law: what is read as a program lies within its bounds: its lists, its texts and names, its expressions and the numbers
+/// that are written in them.
+pub fn read_is_in_bounds()
+    ensures { (text : List ℕ) (clauses : List ClauseForm) → Reads text (program clauses) → IsWrittenProgram clauses }
+{}

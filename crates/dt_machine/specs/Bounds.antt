@@ -1,7 +1,7 @@
--- Within which bounds the numbers, texts and lists of a machine's parts lie. How large its arguments and frames are, their
--- types say.
+-- Within which bounds the numbers, texts and lists of a machine's parts lie.
 use Rattle.std.specs.Prelude.{◌≡◌, ℕ, ◌^◌, ◌<◌, ◌≤◌, List, length, IfSome, FitsSigned}
 use Rattle.std.specs.Int.{w64}
+use Rattle.std.specs.List.{AllByRecursion}
 use Rattle.dt_names.specs.Limits.{name_max, short_text_max}
 use Rattle.dt_cred.specs.Limits.{argument_count, frame_count}
 use Rattle.dt_cred.specs.declared.account.Process.{Process}
@@ -22,6 +22,10 @@ pub record IsProbeInBounds (probe : Probe) : Type 0 where
   pub function : length probe.tuple.function ≤ name_max
   pub name : length probe.tuple.name ≤ name_max
 
+-- a frame of a stack has 64 bits
+abbrev pub IsFrameInBounds : ℕ → Type 0
+IsFrameInBounds frame = frame < 2 ^ 64
+
 pub record IsFiringInBounds (firing : Firing) : Type 0 where
   pub cpu : firing.cpu < cpus_max
   pub pid : firing.pid ≤ pid_max
@@ -30,6 +34,9 @@ pub record IsFiringInBounds (firing : Firing) : Type 0 where
   pub args : length firing.args ≡ argument_count
   pub kstack : length firing.kstack ≡ frame_count
   pub ustack : length firing.ustack ≡ frame_count
+  pub args_fit : AllByRecursion (FitsSigned w64) firing.args
+  pub kstack_fit : AllByRecursion IsFrameInBounds firing.kstack
+  pub ustack_fit : AllByRecursion IsFrameInBounds firing.ustack
 
 -- What holds of the parts of a machine.
 pub record IsInBounds (contents : Contents) : Type 0 where

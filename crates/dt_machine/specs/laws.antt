@@ -5,4 +5,5 @@ pub mod Named
 pub mod Scripts
 pub mod Spelling
 pub mod Soundness
+pub mod Numbers
 pub mod Bounds

@@ -4,4 +4,5 @@ pub mod Bounds
 pub mod Description
 pub mod Clause
 pub mod Program
+pub mod Written
 pub mod laws

@@ -26,7 +26,7 @@ use Rattle.dt_lang.specs.laws.ClauseLaws.{read}
 use Rattle.dt_lang.specs.laws.TakesLaws.{both_left, both_right}
 
 -- bounds
-are_bounds_is : (lower upper by : ℤ) → are_bounds lower upper by ≡ true → AreBounds lower upper by
+pub are_bounds_is : (lower upper by : ℤ) → are_bounds lower upper by ≡ true → AreBounds lower upper by
 are_bounds_is lower upper by e =
     let second = both_right (int_lt lower upper) _ e in
     let third = both_right (int_lt (pos 0) by) _ second in
@@ -38,7 +38,7 @@ are_bounds_is lower upper by e =
       few = both_right test _ third;
     }
 
-are_bounds_true : (lower upper by : ℤ) → AreBounds lower upper by → are_bounds lower upper by ≡ true
+pub are_bounds_true : (lower upper by : ℤ) → AreBounds lower upper by → are_bounds lower upper by ≡ true
 are_bounds_true lower upper by h =
     let even = (Decides-int_eq (int_rem (upper -ℤ lower) by) (pos 0)).1 h.even in
     rw (h.rising, h.forward, even, h.few) refl

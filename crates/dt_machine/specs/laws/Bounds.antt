@@ -18,6 +18,7 @@ use Rattle.dt_machine.specs.Registry.{Registry, Contents, IsSound, Belongs, acco
 use Rattle.dt_machine.specs.Rows.{ProcessRow, FiringRow, account, process, firing, scripts}
 use Rattle.dt_machine.specs.Rows.{arguments, frames, number_in, IsGivenBelow, AreArguments, AreGivenFrames}
 use Rattle.dt_machine.specs.Rows.{IsRightFiring}
+use Rattle.dt_machine.specs.laws.Numbers.{IsRowIn, arguments_fit, frames_fit, row_at_in}
 use Rattle.dt_machine.specs.laws.Scripts.{script_at, scripts_at}
 use Rattle.dt_machine.specs.laws.Spelling.{spelled_at}
 use Rattle.dt_machine.specs.laws.Soundness.{at_pid, described_sound, registry_one, one_or_other}
@@ -73,9 +74,9 @@ frames_many given are =
 -- a firing of a right row that belongs to a sound machine
 firing_so : (registry : Registry) (other : Registry) (cpu place : ℕ) (before : List FiringRow) (row : FiringRow)
     → registry.cpus ≤ 64 → ((pid : ℕ) → IfSome (process_of registry pid) (λ p. p.pid ≤ 999999))
-    → IsRightFiring other before row → Belongs registry (firing cpu place row)
+    → IsRightFiring other before row → IsRowIn row → Belongs registry (firing cpu place row)
     → IsFiringInBounds (firing cpu place row)
-firing_so registry other cpu place before row few small right belongs = record {
+firing_so registry other cpu place before row few small right fits belongs = record {
   cpu = let in_machine = belongs.cpu in omega (arith, in_machine, few);
   pid = known_pid registry.processes (number_in row.pid) 999999 (small (number_in row.pid)) belongs.process;
   tid = below (2 ^ 32) row.tid right.tid;
@@ -83,6 +84,9 @@ firing_so registry other cpu place before row few small right belongs = record {
   args = args_many row.args right.args;
   kstack = frames_many row.kstack right.kstack;
   ustack = frames_many row.ustack right.ustack;
+  args_fit = arguments_fit row.args fits.args;
+  kstack_fit = frames_fit row.kstack fits.kstack;
+  ustack_fit = frames_fit row.ustack fits.ustack;
 }
 
 module _ (text : List ℕ) (contents : Contents) (is : IsDescribed text contents) where
@@ -148,6 +152,7 @@ module _ (text : List ℕ) (contents : Contents) (is : IsDescribed text contents
           subst IsFiringInBounds (sym f.is)
           (firing_so contents.registry all.0 (0 + cpu) (0 + place) (take place at.rows) f.row sound.few_cpus
           sound.small_pids (all.2 cpu at.rows at.there place f.row f.there)
+          (row_at_in text is.data_of is.json.value cpu place at.rows f.row at.there f.there)
           (subst (Belongs contents.registry) f.is belongs))
 
       outer : (o : Option (List FiringType)) → slice_get (scripts 0 (scripts_in is.data_of)) cpu ≡ o
