@@ -4,62 +4,11 @@ Most parts are sessions one after another on one seat, whose replies are reckone
 """
 import json
 
-from running import FIRINGS_MAX, OK, call, fired, judge, machine, near, run, text_of
+from running import (FIRINGS_MAX, OK, call, enable, enabled, fired, fires, go, judge, machine, near, number, option, run, sessions, snap, status, table,
+                     text_of)
 
 EDGES = sorted({sign * power + by for power in (1 << n for n in range(63)) for sign in (-1, 1) for by in (-1, 0, 1)} | {-1 << 63, (1 << 63) - 1})
 STATUS = '{"aggdrops":[0],"cause":null,"errors":[0],"exit":null,"ok":true,"phase":"inactive","seen":0}'
-
-
-def sessions(path, name, rows):
-    """Judges sessions on a machine file: each is a list of steps with their replies, where they have one."""
-    steps, wanted = [], []
-    for session in rows:
-        steps += ["open 0 root", *(step for step, _reply in session), call(cmd="close")]
-        wanted += [*(reply for _step, reply in session if reply), OK]
-    found, status = run("replay", path, text=text_of(steps))
-    found = found.decode().split("\n")[:-1]
-    yield f"replies to {name}", (len(found), status), (len(wanted), 0)
-    for place, (reply, answer) in enumerate(zip(found, wanted)):
-        if reply != "0 " + answer:
-            yield f"reply {place + 1} to {name}", reply, "0 " + answer
-
-
-def enable(text):
-    return call(cmd="enable", text=text)
-
-
-def enabled(count, first=1):
-    return f'{{"count":{count},"first":{first},"ok":true}}'
-
-
-def go():
-    return call(cmd="go"), OK
-
-
-def option(name, value):
-    return call(cmd="option", name=name, value=value), OK
-
-
-def fires(count):
-    return [("fire 0", None)] * count
-
-
-def snap(data, drops=0, filled=False, cpu=0):
-    return call(cmd="snap", cpu=cpu), f'{{"cpu":{cpu},"data":"{data}","drops":{drops},"filled":{json.dumps(filled)},"ok":true}}'
-
-
-def table(function, rows, name=""):
-    rows = json.dumps(rows, separators=(",", ":"))
-    return call(cmd="agg", name=name), f'{{"fn":"{function}","name":"{name}","ok":true,"rows":{rows}}}'
-
-
-def status(seen, cause="null", phase="active", aggdrops=0):
-    reply = f'{{"aggdrops":[{aggdrops}],"cause":{cause},"errors":[0],"exit":null,"ok":true,"phase":"{phase}","seen":{seen}}}'
-    return call(cmd="status"), reply
-
-
-def number(value):
-    return f"{value % (1 << 64):016x}"
 
 
 def signed(value):
@@ -130,17 +79,10 @@ def buffers():
                    *fires(len(seen)), (call(cmd="stop"), OK), shown]
 
 
-def every_buffer():
-    """A session for each size of a buffer up to the one that is had where no line sets it."""
+def every_option():
+    """A session for each number of 16 bits, of which each option that takes numbers takes it."""
     for size in range(1, 1 << 16):
-        yield [option("bufsize", size), (enable("read:entry{}"), enabled(1)), go()]
-
-
-def histories():
-    """Histories of each length, and one firing more, which isn't seen."""
-    for size in near(4_097):
-        yield [option("histsize", size), (enable("read:entry{@ = count()}"), enabled(1)), go(), *fires(size + 1),
-               table("count", [{"key": [], "value": size}]), status(size, '"history"', "stopped")]
+        yield [option("bufsize", size), option("histsize", size), option("aggsize", size + 7), (enable("read:entry{}"), enabled(1)), go()]
 
 
 def stores():
@@ -176,8 +118,29 @@ def sizes(folder):
     """Sessions on a machine whose firings have their places as arguments."""
     path = folder / "machine.json"
     path.write_text(machine([[fired(place) for place in range(FIRINGS_MAX)]]))
-    for part in (texts, consumers, literals, buffers, every_buffer, histories, stores, levels, lines):
+    for part in (texts, consumers, literals, buffers, every_option, stores, levels, lines):
         yield from sessions(path, part.__name__, part())
+
+
+def full_machine(cpus):
+    """A machine of so many processors with full scripts."""
+    scripts = ",".join(["[" + ",".join(['{"probe":3,"pid":100}'] * FIRINGS_MAX) + "]"] * cpus)
+    return machine([[]]).replace('"cpus": 1', f'"cpus": {cpus}').replace("[[]]", f"[{scripts}]")
+
+
+def histories(folder):
+    """Histories of each length, and one firing more, which isn't seen. All are filled by firings of six processors, one after the other."""
+    path = folder / "machine.json"
+    path.write_text(full_machine(6))
+    rows, place = [], 0
+    for size in near(FIRINGS_MAX):
+        fires = [(f"fire {at // FIRINGS_MAX}", None) for at in range(place, place + size + 1)]
+        place += size + 1
+        zeros = json.dumps([0] * 6, separators=(",", ":"))
+        ended = f'{{"aggdrops":{zeros},"cause":"history","errors":{zeros},"exit":null,"ok":true,"phase":"stopped","seen":{size}}}'
+        rows.append([option("histsize", size), (enable("read:entry{@ = count()}"), enabled(1)), go(), *fires, table("count", [{"key": [], "value": size}]),
+                     (call(cmd="status"), ended)])
+    yield from sessions(path, "histories", rows)
 
 
 def row_of(value):
@@ -205,12 +168,27 @@ def values(folder):
 
 
 def frames(folder):
-    """Stacks of each depth."""
+    """Stacks of each depth, of firings with each number of frames."""
     path = folder / "machine.json"
-    path.write_text(machine([[fired(kstack=list(range(1, 9)), ustack=list(range(11, 19)))] * 8]))
-    rows = [[(enable(f"read:entry{{stack({depth}); ustack({depth})}}"), enabled(1)), go(), *fires(1),
-             snap(f"{1:08x}" + "".join(map(number, [*range(1, depth + 1), *range(11, depth + 11)])))] for depth in range(1, 9)]
+    pairs = [(depth, has) for depth in range(1, 9) for has in range(9)]
+    path.write_text(machine([[fired(kstack=list(range(1, has + 1)), ustack=list(range(11, 19 - has))) for _depth, has in pairs]]))
+    rows = []
+    for depth, has in pairs:
+        kept = [it if it <= has else 0 for it in range(1, depth + 1)] + [it if it < 19 - has else 0 for it in range(11, depth + 11)]
+        rows.append([(enable(f"read:entry{{stack({depth}); ustack({depth})}}"), enabled(1)), go(), *fires(1), snap(f"{1:08x}" + "".join(map(number, kept)))])
     yield from sessions(path, "stacks of each depth", rows)
+
+
+def arguments(folder):
+    """Firings with each number of arguments; the others are 0."""
+    path = folder / "machine.json"
+    path.write_text(machine([[fired(*range(1, count + 1)) for count in range(11)]]))
+    first, second = ("read:entry{" + ";".join(f"trace(arg{at})" for at in half) + "}" for half in (range(5), range(5, 10)))
+    data = ""
+    for count in range(11):
+        given = [it if it <= count else 0 for it in range(1, 11)]
+        data += f"{1:08x}" + "".join(map(number, given[:5])) + f"{2:08x}" + "".join(map(number, given[5:]))
+    yield from sessions(path, "each number of arguments", [[(enable(first + second), enabled(2)), go(), *fires(11), snap(data)]])
 
 
 def megabyte_snaps(folder):
@@ -224,19 +202,6 @@ def megabyte_snaps(folder):
         yield from sessions(path, f"a snap of a megabyte under {policy}", [
             [option("bufsize", size), option("bufpolicy", policy), option("histsize", count),
              (enable("read:entry{trace(arg0);trace(arg0 * 3)}"), enabled(1)), go(), *fires(count), snap(data)]])
-
-
-def probes(folder):
-    """Machines of each number of probes, all of them listed, and as many as may be enabled enabled at once."""
-    for count in near(4_096):
-        path = folder / "machine.json"
-        names = [f"syscall::f{place}:entry" for place in range(count)]
-        path.write_text(machine([[]], probes=names))
-        own = [(1, "dtrace:::BEGIN"), (2, "dtrace:::END")]
-        shown = ",".join(f'{{"id":{it},"name":"{name}"}}' for it, name in [*own, *enumerate(names, 3)])
-        answer = enabled(count) if count <= 1_024 else '{"error":9,"name":"Limit"}'
-        yield from sessions(path, f"a list of {count} probes", [[(call(cmd="list", probe=""), f'{{"ok":true,"probes":[{shown}]}}'),
-                                                                  (enable("syscall:::{}"), answer)]])
 
 
 def descriptions(folder):
@@ -280,8 +245,7 @@ def processors(folder):
 def long_inputs(folder):
     """Ten full scripts, worked through for a session whose history ends earlier; and an input of ten megabytes of empty lines."""
     path = folder / "machine.json"
-    scripts = ",".join(["[" + ",".join(['{"probe":3,"pid":100}'] * FIRINGS_MAX) + "]"] * 10)
-    path.write_text(machine([[]]).replace('"cpus": 1', '"cpus": 10').replace("[[]]", f"[{scripts}]"))
+    path.write_text(full_machine(10))
     head = ["open 0 root", call(cmd="option", name="histsize", value=FIRINGS_MAX), enable("read:entry{@ = count()}"), call(cmd="go")]
     ended = table("count", [{"key": [], "value": FIRINGS_MAX}])
     steps = [*head, *(f"fire {place % 10}" for place in range(10 * FIRINGS_MAX)), ended[0]]
@@ -291,4 +255,4 @@ def long_inputs(folder):
     yield "ten megabytes of empty lines", run("replay", path, text=b"\n" * 10_000_000 + b"x\n"), (b"line 10000001: refused\n", 1)
 
 
-judge(sizes, values, frames, megabyte_snaps, probes, descriptions, seats, processors, long_inputs)
+judge(sizes, histories, values, frames, arguments, megabyte_snaps, descriptions, seats, processors, long_inputs)

@@ -12,13 +12,16 @@ FAULT = b"fault\n"
 REPLY = b'0 {"aggdrops":[0],"cause":null,"errors":[0],"exit":null,"ok":true,"phase":"inactive","seen":0}\n'
 
 
+TRAIL = b"account root\n"
+SEEN = b'line {"cmd":"status"}\nreply ' + REPLY[2:]
+
+
 def session(lines):
-    """The input of a session that asks so many lines, and what is answered."""
-    return text_of(["open 0 root", *[call(cmd="status")] * lines]), REPLY * lines
+    """The input of a session that asks so many lines, what is answered, and its trail."""
+    return text_of(["open 0 root", *[call(cmd="status")] * lines]), REPLY * lines, TRAIL + SEEN * lines
 
 
-INPUT, OUTPUT = session(500)
-TRAIL = "account root\n"
+INPUT, OUTPUT, TOLD = session(500)
 
 
 def told(*words, **streams):
@@ -32,17 +35,18 @@ def files(folder):
     """A machine and a trail."""
     path, trail = folder / "machine.json", folder / "trail"
     path.write_text(machine([[]]))
-    trail.write_text(TRAIL)
+    trail.write_bytes(TRAIL)
     return path, trail
 
 
 def folders(folder):
     """A folder in place of each file and of the input: it can be opened and can't be read."""
     path, trail = files(folder)
-    place = os.open(folder, os.O_RDONLY)
-    yield "an input that is a folder", told("replay", path, stdin=place), (b"", FAULT, 1)
-    os.close(place)
-    yield "a machine that is a folder", told("replay", folder), (b"", FAULT, 1)
+    for more in ((), ("--trail", 0)):
+        place = os.open(folder, os.O_RDONLY)
+        yield f"an input that is a folder {more}", told("replay", path, *more, stdin=place), (b"", FAULT, 1)
+        os.close(place)
+        yield f"a machine that is a folder {more}", told("replay", folder, *more), (b"", FAULT, 1)
     yield "a check on a machine that is a folder", told("check", folder, trail), (b"", FAULT, 1)
     yield "a check of a trail that is a folder", told("check", path, folder), (b"", FAULT, 1)
 
@@ -61,21 +65,21 @@ def input_of(content, fails):
 def broken_inputs(folder):
     """Inputs that fail after so many bytes: nothing is written, whatever came before. Where they end there, they are answered."""
     path, _trail = files(folder)
-    answers = {b"": (b"", b"", 0), INPUT: (OUTPUT, b"", 0), INPUT[:12]: (b"", b"", 0), INPUT[:len(INPUT) // 2]: None,
-               b"no step\n": (b"", b"line 1: refused\n", 1)}
+    answers = {b"": [(b"", b"", 0)] * 2, INPUT: [(OUTPUT, b"", 0), (TOLD, b"", 0)], INPUT[:12]: [(b"", b"", 0), (TRAIL, b"", 0)],
+               INPUT[:len(INPUT) // 2]: None, b"no step\n": [(b"", b"line 1: refused\n", 1)] * 2}
     for content, answer in answers.items():
-        for words in (("replay", path), ("replay", path, "--trail", 0)):
+        for place, words in enumerate((("replay", path), ("replay", path, "--trail", 0))):
             with input_of(content, True) as stream:
                 yield f"an input that fails after {len(content)} bytes", told(*words, stdin=stream), (b"", FAULT, 1)
-        if answer:
-            with input_of(content, False) as stream:
-                yield f"an input that ends after {len(content)} bytes", told("replay", path, stdin=stream), answer
+            if answer:
+                with input_of(content, False) as stream:
+                    yield f"an input that ends after {len(content)} bytes", told(*words, stdin=stream), answer[place]
 
 
 def slow_streams(folder):
     """An input that comes byte by byte, and an output that is taken a hundred bytes at a time."""
     path, _trail = files(folder)
-    text, wanted = session(50)
+    text, wanted, _told = session(50)
     with subprocess.Popen([PROGRAM, "replay", path], stdin=subprocess.PIPE, stdout=subprocess.PIPE, bufsize=0) as program:
         def give():
             for byte in text:
@@ -90,22 +94,33 @@ def slow_streams(folder):
     yield "slow streams", (taken, program.returncode), (wanted, 0)
 
 
-def broken_outputs(folder):
-    """Outputs that take so many bytes and then fail: those bytes stand there, and the fault is told."""
-    path, trail = files(folder)
+def taking(count, folder, *words):
+    """What stands where so many bytes are taken, and what the program tells."""
     source, taken = folder / "input", folder / "taken"
-    source.write_bytes(INPUT)
-    for count in (0, 1, 4_096, 10_000, len(OUTPUT) - 1):
-        with open(source, "rb") as stream, open(taken, "wb") as output:
-            limit = resource.getrlimit(resource.RLIMIT_FSIZE)[1]
-            found = told("replay", path, stdin=stream, stdout=output,
-                         preexec_fn=lambda most=count: resource.setrlimit(resource.RLIMIT_FSIZE, (most, limit)))
-        yield f"an output that takes {count} bytes", (taken.read_bytes(), *found), (OUTPUT[:count], b"", FAULT, 1)
-    for words in (("replay", path), ("check", path, trail)):
+    with open(source, "rb") as stream, open(taken, "wb") as output:
+        limit = resource.getrlimit(resource.RLIMIT_FSIZE)[1]
+        found = told(*words, stdin=stream, stdout=output, preexec_fn=lambda: resource.setrlimit(resource.RLIMIT_FSIZE, (count, limit)))
+    return (taken.read_bytes(), *found)
+
+
+def broken_outputs(folder):
+    """Outputs that take so many bytes and then fail: those bytes stand there, and the fault is told. One that takes all is enough."""
+    path, _trail = files(folder)
+    (folder / "input").write_bytes(INPUT)
+    forms = [(("replay", path), OUTPUT, 0), (("replay", path, "--trail", 0), TOLD, 0)]
+    for name, text, line, status in (("agree", TOLD, b"agree 500\n", 0), ("differ", TOLD[:-2] + b"\n", b"differs at 500\n", 1),
+                                     ("illegal", TRAIL + b"fired 0 0\n", b"illegal at 1\n", 1)):
+        (folder / name).write_bytes(text)
+        forms.append((("check", path, folder / name), line, status))
+    for words, output, status in forms:
+        for count in sorted({0, 1, 8, 4_096, 10_000, len(output) - 1}):
+            if count < len(output):
+                yield f"an output of {words} that takes {count} bytes", taking(count, folder, *words), (output[:count], b"", FAULT, 1)
+        yield f"an output of {words} that takes all", taking(len(output), folder, *words), (output, b"", b"", status)
         reader, writer = os.pipe()
         os.close(reader)
-        with open(source, "rb") as stream:
-            yield f"a {words[0]} to nobody", told(*words, stdin=stream, stdout=writer), (b"", FAULT, 1)
+        with open(folder / "input", "rb") as stream:
+            yield f"{words} to nobody", told(*words, stdin=stream, stdout=writer), (b"", FAULT, 1)
         os.close(writer)
 
 
@@ -113,7 +128,8 @@ def silent_errors(folder):
     """Where standard error can't be written either, the status tells."""
     path, trail = files(folder)
     with open("/dev/full", "wb") as full:
-        for words, status in (((), 2), (("replay", folder), 1), (("check", path, folder), 1), (("check", path, trail), 0)):
+        for words, status in (((), 2), (("replay", folder), 1), (("replay", folder, "--trail", 0), 1), (("check", path, folder), 1),
+                              (("check", path, trail), 0)):
             written = b"agree 0\n" if status == 0 else b""
             yield f"a full standard error for {words}", told(*words, stderr=full), (written, b"", status)
 

@@ -8,6 +8,8 @@ mod calls;
 #[cfg(test)]
 mod enabled;
 #[cfg(test)]
+mod long_list;
+#[cfg(test)]
 mod random_steps;
 #[cfg(test)]
 mod rows;
