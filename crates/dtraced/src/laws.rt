@@ -1,6 +1,6 @@
 //! What holds of a replay's trail and a check together, and what the program's words ask for, written out.
 ghost use Rattle.std.specs.Borrow.{Bor};
-ghost use Rattle.std.specs.Prelude.{◌≡◌, ◌⊎◌, ℕ, ⊥, List, [], ◌∷◌, Some, None, codes};
+ghost use Rattle.std.specs.Prelude.{◌≡◌, ◌⊎◌, ℕ, List, [], ◌∷◌, Some, None, codes};
 ghost use Rattle.dt_alone.specs.Verdicts.{IsVerdictOn};
 ghost use Rattle.dt_alone.specs.declared.verdict.Verdict.TheVariants.{Agree};
 ghost use Rattle.dt_machine.specs.Reading.{IsDescribed};
