@@ -20,4 +20,5 @@ pub mod Forms
 pub mod Placed
 pub mod Uses
 pub mod Following
+pub mod Scenes
 pub mod laws

@@ -20,3 +20,6 @@ pub mod Accounts
 pub mod Keeping
 pub mod Phases
 pub mod Counted
+pub mod Scenes
+pub mod Records
+pub mod Shown

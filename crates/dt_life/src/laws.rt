@@ -1,26 +1,36 @@
-//! What holds of the definitions alone: a line has one reply; and the phase of a life, in words.
-ghost use Rattle.std.specs.Prelude.{◌≡◌, ◌≢◌, ◌↔◌, ◌≤◌, true, IsTrue, List, [], ◌∷◌, Option, None, Result, Ok};
+//! What holds of the definitions alone: a line has one reply; the phase of a life, in words; and records are of their layouts.
+ghost use Rattle.std.specs.Prelude.{◌≡◌, ◌≢◌, ◌↔◌, ◌≤◌, ℕ, Bool, true, IsTrue, List, [], ◌∷◌, map, Option, None, Result, Ok};
+ghost use Rattle.std.specs.List.{AllByRecursion};
+ghost use Rattle.dt_buffer.specs.Shows.{Shows};
 ghost use Rattle.dt_cred.specs.declared.account.Account.{Account};
 ghost use Rattle.dt_cred.specs.declared.firing.Firing.{Firing};
+ghost use Rattle.dt_ecb.specs.Ecbs.{EcbForm};
 ghost use Rattle.dt_ecb.specs.Interest.{interest_of};
 ghost use Rattle.dt_machine.specs.Interest as interest;
-ghost use Rattle.dt_machine.specs.Registry.{Registry, Belongs};
+ghost use Rattle.dt_machine.specs.Reading.{IsDescribed};
+ghost use Rattle.dt_machine.specs.Registry.{Belongs, Contents, Registry};
 ghost use Rattle.dt_machine.specs.Shown.{IsShown};
+ghost use Rattle.dt_record.specs.Layout.{layout_of};
+ghost use Rattle.dt_record.specs.Split.{IsSplit, RecordForm};
 ghost use Rattle.dt_life.specs.Acceptance.{IsAcceptedGo};
 ghost use Rattle.dt_life.specs.Answer.{Answer};
 ghost use Rattle.dt_life.specs.Ask.{Ask, go, close};
+ghost use Rattle.dt_life.specs.Buffers.{past};
 ghost use Rattle.dt_life.specs.Ending.{unless_ended, ended_at, ended_by};
 ghost use Rattle.dt_life.specs.Life.{Item, asked, ecbs, has_room, phase, seen_count, set_up, since_then};
 ghost use Rattle.dt_life.specs.Reply.{Replies};
+ghost use Rattle.dt_life.specs.Scenes.{IsLifeInBounds, IsLifeOn, IsOfLayout};
 ghost use Rattle.dt_life.specs.Sees.{Sees};
-ghost use Rattle.dt_life.specs.Takings.{began};
+ghost use Rattle.dt_life.specs.Takings.{began, taken_since};
 ghost use Rattle.dt_life.specs.Tests.{is_accepted_go, is_seen};
 ghost use Rattle.dt_life.specs.declared.phase.End.{End};
 ghost use Rattle.dt_life.specs.declared.phase.Phase.TheVariants.{Inactive, Active, Stopped};
 ghost use Rattle.dt_life.specs.declared.refusal.Refusal.{Refusal};
 
 use dt_buffer::{one_shown, some_shown};
-use dt_ecb::{one_verdict, some_verdict};
+use dt_ecb::{ecbs_go_on, one_verdict, some_verdict};
+use dt_lang::read_is_in_bounds;
+use dt_machine::described_is_in_bounds;
 
 /// Law: a line has at most one reply.
 pub fn one_reply()
@@ -95,3 +105,25 @@ pub fn seen_by_interest()
     ensures admitted { (account : Account) (registry : Registry) (life : List Item) (firing : Firing)
         → Sees account registry life firing → IsShown account registry firing }
 {}
+
+/// Law: what is taken in a life on a machine that a text describes leaves records of the clauses' layouts.
+pub fn records_are_of_layouts()
+    // of lines and firings of the scripts: each program, each firing and what it names lie within their bounds
+    ensures bounded { (text : List ℕ) (contents : Contents) (account : Account) (life : List Item)
+        → IsDescribed text contents → IsLifeOn contents account life
+        → IsLifeInBounds account contents.registry life }
+    // what each taking on a processor leaves fits the layout of its clause, field by field
+    ensures fit { (account : Account) (registry : Registry) (life : List Item) (cpu : ℕ)
+        → IsLifeInBounds account registry life
+        → AllByRecursion IsOfLayout
+        (taken_since account registry (ecbs account registry life) cpu (set_up account registry life).since) }
+    // what the processor's buffer shows is split into such records, by their EPIDs
+    ensures shown { (account : Account) (registry : Registry) (life : List Item) (cpu : ℕ) (bytes : List ℕ) (drops : ℕ)
+        (filled : Bool) → IsLifeInBounds account registry life → Shows (past account registry life cpu) bytes drops filled
+        → (records : List RecordForm)
+        × IsSplit (map (λ (ecb : EcbForm). layout_of ecb.clause) (ecbs account registry life)) bytes records }
+{
+    described_is_in_bounds();
+    read_is_in_bounds();
+    ecbs_go_on();
+}

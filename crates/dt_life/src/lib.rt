@@ -26,7 +26,8 @@ mod visibility;
 pub use command::{Command, OptionValue};
 pub use known::Known;
 pub use laws::{
-    ecbs_stay, one_reply, phases, seen_by_interest, seen_within_history, some_reply, tests_agree,
+    ecbs_stay, one_reply, phases, records_are_of_layouts, seen_by_interest, seen_within_history,
+    some_reply, tests_agree,
 };
 pub use limit_laws::limits_agree;
 pub use limits::{AGGSIZE, AGGSIZE_MIN, BEGIN, BUFFER_SIZE, END, HISTORY, HISTORY_MAX, LINES_MAX};
