@@ -1,9 +1,9 @@
 -- What ends tracing.
-use Rattle.std.specs.Prelude.{List, Option, Some, None, Ok}
+use Rattle.std.specs.Prelude.{Option, Some, None, Ok}
 use Rattle.std.specs.Option.{option_map, option_map_or}
 use Rattle.dt_cred.specs.declared.account.Account.{Account}
 use Rattle.dt_machine.specs.Registry.{Registry}
-use Rattle.dt_life.specs.Ask.{go, stop, close}
+use Rattle.dt_life.specs.Ask.{stop, close}
 use Rattle.dt_life.specs.Life.{Item, asked, fired, SetUp, end_by, with_event}
 use Rattle.dt_life.specs.Takings.{TracingEvent, seen}
 use Rattle.dt_life.specs.declared.phase.End.{End}

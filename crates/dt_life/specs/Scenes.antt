@@ -3,25 +3,29 @@ use Rattle.std.specs.Prelude.{◌≡◌, ℕ, ◌<◌, ◌^◌, List, Some, Resu
 use Rattle.std.specs.List.{AllByRecursion}
 use Rattle.dt_cred.specs.declared.account.Account.{Account}
 use Rattle.dt_cred.specs.declared.firing.Firing.{Firing}
-use Rattle.dt_lang.specs.Reads.{Reading, program}
+use Rattle.dt_lang.specs.Reads.{Reading, Reads, program}
 use Rattle.dt_machine.specs.Bounds.{IsProcessInBounds, IsProbeInBounds, IsFiringInBounds}
 use Rattle.dt_machine.specs.Registry.{Contents, Registry, account_of, process_of, probe_of, firing_at}
 use Rattle.dt_program.specs.Written.{IsWrittenProgram}
 use Rattle.dt_record.specs.Layout.{layout_of}
 use Rattle.dt_record.specs.Showing.{FitLayout}
-use Rattle.dt_life.specs.Ask.{enable, line_asks}
+use Rattle.dt_life.specs.Ask.{Ask, enable}
 use Rattle.dt_life.specs.Life.{Item, asked, fired}
 use Rattle.dt_life.specs.Takings.{Taking, left_by}
-use Rattle.dt_life.specs.declared.command.Command.{Command}
 use Rattle.dt_life.specs.declared.refusal.Refusal.{Refusal}
 
 -- the firing stands in one of the scripts
 abbrev pub IsScripted : List (List Firing) → Firing → Type 0
 IsScripted scripts firing = (cpu : ℕ) × (place : ℕ) × (firing_at scripts cpu place ≡ Some firing)
 
+-- what is read of a program is the reading of some text
+abbrev pub MayBeAsked : Result Ask Refusal → Type 0
+MayBeAsked (Ok (enable reading)) = (text : List ℕ) × Reads text reading
+MayBeAsked _ = Unit {0}
+
 -- what may reach a consumer: what a line asks for, or a firing of a script
 abbrev pub MayReach : List (List Firing) → Item → Type 0
-MayReach scripts (asked line) = (given : Result Command Refusal) × (line ≡ line_asks given)
+MayReach scripts (asked line) = MayBeAsked line
 MayReach scripts (fired firing) = IsScripted scripts firing
 
 -- a life on a machine, of one of its accounts

@@ -1,11 +1,10 @@
 -- A life on a described machine is within bounds, and so is each scene of its takings.
 use Rattle.std.proofs.Common.{◌≡◌, ℕ, zero, suc, ◌^◌, ◌<◌, ◌≤◌, List, [], ◌∷◌, Option, Some, None, Result, Ok, Err, IfSome}
-use Rattle.std.proofs.Common.{ℤ, pos, FitsSigned, length, map, replicate, refl, sym, subst, arith, lit<}
+use Rattle.std.proofs.Common.{ℤ, pos, FitsSigned, length, map, replicate, refl, subst, arith, lit<}
 use Rattle.std.specs.Int.{w64}
 use Rattle.std.specs.List.{AllByRecursion}
 use Rattle.std.specs.Option.{option_map, option_and_then}
 use Rattle.std.specs.Prelude.{slice_index_or}
-use Rattle.std.specs.String.{string_bytes}
 use Rattle.dt_cred.specs.Limits.{argument_count, frame_count}
 use Rattle.dt_cred.specs.declared.account.Account.{Account}
 use Rattle.dt_cred.specs.declared.account.Process.{Process}
@@ -28,13 +27,11 @@ use Rattle.dt_program.specs.Program.{ClauseForm, StatementForm}
 use Rattle.dt_program.specs.Program as statement
 use Rattle.dt_program.specs.Written.{HasWrittenParts, IsWrittenText, IsWrittenStatement, IsWrittenClause, IsWrittenProgram}
 use Rattle.dt_record.specs.Showing.{CanBeTaken, IsExpressionInBounds, IsSceneInBounds, IsStatementInBounds, IsTextInBounds}
-use Rattle.dt_life.specs.Ask.{is_read, line_asks, reading_of}
+use Rattle.dt_life.specs.Ask.{Ask, option, enable, go, stop, snap, agg, trunc, status, list, describe, close}
 use Rattle.dt_life.specs.Life.{Item, asked, fired}
-use Rattle.dt_life.specs.Scenes.{IsItemInBounds, IsLifeInBounds, IsLifeOn, IsReadingInBounds, MayReach}
+use Rattle.dt_life.specs.Scenes.{IsItemInBounds, IsLifeInBounds, IsLifeOn, IsReadingInBounds, MayBeAsked, MayReach}
 use Rattle.dt_life.specs.Takings.{TracingEvent, began, seen, read, truncated, ended, closed, MomentForm, moment_at}
 use Rattle.dt_life.specs.Takings.{moment_in, own_firing, own_process, scene_at}
-use Rattle.dt_life.specs.declared.command.Command.{Command}
-use Rattle.dt_life.specs.declared.command.Command.TheVariants as command
 use Rattle.dt_life.specs.declared.refusal.Refusal.{Refusal}
 
 -- lists
@@ -58,42 +55,41 @@ there P None x h e = cc
 there P (Some y) x h e = let same : y ≡ x = cc in subst P same h
 
 -- lives
-module _ (written : (text : List ℕ) (clauses : List ClauseForm) → Reads text (program clauses) → IsWrittenProgram clauses)
-  where
-    reading_in : (text : List ℕ) (reading : Reading) → Reads text reading → IsReadingInBounds reading
-    reading_in text (program clauses) h = written text clauses h
-    reading_in text (fault at why) h = tt
-    reading_in text (destructive at what) h = tt
+module _ (written : (text : List ℕ) (clauses : List ClauseForm) → Reads text (program clauses)
+    → IsWrittenProgram clauses) where
+  reading_in : (text : List ℕ) (reading : Reading) → Reads text reading → IsReadingInBounds reading
+  reading_in text (program clauses) h = written text clauses h
+  reading_in text (fault at why) h = tt
+  reading_in text (destructive at what) h = tt
 
-    line_in : (given : Result Command Refusal) → IsItemInBounds (asked (line_asks given))
-    line_in (Err refusal) = tt
-    line_in (Ok (command.Option name value)) = tt
-    line_in (Ok (command.Enable text)) =
-        reading_in (string_bytes text) (reading_of (string_bytes text)) (is_read (string_bytes text))
-    line_in (Ok command.Go) = tt
-    line_in (Ok command.Stop) = tt
-    line_in (Ok (command.Snap cpu)) = tt
-    line_in (Ok (command.Agg name)) = tt
-    line_in (Ok (command.Trunc name)) = tt
-    line_in (Ok command.Status) = tt
-    line_in (Ok (command.List probe)) = tt
-    line_in (Ok (command.Describe epid)) = tt
-    line_in (Ok command.Close) = tt
+  line_in : (line : Result Ask Refusal) → MayBeAsked line → IsItemInBounds (asked line)
+  line_in (Err refusal) h = tt
+  line_in (Ok (option setting)) h = tt
+  line_in (Ok (enable reading)) h = reading_in h.0 reading h.1
+  line_in (Ok go) h = tt
+  line_in (Ok stop) h = tt
+  line_in (Ok (snap cpu)) h = tt
+  line_in (Ok (agg name)) h = tt
+  line_in (Ok (trunc name)) h = tt
+  line_in (Ok status) h = tt
+  line_in (Ok (list desc)) h = tt
+  line_in (Ok (describe epid)) h = tt
+  line_in (Ok close) h = tt
 
-    item_in : (contents : Contents) → IsInBounds contents → (item : Item) → MayReach contents.scripts item
-        → IsItemInBounds item
-    item_in contents is (asked line) h = subst (λ l. IsItemInBounds (asked l)) (sym h.1) (line_in h.0)
-    item_in contents is (fired firing) h =
-        there IsFiringInBounds (firing_at contents.scripts h.0 h.1) firing (is.firings h.0 h.1) h.2
+  item_in : (contents : Contents) → IsInBounds contents → (item : Item) → MayReach contents.scripts item
+      → IsItemInBounds item
+  item_in contents is (asked line) h = line_in line h
+  item_in contents is (fired firing) h =
+      there IsFiringInBounds (firing_at contents.scripts h.0 h.1) firing (is.firings h.0 h.1) h.2
 
-    pub life_in : (contents : Contents) (account : Account) (life : List Item) → IsInBounds contents
-        → IsLifeOn contents account life → IsLifeInBounds account contents.registry life
-    life_in contents account life is on = record {
-      uid = there (λ a. a.uid < 2 ^ 32) (account_of contents.registry on.name) account (is.uids on.name) on.known;
-      processes = is.processes;
-      probes = is.probes;
-      items = all_weaker (MayReach contents.scripts) IsItemInBounds (item_in contents is) life on.reached;
-    }
+  pub life_in : (contents : Contents) (account : Account) (life : List Item) → IsInBounds contents
+      → IsLifeOn contents account life → IsLifeInBounds account contents.registry life
+  life_in contents account life is on = record {
+    uid = there (λ a. a.uid < 2 ^ 32) (account_of contents.registry on.name) account (is.uids on.name) on.known;
+    processes = is.processes;
+    probes = is.probes;
+    items = all_weaker (MayReach contents.scripts) IsItemInBounds (item_in contents is) life on.reached;
+  }
 
 -- moments
 pub record IsMomentInBounds (m : MomentForm) : Type 0 where

@@ -1,7 +1,6 @@
 -- An account under another name is shown the same firings.
 use Rattle.std.proofs.Common.{◌≡◌, ℕ, Bool, true, List, Some, IsTrue, ap, sym, subst}
 use Rattle.std.specs.Option.{option_map_or}
-use Rattle.dt_cred.specs.Rights.{admits}
 use Rattle.dt_cred.specs.declared.account.Account.{Account}
 use Rattle.dt_cred.specs.declared.account.Process.{Process}
 use Rattle.dt_cred.specs.declared.class.Class.{Class}

@@ -1,14 +1,14 @@
 -- The accounts of a machine that a file describes have plain names, and are found by them.
-use Rattle.std.proofs.Common.{◌≡◌, ◌≢◌, ℕ, zero, suc, ◌<◌, Bool, true, false, cond, List, [], ◌∷◌, Option, Some, None, map, length, take}
-use Rattle.std.proofs.Common.{refl, sym, ap, ◌∙◌, subst, ⊎_elim, arith}
+use Rattle.std.proofs.Common.{◌≡◌, ◌≢◌, ℕ, suc, ◌<◌, Bool, true, false, cond, List, [], ◌∷◌, Some, map}
+use Rattle.std.proofs.Common.{refl, subst, ⊎_elim, arith}
 use Rattle.std.proofs.lemmas.List.Elements.{All-weaker}
 use Rattle.std.proofs.lemmas.Slice.Eq.{bytes_eq-Decides}
 use Rattle.std.specs.List.{All, find, slice_get}
 use Rattle.std.specs.Str.{bytes_eq}
 use Rattle.dt_cred.specs.declared.account.Account.{Account}
-use Rattle.dt_machine.specs.Reading.{AllRight, IsDescribed, accounts_in}
+use Rattle.dt_machine.specs.Reading.{IsDescribed, accounts_in}
 use Rattle.dt_machine.specs.Registry.{Contents, account_of}
-use Rattle.dt_machine.specs.Rows.{AccountRow, account, IsAccountByte, IsAccountName, IsRightAccount}
+use Rattle.dt_machine.specs.Rows.{AccountRow, account, IsAccountByte, IsAccountName}
 use Rattle.dt_machine.specs.declared.fault.FaultNumber.TheVariants as number
 
 -- what is found passes the test, and is one of the list
