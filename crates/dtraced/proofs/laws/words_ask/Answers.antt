@@ -1,5 +1,6 @@
 -- What words ask for that are written out: clap's definitions are worked out on them.
 use Rattle.std.proofs.Common.{◌≡◌, ℕ, Bool, true, false, List, [], ◌∷◌, Option, Some, None, codes, refl, sym, ap, arith}
+use Rattle.std.specs.Fmt.{decimal, digits}
 use Rattle.std.specs.Option.{option_map_or}
 use Rattle.clap.specs.Words.{Row, Text, fault_of, subcommand_of}
 use Rattle.clap.proofs.OnLiterals.{clap_on_literals}
@@ -23,6 +24,11 @@ followed = codes "dtraced" ∷ codes "replay" ∷ codes "m" ∷ codes "--trail" 
 abbrev checked : List Text
 checked = codes "dtraced" ∷ codes "check" ∷ codes "m" ∷ codes "t" ∷ []
 
+-- a seat's digits
+five : codes "5" ≡ decimal 5
+unfolding digits
+five = refl
+
 pub returns-clause-replay : goal.returns-clause-replay
 unfolding clap_on_literals
 returns-clause-replay c = λ machine is. record {
@@ -38,7 +44,7 @@ returns-clause-trail c = λ machine is. record {
   faultless = refl;
   given = given_by followed;
   named = refl;
-  values = (ap Some (sym is), record { within = omega arith; spelled = refl });
+  values = (ap Some (sym is), record { within = omega arith; spelled = five });
 }
 
 pub returns-clause-check : goal.returns-clause-check
