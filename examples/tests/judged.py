@@ -8,7 +8,7 @@ import random
 from running import FIRINGS_MAX, LINES_MAX, call, fired, judge, machine, run, text_of
 
 CPUS = 4
-SESSIONS = 1_000
+SESSIONS = 1_200
 CHANGED = 150
 
 

@@ -232,14 +232,17 @@ def seats(folder):
 
 
 def processors(folder):
-    """Each number of processors, each of which fires once and is read."""
+    """Each number of processors, each of which fires once and is read; and what is told of all of them at once."""
     path = folder / "machine.json"
     for count in range(1, 65):
         path.write_text(machine([[fired(place)] for place in range(count)]))
         shown = [snap(f"{1:08x}" + number(cpu), cpu=cpu) for cpu in range(count)]
+        none = ",".join(["0"] * count)
+        told = (call(cmd="status"), f'{{"aggdrops":[{none}],"cause":null,"errors":[{none}],"exit":null,"ok":true,"phase":"active","seen":{count}}}')
         yield from sessions(path, f"{count} processors", [
-            [(enable("read:entry{trace(arg0)}"), enabled(1)), go(), *((f"fire {cpu}", None) for cpu in range(count)), *shown,
-             (call(cmd="snap", cpu=count), '{"error":12,"name":"NoCpu"}')]])
+            [(enable("read:entry{trace(arg0); @ = sum(arg0 + 1)}"), enabled(1)), go(), *((f"fire {cpu}", None) for cpu in range(count)), *shown,
+             (call(cmd="snap", cpu=count), '{"error":12,"name":"NoCpu"}'), told,
+             table("sum", [{"key": [], "value": count * (count + 1) // 2}]), (call(cmd="trunc", name=""), OK), table("sum", [])]])
 
 
 def long_inputs(folder):

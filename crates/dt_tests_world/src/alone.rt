@@ -48,22 +48,35 @@ fn a_consumer_is_answered_alone(rt: HostRuntime) -> Result<(), Fail> {
     Ok(())
 }
 
-/// More lines than a session may ask: each but the first two is none, and after 1,024 lines the quota is used up.
+/// A firing three thousand times, and more lines than a session may ask: each but the first three is none, and after 1,024 lines the quota
+/// is used up.
 #[test]
 fn a_long_life_is_answered_alone(rt: HostRuntime) -> Result<(), Fail> {
     let alloc = rt.alloc();
     let machine = machine_of(alloc, MACHINE)?;
-    let mut items = items_of(alloc, &machine, &[ENABLE, GO, "fired"])?;
+    let mut items = items_of(alloc, &machine, &[ENABLE, GO])?;
+    for _firing in 0..3_000usize {
+        items.append(&mut items_of(alloc, &machine, &["fired"])?)?;
+    }
+    items.append(&mut items_of(alloc, &machine, &[SNAP])?)?;
     for _line in 0..1_100usize {
         items.push(Item::Line(asked(alloc, b"[]")?))?;
     }
     let told = answered_alone(alloc, &machine, "root", &items)?;
-    assert_eq!(rt; told.len(), 1_102usize);
+    assert_eq!(rt; told.len(), 1_103usize);
+    let data = "00000001".repeat(alloc, 3_000)?;
+    let shown = [
+        r#"{"cpu":0,"data":""#,
+        data.as_str(),
+        "\",\"drops\":0,\"filled\":false,\"ok\":true}\n",
+    ]
+    .concat(alloc)?;
     for (place, reply) in told.iter().enumerate() {
         let wanted = match place {
             0 => "{\"count\":1,\"first\":1,\"ok\":true}\n",
             1 => "{\"ok\":true}\n",
-            2..=1_023 => "{\"error\":2,\"name\":\"Request\"}\n",
+            2 => shown.as_str(),
+            3..=1_023 => "{\"error\":2,\"name\":\"Request\"}\n",
             _ => "{\"error\":15,\"name\":\"Quota\"}\n",
         };
         assert_eq!(rt; reply.as_slice(), wanted.as_bytes(), "{place}");
