@@ -220,15 +220,20 @@ def descriptions(folder):
 
 
 def seats(folder):
-    """Each number of sessions at once, which all see one firing."""
+    """Sessions at once, which all see one firing: each number up to 65, and those around each further 64."""
     path = folder / "machine.json"
     path.write_text(machine([[fired(5)]]))
-    for count in range(1, 65):
+    for count in sorted({*range(1, 65), 65, 127, 128, 129, 191, 192, 193, 255, 256}):
         begin = [step for seat in range(count) for step in (f"open {seat} root", call(seat, cmd="enable", text="read:entry{trace(arg0)}"), call(seat, cmd="go"))]
         end = [call(seat, cmd="snap", cpu=0) for seat in range(count)]
         replies = [f"{seat} {reply}" for seat in range(count) for reply in (enabled(1), OK)]
         replies += [f"{seat} {snap(f'{1:08x}' + number(5))[1]}" for seat in range(count)]
         yield f"{count} sessions", run("replay", path, text=text_of([*begin, "fire 0", *end])), (text_of(replies), 0)
+    opens = [f"open {seat} root" for seat in range(256)]
+    lines = [f"call {seat} []" for seat in range(256)]
+    replies = [f'{seat} {{"error":2,"name":"Request"}}' for seat in range(256)]
+    yield "an open on each taken seat", run("replay", path, text=text_of([*opens, *lines, *opens, *lines])), (text_of(replies * 2), 0)
+    yield "an open past the last seat", run("replay", path, text=text_of([*opens, "open 256 root"])), (b"line 257: refused\n", 1)
 
 
 def processors(folder):

@@ -13,7 +13,5 @@ pub mod Decimals
 pub mod Entries
 pub mod Trails
 pub mod Verdicts
-pub mod Lives
-pub mod Trailed
 pub mod Judging
 pub mod SoFar

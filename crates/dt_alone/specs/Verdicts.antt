@@ -1,14 +1,10 @@
 -- The verdict on a trail.
-use Rattle.std.specs.Prelude.{◌≡◌, ℕ, ◌+◌, List, [], ◌∷◌, ◌++◌, Some, length, map, reverse}
-use Rattle.std.specs.List.{flat_map}
+use Rattle.std.specs.Prelude.{◌≡◌, ℕ, ◌+◌, List, [], ◌∷◌, ◌++◌, Some, length, reverse}
 use Rattle.dt_cred.specs.declared.account.Account.{Account}
 use Rattle.dt_machine.specs.Registry.{Registry, Contents}
-use Rattle.dt_life.specs.Answer.{Answer}
-use Rattle.dt_proto.specs.Alone.{Reached, Alone}
-use Rattle.dt_proto.specs.Reply.{reply_text}
 use Rattle.dt_proto.specs.Session.{session_account}
 use Rattle.dt_proto.specs.Trail.{TrailEntry, replies_of, SpellsTrail}
-use Rattle.dt_proto.specs.Legal.{Agrees, MayStand, IsRight, reached_by}
+use Rattle.dt_proto.specs.Legal.{Agrees, MayStand, IsRight}
 use Rattle.dt_alone.specs.declared.verdict.Verdict.{Verdict}
 use Rattle.dt_alone.specs.declared.verdict.Verdict.TheVariants.{Agree, Differs, Illegal}
 
@@ -16,17 +12,7 @@ use Rattle.dt_alone.specs.declared.verdict.Verdict.TheVariants.{Agree, Differs, 
 abbrev pub replies_in : List TrailEntry → ℕ
 replies_in entries = length (replies_of entries)
 
--- the view that entries tell, the oldest first, of which the newest goes first
-abbrev pub view_by : Contents → List TrailEntry → List Reached
-view_by contents entries = flat_map (reached_by contents) (reverse entries)
-
 module _ (account : Account) (contents : Contents) where
-  -- The replies of entries, the oldest first, are those that a consumer is answered which traces alone, with just what
-  -- these entries tell.
-  abbrev pub AreRepliesAlone : List TrailEntry → Type 0
-  AreRepliesAlone entries = (answers : List Answer) × Alone account contents.registry (view_by contents entries) answers
-      × (replies_of entries ≡ map reply_text answers)
-
   -- The verdict on entries, the oldest first: they agree; or the first that may not stand, or whose reply is not the
   -- one that is due.
   abbrev pub IsTrailVerdict : List TrailEntry → Verdict → Type 0

@@ -1,13 +1,12 @@
 -- What a bit of a number is after one bit was set or cleared.
 use Rattle.std.proofs.Common.{◌≡◌, ◌↔◌, IsTrue, ◌≢◌, ℕ, ◌-◌, ◌*◌, ◌^◌, ◌%◌, ◌<◌, ◌≤◌, Bool, true, false, cond, eqb}
-use Rattle.std.proofs.Common.{Option, Some, None, MatchOption, ⊎_elim, refl, ap, sym, ◌∙◌, arith, w64, bit_and, bit_or}
+use Rattle.std.proofs.Common.{⊎_elim, refl, ap, sym, ◌∙◌, arith, w64, bit_and, bit_or}
 use Rattle.std.proofs.lemmas.Bool.{cases_lt, eqb-true, eq-eqb, false≢true}
 use Rattle.std.proofs.lemmas.Bool.Decides.{nat_tests}
 use Rattle.std.proofs.lemmas.Nat.{and_le_l}
 use Rattle.std.proofs.lemmas.Nat.Bits.{bit_at_set_same, bit_at_set_other, bit_at_clear_same, bit_at_clear_other}
 use Rattle.std.proofs.lemmas.Nat.Bits.{bit_at_above, bit_at-zero, bit_at-trailing_zeros}
 use Rattle.std.specs.Int.{bit_at, trailing_zeros}
-use Rattle.std.specs.Option.{SomeIff}
 use lib.Count.{trailing_of_zero}
 
 abbrev set_at : ℕ → ℕ → ℕ
@@ -54,40 +53,41 @@ less_cleared n k h up =
     absurd (omega arith) in
     omega arith
 
--- the place of the lowest one, if there is one
-pub lowest_one : (n : ℕ) (found : Option ℕ) → n < 18446744073709551616
-    → SomeIff found (trailing_zeros w64 n < 64) (trailing_zeros w64 n)
-    → MatchOption found ((i : ℕ) → eqb (bit_at n i) 1 ≡ false)
-    (λ k. (eqb (bit_at n k) 1 ≡ true) × ((i : ℕ) → i < k → eqb (bit_at n i) 1 ≡ false))
-lowest_one n None fits far = λ i.
+-- the place of the lowest one, where there is one
+pub lowest_one : (n : ℕ) → n < 18446744073709551616 → trailing_zeros w64 n < 64
+    → (trailing_zeros w64 n < 64) × (eqb (bit_at n (trailing_zeros w64 n)) 1 ≡ true)
+    × ((i : ℕ) → i < trailing_zeros w64 n → eqb (bit_at n i) 1 ≡ false)
+lowest_one n fits near =
     ⊎_elim
-    (λ (some : 0 < n). absurd (far ((bit_at-trailing_zeros w64 n some fits).0)))
+    (λ (some : 0 < n).
+    let lowest = bit_at-trailing_zeros w64 n some fits in
+    (near, ap (λ b. eqb b 1) lowest.1, λ i below. ap (λ b. eqb b 1) (lowest.2 i below)))
+    (λ (none : n ≤ 0).
+    let zero_ : n ≡ 0 = omega arith in
+    let last : trailing_zeros w64 n ≡ 64 = ap (trailing_zeros w64) zero_ ∙ trailing_of_zero 64 in
+    absurd (omega (arith, near, last)))
+    (cases_lt 0 n)
+
+-- where there is none, no bit is set
+pub none_far : (n : ℕ) → n < 18446744073709551616 → 64 ≤ trailing_zeros w64 n
+    → (i : ℕ) → eqb (bit_at n i) 1 ≡ false
+none_far n fits far i =
+    ⊎_elim
+    (λ (some : 0 < n). absurd (omega (arith, far, (bit_at-trailing_zeros w64 n some fits).0)))
     (λ (none : n ≤ 0).
     let zero_ : n ≡ 0 = omega arith in
     ap (λ m. eqb (bit_at m i) 1) zero_ ∙ ap (λ b. eqb b 1) (bit_at-zero i))
     (cases_lt 0 n)
-lowest_one n (Some k) fits near =
-    ⊎_elim
-    (λ (some : 0 < n).
-    let lowest = bit_at-trailing_zeros w64 n some fits in (
-      ap (λ j. eqb (bit_at n j) 1) near.1 ∙ ap (λ b. eqb b 1) lowest.1,
-      λ i below. ap (λ b. eqb b 1) (lowest.2 i (omega (arith, near.1, below))),
-    ))
-    (λ (none : n ≤ 0).
-    let zero_ : n ≡ 0 = omega arith in
-    let last : trailing_zeros w64 n ≡ 64 = ap (trailing_zeros w64) zero_ ∙ trailing_of_zero 64 in
-    absurd (omega (arith, near.0, last)))
-    (cases_lt 0 n)
 
 -- no bit is set in zero alone
 pub none_up : (n : ℕ) → n < 18446744073709551616
-    → IsTrue (eqb n 0) ↔ ((i : ℕ) → eqb (bit_at n i) 1 ≡ false)
+    → IsTrue (eqb n 0) ↔ ((i : ℕ) → i < 64 → eqb (bit_at n i) 1 ≡ false)
 none_up n fits = (
-  λ e i. ap (λ m. eqb (bit_at m i) 1) (eqb-true n 0 e) ∙ ap (λ b. eqb b 1) (bit_at-zero i),
+  λ e i low. ap (λ m. eqb (bit_at m i) 1) (eqb-true n 0 e) ∙ ap (λ b. eqb b 1) (bit_at-zero i),
   λ none. ⊎_elim
       (λ (some : 0 < n).
       let lowest = bit_at-trailing_zeros w64 n some fits in
-      absurd (false≢true (sym (none (trailing_zeros w64 n)) ∙ ap (λ b. eqb b 1) lowest.1)))
+      absurd (false≢true (sym (none (trailing_zeros w64 n) lowest.0) ∙ ap (λ b. eqb b 1) lowest.1)))
       (λ (zero_ : n ≤ 0). eq-eqb n 0 (omega arith))
       (cases_lt 0 n),
 )

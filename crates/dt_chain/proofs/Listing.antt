@@ -32,20 +32,20 @@ pub record Changed (old new : List SeatSet) (probe seat : ℕ) (flag : Bool) : T
   pub elsewhere : (at other : ℕ) → at ≢ probe → is_seat_listed new at other ≡ is_seat_listed old at other
   pub others : (at other : ℕ) → other ≢ seat → is_seat_listed new at other ≡ is_seat_listed old at other
 
-pub changed_one : (lists : List SeatSet) (probe seat : ℕ) (flag : Bool) (seats : SeatSet) → probe < length lists
+pub changed_one : (lists : List SeatSet) (probe seat : ℕ) (flag : Bool) (seats empty : SeatSet) → probe < length lists
     → ((other : ℕ) → has seats other
-    ≡ cond (eqb other seat) flag (has (get_or lists probe (record { bits = 0 })) other))
+    ≡ cond (eqb other seat) flag (has (get_or lists probe empty) other))
     → Changed lists (set lists probe seats) probe seat flag
-changed_one lists probe seat flag seats within changes =
+changed_one lists probe seat flag seats empty within changes =
     let here : slice_get (set lists probe seats) probe ≡ Some seats = get-set_same lists probe seats within in
-    let was : slice_get lists probe ≡ Some (get_or lists probe (record { bits = 0 })) =
-    slice_get-get_or lists probe (record { bits = 0 }) within in
+    let was : slice_get lists probe ≡ Some (get_or lists probe empty) =
+    slice_get-get_or lists probe empty within in
     let same : (other : ℕ) → other ≢ seat
     → is_seat_listed (set lists probe seats) probe other ≡ is_seat_listed lists probe other =
     λ other ne.
     ap (λ o. option_map_or (λ s. has s other) o false) here
     ∙ changes other
-    ∙ ap (λ b. cond b flag (has (get_or lists probe (record { bits = 0 })) other)) (ne_eqb other seat ne)
+    ∙ ap (λ b. cond b flag (has (get_or lists probe empty) other)) (ne_eqb other seat ne)
     ∙ sym (ap (λ o. option_map_or (λ s. has s other) o false) was) in
     let elsewhere : (at other : ℕ) → at ≢ probe
     → is_seat_listed (set lists probe seats) at other ≡ is_seat_listed lists at other =
@@ -54,7 +54,7 @@ changed_one lists probe seat flag seats within changes =
       own =
           ap (λ o. option_map_or (λ s. has s seat) o false) here
           ∙ changes seat
-          ∙ ap (λ b. cond b flag (has (get_or lists probe (record { bits = 0 })) seat)) (eq-eqb seat seat refl);
+          ∙ ap (λ b. cond b flag (has (get_or lists probe empty) seat)) (eq-eqb seat seat refl);
       elsewhere = elsewhere;
       others = λ at other ne.
           ⊎_elim

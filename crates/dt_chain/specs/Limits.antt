@@ -4,7 +4,7 @@ use Rattle.dt_machine.specs.Limits.{probe_id_max}
 
 -- how many seats there are
 abbrev pub seat_count : ℕ
-seat_count = 64
+seat_count = 256
 
 -- how many lists of seats there are: one for each number up to the largest identifier of a probe
 abbrev pub list_count : ℕ

@@ -1,11 +1,13 @@
 //! The entries of all seats.
-ghost use Rattle.std.specs.Prelude.{◌≡◌, ◌≤◌, ℕ, List, [], ◌∷◌, None, IsOk, IsSome, IsNone, OnOk, OnErr, vec_len, slice_index_or, if◌then◌else◌};
+ghost use Rattle.std.specs.Prelude.{◌≡◌, ◌≤◌, ◌<◌, ℕ, List, [], ◌∷◌, false, None, IsOk, IsSome, IsTrue, IsNone, OnOk, OnErr, vec_len, slice_index_or, if◌then◌else◌};
 ghost use Rattle.dt_chain.specs.declared.lists.TheConstants.{LISTS};
+ghost use Rattle.dt_chain.specs.declared.seat_set.TheConstants.{SEAT_WORDS};
 
 use crate::lists::{LISTS, list, strike};
 use crate::seat::{SEATS, Seat};
 use crate::seat_mask::SeatMask;
-use crate::seat_set::SeatSet;
+use crate::seat_set::{SEAT_WORDS, SeatSet};
+use crate::seat_word::SeatWord;
 use crate::write::{Kind, Write};
 use dt_cred::{Account, Mode, Probe, Process, admits};
 use dt_machine::{Firing, Interest, Machine};
@@ -31,7 +33,7 @@ pub(crate) struct Slot {
 impl Entries {
     ghost use Rattle.dt_chain.specs.Writes.{Write, published, withdrawn, entry_of};
     ghost use Rattle.dt_chain.specs.Look.{IsLook};
-    ghost use Rattle.dt_chain.specs.Seats.{has, life_at};
+    ghost use Rattle.dt_chain.specs.Seats.{has, is_in_word, life_at};
     ghost use Rattle.dt_chain.specs.Kept.{is_seat_listed, life_shown};
     ghost use Rattle.dt_chain.specs.IsAt.{EntriesAreAt, HasListRoom};
 
@@ -45,7 +47,7 @@ impl Entries {
         }
     }
 
-    /// Takes the room for all that may be published (32 KB), if it isn't taken yet: no publication needs memory
+    /// Takes the room for all that may be published (131 KB), if it isn't taken yet: no publication needs memory
     /// then.
     ///
     /// `Err`: there was no memory. The entries are as they were, in both cases.
@@ -123,14 +125,25 @@ impl Entries {
         ensures { (writes : List Write) → EntriesAreAt writes self.now
             → IsLook machine.now.registry writes firing.now (life_at result) }
     {
+        let mut mask = SeatMask::new();
+        self.look_into(machine, firing, &mut mask);
+        mask
+    }
+
+    /// A look ([`Entries::look`]) into a mask that is lent: what that named before is forgotten. It touches the lives of the
+    /// seats that are named and of no others, and takes no memory.
+    pub fn look_into(&self, machine: &Machine, firing: &Firing, mask: &mut SeatMask)
+        ensures { (writes : List Write) → EntriesAreAt writes self.now
+            → IsLook machine.now.registry writes firing.now (life_at mask.new) }
+    {
+        mask.clear();
         // most firings are of probes that no seat is interested in: they leave here, before anything is looked up
         let seats = self.interested(firing.probe);
         if seats.is_empty() {
-            return SeatMask::new();
+            return;
         }
-        match machine.belonging(firing) {
-            Some((probe, process)) => self.shown(seats, probe, firing.mode, process),
-            None => SeatMask::new(),
+        if let Some((probe, process)) = machine.belonging(firing) {
+            self.show_all(seats, probe, firing.mode, process, mask);
         }
     }
 
@@ -145,20 +158,48 @@ impl Entries {
         }
     }
 
-    /// Those of some seats whose accounts are shown a firing of a probe, in this mode and this process.
-    fn shown(&self, seats: SeatSet, probe: &Probe, mode: Mode, process: &Process) -> SeatMask
-        ensures { (seat : ℕ) → life_at result seat ≡ (if has seats seat
+    /// Names those of some seats whose accounts are shown a firing of a probe, in this mode and this process.
+    fn show_all(
+        &self,
+        seats: SeatSet,
+        probe: &Probe,
+        mode: Mode,
+        process: &Process,
+        mask: &mut SeatMask,
+    )
+        requires { (seat : ℕ) → life_at mask.old seat ≡ None }
+        ensures { (seat : ℕ) → life_at mask.new seat ≡ (if has seats seat
             then life_shown probe.now.class mode process.now (slice_index_or self.now.slots seat None) else None) }
     {
-        let mut mask = SeatMask::new();
+        for word in 0..SEAT_WORDS {
+            self.show(word, seats.words[word], probe, mode, process, mask);
+        }
+    }
+
+    /// Names those of some seats of a word whose accounts are shown a firing of a probe, in this mode and this process.
+    fn show(
+        &self,
+        word: usize,
+        seats: SeatWord,
+        probe: &Probe,
+        mode: Mode,
+        process: &Process,
+        mask: &mut SeatMask,
+    )
+        requires { word < SEAT_WORDS }
+        ensures named { (seat : ℕ) → IsTrue (is_in_word word seats seat)
+            → life_at mask.old seat ≡ None → life_at mask.new seat
+            ≡ life_shown probe.now.class mode process.now (slice_index_or self.now.slots seat None) }
+        ensures others { (seat : ℕ) → is_in_word word seats seat ≡ false → life_at mask.new seat ≡ life_at mask.old seat }
+    {
         let mut left = seats;
-        while let Some(seat) = left.pop_first() {
+        while let Some(place) = left.pop_first() {
+            let seat = Seat::at(word, place);
             if let Some(slot) = &self.slots[seat.number() as usize] {
                 if admits(&slot.account, probe, mode, process) {
                     mask.insert(seat, slot.life);
                 }
             }
         }
-        mask
     }
 }

@@ -16,6 +16,7 @@ mod lists;
 mod seat;
 mod seat_mask;
 mod seat_set;
+mod seat_word;
 mod write;
 
 pub use entries::Entries;
@@ -25,4 +26,5 @@ pub use laws::{
 pub use limit_laws::limits_agree;
 pub use seat::{SEATS, Seat};
 pub use seat_mask::SeatMask;
+pub use seat_set::SeatSet;
 pub use write::Write;

@@ -1,10 +1,13 @@
 //! Seats, on each of which one consumer traces.
-ghost use Rattle.std.specs.Prelude.{◌≡◌, ◌<◌, SomeIff};
+ghost use Rattle.std.specs.Prelude.{◌≡◌, ◌<◌, ◌+◌, ◌*◌, ◌/◌, ◌%◌, SomeIff};
+ghost use Rattle.dt_chain.specs.declared.seat_set.TheConstants.{SEAT_WORDS};
+ghost use Rattle.dt_chain.specs.declared.seat_word.TheConstants.{WORD_SEATS};
 
+use crate::seat_word::WORD_SEATS;
 use std::marker::Model;
 
 /// How many seats there are. They are numbered from 0 on.
-pub const SEATS: usize = 64;
+pub const SEATS: usize = 256;
 
 /// One of the [`SEATS`] seats. Contracts see it as its number.
 #[derive(Clone, Copy, PartialEq, Eq)]
@@ -43,5 +46,31 @@ impl Seat {
         ensures small { result < SEATS }
     {
         self.number
+    }
+    /// The seat at a place of a word of a set.
+    pub(crate) fn at(word: usize, place: u32) -> Seat
+        requires word { word < SEAT_WORDS }
+        requires place { place < WORD_SEATS }
+        ensures { result ≡ word * WORD_SEATS + place }
+    {
+        Seat {
+            number: word as u32 * WORD_SEATS + place,
+        }
+    }
+
+    /// The word of a set in which it lies.
+    pub(crate) fn word(self) -> usize
+        ensures value { result ≡ self / WORD_SEATS }
+        ensures small { result < SEAT_WORDS }
+    {
+        (self.number / WORD_SEATS) as usize
+    }
+
+    /// Its place in that word.
+    pub(crate) fn place(self) -> u32
+        ensures value { result ≡ self % WORD_SEATS }
+        ensures small { result < WORD_SEATS }
+    {
+        self.number % WORD_SEATS
     }
 }

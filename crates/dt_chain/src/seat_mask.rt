@@ -1,10 +1,11 @@
 //! The seats that a look names.
-ghost use Rattle.std.specs.Prelude.{◌≡◌, ◌<◌, ◌==◌, ◌↔◌, ℕ, Some, None, IsTrue, MatchOption, if◌then◌else◌};
+ghost use Rattle.std.specs.Prelude.{◌≡◌, ◌<◌, ◌==◌, ◌↔◌, ℕ, Some, None, IsTrue, MatchOption, is_some, if◌then◌else◌};
 
 use crate::seat::{SEATS, Seat};
 use crate::seat_set::SeatSet;
 
-/// Some seats, each with the number of the life that it is named for. It lies in the value itself.
+/// Some seats, each with the number of the life that it is named for. It lies in the value itself, which is of 2 KB: so a
+/// look fills one that is lent (`Entries::look_into`), and [`SeatMask::seats`] tells which are named.
 ///
 /// Contracts see it as `life_at mask seat`: the life that a seat is named with, if it is named.
 #[derive(Clone, Copy)]
@@ -14,7 +15,7 @@ pub struct SeatMask {
 }
 
 impl SeatMask {
-    ghost use Rattle.dt_chain.specs.Seats.{life_at};
+    ghost use Rattle.dt_chain.specs.Seats.{has, life_at};
 
     /// A mask that names no seat.
     pub fn new() -> Self
@@ -24,6 +25,21 @@ impl SeatMask {
             seats: SeatSet::new(),
             lives: [0; SEATS],
         }
+    }
+
+    /// Names no seat any more.
+    pub fn clear(&mut self)
+        ensures { (seat : ℕ) → life_at self.new seat ≡ None }
+    {
+        // the lives stay where they are, and mean nothing there
+        self.seats = SeatSet::new();
+    }
+
+    /// The seats that are named.
+    pub fn seats(&self) -> SeatSet
+        ensures { (seat : ℕ) → has result seat ≡ is_some (life_at self.now seat) }
+    {
+        self.seats
     }
 
     /// Names a seat with a life, in place of another that it may be named with.

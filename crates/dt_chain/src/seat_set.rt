@@ -1,69 +1,77 @@
-//! Sets of seats, a bit for each.
+//! Sets of seats.
 ghost use Rattle.std.specs.Prelude.{◌≡◌, ◌<◌, ◌==◌, ◌↔◌, ℕ, true, false, MatchOption, IsTrue, if◌then◌else◌};
 
 use crate::seat::{SEATS, Seat};
+use crate::seat_word::{SeatWord, WORD_SEATS};
 
-/// A set of seats.
+/// How many words a set of seats has.
+pub(crate) const SEAT_WORDS: usize = 4;
+
+const _: () = prove!(SEATS == SEAT_WORDS * WORD_SEATS as usize);
+
+/// A set of seats: of 32 bytes, in the value itself.
+///
+/// Contracts see it as `has seats seat`: whether the seat is in the set.
 #[derive(Clone, Copy)]
-pub(crate) struct SeatSet {
-    pub(crate) bits: u64,
+pub struct SeatSet {
+    pub(crate) words: [SeatWord; SEAT_WORDS],
 }
-
-const _: () = prove!(SEATS == u64::BITS as usize);
 
 impl SeatSet {
     ghost use Rattle.dt_chain.specs.Seats.{has};
 
     /// The empty set.
-    pub(crate) fn new() -> Self
+    pub fn new() -> Self
         ensures { (seat : ℕ) → has result seat ≡ false }
     {
-        SeatSet { bits: 0 }
+        SeatSet {
+            words: [SeatWord::new(); SEAT_WORDS],
+        }
     }
 
-    pub(crate) fn is_empty(&self) -> bool
+    /// Whether no seat is in it.
+    pub fn is_empty(&self) -> bool
         ensures { IsTrue result ↔ ((seat : ℕ) → has self.now seat ≡ false) }
     {
-        self.bits == 0
+        for word in 0..SEAT_WORDS {
+            if !self.words[word].is_empty() {
+                return false;
+            }
+        }
+        true
     }
 
-    pub(crate) fn contains(&self, seat: Seat) -> bool
+    /// Whether a seat is in it.
+    pub fn contains(&self, seat: Seat) -> bool
         ensures { result ≡ has self.now seat }
     {
-        (self.bits >> seat.number()) & 1 == 1
+        self.words[seat.word()].contains(seat.place())
     }
 
-    pub(crate) fn insert(&mut self, seat: Seat)
+    /// Puts a seat in.
+    pub fn insert(&mut self, seat: Seat)
         ensures { (other : ℕ) → has self.new other ≡ (if other == seat then true else has self.old other) }
     {
-        self.bits |= 1 << seat.number();
+        self.words[seat.word()].insert(seat.place());
     }
 
-    pub(crate) fn remove(&mut self, seat: Seat)
-        ensures others { (other : ℕ) → has self.new other ≡ (if other == seat then false else has self.old other) }
-        ensures less { IsTrue (has self.old seat) → self.new.bits < self.old.bits }
+    /// Takes a seat out.
+    pub fn remove(&mut self, seat: Seat)
+        ensures { (other : ℕ) → has self.new other ≡ (if other == seat then false else has self.old other) }
     {
-        let bits = self.bits;
-        self.bits = bits & !(1 << seat.number());
+        self.words[seat.word()].remove(seat.place());
     }
 
     /// The seat of the least number in the set.
-    pub(crate) fn first(&self) -> Option<Seat>
+    pub fn first(&self) -> Option<Seat>
         ensures { MatchOption result ((seat : ℕ) → has self.now seat ≡ false)
             (λ first. (has self.now first ≡ true) × ((seat : ℕ) → seat < first → has self.now seat ≡ false)) }
     {
-        // the empty set has 64 trailing zeros, and there is no seat 64
-        Seat::new(self.bits.trailing_zeros())
-    }
-
-    /// Takes out the seat of the least number.
-    pub(crate) fn pop_first(&mut self) -> Option<Seat>
-        ensures { MatchOption result ((seat : ℕ) → has self.old seat ≡ false)
-            (λ first. (has self.old first ≡ true) × (self.new.bits < self.old.bits)
-            × ((seat : ℕ) → has self.new seat ≡ (if seat == first then false else has self.old seat))) }
-    {
-        let first = self.first()?;
-        self.remove(first);
-        Some(first)
+        for word in 0..SEAT_WORDS {
+            if let Some(place) = self.words[word].first() {
+                return Some(Seat::at(word, place));
+            }
+        }
+        None
     }
 }

@@ -94,7 +94,7 @@ pub fn tests_agree()
         → IsTrue (is_accepted_go account registry life line) ↔ IsAcceptedGo account registry life line }
 {}
 
-/// Law: a life sees a firing only by its own interest, which is what is published at its `go`: the firing belongs to the
+/// Law: a life sees a firing only by its own interest, which is that of its ECBs: the firing belongs to the
 /// machine, the interest of the life's ECBs has its probe, and the account is shown it.
 pub fn seen_by_interest()
     ensures belongs { (account : Account) (registry : Registry) (life : List Item) (firing : Firing)

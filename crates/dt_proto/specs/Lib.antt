@@ -14,5 +14,6 @@ pub mod Session
 pub mod Trail
 pub mod Views
 pub mod Legal
+pub mod Told
 pub mod Brought
 pub mod laws

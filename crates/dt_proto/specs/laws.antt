@@ -9,3 +9,6 @@ pub mod OneLine
 pub mod Trails
 pub mod FirstReplies
 pub mod Spelling
+pub mod Legal
+pub mod Brought
+pub mod OnMachine

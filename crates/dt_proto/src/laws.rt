@@ -1,15 +1,20 @@
 //! What holds of the definitions alone: lines don't depend on how an input is cut into pieces, what a consumer is answered
-//! alone doesn't depend on its account's name, and a trail tells what was seen and answered.
-ghost use Rattle.std.specs.Prelude.{◌≡◌, ◌↔◌, ℕ, List, ◌++◌, map, take};
+//! alone doesn't depend on its account's name, a trail tells what was seen and answered, and which trails are legal and agree.
+ghost use Rattle.std.specs.Prelude.{◌≡◌, ◌↔◌, ℕ, List, Some, ◌++◌, map, reverse, take};
 ghost use Rattle.dt_cred.specs.declared.account.Account.{Account};
 ghost use Rattle.dt_life.specs.Answer.{Answer};
 ghost use Rattle.dt_life.specs.Life.{Item};
 ghost use Rattle.dt_life.specs.Limits.{lines_max};
-ghost use Rattle.dt_machine.specs.Registry.{Registry};
+ghost use Rattle.dt_life.specs.Scenes.{IsLifeOn};
+ghost use Rattle.dt_machine.specs.Registry.{Contents, Registry, account_of};
 ghost use Rattle.dt_proto.specs.Alone.{Reached, IsLifeOf, Alone};
+ghost use Rattle.dt_proto.specs.Brought.{IsBrought};
+ghost use Rattle.dt_proto.specs.Legal.{Agrees, IsLegal, life_of_trail};
 ghost use Rattle.dt_proto.specs.Lines.{all_but_last, parts_of, lines_of, rest_of};
 ghost use Rattle.dt_proto.specs.Reply.{reply_text};
+ghost use Rattle.dt_proto.specs.Session.{session_account};
 ghost use Rattle.dt_proto.specs.Splits.{HasNoNewline, Splits, with_newline};
+ghost use Rattle.dt_proto.specs.Told.{AreRepliesAlone, view_told};
 ghost use Rattle.dt_proto.specs.Trail.{IsTrailOf, TrailEntry, replies_of};
 ghost use Rattle.dt_proto.specs.Views.{life_of, seen_view};
 
@@ -71,4 +76,41 @@ pub fn first_replies()
 /// A reply is one line: it ends with a newline, and no other is in it.
 pub fn one_line()
     ensures { (answer : Answer) → (reply : List ℕ) × (reply_text answer ≡ with_newline reply) × HasNoNewline reply }
+{}
+
+/// The life that the entries of a legal trail tell is the life of the view that they tell, and what stands before its newest
+/// entries is legal by itself.
+pub fn legal_lives()
+    ensures life { (account : Account) (contents : Contents) (past : List TrailEntry) → IsLegal account contents past
+        → IsLifeOf account contents.registry (view_told contents past) (life_of_trail account contents past) }
+    ensures function { (account : Account) (contents : Contents) (past : List TrailEntry)
+        → IsLegal account contents past
+        → life_of_trail account contents past ≡ life_of account contents.registry (view_told contents past) }
+    ensures before { (account : Account) (contents : Contents) (later past : List TrailEntry)
+        → IsLegal account contents (later ++ past) → IsLegal account contents past }
+{}
+
+/// Entries agree exactly where they tell a legal trail, and their replies are those that a consumer is answered which
+/// traces alone, with just what these entries tell.
+pub fn agreement()
+    ensures { (account : Account) (contents : Contents) (entries : List TrailEntry)
+        → Agrees account contents (reverse entries)
+        ↔ (IsLegal account contents (reverse entries) × AreRepliesAlone account contents entries) }
+{}
+
+/// The trail of a view that a machine can bring agrees.
+pub fn trails_agree()
+    ensures { (account : Account) (contents : Contents) (view : List Reached) (entries : List TrailEntry)
+        → IsBrought contents view → IsTrailOf account contents.registry view entries
+        → Agrees account contents (reverse entries) }
+{}
+
+/// The life of a view that a machine can bring to one of its accounts is a life on that machine, and whoever may have a
+/// session is one of its accounts.
+pub fn lives_on_machines()
+    ensures life { (contents : Contents) (name : List ℕ) (account : Account) (view : List Reached) (life : List Item)
+        → account_of contents.registry name ≡ Some account → IsBrought contents view
+        → IsLifeOf account contents.registry view life → IsLifeOn contents account life }
+    ensures known { (registry : Registry) (name : List ℕ) (account : Account)
+        → session_account registry name ≡ Some account → account_of registry name ≡ Some account }
 {}

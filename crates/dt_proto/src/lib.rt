@@ -8,6 +8,11 @@
 //! [`read_line`] gives what a line's bytes ask of a consumer, or for what they are refused (`specs/Line.antt`), and
 //! [`reply_bytes`] writes a reply as its JSON (`specs/Reply.antt`), whose text the law `reply_texts` gives letter by
 //! letter. `specs/Alone.antt` says what a consumer is answered that traces alone.
+//!
+//! A session's trail is legal where each entry may stand after those before it, and agrees where each reply is the one that
+//! is due (`specs/Legal.antt`). `legal_lives` says that a legal trail tells the life of its view, `agreement` that it agrees
+//! exactly where its replies are those of a consumer alone, and `trails_agree` that the trail of a view agrees that a machine
+//! can bring. The life of such a view is a life on the machine (`lives_on_machines`).
 #![tactic(auto)]
 
 mod asked;
@@ -25,8 +30,8 @@ mod text;
 pub use asked::{Asked, WholeLine};
 pub use decimal::number_of;
 pub use laws::{
-    equal_rights, first_replies, one_cutting, one_line, one_splitting, seen_alike, tests_agree,
-    trails_are_seen,
+    agreement, equal_rights, first_replies, legal_lives, lives_on_machines, one_cutting, one_line,
+    one_splitting, seen_alike, tests_agree, trails_agree, trails_are_seen,
 };
 pub use limit_laws::limits_agree;
 pub use limits::LINE_MAX;

@@ -53,7 +53,7 @@ the_firing = record {
   ustack = the_stack;
 }
 
-abbrev the_scene : SceneForm
+abbrev pub the_scene : SceneForm
 the_scene = record { epid = 1; probe = the_probe; process = the_process; firing = the_firing }
 
 -- trace(arg0 + 1); trace(execname); stack(2); ustack(1)

@@ -4,6 +4,7 @@ pub mod Each
 pub mod Examples
 pub mod FieldLemmas
 pub mod Fitting
+pub mod Greatest
 pub mod LeftMore
 pub mod Loops
 pub mod Unique

@@ -8,4 +8,5 @@ pub mod Split
 pub mod Records
 pub mod Left
 pub mod Showing
+pub mod Within
 pub mod laws

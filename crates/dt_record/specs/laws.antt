@@ -2,3 +2,4 @@
 pub mod Numbers
 pub mod Fitting
 pub mod Lengths
+pub mod Within

@@ -1,13 +1,16 @@
 //! Laws over the definitions.
-ghost use Rattle.std.specs.Prelude.{◌≡◌, ℕ, List, [], ◌∷◌, Option, Some, length, map};
+ghost use Rattle.std.specs.Prelude.{◌≡◌, ◌≤◌, ℕ, List, [], ◌∷◌, Option, Some, length, map};
 ghost use Rattle.std.specs.List.{AllByRecursion, flat_map};
 ghost use Rattle.dt_expr.specs.Scene.{SceneForm};
 ghost use Rattle.dt_program.specs.Clause.{ClauseForm};
+ghost use Rattle.dt_program.specs.Written.{IsWrittenClause};
 ghost use Rattle.dt_record.specs.Layout as layout;
 ghost use Rattle.dt_record.specs.Layout.{FieldForm, layout_of, layout_size};
+ghost use Rattle.dt_record.specs.Limits.{record_max, values_max};
 ghost use Rattle.dt_record.specs.Showing.{CanBeTaken, FitLayout, HasLengths, IsLeftBy, IsOfLength};
 ghost use Rattle.dt_record.specs.Split.{IsSplit, RecordForm};
 ghost use Rattle.dt_record.specs.Taking.{TakenForm, taking};
+ghost use Rattle.dt_record.specs.Within.{IsWithinLimits};
 
 /// Law: bytes are the records of these layouts in one way at most.
 pub fn one_split()
@@ -39,4 +42,18 @@ pub fn records_have_lengths()
 pub fn left_is_split()
     ensures { (clauses : List ClauseForm) (pieces : List (List ℕ)) → AllByRecursion (IsLeftBy clauses) pieces
         → (records : List RecordForm) × IsSplit (map layout_of clauses) (flat_map (λ piece. piece) pieces) records }
+{}
+
+/// Law: a clause within the limits of a program leaves at most `RECORD_MAX` bytes, and gives at most `VALUES_MAX` values.
+/// Each clause that is written as a text is within these limits. One leaves so many bytes, and one gives so many values.
+pub fn left_is_limited()
+    ensures record { (clause : ClauseForm) → IsWithinLimits clause → layout_size (layout_of clause) ≤ record_max }
+    ensures values { (epid : ℕ) (scene : SceneForm) (clause : ClauseForm) (left : TakenForm) → IsWithinLimits clause
+        → taking epid scene clause ≡ Some (Some left) → length left.values ≤ values_max }
+    ensures written { (clause : ClauseForm) → IsWrittenClause clause → IsWithinLimits clause }
+    ensures greatest_record { (scene : SceneForm) × (clause : ClauseForm) × (left : TakenForm) × (bytes : List ℕ)
+        × IsWithinLimits clause × (taking 1 scene clause ≡ Some (Some left)) × (left.record_bytes ≡ Some bytes)
+        × (length bytes ≡ record_max) }
+    ensures most_values { (scene : SceneForm) × (clause : ClauseForm) × (left : TakenForm) × IsWithinLimits clause
+        × (taking 1 scene clause ≡ Some (Some left)) × (length left.values ≡ values_max) }
 {}

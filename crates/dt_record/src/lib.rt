@@ -6,6 +6,7 @@
 //! says of what a clause's record is made, and `split` gives the records that bytes are, one after the other
 //! (`IsSplit` in `specs/Split.antt`), of which there is one list at most (`one_split`). What a clause leaves is a record
 //! of its layout (`records_fit`, over the definitions of `specs/Showing.antt`), and so is split again (`left_is_split`).
+//! How much a clause leaves at most is said by `left_is_limited`.
 #![tactic(auto)]
 
 mod building;
@@ -21,7 +22,7 @@ mod splitting;
 mod taking;
 mod values;
 
-pub use laws::{left_is_split, one_split, records_fit, records_have_lengths};
+pub use laws::{left_is_limited, left_is_split, one_split, records_fit, records_have_lengths};
 pub use layout::{Field, Layout};
 pub use limit_laws::limits_agree;
 pub use limits::{EPID_SIZE, RECORD_MAX, VALUES_MAX};

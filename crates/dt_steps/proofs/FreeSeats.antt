@@ -1,7 +1,7 @@
 -- Free seats and idle processors.
-use Rattle.std.proofs.Common.{◌≡◌, ℕ, zero, suc, List, [], ◌∷◌, ◌++◌, Option, None, IfSome, refl}
+use Rattle.std.proofs.Common.{◌≡◌, ℕ, zero, suc, List, [], ◌∷◌, ◌++◌, None, IfSome, refl}
 use Rattle.std.specs.List.{slice_get}
-use Rattle.dt_steps.specs.Stands.{due_in}
+use Rattle.dt_steps.specs.Stands.{due_of, due_in}
 use Rattle.dt_steps.specs.declared.looked.Looked.{Looked}
 
 -- one more element at the end
@@ -13,9 +13,9 @@ each_pushed P (y ∷ ys) x h last zero = h zero
 each_pushed P (y ∷ ys) x h last (suc i) = each_pushed P ys x (λ j. h (suc j)) last i
 
 -- one idle processor more
-pub idle_pushed : (xs : List (Option Looked)) → ((cpu seat : ℕ) → None ≡ due_in (slice_get xs cpu) seat)
-    → (cpu seat : ℕ) → None ≡ due_in (slice_get (xs ++ None ∷ []) cpu) seat
-idle_pushed [] h zero seat = refl
-idle_pushed [] h (suc cpu) seat = refl
-idle_pushed (x ∷ xs) h zero seat = h zero seat
-idle_pushed (x ∷ xs) h (suc cpu) seat = idle_pushed xs (λ other. h (suc other)) cpu seat
+pub idle_pushed : (xs : List Looked) (x : Looked) → ((cpu seat : ℕ) → None ≡ due_in (slice_get xs cpu) seat)
+    → ((seat : ℕ) → None ≡ due_of x seat) → (cpu seat : ℕ) → None ≡ due_in (slice_get (xs ++ x ∷ []) cpu) seat
+idle_pushed [] x h last zero seat = last seat
+idle_pushed [] x h last (suc cpu) seat = refl
+idle_pushed (y ∷ ys) x h last zero seat = h zero seat
+idle_pushed (y ∷ ys) x h last (suc cpu) seat = idle_pushed ys x (λ other. h (suc other)) last cpu seat

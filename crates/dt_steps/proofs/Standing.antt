@@ -2,8 +2,8 @@
 use Rattle.std.proofs.Common.{◌≡◌, ◌≢◌, ℕ, zero, suc, ◌+◌, ◌^◌, ◌<◌, ◌≤◌, ◌&&◌, ◌==◌, Bool, true, false, cond, not}
 use Rattle.std.proofs.Common.{List, ◌∷◌, Option, Some, None, is_none, is_some, IfSome, IsTrue, ◌↔◌, nat_lt, length}
 use Rattle.std.proofs.Common.{get_or, set, MatchBool, MatchOption, ⊎_elim, refl, sym, ap, ◌∙◌, subst, arith}
-use Rattle.std.proofs.lemmas.Bool.{eqb-true, eqb-false, eq-eqb, ne_eqb, ltb-true, lt-ltb, le-ltb, and_parts, and_from}
-use Rattle.std.proofs.lemmas.Bool.{and_left, and_right, false_from_ne_true, cases_lt, cases_eq}
+use Rattle.std.proofs.lemmas.Bool.{eqb-true, eqb-false, eq-eqb, ne_eqb, ltb-true, lt-ltb, and_parts, and_from}
+use Rattle.std.proofs.lemmas.Bool.{and_right, false_from_ne_true, cases_lt, cases_eq}
 use Rattle.std.proofs.lemmas.List.{get_or-set_same, get_or-set_other, length-set, set-get_or}
 use Rattle.std.proofs.lemmas.Option.{slice_get_read, slice_get_past, slice_get_within, slice_get-get_or}
 use Rattle.std.specs.List.{slice_get, list_all, range_with_len}
@@ -13,18 +13,18 @@ use Rattle.dt_machine.specs.Registry.{Registry}
 use Rattle.dt_cred.specs.declared.firing.Firing.{Firing}
 use Rattle.dt_chain.specs.IsAt as chain
 use Rattle.dt_chain.specs.Look.{IsLook}
-use Rattle.dt_chain.specs.Seats.{life_at}
+use Rattle.dt_chain.specs.Seats.{has, life_at}
 use Rattle.dt_chain.specs.Writes.{Write, Published, published, withdrawn, published_on}
 use Rattle.dt_chain.specs.declared.entries.Entries.{Entries}
 use Rattle.dt_chain.specs.declared.seat.TheConstants.{SEATS}
-use Rattle.dt_chain.specs.declared.seat_mask.SeatMask.{SeatMask}
+use Rattle.dt_chain.specs.declared.seat_set.SeatSet.{SeatSet}
 use Rattle.dt_life.specs.Life.{ecbs}
 use Rattle.dt_proto.specs.Alone.{firing_made}
 use Rattle.dt_proto.specs.Lines.{LineForm}
 use Rattle.dt_proto.specs.Session.{session_account}
 use Rattle.dt_steps.specs.Sound.{IsSoundSeat, IsSoundWorld}
 use Rattle.dt_steps.specs.Stands.{IsSession, IsPresent, IsHeld, IsAsked, IsAskedOn, IsFinishing, IsFinishedOn}
-use Rattle.dt_steps.specs.Stands.{IsPublishedOn, WorldIsKept, IsAnswered, IsLooked, with_present, opened_on, closed_on}
+use Rattle.dt_steps.specs.Stands.{IsPublishedOn, WorldIsKept, IsAnswered, IsNaming, with_present, opened_on, closed_on}
 use Rattle.dt_steps.specs.Stands.{due_of, due_in, sees_on, seen_in}
 use Rattle.dt_steps.specs.Steps.{with_place, with_session, question_of, answering, opening, asking, publishing}
 use Rattle.dt_steps.specs.Steps.{publishing_of, finishing, withdrawing, passed, looking, is_done, offered, offering}
@@ -79,10 +79,6 @@ read_at xs ys i found value same low read is =
     let within : i < length ys = ltb-true i (length ys) (sym low) in
     ap (λ list. slice_get list i) (sym same) ∙ slice_get-get_or ys i found within ∙ ap Some (sym read) ∙ ap Some is
 
-pub none_unless : {A : Type 0} (o : Option A) → ((a : A) → o ≡ Some a → ⊥) → o ≡ None
-none_unless None h = refl
-none_unless (Some a) h = absurd (h a refl)
-
 -- what a call found on a seat
 pub record Found (seats : List Held) (at seat : ℕ) (held : Held) : Type 0 where
   pub is : at ≡ seat
@@ -108,7 +104,7 @@ module _ (registry : Registry) where
         → served_ ≡ Some served → IsSession registry session served → IsPresent registry present served_
     present_same present served_ e f kept = rw (e, f) kept
 
-  module _ (world : World) (seats : List Held) (entries : Entries) (processors : List (Option Looked))
+  module _ (world : World) (seats : List Held) (entries : Entries) (processors : List Looked)
       (kept : WorldIsKept registry world seats entries processors) where
     module _ (at seat : ℕ) (held : Held) (found : Found seats at seat held) where
       seat_low : seat < SEATS
@@ -474,7 +470,7 @@ module _ (registry : Registry) where
   held_each seats places later seat None is keeps h = h
   held_each seats places later seat (Some held) is keeps h = keeps held h
 
-  module _ (world : World) (seats : List Held) (entries : Entries) (processors : List (Option Looked))
+  module _ (world : World) (seats : List Held) (entries : Entries) (processors : List Looked)
       (sound : IsSoundWorld registry world) (kept : WorldIsKept registry world seats entries processors) where
     -- whether a look is enabled
     done_all : (due : ℕ → Option Due) (from count : ℕ) → ((seat : ℕ) → due seat ≡ None)
@@ -524,39 +520,18 @@ module _ (registry : Registry) where
         (λ (high : SEATS ≤ seat). sound.due cpu seat high)
         (cases_lt seat SEATS)
 
-    -- there is no such processor
-    pub done-none : (cpu : ℕ) → slice_get processors cpu ≡ None
-        → false ≡ (nat_lt cpu registry.cpus && is_done (world.due cpu))
-    done-none cpu none =
-        let cpus = kept.cpus in
-        let far : nat_lt cpu registry.cpus ≡ false =
-        ⊎_elim
-        (λ (low : cpu < length processors).
-        let some = slice_get-get_or processors cpu None low in
-        let bad : None ≡ Some (get_or processors cpu None) = sym none ∙ some in cc)
-        (λ (high : length processors ≤ cpu). le-ltb cpu registry.cpus (omega arith))
-        (cases_lt cpu (length processors)) in
-        sym (and_left (nat_lt cpu registry.cpus) (is_done (world.due cpu)) far)
-
-    near : (cpu : ℕ) (looked : Option Looked) → slice_get processors cpu ≡ Some looked
+    near : (cpu : ℕ) (looked : Looked) → slice_get processors cpu ≡ Some looked
         → nat_lt cpu registry.cpus ≡ true
     near cpu looked is =
         let cpus = kept.cpus in
         let low : cpu < length processors = slice_get_within processors cpu looked is in
         lt-ltb cpu registry.cpus (omega arith)
 
-    -- it looked for nothing yet
-    pub done-idle : (cpu : ℕ) → slice_get processors cpu ≡ Some None
-        → true ≡ (nat_lt cpu registry.cpus && is_done (world.due cpu))
-    done-idle cpu is =
-        sym (and_from (nat_lt cpu registry.cpus) (is_done (world.due cpu)) (near cpu None is)
-        (done_from cpu (λ seat. kept.due cpu seat ∙ ap (λ o. due_in o seat) is)))
-
-    pub done-looked : (cpu : ℕ) (looked : Looked) (told : Bool) → slice_get processors cpu ≡ Some (Some looked)
+    pub done-looked : (cpu : ℕ) (looked : Looked) (told : Bool) → slice_get processors cpu ≡ Some looked
         → IsTrue told ↔ ((seat : ℕ) → life_at looked.left seat ≡ None)
         → told ≡ (nat_lt cpu registry.cpus && is_done (world.due cpu))
     done-looked cpu looked true is tells =
-        sym (and_from (nat_lt cpu registry.cpus) (is_done (world.due cpu)) (near cpu (Some looked) is)
+        sym (and_from (nat_lt cpu registry.cpus) (is_done (world.due cpu)) (near cpu looked is)
         (done_from cpu (λ seat. kept.due cpu seat ∙ ap (λ o. due_in o seat) is
         ∙ no_due_left looked seat (tells.0 refl seat))))
     done-looked cpu looked false is tells =
@@ -567,15 +542,32 @@ module _ (registry : Registry) where
         (ap is_none (sym (ap (λ o. due_in o seat) is) ∙ sym (kept.due cpu seat) ∙ done_to cpu done seat))) in cc) in
         sym (and_right (nat_lt cpu registry.cpus) (is_done (world.due cpu)) not_done)
 
+    -- the lives that are due, of what a processor looked for
+    pub left-looked : (cpu : ℕ) (looked : Looked) → slice_get processors cpu ≡ Some looked → (seat : ℕ)
+        → life_at looked.left seat ≡ option_map (λ due. due.life) (world.due cpu seat)
+    left-looked cpu looked is seat =
+        let own : world.due cpu seat ≡ due_of looked seat = kept.due cpu seat ∙ ap (λ o. due_in o seat) is in
+        rw own (life_due (life_at looked.left seat) looked.firing) where
+          life_due : (life : Option ℕ) (firing : Firing) → life ≡ option_map (λ (due : Due). due.life)
+              (option_map (λ own. record { life = own; firing = firing }) life)
+          life_due None firing = refl
+          life_due (Some own) firing = refl
+
+    pub left-past : (cpu : ℕ) → length processors ≤ cpu → (seat : ℕ)
+        → None ≡ option_map (λ due. due.life) (world.due cpu seat)
+    left-past cpu high seat =
+        let none : world.due cpu seat ≡ None =
+        kept.due cpu seat ∙ ap (λ o. due_in o seat) (slice_get_past processors cpu high) in rw none refl
+
     -- Look
-    due_after : (cpu other seat : ℕ) (firing : Firing) (left : SeatMask) (looked : Option Looked) → cpu < registry.cpus
-        → ((at : ℕ) → life_at left at ≡ mask_of registry world.writes firing at)
-        → ((at : ℕ) → due_in (Some looked) at
-        ≡ option_map (λ life. record { life = life; firing = firing }) (life_at left at))
+    due_after : (cpu other seat : ℕ) (firing : Firing) (looked : Looked) → cpu < registry.cpus
+        → ((at : ℕ) → life_at looked.left at ≡ mask_of registry world.writes firing at)
+        → ((at : ℕ) → due_of looked at
+        ≡ option_map (λ life. record { life = life; firing = firing }) (life_at looked.left at))
         → cond (other == cpu) (option_map (λ life. record { life = life; firing = firing })
         (mask_of registry world.writes firing seat)) (world.due other seat)
         ≡ due_in (slice_get (set processors cpu looked) other) seat
-    due_after cpu other seat firing left looked low named owes =
+    due_after cpu other seat firing looked low named owes =
         let cpus = kept.cpus in
         get_set_at (λ o. cond (other == cpu) (option_map (λ life. record { life = life; firing = firing })
         (mask_of registry world.writes firing seat)) (world.due other seat) ≡ due_in o seat)
@@ -588,50 +580,69 @@ module _ (registry : Registry) where
         let own : (other == cpu) ≡ false = ne_eqb other cpu (λ e. eqb-false cpu other same (sym e)) in
         rw own (kept.due other seat))
 
-    pub kept-looking : (cpu : ℕ) (firing : Firing) (left : SeatMask) (looked : Option Looked)
-        → (firing.cpu == cpu) ≡ true
+    pub kept-looking : (cpu : ℕ) (firing : Firing) (looked : Looked) → (firing.cpu == cpu) ≡ true
         → (nat_lt cpu registry.cpus && is_done (world.due cpu)) ≡ true
-        → IsLook registry world.writes firing (life_at left)
-        → ((at : ℕ) → due_in (Some looked) at
-        ≡ option_map (λ life. record { life = life; firing = firing }) (life_at left at))
+        → IsLook registry world.writes firing (life_at looked.left)
+        → ((at : ℕ) → due_of looked at
+        ≡ option_map (λ life. record { life = life; firing = firing }) (life_at looked.left at))
         → WorldIsKept registry (looking registry world cpu firing) seats entries (set processors cpu looked)
-        × IsLooked world (looking registry world cpu firing) (Some left)
     unfolding looking mask_of
-    kept-looking cpu firing left looked own enabled look owes =
+    kept-looking cpu firing looked own enabled look owes =
         let parts = and_parts (nat_lt cpu registry.cpus) (is_done (world.due cpu)) enabled in
-        let named = one_named registry world.writes firing (life_at left) look in
+        let named = one_named registry world.writes firing (life_at looked.left) look in
         let may : (nat_lt cpu registry.cpus && (firing.cpu == cpu && is_done (world.due cpu))) ≡ true =
         and_from _ _ parts.0 (and_from _ _ own parts.1) in
-        rw may (
-          record {
-            all = kept.all;
-            held = λ seat. held_each seats world.places
-                (λ at. passed firing (mask_of registry world.writes firing at) (world.places at)) seat
-                (slice_get seats seat) refl
-                (λ held h. passed_held seat (published_on world.writes seat) (world.places seat) held firing
-                (sound.seats seat) h)
-                (kept.held seat);
-            entered = kept.entered;
-            cpus = length-set processors cpu looked ∙ kept.cpus;
-            due = λ other seat. due_after cpu other seat firing left looked
-                (ltb-true cpu registry.cpus parts.0) named owes;
-          },
-          (mask_of registry world.writes firing, refl, named),
+        rw may (record {
+          all = kept.all;
+          held = λ seat. held_each seats world.places
+              (λ at. passed firing (mask_of registry world.writes firing at) (world.places at)) seat
+              (slice_get seats seat) refl
+              (λ held h. passed_held seat (published_on world.writes seat) (world.places seat) held firing
+              (sound.seats seat) h)
+              (kept.held seat);
+          entered = kept.entered;
+          cpus = length-set processors cpu looked ∙ kept.cpus;
+          due = λ other seat. due_after cpu other seat firing looked
+              (ltb-true cpu registry.cpus parts.0) named owes;
+        })
+
+    -- what the look named are the seats to which offers are due then
+    pub naming-looking : (cpu : ℕ) (firing : Firing) (looked : Looked) (seats_named : SeatSet)
+        → (firing.cpu == cpu) ≡ true → (nat_lt cpu registry.cpus && is_done (world.due cpu)) ≡ true
+        → IsLook registry world.writes firing (life_at looked.left)
+        → ((at : ℕ) → due_of looked at
+        ≡ option_map (λ life. record { life = life; firing = firing }) (life_at looked.left at))
+        → ((at : ℕ) → has seats_named at ≡ is_some (due_of looked at))
+        → IsNaming registry world cpu firing (Some seats_named)
+    naming-looking cpu firing looked seats_named own enabled look owes named =
+        let parts = and_parts (nat_lt cpu registry.cpus) (is_done (world.due cpu)) enabled in
+        let cpus = kept.cpus in
+        let later = kept-looking cpu firing looked own enabled look owes in
+        let low : cpu < length processors = omega (arith, ltb-true cpu registry.cpus parts.0) in
+        let long : cpu < length (set processors cpu looked) = omega (arith, length-set processors cpu looked) in
+        let found : slice_get (set processors cpu looked) cpu ≡ Some looked =
+        slice_get-get_or (set processors cpu looked) cpu looked long
+        ∙ ap Some (get_or-set_same processors cpu looked looked low) in (
+          and_from _ _ parts.0 (and_from _ _ own parts.1),
+          λ seat. named seat ∙ ap is_some (sym (later.due cpu seat ∙ ap (λ o. due_in o seat) found)),
         )
 
     -- it isn't enabled
-    pub looking-not : (cpu : ℕ) (firing : Firing)
+    pub naming-not : (cpu : ℕ) (firing : Firing)
         → ((firing.cpu == cpu) && (nat_lt cpu registry.cpus && is_done (world.due cpu))) ≡ false
-        → looking registry world cpu firing ≡ world
-    unfolding looking
-    looking-not cpu firing no_look =
-        let off : (nat_lt cpu registry.cpus && (firing.cpu == cpu && is_done (world.due cpu))) ≡ false =
-        swap_and (firing.cpu == cpu) (nat_lt cpu registry.cpus) (is_done (world.due cpu)) no_look in
-        rw off refl where
+        → IsNaming registry world cpu firing None
+    naming-not cpu firing no_look =
+        swap_and (firing.cpu == cpu) (nat_lt cpu registry.cpus) (is_done (world.due cpu)) no_look where
           swap_and : (a b c : Bool) → (a && (b && c)) ≡ false → (b && (a && c)) ≡ false
           swap_and true b c h = h
           swap_and false true c h = refl
           swap_and false false c h = refl
+
+    pub kept-looking-not : (cpu : ℕ) (firing : Firing) → IsNaming registry world cpu firing None
+        → IsSoundWorld registry (looking registry world cpu firing)
+        × WorldIsKept registry (looking registry world cpu firing) seats entries processors
+    unfolding looking
+    kept-looking-not cpu firing no_look = rw no_look (sound, kept)
 
     -- Offer
     -- no offer is left to the seat
@@ -648,7 +659,7 @@ module _ (registry : Registry) where
 
     -- the session on the seat tells whether the firing is seen
     pub seen-offered : (cpu at seat : ℕ) (held : Held) (before : Looked) (due : Due) → Found seats at seat held
-        → slice_get processors cpu ≡ Some (Some before) → due_of before seat ≡ Some due → (seen : Bool)
+        → slice_get processors cpu ≡ Some before → due_of before seat ≡ Some due → (seen : Bool)
         → ((place : Place) → IsHeld registry place held → seen ≡ sees_on registry due place)
         → seen_in registry world cpu seat ≡ cond seen (Some due.firing) None
     seen-offered cpu at seat held before due found is owes seen tells =
@@ -657,14 +668,14 @@ module _ (registry : Registry) where
         (held_at registry world seats entries processors kept at seat held found) in
         rw own (ap (λ b. cond b (Some due.firing) None) (sym told))
 
-    due_taken : (cpu seat other at : ℕ) (before after : Looked) → slice_get processors cpu ≡ Some (Some before)
+    due_taken : (cpu seat other at : ℕ) (before after : Looked) → slice_get processors cpu ≡ Some before
         → ((one : ℕ) → due_of after one ≡ cond (one == seat) None (due_of before one))
         → cond (other == cpu && at == seat) None (world.due other at)
-        ≡ due_in (slice_get (set processors cpu (Some after)) other) at
+        ≡ due_in (slice_get (set processors cpu after) other) at
     due_taken cpu seat other at before after is taken =
-        let low : cpu < length processors = slice_get_within processors cpu (Some before) is in
+        let low : cpu < length processors = slice_get_within processors cpu before is in
         get_set_at (λ o. cond (other == cpu && at == seat) None (world.due other at) ≡ due_in o at)
-        processors cpu other (Some after) (cpu == other) refl low
+        processors cpu other after (cpu == other) refl low
         (λ same.
         let one : cpu ≡ other = eqb-true cpu other same in
         let own : (other == cpu) ≡ true = eq-eqb other cpu (sym one) in
@@ -676,11 +687,11 @@ module _ (registry : Registry) where
         rw own (kept.due other at))
 
     pub kept-offering : (cpu at seat : ℕ) (held after : Held) (before left : Looked) (due : Due)
-        → Found seats at seat held → slice_get processors cpu ≡ Some (Some before)
+        → Found seats at seat held → slice_get processors cpu ≡ Some before
         → due_of before seat ≡ Some due
         → ((one : ℕ) → due_of left one ≡ cond (one == seat) None (due_of before one))
         → ((place : Place) → IsHeld registry place held → IsHeld registry (offered due place) after)
-        → WorldIsKept registry (offering world cpu seat) (set seats at after) entries (set processors cpu (Some left))
+        → WorldIsKept registry (offering world cpu seat) (set seats at after) entries (set processors cpu left)
     unfolding offering
     kept-offering cpu at seat held after before left due found is owes taken delivers =
         let own : world.due cpu seat ≡ Some due = kept.due cpu seat ∙ ap (λ o. due_in o seat) is ∙ owes in
@@ -691,13 +702,13 @@ module _ (registry : Registry) where
           held = kept_seat registry world seats entries processors kept at seat held found world.places
               (offered due (world.places seat)) after kept.held h;
           entered = kept.entered;
-          cpus = length-set processors cpu (Some left) ∙ kept.cpus;
+          cpus = length-set processors cpu left ∙ kept.cpus;
           due = λ other one. due_taken cpu seat other one before left is taken;
         })
 
     -- nothing was taken
-    pub kept-offering-none : (cpu seat : ℕ) (value changed : Option Looked) → cpu < length processors
-        → value ≡ get_or processors cpu value → changed ≡ value → due_in (Some value) seat ≡ None
+    pub kept-offering-none : (cpu seat : ℕ) (value changed : Looked) → cpu < length processors
+        → value ≡ get_or processors cpu value → changed ≡ value → due_of value seat ≡ None
         → WorldIsKept registry (offering world cpu seat) seats entries (set processors cpu changed)
     kept-offering-none cpu seat value changed low read same none =
         let found : slice_get processors cpu ≡ Some value =

@@ -1,7 +1,7 @@
 -- What each step answers, and how many sessions there are after it.
-use Rattle.std.proofs.Common.{◌≡◌, ℕ, ◌+◌, ◌≤◌, ◌&&◌, ◌==◌, true, false, cond, List, [], ◌∷◌, ◌++◌, Option, Some, None}
-use Rattle.std.proofs.Common.{is_none, nat_lt, length, fold, Vec, Global, option_map, refl, sym, subst, arith}
-use Rattle.std.proofs.lemmas.Bool.{cond_both}
+use Rattle.std.proofs.Common.{◌≡◌, ℕ, ◌+◌, ◌≤◌, ◌&&◌, ◌==◌, Bool, true, false, cond, List, [], ◌∷◌, ◌++◌, Option, Some, None}
+use Rattle.std.proofs.Common.{is_none, nat_lt, length, fold, Vec, Global, option_map, refl, sym, ap, ◌∙◌, subst, arith}
+use Rattle.std.proofs.lemmas.Bool.{cond_both, eq-eqb}
 use Rattle.std.specs.Option.{option_map_or}
 use Rattle.dt_machine.specs.Registry.{Registry}
 use Rattle.dt_cred.specs.declared.firing.Firing.{Firing}
@@ -14,7 +14,7 @@ use Rattle.dt_steps.specs.Ran.{Told, IsReply, AreReplies, AreMasks, HasTold}
 use Rattle.dt_steps.specs.Stands.{IsAnswered, IsLooked}
 use Rattle.dt_steps.specs.Steps.{Act, opens, asks, publishes, finishes, withdraws, looks, offers, closes, after_act}
 use Rattle.dt_steps.specs.Steps.{world_after, with_session, answering, opening, asking, publishing, publishing_of}
-use Rattle.dt_steps.specs.Steps.{finishing, withdrawing, passed, looking_at, looking, is_done, offered, offering}
+use Rattle.dt_steps.specs.Steps.{finishing, withdrawing, passed, looking_at, may_look, looking, is_done, offered, offering}
 use Rattle.dt_steps.specs.Steps.{closing}
 use Rattle.dt_steps.specs.Telling.{IsTelling}
 use Rattle.dt_chain.specs.Tests.{mask_of}
@@ -72,6 +72,36 @@ module _ (registry : Registry) (world : World) where
       cond_both (nat_lt cpu registry.cpus && (firing.cpu == cpu && is_done (world.due cpu)))
       (looking_at world cpu firing (mask_of registry world.writes firing)) world
       (λ w. w.questions ≡ world.questions) (λ may. refl) (λ no. refl)
+
+  pub quiet-looking : (cpu : ℕ) (firing : Firing) → may_look registry world cpu firing ≡ false
+      → IsQuiet (looking registry world cpu firing)
+  unfolding looking
+  quiet-looking cpu firing off = rw off (refl, refl)
+
+  looking_may : (cpu : ℕ) (firing : Firing) → may_look registry world cpu firing ≡ true
+      → looking registry world cpu firing ≡ looking_at world cpu firing (mask_of registry world.writes firing)
+  unfolding looking
+  looking_may cpu firing may = rw may refl
+
+  life_due : (own : Bool) (named : Option ℕ) (firing : Firing) (other : Option Due) → own ≡ true
+      → option_map (λ due. due.life) (cond own (option_map (λ life. record { life = life; firing = firing }) named) other)
+      ≡ named
+  life_due own None firing other is = rw is refl
+  life_due own (Some life) firing other is = rw is refl
+
+  -- a look named the lives that are due then
+  pub looked-looking : (cpu : ℕ) (firing : Firing) (mask : SeatMask) → may_look registry world cpu firing ≡ true
+      → ((seat : ℕ) → life_at mask seat
+      ≡ option_map (λ due. due.life) ((looking registry world cpu firing).due cpu seat))
+      → IsLooked world (looking registry world cpu firing) (Some mask)
+  looked-looking cpu firing mask may h =
+      let is = looking_may cpu firing may in (
+        mask_of registry world.writes firing,
+        ap (λ (w : World). w.looks) is,
+        λ seat. h seat ∙ ap (λ (w : World). option_map (λ due. due.life) (w.due cpu seat)) is
+            ∙ life_due (cpu == cpu) (mask_of registry world.writes firing seat) firing (world.due cpu seat)
+            (eq-eqb cpu cpu refl),
+      )
 
   pub quiet-offering : (cpu seat : ℕ) → IsQuiet (offering world cpu seat)
   unfolding offering
@@ -219,19 +249,13 @@ pub world_after-end : (registry : Registry) (acts : List Act) (act : Act)
     → world_after registry (acts ++ act ∷ []) ≡ after_act registry (world_after registry acts) act
 world_after-end registry acts act = fold_end registry new_world acts act
 
--- a reply, if there is one, and a mask, if there is one
+-- a reply, if there is one
 pub telling_replied : {A : Type 0} (text_of : A → Vec ℕ Global) (registry : Registry) (before after : World) (seat : ℕ)
     (reply : Option A) → IsAnswered registry before after seat (option_map (λ a. (text_of a).items) reply)
     → after.looks ≡ before.looks
     → IsTelling registry before after (option_map_or (λ a. Replied seat (text_of a)) reply Quiet)
 telling_replied text_of registry before after seat None h same = (h, same)
 telling_replied text_of registry before after seat (Some a) h same = (h, same)
-
-pub telling_looked : (registry : Registry) (before after : World) (mask : Option SeatMask)
-    → IsLooked before after mask → after.questions ≡ before.questions
-    → IsTelling registry before after (option_map_or (λ named. Looked named) mask Quiet)
-telling_looked registry before after None h same = (same, h)
-telling_looked registry before after (Some mask) h same = (same, h)
 
 -- one reply more, one mask more
 replies_more : (registry : Registry) (questions : List Question) (question : Question) (told : List Told) (one : Told)

@@ -7,11 +7,12 @@ use Rattle.dt_cred.specs.declared.account.Account.{Account}
 use Rattle.dt_machine.specs.Registry.{Registry}
 use Rattle.dt_cred.specs.declared.firing.Firing.{Firing}
 use Rattle.dt_chain.specs.IsAt as chain
-use Rattle.dt_chain.specs.Seats.{life_at}
+use Rattle.dt_chain.specs.Seats.{has, life_at}
 use Rattle.dt_chain.specs.Writes.{Write, published}
 use Rattle.dt_chain.specs.declared.entries.Entries.{Entries}
 use Rattle.dt_chain.specs.Limits.{seat_count}
 use Rattle.dt_chain.specs.declared.seat_mask.SeatMask.{SeatMask}
+use Rattle.dt_chain.specs.declared.seat_set.SeatSet.{SeatSet}
 use Rattle.dt_life.specs.Acceptance.{IsAcceptedGo}
 use Rattle.dt_consumer.specs.Draft.{IsDraftOf}
 use Rattle.dt_life.specs.Life.{Item, ecbs}
@@ -23,6 +24,7 @@ use Rattle.dt_proto.specs.Session.{session_account}
 use Rattle.dt_proto.specs.Alone.{IsText}
 use Rattle.dt_steps.specs.Ran.{IsReply}
 use Rattle.dt_steps.specs.Sound.{IsSoundWorld}
+use Rattle.dt_steps.specs.Steps.{may_look, looking}
 use Rattle.dt_life.specs.Tests.{is_seen}
 use Rattle.dt_ecb.specs.Interest.{interest_of}
 use Rattle.dt_steps.specs.World.{World, Session, Place, Pending, Due, Question, life_in, is_closing, new_session}
@@ -63,9 +65,9 @@ place_of firing = record { cpu = firing.cpu; place = firing.place }
 abbrev pub due_of : Looked → (seat : ℕ) → Option Due
 due_of looked seat = option_map (λ life. record { life = life; firing = looked.firing }) (life_at looked.left seat)
 
-abbrev pub due_in : Option (Option Looked) → (seat : ℕ) → Option Due
-due_in (Some (Some looked)) seat = due_of looked seat
-due_in _ seat = None
+abbrev pub due_in : Option Looked → (seat : ℕ) → Option Due
+due_in (Some looked) seat = due_of looked seat
+due_in None seat = None
 
 module _ (registry : Registry) where
   -- What is kept of a pending `go`, which is an accepted one: its line, whether it is published, and the draft.
@@ -159,7 +161,7 @@ module _ (registry : Registry) where
       (interest_of (ecbs session.account registry (life_in registry session))) ∷ writes) entries)))
 
   -- What is kept is that of a world: of each seat, of each processor, and the entries.
-  pub record WorldIsKept (world : World) (seats : List Held) (entries : Entries) (processors : List (Option Looked))
+  pub record WorldIsKept (world : World) (seats : List Held) (entries : Entries) (processors : List Looked)
       : Type 0 where
     pub all : length seats ≡ seat_count
     pub held : (seat : ℕ) → IfSome (slice_get seats seat) (IsHeld (world.places seat))
@@ -178,6 +180,12 @@ module _ (registry : Registry) where
   IsAnswered before after seat (Some text) =
       (question : Question) × (after.questions ≡ before.questions ++ question ∷ [])
       × IsReply registry question (seat, text)
+
+-- A look named these seats, which are those to which offers are due after it; or it isn't enabled.
+abbrev pub IsNaming : Registry → World → (cpu : ℕ) → Firing → Option SeatSet → Type 0
+IsNaming registry world cpu firing None = may_look registry world cpu firing ≡ false
+IsNaming registry world cpu firing (Some seats) = (may_look registry world cpu firing ≡ true)
+    × ((seat : ℕ) → has seats seat ≡ is_some ((looking registry world cpu firing).due cpu seat))
 
 -- A look named these lives, or it wasn't enabled.
 abbrev pub IsLooked : (before after : World) → Option SeatMask → Type 0

@@ -132,10 +132,14 @@ looking_at world cpu firing mask = record {
   looks = world.looks ++ mask ∷ [];
 }
 
--- Look, where the processor exists and is the firing's, and none of its offers is left.
+-- a look is enabled: the processor exists and is the firing's, and none of its offers is left
+abbrev pub may_look : Registry → World → (cpu : ℕ) → Firing → Bool
+may_look registry world cpu firing = nat_lt cpu registry.cpus && (firing.cpu == cpu && is_done (world.due cpu))
+
+-- Look, where it is enabled.
 unfoldable pub looking : Registry → World → (cpu : ℕ) → Firing → World
 looking registry world cpu firing =
-    if nat_lt cpu registry.cpus && (firing.cpu == cpu && is_done (world.due cpu))
+    if may_look registry world cpu firing
     then looking_at world cpu firing (mask_of registry world.writes firing) else world
 
 -- what is on a seat after an offer: the firing reaches the session that was named, if that goes on

@@ -7,7 +7,7 @@ use crate::looked::{Looked, ScriptPlace, idle_processors};
 use crate::outcome::Outcome;
 use crate::served::{Answered, Finished};
 use crate::step::Step;
-use dt_chain::{Entries, SEATS, Seat, SeatMask};
+use dt_chain::{Entries, SEATS, Seat, SeatMask, SeatSet};
 use dt_cred::Account;
 use dt_machine::{Firing, Machine};
 use dt_proto::WholeLine;
@@ -18,16 +18,17 @@ use std::alloc::{AllocError, Global};
 pub struct Engine {
     pub(crate) seats: Vec<Held>,
     pub(crate) entries: Entries,
-    pub(crate) processors: Vec<Option<Looked>>,
+    pub(crate) processors: Vec<Looked>,
     ghost all: { vec_len seats ≡ SEATS },
 }
 
 impl Engine {
     ghost use Rattle.std.specs.Prelude.{ℕ, ◌+◌, ◌<◌, ◌^◌, ◌&&◌, Some, IsTrue, IfOk, IfSome, OnOk, is_some, option_map, nat_lt};
     ghost use Rattle.dt_machine.specs.Registry.{Registry};
+    ghost use Rattle.dt_chain.specs.Seats.{life_at};
     ghost use Rattle.dt_life.specs.Life.{is_over};
     ghost use Rattle.dt_proto.specs.Asked.{form_lent, form_asked};
-    ghost use Rattle.dt_steps.specs.Stands.{EngineIsAt, IsAnswered, IsLooked, first_account, place_of, seen_in};
+    ghost use Rattle.dt_steps.specs.Stands.{EngineIsAt, IsAnswered, IsNaming, first_account, place_of, seen_in};
     ghost use Rattle.dt_steps.specs.Steps as steps;
     ghost use Rattle.dt_steps.specs.Telling.{IsTelling};
     ghost use Rattle.dt_steps.specs.Steps.{act_of, after_act, opening, asking, publishing, finishing, withdrawing, looking, offering, closing};
@@ -114,12 +115,13 @@ impl Engine {
         }
     }
 
-    /// Looks whom a firing of a processor is to be offered to. `None`: the look is not enabled.
-    pub fn look(&mut self, machine: &Machine, cpu: u32, firing: &Firing) -> Option<SeatMask>
+    /// Looks whom a firing of a processor is to be offered to, and answers which seats that are. `None`: the look is not
+    /// enabled, and nothing happened.
+    pub fn look(&mut self, machine: &Machine, cpu: u32, firing: &Firing) -> Option<SeatSet>
         ensures at { (world : World) → EngineIsAt machine.now.registry world self.old
             → EngineIsAt machine.now.registry (looking machine.now.registry world cpu firing.now) self.new }
         ensures answer { (world : World) → EngineIsAt machine.now.registry world self.old
-            → IsLooked world (looking machine.now.registry world cpu firing.now) result }
+            → IsNaming machine.now.registry world cpu firing.now result }
     {
         // a processor looks for its own firings alone: for another's the look isn't enabled
         if firing.cpu != cpu {
@@ -129,9 +131,7 @@ impl Engine {
         if !self.is_done(cpu) {
             return None;
         }
-        let mask = self.entries.look(machine, firing);
-        self.processors[cpu as usize] = Looked::unless_empty(firing, &mask);
-        Some(mask)
+        Some(self.processors[cpu as usize].look(&self.entries, machine, firing))
     }
 
     /// Whether there is such a processor, and none of its offers is left.
@@ -141,9 +141,19 @@ impl Engine {
             → result ≡ (nat_lt cpu registry.cpus && steps.is_done (world.due cpu)) }
     {
         match self.processors.get(cpu as usize) {
-            Some(Some(looked)) => looked.left.is_empty(),
-            Some(None) => true,
+            Some(looked) => looked.left.is_empty(),
             None => false,
+        }
+    }
+
+    /// The offers of a processor that are left, each with the life that was named. It is a copy, of 2 KB.
+    fn left(&self, cpu: u32) -> SeatMask
+        ensures { (registry : Registry) (world : World) → EngineIsAt registry world self.now
+            → (seat : ℕ) → life_at result seat ≡ option_map (λ due. due.life) (world.due cpu seat) }
+    {
+        match self.processors.get(cpu as usize) {
+            Some(looked) => looked.left,
+            None => SeatMask::new(),
         }
     }
 
@@ -154,20 +164,20 @@ impl Engine {
             → EngineIsAt machine.now.registry (offering world cpu seat) self.new
             × (result ≡ option_map place_of (seen_in machine.now.registry world cpu seat)) }
     {
-        if (cpu as usize) < self.processors.len() {
-            if let Some(looked) = &mut self.processors[cpu as usize] {
-                // nothing that it looked for is due to this seat
-                let life = looked.take(seat)?;
-                let held = &mut self.seats[seat.number() as usize];
-                let place = ScriptPlace {
-                    cpu: looked.firing.cpu,
-                    place: looked.firing.place,
-                };
-                // the place is told where the session saw the firing: a trail has seen firings alone
-                return held.deliver(machine, life, &looked.firing).then_some(place);
-            }
+        // on a processor that isn't there no offer is enabled
+        if cpu as usize >= self.processors.len() {
+            return None;
         }
-        None
+        let looked = &mut self.processors[cpu as usize];
+        // nothing that it looked for is due to this seat
+        let life = looked.take(seat)?;
+        let held = &mut self.seats[seat.number() as usize];
+        let place = ScriptPlace {
+            cpu: looked.firing.cpu,
+            place: looked.firing.place,
+        };
+        // the place is told where the session saw the firing: a trail has seen firings alone
+        held.deliver(machine, life, &looked.firing).then_some(place)
     }
 
     /// Ends the session on a seat.
@@ -249,7 +259,7 @@ impl Engine {
                 self.withdraw(machine, *seat);
                 Ok(Outcome::Quiet)
             }
-            Step::Look(cpu, firing) => Ok(Outcome::looked(self.look(machine, *cpu, firing))),
+            Step::Look(cpu, firing) => Ok(self.named(machine, *cpu, firing)),
             Step::Offer(cpu, seat) => {
                 self.offer(machine, *cpu, *seat);
                 Ok(Outcome::Quiet)
@@ -258,6 +268,20 @@ impl Engine {
                 self.close(*seat);
                 Ok(Outcome::Quiet)
             }
+        }
+    }
+
+    /// Looks, and tells all that the look named, if it was enabled.
+    fn named(&mut self, machine: &Machine, cpu: u32, firing: &Firing) -> Outcome
+        ensures at { (world : World) → EngineIsAt machine.now.registry world self.old
+            → EngineIsAt machine.now.registry (looking machine.now.registry world cpu firing.now) self.new }
+        ensures telling { (world : World) → EngineIsAt machine.now.registry world self.old
+            → IsTelling machine.now.registry world (looking machine.now.registry world cpu firing.now) result }
+    {
+        match self.look(machine, cpu, firing) {
+            // no offer was taken yet
+            Some(_) => Outcome::Looked(self.left(cpu)),
+            None => Outcome::Quiet,
         }
     }
 }

@@ -1,7 +1,7 @@
 //! The world of many consumers: what its steps do to each session, and that what a session is answered is what it would
 //! be answered alone.
 //!
-//! Consumers trace one machine together, each in a session of its own, on one of 64 seats. The world is a function of
+//! Consumers trace one machine together, each in a session of its own, on one of 256 seats. The world is a function of
 //! the list of steps ([`Step`], `specs/Steps.antt`), and no consumer is in it: what reached each session
 //! (`specs/World.antt`), what was published, which offers are due. [`run`] takes the steps with the consumers, and
 //! answers each session what its own view is answered alone; [`agree_alike`] says that equal seen views are answered

@@ -2,8 +2,9 @@
 ghost use Rattle.std.specs.Prelude.{◌≡◌, ◌==◌, ℕ, Some, None, IfSome, IfNone, IfOk, if◌then◌else◌, slice_get, vec_len};
 ghost use Rattle.dt_steps.specs.Stands.{due_in};
 
-use dt_chain::{Seat, SeatMask};
-use dt_machine::Firing;
+use dt_chain::{Entries, Seat, SeatMask, SeatSet};
+use dt_life::{BEGIN, own_firing};
+use dt_machine::{Firing, Machine};
 use std::alloc::{AllocError, Global};
 
 /// A place in a processor's script, from 0 on.
@@ -13,31 +14,49 @@ pub struct ScriptPlace {
     pub place: u32,
 }
 
-/// The firing that a processor looked for last, and the seats that it is still to be offered to.
-#[derive(Clone, Copy)]
+/// The firing that a processor looked for last, and the seats that it is still to be offered to. It is of 2.3 KB, and lies
+/// where it is: a look fills it in place.
+#[derive(Drop)]
 pub(crate) struct Looked {
+    /// Where no seat is left, it means nothing.
     pub(crate) firing: Firing,
     pub(crate) left: SeatMask,
 }
 
 impl Looked {
-    ghost use Rattle.std.specs.Prelude.{option_map};
-    ghost use Rattle.dt_chain.specs.Seats.{life_at};
+    ghost use Rattle.std.specs.Prelude.{List, is_some, option_map};
+    ghost use Rattle.dt_chain.specs.IsAt.{EntriesAreAt};
+    ghost use Rattle.dt_chain.specs.Look.{IsLook};
+    ghost use Rattle.dt_chain.specs.Seats.{has, life_at};
+    ghost use Rattle.dt_chain.specs.Writes.{Write};
     ghost use Rattle.dt_steps.specs.Stands.{due_of};
 
-    /// What is kept of a look for a firing that named these seats: nothing, where it named none.
-    pub(crate) fn unless_empty(firing: &Firing, named: &SeatMask) -> Option<Looked>
-        ensures { (seat : ℕ) → due_in (Some result) seat
-            ≡ option_map (λ life. record { life = life; firing = firing.now }) (life_at named.now seat) }
+    /// A processor that looked for nothing yet.
+    fn idle() -> Looked
+        ensures { (seat : ℕ) → None ≡ due_of result seat }
     {
-        // with no offer left there is nothing to keep
-        if named.is_empty() {
-            return None;
+        Looked {
+            firing: own_firing(BEGIN),
+            left: SeatMask::new(),
         }
-        Some(Looked {
-            firing: *firing,
-            left: *named,
-        })
+    }
+
+    /// Looks whom a firing is to be offered to, and answers which seats that are. Offers that were left before are
+    /// forgotten.
+    pub(crate) fn look(&mut self, entries: &Entries, machine: &Machine, firing: &Firing) -> SeatSet
+        ensures look { (writes : List Write) → EntriesAreAt writes entries.now
+            → IsLook machine.now.registry writes firing.now (life_at self.new.left) }
+        ensures owes { (seat : ℕ) → due_of self.new seat
+            ≡ option_map (λ life. record { life = life; firing = firing.now }) (life_at self.new.left seat) }
+        ensures named { (seat : ℕ) → has result seat ≡ is_some (due_of self.new seat) }
+    {
+        entries.look_into(machine, firing, &mut self.left);
+        let named = self.left.seats();
+        // most looks name no seat: a firing that is offered to none is not kept
+        if !named.is_empty() {
+            self.firing = *firing;
+        }
+        named
     }
 
     /// Takes out the offer to a seat, if it is left, and answers the life that was named. The firing stays.
@@ -56,13 +75,13 @@ impl Looked {
 }
 
 /// Processors that looked for nothing yet.
-pub(crate) fn idle_processors(alloc: Global, cpus: u32) -> Result<Vec<Option<Looked>>, AllocError>
+pub(crate) fn idle_processors(alloc: Global, cpus: u32) -> Result<Vec<Looked>, AllocError>
     ensures all { IfOk result (λ processors. vec_len processors ≡ cpus) }
     ensures idle { IfOk result (λ processors. (cpu seat : ℕ) → None ≡ due_in (slice_get processors.items cpu) seat) }
 {
     let mut processors = Vec::with_capacity(alloc, cpus as usize)?;
     for _cpu in 0..cpus {
-        processors.push(None)?;
+        processors.push(Looked::idle())?;
     }
     Ok(processors)
 }

@@ -37,14 +37,4 @@ impl Outcome {
             None => Outcome::Quiet,
         }
     }
-
-    /// What a look named, if it was enabled.
-    pub(crate) fn looked(mask: Option<SeatMask>) -> Outcome
-        ensures { result ≡ option_map_or (λ named. outcome.Looked named) mask outcome.Quiet }
-    {
-        match mask {
-            Some(named) => Outcome::Looked(named),
-            None => Outcome::Quiet,
-        }
-    }
 }

@@ -21,8 +21,8 @@ const CPUS: [u32; 2] = [0, 1];
 /// The places in each script.
 const PLACES: [u32; 3] = [0, 1, 2];
 
-/// Which seats are used.
-const USED: [u32; 4] = [0, 5, 9, 63];
+/// Which seats are used: of three words of a set, at their ends.
+const USED: [u32; 4] = [0, 63, 64, 255];
 
 /// Who opens; `root` comes more often.
 const ACCOUNTS: [&str; 4] = ["root", "ann", "root", "joe"];

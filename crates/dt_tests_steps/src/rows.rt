@@ -296,8 +296,8 @@ const AROUND: &[(&str, &str)] = &[
     // each seat up to the last, and none after it
     ("open 1 root\n", ""),
     (
-        "open 63 root\ncall 63 []\n",
-        "63 {\"error\":2,\"name\":\"Request\"}\n",
+        "open 255 root\ncall 255 []\n",
+        "255 {\"error\":2,\"name\":\"Request\"}\n",
     ),
     // a seat on which no session is
     (

@@ -1,5 +1,5 @@
 //! Publications, withdrawals and looks, as a table of them with what is named.
-use dt_chain::{Entries, SEATS, Seat, SeatMask, Write};
+use dt_chain::{Entries, SEATS, Seat, SeatMask, SeatSet, Write};
 use dt_cred::Account;
 use dt_machine::{Firing, Interest, Machine, PROBE_ID_MAX};
 use std::alloc::Global;
@@ -33,8 +33,9 @@ const TABLE: &str = "
 + 0 1 root 3 + 0 2 ann 3 ? 0 0:2 ? 3 none
 + 0 1 root 3 + 1 1 root 4 ? 0 0:1 ? 1 1:1
 + 0 9 root 3 + 0 4 root 3 ? 0 0:4
-+ 63 18446744073709551615 root 3 ? 0 63:18446744073709551615
++ 255 18446744073709551615 root 3 ? 0 255:18446744073709551615
 + 31 7 root 3 + 32 8 root 3 + 63 0 root 3 + 0 0 root 3 ? 0 0:0,31:7,32:8,63:0 - 32 ? 0 0:0,31:7,63:0
++ 63 1 root 3 + 64 2 root 3 + 127 3 ann 3 + 128 4 root 3 + 191 5 root 3 + 192 6 eve 3 + 255 7 root 3 ? 0 63:1,64:2,127:3,128:4,191:5,255:7 - 64 - 255 ? 0 63:1,127:3,128:4,191:5 ? b none ? 0 63:1,127:3,128:4,191:5
 + 5 1 ann 3,4 + 2 9 root 3,4 + 9 4 eve 3,4 ? 0 2:9,5:1 ? 1 2:9,5:1 ? 2 2:9 ? 3 2:9
 + 1 0 eve 3,4,5,6 ? 0 none ? 1 none ? 2 none ? 3 none ? 4 1:0 ? 5 1:0
 + 1 0 root 1,2,3,4,5,6,4098 ? b none ? e none ? l none ? a none ? p none ? o none ? c none ? 5 1:0
@@ -54,6 +55,8 @@ fn looks_name_what_the_table_says(rt: HostRuntime) -> Result<(), Fail> {
 /// Does what a line's words say, and compares what is named.
 fn plays(rt: &impl Abort, alloc: Global, machine: &Machine, line: &str) -> Result<(), Fail> {
     let mut entries = Entries::new(alloc);
+    // one mask is lent to all looks of the line
+    let mut lent = SeatMask::new();
     let mut words = line.split_whitespace();
     while let Some(word) = words.next() {
         let first = words.next().ok_or("no word")?;
@@ -76,8 +79,12 @@ fn plays(rt: &impl Abort, alloc: Global, machine: &Machine, line: &str) -> Resul
             "-" => withdrawn(&mut entries, seat_of(first)?)?,
             _ => {
                 let firing = firing_of(machine, first)?;
-                let named = named(rt, alloc, looked(&entries, machine, &firing))?;
-                assert!(rt; Some(named.as_str()) == words.next(), "{first} in {line}");
+                let wanted = words.next();
+                looked_into(&entries, machine, &firing, &mut lent);
+                for mask in [looked(&entries, machine, &firing), lent] {
+                    let named = named(rt, alloc, mask)?;
+                    assert!(rt; Some(named.as_str()) == wanted, "{first} in {line}");
+                }
             }
         }
     }
@@ -120,12 +127,17 @@ fn looked(entries: &Entries, machine: &Machine, firing: &Firing) -> SeatMask {
     entries.look(machine, firing)
 }
 
+fn looked_into(entries: &Entries, machine: &Machine, firing: &Firing, mask: &mut SeatMask) {
+    entries.look_into(machine, firing, mask);
+}
+
 /// The first seat that a mask names, and its life; it is removed.
 fn taken(rt: &impl Abort, mask: &mut SeatMask) -> Option<(u32, u64)> {
     let (seat, life) = mask.first()?;
     assert!(rt; !mask.is_empty() && mask.life_of(seat) == Some(life));
+    assert!(rt; mask.seats().first() == Some(seat) && mask.seats().contains(seat));
     mask.remove(seat);
-    assert!(rt; mask.life_of(seat).is_none());
+    assert!(rt; mask.life_of(seat).is_none() && !mask.seats().contains(seat));
     Some((seat.number(), life))
 }
 
@@ -181,7 +193,7 @@ fn interest_of(word: &str) -> Result<Interest, Fail> {
 }
 
 fn seat_of(word: &str) -> Result<Seat, Fail> {
-    Ok(Seat::new(word.parse::<u32>()?).ok_or("no seat")?)
+    seat_numbered(word.parse::<u32>()?)
 }
 
 fn first_number(word: Option<&str>) -> Result<u64, Fail> {
@@ -195,8 +207,33 @@ fn room_and_seats(rt: HostRuntime) -> Result<(), Fail> {
     entries.reserve()?;
     entries.reserve()?;
     assert!(rt;
-        Seat::new(63).is_some() && Seat::new(64).is_none() && Seat::new(u32::MAX).is_none()
+        Seat::new(255).is_some() && Seat::new(256).is_none() && Seat::new(u32::MAX).is_none()
     );
     assert!(rt; SeatMask::new().is_empty());
     Ok(())
+}
+
+/// A set has the seats that were put in and not taken out, and tells the least first.
+#[test]
+fn sets_of_seats(rt: HostRuntime) -> Result<(), Fail> {
+    let mut seats = SeatSet::new();
+    assert!(rt; seats.is_empty() && seats.first().is_none());
+    for number in [255, 64, 63, 64, 128] {
+        seats.insert(seat_numbered(number)?);
+    }
+    for number in [63, 64, 128, 255] {
+        let seat = seat_numbered(number)?;
+        assert!(rt;
+            seats.contains(seat) && seats.first() == Some(seat),
+            "{number}"
+        );
+        seats.remove(seat);
+        assert!(rt; !seats.contains(seat), "{number}");
+    }
+    assert!(rt; seats.is_empty());
+    Ok(())
+}
+
+fn seat_numbered(number: u32) -> Result<Seat, Fail> {
+    Ok(Seat::new(number).ok_or("no seat")?)
 }

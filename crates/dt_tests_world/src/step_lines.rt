@@ -33,9 +33,10 @@ fn told(alloc: Global, text: &[u8]) -> Result<String, Fail> {
 #[test]
 fn reads_step_lines_and_nothing_else(rt: HostRuntime) -> Result<(), Fail> {
     let alloc = rt.alloc();
-    let rows: [(&[u8], &str); 52] = [
+    let rows: [(&[u8], &str); 53] = [
         (b"open 0 ann", "open, seat 0, [97, 110, 110]"),
-        (b"open 63 ann", "open, seat 63, [97, 110, 110]"),
+        (b"open 255 ann", "open, seat 255, [97, 110, 110]"),
+        (b"open 64 ann", "open, seat 64, [97, 110, 110]"),
         (b"open 1  a ", "open, seat 1, [32, 97, 32]"),
         (b"open 1 ", "open, seat 1, []"),
         (b"close 9", "close, seat 9"),
@@ -49,13 +50,13 @@ fn reads_step_lines_and_nothing_else(rt: HostRuntime) -> Result<(), Fail> {
         (b"look 4294967295", "look, processor 4294967295"),
         (b"offer 0 1", "offer, processor 0, seat 1"),
         (
-            b"offer 4294967295 63",
-            "offer, processor 4294967295, seat 63",
+            b"offer 4294967295 255",
+            "offer, processor 4294967295, seat 255",
         ),
         (b"call 2 x y", "call, seat 2, [120, 32, 121]"),
         (b"call 2 ", "call, seat 2, []"),
         (b"fire 10", "fire, processor 10"),
-        (b"open 64 ann", "none"),
+        (b"open 256 ann", "none"),
         (b"open 00 ann", "none"),
         (b"open 01 ann", "none"),
         (b"open +1 ann", "none"),
@@ -69,12 +70,12 @@ fn reads_step_lines_and_nothing_else(rt: HostRuntime) -> Result<(), Fail> {
         (b"opens 0 ann", "none"),
         (b"close", "none"),
         (b"close ", "none"),
-        (b"close 64", "none"),
+        (b"close 256", "none"),
         (b"close 1 ", "none"),
         (b"close 1\r", "none"),
         (b"withdraw x", "none"),
         (b"ask 0", "none"),
-        (b"ask 64 {}", "none"),
+        (b"ask 256 {}", "none"),
         (b"ask {}", "none"),
         (b"publish 1 1", "none"),
         (b"finish 00", "none"),
@@ -82,7 +83,7 @@ fn reads_step_lines_and_nothing_else(rt: HostRuntime) -> Result<(), Fail> {
         (b"look 00", "none"),
         (b"look 0 0", "none"),
         (b"offer 0", "none"),
-        (b"offer 0 64", "none"),
+        (b"offer 0 256", "none"),
         (b"offer 4294967296 0", "none"),
         (b"offer 0  1", "none"),
         (b"offer 0 1 ", "none"),

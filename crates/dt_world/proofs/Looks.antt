@@ -1,89 +1,45 @@
 -- What a look of a replay does.
-use Rattle.std.proofs.Common.{◌≡◌, ℕ, ◌+◌, ◌<◌, ◌≤◌, ◌==◌, ◌&&◌, Bool, true, false, cond, List, [], ◌∷◌, ◌++◌, Option}
-use Rattle.std.proofs.Common.{Some, None, IfSome, is_some, nat_lt, length, get_or, set, ⊎_elim, refl, sym, ap, ◌∙◌}
+use Rattle.std.proofs.Common.{◌≡◌, ℕ, ◌+◌, ◌<◌, ◌≤◌, ◌==◌, Bool, true, false, cond, List, Option}
+use Rattle.std.proofs.Common.{Some, None, IfSome, length, get_or, set, ⊎_elim, refl, sym, ap, ◌∙◌}
 use Rattle.std.proofs.Common.{subst, arith}
 use Rattle.std.specs.List.{slice_get}
-use Rattle.std.specs.Option.{option_map, option_and_then}
+use Rattle.std.specs.Option.{option_and_then}
 use Rattle.std.proofs.lemmas.Bool.{eq-eqb, ne_eqb, lt-ltb, cases_eq}
-use Rattle.std.proofs.lemmas.List.{length-append, append_cancel_left, get_or-set_other}
+use Rattle.std.proofs.lemmas.List.{get_or-set_other}
 use Rattle.std.proofs.lemmas.Grind.{get_or-set_at}
 use Rattle.std.proofs.lemmas.Option.{slice_get_within}
-use Rattle.dt_chain.specs.Seats.{life_at}
-use Rattle.dt_chain.specs.declared.seat_mask.SeatMask.{SeatMask}
+use Rattle.dt_chain.specs.declared.seat_set.SeatSet.{SeatSet}
 use Rattle.dt_machine.specs.Registry.{Registry, Contents, IsSound, IsPlaced, firing_at}
 use Rattle.dt_machine.specs.declared.limits.TheConstants.{SCRIPT_MAX}
 use Rattle.dt_cred.specs.declared.firing.Firing.{Firing}
 use Rattle.dt_world.specs.Replay.{Replayed, after_step_line, next_of}
-use Rattle.dt_steps.specs.Stands.{IsLooked}
+use Rattle.dt_steps.specs.Stands.{IsNaming}
 use Rattle.dt_world.specs.StepLine.{look_line}
-use Rattle.dt_steps.specs.Steps.{looking, looking_at, is_done}
+use Rattle.dt_steps.specs.Steps.{looking, looking_at, may_look, is_done}
 use Rattle.dt_chain.specs.Tests.{mask_of}
 use Rattle.dt_steps.specs.World.{World}
 
 module _ (registry : Registry) (world : World) (cpu : ℕ) (firing : Firing) where
   pub looking_keeps : (looking registry world cpu firing).questions ≡ world.questions
   unfolding looking
-  looking_keeps = kept (nat_lt cpu registry.cpus && (firing.cpu == cpu && is_done (world.due cpu))) where
+  looking_keeps = kept (may_look registry world cpu firing) where
     kept : (b : Bool) → (cond b (looking_at world cpu firing (mask_of registry world.writes firing)) world).questions
         ≡ world.questions
     kept true = refl
     kept false = refl
 
-  -- the processor is there, and the firing is its own
+  -- the processor is there, and the firing is its own: the look is enabled where no offer is left
   module _ (low : cpu < registry.cpus) (own : firing.cpu ≡ cpu) where
-    looking_when : (b : Bool) → is_done (world.due cpu) ≡ b
-        → looking registry world cpu firing
-        ≡ cond b (looking_at world cpu firing (mask_of registry world.writes firing)) world
+    may_look_when : may_look registry world cpu firing ≡ is_done (world.due cpu)
+    may_look_when = rw (lt-ltb cpu registry.cpus low, eq-eqb firing.cpu cpu own) refl
+
+    pub not_done : IsNaming registry world cpu firing None
+        → (is_done (world.due cpu) ≡ false) × (looking registry world cpu firing ≡ world)
     unfolding looking
-    looking_when b is = rw (lt-ltb cpu registry.cpus low, eq-eqb firing.cpu cpu own, is) refl
+    not_done off = (sym may_look_when ∙ off, rw off refl)
 
-    not_longer : (looks more : List (ℕ → Option ℕ)) (look : ℕ → Option ℕ) → looks ++ look ∷ [] ≡ looks → ⊥
-    not_longer looks more look e =
-        let long = length-append looks (look ∷ []) in
-        let same : length (looks ++ look ∷ []) ≡ length looks = ap length e in
-        absurd (omega (arith, long, same))
-
-    -- a look that was not enabled: an offer was left
-    not_done_at : (b : Bool) → is_done (world.due cpu) ≡ b → (looking registry world cpu firing).looks ≡ world.looks
-        → (is_done (world.due cpu) ≡ false) × (looking registry world cpu firing ≡ world)
-    not_done_at true is h =
-        absurd (not_longer world.looks [] (mask_of registry world.writes firing)
-        (sym (ap (λ (w : World). w.looks) (looking_when true is)) ∙ h))
-    not_done_at false is h = (is, looking_when false is)
-
-    pub not_done : IsLooked world (looking registry world cpu firing) None
-        → (is_done (world.due cpu) ≡ false) × (looking registry world cpu firing ≡ world)
-    not_done h = not_done_at (is_done (world.due cpu)) refl h
-
-    -- a look that was enabled: no offer was left, and those are due that the mask names
-    done_at : (b : Bool) (mask : SeatMask) → is_done (world.due cpu) ≡ b
-        → IsLooked world (looking registry world cpu firing) (Some mask)
-        → (is_done (world.due cpu) ≡ true)
-        × ((seat : ℕ) → is_some (life_at mask seat) ≡ is_some ((looking registry world cpu firing).due cpu seat))
-    done_at false mask is h =
-        absurd (not_longer world.looks [] h.0
-        (sym h.1 ∙ ap (λ (w : World). w.looks) (looking_when false is)))
-    done_at true mask is h =
-        let at = looking_when true is in
-        let last : mask_of registry world.writes firing ∷ [] ≡ h.0 ∷ [] =
-        append_cancel_left world.looks (mask_of registry world.writes firing ∷ []) (h.0 ∷ [])
-        (sym (ap (λ (w : World). w.looks) at) ∙ h.1) in
-        let look : mask_of registry world.writes firing ≡ h.0 = cc in (
-          is,
-          λ seat. ap is_some (h.2 seat) ∙ ap (λ (l : ℕ → Option ℕ). is_some (l seat)) (sym look)
-              ∙ due_is seat (mask_of registry world.writes firing seat) (cpu == cpu) (eq-eqb cpu cpu refl)
-              ∙ ap (λ (w : World). is_some (w.due cpu seat)) (sym at),
-        ) where
-          due_is : (seat : ℕ) (named : Option ℕ) (b : Bool) → b ≡ true → is_some named
-              ≡ is_some (cond b (option_map (λ life. record { life = life; firing = firing }) named)
-              (world.due cpu seat))
-          due_is seat None b is = rw is refl
-          due_is seat (Some life) b is = rw is refl
-
-    pub done : (mask : SeatMask) → IsLooked world (looking registry world cpu firing) (Some mask)
-        → (is_done (world.due cpu) ≡ true)
-        × ((seat : ℕ) → is_some (life_at mask seat) ≡ is_some ((looking registry world cpu firing).due cpu seat))
-    done mask h = done_at (is_done (world.due cpu)) mask refl h
+    pub done : (seats : SeatSet) → IsNaming registry world cpu firing (Some seats) → is_done (world.due cpu) ≡ true
+    done seats on = sym may_look_when ∙ on.0
 
 module _ (contents : Contents) (now : Replayed) (cpu : ℕ) where
   pub next_none_left : firing_at contents.scripts cpu (now.taken cpu) ≡ None → next_of contents now cpu ≡ None

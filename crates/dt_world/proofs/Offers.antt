@@ -3,21 +3,21 @@ use Rattle.std.proofs.Common.{◌≡◌, ◌≢◌, ℕ, zero, suc, ◌+◌, ◌
 use Rattle.std.proofs.Common.{◌++◌, Option, Some, None, is_some, map, fold, filter, ⊎_elim, refl, sym, ap, ◌∙◌, arith}
 use Rattle.std.specs.List.{range_with_len}
 use Rattle.std.specs.Option.{option_map_or}
-use Rattle.std.proofs.lemmas.Bool.{eq-eqb, ne_eqb, cases_eq, cases_lt}
+use Rattle.std.proofs.lemmas.Bool.{eq-eqb, ne_eqb, cases_eq}
 use Rattle.std.proofs.lemmas.List.{map-append}
 use Rattle.std.proofs.lemmas.List.Sums.{fold-append}
-use Rattle.dt_chain.specs.Seats.{life_at}
+use Rattle.dt_chain.specs.Seats.{has}
 use Rattle.dt_chain.specs.declared.seat.TheConstants.{SEATS}
-use Rattle.dt_chain.specs.declared.seat_mask.SeatMask.{SeatMask}
+use Rattle.dt_chain.specs.declared.seat_set.SeatSet.{SeatSet}
 use Rattle.dt_machine.specs.Registry.{Contents}
 use Rattle.dt_cred.specs.declared.firing.Firing.{Firing}
 use Rattle.dt_world.specs.Replay.{Replayed, after_step_line, next_of, seats_due, firing_acts}
 use Rattle.dt_world.specs.StepLine.{look_line, fire_line}
 use Rattle.dt_steps.specs.Steps.{looks, offers, after_act, offering, looking}
 
--- the seats that a mask names, by rising seat
-unfoldable pub named_by : SeatMask → List ℕ
-named_by mask = filter (λ seat. is_some (life_at mask seat)) (range_with_len 0 SEATS)
+-- the seats of a set, in rising order
+unfoldable pub in_order : SeatSet → List ℕ
+in_order seats = filter (has seats) (range_with_len 0 SEATS)
 
 -- where two tests agree from a number on, they find the same
 filter_same : (p q : ℕ → Bool) (a n : ℕ) → ((s : ℕ) → a ≤ s → q s ≡ p s)
@@ -53,23 +53,17 @@ none_filtered : (p : ℕ → Bool) (xs : List ℕ) → ((s : ℕ) → p s ≡ fa
 none_filtered p [] h = refl
 none_filtered p (x ∷ xs) h = rw (h x) (none_filtered p xs h)
 
-pub named_first : (mask left : SeatMask) (seat life : ℕ) → seat < SEATS → life_at mask seat ≡ Some life
-    → ((s : ℕ) → s < seat → life_at mask s ≡ None)
-    → ((s : ℕ) → life_at left s ≡ cond (s == seat) None (life_at mask s))
-    → named_by mask ≡ seat ∷ named_by left
-unfolding named_by
-named_first mask left seat life low is before without =
-    filter_first (λ s. is_some (life_at mask s)) (λ s. is_some (life_at left s)) seat 0 SEATS (omega arith)
-    (omega (arith, low)) (ap is_some is) (λ s below. ap is_some (before s below))
-    (λ s. ap is_some (without s) ∙ some_cond (s == seat) (life_at mask s)) where
-      some_cond : (b : Bool) (o : Option ℕ) → is_some (cond b None o) ≡ cond b false (is_some o)
-      some_cond true o = refl
-      some_cond false o = refl
+pub order_first : (seats left : SeatSet) (seat : ℕ) → seat < SEATS → has seats seat ≡ true
+    → ((s : ℕ) → s < seat → has seats s ≡ false)
+    → ((s : ℕ) → has left s ≡ cond (s == seat) false (has seats s))
+    → in_order seats ≡ seat ∷ in_order left
+unfolding in_order
+order_first seats left seat low is before without =
+    filter_first (has seats) (has left) seat 0 SEATS (omega arith) (omega (arith, low)) is before without
 
-pub named_none : (mask : SeatMask) → ((seat : ℕ) → life_at mask seat ≡ None) → named_by mask ≡ []
-unfolding named_by
-named_none mask h =
-    none_filtered (λ s. is_some (life_at mask s)) (range_with_len 0 SEATS) (λ s. ap is_some (h s))
+pub order_none : (seats : SeatSet) → ((seat : ℕ) → has seats seat ≡ false) → in_order seats ≡ []
+unfolding in_order
+order_none seats h = none_filtered (has seats) (range_with_len 0 SEATS) h
 
 -- where a replay stands after a look and offers to some seats
 abbrev pub offered_to : Contents → Replayed → (cpu : ℕ) → List ℕ → Replayed
@@ -125,25 +119,11 @@ module _ (contents : Contents) (now : Replayed) (cpu : ℕ) where
       → after_step_line contents now (fire_line cpu) ≡ after_step_line contents now (look_line cpu)
   fired_none is = rw is refl
 
-  -- the mask of a look names the seats to which offers are due
-  pub named_due : (firing : Firing) (mask : SeatMask) → next_of contents now cpu ≡ Some firing
-      → ((seat : ℕ) → is_some (life_at mask seat)
-      ≡ is_some ((looking contents.registry now.world cpu firing).due cpu seat))
-      → named_by mask ≡ seats_due (after_step_line contents now (look_line cpu)).world cpu
-  unfolding named_by seats_due
-  named_due firing mask is h =
-      rw is (filter_same (λ s. is_some (life_at mask s))
+  -- a look names the seats to which offers are due
+  pub order_due : (firing : Firing) (seats : SeatSet) → next_of contents now cpu ≡ Some firing
+      → ((seat : ℕ) → has seats seat ≡ is_some ((looking contents.registry now.world cpu firing).due cpu seat))
+      → in_order seats ≡ seats_due (after_step_line contents now (look_line cpu)).world cpu
+  unfolding in_order seats_due
+  order_due firing seats is h =
+      rw is (filter_same (has seats)
       (λ s. is_some ((looking contents.registry now.world cpu firing).due cpu s)) 0 SEATS (λ s _. sym (h s)))
-
--- a mask has one first seat
-pub one_first : (mask : SeatMask) (a b x y : ℕ) → life_at mask a ≡ Some x → ((s : ℕ) → s < a → life_at mask s ≡ None)
-    → life_at mask b ≡ Some y → ((s : ℕ) → s < b → life_at mask s ≡ None) → a ≡ b
-one_first mask a b x y at_a before_a at_b before_b =
-    ⊎_elim
-    (λ (below : a < b). let bad : Some x ≡ None = sym at_a ∙ before_b a below in cc)
-    (λ (up : b ≤ a).
-    ⊎_elim
-    (λ (below : b < a). let bad : Some y ≡ None = sym at_b ∙ before_a b below in cc)
-    (λ (down : a ≤ b). omega (arith, up, down))
-    (cases_lt b a))
-    (cases_lt a b)

@@ -1,7 +1,7 @@
 -- How far a replay came, beside where it stands by its lines.
 use Rattle.std.specs.Prelude.{◌≡◌, ℕ, ◌<◌, List, Option, Some, None, is_some, slice_index}
-use Rattle.dt_chain.specs.Seats.{life_at}
-use Rattle.dt_chain.specs.declared.seat_mask.SeatMask.{SeatMask}
+use Rattle.dt_chain.specs.Seats.{has}
+use Rattle.dt_chain.specs.declared.seat_set.SeatSet.{SeatSet}
 use Rattle.dt_machine.specs.Registry.{Contents}
 use Rattle.dt_cred.specs.declared.firing.Firing.{Firing}
 use Rattle.dt_machine.specs.Limits.{cpus_max}
@@ -35,7 +35,7 @@ pub record HasTakenLines (wanted : Wanted) (contents : Contents) (lines : List (
   pub after : IsAfter wanted contents (replayed contents forms) progress
 
 -- A look took no firing; or it took one, and named the seats to which offers are due then.
-abbrev pub IsNamed : Contents → Replayed → (cpu : ℕ) → Option SeatMask → Type 0
+abbrev pub IsNamed : Contents → Replayed → (cpu : ℕ) → Option SeatSet → Type 0
 IsNamed contents now cpu None = next_of contents now cpu ≡ None
-IsNamed contents now cpu (Some mask) = (firing : Firing) × (next_of contents now cpu ≡ Some firing)
-    × ((seat : ℕ) → is_some (life_at mask seat) ≡ is_some ((looking contents.registry now.world cpu firing).due cpu seat))
+IsNamed contents now cpu (Some seats) = (firing : Firing) × (next_of contents now cpu ≡ Some firing)
+    × ((seat : ℕ) → has seats seat ≡ is_some ((looking contents.registry now.world cpu firing).due cpu seat))

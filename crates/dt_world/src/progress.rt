@@ -11,7 +11,7 @@ ghost use Rattle.dt_world.specs.declared.output.Wanted.{Wanted};
 
 use crate::output::{Output, Wanted};
 use crate::step_line::StepLine;
-use dt_chain::{Seat, SeatMask};
+use dt_chain::{Seat, SeatSet};
 use dt_machine::{CPUS_MAX, Machine};
 use dt_proto::WholeLine;
 use dt_steps::Engine;
@@ -198,8 +198,8 @@ impl Progress {
     }
 
     /// Takes the next firing of a processor's script, where one is left and no offer of the processor is, and looks whom
-    /// it is to be offered to.
-    fn look(&mut self, machine: &Machine, cpu: u32) -> Option<SeatMask>
+    /// it is to be offered to. Answers which seats that are.
+    fn look(&mut self, machine: &Machine, cpu: u32) -> Option<SeatSet>
         ensures after { (wanted : Wanted) (now : Replayed) → cpu < machine.now.registry.cpus → IsAfter wanted machine.now now self.old
             → IsAfter wanted machine.now (after_step_line machine.now now (look_line cpu)) self.new }
         ensures answer { (wanted : Wanted) (now : Replayed) → cpu < machine.now.registry.cpus → IsAfter wanted machine.now now self.old
@@ -211,9 +211,9 @@ impl Progress {
         }
         let place = self.taken[cpu as usize];
         let firing = machine.firing(cpu, place)?;
-        let mask = self.engine.look(machine, cpu, firing)?;
+        let named = self.engine.look(machine, cpu, firing)?;
         self.taken[cpu as usize] = place.saturating_add(1);
-        Some(mask)
+        Some(named)
     }
 
     /// Takes the next firing of a processor's script, and offers it to each seat that it is for.
@@ -223,13 +223,13 @@ impl Progress {
             → IsAfter wanted machine.now (after_step_line machine.now now (fire_line cpu)) self.new) }
     {
         // at the script's end, or with offers left, no firing is taken, and there is none to offer
-        let Some(mask) = self.look(machine, cpu) else {
+        let Some(named) = self.look(machine, cpu) else {
             return Ok(());
         };
-        let mut left = mask;
-        while let Some(first) = left.first() {
-            left.remove(first.0);
-            self.offer(alloc, machine, cpu, first.0)?;
+        let mut left = named;
+        while let Some(seat) = left.first() {
+            left.remove(seat);
+            self.offer(alloc, machine, cpu, seat)?;
         }
         Ok(())
     }

@@ -1,11 +1,11 @@
 -- An account is its uid and its privileges: two that are equal in these see and are answered the same.
-use Rattle.std.proofs.Common.{◌≡◌, ℕ, Bool, cond, List, [], ◌∷◌, refl, ap, sym, subst, ◌∙◌}
+use Rattle.std.proofs.Common.{◌≡◌, ℕ, cond, List, [], ◌∷◌, refl, ap, subst, ◌∙◌}
 use Rattle.dt_cred.specs.declared.account.Account.{Account}
 use Rattle.dt_cred.specs.declared.account.Privs.{Privs}
 use Rattle.dt_cred.specs.laws.Accounts.{renamed}
 use Rattle.dt_life.specs.Acceptance.{after_line}
 use Rattle.dt_life.specs.Answer.{Answer}
-use Rattle.dt_life.specs.Life.{Item, fired}
+use Rattle.dt_life.specs.Life.{fired}
 use Rattle.dt_life.specs.Reply.{Replies}
 use Rattle.dt_life.specs.Tests.{is_seen}
 use Rattle.dt_life.specs.laws.Accounts.{seen_firing_alike, reply_renamed}

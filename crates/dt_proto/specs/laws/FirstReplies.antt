@@ -1,5 +1,5 @@
 -- The replies of a trail are the first that its view is answered alone, as many as the quota of lines allows.
-use Rattle.std.proofs.Common.{◌≡◌, ℕ, ◌+◌, ◌<◌, ◌≤◌, ◌++◌, Bool, true, false, cond, List, [], ◌∷◌, Result, MatchBool, map, take}
+use Rattle.std.proofs.Common.{◌≡◌, ℕ, ◌<◌, ◌≤◌, ◌++◌, Bool, true, false, cond, List, [], ◌∷◌, Result, MatchBool, map, take}
 use Rattle.std.proofs.Common.{length, refl, sym, ap, ◌∙◌, subst, ⊎_elim, arith}
 use Rattle.std.proofs.lemmas.Bool.{leb-true}
 use Rattle.std.proofs.lemmas.Grind.{flat_map-append}
@@ -16,11 +16,11 @@ use Rattle.dt_life.specs.Tests.{is_seen}
 use Rattle.dt_life.specs.declared.refusal.Refusal.{Refusal}
 use Rattle.dt_life.specs.laws.Lines.{quota_left}
 use Rattle.dt_machine.specs.Registry.{Registry}
-use Rattle.dt_proto.specs.Alone.{Reached, own_line, firing_made, IsReplyTo, Alone}
+use Rattle.dt_proto.specs.Alone.{Reached, own_line, firing_made, Alone}
 use Rattle.dt_proto.specs.Line.{ask_in}
 use Rattle.dt_proto.specs.Lines.{LineForm, short_line, long_line}
 use Rattle.dt_proto.specs.Reply.{reply_text}
-use Rattle.dt_proto.specs.Trail.{TrailEntry, fired_at, IsEntryOf, IsLineTold, IsToldFiring, IsTrailOf, replies_by, replies_of}
+use Rattle.dt_proto.specs.Trail.{TrailEntry, IsEntryOf, IsLineTold, IsToldFiring, IsTrailOf, replies_by, replies_of}
 use Rattle.dt_proto.specs.Views.{life_of}
 use Rattle.dt_proto.specs.laws.Views.{one_life, reply_from}
 

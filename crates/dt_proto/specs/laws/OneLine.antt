@@ -1,6 +1,6 @@
 -- The text of JSON without blanks is one line: no byte of it is a newline. So a reply is one line.
 use Rattle.std.proofs.Common.{◌≡◌, ◌≢◌, ℕ, zero, suc, ◌+◌, ◌/◌, ◌%◌, ◌==◌, ◌||◌, Bool, true, false, cond, ℤ, pos, negsuc, List, []}
-use Rattle.std.proofs.Common.{◌∷◌, ◌++◌, nat_lt, decimal, refl, ap, sym, subst, ◌∙◌, arith, inl, inr}
+use Rattle.std.proofs.Common.{◌∷◌, ◌++◌, nat_lt, decimal, refl, sym, subst, arith, inl, inr}
 use Rattle.std.proofs.lemmas.Bool.{both_ways, cond_both, eq-eqb}
 use Rattle.std.proofs.lemmas.Bool.Decides.{eqb_tells}
 use Rattle.std.proofs.lemmas.List.Elements.{All-nil, All-cons, All-append}

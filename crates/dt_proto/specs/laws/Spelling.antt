@@ -1,6 +1,6 @@
 -- The trail of a view that a machine can bring can be written: no newline is in it, and its numbers are small.
-use Rattle.std.proofs.Common.{◌≡◌, ◌≢◌, ℕ, zero, suc, ◌^◌, ◌<◌, ◌≤◌, ◌++◌, Bool, true, false, List, [], ◌∷◌, Option, Some, None}
-use Rattle.std.proofs.Common.{IfSome, MatchBool, length, refl, sym, ap, ◌∙◌, subst, ⊎_elim, arith}
+use Rattle.std.proofs.Common.{◌≡◌, ℕ, zero, suc, ◌<◌, ◌≤◌, ◌++◌, Bool, true, false, List, [], ◌∷◌, Option, Some, None}
+use Rattle.std.proofs.Common.{IfSome, MatchBool, length, refl, sym, ◌∙◌, subst, ⊎_elim, arith}
 use Rattle.std.proofs.lemmas.List.{append_cancel_right}
 use Rattle.std.specs.List.{AllByRecursion, slice_get}
 use Rattle.std.specs.Option.{option_and_then}
@@ -9,7 +9,7 @@ use Rattle.dt_cred.specs.declared.firing.Firing.{Firing}
 use Rattle.dt_life.specs.Answer.{Answer}
 use Rattle.dt_life.specs.Life.{Item, is_over}
 use Rattle.dt_life.specs.Reply.{Replies}
-use Rattle.dt_machine.specs.Limits.{cpus_max, script_max}
+use Rattle.dt_machine.specs.Limits.{script_max}
 use Rattle.dt_machine.specs.Registry.{Contents, IsSound, IsPlaced, firing_at}
 use Rattle.dt_proto.specs.Alone.{Reached, own_line, firing_made}
 use Rattle.dt_proto.specs.Brought.{IsBrought, IsOneLine, HasOnlyLines}
@@ -17,7 +17,7 @@ use Rattle.dt_proto.specs.Line.{ask_in}
 use Rattle.dt_proto.specs.Lines.{LineForm, short_line, long_line}
 use Rattle.dt_proto.specs.Reply.{reply_text}
 use Rattle.dt_proto.specs.Splits.{HasNoNewline, with_newline}
-use Rattle.dt_proto.specs.Trail.{TrailEntry, line_asked, long_asked, fired_at, IsWritable, IsEntryOf, IsToldFiring, IsTrailOf}
+use Rattle.dt_proto.specs.Trail.{TrailEntry, fired_at, IsWritable, IsEntryOf, IsToldFiring, IsTrailOf}
 use Rattle.dt_proto.specs.Trail.{SpellsTrail, trail_text}
 use Rattle.dt_proto.specs.laws.OneLine.{reply_is_line}
 

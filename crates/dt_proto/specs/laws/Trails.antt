@@ -1,23 +1,17 @@
 -- The trail of a view is that of its seen view; its replies are the first that the view is answered alone; and its text tells it.
-use Rattle.std.proofs.Common.{◌≡◌, ◌⊎◌, ℕ, ◌^◌, ◌+◌, ◌<◌, ◌≤◌, ◌++◌, Bool, true, false, cond, List, [], ◌∷◌, MatchBool, map, take, length}
-use Rattle.std.proofs.Common.{refl, sym, ap, ◌∙◌, subst, ⊎_elim, inl, inr, arith}
-use Rattle.std.proofs.lemmas.List.{append-nil, append_cancel_right}
+use Rattle.std.proofs.Common.{◌≡◌, ◌++◌, Bool, true, false, cond, List, [], ◌∷◌}
+use Rattle.std.proofs.Common.{refl, sym, ap, ◌∙◌, subst, ⊎_elim, inr}
+use Rattle.std.proofs.lemmas.List.{append-nil}
 use Rattle.std.proofs.lemmas.Bool.{both_ways}
-use Rattle.std.specs.List.{AllByRecursion}
 use Rattle.dt_cred.specs.declared.account.Account.{Account}
 use Rattle.dt_cred.specs.declared.firing.Firing.{Firing}
-use Rattle.dt_life.specs.Answer.{Answer}
-use Rattle.dt_life.specs.Life.{Item, fired, is_over}
-use Rattle.dt_life.specs.Reply.{Replies}
+use Rattle.dt_life.specs.Life.{Item}
 use Rattle.dt_life.specs.Sees.{Sees}
 use Rattle.dt_life.specs.Tests.{is_seen}
-use Rattle.dt_life.specs.laws.Seeing.{seen_from, seen_to, unseen_to}
+use Rattle.dt_life.specs.laws.Seeing.{seen_from, seen_to}
 use Rattle.dt_machine.specs.Registry.{Registry}
-use Rattle.dt_proto.specs.Alone.{Reached, own_line, firing_made, IsLifeOf, Alone}
-use Rattle.dt_proto.specs.Line.{ask_in}
-use Rattle.dt_proto.specs.Lines.{LineForm, short_line, long_line}
-use Rattle.dt_proto.specs.Splits.{HasNoNewline, with_newline}
-use Rattle.dt_proto.specs.Trail.{TrailEntry, line_asked, long_asked, fired_at, IsLineTold, IsToldFiring, IsTrailOf}
+use Rattle.dt_proto.specs.Alone.{Reached, own_line, firing_made, IsLifeOf}
+use Rattle.dt_proto.specs.Trail.{TrailEntry, fired_at, IsLineTold, IsToldFiring, IsTrailOf}
 use Rattle.dt_proto.specs.Views.{life_of, seen_view}
 use Rattle.dt_proto.specs.laws.Views.{is_life, one_life, life-seen_view}
 

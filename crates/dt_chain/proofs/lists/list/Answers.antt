@@ -12,7 +12,7 @@ loop-probe-preserved c =
     let step = c.loop-probe in
     elim c.if-contains.branch [
       | then-contains w ↦
-          let changed = changed_one step.lists step.probe c.args.seat true w.insert.new.self (omega arith)
+          let changed = changed_one step.lists step.probe c.args.seat true w.insert.new.self _ (omega arith)
           w.insert.ensures in
           rw w.lists-is (record {
             own = below_more _ _
@@ -24,8 +24,8 @@ loop-probe-preserved c =
             bounded = λ some. c.contains.ensures.bounded;
           })
       | else-contains w ↦
-          let changed = changed_one step.lists step.probe c.args.seat false w.remove.new.self (omega arith)
-          w.remove.ensures.others in
+          let changed = changed_one step.lists step.probe c.args.seat false w.remove.new.self _ (omega arith)
+          w.remove.ensures in
           rw w.lists-is (record {
             own = below_more _ _
                 (λ probe below.

@@ -8,8 +8,8 @@ use Rattle.dt_chain.proofs.lists.strike.Goals as goal
 pub loop-seats-preserved : goal.loop-seats-preserved
 loop-seats-preserved c =
     let step = c.loop-seats in
-    let changed = changed_one step.lists step.seats-index c.args.seat false c.remove.new.self (omega arith)
-    c.remove.ensures.others in
+    let changed = changed_one step.lists step.seats-index c.args.seat false c.remove.new.self _ (omega arith)
+    c.remove.ensures in
     record {
       own = below_more _ _
           (λ probe below.

@@ -9,5 +9,5 @@ loop-cpu-preserved c = record {
   count = search (arith, c.loop-cpu.invariant.count);
   idle = λ cpu seat.
       subst (λ items. None ≡ due_in (slice_get items cpu) seat) (sym c.in_ok-push.ensures.items)
-      (idle_pushed c.loop-cpu.processors.items c.loop-cpu.invariant.idle cpu seat);
+      (idle_pushed c.loop-cpu.processors.items c.idle.result c.loop-cpu.invariant.idle c.idle.ensures cpu seat);
 }

@@ -52,5 +52,5 @@ returns c = λ file input output contents seat described replay.
         inr (
           replies_in h.0,
           subst (λ text. IsVerdictOn contents text (Agree (replies_in h.0))) (sym h.2)
-              (c.trail_agrees.ensures.text contents s.account.name s.account s.view h.0 _ session orderly.brought h.1 spelled),
+              (c.trail_agrees.ensures contents s.account.name s.account s.view h.0 _ session orderly.brought h.1 spelled),
         )

@@ -10,6 +10,6 @@ copies (suc count) (suc place) x = copies count place x
 
 pub returns : goal.returns
 returns c = record {
-  kept = λ seat. copies 64 seat None;
+  kept = λ seat. copies 256 seat None;
   listed = λ probe seat. rw c.new.ensures.items (λ e. absurd (false≢true e), λ (e : ⊥). absurd e);
 }

@@ -1,12 +1,9 @@
 -- Look.
-use Rattle.std.proofs.Common.{◌≡◌, ◌∙◌, ◌&&◌, ◌==◌, nat_lt, true, false, rules, sym, ap, subst}
+use Rattle.std.proofs.Common.{◌≡◌, ◌∙◌, ◌&&◌, ◌==◌, nat_lt, true, false, rules, sym}
 use Rattle.std.proofs.lemmas.Bool.{eq-eqb, ne_eqb, and_left, and_right}
-use Rattle.dt_steps.specs.Stands.{WorldIsKept}
-use Rattle.dt_steps.specs.Sound.{IsSoundWorld}
-use Rattle.dt_steps.specs.Steps.{is_done, looking}
-use Rattle.dt_steps.specs.World.{World}
+use Rattle.dt_steps.specs.Steps.{is_done}
 use Rattle.dt_steps.proofs.Soundness.{sound-looking}
-use Rattle.dt_steps.proofs.Standing.{kept-looking, looking-not}
+use Rattle.dt_steps.proofs.Standing.{kept-looking, kept-looking-not, naming-looking, naming-not}
 use Rattle.dt_steps.proofs.engine.Engine.look.Goals as goal
 
 pub returns-clause-at : goal.returns-clause-at
@@ -14,62 +11,38 @@ returns-clause-at c = λ world at.
     let registry = c.args.machine.now.registry in
     let done : c.is_done.result ≡ true = search rules in (
       sound-looking registry world at.0 c.args.cpu c.args.firing.now,
-      (kept-looking registry world c.args.self.now.seats.items c.args.self.now.entries
-          c.args.self.now.processors.items at.0 at.1 c.args.cpu c.args.firing.now c.look-mask.result
-          c.unless_empty.result
+      kept-looking registry world c.args.self.now.seats.items c.args.self.now.entries
+          c.args.self.now.processors.items at.0 at.1 c.args.cpu c.args.firing.now c.look.new.self
           (eq-eqb c.args.firing.now.cpu c.args.cpu c.if-firing-cpu.false)
           (sym (c.is_done.ensures.done registry world at) ∙ done)
-          (c.look-mask.ensures world.writes at.1.entered) c.unless_empty.ensures).0,
+          (c.look.ensures.look world.writes at.1.entered) c.look.ensures.owes,
     )
 
 pub returns-clause-answer : goal.returns-clause-answer
 returns-clause-answer c = λ world at.
     let registry = c.args.machine.now.registry in
     let done : c.is_done.result ≡ true = search rules in
-    (kept-looking registry world c.args.self.now.seats.items c.args.self.now.entries
-    c.args.self.now.processors.items at.0 at.1 c.args.cpu c.args.firing.now c.look-mask.result c.unless_empty.result
+    naming-looking registry world c.args.self.now.seats.items c.args.self.now.entries
+    c.args.self.now.processors.items at.0 at.1 c.args.cpu c.args.firing.now c.look.new.self c.look.result
     (eq-eqb c.args.firing.now.cpu c.args.cpu c.if-firing-cpu.false)
     (sym (c.is_done.ensures.done registry world at) ∙ done)
-    (c.look-mask.ensures world.writes at.1.entered) c.unless_empty.ensures).1
-
-pub returns-then-firing-cpu-clause-at : goal.returns-then-firing-cpu-clause-at
-returns-then-firing-cpu-clause-at c = λ world at.
-    let registry = c.args.machine.now.registry in
-    let other : (c.args.firing.now.cpu == c.args.cpu) ≡ false =
-    ne_eqb c.args.firing.now.cpu c.args.cpu c.if-firing-cpu.true in
-    let same : looking registry world c.args.cpu c.args.firing.now ≡ world =
-    looking-not registry world c.args.self.now.seats.items c.args.self.now.entries
-    c.args.self.now.processors.items at.0 at.1 c.args.cpu c.args.firing.now
-    (and_left (c.args.firing.now.cpu == c.args.cpu)
-    (nat_lt c.args.cpu registry.cpus && is_done (world.due c.args.cpu)) other) in
-    subst (λ w. IsSoundWorld registry w
-    × WorldIsKept registry w c.args.self.now.seats.items c.args.self.now.entries c.args.self.now.processors.items)
-    (sym same) at
+    (c.look.ensures.look world.writes at.1.entered) c.look.ensures.owes c.look.ensures.named
 
 pub returns-then-firing-cpu-clause-answer : goal.returns-then-firing-cpu-clause-answer
 returns-then-firing-cpu-clause-answer c = λ world at.
     let registry = c.args.machine.now.registry in
     let other : (c.args.firing.now.cpu == c.args.cpu) ≡ false =
     ne_eqb c.args.firing.now.cpu c.args.cpu c.if-firing-cpu.true in
-    ap (λ (w : World). w.looks) (looking-not registry world c.args.self.now.seats.items c.args.self.now.entries
+    naming-not registry world c.args.self.now.seats.items c.args.self.now.entries
     c.args.self.now.processors.items at.0 at.1 c.args.cpu c.args.firing.now
     (and_left (c.args.firing.now.cpu == c.args.cpu)
-    (nat_lt c.args.cpu registry.cpus && is_done (world.due c.args.cpu)) other))
+    (nat_lt c.args.cpu registry.cpus && is_done (world.due c.args.cpu)) other)
 
-pub returns-then-not-is_done-clause-at : goal.returns-then-not-is_done-clause-at
-returns-then-not-is_done-clause-at c = λ world at.
-    let registry = c.args.machine.now.registry in
-    let busy : c.is_done.result ≡ false = search rules in
-    let off : (nat_lt c.args.cpu registry.cpus && is_done (world.due c.args.cpu)) ≡ false =
-    sym (c.is_done.ensures.done registry world at) ∙ busy in
-    let same : looking registry world c.args.cpu c.args.firing.now ≡ world =
-    looking-not registry world c.args.self.now.seats.items c.args.self.now.entries
+pub returns-then-firing-cpu-clause-at : goal.returns-then-firing-cpu-clause-at
+returns-then-firing-cpu-clause-at c = λ world at.
+    kept-looking-not c.args.machine.now.registry world c.args.self.now.seats.items c.args.self.now.entries
     c.args.self.now.processors.items at.0 at.1 c.args.cpu c.args.firing.now
-    (and_right (c.args.firing.now.cpu == c.args.cpu)
-    (nat_lt c.args.cpu registry.cpus && is_done (world.due c.args.cpu)) off) in
-    subst (λ w. IsSoundWorld registry w
-    × WorldIsKept registry w c.args.self.now.seats.items c.args.self.now.entries c.args.self.now.processors.items)
-    (sym same) at
+    (returns-then-firing-cpu-clause-answer c world at)
 
 pub returns-then-not-is_done-clause-answer : goal.returns-then-not-is_done-clause-answer
 returns-then-not-is_done-clause-answer c = λ world at.
@@ -77,7 +50,13 @@ returns-then-not-is_done-clause-answer c = λ world at.
     let busy : c.is_done.result ≡ false = search rules in
     let off : (nat_lt c.args.cpu registry.cpus && is_done (world.due c.args.cpu)) ≡ false =
     sym (c.is_done.ensures.done registry world at) ∙ busy in
-    ap (λ (w : World). w.looks) (looking-not registry world c.args.self.now.seats.items c.args.self.now.entries
+    naming-not registry world c.args.self.now.seats.items c.args.self.now.entries
     c.args.self.now.processors.items at.0 at.1 c.args.cpu c.args.firing.now
     (and_right (c.args.firing.now.cpu == c.args.cpu)
-    (nat_lt c.args.cpu registry.cpus && is_done (world.due c.args.cpu)) off))
+    (nat_lt c.args.cpu registry.cpus && is_done (world.due c.args.cpu)) off)
+
+pub returns-then-not-is_done-clause-at : goal.returns-then-not-is_done-clause-at
+returns-then-not-is_done-clause-at c = λ world at.
+    kept-looking-not c.args.machine.now.registry world c.args.self.now.seats.items c.args.self.now.entries
+    c.args.self.now.processors.items at.0 at.1 c.args.cpu c.args.firing.now
+    (returns-then-not-is_done-clause-answer c world at)

@@ -8,7 +8,7 @@ use Rattle.dt_cred.specs.declared.firing.Firing.{Firing}
 use Rattle.dt_steps.specs.Stands.{due_of, due_in, place_of}
 use Rattle.dt_steps.specs.World.{Due}
 use Rattle.dt_steps.proofs.Soundness.{sound-offering}
-use Rattle.dt_steps.proofs.Standing.{Found, kept-offering, kept-offering-none, kept-offering-past, none_unless}
+use Rattle.dt_steps.proofs.Standing.{Found, kept-offering, kept-offering-none, kept-offering-past}
 use Rattle.dt_steps.proofs.Standing.{seen-offered, seen-none}
 use Rattle.dt_steps.proofs.engine.Engine.offer.Goals as goal
 
@@ -17,8 +17,8 @@ place_if : (b : Bool) (firing : Firing) → then_some b (place_of firing)
 place_if true firing = refl
 place_if false firing = refl
 
-pub returns-in-Some : goal.returns-in-Some
-returns-in-Some c = λ world at.
+pub returns : goal.returns
+returns c = λ world at.
     let registry = c.args.machine.now.registry in
     let seats = c.args.self.now.seats.items in
     let processors = c.args.self.now.processors.items in
@@ -28,20 +28,19 @@ returns-in-Some c = λ world at.
       low = c.number.ensures.small;
       read = c.index_mut-held.ensures.value;
     } in
+    let before = c.index_mut-looked.result.now in
     let long = c.args.self.now.processors.ok.0 in
-    let low : c.args.cpu < length processors = omega (arith, long, c.len.ensures, c.if-cpu-len.true) in
-    let is : slice_get processors c.args.cpu ≡ Some (Some c.in-Some.looked) =
-    slice_get-get_or processors c.args.cpu c.index_mut.result.now low
-    ∙ ap Some (sym c.index_mut.ensures.value) ∙ ap Some c.in-Some.is in
+    let low : c.args.cpu < length processors = omega (arith, long, c.len.ensures, c.if-cpu-len.false) in
+    let is : slice_get processors c.args.cpu ≡ Some before =
+    slice_get-get_or processors c.args.cpu before low ∙ ap Some (sym c.index_mut-looked.ensures.value) in
     let due : Due = record { life = c.in_ok-life.life; firing = c.take.new.self.firing } in
-    let owes : due_of c.in-Some.looked c.args.seat ≡ Some due =
-    rw c.in_ok-life.ensures.firing c.in_ok-life.ensures.offer in
+    let owes : due_of before c.args.seat ≡ Some due = rw c.in_ok-life.ensures.firing c.in_ok-life.ensures.offer in
     let seen = seen-offered registry world seats entries processors at.0 at.1 c.args.cpu c.number.result c.args.seat
-    c.index_mut-held.result.now c.in-Some.looked due found is owes c.deliver.result c.deliver.ensures.seen in (
+    c.index_mut-held.result.now before due found is owes c.deliver.result c.deliver.ensures.seen in (
       (
         sound-offering registry world at.0 c.args.cpu c.args.seat,
         kept-offering registry world seats entries processors at.0 at.1 c.args.cpu c.number.result c.args.seat
-            c.index_mut-held.result.now c.deliver.new.self c.in-Some.looked c.take.new.self due found is owes
+            c.index_mut-held.result.now c.deliver.new.self before c.take.new.self due found is owes
             c.in_ok-life.ensures.taken c.deliver.ensures.reached,
       ),
       c.then_some.ensures ∙ place_if c.deliver.result due.firing ∙ sym (ap (option_map place_of) seen),
@@ -52,53 +51,29 @@ returns-in_err-life c = λ world at.
     let registry = c.args.machine.now.registry in
     let seats = c.args.self.now.seats.items in
     let processors = c.args.self.now.processors.items in
+    let before = c.index_mut-looked.result.now in
     let long = c.args.self.now.processors.ok.0 in
-    let low : c.args.cpu < length processors = omega (arith, long, c.len.ensures, c.if-cpu-len.true) in
-    let is : slice_get processors c.args.cpu ≡ Some (Some c.in-Some.looked) =
-    slice_get-get_or processors c.args.cpu c.index_mut.result.now low
-    ∙ ap Some (sym c.index_mut.ensures.value) ∙ ap Some c.in-Some.is in
-    let none : due_of c.in-Some.looked c.args.seat ≡ None = c.in_err-life.ensures.none in
-    let same : c.take.new.self ≡ c.in-Some.looked = c.in_err-life.ensures.same in (
+    let low : c.args.cpu < length processors = omega (arith, long, c.len.ensures, c.if-cpu-len.false) in
+    let is : slice_get processors c.args.cpu ≡ Some before =
+    slice_get-get_or processors c.args.cpu before low ∙ ap Some (sym c.index_mut-looked.ensures.value) in
+    let none : due_of before c.args.seat ≡ None = c.in_err-life.ensures.none in (
       (
         sound-offering registry world at.0 c.args.cpu c.args.seat,
         kept-offering-none registry world seats c.args.self.now.entries processors at.0 at.1 c.args.cpu c.args.seat
-            c.index_mut.result.now (Some c.take.new.self) low c.index_mut.ensures.value
-            (ap Some same ∙ sym c.in-Some.is)
-            (ap (λ value. due_in (Some value) c.args.seat) c.in-Some.is ∙ none),
+            before c.take.new.self low c.index_mut-looked.ensures.value c.in_err-life.ensures.same none,
       ),
       c.from_residual.ensures ∙ sym (ap (option_map place_of)
           (seen-none registry world seats c.args.self.now.entries processors at.0 at.1
           c.args.cpu c.args.seat (ap (λ o. due_in o c.args.seat) is ∙ none))),
     )
 
-pub returns-in_default : goal.returns-in_default
-returns-in_default c = λ world at.
+pub returns-then-cpu-len : goal.returns-then-cpu-len
+returns-then-cpu-len c = λ world at.
     let registry = c.args.machine.now.registry in
     let seats = c.args.self.now.seats.items in
     let processors = c.args.self.now.processors.items in
     let long = c.args.self.now.processors.ok.0 in
-    let low : c.args.cpu < length processors = omega (arith, long, c.len.ensures, c.if-cpu-len.true) in
-    let none : c.index_mut.result.now ≡ None = none_unless c.index_mut.result.now c.in_default.not-Some in
-    let is : slice_get processors c.args.cpu ≡ Some None =
-    slice_get-get_or processors c.args.cpu c.index_mut.result.now low
-    ∙ ap Some (sym c.index_mut.ensures.value) ∙ ap Some none in (
-      (
-        sound-offering registry world at.0 c.args.cpu c.args.seat,
-        kept-offering-none registry world seats c.args.self.now.entries processors at.0 at.1 c.args.cpu c.args.seat
-            c.index_mut.result.now c.index_mut.result.now low c.index_mut.ensures.value refl
-            (ap (λ value. due_in (Some value) c.args.seat) none),
-      ),
-      sym (ap (option_map place_of) (seen-none registry world seats c.args.self.now.entries processors at.0 at.1
-          c.args.cpu c.args.seat (ap (λ o. due_in o c.args.seat) is))),
-    )
-
-pub returns-else-cpu-len : goal.returns-else-cpu-len
-returns-else-cpu-len c = λ world at.
-    let registry = c.args.machine.now.registry in
-    let seats = c.args.self.now.seats.items in
-    let processors = c.args.self.now.processors.items in
-    let long = c.args.self.now.processors.ok.0 in
-    let high : length processors ≤ c.args.cpu = omega (arith, long, c.len.ensures, c.if-cpu-len.false) in (
+    let high : length processors ≤ c.args.cpu = omega (arith, long, c.len.ensures, c.if-cpu-len.true) in (
       (
         sound-offering registry world at.0 c.args.cpu c.args.seat,
         kept-offering-past registry world seats c.args.self.now.entries processors at.0 at.1 c.args.cpu

@@ -2,13 +2,13 @@
 use Rattle.std.proofs.Common.{option_map, sym, ap, subst}
 use Rattle.dt_proto.specs.Asked.{form_asked}
 use Rattle.dt_steps.specs.Stands.{EngineIsAt, IsAnswered}
-use Rattle.dt_steps.specs.Steps.{act_of, after_act, opening, asking, finishing, looking}
+use Rattle.dt_steps.specs.Steps.{act_of, after_act, opening, asking, finishing}
 use Rattle.dt_steps.specs.Telling.{IsTelling}
 use Rattle.dt_steps.specs.declared.outcome.Outcome.TheVariants.{Quiet}
 use Rattle.dt_steps.specs.declared.served.Answered.{Answered}
 use Rattle.dt_steps.specs.declared.served.Finished.{Finished}
 use Rattle.dt_steps.proofs.Taking.{quiet-opening, looks-asking, quiet-publishing, looks-finishing, quiet-withdrawing}
-use Rattle.dt_steps.proofs.Taking.{questions-looking, quiet-offering, quiet-closing, telling_replied, telling_looked}
+use Rattle.dt_steps.proofs.Taking.{quiet-offering, quiet-closing, telling_replied}
 use Rattle.dt_steps.proofs.engine.Engine.take.Goals as goal
 
 pub returns-in_ok-open-in-Open : goal.returns-in_ok-open-in-Open
@@ -79,14 +79,9 @@ returns-in-Withdraw c = λ world few at.
 pub returns-in-Look : goal.returns-in-Look
 returns-in-Look c = λ world few at.
     let registry = c.args.machine.now.registry in
-    subst (λ act. EngineIsAt registry (after_act registry world act) c.look.new.self
-    × IsTelling registry world (after_act registry world act) c.looked.result)
-    (sym (ap act_of c.in-Look.is)) (
-      c.look.ensures.at world at,
-      subst (IsTelling registry world (looking registry world c.in-Look.cpu c.in-Look.firing)) (sym c.looked.ensures)
-          (telling_looked registry world (looking registry world c.in-Look.cpu c.in-Look.firing) c.look.result
-          (c.look.ensures.answer world at) (questions-looking registry world c.in-Look.cpu c.in-Look.firing)),
-    )
+    subst (λ act. EngineIsAt registry (after_act registry world act) c.named.new.self
+    × IsTelling registry world (after_act registry world act) c.named.result)
+    (sym (ap act_of c.in-Look.is)) (c.named.ensures.at world at, c.named.ensures.telling world at)
 
 pub returns-in-Offer : goal.returns-in-Offer
 returns-in-Offer c = λ world few at.

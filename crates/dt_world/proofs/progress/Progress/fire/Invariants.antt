@@ -4,16 +4,16 @@ use Rattle.dt_world.specs.Progress.{IsAfter}
 use Rattle.dt_world.specs.Replay.{Replayed, after_step_line, seats_due}
 use Rattle.dt_world.specs.StepLine.{look_line}
 use Rattle.dt_world.specs.declared.output.Wanted.{Wanted}
-use Rattle.dt_world.proofs.Offers.{named_by, offered_to}
+use Rattle.dt_world.proofs.Offers.{in_order, offered_to}
 use Rattle.dt_world.proofs.progress.Progress.fire.Given as goal
 
 -- some of the seats that the look named were offered the firing, and the others are left
-abbrev pub invariant-loop-first : goal.invariant-loop-first
-invariant-loop-first l = (wanted : Wanted) (now : Replayed) → l.cpu < l.machine.registry.cpus
+abbrev pub invariant-loop-seat : goal.invariant-loop-seat
+invariant-loop-seat l = (wanted : Wanted) (now : Replayed) → l.cpu < l.machine.registry.cpus
     → IsAfter wanted l.machine now l.fn.self
     → (seats : List ℕ)
-    × (seats ++ named_by l.left ≡ seats_due (after_step_line l.machine now (look_line l.cpu)).world l.cpu)
+    × (seats ++ in_order l.left ≡ seats_due (after_step_line l.machine now (look_line l.cpu)).world l.cpu)
     × IsAfter wanted l.machine (offered_to l.machine now l.cpu seats) l.self
 
-abbrev pub decreases-loop-first : goal.decreases-loop-first
-decreases-loop-first l = length (named_by l.left)
+abbrev pub decreases-loop-seat : goal.decreases-loop-seat
+decreases-loop-seat l = length (in_order l.left)

@@ -15,16 +15,13 @@ use Rattle.dt_life.specs.Sees.{Sees}
 use Rattle.dt_proto.specs.Alone.{Reached, own_line, firing_made, IsLifeOf}
 use Rattle.dt_proto.specs.Line.{ask_in}
 use Rattle.dt_proto.specs.Lines.{LineForm, short_line, long_line, line_form}
-use Rattle.dt_proto.specs.Session.{session_account}
-use Rattle.dt_proto.specs.Trail.{TrailEntry, fired_at, IsEntryOf, IsLineTold, IsToldFiring, IsTrailOf, SpellsTrail}
-use Rattle.dt_proto.specs.declared.limits.TheConstants.{LINE_MAX}
+use Rattle.dt_proto.specs.Trail.{TrailEntry, fired_at, IsEntryOf, IsLineTold, IsToldFiring, IsTrailOf}
+use Rattle.dt_proto.specs.Limits.{line_max}
 use Rattle.dt_proto.specs.Legal.{Agrees, IsAbove, life_of_trail}
-use Rattle.dt_alone.specs.Verdicts.{IsVerdictOn, replies_in}
 use Rattle.dt_proto.specs.Brought.{IsBrought, IsInForm, IsLower}
-use Rattle.dt_alone.specs.declared.verdict.Verdict.TheVariants.{Agree}
 
-in_form : (bytes : List ℕ) → length bytes ≤ LINE_MAX → line_form bytes ≡ short_line bytes
-in_form bytes few = rw (le-ltb LINE_MAX (length bytes) few) refl
+in_form : (bytes : List ℕ) → length bytes ≤ line_max → line_form bytes ≡ short_line bytes
+in_form bytes few = rw (le-ltb line_max (length bytes) few) refl
 
 module _ (account : Account) (contents : Contents) where
   abbrev lived : List TrailEntry → List Item
@@ -149,11 +146,3 @@ module _ (account : Account) (contents : Contents) where
   pub trail_agrees : (view : List Reached) (entries : List TrailEntry) → IsBrought contents view
       → IsTrailOf account contents.registry view entries → Agrees account contents (reverse entries)
   trail_agrees view entries h k = let all = trailed view entries h k in all.agrees
-
-pub text_agrees : (contents : Contents) (name : List ℕ) (account : Account) (view : List Reached)
-    (entries : List TrailEntry)
-    (text : List ℕ) → session_account contents.registry name ≡ Some account → IsBrought contents view
-    → IsTrailOf account contents.registry view entries → SpellsTrail text name entries
-    → IsVerdictOn contents text (Agree (replies_in entries))
-text_agrees contents name account view entries text named h k spelled =
-    (name, account, entries, spelled, named, (trail_agrees account contents view entries h k, refl))

@@ -1,25 +1,23 @@
 -- The life and the replies that entries tell are those of the view that they tell: entries agree where they are legal
--- and
--- have the replies of that view.
+-- and have the replies of that view. Each beginning of a legal trail is legal.
 use Rattle.std.proofs.Common.{◌≡◌, ℕ, ◌↔◌, List, [], ◌∷◌, ◌++◌, length, map, reverse, append_assoc, refl, sym, ap, ◌∙◌}
-use Rattle.std.proofs.Common.{subst, inl, ⊎_elim, arith, length-append}
-use Rattle.std.specs.List.{flat_map}
+use Rattle.std.proofs.Common.{subst, inl, arith, length-append}
 use Rattle.std.proofs.lemmas.List.{append-nil, map-append, reverse-append}
 use Rattle.dt_cred.specs.declared.account.Account.{Account}
 use Rattle.dt_machine.specs.Registry.{Contents}
-use Rattle.dt_cred.specs.declared.firing.Firing.{Firing}
 use Rattle.dt_life.specs.Answer.{Answer}
-use Rattle.dt_life.specs.Acceptance.{after_line}
 use Rattle.dt_life.specs.Life.{Item}
 use Rattle.dt_life.specs.Reply.{Replies}
-use Rattle.dt_proto.specs.Alone.{Reached, own_line, firing_made, IsAfterFiring, IsLifeOf, Alone}
+use Rattle.dt_proto.specs.Alone.{Reached, own_line, IsLifeOf, Alone}
 use Rattle.dt_proto.specs.Line.{ask_in}
 use Rattle.dt_proto.specs.Lines.{LineForm, line_form, long_line}
 use Rattle.dt_proto.specs.Reply.{reply_text}
 use Rattle.dt_proto.specs.Splits.{with_newline}
 use Rattle.dt_proto.specs.Trail.{TrailEntry, line_asked, long_asked, fired_at, replies_by, replies_of}
-use Rattle.dt_proto.specs.Legal.{Agrees, IsLegal, life_of_trail, reached_by}
-use Rattle.dt_alone.specs.Verdicts.{AreRepliesAlone}
+use Rattle.dt_proto.specs.Legal.{Agrees, IsLegal, life_of_trail}
+use Rattle.dt_proto.specs.Told.{AreRepliesAlone, view_told}
+use Rattle.dt_proto.specs.Views.{life_of}
+use Rattle.dt_proto.specs.laws.Views.{one_life}
 
 -- two lists that end alike
 not_longer : {A : Type 0} (xs : List A) (x y z : A) → x ∷ [] ≡ y ∷ (xs ++ z ∷ []) → ⊥
@@ -37,10 +35,7 @@ same_last (w ∷ xs) (z ∷ ys) x y e =
     let whole : w ∷ xs ≡ z ∷ ys = cc in
     (whole, both.1)
 
--- what a past tells: the view, and the replies, the oldest first
-abbrev view_in : Contents → List TrailEntry → List Reached
-view_in contents past = flat_map (reached_by contents) past
-
+-- the replies that a past tells, the oldest first
 abbrev replies_told : List TrailEntry → List (List ℕ)
 replies_told [] = []
 replies_told (entry ∷ past) = replies_told past ++ replies_by entry
@@ -49,37 +44,31 @@ module _ (account : Account) (contents : Contents) where
   abbrev lived : List TrailEntry → List Item
   lived past = life_of_trail account contents past
 
-  -- a view has one life
-  after_same : (before : List Item) (firing : Firing) (a b : List Item)
-      → IsAfterFiring account contents.registry before firing a
-      → IsAfterFiring account contents.registry before firing b
-      → a ≡ b
-  after_same before firing a b h k =
-      ⊎_elim
-      (λ seen. ⊎_elim (λ too. seen.1 ∙ sym too.1) (λ unseen. absurd (unseen.0 seen.0)) k)
-      (λ unseen. ⊎_elim (λ seen. absurd (unseen.0 seen.0)) (λ too. unseen.1 ∙ sym too.1) k)
-      h
-
   pub same_life : (view : List Reached) (a b : List Item) → IsLifeOf account contents.registry view a
       → IsLifeOf account contents.registry view b → a ≡ b
-  same_life [] a b h k = h ∙ sym k
-  same_life (own_line line ∷ view) a b h k =
-      let before : h.0 ≡ k.0 = same_life view h.0 k.0 h.1 k.1 in
-      h.2 ∙ ap (λ life. after_line life (ask_in line)) before ∙ sym k.2
-  same_life (firing_made firing ∷ view) a b h k =
-      let before : k.0 ≡ h.0 = same_life view k.0 h.0 k.1 h.1 in
-      after_same h.0 firing a b h.2
-      (subst (λ life. IsAfterFiring account contents.registry life firing b) before k.2)
+  same_life view a b h k =
+      one_life account contents.registry view a h ∙ sym (one_life account contents.registry view b k)
 
   -- the life that legal entries tell is that of the view that they tell
   pub lives : (past : List TrailEntry) → IsLegal account contents past
-      → IsLifeOf account contents.registry (view_in contents past) (lived past)
+      → IsLifeOf account contents.registry (view_told contents past) (lived past)
   lives [] h = refl
   lives (line_asked line reply ∷ past) h = (lived past, lives past h.0, rw h.1 refl)
   lives (long_asked reply ∷ past) h = (lived past, lives past h.0, rw h.1 refl)
   lives (fired_at cpu place ∷ past) h =
       let firing = h.1.1 in
       rw firing.1 (lived past, lives past h.0, inl (firing.2, refl))
+
+  -- as a function
+  pub life_told : (past : List TrailEntry) → IsLegal account contents past
+      → lived past ≡ life_of account contents.registry (view_told contents past)
+  life_told past h = one_life account contents.registry (view_told contents past) (lived past) (lives past h)
+
+  -- what stands before is legal by itself
+  pub legal_before : (later past : List TrailEntry) → IsLegal account contents (later ++ past)
+      → IsLegal account contents past
+  legal_before [] past h = h
+  legal_before (entry ∷ later) past h = legal_before later past h.0
 
   legal : (past : List TrailEntry) → Agrees account contents past → IsLegal account contents past
   legal [] h = tt
@@ -88,7 +77,7 @@ module _ (account : Account) (contents : Contents) where
   -- The replies of a past are those of the view that it tells.
   record IsAnswered (past : List TrailEntry) : Type 0 where
     answers : List Answer
-    alone : Alone account contents.registry (view_in contents past) answers
+    alone : Alone account contents.registry (view_told contents past) answers
     told : replies_told past ≡ map reply_text answers
 
   -- what is said of a reply to a line
@@ -98,7 +87,7 @@ module _ (account : Account) (contents : Contents) where
 
   line_answered : (past : List TrailEntry) (form : LineForm) (reply : List ℕ) (before : IsAnswered past)
       → IsLegal account contents past → (here : IsReply past form reply)
-      → Alone account contents.registry (own_line form ∷ view_in contents past) (before.answers ++ here.0 ∷ [])
+      → Alone account contents.registry (own_line form ∷ view_told contents past) (before.answers ++ here.0 ∷ [])
       × (replies_told past ++ with_newline reply ∷ [] ≡ map reply_text (before.answers ++ here.0 ∷ []))
   line_answered past form reply before h here = (
     (before.answers, here.0, before.alone, (lived past, lives past h, here.1), refl),
@@ -129,18 +118,18 @@ module _ (account : Account) (contents : Contents) where
   -- the last reply is the one that is due, and those before it are those of the view before
   line_right : (past : List TrailEntry) (form : LineForm) (reply : List ℕ) (answers : List Answer)
       → IsLegal account contents past
-      → (k : Alone account contents.registry (own_line form ∷ view_in contents past) answers)
+      → (k : Alone account contents.registry (own_line form ∷ view_told contents past) answers)
       → replies_told past ++ with_newline reply ∷ [] ≡ map reply_text answers
       → (replies_told past ≡ map reply_text k.0) × IsReply past form reply
   line_right past form reply answers h k e =
       let last = same_last (replies_told past) (map reply_text k.0) (with_newline reply) (reply_text k.1)
       (e ∙ ap (map reply_text) k.4 ∙ map-append reply_text k.0 (k.1 ∷ [])) in
-      let life : k.3.0 ≡ lived past = same_life (view_in contents past) k.3.0 (lived past) k.3.1 (lives past h) in
+      let life : k.3.0 ≡ lived past = same_life (view_told contents past) k.3.0 (lived past) k.3.1 (lives past h) in
       let due = subst (λ l. Replies account contents.registry l (ask_in form) k.1) life k.3.2 in
       (last.0, (k.1, due, last.1))
 
   agrees : (past : List TrailEntry) (answers : List Answer) → IsLegal account contents past
-      → Alone account contents.registry (view_in contents past) answers → replies_told past ≡ map reply_text answers
+      → Alone account contents.registry (view_told contents past) answers → replies_told past ≡ map reply_text answers
       → Agrees account contents past
   agrees [] answers h k e = tt
   agrees (line_asked line reply ∷ past) answers h k e =
