@@ -44,7 +44,7 @@ use Rattle.dt_life.specs.Options.{OptionsForm, Setting, is_fill, with_setting}
 use Rattle.dt_life.specs.Refusal.{refused_as}
 use Rattle.dt_life.specs.Reply.{Accepted, known, IsVerdictOnCommand, ecb_of, refusal_of}
 use Rattle.dt_life.specs.Stores.{given_since}
-use Rattle.dt_life.specs.Takings.{TracingEvent, began, ended, read, truncated, faults as failures, taken_since}
+use Rattle.dt_life.specs.Takings.{TracingEvent, began, ended, snapped, truncated, faults as failures, taken_since}
 use Rattle.dt_life.specs.declared.phase.End.TheVariants as ends
 use Rattle.dt_life.specs.declared.phase.Phase.{Phase}
 use Rattle.dt_life.specs.declared.phase.Phase.TheVariants.{Inactive, Active, Stopped}
@@ -262,10 +262,10 @@ module _ (account : Account) (registry : Registry) (life : List Item) (r : Runne
       grown same =
       accepts_as (snap cpu) (Snapped cpu bytes drops filled) new _ (snap_taken account registry life cpu inside on)
       (bytes.items, drops, filled, shows, refl) (read_by_snap account registry life cpu inside on)
-      (has_since account registry now (read cpu ∷ now.since) (phase_of now) (phase_of now) r new k.has same_account
+      (has_since account registry now (snapped cpu ∷ now.since) (phase_of now) (phase_of now) r new k.has same_account
       same_options same_programs (same_phase ∙ stands) (readable_begun now (phase account registry life) on)
       (same_seen ∙ k.has.seen)
-      (subst (λ hs. Told account registry (with_event now (read cpu)) hs) (sym grown)
+      (subst (λ hs. Told account registry (with_event now (snapped cpu)) hs) (sym grown)
       (told_read account registry now cpu r.since.items k.has.brings)))
       same
 

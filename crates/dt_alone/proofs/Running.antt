@@ -29,7 +29,7 @@ use Rattle.dt_life.specs.Following.{where_taken}
 use Rattle.dt_life.specs.Life.{SetUp, ecbs_in, end_by, happens, is_inactive, phase_of, seen_count, shapes_in}
 use Rattle.dt_life.specs.Life.{since_then, with_event}
 use Rattle.dt_life.specs.Stores.{given_on, given_since}
-use Rattle.dt_life.specs.Takings.{TracingEvent, MomentForm, Taking, began, seen, read, truncated, ended, closed, faults}
+use Rattle.dt_life.specs.Takings.{TracingEvent, MomentForm, Taking, began, seen, snapped, truncated, ended, closed, faults}
 use Rattle.dt_life.specs.Takings.{first_exit, is_end, moment_at, taken_at, taken_by, taken_on, taken_since}
 use Rattle.dt_life.specs.declared.phase.End.{End}
 use Rattle.dt_life.specs.declared.phase.End.TheVariants.{Exit, History}
@@ -44,7 +44,7 @@ module _ (account : Account) (registry : Registry) where
       → comes_by account registry ecbs cpu event ≡ attempts_of (taken_on account registry ecbs cpu event)
   comes_firing ecbs cpu began is = refl
   comes_firing ecbs cpu (seen firing) is = refl
-  comes_firing ecbs cpu (read n) is = absurd is
+  comes_firing ecbs cpu (snapped n) is = absurd is
   comes_firing ecbs cpu (truncated name) is = absurd is
   comes_firing ecbs cpu (ended end) is = refl
   comes_firing ecbs cpu closed is = refl
@@ -54,7 +54,7 @@ module _ (account : Account) (registry : Registry) where
       ≡ contributions shapes (taken_on account registry ecbs cpu event)
   given_firing shapes ecbs cpu began is = refl
   given_firing shapes ecbs cpu (seen firing) is = refl
-  given_firing shapes ecbs cpu (read n) is = absurd is
+  given_firing shapes ecbs cpu (snapped n) is = absurd is
   given_firing shapes ecbs cpu (truncated name) is = absurd is
   given_firing shapes ecbs cpu (ended end) is = refl
   given_firing shapes ecbs cpu closed is = refl
@@ -99,7 +99,7 @@ module _ (account : Account) (registry : Registry) where
         (sym (append-nil (given_since account registry (shapes_in s) ecbs cpu s.since))) (told cpu)
 
     -- a buffer was read
-    pub told_read : (n : ℕ) (old : List Happened) → Told s old → Told (with_event s (read n)) (old ++ Read n ∷ [])
+    pub told_read : (n : ℕ) (old : List Happened) → Told s old → Told (with_event s (snapped n)) (old ++ Read n ∷ [])
     told_read n old told = λ cpu.
         same_brings cpu (old ++ Read n ∷ []) _ _ _ _ _ _ refl
         (no_faults (taken_since account registry ecbs cpu s.since) _ refl) refl
@@ -187,7 +187,7 @@ module _ (account : Account) (registry : Registry) where
 firing_is : (event : TracingEvent) → runs.IsFiring event → IsFiring event × (is_end event ≡ false)
 firing_is began is = (tt, refl)
 firing_is (seen firing) is = (tt, refl)
-firing_is (read n) is = absurd is
+firing_is (snapped n) is = absurd is
 firing_is (truncated name) is = absurd is
 firing_is (ended end) is = absurd is
 firing_is closed is = absurd is

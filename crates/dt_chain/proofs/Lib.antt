@@ -1,5 +1,6 @@
 -- The lemmas of this crate.
-pub mod Bits
-pub mod Words
 pub mod Listing
+pub mod Looking
+pub mod Agreeing
+pub mod Marking
 pub mod Publishing

@@ -1,9 +1,9 @@
 -- When entries are at the end of a list of writes.
-use Rattle.std.specs.Prelude.{◌≡◌, ◌≤◌, vec_capacity, ◌↔◌, ℕ, List, None, IsTrue, IsSomeAnd, slice_index_or}
+use Rattle.std.specs.Prelude.{◌≡◌, ◌↔◌, ℕ, List, None, IsTrue, IsSomeAnd, slice_index_or}
 use Rattle.std.specs.Option.{option_map}
 use Rattle.dt_machine.specs.Interest as interest
-use Rattle.dt_chain.specs.Kept.{is_seat_listed, slot_of}
-use Rattle.dt_chain.specs.Limits.{list_count}
+use Rattle.dt_chain.specs.Kept.{slot_of}
+use Rattle.dt_chain.specs.Lists.{is_seat_listed, HasRoom}
 use Rattle.dt_chain.specs.Writes.{Write, published_on}
 use Rattle.dt_chain.specs.declared.entries.Entries.{Entries}
 
@@ -11,9 +11,9 @@ use Rattle.dt_chain.specs.declared.entries.Entries.{Entries}
 -- seats whose entries have it.
 pub record EntriesAreAt (writes : List Write) (entries : Entries) : Type 0 where
   pub kept : (seat : ℕ) → slice_index_or entries.slots seat None ≡ option_map slot_of (published_on writes seat)
-  pub listed : (probe seat : ℕ) → IsTrue (is_seat_listed entries.lists.items probe seat)
+  pub listed : (probe seat : ℕ) → IsTrue (is_seat_listed entries.lists probe seat)
       ↔ IsSomeAnd (published_on writes seat) (λ entry. interest.Names entry.probes probe)
 
 -- Entries have the room for all that may be published.
 abbrev pub HasListRoom : Entries → Type 0
-HasListRoom entries = list_count ≤ vec_capacity entries.lists
+HasListRoom entries = HasRoom entries.lists

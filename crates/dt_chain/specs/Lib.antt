@@ -5,6 +5,8 @@ pub mod Writes
 pub mod Kinds
 pub mod Look
 pub mod Seats
+pub mod Listed
+pub mod Lists
 pub mod Kept
 pub mod IsAt
 pub mod Tests

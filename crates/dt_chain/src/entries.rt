@@ -1,16 +1,14 @@
 //! The entries of all seats.
-ghost use Rattle.std.specs.Prelude.{◌≡◌, ◌≤◌, ◌<◌, ℕ, List, [], ◌∷◌, false, None, IsOk, IsSome, IsTrue, IsNone, OnOk, OnErr, vec_len, slice_index_or, if◌then◌else◌};
-ghost use Rattle.dt_chain.specs.declared.lists.TheConstants.{LISTS};
+ghost use Rattle.std.specs.Prelude.{◌≡◌, ◌≤◌, ◌<◌, ℕ, List, [], ◌∷◌, false, None, IfNone, IfSome, IsOk, IsSome, IsTrue, IsNone, OnOk, OnErr, slice_index_or, if◌then◌else◌};
 ghost use Rattle.dt_chain.specs.declared.seat_set.TheConstants.{SEAT_WORDS};
 
-use crate::lists::{LISTS, list, strike};
+use crate::lists::Lists;
 use crate::seat::{SEATS, Seat};
 use crate::seat_mask::SeatMask;
 use crate::seat_set::{SEAT_WORDS, SeatSet};
-use crate::seat_word::SeatWord;
 use crate::write::{Kind, Write};
-use dt_cred::{Account, Mode, Probe, Process, admits};
-use dt_machine::{Firing, Interest, Machine};
+use dt_cred::Account;
+use dt_machine::{BitWord, Firing, Interest, Machine, Moment};
 use std::alloc::{AllocError, Global};
 
 /// The entries of all seats: for each the last that it published, if it didn't withdraw it since.
@@ -19,8 +17,7 @@ use std::alloc::{AllocError, Global};
 #[derive(Drop)]
 pub struct Entries {
     pub(crate) slots: [Option<Slot>; SEATS],
-    pub(crate) lists: Vec<SeatSet>,
-    ghost few: { vec_len lists ≤ LISTS },
+    pub(crate) lists: Lists,
 }
 
 /// What is kept of a seat's entry beside the lists.
@@ -33,8 +30,12 @@ pub(crate) struct Slot {
 impl Entries {
     ghost use Rattle.dt_chain.specs.Writes.{Write, published, withdrawn, entry_of};
     ghost use Rattle.dt_chain.specs.Look.{IsLook};
-    ghost use Rattle.dt_chain.specs.Seats.{has, is_in_word, life_at};
-    ghost use Rattle.dt_chain.specs.Kept.{is_seat_listed, life_shown};
+    ghost use Rattle.dt_chain.specs.Seats.{has, life_at};
+    ghost use Rattle.dt_chain.specs.Kept.{life_shown};
+    ghost use Rattle.dt_machine.specs.BitWord.{is_in_word};
+    ghost use Rattle.dt_machine.specs.Interest.{flags_of};
+    ghost use Rattle.dt_machine.specs.Moment.{IsMoment};
+    ghost use Rattle.dt_machine.specs.Registry.{Registry};
     ghost use Rattle.dt_chain.specs.IsAt.{EntriesAreAt, HasListRoom};
 
     /// No entry. It takes no memory yet.
@@ -43,11 +44,11 @@ impl Entries {
     {
         Entries {
             slots: [None; SEATS],
-            lists: Vec::new(alloc),
+            lists: Lists::new(alloc),
         }
     }
 
-    /// Takes the room for all that may be published (131 KB), if it isn't taken yet: no publication needs memory
+    /// Takes the room for all that may be published (264 KB), if it isn't taken yet: no publication needs memory
     /// then.
     ///
     /// `Err`: there was no memory. The entries are as they were, in both cases.
@@ -56,8 +57,7 @@ impl Entries {
         ensures succeeds { HasListRoom self.old → IsOk result }
         ensures same { (writes : List Write) → EntriesAreAt writes self.old → EntriesAreAt writes self.new }
     {
-        // lists that are there keep their seats: only empty ones are added
-        self.lists.resize(LISTS, SeatSet::new())
+        self.lists.reserve()
     }
 
     /// A seat publishes an entry for one of its lives, in place of the one that it may have. It takes the room for
@@ -72,14 +72,14 @@ impl Entries {
         interest: &Interest,
     ) -> Result<(), AllocError>
         ensures ok { OnOk result ((writes : List Write) → EntriesAreAt writes self.old
-            → EntriesAreAt (published seat life account.now interest.now ∷ writes) self.new) }
+            → EntriesAreAt (published seat life account.now (flags_of interest.now) ∷ writes) self.new) }
         ensures err { OnErr result ((writes : List Write) → EntriesAreAt writes self.old → EntriesAreAt writes self.new) }
         ensures room { OnOk result (HasListRoom self.new) }
         ensures succeeds { HasListRoom self.old → IsOk result }
     {
         // only this can fail, so nothing has changed when it does
-        self.lists.resize(LISTS, SeatSet::new())?;
-        list(self.lists.as_mut_slice(), seat, interest);
+        self.lists.reserve()?;
+        self.lists.set(seat, interest);
         self.slots[seat.number() as usize] = Some(Slot {
             life,
             account: *account,
@@ -92,7 +92,7 @@ impl Entries {
         ensures stands { (writes : List Write) → EntriesAreAt writes self.old → EntriesAreAt (withdrawn seat ∷ writes) self.new }
         ensures room { HasListRoom self.old → HasListRoom self.new }
     {
-        strike(self.lists.as_mut_slice(), seat);
+        self.lists.clear(seat);
         self.slots[seat.number() as usize] = None;
     }
 
@@ -126,77 +126,64 @@ impl Entries {
             → IsLook machine.now.registry writes firing.now (life_at result) }
     {
         let mut mask = SeatMask::new();
-        self.look_into(machine, firing, &mut mask);
+        let _moment = self.look_into(machine, firing, &mut mask);
         mask
     }
 
     /// A look ([`Entries::look`]) into a mask that is lent: what that named before is forgotten. It touches the lives of the
     /// seats that are named and of no others, and takes no memory.
-    pub fn look_into(&self, machine: &Machine, firing: &Firing, mask: &mut SeatMask)
-        ensures { (writes : List Write) → EntriesAreAt writes self.now
+    ///
+    /// Where a seat is named, the firing is answered with the probe and the process that it names: they were looked up for the
+    /// look, and serve the offers too.
+    pub fn look_into<'a>(
+        &self,
+        machine: &'a Machine,
+        firing: &'a Firing,
+        mask: &mut SeatMask,
+    ) -> Option<Moment<'a>>
+        ensures look { (writes : List Write) → EntriesAreAt writes self.now
             → IsLook machine.now.registry writes firing.now (life_at mask.new) }
+        ensures moment { IfSome result (λ moment.
+            IsMoment machine.now.registry moment × (moment.firing.now ≡ firing.now)) }
+        ensures none { IfNone result ((seat : ℕ) → life_at mask.new seat ≡ None) }
     {
         mask.clear();
         // most firings are of probes that no seat is interested in: they leave here, before anything is looked up
-        let seats = self.interested(firing.probe);
+        let seats = self.lists.of(firing.probe);
         if seats.is_empty() {
-            return;
+            return None;
         }
-        if let Some((probe, process)) = machine.belonging(firing) {
-            self.show_all(seats, probe, firing.mode, process, mask);
-        }
+        let moment = machine.moment(firing)?;
+        self.show_all(seats, &moment, mask);
+        Some(moment)
     }
 
-    /// The seats that are listed for a probe.
-    fn interested(&self, probe: u32) -> SeatSet
-        ensures { (seat : ℕ) → has result seat ≡ is_seat_listed self.now.lists.items probe seat }
-    {
-        match self.lists.get(probe as usize) {
-            Some(seats) => *seats,
-            // no list was made yet, or there is no such probe
-            None => SeatSet::new(),
-        }
-    }
-
-    /// Names those of some seats whose accounts are shown a firing of a probe, in this mode and this process.
-    fn show_all(
-        &self,
-        seats: SeatSet,
-        probe: &Probe,
-        mode: Mode,
-        process: &Process,
-        mask: &mut SeatMask,
-    )
+    /// Names those of some seats whose accounts are shown a firing.
+    fn show_all(&self, seats: SeatSet, moment: &Moment, mask: &mut SeatMask)
         requires { (seat : ℕ) → life_at mask.old seat ≡ None }
-        ensures { (seat : ℕ) → life_at mask.new seat ≡ (if has seats seat
-            then life_shown probe.now.class mode process.now (slice_index_or self.now.slots seat None) else None) }
+        ensures { (registry : Registry) → IsMoment registry moment.now → (seat : ℕ) → life_at mask.new seat
+            ≡ (if has seats seat then life_shown registry moment.now.firing.now
+            (slice_index_or self.now.slots seat None) else None) }
     {
         for word in 0..SEAT_WORDS {
-            self.show(word, seats.words[word], probe, mode, process, mask);
+            self.show(word, seats.words[word], moment, mask);
         }
     }
 
-    /// Names those of some seats of a word whose accounts are shown a firing of a probe, in this mode and this process.
-    fn show(
-        &self,
-        word: usize,
-        seats: SeatWord,
-        probe: &Probe,
-        mode: Mode,
-        process: &Process,
-        mask: &mut SeatMask,
-    )
+    /// Names those of some seats of a word whose accounts are shown a firing.
+    fn show(&self, word: usize, seats: BitWord, moment: &Moment, mask: &mut SeatMask)
         requires { word < SEAT_WORDS }
-        ensures named { (seat : ℕ) → IsTrue (is_in_word word seats seat)
+        ensures named { (registry : Registry) → IsMoment registry moment.now
+            → (seat : ℕ) → IsTrue (is_in_word word seats seat)
             → life_at mask.old seat ≡ None → life_at mask.new seat
-            ≡ life_shown probe.now.class mode process.now (slice_index_or self.now.slots seat None) }
+            ≡ life_shown registry moment.now.firing.now (slice_index_or self.now.slots seat None) }
         ensures others { (seat : ℕ) → is_in_word word seats seat ≡ false → life_at mask.new seat ≡ life_at mask.old seat }
     {
         let mut left = seats;
         while let Some(place) = left.pop_first() {
             let seat = Seat::at(word, place);
             if let Some(slot) = &self.slots[seat.number() as usize] {
-                if admits(&slot.account, probe, mode, process) {
+                if moment.is_shown(&slot.account) {
                     mask.insert(seat, slot.life);
                 }
             }

@@ -16,7 +16,6 @@ mod lists;
 mod seat;
 mod seat_mask;
 mod seat_set;
-mod seat_word;
 mod write;
 
 pub use entries::Entries;

@@ -1,9 +1,9 @@
 //! Seats, on each of which one consumer traces.
 ghost use Rattle.std.specs.Prelude.{◌≡◌, ◌<◌, ◌+◌, ◌*◌, ◌/◌, ◌%◌, SomeIff};
 ghost use Rattle.dt_chain.specs.declared.seat_set.TheConstants.{SEAT_WORDS};
-ghost use Rattle.dt_chain.specs.declared.seat_word.TheConstants.{WORD_SEATS};
+ghost use Rattle.dt_machine.specs.declared.bit_word.TheConstants.{WORD_BITS};
 
-use crate::seat_word::WORD_SEATS;
+use dt_machine::WORD_BITS;
 use std::marker::Model;
 
 /// How many seats there are. They are numbered from 0 on.
@@ -50,27 +50,27 @@ impl Seat {
     /// The seat at a place of a word of a set.
     pub(crate) fn at(word: usize, place: u32) -> Seat
         requires word { word < SEAT_WORDS }
-        requires place { place < WORD_SEATS }
-        ensures { result ≡ word * WORD_SEATS + place }
+        requires place { place < WORD_BITS }
+        ensures { result ≡ word * WORD_BITS + place }
     {
         Seat {
-            number: word as u32 * WORD_SEATS + place,
+            number: word as u32 * WORD_BITS + place,
         }
     }
 
     /// The word of a set in which it lies.
     pub(crate) fn word(self) -> usize
-        ensures value { result ≡ self / WORD_SEATS }
+        ensures value { result ≡ self / WORD_BITS }
         ensures small { result < SEAT_WORDS }
     {
-        (self.number / WORD_SEATS) as usize
+        (self.number / WORD_BITS) as usize
     }
 
     /// Its place in that word.
     pub(crate) fn place(self) -> u32
-        ensures value { result ≡ self % WORD_SEATS }
-        ensures small { result < WORD_SEATS }
+        ensures value { result ≡ self % WORD_BITS }
+        ensures small { result < WORD_BITS }
     {
-        self.number % WORD_SEATS
+        self.number % WORD_BITS
     }
 }

@@ -2,19 +2,19 @@
 ghost use Rattle.std.specs.Prelude.{◌≡◌, ◌<◌, ◌==◌, ◌↔◌, ℕ, true, false, MatchOption, IsTrue, if◌then◌else◌};
 
 use crate::seat::{SEATS, Seat};
-use crate::seat_word::{SeatWord, WORD_SEATS};
+use dt_machine::{BitWord, WORD_BITS};
 
 /// How many words a set of seats has.
 pub(crate) const SEAT_WORDS: usize = 4;
 
-const _: () = prove!(SEATS == SEAT_WORDS * WORD_SEATS as usize);
+const _: () = prove!(SEATS == SEAT_WORDS * WORD_BITS as usize);
 
 /// A set of seats: of 32 bytes, in the value itself.
 ///
 /// Contracts see it as `has seats seat`: whether the seat is in the set.
 #[derive(Clone, Copy)]
 pub struct SeatSet {
-    pub(crate) words: [SeatWord; SEAT_WORDS],
+    pub(crate) words: [BitWord; SEAT_WORDS],
 }
 
 impl SeatSet {
@@ -25,7 +25,7 @@ impl SeatSet {
         ensures { (seat : ℕ) → has result seat ≡ false }
     {
         SeatSet {
-            words: [SeatWord::new(); SEAT_WORDS],
+            words: [BitWord::new(); SEAT_WORDS],
         }
     }
 
@@ -60,6 +60,17 @@ impl SeatSet {
         ensures { (other : ℕ) → has self.new other ≡ (if other == seat then false else has self.old other) }
     {
         self.words[seat.word()].remove(seat.place());
+    }
+
+    /// Puts a seat in, or takes it out.
+    pub(crate) fn set(&mut self, seat: Seat, is_in: bool)
+        ensures { (other : ℕ) → has self.new other ≡ (if other == seat then is_in else has self.old other) }
+    {
+        if is_in {
+            self.insert(seat);
+        } else {
+            self.remove(seat);
+        }
     }
 
     /// The seat of the least number in the set.

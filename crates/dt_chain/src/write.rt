@@ -28,7 +28,7 @@ pub(crate) struct Publication {
     pub(crate) seat: Seat,
     pub(crate) life: u64,
     pub(crate) account: Account,
-    /// A set of probes is 4 KB: on the heap, a write is cheap to move.
+    /// A set of probes is 520 bytes: on the heap, a write is cheap to move.
     pub(crate) interest: Box<Interest>,
 }
 
@@ -44,9 +44,10 @@ impl Model for Write {
 
 impl Write {
     ghost use Rattle.dt_chain.specs.Writes.{published, withdrawn, seat_of};
+    ghost use Rattle.dt_machine.specs.Interest.{flags_of};
 
     /// A seat publishes an entry for one of its lives, in place of the one that it may have. It takes the memory for
-    /// the set of probes (4 KB).
+    /// the set of probes (520 bytes).
     ///
     /// `Err`: there was no memory.
     pub fn publication(
@@ -56,7 +57,7 @@ impl Write {
         account: &Account,
         interest: &Interest,
     ) -> Result<Write, AllocError>
-        ensures { IfOk result (λ write. write ≡ published seat life account.now interest.now) }
+        ensures { IfOk result (λ write. write ≡ published seat life account.now (flags_of interest.now)) }
     {
         let interest = Box::new(alloc, *interest)?;
         Ok(Write {

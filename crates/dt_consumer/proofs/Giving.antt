@@ -1,8 +1,7 @@
 -- What a consumer's clauses give to its aggregations.
-use Rattle.std.proofs.Common.{◌≡◌, ℕ, zero, suc, ◌+◌, ◌<◌, ◌≤◌, get_or, take, drop, Bool, cond, List, [], ◌∷◌, ◌++◌}
-use Rattle.std.proofs.Common.{length, Option, Some, map, sym, ap, ◌∙◌, subst, arith}
-use Rattle.std.specs.List.{flat_map}
-use Rattle.std.specs.Option.{is_some, option_and_then, option_to_list}
+use Rattle.std.proofs.Common.{◌≡◌, ℕ, zero, suc, ◌+◌, ◌<◌, ◌≤◌, get_or, take, drop, Bool, List, [], ◌∷◌, ◌++◌}
+use Rattle.std.proofs.Common.{length, map, sym, ap, ◌∙◌, subst, arith}
+use Rattle.std.specs.Option.{option_map_or}
 use Rattle.std.proofs.lemmas.List.{take_all, take_more, map-append, length-map}
 use Rattle.dt_aggstore.specs.History as store
 use Rattle.dt_aggstore.specs.IsAt.{IsAt}
@@ -12,16 +11,18 @@ use Rattle.dt_ecb.specs.declared.parts.Ecb.{Ecb}
 use Rattle.dt_expr.specs.declared.text.Value.{Value}
 use Rattle.dt_lang.specs.Program.{ClauseForm, form_of_clause}
 use Rattle.dt_program.specs.declared.clause.Clause.{Clause}
-use Rattle.dt_record.specs.Taking.{TakenForm, taking}
-use Rattle.dt_life.specs.Aggregations.{contributions_of, given_by}
-use Rattle.dt_life.specs.Takings.{Taking, MomentForm, scene_at, taking_of}
+use Rattle.dt_record.specs.Taking.{Outcome, TakenForm, leaves, left_in, taking}
+use Rattle.dt_life.specs.Aggregations.{contributions_of}
+use Rattle.dt_life.specs.Takings.{Taking, scene_at, taking_of}
+use Rattle.dt_machine.specs.Moment.{MomentForm}
 use Rattle.dt_life.specs.Following.{taking_by}
 use Rattle.dt_consumer.specs.Uses.{AreUses, form_of_use, form_of_uses}
-use Rattle.dt_life.specs.Uses.{contribution_at, given_then, split_by, uses_by}
+use Rattle.dt_life.specs.Uses.{given_then}
+use Rattle.dt_life.specs.Aggregations.{contribution_at, split_by, uses_by}
 use Rattle.dt_consumer.specs.declared.uses.Use.{Use}
 use Rattle.dt_consumer.specs.declared.uses.Uses.{Uses}
 use Rattle.dt_life.specs.laws.Takings.{clause_found}
-use Rattle.dt_life.specs.laws.Giving.{given_both, left_of, same_at, span, span_more, split_given, split_more}
+use Rattle.dt_life.specs.laws.Giving.{given_both, same_at, span, span_more, split_more}
 
 -- one use more
 uses_step : (all : List Use) (i : ℕ) (x : Use) → i < length all → x ≡ get_or all i x
@@ -89,28 +90,18 @@ module _ (shapes : List ShapeForm) (in_end : Bool) (m : MomentForm) (clauses : L
   abbrev taking_with : ClauseForm → Taking
   taking_with c = taking_of in_end m (record { epid = ecb.epid; probe = ecb.probe; clause = c })
 
-  abbrev of_came : Option (Option TakenForm) → List store.Event
-  of_came came = cond (is_some (option_and_then (λ left. left) came))
-      (flat_map (λ s. option_to_list (given_by shapes (scene_at m ecb.epid) s)) (form_of_clause clause).statements) []
-
-  gives_as : contributions_of shapes (taking_by in_end m (map form_of_clause clauses) ecb)
-      ≡ of_came (taking ecb.epid (scene_at m ecb.epid) (form_of_clause clause))
-  gives_as =
-      ap (λ (c : ClauseForm). contributions_of shapes (taking_with c))
-      (clause_found clauses ecb.clause clause inside at)
-
   -- a clause that left something gave its values
   pub gave_left : (uses : List Uses) (u : Uses) (form : TakenForm) (past : store.Past) (st : AggStore)
-      → taking ecb.epid (scene_at m ecb.epid) (form_of_clause clause) ≡ Some (Some form)
+      → taking ecb.epid (scene_at m ecb.epid) (form_of_clause clause) ≡ leaves form
       → AreUses shapes (map form_of_clause clauses) uses → u ≡ get_or uses ecb.clause u
       → IsAt (given_then past (split_by (form_of_uses u) form.values)) st
       → IsAt (given_then past (contributions_of shapes (taking_by in_end m (map form_of_clause clauses) ecb))) st
-  gave_left uses u form past st came are found h =
-      let l = left_of ecb.epid (scene_at m ecb.epid) (form_of_clause clause) form came in
+  gave_left uses u form past st comes are found h =
       same_at _ _ st
       (ap (given_then past)
       (ap (λ us. split_by us form.values) (uses_found shapes clauses uses ecb.clause clause u inside at found are)
-      ∙ ap (split_by (uses_by shapes (form_of_clause clause).statements)) l.values
-      ∙ split_given shapes (scene_at m ecb.epid) (form_of_clause clause).statements l.effects l.are
-      ∙ sym (gives_as ∙ ap of_came came)))
+      ∙ sym (ap (λ (o : Outcome). option_map_or
+      (λ (f : TakenForm). split_by (uses_by shapes (form_of_clause clause).statements) f.values) (left_in o) []) comes)
+      ∙ sym (ap (λ (c : ClauseForm). contributions_of shapes (taking_with c))
+      (clause_found clauses ecb.clause clause inside at))))
       h

@@ -1,6 +1,7 @@
 -- The lemmas of the crate, lowest first.
 
 pub mod Buffers
+pub mod Listing
 pub mod Giving
 pub mod Taken
 pub mod Tracings
@@ -10,6 +11,7 @@ pub mod Counted
 pub mod Stands
 pub mod DraftLemmas
 pub mod Interests
+pub mod Listing
 pub mod Telling
 pub mod StoresTold
 pub mod Quiet

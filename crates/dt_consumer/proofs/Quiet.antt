@@ -16,7 +16,7 @@ use Rattle.dt_machine.specs.Registry.{Registry}
 use Rattle.dt_life.specs.Buffers.{comes_since, past_in}
 use Rattle.dt_consumer.specs.Keeps.{is_quiet}
 use Rattle.dt_life.specs.Life.{SetUp, ecbs_in}
-use Rattle.dt_life.specs.Takings.{TracingEvent, began, seen, read, truncated, ended, closed}
+use Rattle.dt_life.specs.Takings.{TracingEvent, began, seen, snapped, truncated, ended, closed}
 
 abbrev are_swaps : List buffer.BufferEvent → Type 0
 are_swaps = AllByRecursion (λ event. event ≡ swap)
@@ -30,7 +30,7 @@ quiet_swaps : (account : Account) (registry : Registry) (ecbs : List EcbForm) (c
 quiet_swaps account registry ecbs cpu [] e = tt
 quiet_swaps account registry ecbs cpu (began ∷ events) e = cc
 quiet_swaps account registry ecbs cpu (seen firing ∷ events) e = cc
-quiet_swaps account registry ecbs cpu (read n ∷ events) e =
+quiet_swaps account registry ecbs cpu (snapped n ∷ events) e =
     append_swaps _ _ (quiet_swaps account registry ecbs cpu events e) (here (n == cpu))
   where
     here : (b : Bool) → are_swaps (cond b (swap ∷ []) [])

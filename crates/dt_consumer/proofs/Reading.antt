@@ -13,7 +13,7 @@ use Rattle.dt_life.specs.Buffers.{comes_by, errors_in, past_in}
 use Rattle.dt_consumer.specs.Keeps.{AreTaken, HasTaken}
 use Rattle.dt_life.specs.Following.{followed_by}
 use Rattle.dt_life.specs.Life.{SetUp, ecbs_in, with_event}
-use Rattle.dt_life.specs.Takings.{TracingEvent, read, faults, taken_on, taken_since}
+use Rattle.dt_life.specs.Takings.{TracingEvent, snapped, faults, taken_on, taken_since}
 use Rattle.dt_consumer.specs.declared.processor.Processor.{Processor}
 use Rattle.dt_consumer.proofs.Buffers.{has_none, same_has}
 use Rattle.dt_life.specs.laws.Buffers.{of_end-append}
@@ -50,18 +50,18 @@ module _ (account : Account) (registry : Registry) (s : SetUp) (all : List Proce
     (taken : AreTaken (past_in account registry s) (errors_in account registry s) all) where
   -- a reading of another processor
   read_elsewhere : (j : ℕ) → j ≢ cpu → IfSome (slice_get all j)
-      (HasTaken (past_in account registry (with_event s (read cpu)) j)
-      (errors_in account registry (with_event s (read cpu)) j))
+      (HasTaken (past_in account registry (with_event s (snapped cpu)) j)
+      (errors_in account registry (with_event s (snapped cpu)) j))
   read_elsewhere j ne =
-      untouched account registry s (read cpu) all j refl
+      untouched account registry s (snapped cpu) all j refl
       (ap (λ b. cond b (swap ∷ []) []) (ne_eqb cpu j (λ e. ne (sym e))))
       (taken j)
 
   -- a reading is a swap on its processor alone
   pub taken_read : (p q : Processor) → cpu < length all → p ≡ get_or all cpu p
       → ((past : BufferPast) (errors : ℕ) → HasTaken past errors p → HasTaken (buffer_after past swap) errors q)
-      → AreTaken (past_in account registry (with_event s (read cpu)))
-      (errors_in account registry (with_event s (read cpu))) (slice_set all cpu q)
+      → AreTaken (past_in account registry (with_event s (snapped cpu)))
+      (errors_in account registry (with_event s (snapped cpu))) (slice_set all cpu q)
   taken_read p q inside at swapped =
       let past = past_in account registry s cpu in
       replaced _ all cpu q
@@ -72,8 +72,8 @@ module _ (account : Account) (registry : Registry) (s : SetUp) (all : List Proce
       read_elsewhere
 
   -- there is no such processor
-  pub taken_read-past : length all ≤ cpu → AreTaken (past_in account registry (with_event s (read cpu)))
-      (errors_in account registry (with_event s (read cpu))) all
+  pub taken_read-past : length all ≤ cpu → AreTaken (past_in account registry (with_event s (snapped cpu)))
+      (errors_in account registry (with_event s (snapped cpu))) all
   taken_read-past past = λ j. ⊎_elim
       (λ e. nothing_past _ all j (omega arith))
       (read_elsewhere j)

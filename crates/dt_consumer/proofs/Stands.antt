@@ -31,7 +31,7 @@ use Rattle.dt_consumer.specs.declared.programs.Programs.{Programs}
 use Rattle.dt_life.specs.declared.refusal.Refusal.{Refusal}
 use Rattle.dt_consumer.specs.declared.tracing.Tracing.{Tracing}
 use Rattle.dt_life.specs.laws.Placed.{are_both}
-use Rattle.dt_life.specs.laws.Enabled.{few_ecbs, many_ecbs}
+use Rattle.dt_ecb.specs.laws.Enabled.{few_ecbs, many_ecbs}
 
 -- what traces, or has traced, is not inactive
 pub begun_phase : (phase : Phase) (course : Course) → phase ≡ phase_by course → is_inactive phase ≡ false

@@ -22,7 +22,7 @@ use Rattle.dt_consumer.specs.Keeps.{IsTracing, is_quiet}
 use Rattle.dt_life.specs.Life.{Item, SetUp, ecbs_in, set_up, shapes_in}
 use Rattle.dt_life.specs.Reply.{all_aggdrops}
 use Rattle.dt_life.specs.Stores.{aggdrops_in, given_in, given_since, stores_in}
-use Rattle.dt_life.specs.Takings.{TracingEvent, began, seen, read, truncated, ended, closed}
+use Rattle.dt_life.specs.Takings.{TracingEvent, began, seen, snapped, truncated, ended, closed}
 use Rattle.dt_consumer.specs.declared.tracing.Tracing.{Tracing}
 use Rattle.dt_life.specs.laws.Stores.{are_zipped}
 use Rattle.dt_life.specs.laws.Lists.{all_zero}
@@ -66,7 +66,7 @@ module _ (fresh : (size : ℕ) → drops (store.new_past size) ≡ 0)
   none_given account registry shapes ecbs cpu size [] e = fresh size
   none_given account registry shapes ecbs cpu size (began ∷ events) e = cc
   none_given account registry shapes ecbs cpu size (seen firing ∷ events) e = cc
-  none_given account registry shapes ecbs cpu size (read n ∷ events) e =
+  none_given account registry shapes ecbs cpu size (snapped n ∷ events) e =
       ap (λ es. drops (record { size = size; events = es }))
       (append-nil (given_since account registry shapes ecbs cpu events))
       ∙ none_given account registry shapes ecbs cpu size events e
@@ -112,7 +112,7 @@ module _ (account : Account) (registry : Registry) (shapes : List ShapeForm) (ec
   quiet_gives [] e = tt
   quiet_gives (began ∷ events) e = cc
   quiet_gives (seen firing ∷ events) e = cc
-  quiet_gives (read n ∷ events) e = append_none _ [] (quiet_gives events e) tt
+  quiet_gives (snapped n ∷ events) e = append_none _ [] (quiet_gives events e) tt
   quiet_gives (truncated name ∷ events) e =
       append_none _ _ (quiet_gives events e) (cut (aggregation_of shapes name))
     where

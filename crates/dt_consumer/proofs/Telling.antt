@@ -16,7 +16,7 @@ use Rattle.dt_life.specs.Buffers.{errors}
 use Rattle.dt_consumer.specs.Keeps.{IsTracing, Keeps, is_quiet}
 use Rattle.dt_life.specs.Life.{Item, SetUp, seen_count, set_up, ecbs_in}
 use Rattle.dt_life.specs.Reply.{all_errors, ecb_of}
-use Rattle.dt_life.specs.Takings.{TracingEvent, began, seen, read, truncated, ended, closed, faults, taken_since}
+use Rattle.dt_life.specs.Takings.{TracingEvent, began, seen, snapped, truncated, ended, closed, faults, taken_since}
 use Rattle.dt_consumer.specs.declared.consumer.Consumer.{Consumer}
 use Rattle.dt_consumer.specs.declared.processor.Processor.{Processor}
 use Rattle.dt_consumer.specs.declared.tracing.Tracing.{Tracing}
@@ -42,7 +42,7 @@ none_taken : (account : Account) (registry : Registry) (ecbs : List EcbForm) (cp
 none_taken account registry ecbs cpu [] e = refl
 none_taken account registry ecbs cpu (began ∷ events) e = cc
 none_taken account registry ecbs cpu (seen firing ∷ events) e = cc
-none_taken account registry ecbs cpu (read n ∷ events) e =
+none_taken account registry ecbs cpu (snapped n ∷ events) e =
     append-nil (taken_since account registry ecbs cpu events) ∙ none_taken account registry ecbs cpu events e
 none_taken account registry ecbs cpu (truncated name ∷ events) e =
     append-nil (taken_since account registry ecbs cpu events) ∙ none_taken account registry ecbs cpu events e
@@ -54,7 +54,7 @@ pub none_seen : (events : List TracingEvent) → is_quiet events ≡ true → se
 none_seen [] e = refl
 none_seen (began ∷ events) e = cc
 none_seen (seen firing ∷ events) e = cc
-none_seen (read n ∷ events) e = none_seen events e
+none_seen (snapped n ∷ events) e = none_seen events e
 none_seen (truncated name ∷ events) e = none_seen events e
 none_seen (ended end ∷ events) e = cc
 none_seen (closed ∷ events) e = none_seen events e

@@ -1,8 +1,9 @@
 -- What a consumer has from `go` on, as more happens.
 use Rattle.std.proofs.Common.{◌≡◌, ℕ, ℤ, ◌+◌, ◌<◌, ◌==◌, ◌&&◌, Bool, true, false, cond, List, [], ◌∷◌, Option, Some}
 use Rattle.std.proofs.Common.{length, get_or, filter, map, refl, sym, ap, ◌∙◌, subst, arith}
-use Rattle.std.specs.List.{slice_get, All, AllByRecursion}
-use Rattle.std.proofs.lemmas.List.Elements.{All-from_recursion, recursion_from_All}
+use Rattle.std.specs.List.{slice_get, All}
+use Rattle.std.proofs.lemmas.List.Elements.{All-filter, All-get_or}
+use Rattle.std.proofs.lemmas.Option.{slice_get-get_or}
 use Rattle.std.specs.Option.{IfSome, IsSomeAnd}
 use Rattle.std.proofs.lemmas.List.{length-map}
 use Rattle.dt_buffer.specs.History.{new_buffer_past}
@@ -19,12 +20,14 @@ use Rattle.dt_consumer.specs.Keeps.{AreTaken, HasTaken, IsTracing}
 use Rattle.dt_life.specs.Following.{errors_and, followed_by, pasts_and, taking_by, where_taken}
 use Rattle.dt_life.specs.Life.{SetUp, ecbs_in, end_size, since_then, with_event}
 use Rattle.dt_life.specs.Options.{OptionsForm, is_fill}
-use Rattle.dt_life.specs.Takings.{TracingEvent, ended, is_end, Taking, MomentForm, faults, first_exit, moment_at}
+use Rattle.dt_life.specs.Takings.{TracingEvent, ended, is_end, Taking, faults, first_exit, moment_at}
+use Rattle.dt_machine.specs.Moment.{MomentForm}
 use Rattle.dt_life.specs.Takings.{own_moment, taken_at, taken_by, taken_on, taken_since, taking_of}
 use Rattle.dt_life.specs.declared.limits.TheConstants.{END}
 use Rattle.dt_life.specs.declared.phase.End.{End}
+use Rattle.dt_consumer.specs.Placing.{ArePlaced, IsPlaced}
 use Rattle.dt_consumer.specs.declared.processor.Processor.{Processor}
-use Rattle.dt_consumer.specs.declared.rows.Row.{Row}
+use Rattle.dt_consumer.specs.declared.ecb_lists.EcbList.{EcbList}
 use Rattle.dt_consumer.specs.declared.tracing.Tracing.{Tracing}
 use Rattle.dt_consumer.proofs.Buffers.{same_has}
 use Rattle.dt_life.specs.laws.Lists.{filter-map, found_at, map_twice}
@@ -58,62 +61,51 @@ module _ (account : Account) (registry : Registry) (s : SetUp) where
         (faults-append (taken_since account registry own cpu s.since) (taken_on account registry own cpu event))))
         (h cpu)
 
--- the row of a probe
-pub record RowOf (account : Account) (registry : Registry) (s : SetUp) (probe : ℕ) (row : Row) : Type 0 where
-  pub its : AreEcbs s.clauses (of_probe probe (ecbs_in account registry s)) row.ecbs.items
+-- the list of a probe has the forms of its ECBs
+abbrev pub ListOf : Account → Registry → SetUp → ℕ → EcbList → Type 0
+ListOf account registry s probe list = AreEcbs s.clauses (of_probe probe (ecbs_in account registry s)) list.ecbs.items
 
-pub row_at : (account : Account) (registry : Registry) (s : SetUp) (rows : List Row) (probe : ℕ) (row : Row)
-    → ((probe : ℕ) → IfSome (slice_get rows probe)
-    (λ row. AreEcbs s.clauses (of_probe probe (ecbs_in account registry s)) row.ecbs.items))
-    → probe < length rows → row ≡ get_or rows probe row → RowOf account registry s probe row
-row_at account registry s rows probe row each inside at = record {
-  its = found_at (λ (r : Row). AreEcbs s.clauses (of_probe probe (ecbs_in account registry s)) r.ecbs.items) rows
-      probe row inside at (each probe);
-}
+pub list_at : (account : Account) (registry : Registry) (s : SetUp) (lists : List EcbList) (probe : ℕ) (list : EcbList)
+    → ((probe : ℕ) → IfSome (slice_get lists probe) (ListOf account registry s probe))
+    → probe < length lists → list ≡ get_or lists probe list → ListOf account registry s probe list
+list_at account registry s lists probe list each inside at =
+    found_at (ListOf account registry s probe) lists probe list inside at (each probe)
 
-module _ (account : Account) (registry : Registry) (s : SetUp) (probe : ℕ) (row : Row)
-    (r : RowOf account registry s probe row) (clauses : List Clause)
-    (own_clauses : map form_of_clause clauses ≡ s.clauses) where
-  pub row_placed : All (λ ecb. ecb.clause < length clauses) row.ecbs.items
-  row_placed =
-      let long : length s.clauses ≡ length clauses =
-      sym (ap length own_clauses) ∙ length-map clauses form_of_clause in
-      let P : ℕ → Type 0 = λ n. All (λ ecb. ecb.clause < n) row.ecbs.items in
-      subst P long r.its.placed
-
-  pub row_taken : (in_end : Bool) (m : MomentForm)
-      → map (taking_by in_end m (map form_of_clause clauses)) row.ecbs.items
-      ≡ map (taking_of in_end m) (of_probe probe (ecbs_in account registry s))
-  row_taken in_end m =
-      sym (map_twice (form_of_ecb (map form_of_clause clauses)) (taking_of in_end m) row.ecbs.items)
-      ∙ ap (λ cs. map (taking_of in_end m) (map (form_of_ecb cs) row.ecbs.items)) own_clauses
-      ∙ ap (map (taking_of in_end m)) r.its.forms
+-- what is taken of a list is what is taken of the probe's ECBs
+pub list_taken : (account : Account) (registry : Registry) (s : SetUp) (probe : ℕ) (list : EcbList)
+    → ListOf account registry s probe list → (clauses : List Clause) → map form_of_clause clauses ≡ s.clauses
+    → (in_end : Bool) (m : MomentForm) → map (taking_by in_end m (map form_of_clause clauses)) list.ecbs.items
+    ≡ map (taking_of in_end m) (of_probe probe (ecbs_in account registry s))
+list_taken account registry s probe list its clauses own in_end m =
+    sym (map_twice (form_of_ecb (map form_of_clause clauses)) (taking_of in_end m) list.ecbs.items)
+    ∙ ap (λ cs. map (taking_of in_end m) (map (form_of_ecb cs) list.ecbs.items)) own
+    ∙ ap (map (taking_of in_end m)) its.forms
 
 -- END fired on what had been taken
-pub end_fired : (account : Account) (registry : Registry) (s : SetUp) (end : End) (row : Row) (all : List Processor)
-    (clauses : List Clause) → map form_of_clause clauses ≡ s.clauses → RowOf account registry s END row
+pub end_fired : (account : Account) (registry : Registry) (s : SetUp) (end : End) (list : EcbList) (all : List Processor)
+    (clauses : List Clause) → map form_of_clause clauses ≡ s.clauses → ListOf account registry s END list
     → IsSomeAnd (own_moment account registry END) (λ m.
-    let new = map (taking_by true m (map form_of_clause clauses)) row.ecbs.items in
+    let new = map (taking_by true m (map form_of_clause clauses)) list.ecbs.items in
     AreTaken (pasts_and (past_in account registry s) (where_taken 0 new))
     (errors_and (errors_in account registry s) (where_taken 0 new)) all)
     → AreTaken (past_in account registry (with_event s (ended end)))
     (errors_in account registry (with_event s (ended end))) all
-end_fired account registry s end row all clauses own_clauses r h =
+end_fired account registry s end list all clauses own_clauses its h =
     let found = own_found account registry END _ h in
     grown account registry s (ended end) _ tt found.is all _
-    (row_taken account registry s END row r clauses own_clauses true _)
+    (list_taken account registry s END list its clauses own_clauses true _)
     found.holds
 
--- the first exit of a row is that of what is taken
-pub exit_is : (account : Account) (registry : Registry) (s : SetUp) (row : Row) (clauses : List Clause)
+-- the first exit of a list is that of what is taken
+pub exit_is : (account : Account) (registry : Registry) (s : SetUp) (list : EcbList) (clauses : List Clause)
     (event : TracingEvent) (m : MomentForm) (exit : Option ℤ) → IsFiring event → moment_at account registry event
     ≡ Some m
     → is_end event ≡ false
-    → map (taking_by false m (map form_of_clause clauses)) row.ecbs.items
+    → map (taking_by false m (map form_of_clause clauses)) list.ecbs.items
     ≡ map (taking_of false m) (of_probe m.firing.probe (ecbs_in account registry s))
-    → exit ≡ first_exit (map (taking_by false m (map form_of_clause clauses)) row.ecbs.items)
+    → exit ≡ first_exit (map (taking_by false m (map form_of_clause clauses)) list.ecbs.items)
     → first_exit (taken_by account registry (ecbs_in account registry s) event) ≡ exit
-exit_is account registry s row clauses event m exit fires at ordinary same e =
+exit_is account registry s list clauses event m exit fires at ordinary same e =
     let es = ecbs_in account registry s in
     ap first_exit (by_is account registry s event m fires at)
     ∙ ap (λ b. first_exit (taken_at b es m)) ordinary
@@ -148,42 +140,40 @@ new_taken account registry s options reserve all same room h = λ cpu.
     (h cpu)
 
 -- the ECBs of a probe are among those that are kept
-picked_all : (b : Bool) (n : ℕ) (ecb : Ecb) (ecbs : List Ecb) → ecb.clause < n
-    → AllByRecursion (λ (e : Ecb). e.clause < n) ecbs
-    → AllByRecursion (λ (e : Ecb). e.clause < n) (cond b (ecb ∷ ecbs) ecbs)
-picked_all true n ecb ecbs h all = (h, all)
-picked_all false n ecb ecbs h all = all
-
-filtered_all : (n probe : ℕ) (ecbs : List Ecb) → AllByRecursion (λ (e : Ecb). e.clause < n) ecbs
-    → AllByRecursion (λ (e : Ecb). e.clause < n) (filter (λ (e : Ecb). e.probe == probe) ecbs)
-filtered_all n probe [] h = tt
-filtered_all n probe (ecb ∷ ecbs) h =
-    picked_all (ecb.probe == probe) n ecb (filter (λ (e : Ecb). e.probe == probe) ecbs) h.0
-    (filtered_all n probe ecbs h.1)
-
-of_row : (clauses : List ClauseForm) (probe : ℕ) (wanted : List EcbForm) (ecbs : List Ecb)
+of_list : (clauses : List ClauseForm) (probe : ℕ) (wanted : List EcbForm) (ecbs : List Ecb)
     → AreEcbs clauses wanted ecbs
     → AreEcbs clauses (of_probe probe wanted) (filter (λ (e : Ecb). e.probe == probe) ecbs)
-of_row clauses probe wanted ecbs h = record {
+of_list clauses probe wanted ecbs h = record {
   forms =
       sym (filter-map (form_of_ecb clauses) (λ (e : EcbForm). e.probe == probe) ecbs)
       ∙ ap (of_probe probe) h.forms;
-  placed =
-      All-from_recursion _ (filter (λ (e : Ecb). e.probe == probe) ecbs)
-      (filtered_all (length clauses) probe ecbs (recursion_from_All _ ecbs h.placed));
+  placed = All-filter (λ (e : Ecb). e.probe == probe) (IsPlaced (length clauses)) ecbs h.placed;
 }
 
-pub rows_kept : (account : Account) (registry : Registry) (s : SetUp) (ecbs : List Ecb) (rows : List Row)
+pub lists_kept : (account : Account) (registry : Registry) (s : SetUp) (ecbs : List Ecb) (lists : List EcbList)
     → AreEcbs s.clauses (ecbs_in account registry s) ecbs
-    → ((probe : ℕ) → IfSome (slice_get rows probe)
-    (λ row. row.ecbs.items ≡ filter (λ ecb. ecb.probe == probe) ecbs))
-    → (probe : ℕ) → IfSome (slice_get rows probe)
-    (λ row. AreEcbs s.clauses (of_probe probe (ecbs_in account registry s)) row.ecbs.items)
-rows_kept account registry s ecbs rows kept each probe =
-    if_some_map _ _ (slice_get rows probe)
-    (λ row is. subst (AreEcbs s.clauses (of_probe probe (ecbs_in account registry s))) (sym is)
-    (of_row s.clauses probe (ecbs_in account registry s) ecbs kept))
+    → ((probe : ℕ) → IfSome (slice_get lists probe)
+    (λ list. list.ecbs.items ≡ filter (λ ecb. ecb.probe == probe) ecbs))
+    → (probe : ℕ) → IfSome (slice_get lists probe)
+    (λ list. AreEcbs s.clauses (of_probe probe (ecbs_in account registry s)) list.ecbs.items)
+lists_kept account registry s ecbs lists kept each probe =
+    if_some_map _ _ (slice_get lists probe)
+    (λ list is. subst (AreEcbs s.clauses (of_probe probe (ecbs_in account registry s))) (sym is)
+    (of_list s.clauses probe (ecbs_in account registry s) ecbs kept))
     (each probe)
+
+pub lists_placed : (n : ℕ) (ecbs : List Ecb) (lists : List EcbList) → All (IsPlaced n) ecbs
+    → ((probe : ℕ) → IfSome (slice_get lists probe) (λ list. list.ecbs.items ≡ filter (λ ecb. ecb.probe == probe) ecbs))
+    → All (ArePlaced n) lists
+lists_placed n ecbs lists all each = λ k d inside.
+    let is : (get_or lists k d).ecbs.items ≡ filter (λ ecb. ecb.probe == k) ecbs =
+    subst (λ o. IfSome o (λ (list : EcbList). list.ecbs.items ≡ filter (λ ecb. ecb.probe == k) ecbs))
+    (slice_get-get_or lists k d inside) (each k) in
+    subst (All (IsPlaced n)) (sym is) (All-filter (λ (e : Ecb). e.probe == k) (IsPlaced n) ecbs all)
+
+pub placed_at : (n : ℕ) (lists : List EcbList) (i : ℕ) (list : EcbList) → i < length lists → list ≡ get_or lists i list
+    → All (ArePlaced n) lists → All (IsPlaced n) list.ecbs.items
+placed_at n lists i list inside at all = subst (ArePlaced n) (sym at) (All-get_or (ArePlaced n) lists i list inside all)
 
 pub two_there : {X : Type 0} (P : X → Type 0) (xs : List X) → IsSomeAnd (slice_get xs 1) P → 1 < length xs
 two_there P [] h = absurd h

@@ -1,5 +1,5 @@
 -- What a draft says of the change that a line will make.
-use Rattle.std.specs.Prelude.{◌≡◌, ◌<◌, ℕ, true, false, List, Some, [], ◌∷◌, ◌++◌, Result, Ok, map}
+use Rattle.std.specs.Prelude.{◌≡◌, ◌<◌, ◌≤◌, ◌+◌, ℕ, true, false, List, All, Some, None, [], ◌∷◌, ◌++◌, Result, Ok, map, vec_len}
 use Rattle.dt_cred.specs.declared.account.Account.{Account}
 use Rattle.dt_machine.specs.Registry.{Registry}
 use Rattle.dt_lang.specs.Program.{form_of_clause}
@@ -18,9 +18,12 @@ use Rattle.dt_life.specs.Life.{Item, asked, SetUp, is_over, set_up, since_then, 
 use Rattle.dt_life.specs.Life.{with_options, shapes_in, is_inactive}
 use Rattle.dt_life.specs.Reply.{Replies}
 use Rattle.dt_life.specs.Takings.{began}
+use Rattle.dt_ecb.specs.Limits.{ecbs_max}
+use Rattle.dt_consumer.specs.Placing.{IsPlaced}
+use Rattle.dt_consumer.specs.declared.consumer.Consumer.{Consumer}
 use Rattle.dt_consumer.specs.declared.draft.Change.{Change}
-use Rattle.dt_consumer.specs.declared.draft.Change.TheVariants.{Nothing, Set, Enable, Go, Stop, Snap, Trunc, Close}
-use Rattle.dt_consumer.specs.declared.draft.Change.TheVariants.{Refuse}
+use Rattle.dt_consumer.specs.declared.draft.Change.TheVariants.{Counted, Set, Enable, Go, Stop, Snap, Trunc, Close}
+use Rattle.dt_consumer.specs.declared.draft.Change.TheVariants.{Uncounted}
 use Rattle.dt_consumer.specs.declared.draft.Draft.{Draft}
 use Rattle.dt_life.specs.declared.phase.Phase.TheVariants.{Inactive, Active}
 use Rattle.dt_life.specs.declared.refusal.Refusal.{Refusal}
@@ -35,8 +38,8 @@ module _ (account : Account) (registry : Registry) (life : List Item) where
 
   -- The change is the one that the line makes.
   abbrev pub Drafted : Result Ask Refusal → Change → Type 0
-  Drafted line Refuse = is_over life ≡ true
-  Drafted line Nothing = (is_over life ≡ false) × (set_up_after line ≡ now) × (is_close line ≡ false)
+  Drafted line Uncounted = is_over life ≡ true
+  Drafted line Counted = (is_over life ≡ false) × (set_up_after line ≡ now) × (is_close line ≡ false)
   Drafted line (Set options) =
       (is_over life ≡ false) × (phase account registry life ≡ Inactive)
       × (set_up_after line ≡ with_options now (form_of_options options)) × (is_close line ≡ false)
@@ -62,3 +65,17 @@ module _ (account : Account) (registry : Registry) (life : List Item) where
   pub record IsDraftOf (line : Result Ask Refusal) (draft : Draft) : Type 0 where
     pub replies : Replies account registry life line (answer_of draft.reply)
     pub makes : Drafted line draft.change
+
+-- A change can be made of a consumer: clauses and ECBs find their room before tracing began, and tracing that begins knows
+-- all clauses.
+abbrev pub Fits : Consumer → Change → Type 0
+Fits consumer (Enable clauses ecbs shapes) =
+    (consumer.tracing ≡ None) × (vec_len clauses ≤ vec_len ecbs)
+    × (vec_len consumer.programs.ecbs + vec_len ecbs ≤ ecbs_max)
+    × All (IsPlaced (vec_len consumer.programs.clauses + vec_len clauses)) ecbs.items
+Fits consumer (Go tracing) = vec_len tracing.uses ≡ vec_len consumer.programs.clauses
+Fits consumer _ = Unit {0}
+
+-- A draft can be applied to a consumer: `Consumer::draft` makes it so, and offers keep it so.
+pub record CanApply (consumer : Consumer) (draft : Draft) : Type 0 where
+  pub fits : Fits consumer draft.change

@@ -11,7 +11,7 @@ use Rattle.dt_ecb.specs.Forms.{shapes_of}
 use Rattle.dt_life.specs.Buffers.{errors_in, past_in}
 use Rattle.dt_life.specs.Life.{SetUp, ecbs_in, phase_of, seen_count, shapes_in}
 use Rattle.dt_life.specs.Stores.{given_in}
-use Rattle.dt_life.specs.Takings.{TracingEvent, read, truncated, closed}
+use Rattle.dt_life.specs.Takings.{TracingEvent, snapped, truncated, closed}
 use Rattle.dt_life.specs.Uses.{AreGiven}
 use Rattle.dt_consumer.specs.Uses.{AreUses}
 use Rattle.dt_consumer.specs.declared.consumer.Consumer.{Consumer}
@@ -45,17 +45,17 @@ phase_untraced is_closed = if is_closed then Stopped None else Inactive
 -- Nothing was taken: buffers may have been read and aggregations truncated after a close, and that is all.
 abbrev pub is_quiet : List TracingEvent → Bool
 is_quiet [] = true
-is_quiet (read cpu ∷ events) = is_quiet events
+is_quiet (snapped cpu ∷ events) = is_quiet events
 is_quiet (truncated name ∷ events) = is_quiet events
 is_quiet (closed ∷ events) = is_quiet events
 is_quiet _ = false
 
 module _ (account : Account) (registry : Registry) (s : SetUp) where
-  -- What is there from `go` on: a row of ECBs for each probe, and each processor with what was taken there.
+  -- What is there from `go` on: a list of ECBs for each probe, and each processor with what was taken there.
   pub record IsTracing (tracing : Tracing) : Type 0 where
-    pub rows : (probe : ℕ) → IfSome (slice_get tracing.rows.items probe)
-        (λ row. AreEcbs s.clauses (of_probe probe (ecbs_in account registry s)) row.ecbs.items)
-    pub all_rows : length tracing.rows.items ≡ length registry.probes + 1
+    pub lists : (probe : ℕ) → IfSome (slice_get tracing.lists.items probe)
+        (λ list. AreEcbs s.clauses (of_probe probe (ecbs_in account registry s)) list.ecbs.items)
+    pub all_lists : length tracing.lists.items ≡ length registry.probes + 1
     pub processors : AreTaken (past_in account registry s) (errors_in account registry s) tracing.processors.all.items
     pub all_processors : length tracing.processors.all.items ≡ registry.cpus
     pub uses : AreUses (shapes_in s) s.clauses tracing.uses.items

@@ -4,7 +4,7 @@ use Rattle.dt_ecb.specs.Shapes.{ShapeForm}
 use Rattle.dt_lang.specs.Program.{ClauseForm}
 use Rattle.dt_consumer.specs.declared.uses.Use.{Use}
 use Rattle.dt_consumer.specs.declared.uses.Uses.{Uses}
-use Rattle.dt_life.specs.Uses.{UseForm, uses_by}
+use Rattle.dt_life.specs.Aggregations.{UseForm, uses_by}
 
 abbrev pub form_of_use : Use → UseForm
 form_of_use one = (one.aggregation, one.keys)

@@ -1,4 +1,7 @@
 //! One consumer, from its first line to its last.
+ghost use Rattle.std.specs.Prelude.{◌≡◌, vec_len};
+ghost use Rattle.std.specs.Option.{ForSome};
+
 use crate::draft::{Change, Draft};
 use crate::programs::Programs;
 use crate::tracing::Tracing;
@@ -6,8 +9,8 @@ use dt_aggstore::Aggregation;
 use dt_cred::Account;
 use dt_ecb::{Ecb, Shapes, ecbs_go_on, uses_of_both};
 use dt_lang::Clause;
-use dt_life::{Options, Phase, shown};
-use dt_machine::{Firing, Interest, Machine};
+use dt_life::{Options, Phase};
+use dt_machine::{Firing, Interest, Machine, Moment};
 use std::alloc::{AllocError, Global};
 
 /// One consumer: its options, what it has enabled, and, from its `go` on, what it has of each processor.
@@ -20,6 +23,7 @@ pub struct Consumer {
     /// Whether the session was closed before tracing began.
     pub(crate) closed: bool,
     pub(crate) lines: u32,
+    ghost known: { ForSome tracing (λ t. vec_len t.uses ≡ vec_len programs.clauses) },
 }
 
 impl Consumer {
@@ -27,10 +31,11 @@ impl Consumer {
     ghost use Rattle.dt_cred.specs.declared.account.Account.{Account};
     ghost use Rattle.dt_life.specs.Life.{Item, fired, phase, ecbs as ecbs_after};
     ghost use Rattle.dt_ecb.specs.Ecbs.{of_probe};
-    ghost use Rattle.dt_machine.specs.Interest.{Names};
+    ghost use Rattle.dt_machine.specs.Interest.{has_probe};
+    ghost use Rattle.dt_machine.specs.Moment.{IsMoment};
     ghost use Rattle.dt_machine.specs.Registry.{Registry};
     ghost use Rattle.dt_life.specs.Ask.{Ask};
-    ghost use Rattle.dt_consumer.specs.Draft.{Drafted, IsDraftOf};
+    ghost use Rattle.dt_consumer.specs.Draft.{CanApply, Drafted, Fits, IsDraftOf};
     ghost use Rattle.dt_life.specs.Acceptance.{after_line};
     ghost use Rattle.dt_life.specs.Sees.{Sees};
     ghost use Rattle.dt_life.specs.declared.refusal.Refusal.{Refusal};
@@ -70,7 +75,7 @@ impl Consumer {
     pub fn interest(&self) -> Result<Interest, AllocError>
         ensures named { IfOk result (λ interest. (account : Account) (registry : Registry) (life : List Item)
             → StandsFor account registry self.now life
-            → (id : ℕ) → (Names interest id ↔ (of_probe id (ecbs_after account registry life) ≢ []))) }
+            → (id : ℕ) → (IsTrue (has_probe interest id) ↔ (of_probe id (ecbs_after account registry life) ≢ []))) }
         ensures succeeds { IsOk result }
     {
         Ok(self.programs.interest())
@@ -88,34 +93,53 @@ impl Consumer {
             → StandsFor account machine.now.registry self.old life → IsTrue result
             → StandsFor account machine.now.registry self.new (fired firing.now ∷ life) }
         ensures unseen { result ≡ false → self.new ≡ self.old }
+        ensures drafts { (draft : Draft) → CanApply self.old draft → CanApply self.new draft }
+    {
+        match machine.moment(firing) {
+            Some(moment) => self.offer_moment(machine, &moment),
+            // a foreign firing changes nothing for its consumer
+            None => false,
+        }
+    }
+
+    /// Takes a firing whose probe and process were looked up before, as [`Consumer::offer`] does: so who offers a firing to many
+    /// looks them up once. The moment is one of the machine's.
+    pub fn offer_moment(&mut self, machine: &Machine, moment: &Moment) -> bool
+        ensures sees { (account : Account) (life : List Item)
+            → StandsFor account machine.now.registry self.old life → IsMoment machine.now.registry moment.now
+            → (IsTrue result ↔ Sees account machine.now.registry life moment.now.firing.now) }
+        ensures seen { (account : Account) (life : List Item)
+            → StandsFor account machine.now.registry self.old life → IsMoment machine.now.registry moment.now
+            → IsTrue result
+            → StandsFor account machine.now.registry self.new (fired moment.now.firing.now ∷ life) }
+        ensures unseen { result ≡ false → self.new ≡ self.old }
+        ensures drafts { (draft : Draft) → CanApply self.old draft → CanApply self.new draft }
     {
         // before tracing begins nothing is seen
         let Some(tracing) = &mut self.tracing else {
             return false;
         };
-        // most firings are of probes that this consumer never enabled: they leave here, before anything is looked up
-        if !tracing.wants(firing.probe) {
+        let firing = moment.firing;
+        // a firing of a probe that this consumer never enabled, or that its account isn't shown, changes nothing for it
+        if !tracing.wants(firing.cpu, firing.probe) || !moment.is_shown(&self.account) {
             return false;
         }
-        // a foreign firing, or one that the account isn't shown, changes nothing for its consumer
-        let Some(moment) = shown(&self.account, machine, firing) else {
-            return false;
-        };
-        tracing.see(&self.account, machine, self.programs.clauses(), &moment);
+        tracing.see(&self.account, machine, self.programs.clauses(), moment);
         true
     }
 
     /// Makes the change of a draft. It takes no memory. The draft must come from this consumer, as it stood for the
     /// same life; firings that it didn't see since don't matter. The machine is the one that the consumer was made for.
     pub fn apply(&mut self, machine: &Machine, draft: Draft)
+        requires { CanApply self.old draft }
         ensures { (account : Account) (life : List Item) (line : Result Ask Refusal)
             → StandsFor account machine.now.registry self.old life
             → IsDraftOf account machine.now.registry life line draft
             → StandsFor account machine.now.registry self.new (after_line life line) }
     {
         match draft.into_change() {
-            Change::Refuse => {}
-            Change::Nothing => self.count(),
+            Change::Uncounted => {}
+            Change::Counted => self.count(),
             Change::Set { options } => self.set(options),
             Change::Enable {
                 clauses,
@@ -124,7 +148,7 @@ impl Consumer {
             } => self.enable(clauses, ecbs, shapes),
             Change::Go { tracing } => self.begin(tracing),
             Change::Stop => self.stop(machine),
-            Change::Snap { cpu } => self.swap(cpu),
+            Change::Snap { cpu } => self.snap(cpu),
             Change::Trunc { aggregation } => self.trunc(aggregation),
             Change::Close => self.close(),
         }
@@ -133,7 +157,7 @@ impl Consumer {
     /// Counts a line that changes nothing else.
     fn count(&mut self)
         ensures { (account : Account) (registry : Registry) (life : List Item) (line : Result Ask Refusal)
-            → StandsFor account registry self.old life → Drafted account registry life line Change.Nothing
+            → StandsFor account registry self.old life → Drafted account registry life line Change.Counted
             → StandsFor account registry self.new (after_line life line) }
     {
         self.lines = self.lines.saturating_add(1);
@@ -151,6 +175,7 @@ impl Consumer {
 
     /// Enables further clauses.
     fn enable(&mut self, clauses: Vec<Clause>, ecbs: Vec<Ecb>, shapes: Shapes)
+        requires { Fits self.old (Change.Enable clauses ecbs shapes) }
         ensures { (account : Account) (registry : Registry) (life : List Item) (line : Result Ask Refusal)
             → StandsFor account registry self.old life
             → Drafted account registry life line (Change.Enable clauses ecbs shapes)
@@ -164,6 +189,7 @@ impl Consumer {
 
     /// Begins to trace.
     fn begin(&mut self, tracing: Tracing)
+        requires { Fits self.old (Change.Go tracing) }
         ensures { (account : Account) (registry : Registry) (life : List Item) (line : Result Ask Refusal)
             → StandsFor account registry self.old life → Drafted account registry life line (Change.Go tracing)
             → StandsFor account registry self.new (after_line life line) }
@@ -185,14 +211,14 @@ impl Consumer {
         self.lines = self.lines.saturating_add(1);
     }
 
-    /// Goes on after the buffer of a processor was read.
-    fn swap(&mut self, cpu: usize)
+    /// Goes on after a `snap` of the buffer of a processor.
+    fn snap(&mut self, cpu: usize)
         ensures { (account : Account) (registry : Registry) (life : List Item) (line : Result Ask Refusal)
             → StandsFor account registry self.old life → Drafted account registry life line (Change.Snap cpu)
             → StandsFor account registry self.new (after_line life line) }
     {
         if let Some(tracing) = &mut self.tracing {
-            tracing.swap(cpu);
+            tracing.snap(cpu);
         }
         self.lines = self.lines.saturating_add(1);
     }

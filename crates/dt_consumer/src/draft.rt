@@ -11,7 +11,7 @@ use dt_life::{Options, Refusal, Reply};
 #[derive(Drop)]
 pub(crate) enum Change {
     /// The line is counted, and that is all.
-    Nothing,
+    Counted,
     /// These are the options from now on.
     Set {
         options: Options,
@@ -28,7 +28,7 @@ pub(crate) enum Change {
     },
     /// Tracing ends.
     Stop,
-    /// The buffer of a processor was read.
+    /// The buffer of a processor is read, by a `snap`.
     Snap {
         cpu: usize,
     },
@@ -39,7 +39,7 @@ pub(crate) enum Change {
     /// The session is closed.
     Close,
     /// The line isn't even counted.
-    Refuse,
+    Uncounted,
 }
 
 /// What a line will be answered, and all that it will change: the memory for it is taken already. It is made by
@@ -64,22 +64,22 @@ impl Draft {
     /// A line that is refused, counted, and changes nothing else.
     pub(crate) fn refused(refusal: Refusal) -> Self
         ensures reply { result.reply ≡ Reply.Refused refusal }
-        ensures change { result.change ≡ Change.Nothing }
+        ensures change { result.change ≡ Change.Counted }
     {
         Draft {
             reply: Reply::Refused(refusal),
-            change: Change::Nothing,
+            change: Change::Counted,
         }
     }
 
     /// A line over the quota: refused, and not even counted.
     pub(crate) fn over() -> Self
         ensures reply { result.reply ≡ Reply.Refused Refusal.Quota }
-        ensures change { result.change ≡ Change.Refuse }
+        ensures change { result.change ≡ Change.Uncounted }
     {
         Draft {
             reply: Reply::Refused(Refusal::Quota),
-            change: Change::Refuse,
+            change: Change::Uncounted,
         }
     }
 
@@ -116,7 +116,7 @@ impl Draft {
         ensures { (account : Account) (registry : Registry) (life : List Item) (line : Result Ask Refusal)
             → IsDraftOf account registry life line self.now → (IsTrue result ↔ IsTrue (is_over life)) }
     {
-        matches!(&self.change, Change::Refuse)
+        matches!(&self.change, Change::Uncounted)
     }
 
     /// The change alone.

@@ -1,5 +1,5 @@
 //! The drafts of a consumer's lines.
-ghost use Rattle.std.specs.Prelude.{◌≡◌, ◌≤◌, ◌+◌, ◌<◌, ℕ, List, Option, Result, Ok, Err, Some, None, true, false, length, map, All, IsTrue, IfOk, IfErr, IfSome, MatchOption, is_some, option_and_then, slice_get, if◌then◌else◌};
+ghost use Rattle.std.specs.Prelude.{◌≡◌, ◌≤◌, ◌+◌, ◌<◌, ℕ, List, Option, Result, Ok, Err, Some, None, true, false, length, map, All, IsTrue, IfOk, IfErr, IfSome, MatchOption, is_some, option_and_then, slice_get, vec_len, if◌then◌else◌};
 ghost use Rattle.dt_aggstore.specs.Entries.{form_of_row};
 ghost use Rattle.dt_aggstore.specs.TableOf.{table_of};
 ghost use Rattle.dt_cred.specs.declared.account.Account.{Account};
@@ -20,7 +20,8 @@ ghost use Rattle.dt_consumer.specs.Keeps.{HasTaken, Keeps, is_quiet};
 ghost use Rattle.dt_life.specs.declared.phase.Phase.TheVariants.{Inactive};
 ghost use Rattle.std.specs.String.{string_bytes};
 ghost use Rattle.std.specs.Option.{option_copied};
-ghost use Rattle.dt_consumer.specs.Draft.{IsDraftOf};
+ghost use Rattle.dt_consumer.specs.Draft.{CanApply, IsDraftOf};
+ghost use Rattle.dt_consumer.specs.Placing.{IsPlaced};
 ghost use Rattle.dt_life.specs.Life.{Item, SetUp, set_up, phase, phase_of, next_epid, has_room, is_inactive, is_readable};
 ghost use Rattle.dt_life.specs.Refusal.{IsNoCommand, refused_as};
 ghost use Rattle.dt_life.specs.Reply.{Accepted, ecb_of, all_aggdrops, all_errors, refusal_of, seen_firings};
@@ -53,8 +54,9 @@ impl Consumer {
             → is_inactive (phase account registry life) ≡ false }
         ensures early { (account : Account) (registry : Registry) (life : List Item)
             → StandsFor account registry self.now life → result ≡ false → phase account registry life ≡ Inactive }
+        ensures untraced { result ≡ false → self.now.tracing ≡ None }
     {
-        !matches!(self.phase(), Phase::Inactive)
+        self.tracing.is_some() || self.closed
     }
 
     /// The reply to a line and all that the line will change. The call itself changes nothing, and takes all the
@@ -69,9 +71,10 @@ impl Consumer {
         line: &Result<Command, Refusal>,
     ) -> Result<Draft, AllocError>
         requires { IfErr line.now IsNoCommand }
-        ensures { IfOk result (λ draft. (account : Account) (life : List Item)
+        ensures drafted { IfOk result (λ draft. (account : Account) (life : List Item)
             → StandsFor account machine.now.registry self.now life
             → IsDraftOf account machine.now.registry life (line_asks line.now) draft) }
+        ensures fits { IfOk result (λ draft. CanApply self.now draft) }
     {
         // a line over the quota is answered before anything else is asked of it
         if self.lines >= LINES_MAX {
@@ -90,30 +93,32 @@ impl Consumer {
         machine: &Machine,
         command: &Command,
     ) -> Result<Draft, AllocError>
-        ensures { IfOk result (λ draft. (account : Account) (life : List Item)
+        ensures drafted { IfOk result (λ draft. (account : Account) (life : List Item)
             → MayAsk account machine.now.registry self.now life
             → IsDraftOf account machine.now.registry life (Ok (ask_of command.now)) draft) }
+        ensures fits { IfOk result (λ draft. CanApply self.now draft) }
     {
         match command {
-            Command::Option { name, value } => Ok(self.draft_option(machine, name, value)),
+            Command::Option { name, value } => Ok(self.draft_option(name, value)),
             Command::Enable { text } => self.draft_enable(alloc, machine, text.as_bytes()),
             Command::Go => self.draft_go(alloc, machine),
-            Command::Stop => Ok(self.draft_stop(machine)),
+            Command::Stop => Ok(self.draft_stop()),
             Command::Snap { cpu } => self.draft_snap(alloc, machine, *cpu),
-            Command::Agg { name } => self.draft_agg(alloc, machine, name.as_bytes()),
-            Command::Trunc { name } => Ok(self.draft_trunc(machine, name.as_bytes())),
+            Command::Agg { name } => self.draft_agg(alloc, name.as_bytes()),
+            Command::Trunc { name } => Ok(self.draft_trunc(name.as_bytes())),
             Command::Status => self.draft_status(alloc, machine),
             Command::List { probe } => self.draft_list(alloc, machine, probe.as_bytes()),
             Command::Describe { epid } => Ok(self.draft_describe(machine, *epid)),
-            Command::Close => Ok(self.draft_close(machine)),
+            Command::Close => Ok(self.draft_close()),
         }
     }
 
     /// The draft of an `option`.
-    fn draft_option(&self, _machine: &Machine, name: &String, value: &OptionValue) -> Draft
-        ensures { (account : Account) (life : List Item) → MayAsk account _machine.now.registry self.now life
-            → IsDraftOf account _machine.now.registry life
+    fn draft_option(&self, name: &String, value: &OptionValue) -> Draft
+        ensures drafted { (account : Account) (registry : Registry) (life : List Item) → MayAsk account registry self.now life
+            → IsDraftOf account registry life
             (Ok (option (setting_of (string_bytes name.now) value.now))) result }
+        ensures fits { CanApply self.now result }
     {
         // options hold for the whole of tracing
         if self.is_late() {
@@ -135,9 +140,10 @@ impl Consumer {
         machine: &Machine,
         text: &[u8],
     ) -> Result<Draft, AllocError>
-        ensures { IfOk result (λ draft. (account : Account) (life : List Item)
+        ensures drafted { IfOk result (λ draft. (account : Account) (life : List Item)
             → MayAsk account machine.now.registry self.now life
             → IsDraftOf account machine.now.registry life (Ok (enable (reading_of text.now))) draft) }
+        ensures fits { IfOk result (λ draft. CanApply self.now draft) }
     {
         // after tracing began nothing more is enabled, and the text isn't even read
         if self.is_late() {
@@ -160,18 +166,20 @@ impl Consumer {
         machine: &Machine,
         program: Program,
     ) -> Result<Draft, AllocError>
+        requires { self.now.tracing ≡ None }
         // for each life after which it may ask and is inactive: the draft of an `enable` of this program
-        ensures { IfOk result (λ draft. (account : Account) (life : List Item)
+        ensures drafted { IfOk result (λ draft. (account : Account) (life : List Item)
             → MayAsk account machine.now.registry self.now life
             → phase account machine.now.registry life ≡ Inactive
             → IsDraftOf account machine.now.registry life (Ok (enable (lang.program (form_of_program program))))
             draft) }
+        ensures fits { IfOk result (λ draft. CanApply self.now draft) }
     {
         one_verdict();
         let first = self.programs.ecbs().len() as u32 + 1;
         let shapes = &self.programs.shapes;
         match enable(alloc, &self.account, machine, &program, shapes, first) {
-            Ok(ecbs) => self.draft_enabled(alloc, machine, program, ecbs, first),
+            Ok(ecbs) => self.draft_enabled(alloc, program, ecbs, first),
             Err(fault) => match refusal_for(fault) {
                 Some(refusal) => Ok(Draft::refused(refusal)),
                 None => Err(AllocError),
@@ -184,24 +192,26 @@ impl Consumer {
     fn draft_enabled(
         &self,
         alloc: Global,
-        _machine: &Machine,
         program: Program,
         ecbs: Vec<Ecb>,
         first: u32,
     ) -> Result<Draft, AllocError>
-        requires few { length ecbs.items ≤ ECBS_MAX }
+        requires untraced { self.now.tracing ≡ None }
+        requires each { length program.clauses.items ≤ length ecbs.items }
+        requires room { vec_len self.now.programs.ecbs + length ecbs.items ≤ ECBS_MAX }
         requires placed { All (λ ecb. ecb.clause < length program.clauses.items) ecbs.items }
         // for each life of which it stands inactive: where the program is accepted, and these are the ECBs that it adds
-        ensures { IfOk result (λ draft. (account : Account) (life : List Item)
-            → MayAsk account _machine.now.registry self.now life
-            → phase account _machine.now.registry life ≡ Inactive
-            → first ≡ next_epid account _machine.now.registry (set_up account _machine.now.registry life)
-            → IsVerdict account _machine.now.registry (shapes_of self.now.programs.shapes) first
+        ensures drafted { IfOk result (λ draft. (account : Account) (registry : Registry) (life : List Item)
+            → MayAsk account registry self.now life
+            → phase account registry life ≡ Inactive
+            → first ≡ next_epid account registry (set_up account registry life)
+            → IsVerdict account registry (shapes_of self.now.programs.shapes) first
             (form_of_program program) verdict.enabled
             → map (form_of_ecb (form_of_program program)) ecbs.items
-            ≡ added account _machine.now.registry first (form_of_program program)
-            → IsDraftOf account _machine.now.registry life (Ok (enable (lang.program (form_of_program program))))
+            ≡ added account registry first (form_of_program program)
+            → IsDraftOf account registry life (Ok (enable (lang.program (form_of_program program))))
             draft) }
+        ensures fits { IfOk result (λ draft. CanApply self.now draft) }
     {
         let shapes = self.programs.shapes.after(alloc, &program)?;
         let ecbs = placed_after(alloc, self.programs.clauses().len(), &ecbs)?;
@@ -221,9 +231,10 @@ impl Consumer {
 
     /// The draft of a `go`: the room for tracing, and what is taken at BEGIN.
     fn draft_go(&self, alloc: Global, machine: &Machine) -> Result<Draft, AllocError>
-        ensures { IfOk result (λ draft. (account : Account) (life : List Item)
+        ensures drafted { IfOk result (λ draft. (account : Account) (life : List Item)
             → MayAsk account machine.now.registry self.now life
             → IsDraftOf account machine.now.registry life (Ok go) draft) }
+        ensures fits { IfOk result (λ draft. CanApply self.now draft) }
     {
         // tracing begins once
         if self.is_late() {
@@ -263,9 +274,10 @@ impl Consumer {
     }
 
     /// The draft of a `stop`.
-    fn draft_stop(&self, _machine: &Machine) -> Draft
-        ensures { (account : Account) (life : List Item) → MayAsk account _machine.now.registry self.now life
-            → IsDraftOf account _machine.now.registry life (Ok stop) result }
+    fn draft_stop(&self) -> Draft
+        ensures drafted { (account : Account) (registry : Registry) (life : List Item) → MayAsk account registry self.now life
+            → IsDraftOf account registry life (Ok stop) result }
+        ensures fits { CanApply self.now result }
     {
         match self.phase() {
             Phase::Active => Draft {
@@ -278,9 +290,10 @@ impl Consumer {
 
     /// The draft of a `snap`.
     fn draft_snap(&self, alloc: Global, machine: &Machine, cpu: u64) -> Result<Draft, AllocError>
-        ensures { IfOk result (λ draft. (account : Account) (life : List Item)
+        ensures drafted { IfOk result (λ draft. (account : Account) (life : List Item)
             → MayAsk account machine.now.registry self.now life
             → IsDraftOf account machine.now.registry life (Ok (snap cpu)) draft) }
+        ensures fits { IfOk result (λ draft. CanApply self.now draft) }
     {
         // that there is no such processor is told in every phase
         if cpu >= u64::from(machine.cpus()) {
@@ -318,7 +331,7 @@ impl Consumer {
             → Accepted account machine.now.registry life (snap cpu) (answer_of reply)) }
     {
         // closed before its `go`, the consumer has no buffer, and a `snap` tells of an empty one
-        let Some(processor) = self.processor(machine, cpu) else {
+        let Some(processor) = self.processor(cpu) else {
             return Ok(Reply::Snapped {
                 cpu,
                 data: Vec::new(alloc),
@@ -336,21 +349,21 @@ impl Consumer {
     }
 
     /// What the consumer has of a processor, where tracing began.
-    fn processor(&self, _machine: &Machine, cpu: u32) -> Option<&Processor>
-        requires { cpu < _machine.now.registry.cpus }
-        ensures { (account : Account) (life : List Item)
-            → StandsFor account _machine.now.registry self.now life
-            → MatchOption (option_copied result) (is_quiet (set_up account _machine.now.registry life).since ≡ true)
-            (HasTaken (past account _machine.now.registry life cpu) (errors account _machine.now.registry life cpu)) }
+    fn processor(&self, cpu: u32) -> Option<&Processor>
+        ensures { (account : Account) (registry : Registry) (life : List Item)
+            → StandsFor account registry self.now life → cpu < registry.cpus
+            → MatchOption (option_copied result) (is_quiet (set_up account registry life).since ≡ true)
+            (HasTaken (past account registry life cpu) (errors account registry life cpu)) }
     {
         self.tracing.as_ref()?.processors.all.get(cpu as usize)
     }
 
     /// The draft of an `agg`.
-    fn draft_agg(&self, alloc: Global, machine: &Machine, name: &[u8]) -> Result<Draft, AllocError>
-        ensures { IfOk result (λ draft. (account : Account) (life : List Item)
-            → MayAsk account machine.now.registry self.now life
-            → IsDraftOf account machine.now.registry life (Ok (agg name.now)) draft) }
+    fn draft_agg(&self, alloc: Global, name: &[u8]) -> Result<Draft, AllocError>
+        ensures drafted { IfOk result (λ draft. (account : Account) (registry : Registry) (life : List Item)
+            → MayAsk account registry self.now life
+            → IsDraftOf account registry life (Ok (agg name.now)) draft) }
+        ensures fits { IfOk result (λ draft. CanApply self.now draft) }
     {
         // only a name that an accepted program uses is an aggregation's, whatever the phase
         let Some(known) = Known::of(&self.programs.shapes, name) else {
@@ -359,11 +372,11 @@ impl Consumer {
         let reply = Reply::Aggregated {
             name: known.name,
             function: known.aggregation.function,
-            rows: self.table(alloc, machine, known.aggregation)?,
+            rows: self.table(alloc, known.aggregation)?,
         };
         Ok(Draft {
             reply,
-            change: Change::Nothing,
+            change: Change::Counted,
         })
     }
 
@@ -371,13 +384,12 @@ impl Consumer {
     fn table(
         &self,
         alloc: Global,
-        _machine: &Machine,
         aggregation: Aggregation,
     ) -> Result<Vec<Row>, AllocError>
-        ensures { IfOk result (λ rows. (account : Account) (life : List Item)
-            → StandsFor account _machine.now.registry self.now life
-            → map form_of_row rows.items ≡ table_of (stores_in account _machine.now.registry
-            (set_up account _machine.now.registry life)) aggregation) }
+        ensures { IfOk result (λ rows. (account : Account) (registry : Registry) (life : List Item)
+            → StandsFor account registry self.now life
+            → map form_of_row rows.items ≡ table_of (stores_in account registry
+            (set_up account registry life)) aggregation) }
     {
         match &self.tracing {
             Some(tracing) => AggStore::merge_all(alloc, &tracing.processors.stores, aggregation),
@@ -386,9 +398,10 @@ impl Consumer {
     }
 
     /// The draft of a `trunc`.
-    fn draft_trunc(&self, _machine: &Machine, name: &[u8]) -> Draft
-        ensures { (account : Account) (life : List Item) → MayAsk account _machine.now.registry self.now life
-            → IsDraftOf account _machine.now.registry life (Ok (trunc name.now)) result }
+    fn draft_trunc(&self, name: &[u8]) -> Draft
+        ensures drafted { (account : Account) (registry : Registry) (life : List Item) → MayAsk account registry self.now life
+            → IsDraftOf account registry life (Ok (trunc name.now)) result }
+        ensures fits { CanApply self.now result }
     {
         // as for an `agg`, the name must be one that an accepted program uses, in whatever phase
         let Some(known) = Known::of(&self.programs.shapes, name) else {
@@ -398,7 +411,7 @@ impl Consumer {
         if self.phase() == Phase::Inactive {
             return Draft {
                 reply: Reply::Done,
-                change: Change::Nothing,
+                change: Change::Counted,
             };
         }
         Draft {
@@ -411,9 +424,10 @@ impl Consumer {
 
     /// The draft of a `status`.
     fn draft_status(&self, alloc: Global, machine: &Machine) -> Result<Draft, AllocError>
-        ensures { IfOk result (λ draft. (account : Account) (life : List Item)
+        ensures drafted { IfOk result (λ draft. (account : Account) (life : List Item)
             → MayAsk account machine.now.registry self.now life
             → IsDraftOf account machine.now.registry life (Ok status) draft) }
+        ensures fits { IfOk result (λ draft. CanApply self.now draft) }
     {
         let reply = Reply::Status {
             phase: self.phase(),
@@ -423,7 +437,7 @@ impl Consumer {
         };
         Ok(Draft {
             reply,
-            change: Change::Nothing,
+            change: Change::Counted,
         })
     }
 
@@ -467,9 +481,10 @@ impl Consumer {
 
     /// The draft of a `list`.
     fn draft_list(&self, alloc: Global, machine: &Machine, text: &[u8]) -> Result<Draft, AllocError>
-        ensures { IfOk result (λ draft. (account : Account) (life : List Item)
+        ensures drafted { IfOk result (λ draft. (account : Account) (life : List Item)
             → MayAsk account machine.now.registry self.now life
             → IsDraftOf account machine.now.registry life (Ok (list (description_of text.now))) draft) }
+        ensures fits { IfOk result (λ draft. CanApply self.now draft) }
     {
         one_description();
         // the text is one description and nothing else, so its fault is told at its first byte
@@ -482,19 +497,20 @@ impl Consumer {
         let probes = listed(alloc, &self.account, machine, &description)?;
         Ok(Draft {
             reply: Reply::Listed { probes },
-            change: Change::Nothing,
+            change: Change::Counted,
         })
     }
 
     /// The draft of a `describe`.
     fn draft_describe(&self, machine: &Machine, epid: u64) -> Draft
-        ensures { (account : Account) (life : List Item) → MayAsk account machine.now.registry self.now life
+        ensures drafted { (account : Account) (life : List Item) → MayAsk account machine.now.registry self.now life
             → IsDraftOf account machine.now.registry life (Ok (describe epid)) result }
+        ensures fits { CanApply self.now result }
     {
         match self.description(machine, epid) {
             Some(reply) => Draft {
                 reply,
-                change: Change::Nothing,
+                change: Change::Counted,
             },
             None => Draft::refused(Refusal::NoEpid),
         }
@@ -518,9 +534,10 @@ impl Consumer {
     }
 
     /// The draft of a `close`: it is accepted in every phase.
-    fn draft_close(&self, _machine: &Machine) -> Draft
-        ensures { (account : Account) (life : List Item) → MayAsk account _machine.now.registry self.now life
-            → IsDraftOf account _machine.now.registry life (Ok close) result }
+    fn draft_close(&self) -> Draft
+        ensures drafted { (account : Account) (registry : Registry) (life : List Item) → MayAsk account registry self.now life
+            → IsDraftOf account registry life (Ok close) result }
+        ensures fits { CanApply self.now result }
     {
         Draft {
             reply: Reply::Done,

@@ -10,10 +10,11 @@ mod consumer;
 mod course;
 mod draft;
 mod drafts;
+mod enabled;
 mod processor;
 mod processors;
 mod programs;
-mod rows;
+mod ecb_lists;
 mod tracing;
 mod uses;
 

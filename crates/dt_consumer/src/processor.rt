@@ -1,22 +1,20 @@
 //! What a consumer has of one processor from its `go` on.
-use crate::rows::Row;
-use crate::uses::Uses;
+use crate::ecb_lists::EcbList;
+use crate::enabled::Enabled;
 use dt_aggstore::AggStore;
 use dt_buffer::Principal;
 use dt_ecb::Ecb;
 use dt_expr::EvalFault;
-use dt_lang::Clause;
-use dt_life::{Moment, Options};
+use dt_life::{Moment, Options, scene_at};
 use dt_record::Taken;
 use std::alloc::{AllocError, Global};
 
-/// What a consumer has of one processor from its `go` on: its principal buffer, how many clauses a division by zero
-/// ended there, and the place in which what a clause leaves is made.
+/// What a consumer has of one processor from its `go` on: its principal buffer, and how many clauses a division by zero
+/// ended there.
 #[derive(Drop)]
 pub(crate) struct Processor {
     pub(crate) buffer: Principal,
     pub(crate) errors: u64,
-    left: Taken,
 }
 
 impl Processor {
@@ -39,7 +37,7 @@ impl Processor {
     ghost use Rattle.dt_life.specs.Uses.{GivenAtMost};
     ghost use Rattle.dt_consumer.specs.Uses.{AreUses};
     ghost use Rattle.dt_life.specs.Uses.{given_then};
-    ghost use Rattle.dt_life.specs.Forms.{form_of_moment};
+    ghost use Rattle.dt_machine.specs.Moment.{form_of_moment};
     ghost use Rattle.dt_life.specs.Following.{followed_by, taking_by};
     ghost use Rattle.dt_consumer.specs.Keeps.{HasTaken};
     ghost use Rattle.dt_life.specs.Takings.{Taking, exit_of, first_exit, through_exit, faults};
@@ -53,42 +51,40 @@ impl Processor {
         Ok(Processor {
             buffer: Principal::new(alloc, options.bufpolicy, options.bufsize, reserve)?,
             errors: 0,
-            left: Taken::new(),
         })
     }
 
-    /// Takes a probe's ECBs, in order of EPID, up to the first that exits, and answers its status. The store is that of
-    /// this processor. It takes no memory.
+    /// Takes a probe's ECBs, in order of EPID, up to the first that exits, and answers its status. What a clause leaves is made
+    /// in the place that is lent, and the store is that of this processor. It takes no memory.
     pub(crate) fn take(
         &mut self,
+        left: &mut Taken,
         store: &mut AggStore,
-        clauses: &[Clause],
-        uses: &[Uses],
-        row: &Row,
+        enabled: &Enabled<'_>,
+        list: &EcbList,
         moment: &Moment,
     ) -> Option<i64>
+        requires placed { All (λ ecb. ecb.clause < length enabled.now.clauses.now) list.now.ecbs.items }
         requires counts { AtMost (DROPS_LIMIT - ECBS_MAX) self.old }
         requires gives { GivenAtMost (ADDED_LIMIT - GIVES_MAX) store.old }
         // up to the first exit: records are attempted in the buffer, divisions by zero counted as errors
-        ensures taken { All (λ ecb. ecb.clause < length clauses.now) row.now.ecbs.items
-            → (past : BufferPast) (errors : ℕ) → EndLast past false → HasTaken past errors self.old
+        ensures taken { (past : BufferPast) (errors : ℕ) → EndLast past false → HasTaken past errors self.old
             → (let new = through_exit
-            (map (taking_by false (form_of_moment moment.now) (map form_of_clause clauses.now)) row.now.ecbs.items) in
+            (map (taking_by false (form_of_moment moment.now) (map form_of_clause enabled.now.clauses.now)) list.now.ecbs.items) in
             HasTaken (followed_by past (attempts_of new)) (errors + faults new) self.new) }
-        ensures exit { All (λ ecb. ecb.clause < length clauses.now) row.now.ecbs.items → result ≡ first_exit
-            (map (taking_by false (form_of_moment moment.now) (map form_of_clause clauses.now)) row.now.ecbs.items) }
+        ensures exit { result ≡ first_exit
+            (map (taking_by false (form_of_moment moment.now) (map form_of_clause enabled.now.clauses.now)) list.now.ecbs.items) }
         ensures counts { AtMostMore ECBS_MAX self.old self.new }
         // up to the first exit: the store is given what these takings give to aggregations, in order
-        ensures given { (shapes : List ShapeForm) → AreUses shapes (map form_of_clause clauses.now) uses.now
-            → All (λ ecb. ecb.clause < length clauses.now) row.now.ecbs.items
+        ensures given { (shapes : List ShapeForm) → AreUses shapes (map form_of_clause enabled.now.clauses.now) enabled.now.uses.now
             → (past : stores.Past) → IsAt past store.old
             → (let new = through_exit
-            (map (taking_by false (form_of_moment moment.now) (map form_of_clause clauses.now)) row.now.ecbs.items) in
+            (map (taking_by false (form_of_moment moment.now) (map form_of_clause enabled.now.clauses.now)) list.now.ecbs.items) in
             IsAt (given_then past (contributions shapes new)) store.new) }
         ensures gives { added_of store.new ≤ added_of store.old + GIVES_MAX }
     {
-        for ecb in &row.ecbs {
-            let exit = self.take_one(store, clauses, uses, *ecb, moment, false);
+        for ecb in &list.ecbs {
+            let exit = self.take_one(left, store, enabled, *ecb, moment, false);
             // an exit ends tracing at this firing: the later ECBs of the probe aren't taken
             if exit.is_some() {
                 return exit;
@@ -100,31 +96,30 @@ impl Processor {
     /// Takes END's ECBs, in order of EPID: an exit is passed over. It takes no memory.
     pub(crate) fn take_end(
         &mut self,
+        left: &mut Taken,
         store: &mut AggStore,
-        clauses: &[Clause],
-        uses: &[Uses],
-        row: &Row,
+        enabled: &Enabled<'_>,
+        list: &EcbList,
         moment: &Moment,
     )
+        requires placed { All (λ ecb. ecb.clause < length enabled.now.clauses.now) list.now.ecbs.items }
         requires counts { AtMost (DROPS_LIMIT - ECBS_MAX) self.old }
         requires gives { GivenAtMost (ADDED_LIMIT - GIVES_MAX) store.old }
         // of all of END's ECBs: records are attempted in the buffer, divisions by zero counted as errors
-        ensures taken { All (λ ecb. ecb.clause < length clauses.now) row.now.ecbs.items
-            → (past : BufferPast) (errors : ℕ) → HasTaken past errors self.old
-            → (let new = map (taking_by true (form_of_moment moment.now) (map form_of_clause clauses.now))
-            row.now.ecbs.items in
+        ensures taken { (past : BufferPast) (errors : ℕ) → HasTaken past errors self.old
+            → (let new = map (taking_by true (form_of_moment moment.now) (map form_of_clause enabled.now.clauses.now))
+            list.now.ecbs.items in
             HasTaken (followed_by past (attempts_of new)) (errors + faults new) self.new) }
         ensures counts { AtMostMore ECBS_MAX self.old self.new }
         // of all of END's ECBs: the store is given what these takings give to aggregations, in order
-        ensures given { (shapes : List ShapeForm) → AreUses shapes (map form_of_clause clauses.now) uses.now
-            → All (λ ecb. ecb.clause < length clauses.now) row.now.ecbs.items
+        ensures given { (shapes : List ShapeForm) → AreUses shapes (map form_of_clause enabled.now.clauses.now) enabled.now.uses.now
             → (past : stores.Past) → IsAt past store.old
-            → (let new = map (taking_by true (form_of_moment moment.now) (map form_of_clause clauses.now))
-            row.now.ecbs.items in IsAt (given_then past (contributions shapes new)) store.new) }
+            → (let new = map (taking_by true (form_of_moment moment.now) (map form_of_clause enabled.now.clauses.now))
+            list.now.ecbs.items in IsAt (given_then past (contributions shapes new)) store.new) }
         ensures gives { added_of store.new ≤ added_of store.old + GIVES_MAX }
     {
-        for ecb in &row.ecbs {
-            let _exit = self.take_one(store, clauses, uses, *ecb, moment, true);
+        for ecb in &list.ecbs {
+            let _exit = self.take_one(left, store, enabled, *ecb, moment, true);
         }
     }
 
@@ -132,40 +127,37 @@ impl Processor {
     /// its values into the store.
     fn take_one(
         &mut self,
+        left: &mut Taken,
         store: &mut AggStore,
-        clauses: &[Clause],
-        uses: &[Uses],
+        enabled: &Enabled<'_>,
         ecb: Ecb,
         moment: &Moment,
         in_end: bool,
     ) -> Option<i64>
+        requires placed { ecb.clause < length enabled.now.clauses.now }
         requires counts { (drops_of self.old.buffer < DROPS_LIMIT) × (self.old.errors < DROPS_LIMIT) }
         requires gives { added_of store.old + STATEMENTS_MAX ≤ ADDED_LIMIT }
-        ensures taken { ecb.clause < length clauses.now
-            → (past : BufferPast) (errors : ℕ) → EndLast past in_end → HasTaken past errors self.old
-            → (let one = taking_by in_end (form_of_moment moment.now) (map form_of_clause clauses.now) ecb in
+        ensures taken { (past : BufferPast) (errors : ℕ) → EndLast past in_end → HasTaken past errors self.old
+            → (let one = taking_by in_end (form_of_moment moment.now) (map form_of_clause enabled.now.clauses.now) ecb in
             HasTaken (followed_by past (attempts_of (one ∷ []))) (errors + faults (one ∷ [])) self.new) }
-        ensures exit { ecb.clause < length clauses.now
-            → result ≡ exit_of (taking_by in_end (form_of_moment moment.now) (map form_of_clause clauses.now) ecb) }
+        ensures exit { result
+            ≡ exit_of (taking_by in_end (form_of_moment moment.now) (map form_of_clause enabled.now.clauses.now) ecb) }
         ensures counts { AtMostMore 1 self.old self.new }
         // the store is given what this one taking gives to aggregations, in order
-        ensures given { ecb.clause < length clauses.now
-            → (shapes : List ShapeForm) → AreUses shapes (map form_of_clause clauses.now) uses.now
+        ensures given { (shapes : List ShapeForm) → AreUses shapes (map form_of_clause enabled.now.clauses.now) enabled.now.uses.now
             → (past : stores.Past) → IsAt past store.old
-            → (let one = taking_by in_end (form_of_moment moment.now) (map form_of_clause clauses.now) ecb in
+            → (let one = taking_by in_end (form_of_moment moment.now) (map form_of_clause enabled.now.clauses.now) ecb in
             IsAt (given_then past (contributions_of shapes one)) store.new) }
         ensures gives { added_of store.new ≤ added_of store.old + STATEMENTS_MAX }
     {
-        let clause = clauses.get(ecb.clause)?;
-        match self.left.take(ecb.epid, clause, &moment.scene(ecb.epid)) {
+        let clause = &enabled.clauses[ecb.clause];
+        match left.take(ecb.epid, clause, &scene_at(moment, ecb.epid)) {
             Ok(true) => {
-                if let Some(bytes) = &self.left.bytes {
+                if let Some(bytes) = &left.bytes {
                     let _put = self.buffer.put(bytes, in_end);
                 }
-                if let Some(uses) = uses.get(ecb.clause) {
-                    uses.give(store, &self.left.values);
-                }
-                self.left.exit
+                enabled.uses[ecb.clause].give(store, &left.values);
+                left.exit
             }
             Ok(false) => None,
             Err(EvalFault::DivZero) => {
@@ -175,8 +167,8 @@ impl Processor {
         }
     }
 
-    /// Goes on after a reading of the buffer.
-    pub(crate) fn swap(&mut self)
+    /// Goes on after a `snap` of the buffer.
+    pub(crate) fn snap(&mut self)
         ensures stands { (past : BufferPast) (errors : ℕ) → HasTaken past errors self.old
             → HasTaken (buffer_after past swap) errors self.new }
         ensures counts { AtMostMore 0 self.old self.new }

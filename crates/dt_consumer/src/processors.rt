@@ -2,21 +2,24 @@
 ghost use Rattle.std.specs.Prelude.{◌≡◌, ◌≤◌, vec_len};
 ghost use Rattle.dt_aggstore.specs.declared.limits.TheConstants.{STORES_MAX};
 
+use crate::ecb_lists::EcbList;
+use crate::enabled::Enabled;
 use crate::processor::Processor;
-use crate::rows::Row;
-use crate::uses::Uses;
 use dt_aggstore::{AggStore, Aggregation};
 use dt_cred::Account;
-use dt_lang::Clause;
 use dt_life::{END, Moment, Options, own_firing, own_process};
 use dt_machine::Machine;
+use dt_record::Taken;
 use std::alloc::{AllocError, Global};
 
-/// What a consumer has of its processors from its `go` on, each with its store of aggregations.
+/// What a consumer has of its processors from its `go` on, each with its store of aggregations, and the place in which what a
+/// clause leaves is made.
 #[derive(Drop)]
 pub(crate) struct Processors {
     pub(crate) all: Vec<Processor>,
     pub(crate) stores: Vec<AggStore>,
+    left: Taken,
+    ghost some: { 1 ≤ vec_len all },
     ghost each: { vec_len stores ≡ vec_len all },
     ghost few: { vec_len stores ≤ STORES_MAX },
 }
@@ -37,7 +40,7 @@ impl Processors {
     ghost use Rattle.dt_life.specs.Uses.{GivenAtMost};
     ghost use Rattle.dt_life.specs.Uses.{AreGiven, given_and};
     ghost use Rattle.dt_consumer.specs.Uses.{AreUses};
-    ghost use Rattle.dt_life.specs.Forms.{form_of_moment};
+    ghost use Rattle.dt_machine.specs.Moment.{form_of_moment};
     ghost use Rattle.dt_consumer.specs.Keeps.{AreTaken, HasTaken};
     ghost use Rattle.dt_life.specs.Following.{errors_and, pasts_and, taking_by, where_taken};
     ghost use Rattle.dt_life.specs.Takings.{first_exit, own_moment, through_exit};
@@ -51,6 +54,7 @@ impl Processors {
         cpus: u32,
     ) -> Result<Self, AllocError>
         requires reserve { reserve ≤ options.bufsize }
+        requires some { 1 ≤ cpus }
         requires few { cpus ≤ STORES_MAX }
         ensures len { IfOk result (λ processors. vec_len processors.all ≡ cpus) }
         ensures empty { IfOk result (λ processors. (cpu : ℕ) → IfSome (slice_get processors.all.items cpu)
@@ -63,6 +67,7 @@ impl Processors {
         Ok(Processors {
             all: Processors::fresh(alloc, options, reserve, cpus)?,
             stores: Processors::empty_stores(alloc, options.aggsize, cpus)?,
+            left: Taken::new(),
         })
     }
 
@@ -105,44 +110,38 @@ impl Processors {
     /// its status. It takes no memory.
     pub(crate) fn take(
         &mut self,
-        clauses: &[Clause],
-        uses: &[Uses],
-        row: &Row,
+        enabled: &Enabled<'_>,
+        list: &EcbList,
         moment: &Moment,
     ) -> Option<i64>
+        requires there { moment.now.firing.now.cpu < vec_len self.old.all }
+        requires placed { All (λ ecb. ecb.clause < length enabled.now.clauses.now) list.now.ecbs.items }
         requires counts { All (AtMost (DROPS_LIMIT - ECBS_MAX)) self.old.all.items }
         requires gives { All (GivenAtMost (ADDED_LIMIT - GIVES_MAX)) self.old.stores.items }
         ensures len { vec_len self.new.all ≡ vec_len self.old.all }
         ensures counts { (n : ℕ) → All (AtMost n) self.old.all.items
             → All (AtMost (n + ECBS_MAX)) self.new.all.items }
         // the firing's processor takes these ECBs up to the first exit, and no other takes anything
-        ensures taken { All (λ ecb. ecb.clause < length clauses.now) row.now.ecbs.items
-            → (pasts : ℕ → BufferPast) (errors : ℕ → ℕ) → ((cpu : ℕ) → EndLast (pasts cpu) false)
+        ensures taken { (pasts : ℕ → BufferPast) (errors : ℕ → ℕ) → ((cpu : ℕ) → EndLast (pasts cpu) false)
             → AreTaken pasts errors self.old.all.items
             → (let m = form_of_moment moment.now in
-            let new = through_exit (map (taking_by false m (map form_of_clause clauses.now)) row.now.ecbs.items) in
+            let new = through_exit (map (taking_by false m (map form_of_clause enabled.now.clauses.now)) list.now.ecbs.items) in
             AreTaken (pasts_and pasts (where_taken m.firing.cpu new))
             (errors_and errors (where_taken m.firing.cpu new)) self.new.all.items) }
-        ensures exit { All (λ ecb. ecb.clause < length clauses.now) row.now.ecbs.items
-            → moment.now.firing.now.cpu < vec_len self.old.all
-            → (let m = form_of_moment moment.now in
-            result ≡ first_exit (map (taking_by false m (map form_of_clause clauses.now)) row.now.ecbs.items)) }
+        ensures exit { (let m = form_of_moment moment.now in
+            result ≡ first_exit (map (taking_by false m (map form_of_clause enabled.now.clauses.now)) list.now.ecbs.items)) }
         // the store of the firing's processor is given what they give, and no other is given anything
-        ensures given { (shapes : List ShapeForm) → AreUses shapes (map form_of_clause clauses.now) uses.now
-            → All (λ ecb. ecb.clause < length clauses.now) row.now.ecbs.items
+        ensures given { (shapes : List ShapeForm) → AreUses shapes (map form_of_clause enabled.now.clauses.now) enabled.now.uses.now
             → (pasts : ℕ → stores.Past) → AreGiven pasts self.old.stores.items
             → (let m = form_of_moment moment.now in
-            let new = through_exit (map (taking_by false m (map form_of_clause clauses.now)) row.now.ecbs.items) in
+            let new = through_exit (map (taking_by false m (map form_of_clause enabled.now.clauses.now)) list.now.ecbs.items) in
             AreGiven (given_and shapes pasts (where_taken m.firing.cpu new)) self.new.stores.items) }
         ensures gives { (n : ℕ) → All (GivenAtMost n) self.old.stores.items
             → All (GivenAtMost (n + GIVES_MAX)) self.new.stores.items }
     {
         let cpu = moment.firing.cpu as usize;
-        if cpu < self.all.len() {
-            self.all[cpu].take(&mut self.stores[cpu], clauses, uses, row, moment)
-        } else {
-            None
-        }
+        let store = &mut self.stores[cpu];
+        self.all[cpu].take(&mut self.left, store, enabled, list, moment)
     }
 
     /// Fires END: takes its ECBs, on the first processor, where an exit is passed over. It takes no memory.
@@ -150,28 +149,26 @@ impl Processors {
         &mut self,
         account: &Account,
         machine: &Machine,
-        clauses: &[Clause],
-        uses: &[Uses],
-        row: &Row,
+        enabled: &Enabled<'_>,
+        list: &EcbList,
     )
+        requires placed { All (λ ecb. ecb.clause < length enabled.now.clauses.now) list.now.ecbs.items }
         requires counts { All (AtMost (DROPS_LIMIT - ECBS_MAX)) self.old.all.items }
         requires gives { All (GivenAtMost (ADDED_LIMIT - GIVES_MAX)) self.old.stores.items }
         ensures len { vec_len self.new.all ≡ vec_len self.old.all }
         ensures counts { (n : ℕ) → All (AtMost n) self.old.all.items
             → All (AtMost (n + ECBS_MAX)) self.new.all.items }
         // processor 0 takes all of END's ECBs, and no other takes anything
-        ensures taken { All (λ ecb. ecb.clause < length clauses.now) row.now.ecbs.items
-            → (pasts : ℕ → BufferPast) (errors : ℕ → ℕ) → AreTaken pasts errors self.old.all.items
+        ensures taken { (pasts : ℕ → BufferPast) (errors : ℕ → ℕ) → AreTaken pasts errors self.old.all.items
             → IsSomeAnd (own_moment account.now machine.now.registry END)
-            (λ m. let new = map (taking_by true m (map form_of_clause clauses.now)) row.now.ecbs.items in
+            (λ m. let new = map (taking_by true m (map form_of_clause enabled.now.clauses.now)) list.now.ecbs.items in
             AreTaken (pasts_and pasts (where_taken 0 new)) (errors_and errors (where_taken 0 new))
             self.new.all.items) }
         // processor 0's store is given what they give, and no other is given anything
-        ensures given { (shapes : List ShapeForm) → AreUses shapes (map form_of_clause clauses.now) uses.now
-            → All (λ ecb. ecb.clause < length clauses.now) row.now.ecbs.items
+        ensures given { (shapes : List ShapeForm) → AreUses shapes (map form_of_clause enabled.now.clauses.now) enabled.now.uses.now
             → (pasts : ℕ → stores.Past) → AreGiven pasts self.old.stores.items
             → IsSomeAnd (own_moment account.now machine.now.registry END)
-            (λ m. let new = map (taking_by true m (map form_of_clause clauses.now)) row.now.ecbs.items in
+            (λ m. let new = map (taking_by true m (map form_of_clause enabled.now.clauses.now)) list.now.ecbs.items in
             AreGiven (given_and shapes pasts (where_taken 0 new)) self.new.stores.items) }
         ensures gives { (n : ℕ) → All (GivenAtMost n) self.old.stores.items
             → All (GivenAtMost (n + GIVES_MAX)) self.new.stores.items }
@@ -183,9 +180,8 @@ impl Processors {
             process: &process,
             firing: &firing,
         };
-        if !self.all.is_empty() {
-            self.all[0].take_end(&mut self.stores[0], clauses, uses, row, &moment);
-        }
+        let store = &mut self.stores[0];
+        self.all[0].take_end(&mut self.left, store, enabled, list, &moment);
     }
 
     /// Forgets what was given to an aggregation, on every processor. It takes no memory.

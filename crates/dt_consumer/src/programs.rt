@@ -1,8 +1,9 @@
 //! What a consumer's accepted programs come to.
-ghost use Rattle.std.specs.Prelude.{◌≡◌, ◌≢◌, ◌↔◌, ℕ, ◌+◌, ◌≤◌, ◌<◌, ◌++◌, List, [], length, ◌==◌, filter, find, map, sum, All, IfOk, IfSome, MatchOption, vec_len, vec_capacity};
+ghost use Rattle.std.specs.Prelude.{◌≡◌, ◌≢◌, ◌↔◌, ℕ, ◌+◌, ◌≤◌, ◌<◌, ◌++◌, List, [], length, ◌==◌, filter, find, map, sum, All, IsTrue, IfOk, IfSome, MatchOption, vec_len, vec_capacity};
 ghost use Rattle.std.specs.Option.{option_copied};
-ghost use Rattle.dt_machine.specs.Interest.{Names};
+ghost use Rattle.dt_machine.specs.Interest.{has_probe};
 ghost use Rattle.dt_ecb.specs.Forms.{shapes_of};
+ghost use Rattle.dt_consumer.specs.Placing.{IsPlaced};
 ghost use Rattle.dt_ecb.specs.declared.limits.TheConstants.{ECBS_MAX};
 
 use dt_ecb::{ECBS_MAX, Ecb, Shapes};
@@ -21,6 +22,7 @@ pub(crate) struct Programs {
     ghost room_for_ecbs: { ECBS_MAX ≤ vec_capacity ecbs },
     ghost few_clauses: { vec_len clauses ≤ vec_len ecbs },
     ghost few_ecbs: { vec_len ecbs ≤ ECBS_MAX },
+    ghost placed: { All (IsPlaced (vec_len clauses)) ecbs.items },
 }
 
 impl Programs {
@@ -49,6 +51,7 @@ impl Programs {
     pub(crate) fn ecbs(&self) -> &[Ecb]
         ensures value { result.now ≡ self.now.ecbs.items }
         ensures few { length result.now ≤ ECBS_MAX }
+        ensures placed { All (IsPlaced (vec_len self.now.clauses)) result.now }
     {
         &self.ecbs
     }
@@ -62,7 +65,7 @@ impl Programs {
 
     /// The probes that the ECBs name.
     pub(crate) fn interest(&self) -> Interest
-        ensures { (id : ℕ) → (Names result id ↔ (filter (λ ecb. ecb.probe == id) self.now.ecbs.items ≢ [])) }
+        ensures { (id : ℕ) → (IsTrue (has_probe result id) ↔ (filter (λ ecb. ecb.probe == id) self.now.ecbs.items ≢ [])) }
     {
         let mut interest = Interest::new();
         for ecb in &self.ecbs {
@@ -71,21 +74,18 @@ impl Programs {
         interest
     }
 
-    /// Adds clauses, of which each has an ECB at least, and their ECBs, if there is room, and replaces the
+    /// Adds clauses, of which each has an ECB at least, and their ECBs, for which there is room, and replaces the
     /// aggregations. It takes no memory.
     pub(crate) fn extend(&mut self, mut clauses: Vec<Clause>, mut ecbs: Vec<Ecb>, shapes: Shapes)
-        ensures clauses { vec_len clauses ≤ vec_len ecbs → vec_len self.old.ecbs + vec_len ecbs ≤ ECBS_MAX
-            → self.new.clauses.items ≡ self.old.clauses.items ++ clauses.items }
-        ensures ecbs { vec_len clauses ≤ vec_len ecbs → vec_len self.old.ecbs + vec_len ecbs ≤ ECBS_MAX
-            → self.new.ecbs.items ≡ self.old.ecbs.items ++ ecbs.items }
-        ensures shapes { vec_len clauses ≤ vec_len ecbs → vec_len self.old.ecbs + vec_len ecbs ≤ ECBS_MAX
-            → self.new.shapes ≡ shapes }
+        requires each { vec_len clauses ≤ vec_len ecbs }
+        requires room { vec_len self.old.ecbs + vec_len ecbs ≤ ECBS_MAX }
+        requires placed { All (IsPlaced (vec_len self.old.clauses + vec_len clauses)) ecbs.items }
+        ensures clauses { self.new.clauses.items ≡ self.old.clauses.items ++ clauses.items }
+        ensures ecbs { self.new.ecbs.items ≡ self.old.ecbs.items ++ ecbs.items }
+        ensures shapes { self.new.shapes ≡ shapes }
     {
-        let fits = clauses.len() <= ecbs.len() && ecbs.len() <= ECBS_MAX - self.ecbs.len();
-        if fits {
-            self.clauses.append(&mut clauses).unwrap();
-            self.ecbs.append(&mut ecbs).unwrap();
-            self.shapes = shapes;
-        }
+        self.clauses.append(&mut clauses).unwrap();
+        self.ecbs.append(&mut ecbs).unwrap();
+        self.shapes = shapes;
     }
 }

@@ -3,13 +3,15 @@ ghost use Rattle.std.specs.Prelude.{◌≡◌, ◌≤◌, ◌<◌, ◌+◌, ◌*
 ghost use Rattle.std.specs.Option.{option_map, option_or};
 ghost use Rattle.dt_ecb.specs.declared.limits.TheConstants.{ECBS_MAX};
 ghost use Rattle.dt_consumer.specs.Counts.{AtMost, GIVES_MAX, own_firings, must_be_left};
+ghost use Rattle.dt_consumer.specs.Placing.{ArePlaced};
 ghost use Rattle.dt_life.specs.Uses.{GivenAtMost};
 ghost use Rattle.dt_life.specs.declared.limits.TheConstants.{END, HISTORY_MAX};
 
 use crate::course::Course;
+use crate::ecb_lists::EcbList;
+use crate::enabled::Enabled;
 use crate::processors::Processors;
 use crate::programs::Programs;
-use crate::rows::Row;
 use crate::uses::Uses;
 use dt_aggstore::Aggregation;
 use dt_cred::Account;
@@ -23,13 +25,14 @@ use std::alloc::{AllocError, Global};
 /// many firings it saw, of how many at the most, and why tracing ended.
 #[derive(Drop)]
 pub(crate) struct Tracing {
-    pub(crate) rows: Vec<Row>,
+    pub(crate) lists: Vec<EcbList>,
     pub(crate) uses: Vec<Uses>,
     pub(crate) processors: Processors,
     pub(crate) history: u32,
     pub(crate) seen: u32,
     pub(crate) course: Course,
-    ghost own_rows: { END < vec_len rows },
+    ghost own_lists: { END < vec_len lists },
+    ghost placed: { All (ArePlaced (vec_len uses)) lists.items },
     ghost few: { history ≤ HISTORY_MAX },
     ghost in_history: { seen + must_be_left course ≤ history },
     ghost counted: { All (AtMost (ECBS_MAX * (seen + own_firings course))) processors.all.items },
@@ -45,14 +48,15 @@ impl Tracing {
     ghost use Rattle.dt_ecb.specs.Ecbs.{of_probe};
     ghost use Rattle.dt_life.specs.Placed.{AreEcbs};
     ghost use Rattle.dt_consumer.specs.Keeps.{IsTracing, phase_by};
-    ghost use Rattle.dt_life.specs.Forms.{form_of_moment, form_of_options};
+    ghost use Rattle.dt_life.specs.Forms.{form_of_options};
+    ghost use Rattle.dt_machine.specs.Moment.{form_of_moment, moment_of};
     ghost use Rattle.dt_ecb.specs.Forms.{shapes_of};
     ghost use Rattle.dt_aggstore.specs.declared.key.Aggregation.{Aggregation};
     ghost use Rattle.dt_life.specs.Aggregations.{aggregation_of};
     ghost use Rattle.dt_life.specs.Buffers.{reserve_on};
     ghost use Rattle.dt_life.specs.Life.{SetUp, ecbs_in, shapes_in, phase_of, with_event, since_then, happens, is_stopped};
     ghost use Rattle.dt_life.specs.declared.phase.Phase.TheVariants.{Active};
-    ghost use Rattle.dt_life.specs.Takings.{began, seen as sees, read, truncated, ended as ends, closed, first_exit, moment_of, taken_by};
+    ghost use Rattle.dt_life.specs.Takings.{began, seen as sees, snapped, truncated, ended as ends, closed, first_exit, taken_by};
 
     /// Begins to trace: makes all the room that tracing needs, fires BEGIN, and ends where one of its clauses exits. The
     /// reserve is that of the first processor's buffer.
@@ -65,8 +69,9 @@ impl Tracing {
         reserve: usize,
     ) -> Result<Self, AllocError>
         requires { reserve ≤ options.bufsize }
+        ensures uses { IfOk result (λ tracing. vec_len tracing.uses ≡ vec_len programs.now.clauses) }
         // for each set-up with these options, clauses and ECBs: BEGIN fired in it, and END where BEGIN exits
-        ensures { IfOk result (λ tracing. (s : SetUp) → form_of_options options ≡ s.options
+        ensures traces { IfOk result (λ tracing. (s : SetUp) → form_of_options options ≡ s.options
             → map form_of_clause programs.now.clauses.items ≡ s.clauses
             → AreEcbs s.clauses (ecbs_in account.now machine.now.registry s) programs.now.ecbs.items
             → shapes_of programs.now.shapes ≡ shapes_in s
@@ -97,6 +102,7 @@ impl Tracing {
     ) -> Result<(Self, Option<i64>), AllocError>
         requires { reserve ≤ options.bufsize }
         ensures running { IfOk result (λ begun. begun.0.course ≡ Course.Running) }
+        ensures uses { IfOk result (λ begun. vec_len begun.0.uses ≡ vec_len programs.now.clauses) }
         // for each set-up with these options, clauses and ECBs: BEGIN fired in it, and the status it exited with
         ensures fired { IfOk result (λ begun. (s : SetUp) → form_of_options options ≡ s.options
             → map form_of_clause programs.now.clauses.items ≡ s.clauses
@@ -108,7 +114,7 @@ impl Tracing {
             (ecbs_in account.now machine.now.registry s) began) ≡ begun.1)) }
     {
         let probes = machine.probes().len() as u32;
-        let rows = Row::for_each(alloc, programs.ecbs(), probes + 1)?;
+        let lists = EcbList::for_each(alloc, programs.ecbs(), probes + 1)?;
         let uses = Uses::of_each(alloc, &programs.shapes, programs.clauses())?;
         let mut processors = Processors::new(alloc, options, reserve, machine.cpus())?;
         let moment = Moment {
@@ -116,9 +122,13 @@ impl Tracing {
             process: &own_process(account),
             firing: &own_firing(BEGIN),
         };
-        let exit = processors.take(programs.clauses(), &uses, &rows[BEGIN as usize], &moment);
+        let enabled = Enabled {
+            clauses: programs.clauses(),
+            uses: &uses,
+        };
+        let exit = processors.take(&enabled, &lists[BEGIN as usize], &moment);
         let tracing = Tracing {
-            rows,
+            lists,
             uses,
             processors,
             history: options.histsize,
@@ -145,18 +155,22 @@ impl Tracing {
         matches!(self.course, Course::Running)
     }
 
-    /// Whether it goes on, and any ECB names the probe.
-    pub(crate) fn wants(&self, probe: u32) -> bool
-        ensures going { IsTrue result → (self.now.course ≡ Course.Running) × (probe < vec_len self.now.rows) }
+    /// Whether it goes on, any ECB names the probe, and the processor is one of the machine's.
+    pub(crate) fn wants(&self, cpu: u32, probe: u32) -> bool
+        ensures going { IsTrue result → (self.now.course ≡ Course.Running) × (cpu < vec_len self.now.processors.all)
+            × (probe < vec_len self.now.lists) }
         ensures named { (account : Account) (registry : Registry) (s : SetUp) → IsTracing account registry s self.now
             → IsTrue result → of_probe probe (ecbs_in account registry s) ≢ [] }
         ensures unnamed { (account : Account) (registry : Registry) (s : SetUp)
             → IsTracing account registry s self.now → result ≡ false → self.now.course ≡ Course.Running
-            → probe < vec_len self.now.rows → of_probe probe (ecbs_in account registry s) ≡ [] }
+            → cpu < vec_len self.now.processors.all → probe < vec_len self.now.lists
+            → of_probe probe (ecbs_in account registry s) ≡ [] }
     {
-        match self.rows.get(probe as usize) {
-            Some(row) => self.is_running() && !row.ecbs.is_empty(),
-            None => false,
+        match self.lists.get(probe as usize) {
+            Some(list) if !list.ecbs.is_empty() => {
+                self.is_running() && (cpu as usize) < self.processors.all.len()
+            }
+            _ => false,
         }
     }
 
@@ -170,23 +184,28 @@ impl Tracing {
         moment: &Moment,
     )
         requires going { self.old.course ≡ Course.Running }
-        requires known { moment.now.firing.now.probe < vec_len self.old.rows }
+        requires same { vec_len self.old.uses ≡ length clauses.now }
+        requires there { moment.now.firing.now.cpu < vec_len self.old.processors.all }
+        requires known { moment.now.firing.now.probe < vec_len self.old.lists }
+        ensures uses { self.new.uses ≡ self.old.uses }
         // for each set-up that it traces: the firing is seen in it, and END fired where tracing ends by it
-        ensures { (s : SetUp) (firing : Firing) → IsTracing account.now machine.now.registry s self.old
+        ensures seen { (s : SetUp) (firing : Firing) → IsTracing account.now machine.now.registry s self.old
             → map form_of_clause clauses.now ≡ s.clauses
-            → moment.now.firing.now.cpu < machine.now.registry.cpus
             → moment_of machine.now.registry firing ≡ Some (form_of_moment moment.now)
             → IsTracing account.now machine.now.registry
             (happens account.now machine.now.registry s (sees firing)) self.new }
     {
-        let row = &self.rows[moment.firing.probe as usize];
-        let exit = self.processors.take(clauses, &self.uses, row, moment);
+        let enabled = Enabled {
+            clauses,
+            uses: &self.uses,
+        };
+        let list = &self.lists[moment.firing.probe as usize];
+        let exit = self.processors.take(&enabled, list, moment);
         self.seen += 1;
         if let Some(end) = end_after(exit, self.seen, self.history) {
             self.course = Course::Over(Some(end));
-            let row = &self.rows[END as usize];
-            self.processors
-                .fire_end(account, machine, clauses, &self.uses, row);
+            let list = &self.lists[END as usize];
+            self.processors.fire_end(account, machine, &enabled, list);
         }
     }
 
@@ -198,20 +217,27 @@ impl Tracing {
         machine: &Machine,
         clauses: &[Clause],
     )
-        requires { self.old.course ≡ Course.Running }
-        ensures { (s : SetUp) → IsTracing account.now machine.now.registry s self.old
+        requires going { self.old.course ≡ Course.Running }
+        requires same { vec_len self.old.uses ≡ length clauses.now }
+        ensures uses { self.new.uses ≡ self.old.uses }
+        ensures ended { (s : SetUp) → IsTracing account.now machine.now.registry s self.old
             → map form_of_clause clauses.now ≡ s.clauses
             → IsTracing account.now machine.now.registry (with_event s (ends end)) self.new }
     {
         self.course = Course::Over(Some(end));
-        let row = &self.rows[END as usize];
-        self.processors
-            .fire_end(account, machine, clauses, &self.uses, row);
+        let enabled = Enabled {
+            clauses,
+            uses: &self.uses,
+        };
+        let list = &self.lists[END as usize];
+        self.processors.fire_end(account, machine, &enabled, list);
     }
 
     /// Ends tracing by a `stop`, where it goes on.
     pub(crate) fn stop(&mut self, account: &Account, machine: &Machine, clauses: &[Clause])
-        ensures { (s : SetUp) → IsTracing account.now machine.now.registry s self.old
+        requires { vec_len self.old.uses ≡ length clauses.now }
+        ensures uses { self.new.uses ≡ self.old.uses }
+        ensures ended { (s : SetUp) → IsTracing account.now machine.now.registry s self.old
             → map form_of_clause clauses.now ≡ s.clauses → phase_of s ≡ Active
             → IsTracing account.now machine.now.registry (with_event s (ends End.Stop)) self.new }
     {
@@ -222,6 +248,7 @@ impl Tracing {
 
     /// Ends where it goes on, without a cause, as the session is closed. END doesn't fire.
     pub(crate) fn close(&mut self)
+        ensures uses { self.new.uses ≡ self.old.uses }
         ensures running { (account : Account) (registry : Registry) (s : SetUp) → IsTracing account registry s self.old
             → is_stopped (phase_of s) ≡ false → IsTracing account registry (with_event s closed) self.new }
         ensures over { (account : Account) (registry : Registry) (s : SetUp) → IsTracing account registry s self.old
@@ -232,19 +259,21 @@ impl Tracing {
         }
     }
 
-    /// Goes on after the buffer of a processor was read.
-    pub(crate) fn swap(&mut self, cpu: usize)
-        ensures { (account : Account) (registry : Registry) (s : SetUp) → IsTracing account registry s self.old
-            → IsTracing account registry (with_event s (read cpu)) self.new }
+    /// Goes on after a `snap` of the buffer of a processor.
+    pub(crate) fn snap(&mut self, cpu: usize)
+        ensures uses { self.new.uses ≡ self.old.uses }
+        ensures snapped { (account : Account) (registry : Registry) (s : SetUp) → IsTracing account registry s self.old
+            → IsTracing account registry (with_event s (snapped cpu)) self.new }
     {
         if cpu < self.processors.all.len() {
-            self.processors.all[cpu].swap();
+            self.processors.all[cpu].snap();
         }
     }
 
     /// Goes on after an aggregation was truncated on every processor.
     pub(crate) fn trunc(&mut self, aggregation: Aggregation)
-        ensures { (account : Account) (registry : Registry) (s : SetUp) (name : List ℕ)
+        ensures uses { self.new.uses ≡ self.old.uses }
+        ensures truncated { (account : Account) (registry : Registry) (s : SetUp) (name : List ℕ)
             → IsTracing account registry s self.old → aggregation_of (shapes_in s) name ≡ Some aggregation
             → IsTracing account registry (with_event s (truncated name)) self.new }
     {

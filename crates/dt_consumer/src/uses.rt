@@ -32,7 +32,8 @@ impl Uses {
     ghost use Rattle.dt_aggstore.specs.IsAt.{IsAt, added_of};
     ghost use Rattle.dt_aggstore.specs.declared.limits.TheConstants.{ADDED_LIMIT};
     ghost use Rattle.dt_consumer.specs.Uses.{AreUses, form_of_uses};
-    ghost use Rattle.dt_life.specs.Uses.{given_then, split_by, uses_by};
+    ghost use Rattle.dt_life.specs.Uses.{given_then};
+    ghost use Rattle.dt_life.specs.Aggregations.{split_by, uses_by};
 
     /// Those of each of some clauses.
     pub(crate) fn of_each(
@@ -89,7 +90,8 @@ impl Use {
     ghost use Rattle.dt_aggstore.specs.History.{Past};
     ghost use Rattle.dt_aggstore.specs.IsAt.{IsAt, added_of};
     ghost use Rattle.dt_aggstore.specs.declared.limits.TheConstants.{ADDED_LIMIT};
-    ghost use Rattle.dt_life.specs.Uses.{contribution_at, given_then};
+    ghost use Rattle.dt_life.specs.Uses.{given_then};
+    ghost use Rattle.dt_life.specs.Aggregations.{contribution_at};
     ghost use Rattle.dt_consumer.specs.Uses.{form_of_use};
 
     /// Gives what lies from a place on among the values: the keys, and then the number.

@@ -1,5 +1,5 @@
 //! Whether a program is enabled, and the ECBs that it adds.
-ghost use Rattle.std.specs.Prelude.{◌≡◌, ◌+◌, ◌-◌, ◌<◌, ◌≤◌, ◌^◌, ◌||◌, length, map, nat_lt, All, IfOk, IfErr, IfSome};
+ghost use Rattle.std.specs.Prelude.{◌≡◌, ◌+◌, ◌-◌, ◌<◌, ◌≤◌, ◌^◌, ◌||◌, length, map, nat_lt, All, IfOk, IfErr, IfSome, vec_len};
 ghost use Rattle.dt_program.specs.Program.{form_of_program};
 ghost use Rattle.dt_ecb.specs.Ecbs.{added};
 ghost use Rattle.dt_ecb.specs.Enable.{IsVerdict, enabled};
@@ -37,6 +37,9 @@ pub fn enable(
         × (map (form_of_ecb (form_of_program program.now)) ecbs.items
         ≡ added account.now machine.now.registry next_epid (form_of_program program.now))) }
     ensures placed { IfOk result (λ ecbs. All (λ ecb. ecb.clause < length program.now.clauses.items) ecbs.items) }
+    // each clause has one at least, and with those before they are no more than a consumer may have
+    ensures each { IfOk result (λ ecbs. length program.now.clauses.items ≤ vec_len ecbs) }
+    ensures room { IfOk result (λ ecbs. next_epid - 1 + vec_len ecbs ≤ ECBS_MAX) }
     // of a refused one: its first fault
     ensures refused { IfErr result (λ fault. IfSome (verdict_of fault)
         (IsVerdict account.now machine.now.registry (shapes_of shapes.now) next_epid (form_of_program program.now))) }

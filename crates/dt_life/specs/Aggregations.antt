@@ -1,7 +1,8 @@
 -- What the clauses of a consumer give to its aggregations. Guide, Aggregations.
-use Rattle.std.specs.Prelude.{ℕ, ℤ, pos, List, [], Option, Some, None, map, is_some, if◌then◌else◌, option_and_then}
+use Rattle.std.specs.Prelude.{ℕ, ◌+◌, ℤ, pos, List, [], ◌∷◌, ◌++◌, Option, Some, map, length, take, drop}
+use Rattle.std.specs.Prelude.{option_and_then, slice_index_or}
 use Rattle.std.specs.List.{flat_map}
-use Rattle.std.specs.Option.{option_map, option_to_list}
+use Rattle.std.specs.Option.{option_map, option_map_or, option_to_list}
 use Rattle.dt_aggfn.specs.BoundsOf.{bounds_of}
 use Rattle.dt_aggfn.specs.declared.function.AggFn.{AggFn}
 use Rattle.dt_aggfn.specs.declared.function.AggFn.TheVariants.{Count, Sum, Avg, Min, Max, Quantize, Lquantize}
@@ -10,11 +11,9 @@ use Rattle.dt_aggstore.specs.declared.key.Aggregation.{Aggregation}
 use Rattle.dt_aggstore.specs.declared.key.KeyPart.{KeyPart}
 use Rattle.dt_aggstore.specs.declared.key.KeyPart.TheVariants as part
 use Rattle.dt_ecb.specs.Shapes.{FunctionForm, count, sum, avg, min, max, quantize, lquantize, ShapeForm, named}
-use Rattle.dt_expr.specs.Scene.{SceneForm}
 use Rattle.dt_expr.specs.declared.text.Value.{Value}
 use Rattle.dt_expr.specs.declared.text.Value.TheVariants as val
 use Rattle.dt_lang.specs.Program.{StatementForm, aggregate}
-use Rattle.dt_record.specs.Taking.{argument_value, each, given}
 use Rattle.dt_life.specs.Takings.{Taking, left_by}
 
 -- by which function an aggregation is kept; bounds that are none have no function
@@ -37,6 +36,27 @@ abbrev pub number_given : Value → ℤ
 number_given (val.Number z) = z
 number_given (val.Text bytes) = pos 0
 
+-- a use of an aggregation: which one, and with how many keys
+abbrev pub UseForm : Type 0
+UseForm = Option Aggregation × ℕ
+
+-- so many keys, and a number at a place, among the values that a clause left
+abbrev pub key_at : ℕ → List Value → List KeyPart
+key_at many values = map part_of (take many values)
+
+abbrev pub number_at : List Value → ℕ → ℤ
+number_at values place = number_given (slice_index_or values place (val.Number (pos 0)))
+
+-- what a use gives of the values that begin with its own
+abbrev pub contribution_at : UseForm → List Value → List store.Event
+contribution_at one values =
+    option_to_list (option_map (λ a. store.given a (key_at one.1 values) (number_at values one.1)) one.0)
+
+-- what uses give of the values that a clause left: each takes its own, and leaves the rest to those after it
+abbrev pub split_by : List UseForm → List Value → List store.Event
+split_by [] values = []
+split_by (one ∷ uses) values = contribution_at one values ++ split_by uses (drop (one.1 + 1) values)
+
 module _ (shapes : List ShapeForm) where
   -- The aggregation of a name. Its number is the place of the name's first use.
   abbrev pub aggregation_of : List ℕ → Option Aggregation
@@ -44,19 +64,18 @@ module _ (shapes : List ShapeForm) where
       (λ (one : ℕ × ShapeForm). option_map (λ f. record { number = one.0; function = f }) (function_kept_by one.1.function))
       (named shapes name)
 
-  -- what a statement gives to an aggregation in a scene, if it gives something: a key and a number
-  abbrev pub given_by : SceneForm → StatementForm → Option store.Event
-  given_by scene (aggregate name keys call) = option_and_then
-      (λ aggregation. option_and_then
-      (λ parts. option_map (λ v. store.given aggregation (map part_of parts) (number_given v)) (given scene call))
-      (each (argument_value scene) keys))
-      (aggregation_of name)
-  given_by scene _ = None
+  -- the uses of aggregations by statements, in order: of which one, and with how many keys
+  abbrev pub use_by : StatementForm → List UseForm
+  use_by (aggregate name keys call) = (aggregation_of name, length keys) ∷ []
+  use_by _ = []
 
-  -- The contributions of an ECB that is taken: those of its clause's statements, in order, where it left something.
+  abbrev pub uses_by : List StatementForm → List UseForm
+  uses_by statements = flat_map use_by statements
+
+  -- The contributions of an ECB that is taken: of the values that its clause left, each use takes its keys and a number.
   abbrev pub contributions_of : Taking → List store.Event
   contributions_of t =
-      if is_some (left_by t) then flat_map (λ s. option_to_list (given_by t.scene s)) t.ecb.clause.statements else []
+      option_map_or (λ form. split_by (uses_by t.ecb.clause.statements) form.values) (left_by t) []
 
   -- the same for takings, in order
   abbrev pub contributions : List Taking → List store.Event

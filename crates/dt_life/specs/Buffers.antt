@@ -9,7 +9,7 @@ use Rattle.dt_ecb.specs.Ecbs.{EcbForm}
 use Rattle.dt_machine.specs.Registry.{Registry}
 use Rattle.dt_life.specs.Life.{Item, SetUp, ecbs_in, end_size, set_up}
 use Rattle.dt_life.specs.Options.{is_fill}
-use Rattle.dt_life.specs.Takings.{TracingEvent, read, Taking, record_of, faults, taken_on, taken_since}
+use Rattle.dt_life.specs.Takings.{TracingEvent, snapped, Taking, record_of, faults, taken_on, taken_since}
 
 -- the attempts among takings
 abbrev pub attempts_of : List Taking → List buffer.BufferEvent
@@ -20,7 +20,7 @@ module _ (account : Account) (registry : Registry) where
   module _ (ecbs : List EcbForm) (cpu : ℕ) where
     -- what comes to a processor's buffer by an event: attempts, or a swap where the buffer is read
     abbrev pub comes_by : TracingEvent → List buffer.BufferEvent
-    comes_by (read n) = if n == cpu then swap ∷ [] else []
+    comes_by (snapped n) = if n == cpu then swap ∷ [] else []
     comes_by event = attempts_of (taken_on account registry ecbs cpu event)
 
     -- the same for events, the newest event first, the oldest attempt first

@@ -6,7 +6,8 @@ use Rattle.dt_lang.specs.Program.{ClauseForm}
 use Rattle.dt_ecb.specs.Forms.{form_of_ecb}
 use Rattle.dt_ecb.specs.declared.parts.Ecb.{Ecb}
 use Rattle.dt_life.specs.Buffers.{attempts_of}
-use Rattle.dt_life.specs.Takings.{Taking, MomentForm, faults, taking_of}
+use Rattle.dt_life.specs.Takings.{Taking, faults, taking_of}
+use Rattle.dt_machine.specs.Moment.{MomentForm}
 
 -- what is taken at a moment by an ECB that is kept so
 abbrev pub taking_by : Bool → MomentForm → List ClauseForm → Ecb → Taking

@@ -14,7 +14,7 @@ use Rattle.dt_ecb.specs.Shapes.{ShapeForm, uses_of}
 use Rattle.dt_life.specs.Aggregations.{aggregation_of}
 use Rattle.dt_life.specs.Ask.{Ask, option, enable, go, stop, snap, trunc, close}
 use Rattle.dt_life.specs.Options.{OptionsForm, default_options, with_setting, is_fill, is_ring}
-use Rattle.dt_life.specs.Takings.{TracingEvent, began, seen, read, truncated, ended, closed, first_exit, taken_by}
+use Rattle.dt_life.specs.Takings.{TracingEvent, began, seen, snapped, truncated, ended, closed, first_exit, taken_by}
 use Rattle.dt_life.specs.Limits.{lines_max, end_id}
 use Rattle.dt_life.specs.declared.phase.End.{End}
 use Rattle.dt_life.specs.declared.phase.End.TheVariants.{Stop, Exit, History}
@@ -86,7 +86,7 @@ abbrev pub phase_after : List TracingEvent → Phase
 phase_after [] = Inactive
 phase_after (began ∷ events) = Active
 phase_after (seen firing ∷ events) = Active
-phase_after (read cpu ∷ events) = phase_after events
+phase_after (snapped cpu ∷ events) = phase_after events
 phase_after (truncated name ∷ events) = phase_after events
 phase_after (ended end ∷ events) = Stopped (Some end)
 phase_after (closed ∷ events) = Stopped None
@@ -99,7 +99,7 @@ abbrev pub seen_count : List TracingEvent → ℕ
 seen_count [] = 0
 seen_count (seen firing ∷ events) = seen_count events + 1
 seen_count (began ∷ events) = seen_count events
-seen_count (read cpu ∷ events) = seen_count events
+seen_count (snapped cpu ∷ events) = seen_count events
 seen_count (truncated name ∷ events) = seen_count events
 seen_count (ended end ∷ events) = seen_count events
 seen_count (closed ∷ events) = seen_count events
@@ -151,7 +151,7 @@ module _ (account : Account) (registry : Registry) where
       if is_inactive (phase_of s) && has_room s then happens (since_then s []) began else s
   after_item s (asked (Ok stop)) = if is_active (phase_of s) then with_event s (ended Stop) else s
   after_item s (asked (Ok (snap cpu))) =
-      if nat_lt cpu registry.cpus && is_readable s (phase_of s) then with_event s (read cpu) else s
+      if nat_lt cpu registry.cpus && is_readable s (phase_of s) then with_event s (snapped cpu) else s
   after_item s (asked (Ok (trunc name))) =
       if is_inactive (phase_of s) || is_none (aggregation_of (shapes_in s) name) then s else
       with_event s (truncated name)

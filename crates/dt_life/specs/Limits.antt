@@ -23,7 +23,7 @@ history_default = 4096
 
 -- the most firings that `histsize` may ask for
 abbrev pub history_max : ℕ
-history_max = 65536
+history_max = 1048576
 
 -- the identifier of the probe that fires as tracing begins
 abbrev pub begin_id : ℕ

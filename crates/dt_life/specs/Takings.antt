@@ -1,18 +1,18 @@
 -- What a consumer takes: its ECBs, one after another, where a probe fires. Guide, Program Structure; Actions and
 -- Subroutines (exit).
 use Rattle.std.specs.Prelude.{ℕ, ℤ, pos, ◌==◌, Bool, true, false, List, [], ◌∷◌, ◌++◌, Option, Some, None, length, map}
-use Rattle.std.specs.Prelude.{filter, replicate, is_none, is_some, option_and_then, if◌then◌else◌}
-use Rattle.std.specs.Option.{option_map, option_map_or, option_or}
+use Rattle.std.specs.Prelude.{filter, replicate, is_some, option_and_then, if◌then◌else◌}
+use Rattle.std.specs.Option.{option_map_or, option_or}
 use Rattle.dt_cred.specs.declared.account.Account.{Account}
 use Rattle.dt_cred.specs.declared.account.Process.{Process}
-use Rattle.dt_cred.specs.declared.probe.Probe.{Probe}
 use Rattle.dt_cred.specs.declared.rights.Mode.TheVariants.{User}
-use Rattle.dt_machine.specs.Registry.{Registry, probe_of, process_of}
+use Rattle.dt_machine.specs.Registry.{Registry}
 use Rattle.dt_cred.specs.declared.firing.Firing.{Firing}
 use Rattle.dt_cred.specs.Limits.{argument_count, frame_count}
 use Rattle.dt_expr.specs.Scene.{SceneForm}
 use Rattle.dt_ecb.specs.Ecbs.{EcbForm, of_probe}
-use Rattle.dt_record.specs.Taking.{TakenForm, taking}
+use Rattle.dt_machine.specs.Moment.{MomentForm, moment_in, moment_of}
+use Rattle.dt_record.specs.Taking.{Outcome, TakenForm, is_abandoned, left_in, taking}
 use Rattle.dt_life.specs.Limits.{begin_id, end_id}
 use Rattle.dt_life.specs.declared.phase.End.{End}
 
@@ -21,7 +21,7 @@ use Rattle.dt_life.specs.declared.phase.End.{End}
 pub data TracingEvent : Type 0 where
   began : TracingEvent
   seen : Firing → TracingEvent
-  read : (cpu : ℕ) → TracingEvent
+  snapped : (cpu : ℕ) → TracingEvent
   truncated : (name : List ℕ) → TracingEvent
   ended : End → TracingEvent
   closed : TracingEvent
@@ -30,18 +30,11 @@ abbrev pub is_end : TracingEvent → Bool
 is_end (ended end) = true
 is_end _ = false
 
--- a probe that fires in a process
-pub record MomentForm : Type 0 where
-  pub probe : Probe
-  pub process : Process
-  pub firing : Firing
-
--- An ECB that is taken: where, and what came of it. That is none where a division by zero is evaluated, or that the
--- clause was passed over, its predicate being 0, or else what it leaves.
+-- An ECB that is taken: in which scene, what comes of its clause there, and whether END fired it.
 pub record Taking : Type 0 where
   pub scene : SceneForm
   pub ecb : EcbForm
-  pub came : Option (Option TakenForm)
+  pub outcome : Outcome
   pub in_end : Bool
 
 abbrev pub scene_at : MomentForm → ℕ → SceneForm
@@ -52,13 +45,13 @@ abbrev pub taking_of : Bool → MomentForm → EcbForm → Taking
 taking_of in_end moment ecb = record {
   scene = scene_at moment ecb.epid;
   ecb = ecb;
-  came = taking ecb.epid (scene_at moment ecb.epid) ecb.clause;
+  outcome = taking ecb.epid (scene_at moment ecb.epid) ecb.clause;
   in_end = in_end;
 }
 
 -- what a taking left, where it left something
 abbrev pub left_by : Taking → Option TakenForm
-left_by t = option_and_then (λ left. left) t.came
+left_by t = left_in t.outcome
 
 -- the bytes of the record that it attempts to put into its processor's buffer, where it attempts one
 abbrev pub record_of : Taking → Option (List ℕ)
@@ -80,7 +73,7 @@ through_exit (t ∷ later) = t ∷ (if is_some (exit_of t) then [] else through_
 
 -- how many takings a division by zero ended
 abbrev pub faults : List Taking → ℕ
-faults takings = length (filter (λ t. is_none t.came) takings)
+faults takings = length (filter (λ t. is_abandoned t.outcome) takings)
 
 -- The ECBs of the probe that fires, in order of EPID. After an exit the later ones aren't taken; in END an exit is
 -- passed over.
@@ -88,15 +81,6 @@ abbrev pub taken_at : Bool → List EcbForm → MomentForm → List Taking
 taken_at in_end ecbs moment =
     let all = map (taking_of in_end moment) (of_probe moment.firing.probe ecbs) in
     if in_end then all else through_exit all
-
--- a firing, with the probe and the process of the machine that it names
-abbrev pub moment_in : Registry → Option Process → Firing → Option MomentForm
-moment_in registry process firing = option_and_then
-    (λ probe. option_map (λ process. record { probe = probe; process = process; firing = firing }) process)
-    (probe_of registry firing.probe)
-
-abbrev pub moment_of : Registry → Firing → Option MomentForm
-moment_of registry firing = moment_in registry (process_of registry firing.pid) firing
 
 -- BEGIN and END fire on processor 0, in a process of the consumer's own: of number 0, with the account's uid and no
 -- name.
@@ -125,7 +109,7 @@ module _ (account : Account) (registry : Registry) where
   abbrev pub moment_at : TracingEvent → Option MomentForm
   moment_at began = own_moment account registry begin_id
   moment_at (seen firing) = moment_of registry firing
-  moment_at (read cpu) = None
+  moment_at (snapped cpu) = None
   moment_at (truncated name) = None
   moment_at (ended end) = own_moment account registry end_id
   moment_at closed = None

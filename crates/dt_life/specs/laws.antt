@@ -7,7 +7,6 @@ pub mod Buffers
 pub mod Moments
 pub mod Sizes
 pub mod Placed
-pub mod Enabled
 pub mod Lines
 pub mod Happening
 pub mod Tracings

@@ -17,7 +17,7 @@ pub const AGGSIZE_MIN: usize = 8;
 pub const HISTORY: u32 = 4_096;
 
 /// The most firings that `histsize` may ask for.
-pub const HISTORY_MAX: u32 = 65_536;
+pub const HISTORY_MAX: u32 = 1_048_576;
 
 /// The identifier of the probe that fires as tracing begins.
 pub const BEGIN: u32 = 1;

@@ -2,7 +2,7 @@
 ghost use Rattle.std.specs.Prelude.{◌≡◌, ◌≤◌, drop, length, take};
 ghost use Rattle.dt_aggstore.specs.declared.limits.TheConstants.{KEYS_MAX};
 ghost use Rattle.dt_life.specs.Aggregations as spec;
-ghost use Rattle.dt_life.specs.Uses.{key_at, number_at};
+ghost use Rattle.dt_life.specs.Aggregations.{key_at, number_at};
 
 use arrayvec::ArrayVec;
 use dt_aggstore::{KEYS_MAX, KeyPart};

@@ -1,19 +1,18 @@
 -- The processes read so far, and the map that finds them.
-use Rattle.std.proofs.Common.{◌≡◌, ◌≢◌, ◌^◌, ◌≤◌, zero, suc, length, length-append, slice_get, subst, nat_eq, IfSome}
+use Rattle.std.proofs.Common.{◌≡◌, ◌≢◌, ◌^◌, ◌≤◌, zero, suc, length, length-append, slice_get, subst, IfSome}
 use Rattle.std.proofs.Common.{◌==◌, ◌||◌, ℕ, ◌<◌, [], ◌∷◌, ◌++◌, List, Bool, true, false, cond, Option, Some, None}
-use Rattle.std.proofs.Common.{Bor, IsSome, IsSomeAnd, ◌⊎◌, inl, inr, All, map, refl, sym, ap, ◌∙◌, arith}
+use Rattle.std.proofs.Common.{IsSome, IsSomeAnd, ◌⊎◌, inl, inr, All, map, refl, sym, ap, ◌∙◌, arith}
 use Rattle.std.specs.Prelude.{is_some, find, option_and_then}
-use Rattle.std.specs.HashMap.{HashMap, get}
-use Rattle.std.specs.declared.hash.FoldHasher.{FoldHasher}
-use Rattle.std.specs.declared.hash.BuildHasherDefault.{BuildHasherDefault}
+use Rattle.dt_machine.specs.ByPid.{place_in}
 use Rattle.dt_machine.specs.Sections.{Indexes}
+use Rattle.dt_machine.specs.declared.by_pid.ByPid.{ByPid}
 use Rattle.dt_machine.proofs.Registries.{there_some}
 use Rattle.std.proofs.lemmas.Bool.Decides.{Decides-eqb, nat_tests}
 use Rattle.std.proofs.lemmas.Bool.{false≢true}
 use Rattle.std.proofs.lemmas.List.Elements.{All-head, All-tail}
 use Rattle.std.proofs.lemmas.List.Folds.{find-append}
 use Rattle.std.specs.List.{list_any}
-use Rattle.std.specs.Option.{option_or, option_copied}
+use Rattle.std.specs.Option.{option_or}
 use Rattle.dt_cred.specs.declared.account.Process.{Process}
 use Rattle.dt_machine.specs.Rows.{ProcessRow, process, number_in, IsGivenBelow}
 use Rattle.dt_machine.specs.laws.Soundness.{at_pid}
@@ -27,12 +26,6 @@ some_step false y o any h = h
 pub is_some-find : {A : Type 0} (test : A → Bool) (xs : List A) → is_some (find test xs) ≡ list_any test xs
 is_some-find test [] = refl
 is_some-find test (x ∷ xs) = some_step (test x) x (find test xs) (list_any test xs) (is_some-find test xs)
-
--- what a look-up through a reference tells
-pub looked_up : {A : Type 0} (r : Option (Bor A)) (o : Option A) (b : Bool) → option_copied r ≡ o → is_some r ≡ b
-    → is_some o ≡ b
-looked_up None o b e h = ap is_some (sym e) ∙ h
-looked_up (Some x) o b e h = ap is_some (sym e) ∙ h
 
 pub none_of : {A : Type 0} (o : Option A) → is_some o ≡ false → o ≡ None
 none_of None h = refl
@@ -72,9 +65,9 @@ or_none None = refl
 or_none (Some x) = refl
 
 -- a place is in the map where a process is in the list
-pub indexed : (by_pid : HashMap ℕ ℕ (BuildHasherDefault FoldHasher)) (processes : List Process)
-    → Indexes by_pid processes → (pid : ℕ) → is_some (get nat_eq by_pid pid) ≡ is_some (find (at_pid pid) processes)
-indexed by_pid processes indexes pid = there (get nat_eq by_pid pid) (indexes.within pid)
+pub indexed : (by_pid : ByPid) (processes : List Process)
+    → Indexes by_pid processes → (pid : ℕ) → is_some (place_in by_pid pid) ≡ is_some (find (at_pid pid) processes)
+indexed by_pid processes indexes pid = there (place_in by_pid pid) (indexes.within pid)
     ∙ ap is_some (indexes.finds pid)
   where
     there : (o : Option ℕ) → IfSome o (λ place. place < length processes)
@@ -104,9 +97,9 @@ more_within processes p None low = tt
 more_within processes p (Some place) low = let longer = length-append processes (p ∷ []) in omega arith
 
 -- a process more, of a number that was not there
-pub indexes_more : (new_at old_at : HashMap ℕ ℕ (BuildHasherDefault FoldHasher)) (processes : List Process)
+pub indexes_more : (new_at old_at : ByPid) (processes : List Process)
     (p : Process) (last : ℕ) → last ≡ length processes → Indexes old_at processes
-    → ((q : ℕ) → get nat_eq new_at q ≡ cond (p.pid == q) (Some last) (get nat_eq old_at q))
+    → ((q : ℕ) → place_in new_at q ≡ cond (p.pid == q) (Some last) (place_in old_at q))
     → find (at_pid p.pid) processes ≡ None → Indexes new_at (processes ++ p ∷ [])
 indexes_more new_at old_at processes p last at_end old new fresh = record {
   finds = λ q. ap (option_and_then (slice_get (processes ++ p ∷ []))) (new q)
@@ -116,17 +109,17 @@ indexes_more new_at old_at processes p last at_end old new fresh = record {
 }
   where
     found : (q : ℕ) (b : Bool) → (b ≡ true → p.pid ≡ q) × (p.pid ≡ q → b ≡ true)
-        → option_and_then (slice_get (processes ++ p ∷ [])) (cond b (Some last) (get nat_eq old_at q))
+        → option_and_then (slice_get (processes ++ p ∷ [])) (cond b (Some last) (place_in old_at q))
         ≡ option_or (find (at_pid q) processes) (cond b (Some p) None)
     found q true d = ap (slice_get (processes ++ p ∷ [])) at_end ∙ last_place processes p
         ∙ ap (λ o. option_or o (Some p)) (sym (ap (λ n. find (at_pid n) processes) (sym (d.0 refl)) ∙ fresh))
-    found q false d = early_places processes p (get nat_eq old_at q) (old.within q) ∙ old.finds q
+    found q false d = early_places processes p (place_in old_at q) (old.within q) ∙ old.finds q
         ∙ sym (or_none (find (at_pid q) processes))
 
-    low : (q : ℕ) (b : Bool) → IfSome (cond b (Some last) (get nat_eq old_at q))
+    low : (q : ℕ) (b : Bool) → IfSome (cond b (Some last) (place_in old_at q))
         (λ place. place < length (processes ++ p ∷ []))
     low q true = let longer = length-append processes (p ∷ []) in omega arith
-    low q false = more_within processes p (get nat_eq old_at q) (old.within q)
+    low q false = more_within processes p (place_in old_at q) (old.within q)
 
 or_none_false : (a b : Bool) → a ≡ false → b ≡ false → (a || b) ≡ false
 or_none_false true b h g = cc

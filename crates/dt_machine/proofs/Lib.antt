@@ -1,5 +1,6 @@
 -- The lemmas of this crate.
 pub mod Answering
+pub mod Bits
 pub mod ByPid
 pub mod Exits
 pub mod Faults

@@ -1,9 +1,6 @@
 -- What the reading of one section of the file answers.
-use Rattle.std.specs.Prelude.{◌≡◌, ◌&&◌, Bool, ◌≢◌, ◌^◌, All, length, ◌<◌, ◌≤◌, ℕ, List, map, find, Vec, IsSome, ◌==◌, nat_eq, IfSome, slice_get, option_and_then}
+use Rattle.std.specs.Prelude.{◌≡◌, ◌&&◌, Bool, ◌≢◌, ◌^◌, All, length, ◌<◌, ◌≤◌, ℕ, List, map, find, Vec, IsSome, ◌==◌, IfSome, slice_get, option_and_then}
 use Rattle.std.specs.declared.alloc.Global.{Global}
-use Rattle.std.specs.HashMap.{HashMap, get}
-use Rattle.std.specs.declared.hash.FoldHasher.{FoldHasher}
-use Rattle.std.specs.declared.hash.BuildHasherDefault.{BuildHasherDefault}
 use Rattle.serde_json.specs.View.{view}
 use Rattle.serde_json.specs.declared.value.Value.{Value}
 use Rattle.dt_cred.specs.declared.account.Process.{Process}
@@ -20,6 +17,8 @@ use Rattle.dt_machine.specs.Registry.{Registry, Contents}
 use Rattle.dt_cred.specs.declared.firing.Firing.{Firing}
 use Rattle.dt_cred.specs.declared.class.Class.{Class}
 use Rattle.dt_cred.specs.declared.class.Class.TheVariants.{Dtrace, Syscall, Profile, Pid, Other}
+use Rattle.dt_machine.specs.ByPid.{place_in}
+use Rattle.dt_machine.specs.declared.by_pid.ByPid.{ByPid}
 use Rattle.dt_machine.specs.declared.sections.Sections.{Sections}
 use Rattle.dt_machine.specs.Limits.{probe_id_max}
 
@@ -53,11 +52,11 @@ scripts_rows values = map script_rows (map view values)
 abbrev pub texts : List Value → List (List ℕ)
 texts values = map text_of (map view values)
 
--- The map gives the place of the process of each number, and no place where there is no such process.
-pub record Indexes (by_pid : HashMap ℕ ℕ (BuildHasherDefault FoldHasher)) (processes : List Process) : Type 0 where
-  pub finds : (pid : ℕ) → option_and_then (slice_get processes) (get nat_eq by_pid pid)
+-- The table gives the place of the process of each number, and no place where there is no such process.
+pub record Indexes (by_pid : ByPid) (processes : List Process) : Type 0 where
+  pub finds : (pid : ℕ) → option_and_then (slice_get processes) (place_in by_pid pid)
       ≡ find (λ process. process.pid == pid) processes
-  pub within : (pid : ℕ) → IfSome (get nat_eq by_pid pid) (λ place. place < length processes)
+  pub within : (pid : ℕ) → IfSome (place_in by_pid pid) (λ place. place < length processes)
 
 -- whether two tuples are equal, name by name
 abbrev pub eq_tuples : ProbeTuple → ProbeTuple → Bool

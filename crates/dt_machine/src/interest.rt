@@ -1,60 +1,63 @@
 //! Sets of probes.
-ghost use Rattle.std.specs.Prelude.{◌≡◌, ◌≢◌, ℕ, ◌≤◌, ◌↔◌, IsTrue};
-ghost use Rattle.dt_machine.specs.Interest.{Names};
+ghost use Rattle.std.specs.Prelude.{◌≡◌, ◌==◌, ℕ, ◌<◌, ◌≤◌, true, false, if◌then◌else◌};
+ghost use Rattle.dt_machine.specs.BitWord.{has_in};
+ghost use Rattle.dt_machine.specs.declared.interest.TheConstants.{INTEREST_WORDS};
+ghost use Rattle.dt_machine.specs.declared.limits.TheConstants.{PROBE_ID_MAX};
 
+use crate::bit_word::{BitWord, WORD_BITS};
 use crate::limits::PROBE_ID_MAX;
-use std::marker::Model;
 
-/// A flag for each identifier from 0 on.
-const FLAGS: usize = 4099;
+/// How many words a set of probes has: a bit for each identifier from 0 on.
+pub const INTEREST_WORDS: usize = 65;
 
-const _: () = prove!(FLAGS == PROBE_ID_MAX as usize + 1);
+const _: () = prove!(PROBE_ID_MAX < INTEREST_WORDS as u32 * WORD_BITS);
 
-/// A set of probes, by their identifiers. It lies in the value itself.
+/// A set of probes, by their identifiers. It lies in the value itself, in 520 bytes.
 ///
-/// Contracts see it as a list of flags, and ask it by `Names interest id`.
-#[derive(Clone, Copy, PartialEq, Eq)]
+/// Contracts ask it by `has_probe interest id`, or see it as a flag for each identifier (`flags_of`).
+#[derive(Clone, Copy)]
 pub struct Interest {
-    flags: [bool; FLAGS],
-}
-
-impl Model for Interest {
-    ghost use Rattle.std.specs.Prelude.{◌≡◌, Bool, List, length};
-    ghost use Rattle.dt_machine.specs.declared.interest.TheConstants.{FLAGS};
-
-    ghost Value = { List Bool };
-
-    ghost view = { λ interest. interest.flags };
-
-    ghost invariant = { λ interest. length interest.flags ≡ FLAGS };
-
-    ghost inverse = { λ flags. record { flags = flags } };
+    pub(crate) words: [BitWord; INTEREST_WORDS],
+    ghost bounded: { (id : ℕ) → PROBE_ID_MAX < id → has_in words id ≡ false },
 }
 
 impl Interest {
+    ghost use Rattle.dt_machine.specs.Interest.{has_probe, word_of};
+
     /// The empty set.
     pub fn new() -> Self
-        ensures { (id : ℕ) → Names result id → ⊥ }
+        ensures { (id : ℕ) → has_probe result id ≡ false }
     {
         Interest {
-            flags: [false; FLAGS],
+            words: [BitWord::new(); INTEREST_WORDS],
         }
     }
 
     /// Takes one probe in, which may be in already.
     pub fn insert(&mut self, id: u32)
         requires { id ≤ PROBE_ID_MAX }
-        ensures taken_in { Names self.new id }
-        ensures others { (other : ℕ) → other ≢ id → (Names self.new other ↔ Names self.old other) }
+        ensures { (other : ℕ) → has_probe self.new other ≡ (if other == id then true else has_probe self.old other) }
     {
-        self.flags[id as usize] = true;
+        self.words[(id / WORD_BITS) as usize].insert(id % WORD_BITS);
     }
 
     /// Whether a probe is in the set. No probe above [`PROBE_ID_MAX`] is.
     pub fn contains(&self, id: u32) -> bool
-        ensures value { IsTrue result ↔ Names self.now id }
-        ensures bounded { (other : ℕ) → Names self.now other → other ≤ PROBE_ID_MAX }
+        ensures value { result ≡ has_probe self.now id }
+        ensures bounded { (other : ℕ) → PROBE_ID_MAX < other → has_probe self.now other ≡ false }
     {
-        id <= PROBE_ID_MAX && self.flags[id as usize]
+        match self.words.get((id / WORD_BITS) as usize) {
+            Some(word) => word.contains(id % WORD_BITS),
+            None => false,
+        }
+    }
+
+    /// The 64 identifiers from `64 * at` on, as the numbers from 0 on: so a set is gone through word by word.
+    pub fn word(&self, at: usize) -> BitWord
+        requires { at < INTEREST_WORDS }
+        ensures value { result ≡ word_of self.now at }
+        ensures bounded { (id : ℕ) → PROBE_ID_MAX < id → has_probe self.now id ≡ false }
+    {
+        self.words[at]
     }
 }

@@ -4,7 +4,7 @@
 //! [`FaultNumber`] that finds something in it, at the least processor and there the first row; `one_answer` says that
 //! a text has one answer. Only a refusal for memory can come in place of either.
 //!
-//! `Machine`'s readers and [`Interest`] take no memory. Whether a firing belongs to a machine is [`Machine::belonging`],
+//! `Machine`'s readers and [`Interest`] take no memory. Whether a firing belongs to a machine is [`Machine::moment`],
 //! and the reading of the file asks the same code. The limits are the constants of this crate, and contracts and
 //! definitions cite them. `specs/Registry.antt` is how crates above see a machine, and `specs/Reading.antt` what a file
 //! describes, over the rows of `specs/Rows.antt` and the kinds of `specs/Shape.antt`.
@@ -12,6 +12,8 @@
 
 mod accounts;
 mod belonging;
+mod bit_word;
+mod by_pid;
 mod fault;
 mod interest;
 mod keys;
@@ -19,6 +21,7 @@ mod law;
 mod limit_laws;
 mod limits;
 mod machine;
+mod moment;
 mod numbers;
 mod probes;
 mod processes;
@@ -26,9 +29,10 @@ mod scripts;
 mod sections;
 mod shape;
 
+pub use bit_word::{BitWord, WORD_BITS};
 pub use dt_cred::{ARGS, FRAMES, Firing};
 pub use fault::{FaultNumber, MachineFault};
-pub use interest::Interest;
+pub use interest::{INTEREST_WORDS, Interest};
 pub use law::{described_is_in_bounds, described_is_sound, one_answer};
 pub use limit_laws::limits_agree;
 pub use limits::{
@@ -36,3 +40,4 @@ pub use limits::{
     SCRIPT_MAX,
 };
 pub use machine::Machine;
+pub use moment::Moment;

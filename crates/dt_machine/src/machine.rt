@@ -1,5 +1,5 @@
 //! The machine, and the reading of its file.
-ghost use Rattle.std.specs.Prelude.{◌≡◌, ◌≢◌, Some, IfOk, IfErr, MatchOption};
+ghost use Rattle.std.specs.Prelude.{◌≡◌, ◌≢◌, IfOk, IfErr, MatchOption};
 ghost use Rattle.std.specs.Option.{option_copied};
 ghost use Rattle.serde_json.specs.Data.{Data};
 ghost use Rattle.serde_json.specs.View.{view};
@@ -9,6 +9,7 @@ ghost use Rattle.dt_machine.specs.Sections.{NowhereIfMemory};
 use crate::belonging::first_foreign;
 use crate::fault::{FaultNumber, MachineFault};
 use crate::keys::list_at;
+use crate::moment::Moment;
 use crate::scripts::read_scripts;
 use crate::sections::Sections;
 use dt_cred::{Account, Firing, Probe, Process};
@@ -39,7 +40,8 @@ impl Model for Machine {
 }
 
 impl Machine {
-    ghost use Rattle.dt_machine.specs.Registry.{IsSound, Belongs, IsForeign, account_of, process_of, probe_of, firing_at};
+    ghost use Rattle.dt_machine.specs.Moment.{IsMoment};
+    ghost use Rattle.dt_machine.specs.Registry.{IsSound, IsForeign, account_of, process_of, probe_of, firing_at};
     ghost use Rattle.dt_machine.specs.Reading.{IsDescribed, IsFaultOf, IsFirstFinding};
     ghost use Rattle.dt_machine.specs.Sections.{UnlessMemory, IsReady, registry_of, contents_with};
 
@@ -102,7 +104,7 @@ impl Machine {
         self.sections.probes.as_slice()
     }
 
-    /// The process of a number, if there is one. It is looked up by a hash.
+    /// The process of a number, if there is one. It is found in a table.
     pub fn process(&self, pid: u32) -> Option<&Process>
         ensures value { option_copied result ≡ process_of self.now.registry pid }
         ensures sound { IsSound self.now }
@@ -129,17 +131,15 @@ impl Machine {
         self.scripts.get(cpu as usize)?.get(place as usize)
     }
 
-    /// The probe and the process of a firing that belongs to the machine: its processor is there, its probe is one of
-    /// the file's, its process is there, and it is the process that the probe's `pid` provider names, where the probe
-    /// has such a provider. `None` for any other firing.
-    pub fn belonging(&self, firing: &Firing) -> Option<(&Probe, &Process)>
+    /// A firing that belongs to the machine, with the probe and the process that it names: its processor is there, its probe
+    /// is one of the file's, its process is there, and it is the process that the probe's `pid` provider names, where the
+    /// probe has such a provider. `None` for any other firing.
+    pub fn moment<'a>(&'a self, firing: &'a Firing) -> Option<Moment<'a>>
         ensures value { MatchOption result (IsForeign self.now.registry firing.now)
-            (λ found. Belongs self.now.registry firing.now
-            × (probe_of self.now.registry firing.now.probe ≡ Some found.0.now)
-            × (process_of self.now.registry firing.now.pid ≡ Some found.1.now)) }
+            (λ moment. IsMoment self.now.registry moment × (moment.firing.now ≡ firing.now)) }
         ensures sound { IsSound self.now }
     {
-        self.sections.belonging(firing)
+        self.sections.moment(firing)
     }
 }
 

@@ -5,6 +5,7 @@ ghost use Rattle.dt_machine.specs.Rows.{ProcessRow, process_row, process, number
 ghost use Rattle.dt_machine.specs.Reading.{AllRight};
 ghost use Rattle.dt_machine.specs.Sections.{NowhereIfMemory, UnlessMemory, IsMiss, Indexes, process_rows};
 
+use crate::by_pid::ByPid;
 use crate::fault::{FaultNumber, MachineFault};
 use crate::keys::{text_at, u32_of, unsigned_at};
 use crate::limits::{PID_MAX, PROCESSES_MAX};
@@ -12,13 +13,12 @@ use dt_cred::Process;
 use dt_names::ShortText;
 use serde_json::Value;
 use std::alloc::Global;
-use std::collections::HashMap;
 
 /// The processes in the file's order, and the place of each by its number, or the first that is not right.
 pub(crate) fn read_processes(
     alloc: Global,
     rows: &[Value],
-) -> Result<(Vec<Process>, HashMap<u32, usize>), MachineFault>
+) -> Result<(Vec<Process>, ByPid), MachineFault>
     ensures right { IfOk result (λ _. AllRight IsRightProcess (process_rows rows.now)) }
     ensures processes { IfOk result (λ found. found.0.items ≡ map process (process_rows rows.now)) }
     ensures small { IfOk result (λ found. All (λ process. process.pid < 2 ^ 32) found.0.items) }
@@ -28,11 +28,11 @@ pub(crate) fn read_processes(
         UnlessMemory fault (IsMiss FaultNumber.Process IsRightProcess (process_rows rows.now) fault)) }
 {
     let mut processes = Vec::new(alloc);
-    let mut by_pid = HashMap::new(alloc);
+    let mut by_pid = ByPid::new(alloc);
     for value in rows {
         match process_of(processes.len(), &by_pid, value) {
             Some(process) => {
-                drop(by_pid.insert(process.pid, processes.len())?);
+                by_pid.insert(process.pid, processes.len() as u16)?;
                 processes.push(process)?;
             }
             None => {
@@ -49,7 +49,7 @@ pub(crate) fn read_processes(
 }
 
 /// The process of a row, if it is right after this many processes, of which the map gives the places.
-fn process_of(before: usize, by_pid: &HashMap<u32, usize>, row: &Value) -> Option<Process>
+fn process_of(before: usize, by_pid: &ByPid, row: &Value) -> Option<Process>
     // `None` exactly where the row isn't right; else its process, whose number no earlier one has
     ensures { (rows : List ProcessRow) → before ≡ length rows → All (λ r. IsSome r.pid) rows
         → Indexes by_pid.now (map process rows)
@@ -66,7 +66,7 @@ fn process_of(before: usize, by_pid: &HashMap<u32, usize>, row: &Value) -> Optio
         return None;
     }
     // a firing names its process by the number, so no two may have one
-    if by_pid.get(&pid).is_some() {
+    if by_pid.place_of(pid).is_some() {
         return None;
     }
     Some(Process { pid, uid, execname })

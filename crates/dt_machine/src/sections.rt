@@ -1,5 +1,5 @@
 //! What the file says but for its scripts: the registry of a machine, and what is found in it.
-ghost use Rattle.std.specs.Prelude.{◌≡◌, ◌↔◌, ◌≤◌, ℕ, Some, IsTrue, IfOk, IfErr, MatchOption, map, length, codes};
+ghost use Rattle.std.specs.Prelude.{◌≡◌, ◌↔◌, ◌≤◌, ℕ, IsTrue, IfOk, IfErr, Some, MatchOption, map, length, codes};
 ghost use Rattle.std.specs.Option.{option_copied};
 ghost use Rattle.serde_json.specs.View.{view};
 ghost use Rattle.dt_machine.specs.Reading.{cpus_in, Passes, IsFirstFinding, IsScriptFault, AllRightIn};
@@ -7,9 +7,11 @@ ghost use Rattle.dt_machine.specs.Rows.{HasRoom, script_rows};
 ghost use Rattle.dt_cred.specs.declared.class.Class.TheVariants.{Pid};
 
 use crate::accounts::read_accounts;
+use crate::by_pid::ByPid;
 use crate::fault::{FaultNumber, MachineFault};
 use crate::keys::{list_at, unsigned_at};
 use crate::limits::{CPUS_MAX, FIRST_PROBE_ID, SCRIPT_MAX};
+use crate::moment::Moment;
 use crate::probes::read_probes;
 use crate::processes::read_processes;
 use crate::scripts::first_long;
@@ -17,7 +19,6 @@ use crate::shape::is_machine;
 use dt_cred::{Account, Class, Firing, Probe, Process};
 use serde_json::Value;
 use std::alloc::Global;
-use std::collections::HashMap;
 
 /// What the file says but for its scripts.
 #[derive(Drop)]
@@ -25,13 +26,13 @@ pub(crate) struct Sections {
     pub(crate) cpus: u32,
     pub(crate) accounts: Vec<Account>,
     pub(crate) processes: Vec<Process>,
-    /// The place of each process in the list, by its number.
-    pub(crate) by_pid: HashMap<u32, usize>,
+    pub(crate) by_pid: ByPid,
     pub(crate) probes: Vec<Probe>,
 }
 
 impl Sections {
-    ghost use Rattle.dt_machine.specs.Registry.{Belongs, IsForeign, probe_of, process_of};
+    ghost use Rattle.dt_machine.specs.Moment.{IsMoment};
+    ghost use Rattle.dt_machine.specs.Registry.{IsForeign, probe_of, process_of};
     ghost use Rattle.dt_machine.specs.Sections.{NowhereIfMemory, UnlessMemory, AreSections, IsReady, registry_of};
 
     /// The sections of a file, or the first fault of those that go before the firings.
@@ -79,18 +80,16 @@ impl Sections {
         requires { IsReady self.now }
         ensures { option_copied result ≡ process_of (registry_of self.now) pid }
     {
-        let place = *self.by_pid.get(&pid)?;
+        let place = self.by_pid.place_of(pid)?;
         self.processes.as_slice().get(place)
     }
 
-    /// The probe and the process of a firing that names a processor, a probe of the file and a process that are here,
-    /// and at a `pid` provider's probe the process that this names.
-    pub(crate) fn belonging(&self, firing: &Firing) -> Option<(&Probe, &Process)>
+    /// A firing that names a processor, a probe of the file and a process that are here, and at a `pid` provider's probe
+    /// the process that this names.
+    pub(crate) fn moment<'a>(&'a self, firing: &'a Firing) -> Option<Moment<'a>>
         requires { IsReady self.now }
         ensures { MatchOption result (IsForeign (registry_of self.now) firing.now)
-            (λ found. Belongs (registry_of self.now) firing.now
-            × (probe_of (registry_of self.now) firing.now.probe ≡ Some found.0.now)
-            × (process_of (registry_of self.now) firing.now.pid ≡ Some found.1.now)) }
+            (λ moment. IsMoment (registry_of self.now) moment × (moment.firing.now ≡ firing.now)) }
     {
         // the machine has that processor, and BEGIN and END are no probes of scripts
         if firing.cpu >= self.cpus || firing.probe < FIRST_PROBE_ID {
@@ -99,7 +98,11 @@ impl Sections {
         let probe = self.probe(firing.probe)?;
         let process = self.process(firing.pid)?;
         if may_fire_in(probe.class, firing.pid) {
-            Some((probe, process))
+            Some(Moment {
+                probe,
+                process,
+                firing,
+            })
         } else {
             None
         }

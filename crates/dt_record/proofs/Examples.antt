@@ -23,7 +23,7 @@ use Rattle.dt_record.specs.Layout as layout
 use Rattle.dt_record.specs.Layout.{layout_of}
 use Rattle.dt_record.specs.Showing.{CanBeTaken, IsSceneInBounds}
 use Rattle.dt_record.specs.Split.{AreFrames}
-use Rattle.dt_record.specs.Taking.{TakenForm, records, number_bytes, taken_of, taking}
+use Rattle.dt_record.specs.Taking.{TakenForm, records, number_bytes, taken_of, leaves, taking}
 
 abbrev the_process : Process
 the_process = record { pid = 7; uid = 0; execname = codes "cat" }
@@ -111,7 +111,7 @@ the_left = taken_of 1 the_statements
 
 -- the premises of the law of records are met by a clause with each kind of field
 pub some_taken : (scene : SceneForm) × (clause : ClauseForm) × (left : TakenForm) × CanBeTaken scene clause
-    × (taking 1 scene clause ≡ Some (Some left))
+    × (taking 1 scene clause ≡ leaves left)
     × (layout_of clause ≡ Some (layout.number ∷ layout.text ∷ layout.stack 2 ∷ layout.ustack 1 ∷ []))
 unfolding int_wrap
 some_taken = (the_scene, the_clause, the_left, can, refl, refl)

@@ -1,6 +1,8 @@
 -- What a clause left, without where it lies in memory.
 use Rattle.std.specs.Option.{option_map}
-use Rattle.dt_record.specs.Taking.{TakenForm}
+use Rattle.std.specs.Prelude.{Option}
+use Rattle.std.specs.Option.{option_map_or}
+use Rattle.dt_record.specs.Taking.{TakenForm, Outcome, passed_over, leaves}
 use Rattle.dt_record.specs.declared.parts.Taken.{Taken}
 
 abbrev pub form_of_taken : Taken → TakenForm
@@ -9,3 +11,7 @@ form_of_taken taken = record {
   values = taken.values.items;
   exit = taken.exit;
 }
+
+-- the outcome of a clause that isn't abandoned
+abbrev pub outcome_of : Option Taken → Outcome
+outcome_of taken = option_map_or (λ left. leaves (form_of_taken left)) taken passed_over

@@ -17,7 +17,7 @@ use Rattle.dt_program.specs.Clause as program
 use Rattle.dt_record.specs.Layout.{FieldForm, layout_size}
 use Rattle.dt_record.specs.Split.{RecordedForm, RecordForm, AreFrames, FitAll, record_bytes}
 use Rattle.dt_record.specs.Split as split
-use Rattle.dt_record.specs.Taking.{TakenForm, is_recording, taking}
+use Rattle.dt_record.specs.Taking.{TakenForm, is_recording, leaves, taking}
 
 -- The numbers of the scene have 64 bits with a sign, its texts are no longer than a record shows them, and each of its
 -- stacks has so many frames.
@@ -107,5 +107,5 @@ pub record IsLeftBy (clauses : List ClauseForm) (bytes : List ℕ) : Type 0 wher
   pub scene : SceneForm
   pub can : CanBeTaken scene clause
   pub left : TakenForm
-  pub taken : taking (place + 1) scene clause ≡ Some (Some left)
+  pub taken : taking (place + 1) scene clause ≡ leaves left
   pub these : left.record_bytes ≡ Some bytes

@@ -2,7 +2,7 @@
 use Rattle.std.specs.Prelude.{ℕ, ℤ, pos, Bool, true, false, List, [], ◌∷◌, ◌++◌, Option, Some, None, take, if◌then◌else◌, ◌==◌, ◌||◌, length}
 use Rattle.std.specs.Int.{w64, cast_unsigned}
 use Rattle.std.specs.List.{flat_map, list_any}
-use Rattle.std.specs.Option.{option_map, option_and_then, option_or}
+use Rattle.std.specs.Option.{option_map, option_map_or, option_and_then, option_or}
 use Rattle.byteorder.specs.Endian.{big_bytes}
 use Rattle.dt_expr.specs.Form.{Form}
 use Rattle.dt_expr.specs.Operators.{holds}
@@ -117,10 +117,29 @@ abbrev pub predicate_value : SceneForm → Option Form → Option ℤ
 predicate_value scene None = Some (pos 1)
 predicate_value scene (Some f) = value scene f
 
--- What becomes of a clause: none where a division by zero is evaluated in its predicate or, if that holds, in one of its
--- statements, which abandons it whole; else nothing where the predicate is 0; else what its statements leave.
-abbrev pub taking : ℕ → SceneForm → ClauseForm → Option (Option TakenForm)
-taking epid scene clause = option_and_then
-    (λ z. if holds z then option_map (λ effects. Some (taken_of epid clause.statements effects))
-    (each (effect scene) clause.statements) else Some None)
-    (predicate_value scene clause.predicate)
+-- What comes of a clause where it is taken: a division by zero abandons it, its predicate is 0 and it is passed over, or it
+-- leaves something.
+pub data Outcome : Type 0 where
+  abandoned : Outcome
+  passed_over : Outcome
+  leaves : TakenForm → Outcome
+
+-- A clause is abandoned whole where a division by zero is evaluated in its predicate or, if that holds, in one of its
+-- statements; else it is passed over where the predicate is 0, and leaves what its statements do where it isn't.
+abbrev pub taking : ℕ → SceneForm → ClauseForm → Outcome
+taking epid scene clause = option_map_or
+    (λ z. if holds z then option_map_or (λ effects. leaves (taken_of epid clause.statements effects)) (each (effect scene) clause.statements) abandoned
+    else passed_over)
+    (predicate_value scene clause.predicate) abandoned
+
+-- what was left, if something was
+abbrev pub left_in : Outcome → Option TakenForm
+left_in abandoned = None
+left_in passed_over = None
+left_in (leaves form) = Some form
+
+-- whether a division by zero abandoned the clause
+abbrev pub is_abandoned : Outcome → Bool
+is_abandoned abandoned = true
+is_abandoned passed_over = false
+is_abandoned (leaves form) = false

@@ -9,7 +9,7 @@ ghost use Rattle.dt_record.specs.Layout.{FieldForm, layout_of, layout_size};
 ghost use Rattle.dt_record.specs.Limits.{record_max, values_max};
 ghost use Rattle.dt_record.specs.Showing.{CanBeTaken, FitLayout, HasLengths, IsLeftBy, IsOfLength};
 ghost use Rattle.dt_record.specs.Split.{IsSplit, RecordForm};
-ghost use Rattle.dt_record.specs.Taking.{TakenForm, taking};
+ghost use Rattle.dt_record.specs.Taking.{TakenForm, leaves, taking};
 ghost use Rattle.dt_record.specs.Within.{IsWithinLimits};
 
 /// Law: bytes are the records of these layouts in one way at most.
@@ -23,10 +23,10 @@ pub fn one_split()
 /// says. Where the clause has no layout, it leaves no record. The premises are met by a clause with each kind of field.
 pub fn records_fit()
     ensures fit { (epid : ℕ) (scene : SceneForm) (clause : ClauseForm) (left : TakenForm) → CanBeTaken scene clause
-        → taking epid scene clause ≡ Some (Some left)
+        → taking epid scene clause ≡ leaves left
         → FitLayout epid scene clause (layout_of clause) left.record_bytes }
     ensures met { (scene : SceneForm) × (clause : ClauseForm) × (left : TakenForm) × CanBeTaken scene clause
-        × (taking 1 scene clause ≡ Some (Some left))
+        × (taking 1 scene clause ≡ leaves left)
         × (layout_of clause ≡ Some (layout.number ∷ layout.text ∷ layout.stack 2 ∷ layout.ustack 1 ∷ [])) }
 {}
 
@@ -34,7 +34,7 @@ pub fn records_fit()
 pub fn records_have_lengths()
     ensures { (epid : ℕ) (scene : SceneForm) (clause : ClauseForm) (left : TakenForm) (bytes : List ℕ)
         → HasLengths scene → AllByRecursion IsOfLength clause.statements
-        → taking epid scene clause ≡ Some (Some left) → left.record_bytes ≡ Some bytes
+        → taking epid scene clause ≡ leaves left → left.record_bytes ≡ Some bytes
         → length bytes ≡ layout_size (layout_of clause) }
 {}
 
@@ -49,11 +49,11 @@ pub fn left_is_split()
 pub fn left_is_limited()
     ensures record { (clause : ClauseForm) → IsWithinLimits clause → layout_size (layout_of clause) ≤ record_max }
     ensures values { (epid : ℕ) (scene : SceneForm) (clause : ClauseForm) (left : TakenForm) → IsWithinLimits clause
-        → taking epid scene clause ≡ Some (Some left) → length left.values ≤ values_max }
+        → taking epid scene clause ≡ leaves left → length left.values ≤ values_max }
     ensures written { (clause : ClauseForm) → IsWrittenClause clause → IsWithinLimits clause }
     ensures greatest_record { (scene : SceneForm) × (clause : ClauseForm) × (left : TakenForm) × (bytes : List ℕ)
-        × IsWithinLimits clause × (taking 1 scene clause ≡ Some (Some left)) × (left.record_bytes ≡ Some bytes)
+        × IsWithinLimits clause × (taking 1 scene clause ≡ leaves left) × (left.record_bytes ≡ Some bytes)
         × (length bytes ≡ record_max) }
     ensures most_values { (scene : SceneForm) × (clause : ClauseForm) × (left : TakenForm) × IsWithinLimits clause
-        × (taking 1 scene clause ≡ Some (Some left)) × (length left.values ≡ values_max) }
+        × (taking 1 scene clause ≡ leaves left) × (length left.values ≡ values_max) }
 {}

@@ -5,8 +5,8 @@ ghost use Rattle.dt_expr.specs.Form.{form_of};
 ghost use Rattle.dt_expr.specs.Operators.{holds};
 ghost use Rattle.dt_expr.specs.Scene.{scene_of};
 ghost use Rattle.dt_program.specs.Clause.{form_of_clause, form_of_statement};
-ghost use Rattle.dt_record.specs.Forms.{form_of_taken};
-ghost use Rattle.dt_record.specs.Taking.{Effect, each, effect, predicate_value, taken_of, taking};
+ghost use Rattle.dt_record.specs.Forms.{form_of_taken, outcome_of};
+ghost use Rattle.dt_record.specs.Taking.{Effect, abandoned, leaves, passed_over, each, effect, predicate_value, taken_of, taking};
 ghost use Rattle.dt_program.specs.declared.clause.TheConstants.{STATEMENTS_MAX};
 
 use crate::parts::Taken;
@@ -25,8 +25,8 @@ use dt_program::{Clause, Statement};
 /// and use [`Taken::take`].
 pub fn taken(epid: u32, clause: &Clause, scene: &Scene) -> Result<Option<Taken>, EvalFault>
     ensures { MatchResult result
-        (λ left. taking epid (scene_of scene.now) (form_of_clause clause.now) ≡ Some (option_map form_of_taken left))
-        (λ _. taking epid (scene_of scene.now) (form_of_clause clause.now) ≡ None) }
+        (λ left. taking epid (scene_of scene.now) (form_of_clause clause.now) ≡ outcome_of left)
+        (λ _. taking epid (scene_of scene.now) (form_of_clause clause.now) ≡ abandoned) }
 {
     let mut left = Taken::new();
     if left.take(epid, clause, scene)? {
@@ -58,8 +58,8 @@ impl Taken {
     pub fn take(&mut self, epid: u32, clause: &Clause, scene: &Scene) -> Result<bool, EvalFault>
         ensures { MatchResult result
             (λ held. taking epid (scene_of scene.now) (form_of_clause clause.now)
-            ≡ Some (if held then Some (form_of_taken self.new) else None))
-            (λ _. taking epid (scene_of scene.now) (form_of_clause clause.now) ≡ None) }
+            ≡ (if held then leaves (form_of_taken self.new) else passed_over))
+            (λ _. taking epid (scene_of scene.now) (form_of_clause clause.now) ≡ abandoned) }
     {
         // where the predicate is 0 the clause does nothing: no expression of its statements is evaluated
         if !predicate_holds(&clause.predicate, scene)? {

@@ -55,7 +55,7 @@ fn would_belong(machine: &Machine, cpu: u32, probe: u32, pid: u32) -> Option<boo
         pid,
         ..firing
     };
-    Some(machine.belonging(&other).is_some())
+    Some(machine.moment(&other).is_some())
 }
 
 /// The machine of the text.

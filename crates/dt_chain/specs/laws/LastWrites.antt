@@ -8,7 +8,8 @@ use Rattle.dt_machine.specs.Interest as interest
 use Rattle.dt_machine.specs.Registry.{Registry}
 use Rattle.dt_cred.specs.declared.firing.Firing.{Firing}
 use Rattle.dt_chain.specs.IsAt.{EntriesAreAt}
-use Rattle.dt_chain.specs.Kept.{is_seat_listed, slot_of}
+use Rattle.dt_chain.specs.Kept.{slot_of}
+use Rattle.dt_chain.specs.Lists.{is_seat_listed}
 use Rattle.dt_chain.specs.Look.{IsLook, NamesFiring}
 use Rattle.dt_chain.specs.Writes.{Write, Published, published, withdrawn, published_on}
 use Rattle.dt_chain.specs.Writes.{seat_of, entry_of, writes_of, last_write_of, SameLastWrites}
@@ -79,7 +80,7 @@ same_entries writes others entries same at =
       kept = λ seat. at.kept seat ∙ ap (option_map slot_of) (alike seat);
       listed = λ probe seat.
           let P : Option Published → Type 0 = λ entry.
-          IsTrue (is_seat_listed entries.lists.items probe seat)
+          IsTrue (is_seat_listed entries.lists probe seat)
           ↔ IsSomeAnd entry (λ one. interest.Names one.probes probe) in
           subst P (alike seat) (at.listed probe seat);
     }

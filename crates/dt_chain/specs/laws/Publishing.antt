@@ -6,7 +6,8 @@ use Rattle.std.specs.Option.{option_map}
 use Rattle.dt_cred.specs.declared.account.Account.{Account}
 use Rattle.dt_machine.specs.Interest as interest
 use Rattle.dt_chain.specs.IsAt.{EntriesAreAt}
-use Rattle.dt_chain.specs.Kept.{is_seat_listed, slot_of}
+use Rattle.dt_chain.specs.Kept.{slot_of}
+use Rattle.dt_chain.specs.Lists.{is_seat_listed}
 use Rattle.dt_chain.specs.Writes.{Write, Published, published, published_on}
 use Rattle.dt_chain.specs.declared.entries.Entries.{Entries}
 use Rattle.dt_chain.specs.declared.entries.Slot.{Slot}
@@ -39,5 +40,5 @@ entered_alike seat n account probes others writes entries alike h = record {
       (slice_index_or entries.slots at None)
       (h.kept at);
   listed = λ probe at. listed_at n account probes others (published_on writes at) (seat == at) probe
-      (is_seat_listed entries.lists.items probe at) (alike probe) (h.listed probe at);
+      (is_seat_listed entries.lists probe at) (alike probe) (h.listed probe at);
 }

@@ -12,7 +12,7 @@ use Rattle.dt_machine.specs.Registry.{Registry}
 use Rattle.dt_program.specs.Description.{DescForm}
 use Rattle.dt_program.specs.Program.{ClauseForm}
 use Rattle.dt_ecb.specs.Ecbs.{EcbForm, numbered, added, ecbs_of}
-use Rattle.dt_ecb.specs.Enable.{Verdict, enabled, privilege, clash, unmatched, limit, IsFirstSuch, has_stack}
+use Rattle.dt_ecb.specs.Enable.{Verdict, enabled, privilege, clash, unmatched, limit, IsFirstSuch}
 use Rattle.dt_ecb.specs.Enable.{is_unmatched, may_do_all, is_too_much, is_enabled, IsVerdict}
 use Rattle.dt_ecb.specs.Limits.{ecbs_max, aggregations_max}
 use Rattle.dt_ecb.specs.Matching.{asks_for, traced_process, listed, matched}

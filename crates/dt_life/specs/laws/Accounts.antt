@@ -1,14 +1,13 @@
 -- An account is its uid and its privileges: under another name it has the same life, and is answered the same.
 use Rattle.std.proofs.Common.{◌≡◌, ℕ, ◌+◌, ◌==◌, ◌&&◌, ◌||◌, Bool, true, false, cond, not, List, [], ◌∷◌, ◌++◌, Option, Some, None}
-use Rattle.std.proofs.Common.{Result, Ok, Err, map, sum, length, MatchBool, MatchOption, refl, ap, sym, subst, ◌∙◌}
+use Rattle.std.proofs.Common.{Result, Ok, Err, map, sum, length, MatchBool, MatchOption, refl, ap, subst, ◌∙◌}
 use Rattle.std.proofs.Math.Path.{fun_ext}
-use Rattle.std.specs.Bool.{nat_lt, nat_le}
+use Rattle.std.specs.Bool.{nat_le}
 use Rattle.std.specs.List.{find, range_with_len}
-use Rattle.std.specs.Option.{option_and_then, option_map, option_map_or, option_or, is_none}
+use Rattle.std.specs.Option.{option_and_then, option_map, option_map_or, option_or}
 use Rattle.dt_aggstore.specs.Chosen.{drops}
 use Rattle.dt_aggstore.specs.History as store
 use Rattle.dt_aggstore.specs.TableOf.{table_of}
-use Rattle.dt_aggstore.specs.declared.key.Aggregation.{Aggregation}
 use Rattle.dt_buffer.specs.History as buffer
 use Rattle.dt_buffer.specs.Shows.{Shows}
 use Rattle.dt_cred.specs.declared.account.Account.{Account}
@@ -18,7 +17,6 @@ use Rattle.dt_cred.specs.laws.Accounts.{renamed}
 use Rattle.dt_ecb.specs.Ecbs.{EcbForm, added, of_probe}
 use Rattle.dt_ecb.specs.Enable.{Verdict, IsVerdict, is_enabled}
 use Rattle.dt_ecb.specs.Interest.{is_wanted}
-use Rattle.dt_ecb.specs.Matching.{listed}
 use Rattle.dt_ecb.specs.Shapes.{ShapeForm}
 use Rattle.dt_ecb.specs.laws.Accounts.{ecbs_alike, added_alike, listed_alike, enabled_alike, verdict_renamed}
 use Rattle.dt_lang.specs.Program.{ClauseForm}
@@ -30,7 +28,7 @@ use Rattle.dt_record.specs.Layout.{layout_of, layout_size}
 use Rattle.dt_life.specs.Aggregations.{aggregation_of, contributions}
 use Rattle.dt_life.specs.Answer.{Answer, enabled, aggregated, described, refused, listed as listed_answer, status as status_answer}
 use Rattle.dt_life.specs.Ask.{Ask, option, enable, go, stop, snap, agg, trunc, status, list, describe, close}
-use Rattle.dt_life.specs.Buffers.{attempts_of, comes_by, comes_since, reserve_on, past_in, past, errors, errors_in}
+use Rattle.dt_life.specs.Buffers.{attempts_of, comes_by, comes_since, reserve_on, past_in, errors_in}
 use Rattle.dt_life.specs.Life.{Item, asked, fired, SetUp, is_active, is_inactive, is_over, is_readable, phase_of, shapes_in}
 use Rattle.dt_life.specs.Life.{ecbs_in, next_epid, accepts, end_size, has_room, end_by, happens, after_item, set_up, phase, ecbs}
 use Rattle.dt_life.specs.Life.{seen_count, since_then, with_event, with_program}
@@ -38,10 +36,10 @@ use Rattle.dt_life.specs.Limits.{end_id}
 use Rattle.dt_life.specs.Options.{is_fill}
 use Rattle.dt_life.specs.Reply.{IsVerdictOnCommand, Accepted, RepliesInQuota, Replies, all_errors, all_aggdrops, ecb_of, refusal_of}
 use Rattle.dt_life.specs.Stores.{given_on, given_since, given_in, aggdrops_in, stores_in}
-use Rattle.dt_life.specs.Takings.{TracingEvent, began, seen, read, truncated, ended, closed, is_end, MomentForm, Taking, faults}
+use Rattle.dt_life.specs.Takings.{TracingEvent, began, seen, snapped, truncated, ended, closed, is_end, faults}
+use Rattle.dt_machine.specs.Moment.{MomentForm}
 use Rattle.dt_life.specs.Takings.{moment_at, taken_at, taken_by, taken_on, taken_since, first_exit}
 use Rattle.dt_life.specs.Tests.{is_seen}
-use Rattle.dt_life.specs.declared.phase.End.{End}
 use Rattle.dt_life.specs.declared.phase.End.TheVariants.{Exit, History}
 use Rattle.dt_life.specs.declared.refusal.Refusal.{Refusal}
 use Rattle.dt_life.specs.declared.refusal.Refusal.TheVariants as refusal
@@ -54,7 +52,7 @@ module _ (account : Account) (name : List ℕ) (registry : Registry) where
   moment_alike : (event : TracingEvent) → moment_at other registry event ≡ moment_at account registry event
   moment_alike began = refl
   moment_alike (seen firing) = refl
-  moment_alike (read cpu) = refl
+  moment_alike (snapped cpu) = refl
   moment_alike (truncated word) = refl
   moment_alike (ended end) = refl
   moment_alike closed = refl
@@ -79,7 +77,7 @@ module _ (account : Account) (name : List ℕ) (registry : Registry) where
 
     comes_by_alike : (cpu : ℕ) (event : TracingEvent)
         → comes_by other registry own cpu event ≡ comes_by account registry own cpu event
-    comes_by_alike cpu (read n) = refl
+    comes_by_alike cpu (snapped n) = refl
     comes_by_alike cpu began = ap attempts_of (taken_on_alike cpu began)
     comes_by_alike cpu (seen firing) = ap attempts_of (taken_on_alike cpu (seen firing))
     comes_by_alike cpu (truncated word) = refl
@@ -99,7 +97,7 @@ module _ (account : Account) (name : List ℕ) (registry : Registry) where
       given_on_alike cpu (truncated word) = refl
       given_on_alike cpu began = ap (contributions shapes) (taken_on_alike cpu began)
       given_on_alike cpu (seen firing) = ap (contributions shapes) (taken_on_alike cpu (seen firing))
-      given_on_alike cpu (read n) = refl
+      given_on_alike cpu (snapped n) = refl
       given_on_alike cpu (ended end) = ap (contributions shapes) (taken_on_alike cpu (ended end))
       given_on_alike cpu closed = refl
 

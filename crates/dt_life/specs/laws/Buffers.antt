@@ -1,5 +1,5 @@
 -- What takings bring to a processor's buffer.
-use Rattle.std.proofs.Common.{◌≡◌, ℕ, ◌+◌, true, false, List, [], ◌∷◌, ◌++◌, Option, Some, None, map, refl, ap, ◌∙◌}
+use Rattle.std.proofs.Common.{◌≡◌, ℕ, true, false, List, [], ◌∷◌, ◌++◌, Option, Some, None, map, refl, ap, ◌∙◌}
 use Rattle.std.specs.Option.{option_map, option_to_list}
 use Rattle.std.proofs.lemmas.List.{append-nil}
 use Rattle.std.proofs.lemmas.Grind.{flat_map-append}
@@ -10,7 +10,8 @@ use Rattle.dt_ecb.specs.declared.parts.Ecb.{Ecb}
 use Rattle.dt_lang.specs.Program.{ClauseForm}
 use Rattle.dt_life.specs.Buffers.{attempts_of}
 use Rattle.dt_life.specs.Following.{followed_by, taking_by}
-use Rattle.dt_life.specs.Takings.{Taking, MomentForm, record_of}
+use Rattle.dt_life.specs.Takings.{Taking, record_of}
+use Rattle.dt_machine.specs.Moment.{MomentForm}
 
 pub attempts-append : (xs ys : List Taking) → attempts_of (xs ++ ys) ≡ attempts_of xs ++ attempts_of ys
 attempts-append xs ys =

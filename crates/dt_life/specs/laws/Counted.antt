@@ -1,6 +1,6 @@
 -- No more firings are seen than the history has.
-use Rattle.std.proofs.Common.{◌≡◌, ◌≢◌, ℕ, ℤ, ◌<◌, ◌≤◌, ◌==◌, ◌&&◌, ◌||◌, Bool, true, false, cond, List, [], ◌∷◌, Option, Some, None}
-use Rattle.std.proofs.Common.{Result, Ok, Err, refl, ap, sym, subst, ◌∙◌, arith, is_none, inl, inr, ◌+◌}
+use Rattle.std.proofs.Common.{◌≡◌, ℕ, ℤ, ◌<◌, ◌≤◌, ◌==◌, ◌&&◌, ◌||◌, Bool, true, false, cond, List, [], ◌∷◌, Option, Some, None}
+use Rattle.std.proofs.Common.{Ok, Err, refl, ap, arith, is_none, inl, inr}
 use Rattle.std.proofs.lemmas.Bool.Decides.{eqb_tells}
 use Rattle.std.specs.Bool.{nat_lt}
 use Rattle.std.specs.Option.{option_map, option_map_or, option_or}
@@ -13,7 +13,7 @@ use Rattle.dt_life.specs.Life.{Item, asked, fired, SetUp, accepts, after_item, e
 use Rattle.dt_life.specs.Life.{is_inactive, is_readable, is_stopped, phase_after, phase_of, seen_count, set_up, shapes_in}
 use Rattle.dt_life.specs.Life.{since_then, with_event, with_options, with_program}
 use Rattle.dt_life.specs.Options.{with_setting}
-use Rattle.dt_life.specs.Takings.{TracingEvent, began, seen, read, truncated, ended, closed, first_exit, taken_by}
+use Rattle.dt_life.specs.Takings.{TracingEvent, began, seen, snapped, truncated, ended, closed, first_exit, taken_by}
 use Rattle.dt_life.specs.declared.phase.End.{End}
 use Rattle.dt_life.specs.declared.phase.End.TheVariants.{Stop, Exit, History}
 use Rattle.dt_life.specs.declared.phase.Phase.{Phase}
@@ -29,7 +29,7 @@ quiet_count : (events : List TracingEvent) → is_inactive (phase_after events) 
 quiet_count [] h = refl
 quiet_count (began ∷ events) h = cc
 quiet_count (seen firing ∷ events) h = cc
-quiet_count (read cpu ∷ events) h = quiet_count events h
+quiet_count (snapped cpu ∷ events) h = quiet_count events h
 quiet_count (truncated name ∷ events) h = quiet_count events h
 quiet_count (ended end ∷ events) h = cc
 quiet_count (closed ∷ events) h = cc
@@ -96,7 +96,7 @@ module _ (account : Account) (registry : Registry) where
       either s (with_event s (ended Stop)) (is_active (phase_of s))
       (λ is. record { bound = h.bound; further = λ on. cc }) h
   counted_after s (asked (Ok (snap cpu))) h =
-      either s (with_event s (read cpu)) (nat_lt cpu registry.cpus && is_readable s (phase_of s))
+      either s (with_event s (snapped cpu)) (nat_lt cpu registry.cpus && is_readable s (phase_of s))
       (λ is. record { bound = h.bound; further = h.further }) h
   counted_after s (asked (Ok (agg name))) h = h
   counted_after s (asked (Ok (trunc name))) h =

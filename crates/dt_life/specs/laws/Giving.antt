@@ -1,8 +1,7 @@
 -- What clauses give to aggregations.
-use Rattle.std.proofs.Common.{◌≡◌, ℕ, ℤ, pos, zero, suc, ◌+◌, ◌<◌, ◌≤◌, get_or, take, drop, true, false, Bool, cond}
+use Rattle.std.proofs.Common.{◌≡◌, ℕ, ℤ, pos, zero, suc, ◌+◌, ◌<◌, ◌≤◌, get_or, take, drop, true}
 use Rattle.std.proofs.Common.{List, [], ◌∷◌, ◌++◌, length, Option, Some, None, map, refl, sym, ap, ◌∙◌, subst, arith}
-use Rattle.std.specs.List.{flat_map}
-use Rattle.std.specs.Option.{is_some, option_and_then, option_map, option_to_list}
+use Rattle.std.specs.Option.{is_some}
 use Rattle.std.proofs.lemmas.List.{append-nil, get_or-drop, append_assoc, take_all}
 use Rattle.std.proofs.lemmas.Grind.{flat_map-append}
 use Rattle.dt_aggstore.specs.History as store
@@ -12,16 +11,13 @@ use Rattle.dt_aggstore.specs.declared.key.KeyPart.{KeyPart}
 use Rattle.dt_aggstore.specs.declared.store.AggStore.{AggStore}
 use Rattle.dt_ecb.specs.Shapes.{ShapeForm}
 use Rattle.dt_ecb.specs.declared.parts.Ecb.{Ecb}
-use Rattle.dt_expr.specs.Scene.{SceneForm}
 use Rattle.dt_expr.specs.declared.text.Value.{Value}
 use Rattle.dt_expr.specs.declared.text.Value.TheVariants as val
-use Rattle.dt_expr.specs.Operators.{holds}
-use Rattle.dt_lang.specs.Program.{ArgForm, CallForm, ClauseForm, StatementForm, trace, stack, ustack, exit, aggregate}
-use Rattle.dt_record.specs.Taking.{Effect, records, gives, exits, argument_value, contributed, each, effect}
-use Rattle.dt_record.specs.Taking.{frames_bytes, given, predicate_value, taken_of, TakenForm, taking}
-use Rattle.dt_life.specs.Aggregations.{aggregation_of, contributions, contributions_of, given_by, number_given, part_of}
+use Rattle.dt_lang.specs.Program.{StatementForm}
+use Rattle.dt_life.specs.Aggregations.{contributions, contributions_of, number_given}
 use Rattle.dt_life.specs.Takings.{Taking, exit_of, first_exit, through_exit}
-use Rattle.dt_life.specs.Uses.{UseForm, contribution_at, given_then, key_at, number_at, split_by, use_by, uses_by}
+use Rattle.dt_life.specs.Uses.{given_then}
+use Rattle.dt_life.specs.Aggregations.{UseForm, contribution_at, key_at, number_at, split_by, use_by, uses_by}
 use Rattle.dt_life.specs.laws.Takings.{row_more, row_split, through_first, through_none}
 
 -- how many values uses take
@@ -61,154 +57,6 @@ split_more (u ∷ uses) one values =
     (drop_sum (span uses) (u.1 + 1) values))
     ∙ sym (append_assoc (contribution_at u values) (split_by uses (drop (u.1 + 1) values))
     (contribution_at one (drop (span (u ∷ uses)) values)))
-
--- the keys and the number at the head of some values
-at_head : (ks : List Value) (n d : Value) (rest : List Value) (k : ℕ) → k ≡ length ks
-    → (take k ((ks ++ n ∷ []) ++ rest) ≡ ks) × (get_or ((ks ++ n ∷ []) ++ rest) k d ≡ n)
-    × (drop (k + 1) ((ks ++ n ∷ []) ++ rest) ≡ rest)
-at_head [] n d rest zero e = (refl, refl, refl)
-at_head [] n d rest (suc k) e = absurd (omega arith)
-at_head (x ∷ ks) n d rest zero e = absurd (omega arith)
-at_head (x ∷ ks) n d rest (suc k) e =
-    let later = at_head ks n d rest k (omega arith) in
-    let same : suc k + 1 ≡ suc (k + 1) = omega arith in
-    (ap (λ xs. x ∷ xs) later.0, later.1, ap (λ m. drop m ((x ∷ ks ++ n ∷ []) ++ rest)) same ∙ later.2)
-
--- what both of two give
-record Both {A B : Type 0} (f : A → Option B) (x : A) (xs : List A) (ys : List B) : Type 0 where
-  y : B
-  later : List B
-  first : f x ≡ Some y
-  rest : each f xs ≡ Some later
-  all : ys ≡ y ∷ later
-
-both_of : {A B : Type 0} (f : A → Option B) (x : A) (xs : List A) (ys : List B) (o : Option B) (p : Option (List B))
-    → f x ≡ o → each f xs ≡ p → option_and_then (λ y. option_map (λ later. y ∷ later) p) o ≡ Some ys → Both f x xs ys
-both_of f x xs ys None p e g h = cc
-both_of f x xs ys (Some y) None e g h = cc
-both_of f x xs ys (Some y) (Some later) e g h =
-    record { y = y; later = later; first = e; rest = g; all = sym (some_is h) }
-  where
-    some_is : {Y : Type 0} {a b : Y} → Some a ≡ Some b → a ≡ b
-    some_is h = cc
-
-both : {A B : Type 0} (f : A → Option B) (x : A) (xs : List A) (ys : List B) → each f (x ∷ xs) ≡ Some ys
-    → Both f x xs ys
-both f x xs ys e = both_of f x xs ys (f x) (each f xs) refl refl e
-
-each-length : {A B : Type 0} (f : A → Option B) (xs : List A) (ys : List B) → each f xs ≡ Some ys
-    → length xs ≡ length ys
-each-length f [] [] e = refl
-each-length f [] (y ∷ ys) e = cc
-each-length f (x ∷ xs) ys e =
-    let b = both f x xs ys e in
-    ap suc (each-length f xs b.later b.rest) ∙ sym (ap length b.all)
-
--- the effect of a statement that aggregates
-record Gives (scene : SceneForm) (keys : List ArgForm) (call : CallForm) (y : Effect) : Type 0 where
-  ks : List Value
-  n : Value
-  are : each (argument_value scene) keys ≡ Some ks
-  is : given scene call ≡ Some n
-  all : y ≡ gives (ks ++ n ∷ [])
-
-gives_of : (scene : SceneForm) (keys : List ArgForm) (call : CallForm) (y : Effect) (o : Option (List Value))
-    (p : Option Value) → each (argument_value scene) keys ≡ o → given scene call ≡ p
-    → option_and_then (λ values. option_map (λ number. gives (values ++ number ∷ [])) p) o ≡ Some y
-    → Gives scene keys call y
-gives_of scene keys call y None p e g h = cc
-gives_of scene keys call y (Some ks) None e g h = cc
-gives_of scene keys call y (Some ks) (Some n) e g h =
-    record { ks = ks; n = n; are = e; is = g; all = some_is h }
-  where
-    some_is : {a b : Effect} → Some a ≡ Some b → b ≡ a
-    some_is h = cc
-
--- what other statements give
-none_of : {X : Type 0} (o : Option X) (f : X → Effect) (y : Effect) → ((x : X) → contributed (f x) ≡ [])
-    → option_map f o ≡ Some y → contributed y ≡ []
-none_of None f y none e = cc
-none_of (Some x) f y none e = subst (λ z. contributed z ≡ []) (some_is e) (none x)
-  where
-    some_is : {a b : Effect} → Some a ≡ Some b → a ≡ b
-    some_is h = cc
-
-module _ (shapes : List ShapeForm) (scene : SceneForm) where
-  abbrev gives_by : StatementForm → List store.Event
-  gives_by s = option_to_list (given_by shapes scene s)
-
-  -- a statement that gives nothing
-  skipped : (statements : List StatementForm) (y : Effect) (later : List Effect)
-      → split_by (uses_by shapes statements) (flat_map contributed later) ≡ flat_map gives_by statements
-      → contributed y ≡ []
-      → split_by (uses_by shapes statements) (contributed y ++ flat_map contributed later)
-      ≡ flat_map gives_by statements
-  skipped statements y later e none =
-      ap (λ vs. split_by (uses_by shapes statements) (vs ++ flat_map contributed later)) none ∙ e
-
-  one_given : (o : Option Aggregation) (ks : List Value) (n : Value)
-      → option_map (λ a. store.given a (map part_of ks) (number_given n)) o
-      ≡ option_and_then (λ a. Some (store.given a (map part_of ks) (number_given n))) o
-  one_given None ks n = refl
-  one_given (Some a) ks n = refl
-
-  gives_is : (name : List ℕ) (keys : List ArgForm) (call : CallForm) (y : Effect) (rest : List Value)
-      → (g : Gives scene keys call y)
-      → (contribution_at (aggregation_of shapes name, length keys) (contributed y ++ rest)
-      ≡ gives_by (aggregate name keys call))
-      × (drop (length keys + 1) (contributed y ++ rest) ≡ rest)
-  gives_is name keys call y rest g =
-      let parts = at_head g.ks g.n (val.Number (pos 0)) rest (length keys)
-      (each-length (argument_value scene) keys g.ks g.are) in
-      let agg = aggregation_of shapes name in (
-        ap (λ e. contribution_at (agg, length keys) (contributed e ++ rest)) g.all
-            ∙ ap (λ ks. option_to_list (option_map (λ a. store.given a (map part_of ks)
-            (number_given (get_or ((g.ks ++ g.n ∷ []) ++ rest) (length keys) (val.Number (pos 0))))) agg)) parts.0
-            ∙ ap (λ n. option_to_list (option_map (λ a. store.given a (map part_of g.ks) (number_given n))
-            agg)) parts.1
-            ∙ ap option_to_list (one_given agg g.ks g.n)
-            ∙ ap (λ o. option_to_list (option_and_then (λ a. option_and_then
-            (λ ks. option_map (λ v. store.given a (map part_of ks) (number_given v)) (Some g.n)) o) agg)) (sym g.are)
-            ∙ ap (λ o. option_to_list (option_and_then (λ a. option_and_then
-            (λ ks. option_map (λ v. store.given a (map part_of ks) (number_given v)) o)
-            (each (argument_value scene) keys)) agg)) (sym g.is),
-        ap (λ e. drop (length keys + 1) (contributed e ++ rest)) g.all ∙ parts.2,
-      )
-
-  -- The values that a clause leaves, split by its uses, are its contributions.
-  pub split_given : (statements : List StatementForm) (effects : List Effect)
-      → each (effect scene) statements ≡ Some effects
-      → split_by (uses_by shapes statements) (flat_map contributed effects) ≡ flat_map gives_by statements
-  split_given [] effects e = refl
-  split_given (trace a ∷ statements) effects e =
-      let b = both (effect scene) (trace a) statements effects e in
-      ap (λ es. split_by (uses_by shapes statements) (flat_map contributed es)) b.all
-      ∙ skipped statements b.y b.later (split_given statements b.later b.rest)
-      (none_of (argument_value scene a) _ b.y (λ v. refl) b.first)
-  split_given (stack n ∷ statements) effects e =
-      let b = both (effect scene) (stack n) statements effects e in
-      ap (λ es. split_by (uses_by shapes statements) (flat_map contributed es)) b.all
-      ∙ skipped statements b.y b.later (split_given statements b.later b.rest)
-      (none_of (Some n) (λ k. records (frames_bytes k scene.firing.kstack)) b.y (λ v. refl) b.first)
-  split_given (ustack n ∷ statements) effects e =
-      let b = both (effect scene) (ustack n) statements effects e in
-      ap (λ es. split_by (uses_by shapes statements) (flat_map contributed es)) b.all
-      ∙ skipped statements b.y b.later (split_given statements b.later b.rest)
-      (none_of (Some n) (λ k. records (frames_bytes k scene.firing.ustack)) b.y (λ v. refl) b.first)
-  split_given (exit f ∷ statements) effects e =
-      let b = both (effect scene) (exit f) statements effects e in
-      ap (λ es. split_by (uses_by shapes statements) (flat_map contributed es)) b.all
-      ∙ skipped statements b.y b.later (split_given statements b.later b.rest)
-      (none_of _ exits b.y (λ v. refl) b.first)
-  split_given (aggregate name keys call ∷ statements) effects e =
-      let b = both (effect scene) (aggregate name keys call) statements effects e in
-      let g = gives_of scene keys call b.y _ _ refl refl b.first in
-      let is = gives_is name keys call b.y (flat_map contributed b.later) g in
-      ap (λ es. split_by (uses_by shapes (aggregate name keys call ∷ statements)) (flat_map contributed es)) b.all
-      ∙ ap (λ es. es ++ split_by (uses_by shapes statements)
-      (drop (length keys + 1) (contributed b.y ++ flat_map contributed b.later))) is.0
-      ∙ ap (λ vs. gives_by (aggregate name keys call) ++ split_by (uses_by shapes statements) vs) is.1
-      ∙ ap (λ es. gives_by (aggregate name keys call) ++ es) (split_given statements b.later b.rest)
 
 -- the same past, written in another way
 pub same_at : (past past' : store.Past) (st : AggStore) → past ≡ past' → IsAt past st → IsAt past' st
@@ -297,37 +145,3 @@ gave_one past a o keys place values parts z st is own number h =
     (number ∙ ap number_given (sym (get_or-drop place values keys (val.Number (pos 0)))))
     ∙ ap (λ x. given_then past (contribution_at (x, keys) (drop place values))) (sym is))
     h
-
--- what a clause leaves that is taken whole
-pub record Left (scene : SceneForm) (clause : ClauseForm) (form : TakenForm) : Type 0 where
-  pub effects : List Effect
-  pub are : each (effect scene) clause.statements ≡ Some effects
-  pub values : form.values ≡ flat_map contributed effects
-
-left_when : (epid : ℕ) (scene : SceneForm) (clause : ClauseForm) (form : TakenForm) (b : Bool)
-    (p : Option (List Effect)) → each (effect scene) clause.statements ≡ p
-    → cond b (option_map (λ effects. Some (taken_of epid clause.statements effects)) p) (Some None)
-    ≡ Some (Some form) → Left scene clause form
-left_when epid scene clause form false p e h = cc
-left_when epid scene clause form true None e h = cc
-left_when epid scene clause form true (Some effects) e h = record {
-  effects = effects;
-  are = e;
-  values = sym (ap (λ (f : TakenForm). f.values) (some_is (some_is h)));
-}
-  where
-    some_is : {X : Type 0} {a b : X} → Some a ≡ Some b → a ≡ b
-    some_is h = cc
-
-left_by_predicate : (epid : ℕ) (scene : SceneForm) (clause : ClauseForm) (form : TakenForm) (o : Option ℤ)
-    → option_and_then
-    (λ z. cond (holds z) (option_map (λ effects. Some (taken_of epid clause.statements effects))
-    (each (effect scene) clause.statements)) (Some None)) o ≡ Some (Some form) → Left scene clause form
-left_by_predicate epid scene clause form None h = cc
-left_by_predicate epid scene clause form (Some z) h =
-    left_when epid scene clause form (holds z) (each (effect scene) clause.statements) refl h
-
-pub left_of : (epid : ℕ) (scene : SceneForm) (clause : ClauseForm) (form : TakenForm)
-    → taking epid scene clause ≡ Some (Some form) → Left scene clause form
-left_of epid scene clause form h =
-    left_by_predicate epid scene clause form (predicate_value scene clause.predicate) h

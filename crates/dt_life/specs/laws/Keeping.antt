@@ -15,7 +15,7 @@ use Rattle.dt_life.specs.Acceptance.{after_line}
 use Rattle.dt_life.specs.Life.{Item, asked, fired, SetUp, with_event, is_over, set_up, phase_of, ecbs, is_active}
 use Rattle.dt_life.specs.Life.{is_inactive, is_stopped, is_readable, has_room, accepts, happens, end_by, after_item}
 use Rattle.dt_life.specs.Life.{since_then, shapes_in}
-use Rattle.dt_life.specs.Takings.{TracingEvent, began, seen, read, truncated, ended}
+use Rattle.dt_life.specs.Takings.{TracingEvent, began, seen, snapped, truncated, ended}
 use Rattle.dt_life.specs.declared.phase.End.{End}
 use Rattle.dt_life.specs.declared.phase.Phase.{Phase}
 use Rattle.dt_life.specs.declared.phase.Phase.TheVariants.{Inactive, Active, Stopped}
@@ -77,7 +77,7 @@ module _ (account : Account) (registry : Registry) where
   line_keeps s (Ok stop) h =
       either s _ (is_active (phase_of s)) (λ is. record { traced = λ a. cc; clauses = λ a. refl })
   line_keeps s (Ok (snap cpu)) h =
-      either s (with_event s (read cpu)) (nat_lt cpu registry.cpus && is_readable s (phase_of s))
+      either s (with_event s (snapped cpu)) (nat_lt cpu registry.cpus && is_readable s (phase_of s))
       (λ is. record { traced = λ a. a; clauses = λ a. refl })
   line_keeps s (Ok (agg name)) h = same s
   line_keeps s (Ok (trunc name)) h =

@@ -1,5 +1,5 @@
 -- What a line within the quota leaves.
-use Rattle.std.proofs.Common.{◌≡◌, ◌-◌, ◌<◌, false, cond, List, ◌∷◌, Result, ap}
+use Rattle.std.proofs.Common.{◌≡◌, ◌<◌, false, cond, List, ◌∷◌, Result, ap}
 use Rattle.std.proofs.lemmas.Bool.{leb-false}
 use Rattle.dt_life.specs.Ask.{Ask}
 use Rattle.dt_life.specs.Acceptance.{after_line}

@@ -1,29 +1,25 @@
 -- The phase in words: nothing but an accepted `go` begins tracing, it ends at the earliest end, and then the first cause stays;
 -- no more firings are seen than the history has.
-use Rattle.std.proofs.Common.{◌≡◌, ◌≢◌, ℕ, ◌+◌, ◌<◌, ◌≤◌, ◌==◌, ◌&&◌, ◌||◌, Bool, true, false, cond, not, List, [], ◌∷◌}
-use Rattle.std.proofs.Common.{Option, Some, None, Result, Ok, Err, refl, ap, sym, subst, ◌∙◌, arith, is_none}
+use Rattle.std.proofs.Common.{◌≡◌, ◌≢◌, ◌&&◌, ◌||◌, Bool, true, false, cond, []}
+use Rattle.std.proofs.Common.{Option, Some, None, Ok, Err, refl, ap, ◌∙◌, is_none}
 use Rattle.std.proofs.lemmas.Bool.{and_parts, both_ways}
 use Rattle.std.specs.Bool.{nat_lt}
-use Rattle.std.specs.Option.{option_map, option_map_or, option_or}
+use Rattle.std.specs.Option.{option_map, option_map_or}
 use Rattle.dt_cred.specs.declared.account.Account.{Account}
-use Rattle.dt_cred.specs.declared.firing.Firing.{Firing}
-use Rattle.dt_ecb.specs.Ecbs.{ecbs_of}
 use Rattle.dt_lang.specs.Reads.{program, fault, destructive}
 use Rattle.dt_machine.specs.Registry.{Registry}
 use Rattle.dt_life.specs.Aggregations.{aggregation_of}
-use Rattle.dt_life.specs.Ask.{Ask, option, enable, go, stop, snap, agg, trunc, status, list, describe, close}
+use Rattle.dt_life.specs.Ask.{option, enable, go, stop, snap, agg, trunc, status, list, describe, close}
 use Rattle.dt_life.specs.Ending.{unless_ended, ended_at, ended_by}
-use Rattle.dt_life.specs.Life.{Item, asked, fired, SetUp, accepts, after_item, ecbs, end_by, happens, has_room, is_active}
-use Rattle.dt_life.specs.Life.{is_inactive, is_readable, is_stopped, nothing_yet, phase, phase_after, phase_of, seen_count, set_up}
+use Rattle.dt_life.specs.Life.{Item, asked, fired, SetUp, accepts, after_item, end_by, happens, has_room, is_active}
+use Rattle.dt_life.specs.Life.{is_inactive, is_readable, is_stopped, phase_of}
 use Rattle.dt_life.specs.Life.{shapes_in, since_then, with_event, with_options, with_program}
 use Rattle.dt_life.specs.Options.{with_setting}
-use Rattle.dt_life.specs.Takings.{TracingEvent, began, seen, read, truncated, ended, closed, first_exit, taken_by}
+use Rattle.dt_life.specs.Takings.{TracingEvent, began, seen, snapped, truncated, ended, closed}
 use Rattle.dt_life.specs.declared.phase.End.{End}
-use Rattle.dt_life.specs.declared.phase.End.TheVariants.{Stop, Exit, History}
-use Rattle.dt_life.specs.declared.phase.Phase.{Phase}
+use Rattle.dt_life.specs.declared.phase.End.TheVariants.{Stop}
 use Rattle.dt_life.specs.declared.phase.Phase.TheVariants.{Inactive, Active, Stopped}
-use Rattle.dt_life.specs.declared.refusal.Refusal.{Refusal}
-use Rattle.dt_life.specs.laws.Happening.{same_clauses, same_options}
+use Rattle.dt_life.specs.laws.Happening.{same_clauses}
 
 module _ (account : Account) (registry : Registry) where
   -- the phase after an event at which tracing may end
@@ -57,7 +53,7 @@ module _ (account : Account) (registry : Registry) where
   going_on s on (asked (Ok stop)) = ap (λ p. phase_of (cond (is_active p) (with_event s (ended Stop)) s)) on
   going_on s on (asked (Ok (snap cpu))) = either (nat_lt cpu registry.cpus && is_readable s (phase_of s))
     where
-      either : (b : Bool) → phase_of (cond b (with_event s (read cpu)) s) ≡ Active
+      either : (b : Bool) → phase_of (cond b (with_event s (snapped cpu)) s) ≡ Active
       either true = on
       either false = on
   going_on s on (asked (Ok (agg name))) = on
@@ -96,7 +92,7 @@ module _ (account : Account) (registry : Registry) where
       ap (λ p. phase_of (cond (is_active p) (with_event s (ended Stop)) s)) off ∙ off
   staying s cause off (asked (Ok (snap cpu))) = either (nat_lt cpu registry.cpus && is_readable s (phase_of s))
     where
-      either : (b : Bool) → phase_of (cond b (with_event s (read cpu)) s) ≡ Stopped cause
+      either : (b : Bool) → phase_of (cond b (with_event s (snapped cpu)) s) ≡ Stopped cause
       either true = off
       either false = off
   staying s cause off (asked (Ok (agg name))) = off
@@ -153,7 +149,7 @@ module _ (account : Account) (registry : Registry) where
   waiting s quiet (asked (Ok stop)) no_go no_close =
       ap (λ p. phase_of (cond (is_active p) (with_event s (ended Stop)) s)) quiet ∙ quiet
   waiting s quiet (asked (Ok (snap cpu))) no_go no_close =
-      quiet_either s (with_event s (read cpu)) (nat_lt cpu registry.cpus && is_readable s (phase_of s)) quiet quiet
+      quiet_either s (with_event s (snapped cpu)) (nat_lt cpu registry.cpus && is_readable s (phase_of s)) quiet quiet
   waiting s quiet (asked (Ok (agg name))) no_go no_close = quiet
   waiting s quiet (asked (Ok (trunc name))) no_go no_close =
       ap (λ p. phase_of (cond (is_inactive p || is_none (aggregation_of (shapes_in s) name)) s
@@ -196,7 +192,7 @@ module _ (account : Account) (registry : Registry) where
       either false = refl
   keeping s on (asked (Ok (snap cpu))) = either (nat_lt cpu registry.cpus && is_readable s (phase_of s))
     where
-      either : (b : Bool) → (cond b (with_event s (read cpu)) s).clauses ≡ s.clauses
+      either : (b : Bool) → (cond b (with_event s (snapped cpu)) s).clauses ≡ s.clauses
       either true = refl
       either false = refl
   keeping s on (asked (Ok (agg name))) = refl

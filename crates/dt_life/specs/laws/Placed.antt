@@ -1,5 +1,5 @@
 use Rattle.std.proofs.Common.{◌≡◌, ℕ, zero, suc, ◌+◌, ◌<◌, ◌==◌, List, [], ◌∷◌, Some, length, map, refl, sym, ap, ◌∙◌}
-use Rattle.std.proofs.Common.{subst, arith, ◌-◌, ◌≤◌, ◌++◌, get_or}
+use Rattle.std.proofs.Common.{subst, arith, ◌≤◌, ◌++◌, get_or}
 use Rattle.std.specs.List.{find, AllByRecursion, All}
 use Rattle.std.proofs.lemmas.Bool.{eqb-true}
 use Rattle.std.proofs.lemmas.List.Elements.{recursion_from_All, All-from_recursion}

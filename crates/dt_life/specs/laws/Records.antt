@@ -18,7 +18,7 @@ use Rattle.dt_program.specs.Program.{ClauseForm}
 use Rattle.dt_program.specs.Written.{IsWrittenClause}
 use Rattle.dt_record.specs.Layout.{layout_of}
 use Rattle.dt_record.specs.Showing.{CanBeTaken, FitLayout, IsLeftBy}
-use Rattle.dt_record.specs.Taking.{TakenForm, taking}
+use Rattle.dt_record.specs.Taking.{Outcome, TakenForm, abandoned, passed_over, leaves, left_in, taking}
 use Rattle.dt_record.specs.laws.Fitting.{records-fit}
 use Rattle.dt_life.specs.Aggregations.{aggregation_of}
 use Rattle.dt_life.specs.Ask.{option, enable, go, stop, snap, agg, trunc, status, list, describe, close}
@@ -27,7 +27,8 @@ use Rattle.dt_life.specs.Life.{is_active, is_inactive, is_readable, is_stopped, 
 use Rattle.dt_life.specs.Life.{since_then, with_event, with_options, with_program}
 use Rattle.dt_life.specs.Options.{with_setting}
 use Rattle.dt_life.specs.Scenes.{IsItemInBounds, IsLifeInBounds, IsOfLayout}
-use Rattle.dt_life.specs.Takings.{TracingEvent, began, seen, read, truncated, ended, closed, is_end, Taking, MomentForm}
+use Rattle.dt_life.specs.Takings.{TracingEvent, began, seen, snapped, truncated, ended, closed, is_end, Taking}
+use Rattle.dt_machine.specs.Moment.{MomentForm}
 use Rattle.dt_life.specs.Takings.{exit_of, moment_at, record_of, scene_at, taken_at, taken_on, taken_since, taking_of}
 use Rattle.dt_life.specs.Takings.{through_exit}
 use Rattle.dt_life.specs.declared.phase.End.{End}
@@ -191,8 +192,8 @@ module _ (account : Account) (registry : Registry) where
       item_leaves s (asked (Ok stop)) is h =
           either s (with_event s (ended Stop)) (is_active (phase_of s)) (λ on. event_in s (ended Stop) tt h) h
       item_leaves s (asked (Ok (snap cpu))) is h =
-          either s (with_event s (read cpu)) (nat_lt cpu registry.cpus && is_readable s (phase_of s))
-          (λ may. event_in s (read cpu) tt h) h
+          either s (with_event s (snapped cpu)) (nat_lt cpu registry.cpus && is_readable s (phase_of s))
+          (λ may. event_in s (snapped cpu) tt h) h
       item_leaves s (asked (Ok (agg name))) is h = h
       item_leaves s (asked (Ok (trunc name))) is h =
           either_not s (with_event s (truncated name))
@@ -285,29 +286,29 @@ module _ (clauses : List ClauseForm) where
       let few = is.ecb_is.few in
       can_be_taken is.moment is.ecb.epid is.ecb.clause is.moment_is (omega arith) is.ecb_is.written
 
-  came_of_layout : (t : Taking) (is : IsTakenOf clauses t) (came : Option (Option TakenForm))
-      → taking is.ecb.epid (scene_at is.moment is.ecb.epid) is.ecb.clause ≡ came
-      → IfSome (option_and_then (λ left. left) came)
+  outcome_of_layout : (t : Taking) (is : IsTakenOf clauses t) (outcome : Outcome)
+      → taking is.ecb.epid (scene_at is.moment is.ecb.epid) is.ecb.clause ≡ outcome
+      → IfSome (left_in outcome)
       (λ left. FitLayout is.ecb.epid (scene_at is.moment is.ecb.epid) is.ecb.clause (layout_of is.ecb.clause)
       left.record_bytes)
-  came_of_layout t is None e = tt
-  came_of_layout t is (Some None) e = tt
-  came_of_layout t is (Some (Some left)) e =
+  outcome_of_layout t is abandoned e = tt
+  outcome_of_layout t is passed_over e = tt
+  outcome_of_layout t is (leaves left) e =
       records-fit is.ecb.epid (scene_at is.moment is.ecb.epid) is.ecb.clause left (can_take t is) e
 
   -- what it left fits the layout
   pub taken_of_layout : (t : Taking) → IsTakenOf clauses t → IsOfLayout t
   taken_of_layout t is =
       subst IsOfLayout (sym is.same)
-      (came_of_layout t is (taking is.ecb.epid (scene_at is.moment is.ecb.epid) is.ecb.clause) refl)
+      (outcome_of_layout t is (taking is.ecb.epid (scene_at is.moment is.ecb.epid) is.ecb.clause) refl)
 
-  came_left : (t : Taking) (is : IsTakenOf clauses t) (came : Option (Option TakenForm)) (bytes : List ℕ)
-      → taking is.ecb.epid (scene_at is.moment is.ecb.epid) is.ecb.clause ≡ came
-      → option_and_then (λ (form : TakenForm). form.record_bytes) (option_and_then (λ left. left) came) ≡ Some bytes
+  outcome_left : (t : Taking) (is : IsTakenOf clauses t) (outcome : Outcome) (bytes : List ℕ)
+      → taking is.ecb.epid (scene_at is.moment is.ecb.epid) is.ecb.clause ≡ outcome
+      → option_and_then (λ (form : TakenForm). form.record_bytes) (left_in outcome) ≡ Some bytes
       → IsLeftBy clauses bytes
-  came_left t is None bytes e these = cc
-  came_left t is (Some None) bytes e these = cc
-  came_left t is (Some (Some left)) bytes e these =
+  outcome_left t is abandoned bytes e these = cc
+  outcome_left t is passed_over bytes e these = cc
+  outcome_left t is (leaves left) bytes e these =
       let few = is.ecb_is.few in
       let counted = is.ecb_is.counted in
       record {
@@ -318,7 +319,7 @@ module _ (clauses : List ClauseForm) where
         scene = scene_at is.moment is.ecb.epid;
         can = can_take t is;
         left = left;
-        taken = subst (λ n. taking n (scene_at is.moment is.ecb.epid) is.ecb.clause ≡ Some (Some left)) counted e;
+        taken = subst (λ n. taking n (scene_at is.moment is.ecb.epid) is.ecb.clause ≡ leaves left) counted e;
         these = these;
       }
 
@@ -326,7 +327,7 @@ module _ (clauses : List ClauseForm) where
   pub taken_left : (t : Taking) → IsTakenOf clauses t → (bytes : List ℕ) → record_of t ≡ Some bytes
       → IsLeftBy clauses bytes
   taken_left t is bytes e =
-      came_left t is (taking is.ecb.epid (scene_at is.moment is.ecb.epid) is.ecb.clause) bytes refl
+      outcome_left t is (taking is.ecb.epid (scene_at is.moment is.ecb.epid) is.ecb.clause) bytes refl
       (subst (λ x. record_of x ≡ Some bytes) is.same e)
 
 -- a whole life

@@ -30,8 +30,10 @@ use Rattle.dt_record.specs.Showing.{CanBeTaken, IsExpressionInBounds, IsSceneInB
 use Rattle.dt_life.specs.Ask.{Ask, option, enable, go, stop, snap, agg, trunc, status, list, describe, close}
 use Rattle.dt_life.specs.Life.{Item, asked, fired}
 use Rattle.dt_life.specs.Scenes.{IsItemInBounds, IsLifeInBounds, IsLifeOn, IsReadingInBounds, MayBeAsked, MayReach}
-use Rattle.dt_life.specs.Takings.{TracingEvent, began, seen, read, truncated, ended, closed, MomentForm, moment_at}
-use Rattle.dt_life.specs.Takings.{moment_in, own_firing, own_process, scene_at}
+use Rattle.dt_life.specs.Takings.{TracingEvent, began, seen, snapped, truncated, ended, closed, moment_at}
+use Rattle.dt_machine.specs.Moment.{MomentForm}
+use Rattle.dt_life.specs.Takings.{own_firing, own_process, scene_at}
+use Rattle.dt_machine.specs.Moment.{moment_in}
 use Rattle.dt_life.specs.declared.refusal.Refusal.{Refusal}
 
 -- lists
@@ -143,7 +145,7 @@ module _ (account : Account) (registry : Registry) (uid : account.uid < 2 ^ 32)
   moment_in_bounds (seen firing) h =
       found_in (probe_of registry firing.probe) (process_of registry firing.pid) firing (probes firing.probe)
       (processes firing.pid) h
-  moment_in_bounds (read cpu) h = tt
+  moment_in_bounds (snapped cpu) h = tt
   moment_in_bounds (truncated name) h = tt
   moment_in_bounds (ended end) h = own_in 2
   moment_in_bounds closed h = tt

@@ -8,7 +8,6 @@ use Rattle.dt_life.specs.Life.{Item, phase, ecbs, is_active}
 use Rattle.dt_life.specs.Sees.{Sees}
 use Rattle.dt_life.specs.declared.phase.Phase.{Phase}
 use Rattle.dt_life.specs.declared.phase.Phase.TheVariants.{Inactive, Active, Stopped}
-use Rattle.dt_machine.specs.Tests.{belongs}
 use Rattle.dt_life.specs.Tests.{is_seen}
 use Rattle.dt_machine.specs.laws.Tests.{belongs_from, belongs_to, shown_from, shown_to}
 use Rattle.dt_ecb.specs.laws.Interest.{wanted_from, wanted_to}

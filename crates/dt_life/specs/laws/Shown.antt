@@ -22,7 +22,7 @@ use Rattle.dt_record.specs.laws.Fitting.{left-split}
 use Rattle.dt_life.specs.Buffers.{attempts_of, comes_by, comes_since, past}
 use Rattle.dt_life.specs.Life.{Item, ecbs, set_up}
 use Rattle.dt_life.specs.Scenes.{IsLifeInBounds}
-use Rattle.dt_life.specs.Takings.{TracingEvent, began, seen, read, truncated, ended, closed, Taking, record_of, taken_on}
+use Rattle.dt_life.specs.Takings.{TracingEvent, began, seen, snapped, truncated, ended, closed, Taking, record_of, taken_on}
 use Rattle.dt_life.specs.laws.Lists.{map_twice}
 use Rattle.dt_life.specs.laws.Records.{IsTakenOf, all_filtered, all_joined, clause_of, life_seen_in, life_taken_on, taken_left}
 use Rattle.dt_life.specs.laws.Scenes.{IsEventInBounds}
@@ -150,7 +150,7 @@ module _ (account : Account) (registry : Registry)
       → AllByRecursion IsCome (comes_by account registry (ecbs account registry life) cpu event)
   come_by began h = taken_come began h
   come_by (seen firing) h = taken_come (seen firing) h
-  come_by (read n) h = swapped (IsLeftBy clauses) (n == cpu)
+  come_by (snapped n) h = swapped (IsLeftBy clauses) (n == cpu)
   come_by (truncated name) h = taken_come (truncated name) h
   come_by (ended end) h = taken_come (ended end) h
   come_by closed h = taken_come closed h

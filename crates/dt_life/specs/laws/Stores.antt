@@ -19,7 +19,8 @@ use Rattle.dt_life.specs.Aggregations.{aggregation_of, contributions}
 use Rattle.dt_life.specs.Following.{where_taken}
 use Rattle.dt_life.specs.Life.{SetUp, ecbs_in, shapes_in, since_then, with_event}
 use Rattle.dt_life.specs.Stores.{given_in, given_on}
-use Rattle.dt_life.specs.Takings.{TracingEvent, began, seen, read, truncated, ended, is_end, Taking, MomentForm}
+use Rattle.dt_life.specs.Takings.{TracingEvent, began, seen, snapped, truncated, ended, is_end, Taking}
+use Rattle.dt_machine.specs.Moment.{MomentForm}
 use Rattle.dt_life.specs.Takings.{moment_at, taken_at, taken_on, closed}
 use Rattle.dt_life.specs.Uses.{AreGiven, given_and, given_then}
 use Rattle.dt_life.specs.laws.Giving.{given_none, same_at}
@@ -66,7 +67,7 @@ given_firing : (account : Account) (registry : Registry) (shapes : List ShapeFor
     ≡ contributions shapes (taken_on account registry ecbs cpu event)
 given_firing account registry shapes ecbs cpu began is = refl
 given_firing account registry shapes ecbs cpu (seen firing) is = refl
-given_firing account registry shapes ecbs cpu (read n) is = absurd is
+given_firing account registry shapes ecbs cpu (snapped n) is = absurd is
 given_firing account registry shapes ecbs cpu (truncated name) is = absurd is
 given_firing account registry shapes ecbs cpu (ended end) is = refl
 given_firing account registry shapes ecbs cpu closed is = refl

@@ -3,12 +3,13 @@ use Rattle.std.proofs.Common.{◌≡◌, ℕ, ℤ, zero, suc, ◌+◌, ◌<◌, 
 use Rattle.std.proofs.Common.{◌++◌, length, filter, if◌then◌else◌, Option, Some, None, map, refl, sym, ap, subst, ◌∙◌}
 use Rattle.std.proofs.Common.{arith}
 use Rattle.std.specs.List.{All}
-use Rattle.std.specs.Option.{is_none, is_some, option_or}
+use Rattle.std.specs.Option.{is_some, option_or}
 use Rattle.std.proofs.lemmas.List.{length-append, map-append, take_more}
 use Rattle.dt_lang.specs.Program.{form_of_clause}
 use Rattle.dt_program.specs.declared.clause.Clause.{Clause}
 use Rattle.dt_ecb.specs.Forms.{no_clause}
 use Rattle.dt_ecb.specs.declared.parts.Ecb.{Ecb}
+use Rattle.dt_record.specs.Taking.{is_abandoned}
 use Rattle.dt_life.specs.Takings.{Taking, exit_of, first_exit, through_exit, faults}
 
 picked-append : {X : Type 0} (b : Bool) (x : X) (xs ys zs : List X) → zs ≡ xs ++ ys
@@ -23,8 +24,8 @@ filter-append p (x ∷ xs) ys =
 
 pub faults-append : (xs ys : List Taking) → faults (xs ++ ys) ≡ faults xs + faults ys
 faults-append xs ys =
-    ap length (filter-append (λ (t : Taking). is_none t.came) xs ys)
-    ∙ length-append (filter (λ (t : Taking). is_none t.came) xs) (filter (λ (t : Taking). is_none t.came) ys)
+    ap length (filter-append (λ (t : Taking). is_abandoned t.outcome) xs ys)
+    ∙ length-append (filter (λ (t : Taking). is_abandoned t.outcome) xs) (filter (λ (t : Taking). is_abandoned t.outcome) ys)
 
 -- the takings of a row, one ECB further
 pub row_more : (f : Ecb → Taking) (row : List Ecb) (i : ℕ) (ecb : Ecb) → i < length row → ecb ≡ get_or row i ecb

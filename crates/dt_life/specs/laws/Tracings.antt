@@ -1,5 +1,5 @@
 -- What an event makes of a set-up, and what comes of it.
-use Rattle.std.proofs.Common.{◌≡◌, ℕ, ℤ, ◌+◌, ◌==◌, Bool, true, false, cond, List, [], ◌∷◌, ◌++◌, Option, Some, None}
+use Rattle.std.proofs.Common.{◌≡◌, ℕ, ℤ, ◌==◌, Bool, true, false, cond, List, [], ◌∷◌, ◌++◌, Option, Some, None}
 use Rattle.std.proofs.Common.{map, refl, ap, ◌∙◌}
 use Rattle.std.specs.Option.{is_some, option_map, option_map_or, option_or}
 use Rattle.dt_buffer.specs.History.{of_end}
@@ -10,17 +10,17 @@ use Rattle.dt_ecb.specs.Ecbs.{EcbForm, of_probe}
 use Rattle.dt_life.specs.Buffers.{attempts_of, comes_by, past_in}
 use Rattle.dt_life.specs.Following.{where_taken}
 use Rattle.dt_life.specs.Life.{SetUp, ecbs_in, end_by, happens, seen_count, with_event}
-use Rattle.dt_life.specs.Takings.{TracingEvent, began, seen, read, truncated, ended, closed, is_end, Taking, MomentForm}
+use Rattle.dt_life.specs.Takings.{TracingEvent, began, seen, snapped, truncated, ended, closed, is_end, Taking}
+use Rattle.dt_machine.specs.Moment.{MomentForm}
 use Rattle.dt_life.specs.Takings.{exit_of, first_exit, moment_at, record_of, taken_at, taken_by, taken_on, taking_of}
 use Rattle.dt_life.specs.Takings.{through_exit}
-use Rattle.dt_life.specs.Limits.{end_id}
 use Rattle.dt_life.specs.declared.phase.End.{End}
 use Rattle.dt_life.specs.declared.phase.End.TheVariants.{Exit, History}
 use Rattle.dt_life.specs.laws.Buffers.{ordinary_one, of_end-append}
 
 -- an event at which ECBs are taken
 abbrev pub IsFiring : TracingEvent → Type 0
-IsFiring (read cpu) = ⊥
+IsFiring (snapped cpu) = ⊥
 IsFiring (truncated name) = ⊥
 IsFiring _ = Unit {0}
 
@@ -33,7 +33,7 @@ module _ (account : Account) (registry : Registry) (s : SetUp) where
       ≡ attempts_of (taken_on account registry (ecbs_in account registry s) cpu event)
   comes_firing cpu began is = refl
   comes_firing cpu (seen firing) is = refl
-  comes_firing cpu (read n) is = absurd is
+  comes_firing cpu (snapped n) is = absurd is
   comes_firing cpu (truncated name) is = absurd is
   comes_firing cpu (ended end) is = refl
   comes_firing cpu closed is = refl

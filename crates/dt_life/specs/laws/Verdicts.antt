@@ -25,7 +25,7 @@ use Rattle.dt_life.specs.Life.{with_event, shapes_in}
 use Rattle.dt_life.specs.Options.{Setting, with_setting}
 use Rattle.dt_life.specs.Reply.{Replies, RepliesInQuota, IsVerdictOnCommand, Accepted, is_asked_late, ecb_of}
 use Rattle.dt_life.specs.Reply.{refusal_of, known}
-use Rattle.dt_life.specs.Takings.{began, ended, read, truncated, closed}
+use Rattle.dt_life.specs.Takings.{began, ended, snapped, truncated, closed}
 use Rattle.dt_life.specs.declared.phase.End.TheVariants as end
 use Rattle.dt_life.specs.declared.phase.Phase.{Phase}
 use Rattle.dt_life.specs.declared.phase.Phase.TheVariants.{Inactive, Active, Stopped}
@@ -271,23 +271,23 @@ module _ (account : Account) (registry : Registry) (life : List Item) where
   pub idle_early : (n : ℕ) → is_readable (set_up account registry life) (phase account registry life) ≡ false
       → set_up account registry (asked (Ok (snap n)) ∷ life) ≡ now
   idle_early n off =
-      ap (λ b. cond (nat_lt n registry.cpus && b) (with_event now (read n)) now) off ∙ neither (nat_lt n registry.cpus)
+      ap (λ b. cond (nat_lt n registry.cpus && b) (with_event now (snapped n)) now) off ∙ neither (nat_lt n registry.cpus)
     where
-      neither : (b : Bool) → cond (b && false) (with_event now (read n)) now ≡ now
+      neither : (b : Bool) → cond (b && false) (with_event now (snapped n)) now ≡ now
       neither true = refl
       neither false = refl
 
   pub idle_past : (n : ℕ) → registry.cpus ≤ n → set_up account registry (asked (Ok (snap n)) ∷ life) ≡ now
   idle_past n past = ap
-      (λ b. cond (b && is_readable now (phase_of now)) (with_event now (read n)) now) (le-ltb n registry.cpus past)
+      (λ b. cond (b && is_readable now (phase_of now)) (with_event now (snapped n)) now) (le-ltb n registry.cpus past)
 
   pub read_by_snap : (n : ℕ) → n < registry.cpus
       → is_readable (set_up account registry life) (phase account registry life) ≡ true
-      → set_up account registry (asked (Ok (snap n)) ∷ life) ≡ with_event (set_up account registry life) (read n)
+      → set_up account registry (asked (Ok (snap n)) ∷ life) ≡ with_event (set_up account registry life) (snapped n)
   read_by_snap n inside on =
-      ap (λ b. cond (b && is_readable now (phase_of now)) (with_event now (read n)) now)
+      ap (λ b. cond (b && is_readable now (phase_of now)) (with_event now (snapped n)) now)
       (lt-ltb n registry.cpus inside)
-      ∙ ap (λ b. cond b (with_event now (read n)) now) on
+      ∙ ap (λ b. cond b (with_event now (snapped n)) now) on
 
   -- `agg` and `trunc`
   abbrev by_known : Option Aggregation → Option Refusal

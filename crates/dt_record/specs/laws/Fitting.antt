@@ -6,7 +6,7 @@ use Rattle.std.proofs.lemmas.List.{length-append, length-replicate, length-take-
 use Rattle.std.proofs.lemmas.Option.{slice_get-map}
 use Rattle.std.specs.Int.{w64, cast_unsigned}
 use Rattle.std.specs.List.{fold, flat_map, filter, AllByRecursion}
-use Rattle.std.specs.Option.{option_map, option_and_then}
+use Rattle.std.specs.Option.{option_map, option_and_then, option_map_or}
 use Rattle.std.specs.Prelude.{if◌then◌else◌}
 use Rattle.byteorder.specs.Endian.{big_bytes}
 use Rattle.byteorder.specs.Numbers.{length-bytes_high_first}
@@ -29,7 +29,7 @@ use Rattle.dt_record.specs.Showing.{IsSceneInBounds, IsTextInBounds, IsStatement
 use Rattle.dt_record.specs.Showing.{IsLeftBy}
 use Rattle.dt_record.specs.Taking.{TakenForm, Effect, records, gives, exits, each, effect, recorded}
 use Rattle.dt_record.specs.Taking.{epid_bytes, number_bytes, value_bytes, argument_value, given, leaves_record}
-use Rattle.dt_record.specs.Taking.{is_recording, predicate_value, taken_of, taking}
+use Rattle.dt_record.specs.Taking.{is_recording, predicate_value, taken_of, abandoned, passed_over, leaves, taking}
 use Rattle.dt_record.specs.laws.Numbers.{value_fits}
 
 shift : (a : ℕ) (xs : List ℕ) → fold ◌+◌ a xs ≡ a + sum xs
@@ -208,15 +208,16 @@ module _ (scene : SceneForm) (is : IsSceneInBounds scene) where
 
 -- the effects of a clause that leaves something
 held : (b : Bool) (left : TakenForm) (epid : ℕ) (statements : List StatementForm) (os : Option (List Effect))
-    → (if b then option_map (λ effects. Some (taken_of epid statements effects)) os else Some None) ≡ Some (Some left)
+    → (if b then option_map_or (λ effects. leaves (taken_of epid statements effects)) os abandoned else passed_over)
+    ≡ leaves left
     → (effects : List Effect) × (os ≡ Some effects) × (left ≡ taken_of epid statements effects)
 held true left epid statements None e = cc
 held true left epid statements (Some effects) e = (effects, refl, cc)
 held false left epid statements os e = cc
 
 pub effects_of : (p : Option ℤ) (left : TakenForm) (epid : ℕ) (statements : List StatementForm) (os : Option (List Effect))
-    → option_and_then (λ z. if holds z then option_map (λ effects. Some (taken_of epid statements effects)) os else Some None) p
-    ≡ Some (Some left)
+    → option_map_or (λ z. if holds z then option_map_or (λ effects. leaves (taken_of epid statements effects)) os abandoned
+    else passed_over) p abandoned ≡ leaves left
     → (effects : List Effect) × (os ≡ Some effects) × (left ≡ taken_of epid statements effects)
 effects_of None left epid statements os e = cc
 effects_of (Some z) left epid statements os e = held (holds z) left epid statements os e
@@ -229,7 +230,7 @@ either false epid scene clause fields bytes is = tt
 
 -- what a clause leaves of a scene is a record of its layout, or neither is there
 pub records-fit : (epid : ℕ) (scene : SceneForm) (clause : ClauseForm) (left : TakenForm) → CanBeTaken scene clause
-    → taking epid scene clause ≡ Some (Some left) → FitLayout epid scene clause (layout_of clause) left.record_bytes
+    → taking epid scene clause ≡ leaves left → FitLayout epid scene clause (layout_of clause) left.record_bytes
 records-fit epid scene clause left can e =
     let got = effects_of (predicate_value scene clause.predicate) left epid clause.statements
     (each (effect scene) clause.statements) e in

@@ -18,7 +18,7 @@ use Rattle.dt_record.specs.Layout.{FieldForm, fields_of, field_size, layout_of, 
 use Rattle.dt_record.specs.Layout as layout
 use Rattle.dt_record.specs.Showing.{HasLengths, IsTextInBounds, IsOfLength}
 use Rattle.dt_record.specs.Taking.{TakenForm, Effect, records, each, effect, recorded, epid_bytes}
-use Rattle.dt_record.specs.Taking.{argument_value, given, leaves_record, predicate_value, taking}
+use Rattle.dt_record.specs.Taking.{argument_value, given, leaves_record, predicate_value, leaves, taking}
 use Rattle.dt_record.specs.laws.Fitting.{sum_of, frames_long, padded_long, number_put, no_bytes_of_exit, no_bytes_of_use}
 use Rattle.dt_record.specs.laws.Fitting.{parts, effects_of}
 
@@ -88,7 +88,7 @@ either false fields front bytes is e = cc
 -- the record that a clause leaves is as long as its layout says
 pub left_long : (epid : ℕ) (scene : SceneForm) (clause : ClauseForm) (left : TakenForm) (bytes : List ℕ)
     → HasLengths scene → AllByRecursion IsOfLength clause.statements
-    → taking epid scene clause ≡ Some (Some left) → left.record_bytes ≡ Some bytes
+    → taking epid scene clause ≡ leaves left → left.record_bytes ≡ Some bytes
     → length bytes ≡ layout_size (layout_of clause)
 left_long epid scene clause left bytes is right e these =
     let got = effects_of (predicate_value scene clause.predicate) left epid clause.statements

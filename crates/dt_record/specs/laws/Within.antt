@@ -14,7 +14,7 @@ use Rattle.dt_program.specs.Written.{IsWrittenClause, IsWrittenStatement}
 use Rattle.dt_record.specs.Layout.{FieldForm, fields_of, field_size, layout_of, layout_size}
 use Rattle.dt_record.specs.Limits.{record_max, values_max}
 use Rattle.dt_record.specs.Taking.{TakenForm, Effect, gives, exits, each, effect, contributed}
-use Rattle.dt_record.specs.Taking.{argument_value, given, leaves_record, predicate_value, taking}
+use Rattle.dt_record.specs.Taking.{argument_value, given, leaves_record, predicate_value, leaves, taking}
 use Rattle.dt_record.specs.Within.{IsStatementWithinLimits, IsWithinLimits}
 use Rattle.dt_record.specs.laws.Fitting.{sum_of, number_put, parts, effects_of}
 
@@ -102,7 +102,7 @@ module _ (scene : SceneForm) where
 
 -- what a clause gives to aggregations
 pub values_few : (epid : ℕ) (scene : SceneForm) (clause : ClauseForm) (left : TakenForm) → IsWithinLimits clause
-    → taking epid scene clause ≡ Some (Some left) → length left.values ≤ values_max
+    → taking epid scene clause ≡ leaves left → length left.values ≤ values_max
 values_few epid scene clause left within e =
     let got = effects_of (predicate_value scene clause.predicate) left epid clause.statements
     (each (effect scene) clause.statements) e in

@@ -1,8 +1,9 @@
 -- What becomes of the program.
-use Rattle.std.proofs.Common.{◌∙◌, sym, length, arith}
+use Rattle.std.proofs.Common.{◌∙◌, ap, sym, length, arith}
 use Rattle.std.proofs.lemmas.List.{length-map}
 use Rattle.dt_program.specs.Program.{form_of_program, form_of_clause}
-use Rattle.dt_ecb.specs.Forms.{shapes_of}
+use Rattle.dt_ecb.specs.Forms.{form_of_ecb, shapes_of}
+use Rattle.dt_ecb.specs.laws.Enabled.{matched_many, length-added}
 use Rattle.dt_ecb.specs.Shapes.{uses_of}
 use Rattle.dt_ecb.proofs.EnableLemmas.{no_answer, much_is, forms_are, placed}
 use Rattle.dt_ecb.proofs.VerdictLaws.{all_pass}
@@ -44,3 +45,20 @@ returns-clause-placed c =
     (form_of_program c.args.program.now) c.in_ok-ecbs.ecbs.items c.in_ok-ecbs.ensures.value
     (length c.args.program.now.clauses.items)
     (omega (arith, length-map c.args.program.now.clauses.items form_of_clause))
+
+pub returns-clause-each : goal.returns-clause-each
+returns-clause-each c =
+    let clauses = form_of_program c.args.program.now in
+    let account = c.args.account.now in
+    let registry = c.args.machine.now.registry in
+    let ecbs = c.in_ok-ecbs.ecbs.items in
+    let made = forms_are account registry (shapes_of c.args.shapes.now) c.args.next_epid clauses ecbs
+    c.in_ok-ecbs.ensures.value in
+    omega (
+      arith,
+      matched_many account registry clauses (no_answer _ _ _ c.in_default-first_unmatched.not-Some c.first_unmatched.ensures),
+      length-added account registry c.args.next_epid clauses,
+      ap length made,
+      length-map ecbs (form_of_ecb clauses),
+      length-map c.args.program.now.clauses.items form_of_clause,
+    )

@@ -1,5 +1,5 @@
 -- What the proof of `first_foreign_in` is told at its goals.
-use Rattle.std.proofs.Common.{◌≡◌, true, Option, Some, None}
+use Rattle.std.proofs.Common.{◌≡◌, true, Option, Some, None, subst}
 use Rattle.std.specs.Option.{MatchOption, is_some}
 use Rattle.dt_machine.specs.Registry.{Belongs}
 use Rattle.dt_machine.specs.Sections.{registry_of}
@@ -17,7 +17,8 @@ pub loop-place-preserved : goal.loop-place-preserved
 loop-place-preserved c =
     right_more (λ _ firing. Belongs (registry_of c.args.sections.now) firing) c.args.script.now c.loop-place.place
     _ c.loop-place.invariant (slice_get-get_or c.args.script.now c.loop-place.place _ c.loop-place-test.true)
-    (of_found c.belonging.result _ _ _ c.if-is_none.ensures (λ _ found. found.0) c.belonging.ensures)
+    (of_found c.moment.result _ _ _ c.if-is_none.ensures
+    (λ moment found. subst (Belongs (registry_of c.args.sections.now)) found.1 found.0.belongs) c.moment.ensures)
 
 pub returns : goal.returns
 returns c = right_all (λ _ firing. Belongs (registry_of c.args.sections.now) firing) c.args.script.now

@@ -1,10 +1,11 @@
 -- What the proof of `process_of` is told at its goals.
-use Rattle.std.proofs.Common.{◌≡◌, ◌≢◌, ◌∙◌, ◌^◌, ℕ, true, false, List, Option, Some, All, ap, sym, subst, map, arith}
+use Rattle.std.proofs.Common.{◌≡◌, ◌≢◌, ◌∙◌, ◌^◌, ℕ, List, Option, Some, All, ap, sym, subst, map, arith}
+use Rattle.std.specs.Prelude.{is_some}
 use Rattle.serde_json.specs.View.{view}
 use Rattle.dt_cred.specs.declared.account.Process.{Process}
 use Rattle.dt_machine.specs.Rows.{ProcessRow, process_row, process, number_in, IsGivenBelow, IsExecname}
 use Rattle.dt_machine.specs.laws.Soundness.{below_some}
-use Rattle.dt_machine.proofs.ByPid.{indexed, seen, unseen, looked_up, none_of}
+use Rattle.dt_machine.proofs.ByPid.{indexed, seen, unseen, none_of}
 use Rattle.dt_machine.proofs.processes.process_of.Goals as goal
 
 same : {pid pid' uid uid' : ℕ} {name name' : List ℕ} → pid ≡ pid' → uid ≡ uid' → name ≡ name'
@@ -19,7 +20,7 @@ returns-then-is_some c rows e known indexes right =
     let given : row.pid ≡ Some pid = sym c.unsigned_at.ensures
     ∙ below_some 1000000 c.unsigned_at.result c.in_ok-pid.ensures.0 ∙ ap Some (sym c.in_ok-pid.ensures.1) in
     let found = sym (indexed c.args.by_pid.now (map process rows) indexes pid)
-    ∙ looked_up c.get.result _ true c.get.ensures.value (sym c.is_some.ensures ∙ c.if-is_some.true) in
+    ∙ ap is_some (sym c.place_of.ensures) ∙ sym c.is_some.ensures ∙ c.if-is_some.true in
     let P : Option ℕ → Type 0 = λ number. All (λ (earlier : ProcessRow). earlier.pid ≢ number) rows in
     seen rows pid known found (subst P given right.new)
 
@@ -30,7 +31,7 @@ returns c rows e known indexes =
     let given : row.pid ≡ Some pid = sym c.unsigned_at.ensures
     ∙ below_some 1000000 c.unsigned_at.result c.in_ok-pid.ensures.0 ∙ ap Some (sym c.in_ok-pid.ensures.1) in
     let missing = sym (indexed c.args.by_pid.now (map process rows) indexes pid)
-    ∙ looked_up c.get.result _ false c.get.ensures.value (sym c.is_some.ensures ∙ c.if-is_some.false) in
+    ∙ ap is_some (sym c.place_of.ensures) ∙ sym c.is_some.ensures ∙ c.if-is_some.false in
     let P : Option ℕ → Type 0 = λ number. All (λ (earlier : ProcessRow). earlier.pid ≢ number) rows in
     let B : Option ℕ → Type 0 = IsGivenBelow 1000000 in
     let U : Option ℕ → Type 0 = IsGivenBelow (2 ^ 32) in

@@ -56,7 +56,7 @@ loop-value-preserved c =
           right.0.pid));
       indexes = subst I (sym pushed) (indexes_more c.insert.new.self c.loop-value.by_pid
           c.loop-value.processes.items p c.len-in-Some.result placed c.loop-value.invariant.indexes
-          c.in_ok-insert-in-Some.ensures.updates.0 fresh);
+          c.in_ok-insert-in-Some.ensures fresh);
     }
 
 pub returns-in-None-clause-fault : goal.returns-in-None-clause-fault

@@ -1,5 +1,5 @@
 -- Nothing is kept, and no list is there.
-use Rattle.std.proofs.Common.{◌≡◌, ℕ, zero, suc, None, get_or, replicate, refl}
+use Rattle.std.proofs.Common.{◌≡◌, ℕ, zero, suc, None, get_or, replicate, refl, sym, ◌∙◌}
 use Rattle.std.proofs.lemmas.Bool.{false≢true}
 use Rattle.dt_chain.proofs.entries.Entries.new.Goals as goal
 
@@ -11,5 +11,5 @@ copies (suc count) (suc place) x = copies count place x
 pub returns : goal.returns
 returns c = record {
   kept = λ seat. copies 256 seat None;
-  listed = λ probe seat. rw c.new.ensures.items (λ e. absurd (false≢true e), λ (e : ⊥). absurd e);
+  listed = λ probe seat. (λ e. absurd (false≢true (sym (c.new.ensures probe seat) ∙ e)), λ (e : ⊥). absurd e);
 }

@@ -1,6 +1,6 @@
 -- The word of the seat was changed at its place.
 use Rattle.std.proofs.Common.{true, arith}
-use Rattle.dt_chain.proofs.Words.{changed_word}
+use Rattle.dt_machine.specs.laws.Words.{changed_word}
 use Rattle.dt_chain.proofs.seat_set.SeatSet.insert.Goals as goal
 
 pub returns : goal.returns

@@ -1,7 +1,7 @@
 -- Where a word isn't empty, there is a seat; and all words were passed.
 use Rattle.std.proofs.Common.{◌*◌, ◌+◌, IsTrue, sym, ◌∙◌}
 use Rattle.std.proofs.lemmas.Bool.{false≢true}
-use Rattle.dt_chain.proofs.Words.{has_at}
+use Rattle.dt_machine.specs.laws.Words.{has_at}
 use Rattle.dt_chain.proofs.seat_set.SeatSet.is_empty.Goals as goal
 
 pub returns-then-not-is_empty : goal.returns-then-not-is_empty
@@ -9,7 +9,7 @@ returns-then-not-is_empty c = (
   λ e. absurd (false≢true e),
   λ none.
       let empty : IsTrue c.is_empty.result = c.is_empty.ensures.1
-      (λ place low. sym (has_at c.args.self.now c.loop-word.word place low)
+      (λ place low. sym (has_at c.args.self.now.words c.loop-word.word place low)
       ∙ none (c.loop-word.word * 64 + place)) in
       absurd (false≢true (sym c.if-not-is_empty.true ∙ empty)),
 )

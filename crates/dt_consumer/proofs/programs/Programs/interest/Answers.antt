@@ -11,7 +11,7 @@ loop-ecb-init c = has_none c.new-interest.result c.new-interest.ensures
 pub loop-ecb-preserved : goal.loop-ecb-preserved
 loop-ecb-preserved c =
     has_more c.loop-ecb.interest c.insert.new.self c.deref-ecb-items.result.now c.loop-ecb.ecb-index c.ecb-item.result
-    c.loop-ecb-test.true c.ecb-item.is c.insert.ensures.taken_in c.insert.ensures.others c.loop-ecb.invariant
+    c.loop-ecb-test.true c.ecb-item.is c.insert.ensures c.loop-ecb.invariant
 
 pub returns : goal.returns
 returns c =

@@ -8,8 +8,8 @@ use Rattle.dt_consumer.proofs.Tracings.{becomes}
 use Rattle.dt_life.specs.laws.Tracings.{end_is, happens_last, happens_on}
 use Rattle.dt_consumer.proofs.tracing.Tracing.begin.Goals as goal
 
-pub returns-in_default : goal.returns-in_default
-returns-in_default c = λ s same own kept shaped room.
+pub returns-in_default-clause-traces : goal.returns-in_default-clause-traces
+returns-in_default-clause-traces c = λ s same own kept shaped room.
     let account = c.args.account.now in
     let registry = c.args.machine.now.registry in
     let fresh = since_then s [] in
@@ -21,8 +21,8 @@ returns-in_default c = λ s same own kept shaped room.
     ∙ sym c.end_after.ensures ∙ c.in_default.is))
     fired.0
 
-pub returns : goal.returns
-returns c = λ s same own kept shaped room.
+pub returns-clause-traces : goal.returns-clause-traces
+returns-clause-traces c = λ s same own kept shaped room.
     let account = c.args.account.now in
     let registry = c.args.machine.now.registry in
     let fresh = since_then s [] in
@@ -33,4 +33,4 @@ returns c = λ s same own kept shaped room.
     (end_is account registry next began c.in_ok-tracing.exit (0 == c.args.options.histsize) fired.1
     (ap (λ (o : OptionsForm). 0 == o.histsize) (sym same))
     ∙ sym c.end_after.ensures ∙ c.in-Some.is))
-    (c.finish.ensures next fired.0 (ap (map form_of_clause) c.clauses.ensures.value ∙ own))
+    (c.finish.ensures.ended next fired.0 (ap (map form_of_clause) c.clauses.ensures.value ∙ own))

@@ -1,5 +1,5 @@
 -- BEGIN fired on processors on which nothing was taken.
-use Rattle.std.proofs.Common.{◌≡◌, ◌+◌, ◌*◌, ◌<◌, ◌==◌, ℕ, IfSome, filter, slice_get, [], length, map, refl, sym, ap}
+use Rattle.std.proofs.Common.{◌≡◌, All, ◌+◌, ◌*◌, ◌<◌, ◌==◌, ℕ, IfSome, filter, slice_get, [], length, map, refl, sym, ap}
 use Rattle.std.proofs.Common.{◌∙◌, subst, arith}
 use Rattle.std.specs.Option.{option_copied}
 use Rattle.dt_ecb.specs.declared.limits.TheConstants.{ECBS_MAX}
@@ -10,24 +10,35 @@ use Rattle.dt_life.specs.Forms.{form_of_options}
 use Rattle.dt_life.specs.Life.{shapes_in, since_then}
 use Rattle.dt_life.specs.Options.{OptionsForm}
 use Rattle.dt_consumer.specs.Counts.{GIVES_MAX}
+use Rattle.dt_consumer.specs.Placing.{IsPlaced}
 use Rattle.dt_consumer.specs.Uses.{AreUses}
-use Rattle.dt_life.specs.Takings.{MomentForm, began}
+use Rattle.dt_consumer.proofs.Giving.{uses_long}
+use Rattle.dt_life.specs.Takings.{began}
+use Rattle.dt_machine.specs.Moment.{MomentForm}
 use Rattle.dt_life.specs.declared.limits.TheConstants.{BEGIN}
 use Rattle.dt_consumer.proofs.Counted.{no_more, none_more}
 use Rattle.dt_consumer.proofs.Stores.{fired_at}
 use Rattle.dt_life.specs.laws.Stores.{new_given}
 use Rattle.dt_life.specs.laws.Moments.{own_is}
-use Rattle.dt_consumer.proofs.Tracings.{RowOf, new_taken, row_at, rows_kept, two_there}
+use Rattle.dt_consumer.proofs.Tracings.{ListOf, new_taken, list_at, lists_kept, lists_placed, placed_at, two_there}
 use Rattle.dt_consumer.proofs.tracing.Tracing.begun.Goals as goal
 
 pub invariant_of-tracing : goal.invariant_of-tracing
 invariant_of-tracing c = record {
-  own_rows = omega (
+  own_lists = omega (
     arith,
-    c.in_ok-rows.ensures.len,
+    c.in_ok-lists.ensures.len,
     ap length c.probes.ensures.value,
     two_there _ c.args.machine.now.registry.probes c.probes.ensures.sound.second,
   );
+  placed = lists_placed c.in_ok-uses.uses.len c.ecbs.result.now c.in_ok-lists.lists.items
+      (subst (λ n. All (IsPlaced n) c.ecbs.result.now)
+      (omega (
+        arith,
+        uses_long _ c.clauses.result.now c.in_ok-uses.uses.items c.in_ok-uses.ensures,
+        ap length c.clauses.ensures.value,
+      ))
+      c.ecbs.ensures.placed) c.in_ok-lists.ensures.lists;
   few = c.args.options.few;
   in_history = c.args.options.some;
   counted = no_more _ (ECBS_MAX * (0 + 1)) c.take-exit.new.self.all.items (omega arith)
@@ -48,39 +59,30 @@ returns-clause-fired c = λ s same own kept shaped room.
     } in
     let at = own_is account registry BEGIN c.unwrap.result.now c.own_process.result c.own_firing.result
     (sym (ap option_copied c.unwrap.ensures) ∙ c.probe.ensures.value) c.own_process.ensures c.own_firing.ensures in
-    let rows = rows_kept account registry s c.args.programs.now.ecbs.items c.in_ok-rows.rows.items kept
-    (subst (λ es. (probe : ℕ) → IfSome (slice_get c.in_ok-rows.rows.items probe)
-    (λ row. row.ecbs.items ≡ filter (λ ecb. ecb.probe == probe) es)) c.ecbs.ensures.value c.in_ok-rows.ensures.rows) in
-    let long : BEGIN < length c.in_ok-rows.rows.items = omega (arith, c.in_ok-rows.ensures.len) in
-    let row = c.index.result.now in
+    let lists = lists_kept account registry s c.args.programs.now.ecbs.items c.in_ok-lists.lists.items kept
+    (subst (λ es. (probe : ℕ) → IfSome (slice_get c.in_ok-lists.lists.items probe)
+    (λ list. list.ecbs.items ≡ filter (λ ecb. ecb.probe == probe) es)) c.ecbs.ensures.value c.in_ok-lists.ensures.lists) in
+    let long : BEGIN < length c.in_ok-lists.lists.items = omega (arith, c.in_ok-lists.ensures.len) in
+    let list = c.index.result.now in
     let named : BEGIN ≡ c.own_firing.result.probe = sym (ap (λ (f : Firing). f.probe) c.own_firing.ensures) in
-    let its = subst (λ n. RowOf account registry fresh n row) named
-    (row_at account registry fresh c.in_ok-rows.rows.items BEGIN row rows long c.index.ensures) in
+    let its = subst (λ n. ListOf account registry fresh n list) named
+    (list_at account registry fresh c.in_ok-lists.lists.items BEGIN list lists long c.index.ensures) in
     let own_clauses = ap (map form_of_clause) c.clauses-2.ensures.value ∙ own in
     let used : AreUses (shapes_in s) s.clauses c.in_ok-uses.uses.items =
     subst (λ shapes. AreUses shapes s.clauses c.in_ok-uses.uses.items) shaped
     (subst (λ cs. AreUses (shapes_of c.args.programs.now.shapes) cs c.in_ok-uses.uses.items)
     (ap (map form_of_clause) c.clauses.ensures.value ∙ own) c.in_ok-uses.ensures) in
-    let fired = fired_at account registry fresh began m row c.clauses-2.result.now c.deref.result.now
+    let fired = fired_at account registry fresh began m list c.clauses-2.result.now c.deref.result.now
     c.in_ok-processors.processors c.take-exit.new.self c.take-exit.result tt at refl own_clauses
     (subst (AreUses (shapes_in s) s.clauses) (sym c.deref.ensures.value) used) its (λ cpu. refl)
     (new_taken account registry s (form_of_options c.args.options) c.args.reserve
     c.in_ok-processors.processors.all.items same room c.in_ok-processors.ensures.empty)
     (new_given account registry s c.args.options.aggsize c.in_ok-processors.processors.stores.items
     (ap (λ (o : OptionsForm). o.aggsize) same) c.in_ok-processors.ensures.fresh)
-    c.take-exit.ensures.taken
-    (λ placed. c.take-exit.ensures.exit placed
-    (omega (
-      arith,
-      ap (λ (f : Firing). f.cpu) c.own_firing.ensures,
-      c.in_ok-processors.ensures.len,
-      c.cpus.ensures.value,
-      c.cpus.ensures.sound.some_cpu,
-    )))
-    c.take-exit.ensures.given in (
+    c.take-exit.ensures.taken c.take-exit.ensures.exit c.take-exit.ensures.given in (
       record {
-        rows = rows;
-        all_rows = omega (arith, c.in_ok-rows.ensures.len, ap length c.probes.ensures.value);
+        lists = lists;
+        all_lists = omega (arith, c.in_ok-lists.ensures.len, ap length c.probes.ensures.value);
         processors = fired.taken;
         all_processors = omega (arith, c.take-exit.ensures.len, c.in_ok-processors.ensures.len, c.cpus.ensures.value);
         uses = used;
@@ -92,3 +94,18 @@ returns-clause-fired c = λ s same own kept shaped room.
       },
       fired.exited,
     )
+
+pub take-exit-requires-clause-placed : goal.take-exit-requires-clause-placed
+take-exit-requires-clause-placed c =
+    let clauses = c.clauses-2.result.now in
+    placed_at (length clauses) c.in_ok-lists.lists.items BEGIN c.index.result.now
+    (omega (
+      arith,
+      c.in_ok-lists.ensures.len,
+      ap length c.probes.ensures.value,
+      two_there _ c.args.machine.now.registry.probes c.probes.ensures.sound.second,
+    ))
+    c.index.ensures
+    (lists_placed (length clauses) c.ecbs.result.now c.in_ok-lists.lists.items
+    (subst (λ n. All (IsPlaced n) c.ecbs.result.now) (sym (ap length c.clauses-2.ensures.value)) c.ecbs.ensures.placed)
+    c.in_ok-lists.ensures.lists)

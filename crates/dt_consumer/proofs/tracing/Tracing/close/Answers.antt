@@ -9,8 +9,8 @@ pub returns-then-is_running-clause-running : goal.returns-then-is_running-clause
 returns-then-is_running-clause-running c = λ account registry s t off.
     let own = c.args.self.now.processors in
     record {
-      rows = t.rows;
-      all_rows = t.all_rows;
+      lists = t.lists;
+      all_lists = t.all_lists;
       processors = λ cpu. untouched account registry s closed own.all.items cpu refl refl (t.processors cpu);
       all_processors = t.all_processors;
       uses = t.uses;

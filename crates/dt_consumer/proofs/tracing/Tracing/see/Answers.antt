@@ -1,6 +1,6 @@
 -- A firing was seen, and perhaps it was the last.
 use Rattle.std.proofs.Common.{◌≡◌, ◌+◌, ◌*◌, ◌≤◌, ◌==◌, ℕ, refl, sym, ap, ◌∙◌, subst, arith}
-use Rattle.dt_life.specs.Forms.{form_of_moment}
+use Rattle.dt_machine.specs.Moment.{form_of_moment}
 use Rattle.dt_consumer.specs.Keeps.{phase_by}
 use Rattle.dt_life.specs.Life.{shapes_in, with_event}
 use Rattle.dt_life.specs.Takings.{seen}
@@ -13,46 +13,45 @@ use Rattle.dt_consumer.specs.Uses.{AreUses}
 use Rattle.dt_consumer.proofs.Counted.{below_limit, counted_on, given_below, given_more, given_on, left_on, none_more}
 use Rattle.dt_consumer.proofs.Counted.{no_more, one_left, one_more}
 use Rattle.dt_consumer.proofs.Stores.{end_gave, fired_at}
-use Rattle.dt_consumer.proofs.Tracings.{becomes, end_fired, row_at, row_placed}
+use Rattle.dt_consumer.proofs.Tracings.{becomes, end_fired, list_at}
 use Rattle.dt_life.specs.laws.Tracings.{end_is, happens_last, happens_on}
 use Rattle.dt_consumer.proofs.tracing.Tracing.see.Goals as goal
 
 counted_is : (a b c d : ℕ) → a ≡ b → c ≡ d → (b + 1 == d) ≡ (a + 1 == c)
 counted_is a b c d e f = ap (λ n. n + 1 == d) (sym e) ∙ ap (λ n. a + 1 == n) (sym f)
 
-pub returns-in-Some : goal.returns-in-Some
-returns-in-Some c = λ s firing t own on at.
+pub returns-in-Some-clause-seen : goal.returns-in-Some-clause-seen
+returns-in-Some-clause-seen c = λ s firing t own at.
     let account = c.args.account.now in
     let registry = c.args.machine.now.registry in
     let m = form_of_moment c.args.moment.now in
-    let row = c.index-row.result.now in
-    let fired = fired_at account registry s (seen firing) m row c.args.clauses.now c.deref.result.now
+    let list = c.index-list.result.now in
+    let fired = fired_at account registry s (seen firing) m list c.args.clauses.now c.deref.result.now
     c.args.self.now.processors c.take-exit.new.self c.take-exit.result tt at refl own
     (subst (AreUses (shapes_in s) s.clauses) (sym c.deref.ensures.value) t.uses)
-    (row_at account registry s c.args.self.now.rows.items m.firing.probe row t.rows (omega (arith, c.requires.known))
-    c.index-row.ensures)
-    (t.end_last c.requires.going) t.processors t.stores c.take-exit.ensures.taken
-    (λ placed. c.take-exit.ensures.exit placed (omega (arith, t.all_processors, on))) c.take-exit.ensures.given in
+    (list_at account registry s c.args.self.now.lists.items m.firing.probe list t.lists (omega (arith, c.requires.known))
+    c.index-list.ensures)
+    (t.end_last c.requires.going) t.processors t.stores c.take-exit.ensures.taken c.take-exit.ensures.exit
+    c.take-exit.ensures.given in
     let next = with_event s (seen firing) in
-    let end_row = c.index-row-in-Some.result.now in
-    let its = row_at account registry next c.args.self.now.rows.items END end_row t.rows (omega arith)
-    c.index-row-in-Some.ensures in
+    let end_list = c.index-list-in-Some.result.now in
+    let its = list_at account registry next c.args.self.now.lists.items END end_list t.lists (omega arith)
+    c.index-list-in-Some.ensures in
     let ends = end_is account registry next (seen firing) c.take-exit.result _ fired.exited
     (counted_is c.args.self.now.seen _ c.args.self.now.history _ t.seen t.history)
     ∙ sym c.end_after.ensures ∙ c.in-Some.is in
     becomes account registry _ _ _ (happens_last account registry s (seen firing) c.in-Some.end ends)
     (record {
-      rows = t.rows;
-      all_rows = t.all_rows;
-      processors = end_fired account registry next c.in-Some.end end_row c.fire_end.new.self.all.items
+      lists = t.lists;
+      all_lists = t.all_lists;
+      processors = end_fired account registry next c.in-Some.end end_list c.fire_end.new.self.all.items
           c.args.clauses.now own its
-          (c.fire_end.ensures.taken (row_placed account registry next END end_row its c.args.clauses.now own) _ _
-          fired.taken);
+          (c.fire_end.ensures.taken _ _ fired.taken);
       all_processors = omega (arith, c.fire_end.ensures.len, c.take-exit.ensures.len, t.all_processors);
       uses = t.uses;
-      stores = end_gave account registry next c.in-Some.end end_row c.deref-in-Some.result.now c.args.clauses.now
+      stores = end_gave account registry next c.in-Some.end end_list c.deref.result.now c.args.clauses.now
           c.take-exit.new.self.stores.items c.fire_end.new.self.stores.items own
-          (subst (AreUses (shapes_in s) s.clauses) (sym c.deref-in-Some.ensures.value) t.uses) its
+          (subst (AreUses (shapes_in s) s.clauses) (sym c.deref.ensures.value) t.uses) its
           c.fire_end.ensures.given fired.given;
       history = t.history;
       seen = omega (arith, t.seen);
@@ -60,27 +59,27 @@ returns-in-Some c = λ s firing t own on at.
       end_last = λ e. cc;
     })
 
-pub returns-in_default : goal.returns-in_default
-returns-in_default c = λ s firing t own on at.
+pub returns-in_default-clause-seen : goal.returns-in_default-clause-seen
+returns-in_default-clause-seen c = λ s firing t own at.
     let account = c.args.account.now in
     let registry = c.args.machine.now.registry in
     let m = form_of_moment c.args.moment.now in
-    let row = c.index-row.result.now in
-    let fired = fired_at account registry s (seen firing) m row c.args.clauses.now c.deref.result.now
+    let list = c.index-list.result.now in
+    let fired = fired_at account registry s (seen firing) m list c.args.clauses.now c.deref.result.now
     c.args.self.now.processors c.take-exit.new.self c.take-exit.result tt at refl own
     (subst (AreUses (shapes_in s) s.clauses) (sym c.deref.ensures.value) t.uses)
-    (row_at account registry s c.args.self.now.rows.items m.firing.probe row t.rows (omega (arith, c.requires.known))
-    c.index-row.ensures)
-    (t.end_last c.requires.going) t.processors t.stores c.take-exit.ensures.taken
-    (λ placed. c.take-exit.ensures.exit placed (omega (arith, t.all_processors, on))) c.take-exit.ensures.given in
+    (list_at account registry s c.args.self.now.lists.items m.firing.probe list t.lists (omega (arith, c.requires.known))
+    c.index-list.ensures)
+    (t.end_last c.requires.going) t.processors t.stores c.take-exit.ensures.taken c.take-exit.ensures.exit
+    c.take-exit.ensures.given in
     let next = with_event s (seen firing) in
     let stays = end_is account registry next (seen firing) c.take-exit.result _ fired.exited
     (counted_is c.args.self.now.seen _ c.args.self.now.history _ t.seen t.history)
     ∙ sym c.end_after.ensures ∙ c.in_default.is in
     becomes account registry _ _ _ (happens_on account registry s (seen firing) stays)
     (record {
-      rows = t.rows;
-      all_rows = t.all_rows;
+      lists = t.lists;
+      all_lists = t.all_lists;
       processors = fired.taken;
       all_processors = omega (arith, c.take-exit.ensures.len, t.all_processors);
       uses = t.uses;

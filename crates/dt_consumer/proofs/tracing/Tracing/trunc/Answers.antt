@@ -13,10 +13,10 @@ use Rattle.dt_consumer.proofs.Reading.{untouched}
 use Rattle.dt_life.specs.laws.Stores.{trunc_given}
 use Rattle.dt_consumer.proofs.tracing.Tracing.trunc.Goals as goal
 
-pub returns : goal.returns
-returns c = λ account registry s name t is. record {
-  rows = t.rows;
-  all_rows = t.all_rows;
+pub returns-clause-truncated : goal.returns-clause-truncated
+returns-clause-truncated c = λ account registry s name t is. record {
+  lists = t.lists;
+  all_lists = t.all_lists;
   processors = subst
       (λ (v : Vec Processor). AreTaken (past_in account registry (with_event s (truncated name)))
       (errors_in account registry (with_event s (truncated name))) v.items)

@@ -4,7 +4,8 @@ use Rattle.dt_aggstore.specs.History.{Past}
 use Rattle.dt_aggstore.specs.IsAt.{IsAt, added_of}
 use Rattle.dt_program.specs.declared.clause.TheConstants.{KEYS_MAX}
 use Rattle.dt_consumer.specs.Uses.{form_of_use}
-use Rattle.dt_life.specs.Uses.{given_then, split_by}
+use Rattle.dt_life.specs.Uses.{given_then}
+use Rattle.dt_life.specs.Aggregations.{split_by}
 use Rattle.dt_life.specs.laws.Giving.{span}
 use Rattle.dt_consumer.proofs.uses.Uses.give.Given as goal
 

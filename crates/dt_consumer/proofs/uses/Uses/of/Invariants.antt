@@ -3,7 +3,7 @@ use Rattle.std.proofs.Common.{◌≡◌, ◌≤◌, length, map, take}
 use Rattle.dt_ecb.specs.Forms.{shapes_of}
 use Rattle.dt_lang.specs.Program.{form_of_statement}
 use Rattle.dt_consumer.specs.Uses.{form_of_use}
-use Rattle.dt_life.specs.Uses.{uses_by}
+use Rattle.dt_life.specs.Aggregations.{uses_by}
 use Rattle.dt_consumer.proofs.uses.Uses.of.Given as goal
 
 abbrev pub invariant-loop-statement : goal.invariant-loop-statement

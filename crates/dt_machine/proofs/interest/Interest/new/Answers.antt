@@ -1,11 +1,22 @@
--- What the proof of `Interest::new` is told at its goals.
-use Rattle.std.proofs.Common.{◌≡◌, ℕ, true, false, replicate, slice_get, Some, zero, suc}
+-- No word has a number.
+use Rattle.std.proofs.Common.{◌≡◌, ℕ, zero, suc, ◌/◌, ◌%◌, false, eqb, ap, get_or, replicate}
+use Rattle.std.proofs.lemmas.Nat.Bits.{bit_at-zero}
+use Rattle.dt_machine.specs.BitWord.{has_bit}
+use Rattle.dt_machine.specs.declared.bit_word.BitWord.{BitWord}
 use Rattle.dt_machine.proofs.interest.Interest.new.Goals as goal
 
-never : (n id : ℕ) → slice_get (replicate n false) id ≡ Some true → ⊥
-never zero id h = cc
-never (suc n) zero h = cc
-never (suc n) (suc id) h = never n id h
+none_at : (n at k : ℕ) (word empty : BitWord) → has_bit word k ≡ false → has_bit empty k ≡ false
+    → has_bit (get_or (replicate n word) at empty) k ≡ false
+none_at zero at k word empty none past = past
+none_at (suc n) zero k word empty none past = none
+none_at (suc n) (suc at) k word empty none past = none_at n at k word empty none past
+
+pub invariant_of-result : goal.invariant_of-result
+invariant_of-result c = record {
+  bounded = λ id far. none_at 65 (id / 64) (id % 64) c.new.result _ (c.new.ensures (id % 64))
+      (ap (λ b. eqb b 1) (bit_at-zero (id % 64)));
+}
 
 pub returns : goal.returns
-returns c = never 4099
+returns c = λ id. none_at 65 (id / 64) (id % 64) c.new.result _ (c.new.ensures (id % 64))
+    (ap (λ b. eqb b 1) (bit_at-zero (id % 64)))

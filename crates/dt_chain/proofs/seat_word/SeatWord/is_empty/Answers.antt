@@ -1,7 +1,0 @@
--- No bit is set in zero alone.
-use Rattle.std.proofs.Common.{arith}
-use Rattle.dt_chain.proofs.Bits.{none_up}
-use Rattle.dt_chain.proofs.seat_word.SeatWord.is_empty.Goals as goal
-
-pub returns : goal.returns
-returns c = none_up c.args.self.now.bits (omega arith)

@@ -1,0 +1,29 @@
+//! A firing with what it names.
+ghost use Rattle.std.specs.Prelude.{◌≡◌};
+ghost use Rattle.dt_machine.specs.Registry.{Registry};
+ghost use Rattle.dt_machine.specs.Tests.{is_shown as is_shown_in};
+
+use dt_cred::{Account, Firing, Probe, Process, admits};
+
+/// A probe that fires in a process: a firing, with the probe and the process that it names.
+///
+/// [`Machine::moment`](crate::Machine::moment) looks both up once, and lends them to all that the firing is offered to.
+#[derive(Clone, Copy)]
+pub struct Moment<'a> {
+    pub probe: &'a Probe,
+    pub process: &'a Process,
+    pub firing: &'a Firing,
+}
+
+impl Moment<'_> {
+    ghost use Rattle.dt_machine.specs.Moment.{IsMoment};
+
+    /// Whether an account is shown the firing: an enabled probe also fires where its account may not look, in the processes of
+    /// others and in kernel mode.
+    pub fn is_shown(&self, account: &Account) -> bool
+        ensures { (registry : Registry) → IsMoment registry self.now
+            → result ≡ is_shown_in account.now registry self.now.firing.now }
+    {
+        admits(account, self.probe, self.firing.mode, self.process)
+    }
+}
