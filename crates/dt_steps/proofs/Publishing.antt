@@ -1,8 +1,11 @@
 -- A seat after its interest was published.
-use Rattle.std.proofs.Common.{◌≡◌, ◌≢◌, ℕ, Bool, true, false, not, List, [], ◌∷◌, Option, Some, None, ◌↔◌, MatchOption}
-use Rattle.std.proofs.Common.{MatchBool, length, refl, sym, subst}
+use Rattle.std.proofs.Common.{◌≡◌, ◌≢◌, ◌<◌, ℕ, Bool, true, false, not, List, [], ◌∷◌, Option, Some, None, ◌↔◌, MatchOption}
+use Rattle.std.proofs.Common.{MatchBool, IsTrue, length, refl, sym, subst}
 use Rattle.std.specs.Option.{option_map_or}
 use Rattle.dt_machine.specs.Interest as interest
+use Rattle.dt_machine.specs.declared.interest.Interest.{Interest}
+use Rattle.dt_machine.specs.laws.Flags.{names_flags}
+use Rattle.dt_machine.specs.Limits.{probe_id_max}
 use Rattle.dt_machine.specs.Registry.{Registry}
 use Rattle.dt_chain.specs.IsAt as chain
 use Rattle.dt_chain.specs.Writes.{Write, published}
@@ -19,13 +22,15 @@ use Rattle.dt_ecb.specs.laws.Interest.{interest_from, interest_to, wanted_from, 
 use Rattle.dt_chain.specs.laws.Publishing.{entered_alike}
 
 -- the probes that ECBs name are those of their interest
-interest_alike : (own : List EcbForm) (flags : List Bool)
-    → ((id : ℕ) → interest.Names flags id ↔ (of_probe id own ≢ []))
-    → (id : ℕ) → interest.Names flags id ↔ interest.Names (interest_of own) id
-interest_alike own flags named id = (
-  λ h. interest_to own id (wanted_to own id ((named id).0 h)),
-  λ h. (named id).1 (wanted_from own id (interest_from own id h)),
-)
+interest_alike : (own : List EcbForm) (probes : Interest)
+    → ((id : ℕ) → probe_id_max < id → interest.has_probe probes id ≡ false)
+    → ((id : ℕ) → IsTrue (interest.has_probe probes id) ↔ (of_probe id own ≢ []))
+    → (id : ℕ) → interest.Names (interest.flags_of probes) id ↔ interest.Names (interest_of own) id
+interest_alike own probes bounded named id =
+    let flag = names_flags probes bounded id in (
+      λ h. interest_to own id (wanted_to own id ((named id).0 (flag.0 h))),
+      λ h. flag.1 ((named id).1 (wanted_from own id (interest_from own id h))),
+    )
 
 -- the pending `go` of a session is to be published
 module _ (Same : Type 0) (Later : Session → Pending → Type 0) where
@@ -59,15 +64,18 @@ module _ (registry : Registry) (place : Place) (held : Held) (h : IsHeld registr
       × chain.EntriesAreAt (published seat (length place.earlier) session.account
       (interest_of (ecbs session.account registry (life_in registry session))) ∷ writes) later
 
-  pub published-now : (later : Entries) (served after : Served) (flags : List Bool) → held.present ≡ Some served
+  pub published-now : (later : Entries) (served after : Served) (probes : Interest)
+      → ((id : ℕ) → probe_id_max < id → interest.has_probe probes id ≡ false) → held.present ≡ Some served
       → ((session : Session) → IsSession registry session served → is_unpublished session ≡ true)
       → ((session : Session) (pending : Pending) → IsSession registry session served → session.go ≡ Some pending
       → IsSession registry (waiting session pending.line true) after)
       → ((session : Session) → IsSession registry session served → (id : ℕ)
-      → interest.Names flags id ↔ (of_probe id (ecbs session.account registry (life_in registry session)) ≢ []))
-      → chain.EntriesAreAt (published seat held.earlier served.account flags ∷ writes) later
+      → IsTrue (interest.has_probe probes id)
+      ↔ (of_probe id (ecbs session.account registry (life_in registry session)) ≢ []))
+      → chain.EntriesAreAt (published seat held.earlier served.account (interest.flags_of probes) ∷ writes) later
       → IsPublishedOn registry seat place writes (record { present = Some after; earlier = held.earlier }) later
-  published-now later served after flags is due sets named at =
+  published-now later served after probes bounded is due sets named at =
+      let flags = interest.flags_of probes in
       let s = serves registry place held h served is in
       let session = s.session in
       let own = ecbs session.account registry (life_in registry session) in
@@ -75,7 +83,7 @@ module _ (registry : Registry) (place : Place) (held : Held) (h : IsHeld registr
       (interest_of own) ∷ writes)
       later =
       entered_alike seat (length place.earlier) session.account flags (interest_of own) writes later
-      (interest_alike own flags (named session s.kept))
+      (interest_alike own probes bounded (named session s.kept))
       (subst (λ n. chain.EntriesAreAt (published seat n session.account flags ∷ writes) later) h.counted
       (subst (λ a. chain.EntriesAreAt (published seat held.earlier a flags ∷ writes) later) s.kept.owner at)) in
       present_does

@@ -3,7 +3,7 @@ use Rattle.std.proofs.Common.{◌≡◌, ℕ, ◌&&◌, ◌||◌, Bool, true, fa
 use Rattle.std.proofs.Common.{is_none, Result, Ok, Err, IsTrue, ◌↔◌, refl, sym, ap, ◌∙◌, subst}
 use Rattle.std.proofs.lemmas.Bool.{both_ways, and_parts, not-true, false_from_ne_true}
 use Rattle.std.specs.List.{list_any}
-use Rattle.std.specs.Option.{option_map_or}
+use Rattle.std.specs.Option.{ForSome, option_map_or}
 use Rattle.dt_cred.specs.declared.account.Account.{Account}
 use Rattle.dt_machine.specs.Registry.{Registry}
 use Rattle.dt_cred.specs.declared.firing.Firing.{Firing}
@@ -11,7 +11,7 @@ use Rattle.dt_life.specs.Answer.{Answer}
 use Rattle.dt_life.specs.Ask as ask
 use Rattle.dt_life.specs.Ask.{Ask}
 use Rattle.dt_life.specs.Acceptance.{IsAcceptedGo, IsAcceptedClose, after_line, is_close}
-use Rattle.dt_consumer.specs.Draft.{IsDraftOf}
+use Rattle.dt_consumer.specs.Draft.{CanApply, IsDraftOf}
 use Rattle.dt_life.specs.Life.{Item, asked, fired, is_over, is_active}
 use Rattle.dt_life.specs.Reply.{Replies}
 use Rattle.dt_life.specs.Sees.{Sees}
@@ -34,6 +34,10 @@ use Rattle.dt_steps.specs.declared.served.Waiting.{Waiting}
 use Rattle.dt_steps.proofs.Beginning.{begins_from, begins_to}
 use Rattle.dt_proto.specs.laws.Views.{reply_to}
 use Rattle.dt_life.specs.laws.Seeing.{seen_to, unseen_to}
+
+-- the draft of a pending `go` can be applied to the consumer
+abbrev pub IsReady : Consumer → Option Waiting → Type 0
+IsReady consumer go = ForSome go (λ waiting. CanApply consumer waiting.draft)
 
 module _ (registry : Registry) (account : Account) (life : List Item) where
   -- where one has a pending `go`, so has the other
@@ -146,13 +150,15 @@ module _ (registry : Registry) (session : Session) (line : LineForm) (served : S
   pub asked_go : (kept : Asked) (draft : Draft) → form_asked kept ≡ line
       → IsDraftOf session.account registry (life_in registry session) (ask_in line) draft
       → IsAcceptedGo session.account registry (life_in registry session) (ask_in line)
+      → (ready : IsReady served.consumer (Some (record { line = kept; draft = draft; is_published = false })))
       → IsAsked registry session line None (record {
         account = served.account;
         consumer = served.consumer;
         go = Some (record { line = kept; draft = draft; is_published = false });
         is_closed = served.is_closed;
+        ready = ready;
       })
-  asked_go kept draft same drafted is = (
+  asked_go kept draft same drafted is ready = (
     begins_to registry session line is,
     record {
       owner = h.owner;
@@ -176,13 +182,15 @@ module _ (registry : Registry) (session : Session) (line : LineForm) (served : S
       → IsTrue closes ↔ IsAcceptedClose session.account registry (life_in registry session) (ask_in line)
       → StandsFor session.account registry consumer (after_line (life_in registry session) (ask_in line))
       → Replies session.account registry (life_in registry session) (ask_in line) answer → text ≡ reply_text answer
+      → (ready : IsReady consumer served.go)
       → IsAsked registry session line (Some text) (record {
         account = served.account;
         consumer = consumer;
         go = served.go;
         is_closed = closes;
+        ready = ready;
       })
-  asked_other consumer closes answer text may none closing stands replies is =
+  asked_other consumer closes answer text may none closing stands replies is ready =
       let parts = may_ask_parts may in
       let idle : IsPending registry session.account (life_in registry session) None served.go =
       rw parts.0 at h.pending in (
@@ -254,13 +262,15 @@ module _ (registry : Registry) (session : Session) (served : Served) (h : IsSess
       → StandsFor session.account registry consumer (after_line (life_in registry session) (ask_in line))
       × Replies session.account registry (life_in registry session) (ask_in line) answer)
       → text ≡ reply_text answer
+      → (ready : IsReady consumer kept)
       → IsFinishing registry session (Some text) (record {
         account = served.account;
         consumer = consumer;
         go = kept;
         is_closed = served.is_closed;
+        ready = ready;
       })
-  finishing held consumer kept answer text is emptied published does text_is =
+  finishing held consumer kept answer text is emptied published does text_is ready =
       let w = finishes held is in
       let done = does w.own.line w.drafted in (
         w.own,
@@ -294,7 +304,7 @@ module _ (registry : Registry) (account : Account) (life : List Item) (firing : 
       let both : Active ≡ Inactive = sym sees.active ∙ h.accepted.1 in cc
 
   pub served_offered : (pending : Option Pending) (served : Served) (consumer : Consumer) (seen : Bool)
-      → IsServed registry account life pending served
+      → (ready : IsReady consumer served.go) → IsServed registry account life pending served
       → IsOffered account registry served.consumer consumer firing seen life
       → IsServed registry account (cond (is_seen account registry life firing) (fired firing ∷ life) life) pending
       (record {
@@ -302,8 +312,9 @@ module _ (registry : Registry) (account : Account) (life : List Item) (firing : 
         consumer = consumer;
         go = served.go;
         is_closed = served.is_closed;
+        ready = ready;
       })
-  served_offered pending served consumer true h offered =
+  served_offered pending served consumer true ready h offered =
       let sees = offered.sees.0 refl in
       rw (seen_to account registry life firing sees) (record {
         owner = h.owner;
@@ -311,7 +322,7 @@ module _ (registry : Registry) (account : Account) (life : List Item) (firing : 
         closed = h.closed;
         pending = kept_seen pending served.go sees h.pending;
       })
-  served_offered pending served consumer false h offered =
+  served_offered pending served consumer false ready h offered =
       let unseen : Sees account registry life firing → ⊥ = λ sees. let bad = offered.sees.1 sees in cc in
       rw (unseen_to account registry life firing unseen) (record {
         owner = h.owner;

@@ -1,5 +1,7 @@
 //! A session that goes on, with its consumer.
 ghost use Rattle.std.specs.Prelude.{◌≡◌, ◌↔◌, IsTrue};
+ghost use Rattle.std.specs.Option.{ForSome};
+ghost use Rattle.dt_consumer.specs.Draft.{CanApply};
 
 use dt_consumer::{Consumer, Draft};
 use dt_cred::Account;
@@ -16,6 +18,7 @@ pub(crate) struct Served {
     pub(crate) go: Option<Waiting>,
     /// Whether a `close` of it was accepted.
     pub(crate) is_closed: bool,
+    ghost ready: { ForSome go (λ waiting. CanApply consumer waiting.draft) },
 }
 
 /// A `go` that was accepted and has not taken effect yet.
@@ -93,6 +96,10 @@ impl Served {
             → IsSession machine.now.registry session self.old
             → answered.is_over ≡ is_over (world.life_in machine.now.registry session))) }
     {
+        // a line may change the consumer, and the draft of a pending `go` is of the consumer as it is
+        if self.go.is_some() {
+            return Ok(None);
+        }
         let asked = read_line(alloc, line)?;
         let draft = self.consumer.draft(alloc, machine, &asked)?;
         // an accepted `go` waits for its publication, and is answered at its finish
