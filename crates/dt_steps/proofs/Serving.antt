@@ -3,7 +3,7 @@ use Rattle.std.proofs.Common.{◌≡◌, ℕ, ◌&&◌, ◌||◌, Bool, true, fa
 use Rattle.std.proofs.Common.{is_none, Result, Ok, Err, IsTrue, ◌↔◌, refl, sym, ap, ◌∙◌, subst}
 use Rattle.std.proofs.lemmas.Bool.{both_ways, and_parts, not-true, false_from_ne_true}
 use Rattle.std.specs.List.{list_any}
-use Rattle.std.specs.Option.{ForSome, option_map_or}
+use Rattle.std.specs.Option.{option_map_or}
 use Rattle.dt_cred.specs.declared.account.Account.{Account}
 use Rattle.dt_machine.specs.Registry.{Registry}
 use Rattle.dt_cred.specs.declared.firing.Firing.{Firing}
@@ -11,7 +11,7 @@ use Rattle.dt_life.specs.Answer.{Answer}
 use Rattle.dt_life.specs.Ask as ask
 use Rattle.dt_life.specs.Ask.{Ask}
 use Rattle.dt_life.specs.Acceptance.{IsAcceptedGo, IsAcceptedClose, after_line, is_close}
-use Rattle.dt_consumer.specs.Draft.{CanApply, IsDraftOf}
+use Rattle.dt_consumer.specs.Draft.{IsDraftOf}
 use Rattle.dt_life.specs.Life.{Item, asked, fired, is_over, is_active}
 use Rattle.dt_life.specs.Reply.{Replies}
 use Rattle.dt_life.specs.Sees.{Sees}
@@ -26,6 +26,7 @@ use Rattle.dt_proto.specs.Line.{ask_in}
 use Rattle.dt_proto.specs.Lines.{LineForm}
 use Rattle.dt_proto.specs.Reply.{reply_text}
 use Rattle.dt_proto.specs.declared.asked.Asked.{Asked}
+use Rattle.dt_steps.specs.Ready.{IsReady}
 use Rattle.dt_steps.specs.Stands.{IsWaiting, IsPending, IsServed, IsSession, IsAsked, IsFinishing}
 use Rattle.dt_life.specs.Tests.{is_seen}
 use Rattle.dt_steps.specs.World.{Session, Pending, life_in, is_closing, is_tracing, may_ask, begins, may_withdraw}
@@ -34,10 +35,6 @@ use Rattle.dt_steps.specs.declared.served.Waiting.{Waiting}
 use Rattle.dt_steps.proofs.Beginning.{begins_from, begins_to}
 use Rattle.dt_proto.specs.laws.Views.{reply_to}
 use Rattle.dt_life.specs.laws.Seeing.{seen_to, unseen_to}
-
--- the draft of a pending `go` can be applied to the consumer
-abbrev pub IsReady : Consumer → Option Waiting → Type 0
-IsReady consumer go = ForSome go (λ waiting. CanApply consumer waiting.draft)
 
 module _ (registry : Registry) (account : Account) (life : List Item) where
   -- where one has a pending `go`, so has the other

@@ -4,6 +4,7 @@ pub mod World
 pub mod Steps
 pub mod Sound
 pub mod Ran
+pub mod Ready
 pub mod Stands
 pub mod Telling
 pub mod laws

@@ -1,7 +1,6 @@
 //! A session that goes on, with its consumer.
 ghost use Rattle.std.specs.Prelude.{◌≡◌, ◌↔◌, IsTrue};
-ghost use Rattle.std.specs.Option.{ForSome};
-ghost use Rattle.dt_consumer.specs.Draft.{CanApply};
+ghost use Rattle.dt_steps.specs.Ready.{IsReady, ready_prop};
 
 use dt_consumer::{Consumer, Draft};
 use dt_cred::Account;
@@ -18,7 +17,7 @@ pub(crate) struct Served {
     pub(crate) go: Option<Waiting>,
     /// Whether a `close` of it was accepted.
     pub(crate) is_closed: bool,
-    ghost ready: { ForSome go (λ waiting. CanApply consumer waiting.draft) },
+    ghost ready: { IsReady consumer go } by { ready_prop consumer go },
 }
 
 /// A `go` that was accepted and has not taken effect yet.

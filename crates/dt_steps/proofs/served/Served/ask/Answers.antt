@@ -16,7 +16,7 @@ returns-then-publishes-clause-asked c = λ session h may.
     let line = form_lent c.args.line in
     let drafted : IsDraftOf session.account registry life (ask_in line) c.in_ok-draft.draft =
     subst (λ own. IsDraftOf session.account registry life own c.in_ok-draft.draft) c.in_ok-asked.ensures.asks
-    (c.in_ok-draft.ensures session.account life h.stands) in
+    (c.in_ok-draft.ensures.drafted session.account life h.stands) in
     asked_go registry session line c.args.self.now h c.in_ok-line.line c.in_ok-draft.draft c.in_ok-line.ensures drafted
     ((c.publishes.ensures session.account registry life (ask_in line) drafted).0 c.if-publishes.true)
 
@@ -28,7 +28,7 @@ returns-clause-asked c = λ session h may.
     let draft = c.in_ok-draft.draft in
     let drafted : IsDraftOf session.account registry life (ask_in line) draft =
     subst (λ own. IsDraftOf session.account registry life own draft) c.in_ok-asked.ensures.asks
-    (c.in_ok-draft.ensures session.account life h.stands) in
+    (c.in_ok-draft.ensures.drafted session.account life h.stands) in
     asked_other registry session line c.args.self.now h c.apply.new.self c.closes-self.result
     (answer_of c.reply.result.now) c.in_ok-text.text.items may
     (λ go. let bad : c.publishes.result
@@ -47,6 +47,6 @@ returns-clause-over c = λ session h.
     let draft = c.in_ok-draft.draft in
     let drafted : IsDraftOf session.account registry life (ask_in line) draft =
     subst (λ own. IsDraftOf session.account registry life own draft) c.in_ok-asked.ensures.asks
-    (c.in_ok-draft.ensures session.account life h.stands) in
+    (c.in_ok-draft.ensures.drafted session.account life h.stands) in
     let told = c.is_over_quota-is_over.ensures session.account registry life (ask_in line) drafted in
     same_test c.is_over_quota-is_over.result (is_over life) told.0 told.1
