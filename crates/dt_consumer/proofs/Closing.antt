@@ -9,7 +9,7 @@ use Rattle.dt_consumer.specs.Keeps.{IsTracing, IsUntraced, phase_untraced}
 use Rattle.dt_life.specs.Life.{Item, asked, SetUp, is_stopped, lines, phase_of, set_up, with_event}
 use Rattle.dt_consumer.specs.StandsFor.{StandsFor}
 use Rattle.dt_life.specs.Takings.{closed}
-use Rattle.dt_consumer.specs.declared.consumer.Consumer.{Consumer}
+use Rattle.dt_consumer.specs.declared.consumer.Consumer.{Consumer, known-type}
 use Rattle.dt_consumer.specs.declared.tracing.Tracing.{Tracing}
 use Rattle.dt_life.specs.laws.Verdicts.{closed_by}
 use Rattle.dt_consumer.proofs.Stands.{keeps_quiet, keeps_traced, stands_changed, traced, untraced}
@@ -28,32 +28,41 @@ module _ (account : Account) (registry : Registry) (consumer : Consumer) (life :
       → is_stopped (phase_of (set_up account registry life)) ≡ true
       → IsTracing account registry (set_up account registry life) new)
       → {n : ℕ} → n ≡ suc (lines life)
-      → StandsFor account registry (record consumer { tracing = Some new; lines = n }) (asked (Ok close) ∷ life)
-  closes_traced t new is running over {n} counts = by_phase (is_stopped (phase_of own)) refl
+      → {now : Option Tracing} {was_closed : Bool} → now ≡ Some new
+      → {known : known-type consumer.account consumer.options consumer.programs now was_closed n}
+      → StandsFor account registry
+      (record consumer { tracing = now; closed = was_closed; lines = n; known = known }) (asked (Ok close) ∷ life)
+  closes_traced t new is running over {n} counts {now} {was_closed} by {known} =
+      by_phase (is_stopped (phase_of own)) refl
     where
       had : IsTracing account registry own t
       had = traced account registry own consumer s.keeps t is
 
       by_phase : (b : Bool) → is_stopped (phase_of own) ≡ b
-          → StandsFor account registry (record consumer { tracing = Some new; lines = n }) (asked (Ok close) ∷ life)
+          → StandsFor account registry
+          (record consumer { tracing = now; closed = was_closed; lines = n; known = known }) (asked (Ok close) ∷ life)
       by_phase true e =
           stands_changed account registry consumer life s (Ok close) _ own (closed_by account registry life true e)
-          counts (keeps_traced account registry consumer own own n new s.keeps refl refl (over had e))
+          counts (keeps_traced account registry consumer own own n new s.keeps refl refl (over had e) by)
       by_phase false e =
           stands_changed account registry consumer life s (Ok close) _ (with_event own closed)
           (closed_by account registry life false e) counts
-          (keeps_traced account registry consumer own (with_event own closed) n new s.keeps refl refl (running had e))
+          (keeps_traced account registry consumer own (with_event own closed) n new s.keeps refl refl (running had e) by)
 
   -- one that never traced
   pub closes_untraced : consumer.tracing ≡ None → {n : ℕ} → n ≡ suc (lines life)
-      → StandsFor account registry (record consumer { closed = true; lines = n }) (asked (Ok close) ∷ life)
-  closes_untraced is {n} counts = by_flag consumer.closed refl
+      → {now : Option Tracing} {is_closed : Bool} → now ≡ None → is_closed ≡ true
+      → {known : known-type consumer.account consumer.options consumer.programs now is_closed n}
+      → StandsFor account registry
+      (record consumer { tracing = now; closed = is_closed; lines = n; known = known }) (asked (Ok close) ∷ life)
+  closes_untraced is {n} counts {now} {is_closed} none set {known} = by_flag consumer.closed refl
     where
       never : IsUntraced account registry own consumer.closed
       never = untraced account registry own consumer s.keeps is
 
       by_flag : (b : Bool) → consumer.closed ≡ b
-          → StandsFor account registry (record consumer { closed = true; lines = n }) (asked (Ok close) ∷ life)
+          → StandsFor account registry
+          (record consumer { tracing = now; closed = is_closed; lines = n; known = known }) (asked (Ok close) ∷ life)
       by_flag true e =
           let stopped = ap is_stopped (never.standing ∙ ap phase_untraced e) in
           stands_changed account registry consumer life s (Ok close) _ own
@@ -66,12 +75,15 @@ module _ (account : Account) (registry : Registry) (consumer : Consumer) (life :
             ecbs = s.keeps.ecbs;
             shapes = s.keeps.shapes;
             tracing =
-                let P : Option Tracing → Type 0 = λ o. MatchOption o (IsUntraced account registry own true)
+                let P : Option Tracing → Type 0 = λ o. MatchOption o (IsUntraced account registry own is_closed)
                 (IsTracing account registry own) in
-                subst P (sym is) (record { quiet = never.quiet; standing = never.standing ∙ ap phase_untraced e });
+                subst P (sym none) (record {
+                  quiet = never.quiet;
+                  standing = never.standing ∙ ap phase_untraced (e ∙ sym set);
+                });
           })
       by_flag false e =
           let going = ap is_stopped (never.standing ∙ ap phase_untraced e) in
           stands_changed account registry consumer life s (Ok close) _ (with_event own closed)
           (closed_by account registry life false going) counts
-          (keeps_quiet account registry own consumer s.keeps closed true n is never.quiet refl)
+          (keeps_quiet account registry own consumer s.keeps closed true n never.quiet refl none set)

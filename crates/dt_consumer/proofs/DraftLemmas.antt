@@ -8,7 +8,7 @@ use Rattle.dt_consumer.specs.Draft.{Drafted, IsDraftOf}
 use Rattle.dt_life.specs.Acceptance.{is_close}
 use Rattle.dt_life.specs.Life.{Item, asked, SetUp, is_over, set_up}
 use Rattle.dt_life.specs.Reply.{RepliesInQuota, IsVerdictOnCommand, Accepted}
-use Rattle.dt_consumer.specs.declared.draft.Change.TheVariants.{Nothing}
+use Rattle.dt_consumer.specs.declared.draft.Change.TheVariants.{Counted}
 use Rattle.dt_consumer.specs.declared.draft.Draft.{Draft}
 use Rattle.dt_life.specs.declared.refusal.Refusal.{Refusal}
 use Rattle.dt_life.specs.declared.reply.Reply.{Reply}
@@ -21,7 +21,7 @@ module _ (account : Account) (registry : Registry) (life : List Item) where
 
   -- a refused line: counted, and nothing else
   pub refused_draft : (line : Result Ask Refusal) (refusal : Refusal) (draft : Draft)
-      → draft.reply ≡ Refused refusal → draft.change ≡ Nothing → is_over life ≡ false
+      → draft.reply ≡ Refused refusal → draft.change ≡ Counted → is_over life ≡ false
       → RepliesInQuota account registry life line (refused refusal)
       → set_up account registry (asked line ∷ life) ≡ now → is_close line ≡ false
       → IsDraftOf account registry life line draft
@@ -34,7 +34,7 @@ module _ (account : Account) (registry : Registry) (life : List Item) where
 
   -- a command that is refused
   pub refused_by : (ask : Ask) (refusal : Refusal) (draft : Draft)
-      → draft.reply ≡ Refused refusal → draft.change ≡ Nothing → is_over life ≡ false
+      → draft.reply ≡ Refused refusal → draft.change ≡ Counted → is_over life ≡ false
       → IsVerdictOnCommand account registry life ask (Some refusal)
       → set_up account registry (asked (Ok ask) ∷ life) ≡ now → is_close (Ok ask) ≡ false
       → IsDraftOf account registry life (Ok ask) draft
@@ -45,7 +45,7 @@ module _ (account : Account) (registry : Registry) (life : List Item) where
   pub told_draft : (ask : Ask) (reply : Reply) → is_over life ≡ false
       → IsVerdictOnCommand account registry life ask None → Accepted account registry life ask (answer_of reply)
       → set_up account registry (asked (Ok ask) ∷ life) ≡ now → is_close (Ok ask) ≡ false
-      → IsDraftOf account registry life (Ok ask) (record { reply = reply; change = Nothing })
+      → IsDraftOf account registry life (Ok ask) (record { reply = reply; change = Counted })
   told_draft ask reply fresh verdict accepted idle goes_on = record {
     replies = in_quota account registry life (Ok ask) (answer_of reply) fresh (accepted_reply account registry life ask (answer_of reply) verdict accepted);
     makes = (fresh, idle, goes_on);

@@ -37,7 +37,7 @@ use Rattle.dt_life.specs.Refusal.{refused_as}
 use Rattle.dt_life.specs.Reply.{Accepted, IsVerdictOnCommand, refusal_of}
 use Rattle.dt_life.specs.Takings.{began}
 use Rattle.dt_consumer.specs.declared.consumer.Consumer.{Consumer}
-use Rattle.dt_consumer.specs.declared.draft.Change.TheVariants.{Nothing, Set, Enable, Go, Stop, Snap, Close}
+use Rattle.dt_consumer.specs.declared.draft.Change.TheVariants.{Counted, Set, Enable, Go, Stop, Snap, Close}
 use Rattle.dt_consumer.specs.declared.draft.Draft.{Draft}
 use Rattle.dt_life.specs.declared.options.Options.{Options}
 use Rattle.dt_life.specs.declared.phase.Phase.TheVariants.{Inactive, Active}
@@ -158,7 +158,7 @@ module _ (account : Account) (registry : Registry) (life : List Item) where
       (clauses : List ClauseForm) (a b : Verdict) → IsVerdict account registry accepted epid clauses a
       → IsVerdict account registry accepted epid clauses b → a ≡ b)
       → (clauses : List ClauseForm) (o : Option Verdict) (refusal : Refusal) (draft : Draft)
-      → draft.reply ≡ Refused refusal → draft.change ≡ Nothing → is_over life ≡ false
+      → draft.reply ≡ Refused refusal → draft.change ≡ Counted → is_over life ≡ false
       → phase account registry life ≡ Inactive
       → IfSome o (IsVerdict account registry (shapes_in (set_up account registry life))
       (next_epid account registry (set_up account registry life)) clauses)
@@ -186,7 +186,7 @@ module _ (account : Account) (registry : Registry) (life : List Item) where
       → ((at : ℕ) (why : Why) → f ≡ faults.Program at why → Reads text (fault at why))
       → ((at : ℕ) (what : Destructive) → f ≡ faults.Destructive at what → Reads text (destructive at what))
       → Some refusal ≡ refused_as f
-      → draft.reply ≡ Refused refusal → draft.change ≡ Nothing → is_over life ≡ false
+      → draft.reply ≡ Refused refusal → draft.change ≡ Counted → is_over life ≡ false
       → phase account registry life ≡ Inactive
       → IsDraftOf account registry life (Ok (enable (reading_of text))) draft
   text_refused text (faults.Program at why) refusal draft one read found e reply change fresh off =

@@ -9,9 +9,9 @@ pub mod Stores
 pub mod Reading
 pub mod Counted
 pub mod Stands
+pub mod Seeing
 pub mod DraftLemmas
 pub mod Interests
-pub mod Listing
 pub mod Telling
 pub mod StoresTold
 pub mod Quiet

@@ -1,5 +1,5 @@
 -- A consumer after a line of its own, and after a firing.
-use Rattle.std.proofs.Common.{◌≡◌, ℕ, suc, ◌+◌, ◌-◌, ◌≤◌, not, Bool, true, false, List, ◌∷◌, ◌++◌, Option, Some, None}
+use Rattle.std.proofs.Common.{◌≡◌, ℕ, suc, ◌+◌, ◌≤◌, Bool, true, false, List, ◌∷◌, ◌++◌, Option, Some, None}
 use Rattle.std.proofs.Common.{Result, length, map, refl, sym, ap, ◌∙◌, subst, arith}
 use Rattle.std.specs.Option.{MatchOption}
 use Rattle.std.proofs.lemmas.List.{length-map, map-append}
@@ -21,7 +21,7 @@ use Rattle.dt_life.specs.Life.{Item, asked, SetUp, lines, is_inactive, set_up, e
 use Rattle.dt_life.specs.Life.{with_options, with_program, is_active, shapes_in}
 use Rattle.dt_consumer.specs.StandsFor.{StandsFor}
 use Rattle.dt_life.specs.Takings.{TracingEvent}
-use Rattle.dt_consumer.specs.declared.consumer.Consumer.{Consumer}
+use Rattle.dt_consumer.specs.declared.consumer.Consumer.{Consumer, known-type}
 use Rattle.dt_life.specs.declared.options.Options.{Options}
 use Rattle.dt_consumer.specs.declared.course.Course.{Course}
 use Rattle.dt_consumer.specs.declared.course.Course.TheVariants.{Running, Over}
@@ -56,7 +56,8 @@ not_active false phase e on = let no : true ≡ false = sym (ap is_active on) �
 module _ (account : Account) (registry : Registry) (consumer : Consumer) where
   -- a count more changes nothing that is kept
   pub keeps_counted : (s : SetUp) (n : ℕ) → Keeps account registry s consumer
-      → Keeps account registry s (record consumer { lines = n })
+      → {known : known-type consumer.account consumer.options consumer.programs consumer.tracing consumer.closed n}
+      → Keeps account registry s (record consumer { lines = n; known = known })
   keeps_counted s n k = record {
     same_account = k.same_account;
     options = k.options;
@@ -70,10 +71,11 @@ module _ (account : Account) (registry : Registry) (consumer : Consumer) where
     -- a line that leaves the set-up
     pub stands_same : (line : Result Ask Refusal) (n : ℕ) → n ≡ suc (lines life)
         → set_up account registry (asked line ∷ life) ≡ set_up account registry life
-        → StandsFor account registry (record consumer { lines = n }) (asked line ∷ life)
-    stands_same line n counts same = record {
+        → {known : known-type consumer.account consumer.options consumer.programs consumer.tracing consumer.closed n}
+        → StandsFor account registry (record consumer { lines = n; known = known }) (asked line ∷ life)
+    stands_same line n counts same {known} = record {
       keeps =
-          let P : SetUp → Type 0 = λ x. Keeps account registry x (record consumer { lines = n }) in
+          let P : SetUp → Type 0 = λ x. Keeps account registry x (record consumer { lines = n; known = known }) in
           subst P (sym same) (keeps_counted (set_up account registry life) n s.keeps);
       counted = counts;
     }
@@ -91,8 +93,9 @@ module _ (account : Account) (registry : Registry) (consumer : Consumer) where
   -- other options
   pub keeps_set : (s : SetUp) (n : ℕ) (options : Options) → phase_of s ≡ Inactive
       → Keeps account registry s consumer
+      → {known : known-type consumer.account options consumer.programs consumer.tracing consumer.closed n}
       → Keeps account registry (with_options s (form_of_options options))
-      (record consumer { options = options; lines = n })
+      (record consumer { options = options; lines = n; known = known })
   keeps_set s n options off k = record {
     same_account = k.same_account;
     options = refl;
@@ -147,7 +150,8 @@ module _ (account : Account) (registry : Registry) (consumer : Consumer) where
         → programs.clauses.items ≡ consumer.programs.clauses.items ++ clauses
         → programs.ecbs.items ≡ consumer.programs.ecbs.items ++ ecbs
         → shapes_of programs.shapes ≡ (shapes_in s) ++ uses_of forms
-        → Keeps account registry (with_program s forms) (record consumer { programs = programs; lines = n })
+        → {known : known-type consumer.account consumer.options programs consumer.tracing consumer.closed n}
+        → Keeps account registry (with_program s forms) (record consumer { programs = programs; lines = n; known = known })
     keeps_program go_on uses_both n programs grown grown_ecbs shaped = record {
       same_account = k.same_account;
       options = k.options;
@@ -172,8 +176,10 @@ module _ (account : Account) (registry : Registry) (consumer : Consumer) where
   pub keeps_traced : (s next : SetUp) (n : ℕ) (tracing : Tracing) → Keeps account registry s consumer
       → next.options ≡ s.options → next.clauses ≡ s.clauses
       → IsTracing account registry next tracing
-      → Keeps account registry next (record consumer { tracing = Some tracing; lines = n })
-  keeps_traced s next n tracing k options clauses t = record {
+      → {now : Option Tracing} {closed : Bool} → now ≡ Some tracing
+      → {known : known-type consumer.account consumer.options consumer.programs now closed n}
+      → Keeps account registry next (record consumer { tracing = now; closed = closed; lines = n; known = known })
+  keeps_traced s next n tracing k options clauses t {now} {closed} is = record {
     same_account = k.same_account;
     options = k.options ∙ sym options;
     clauses = k.clauses ∙ sym clauses;
@@ -182,7 +188,10 @@ module _ (account : Account) (registry : Registry) (consumer : Consumer) where
         AreEcbs cs (ecbs_of account registry cs) consumer.programs.ecbs.items in
         subst P (sym clauses) k.ecbs;
     shapes = k.shapes ∙ sym (ap uses_of clauses);
-    tracing = t;
+    tracing =
+        let P : Option Tracing → Type 0 = λ o. MatchOption o (IsUntraced account registry next closed)
+        (IsTracing account registry next) in
+        subst P (sym is) t;
   }
 
 -- whether a consumer traces
@@ -202,10 +211,13 @@ module _ (account : Account) (registry : Registry) (s : SetUp) (consumer : Consu
         subst P e k.tracing
 
     -- an event by which nothing is taken, where it never traced
-    pub keeps_quiet : (event : TracingEvent) (is_closed : Bool) (n : ℕ) → consumer.tracing ≡ None
+    pub keeps_quiet : (event : TracingEvent) (is_closed : Bool) (n : ℕ)
         → is_quiet (event ∷ s.since) ≡ true → phase_of (with_event s event) ≡ phase_untraced is_closed
-        → Keeps account registry (with_event s event) (record consumer { closed = is_closed; lines = n })
-    keeps_quiet event is_closed n none quiet standing = record {
+        → {now : Option Tracing} {closed : Bool} → now ≡ None → closed ≡ is_closed
+        → {known : known-type consumer.account consumer.options consumer.programs now closed n}
+        → Keeps account registry (with_event s event)
+        (record consumer { tracing = now; closed = closed; lines = n; known = known })
+    keeps_quiet event is_closed n quiet standing {now} {closed} none same = record {
       same_account = k.same_account;
       options = k.options;
       clauses = k.clauses;
@@ -213,9 +225,9 @@ module _ (account : Account) (registry : Registry) (s : SetUp) (consumer : Consu
       shapes = k.shapes;
       tracing =
           let P : Option Tracing → Type 0 = λ o. MatchOption o
-          (IsUntraced account registry (with_event s event) is_closed)
+          (IsUntraced account registry (with_event s event) closed)
           (IsTracing account registry (with_event s event)) in
-          subst P (sym none) (record { quiet = quiet; standing = standing });
+          subst P (sym none) (record { quiet = quiet; standing = standing ∙ sym (ap phase_untraced same) });
     }
 
 -- the same set-up, written in another way

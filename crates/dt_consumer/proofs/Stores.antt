@@ -1,6 +1,5 @@
 -- What comes to the stores of all processors, and what a firing makes of both.
-use Rattle.std.proofs.Common.{◌≡◌, ℕ, ℤ, ◌<◌, true, false, List, [], length, Option, Some, map, sym, ap, ◌∙◌, subst}
-use Rattle.std.specs.List.{All}
+use Rattle.std.proofs.Common.{◌≡◌, ℕ, ℤ, true, false, List, [], Option, Some, map, sym, ap, ◌∙◌, subst}
 use Rattle.std.specs.Option.{IsSomeAnd}
 use Rattle.dt_aggstore.specs.History as store
 use Rattle.dt_aggstore.specs.declared.store.AggStore.{AggStore}

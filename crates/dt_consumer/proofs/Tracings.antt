@@ -2,10 +2,9 @@
 use Rattle.std.proofs.Common.{◌≡◌, ℕ, ℤ, ◌+◌, ◌<◌, ◌==◌, ◌&&◌, Bool, true, false, cond, List, [], ◌∷◌, Option, Some}
 use Rattle.std.proofs.Common.{length, get_or, filter, map, refl, sym, ap, ◌∙◌, subst, arith}
 use Rattle.std.specs.List.{slice_get, All}
-use Rattle.std.proofs.lemmas.List.Elements.{All-filter, All-get_or}
+use Rattle.std.proofs.lemmas.List.Elements.{All-filter, All-get_or, All-map}
 use Rattle.std.proofs.lemmas.Option.{slice_get-get_or}
 use Rattle.std.specs.Option.{IfSome, IsSomeAnd}
-use Rattle.std.proofs.lemmas.List.{length-map}
 use Rattle.dt_buffer.specs.History.{new_buffer_past}
 use Rattle.dt_cred.specs.declared.account.Account.{Account}
 use Rattle.dt_machine.specs.Registry.{Registry}
@@ -15,7 +14,7 @@ use Rattle.dt_ecb.specs.Ecbs.{EcbForm, of_probe}
 use Rattle.dt_ecb.specs.Forms.{form_of_ecb}
 use Rattle.dt_ecb.specs.declared.parts.Ecb.{Ecb}
 use Rattle.dt_life.specs.Buffers.{attempts_of, errors_in, past_in, reserve_on}
-use Rattle.dt_life.specs.Placed.{AreEcbs}
+use Rattle.dt_life.specs.Placed.{AreEcbs, placed_after}
 use Rattle.dt_consumer.specs.Keeps.{AreTaken, HasTaken, IsTracing}
 use Rattle.dt_life.specs.Following.{errors_and, followed_by, pasts_and, taking_by, where_taken}
 use Rattle.dt_life.specs.Life.{SetUp, ecbs_in, end_size, since_then, with_event}
@@ -179,3 +178,9 @@ pub two_there : {X : Type 0} (P : X → Type 0) (xs : List X) → IsSomeAnd (sli
 two_there P [] h = absurd h
 two_there P (x ∷ []) h = absurd h
 two_there P (x ∷ (y ∷ xs)) h = omega arith
+
+-- ECBs that are placed among a program's clauses, placed after so many others
+pub placed_behind : (before n : ℕ) (ecbs : List Ecb) → All (λ ecb. ecb.clause < n) ecbs
+    → All (IsPlaced (before + n)) (map (placed_after before) ecbs)
+placed_behind before n ecbs all =
+    All-map (IsPlaced (before + n)) (placed_after before) ecbs (λ k d inside. omega (arith, all k d inside))

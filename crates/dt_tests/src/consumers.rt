@@ -57,7 +57,7 @@ status = Active 1 0 0
 account root
 option bufsize 0 = refused 11 Option
 option bufsize 1048577 = refused 11 Option
-option histsize 65537 = refused 11 Option
+option histsize 1048577 = refused 11 Option
 option bufsize ring = refused 11 Option
 option bufpolicy tape = refused 11 Option
 option bufpolicy 1 = refused 11 Option

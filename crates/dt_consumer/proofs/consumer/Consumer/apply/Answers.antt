@@ -18,7 +18,7 @@ returns-in-Go c = λ account life line s drafted.
 pub returns-in-Snap : goal.returns-in-Snap
 returns-in-Snap c = λ account life line s drafted.
     let registry = c.args.machine.now.registry in
-    c.swap.ensures account registry life line s
+    c.snap.ensures account registry life line s
     (subst (Drafted account registry life line) (sym c.into_change.ensures ∙ c.in-Snap.is) drafted.makes)
 
 pub returns-in-Stop : goal.returns-in-Stop

@@ -1,5 +1,5 @@
 -- Tracing begins, and may have ended in the same step.
-use Rattle.std.proofs.Common.{[], arith}
+use Rattle.std.proofs.Common.{[], refl, arith}
 use Rattle.dt_life.specs.Life.{set_up, since_then, happens}
 use Rattle.dt_life.specs.Takings.{began}
 use Rattle.dt_life.specs.laws.Verdicts.{begun_by_go}
@@ -20,4 +20,4 @@ returns c = λ account registry life line s drafted.
     (omega (arith, quota_left life accepted.0, s.counted, c.saturating_add-self.ensures))
     (keeps_traced account registry c.args.self.now own next _ c.args.tracing s.keeps
     (same_options account registry fresh began) (same_clauses account registry fresh began)
-    drafted.1))
+    drafted.1 refl))

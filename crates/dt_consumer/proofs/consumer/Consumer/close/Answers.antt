@@ -1,7 +1,6 @@
 -- Tracing ends without a cause, or the consumer never traces.
-use Rattle.std.proofs.Common.{◌≡◌, ap, arith}
+use Rattle.std.proofs.Common.{ap, ◌∙◌, arith}
 use Rattle.dt_life.specs.Life.{set_up}
-use Rattle.dt_consumer.specs.declared.consumer.Consumer.{Consumer}
 use Rattle.dt_consumer.proofs.Closing.{closes_traced, closes_untraced}
 use Rattle.dt_life.specs.laws.Lines.{after_counted, quota_left}
 use Rattle.dt_consumer.proofs.consumer.Consumer.close.Goals as goal
@@ -13,15 +12,12 @@ returns c = λ account registry life line s drafted.
     rw (after_counted life line drafted.0, drafted.1)
     (elim c.match-self.branch [
       | in-Some w ↦
-          let lines : c.match-self.self.lines ≡ c.args.self.now.lines = ap (λ (x : Consumer). x.lines) w.self-is in
-          rw w.self-is
           (closes_traced account registry old life s w.in-Some.tracing w.close.new.self w.in-Some.is
           (λ t off. w.close.ensures.running account registry (set_up account registry life) t off)
           (λ t on. w.close.ensures.over account registry (set_up account registry life) t on)
-          (omega (arith, quota_left life drafted.0, s.counted, c.saturating_add-self.ensures, lines)))
+          (omega (arith, quota_left life drafted.0, s.counted, c.saturating_add-self.ensures)) (ap (λ x. x.1.1.1.1.0) w.self-is))
       | in-None w ↦
-          let lines : c.match-self.self.lines ≡ c.args.self.now.lines = ap (λ (x : Consumer). x.lines) w.self-is in
-          rw w.self-is
           (closes_untraced account registry old life s w.in-None.is
-          (omega (arith, quota_left life drafted.0, s.counted, c.saturating_add-self.ensures, lines)))
+          (omega (arith, quota_left life drafted.0, s.counted, c.saturating_add-self.ensures))
+          (ap (λ x. x.1.1.1.1.0) w.self-is ∙ w.in-None.is) (ap (λ x. x.1.1.1.1.1.0) w.self-is))
     ])

@@ -10,8 +10,8 @@ use Rattle.dt_consumer.proofs.Drafting.{text_refused}
 use Rattle.dt_life.specs.laws.Options.{if_ok_map}
 use Rattle.dt_consumer.proofs.consumer.Consumer.draft_enable.Goals as goal
 
-pub returns-then-is_late : goal.returns-then-is_late
-returns-then-is_late c = λ account life m.
+pub returns-then-is_late-clause-drafted : goal.returns-then-is_late-clause-drafted
+returns-then-is_late-clause-drafted c = λ account life m.
     let registry = c.args.machine.now.registry in
     let on = c.is_late.ensures.late account registry life m.stands c.if-is_late.true in
     refused_by account registry life (enable (reading_of c.args.text.now)) _ _
@@ -19,8 +19,8 @@ returns-then-is_late c = λ account life m.
     (enable_busy account registry life (reading_of c.args.text.now) on)
     (idle_late account registry life (reading_of c.args.text.now) on) refl
 
-pub returns-in-Ok : goal.returns-in-Ok
-returns-in-Ok c =
+pub returns-in-Ok-clause-drafted : goal.returns-in-Ok-clause-drafted
+returns-in-Ok-clause-drafted c =
     if_ok_map _ _ c.draft_program.result
     (λ draft h. λ account life m.
     let registry = c.args.machine.now.registry in
@@ -29,10 +29,10 @@ returns-in-Ok c =
     (c.one_reading.ensures c.args.text.now (program (form_of_program c.in-Ok.program)) (reading_of c.args.text.now)
     c.in-Ok.ensures.read (is_read c.args.text.now))
     (h account life m off))
-    c.draft_program.ensures
+    c.draft_program.ensures.drafted
 
-pub returns-in-Some : goal.returns-in-Some
-returns-in-Some c = λ account life m.
+pub returns-in-Some-clause-drafted : goal.returns-in-Some-clause-drafted
+returns-in-Some-clause-drafted c = λ account life m.
     let registry = c.args.machine.now.registry in
     let off = c.is_late.ensures.early account registry life m.stands c.if-is_late.false in
     text_refused account registry life c.args.text.now c.in-Err.fault c.in-Some.refusal _ c.one_reading.ensures

@@ -1,5 +1,5 @@
 -- The program's ECBs, each with the place of its clause among all.
-use Rattle.std.proofs.Common.{◌≡◌, true, ◌<◌, List, ◌++◌, length, map, sym, ap, ◌∙◌, subst, arith}
+use Rattle.std.proofs.Common.{◌≡◌, true, ◌<◌, ◌+◌, List, ◌++◌, length, map, sym, ap, ◌∙◌, subst, arith}
 use Rattle.std.specs.List.{All}
 use Rattle.std.proofs.lemmas.List.{length-map}
 use Rattle.dt_lang.specs.Program.{form_of_clause}
@@ -7,17 +7,19 @@ use Rattle.dt_ecb.specs.Enable.{is_enabled}
 use Rattle.dt_ecb.specs.Shapes.{ShapeForm, uses_of}
 use Rattle.dt_life.specs.Placed.{placed_after}
 use Rattle.dt_life.specs.Life.{SetUp, set_up}
+use Rattle.std.specs.Vec.{vec_len}
+use Rattle.dt_consumer.specs.Placing.{IsPlaced}
 use Rattle.dt_consumer.proofs.Drafting.{program_draft}
+use Rattle.dt_consumer.proofs.Tracings.{placed_behind}
 use Rattle.dt_life.specs.laws.Placed.{are_placed}
 use Rattle.dt_consumer.proofs.consumer.Consumer.draft_enabled.Goals as goal
 
-pub returns : goal.returns
-returns c = λ account life m off first holds are.
-    let registry = c.args._machine.now.registry in
-    let s : SetUp = set_up account c.args._machine.now.registry life in
+pub returns-clause-drafted : goal.returns-clause-drafted
+returns-clause-drafted c = λ account registry life m off first holds are.
+    let s : SetUp = set_up account registry life in
     let clauses = c.args.program.clauses in
     let H : List ShapeForm → Type 0 = λ shapes.
-    is_enabled account c.args._machine.now.registry shapes c.args.first
+    is_enabled account registry shapes c.args.first
     (map form_of_clause c.args.program.clauses.items) ≡ true in
     program_draft account registry life _ c.args.first clauses c.in_ok-ecbs.ecbs c.in_ok-shapes.shapes m.in_quota off
     first
@@ -41,3 +43,22 @@ returns c = λ account life m off first holds are.
     ∙ ap
     (λ shapes. shapes ++ uses_of (map form_of_clause c.args.program.clauses.items))
     m.stands.keeps.shapes)
+
+pub returns-clause-fits : goal.returns-clause-fits
+returns-clause-fits c =
+    let before = length c.clauses.result.now in
+    let ecbs = c.args.ecbs.items in
+    let many = ap length c.in_ok-ecbs.ensures ∙ length-map c.deref.result.now (placed_after before)
+    ∙ ap length c.deref.ensures.value in
+    record {
+      fits = (
+        c.requires.untraced,
+        omega (arith, many, c.requires.each),
+        omega (arith, many, c.requires.room),
+        subst (All (IsPlaced (vec_len c.args.self.now.programs.clauses + vec_len c.args.program.clauses)))
+            (sym (c.in_ok-ecbs.ensures ∙ ap (map (placed_after before)) c.deref.ensures.value))
+            (subst (λ n. All (IsPlaced n) (map (placed_after before) ecbs))
+            (omega (arith, ap length c.clauses.ensures.value))
+            (placed_behind before (length c.args.program.clauses.items) ecbs c.requires.placed)),
+      );
+    }

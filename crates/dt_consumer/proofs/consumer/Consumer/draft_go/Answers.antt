@@ -9,8 +9,8 @@ use Rattle.dt_life.specs.Takings.{began}
 use Rattle.dt_consumer.proofs.Drafting.{go_draft}
 use Rattle.dt_consumer.proofs.consumer.Consumer.draft_go.Goals as goal
 
-pub returns : goal.returns
-returns c = λ account life m.
+pub returns-clause-drafted : goal.returns-clause-drafted
+returns-clause-drafted c = λ account life m.
     let registry = c.args.machine.now.registry in
     let consumer = c.args.self.now in
     let s = set_up account registry life in
@@ -22,5 +22,5 @@ returns c = λ account life m.
     (λ (a : Account). AreEcbs s.clauses (ecbs_in a registry s) consumer.programs.ecbs.items
     → c.in-Some.reserve ≡ reserve_on a registry s 0
     → IsTracing a registry (happens a registry (since_then s []) began) c.in_ok-tracing.tracing)
-    own (λ are. c.in_ok-tracing.ensures s k.options k.clauses are k.shapes) in
+    own (λ are. c.in_ok-tracing.ensures.traces s k.options k.clauses are k.shapes) in
     go_draft account registry life c.in_ok-tracing.tracing m.in_quota off room.0 (begun k.ecbs room.1)

@@ -9,15 +9,15 @@ use Rattle.dt_life.specs.declared.refusal.Refusal.TheVariants.{Program}
 use Rattle.dt_consumer.proofs.DraftLemmas.{refused_by, told_draft}
 use Rattle.dt_consumer.proofs.consumer.Consumer.draft_list.Goals as goal
 
-pub returns-in_default : goal.returns-in_default
-returns-in_default c = λ account life m.
+pub returns-in_default-clause-drafted : goal.returns-in_default-clause-drafted
+returns-in_default-clause-drafted c = λ account life m.
     let text = c.args.text.now in
     rw (c.one_description.ensures text (description_of text) None (is_described text) c.in_default.ensures.none)
     (refused_by account c.args.machine.now.registry life (list None) (Program 0 Probe) _
     c.refused.ensures.reply c.refused.ensures.change m.in_quota refl refl refl)
 
-pub returns : goal.returns
-returns c = λ account life m.
+pub returns-clause-drafted : goal.returns-clause-drafted
+returns-clause-drafted c = λ account life m.
     let text = c.args.text.now in
     let form = form_of_description c.in-Some.description in
     rw (c.one_description.ensures text (description_of text) (Some form) (is_described text) c.in-Some.ensures.found)

@@ -3,8 +3,8 @@ use Rattle.std.proofs.Common.{sym, ◌∙◌, arith}
 use Rattle.dt_consumer.proofs.Drafting.{snap_draft}
 use Rattle.dt_consumer.proofs.consumer.Consumer.draft_snap.Goals as goal
 
-pub returns : goal.returns
-returns c = λ account life m.
+pub returns-clause-drafted : goal.returns-clause-drafted
+returns-clause-drafted c = λ account life m.
     let registry = c.args.machine.now.registry in
     snap_draft account registry life c.args.cpu c.in_ok-shown.field-0 m.in_quota (omega arith)
     (sym (c.is_readable.ensures account registry life m.stands) ∙ c.if-not-is_readable.false)

@@ -7,8 +7,8 @@ use Rattle.dt_life.specs.Reply.{all_errors, seen_firings}
 use Rattle.dt_consumer.proofs.DraftLemmas.{told_draft}
 use Rattle.dt_consumer.proofs.consumer.Consumer.draft_status.Goals as goal
 
-pub returns : goal.returns
-returns c = λ account life m.
+pub returns-clause-drafted : goal.returns-clause-drafted
+returns-clause-drafted c = λ account life m.
     let registry = c.args.machine.now.registry in
     let on = phase account registry life in
     let seen = seen_firings account registry life in

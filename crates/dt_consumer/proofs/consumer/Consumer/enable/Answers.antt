@@ -1,13 +1,11 @@
 -- The program's clauses and ECBs are added, and there is room for them.
-use Rattle.std.proofs.Common.{◌+◌, ◌≤◌, map, ap, ◌∙◌, arith}
-use Rattle.std.specs.Vec.{vec_len}
+use Rattle.std.proofs.Common.{map, ap, ◌∙◌, arith}
 use Rattle.dt_lang.specs.Program.{form_of_clause}
 use Rattle.dt_ecb.specs.Forms.{shapes_of}
-use Rattle.dt_ecb.specs.declared.limits.TheConstants.{ECBS_MAX}
 use Rattle.dt_life.specs.Life.{set_up, with_program}
 use Rattle.dt_life.specs.laws.Verdicts.{program_added}
 use Rattle.dt_life.specs.laws.Lines.{after_counted, quota_left}
-use Rattle.dt_consumer.proofs.Stands.{stands_changed, keeps_program, each_effective, ecbs_fit}
+use Rattle.dt_consumer.proofs.Stands.{stands_changed, keeps_program}
 use Rattle.dt_consumer.proofs.consumer.Consumer.enable.Goals as goal
 
 pub returns : goal.returns
@@ -17,20 +15,10 @@ returns c = λ account registry life line s drafted.
     let clauses = c.args.clauses.items in
     let ecbs = c.args.ecbs.items in
     let forms = map form_of_clause clauses in
-    let effective : vec_len c.args.clauses ≤ vec_len c.args.ecbs = omega (
-      arith,
-      each_effective account registry old own s.keeps clauses ecbs drafted.1 drafted.3 drafted.4,
-    ) in
-    let fit : vec_len c.args.self.now.programs.ecbs + vec_len c.args.ecbs ≤ ECBS_MAX = omega (
-      arith,
-      ecbs_fit account registry old own s.keeps clauses ecbs drafted.1 drafted.3 drafted.4,
-    ) in
     rw (after_counted life line drafted.0, drafted.2)
     (stands_changed account registry old life s _ _ (with_program own forms)
     (program_added account registry life forms drafted.1 drafted.3)
     (omega (arith, quota_left life drafted.0, s.counted, c.saturating_add-self.ensures))
     (keeps_program account registry old own s.keeps clauses ecbs drafted.1 drafted.3 drafted.4
     (c.ecbs_go_on.ensures account registry) c.uses_of_both.ensures _ c.extend.new.self
-    (c.extend.ensures.clauses effective fit)
-    (c.extend.ensures.ecbs effective fit)
-    (ap shapes_of (c.extend.ensures.shapes effective fit) ∙ drafted.5)))
+    c.extend.ensures.clauses c.extend.ensures.ecbs (ap shapes_of c.extend.ensures.shapes ∙ drafted.5)))

@@ -1,5 +1,5 @@
 -- A buffer shows its past; where the consumer never traced, nothing.
-use Rattle.std.proofs.Common.{false, [], refl, ap}
+use Rattle.std.proofs.Common.{false, [], refl, ap, arith}
 use Rattle.dt_life.specs.Answer.{snapped}
 use Rattle.dt_life.specs.Buffers.{past}
 use Rattle.dt_life.specs.Life.{set_up}
@@ -11,7 +11,7 @@ pub returns : goal.returns
 returns c = λ account life s.
     let registry = c.args.machine.now.registry in
     let tried = past account registry life c.args.cpu in
-    let has = c.in-Some.ensures account life s in (
+    let has = c.in-Some.ensures account registry life s (omega arith) in (
       c.in_ok-content.field-0.items,
       c.drops.result,
       c.filled.result,
@@ -28,6 +28,6 @@ returns-in_default c = λ account life s.
       0,
       false,
       nothing_shown account registry (set_up account registry life) c.args.cpu
-          (c.in_default.ensures account life s),
+          (c.in_default.ensures account registry life s (omega arith)),
       ap (λ bytes. snapped c.args.cpu bytes 0 false) c.new.ensures.items,
     )

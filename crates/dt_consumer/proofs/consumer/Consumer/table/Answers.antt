@@ -13,8 +13,7 @@ use Rattle.dt_consumer.proofs.consumer.Consumer.table.Goals as goal
 pub returns-in-Some : goal.returns-in-Some
 returns-in-Some c =
     if_ok_each c.merge_all.result
-    (λ rows told. λ account life s.
-    let registry = c.args._machine.now.registry in
+    (λ rows told. λ account registry life s.
     let own = set_up account registry life in
     told (stores_in account registry own)
     (subst (AllZip IsAt (stores_in account registry own)) (sym c.deref.ensures.value)
@@ -23,8 +22,7 @@ returns-in-Some c =
     c.merge_all.ensures.value
 
 pub returns-in-None : goal.returns-in-None
-returns-in-None c = λ account life s.
-    let registry = c.args._machine.now.registry in
+returns-in-None c = λ account registry life s.
     let own = set_up account registry life in
     ap (map form_of_row) c.new.ensures.items ∙ empty_table account registry own c.args.aggregation
     (untraced account registry own c.args.self.now s.keeps c.in-None.is).quiet

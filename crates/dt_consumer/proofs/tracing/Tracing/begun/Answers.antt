@@ -107,5 +107,5 @@ take-exit-requires-clause-placed c =
     ))
     c.index.ensures
     (lists_placed (length clauses) c.ecbs.result.now c.in_ok-lists.lists.items
-    (subst (λ n. All (IsPlaced n) c.ecbs.result.now) (sym (ap length c.clauses-2.ensures.value)) c.ecbs.ensures.placed)
+    (subst (λ n. All (IsPlaced n) c.ecbs.result.now) (omega (arith, ap length c.clauses-2.ensures.value)) c.ecbs.ensures.placed)
     c.in_ok-lists.ensures.lists)
