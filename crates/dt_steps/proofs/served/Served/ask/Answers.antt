@@ -1,13 +1,19 @@
 -- A line was asked of a session.
-use Rattle.std.proofs.Common.{◌≡◌, true, subst}
+use Rattle.std.proofs.Common.{◌≡◌, ◌∙◌, true, is_some, rules, subst}
+use Rattle.std.proofs.lemmas.Bool.{false≢true}
 use Rattle.dt_life.specs.Answer.{answer_of}
 use Rattle.dt_life.specs.Life.{is_over}
 use Rattle.dt_consumer.specs.Draft.{IsDraftOf}
 use Rattle.dt_proto.specs.Asked.{form_lent}
 use Rattle.dt_proto.specs.Line.{ask_in}
 use Rattle.dt_steps.specs.World.{life_in}
-use Rattle.dt_steps.proofs.Serving.{asked_go, asked_other, same_test}
+use Rattle.dt_steps.proofs.Serving.{asked_go, asked_other, asks_not, same_test}
 use Rattle.dt_steps.proofs.served.Served.ask.Goals as goal
+
+pub returns-then-is_some-clause-asked : goal.returns-then-is_some-clause-asked
+returns-then-is_some-clause-asked c = λ session h may.
+    let waits : is_some c.args.self.now.go ≡ true = search rules in
+    absurd (false≢true (asks_not c.args.machine.now.registry session c.args.self.now h waits ∙ may))
 
 pub returns-then-publishes-clause-asked : goal.returns-then-publishes-clause-asked
 returns-then-publishes-clause-asked c = λ session h may.
@@ -18,7 +24,7 @@ returns-then-publishes-clause-asked c = λ session h may.
     subst (λ own. IsDraftOf session.account registry life own c.in_ok-draft.draft) c.in_ok-asked.ensures.asks
     (c.in_ok-draft.ensures.drafted session.account life h.stands) in
     asked_go registry session line c.args.self.now h c.in_ok-line.line c.in_ok-draft.draft c.in_ok-line.ensures drafted
-    ((c.publishes.ensures session.account registry life (ask_in line) drafted).0 c.if-publishes.true)
+    ((c.publishes.ensures session.account registry life (ask_in line) drafted).0 c.if-publishes.true) _
 
 pub returns-clause-asked : goal.returns-clause-asked
 returns-clause-asked c = λ session h may.
@@ -37,7 +43,7 @@ returns-clause-asked c = λ session h may.
     (c.closes-self.ensures session.account registry life (ask_in line) drafted)
     (c.apply.ensures session.account life (ask_in line) h.stands drafted)
     (c.reply.ensures session.account registry life (ask_in line) drafted)
-    c.in_ok-text.ensures
+    c.in_ok-text.ensures _
 
 pub returns-clause-over : goal.returns-clause-over
 returns-clause-over c = λ session h.

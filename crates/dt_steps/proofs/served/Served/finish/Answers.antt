@@ -23,7 +23,7 @@ returns-clause-finished c = λ session h.
           (subst (λ (one : Waiting). IsDraftOf session.account registry life (ask_in line) one.draft) same drafted),
       c.reply.ensures session.account registry life (ask_in line) drafted,
     ))
-    c.in_ok-text.ensures
+    c.in_ok-text.ensures _
 
 pub returns-clause-line : goal.returns-clause-line
 returns-clause-line c = λ session pending h at.
