@@ -32,10 +32,10 @@ use dt_buffer::Policy;
 use dt_ecb::{EnableFault, ecbs_go_on, enable, listed, one_verdict, uses_of_both};
 use dt_lang::{Description, LangFault, ParseProgram, Program, Why, one_description, one_reading};
 use dt_life::{
-    BEGIN, Command, End, Known, Moment, OptionValue, Phase, Refusal, Reply, left_by_end,
-    own_firing, own_process,
+    BEGIN, Command, End, Known, OptionValue, Phase, Refusal, Reply, left_by_end, own_firing,
+    own_process,
 };
-use dt_machine::Machine;
+use dt_machine::{Machine, Moment};
 use dt_record::Layout;
 use std::alloc::{AllocError, Global};
 
