@@ -49,14 +49,10 @@ impl Runner {
     ghost use Rattle.dt_life.specs.declared.phase.End.{End};
 
     /// A runner of the empty life.
-    pub(crate) fn new(
-        alloc: Global,
-        account: Account,
-        _machine: &Machine,
-    ) -> Result<Self, AllocError>
-        ensures { IfOk result (λ runner. Runs account _machine.now.registry runner []) }
+    pub(crate) fn new(alloc: Global, account: Account) -> Self
+        ensures { (registry : Registry) → Runs account registry result [] }
     {
-        Ok(Runner {
+        Runner {
             account,
             options: Options::new(),
             programs: Programs::new(alloc),
@@ -64,7 +60,7 @@ impl Runner {
             seen: 0,
             phase: Phase::Inactive,
             since: Vec::new(alloc),
-        })
+        }
     }
 
     /// Whether all lines were asked that one consumer may ask.
