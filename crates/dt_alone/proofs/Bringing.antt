@@ -2,19 +2,19 @@
 use Rattle.std.proofs.Common.{◌≡◌, ℕ, ◌+◌, ◌<◌, ◌==◌, get_or, take, Bool, true, false, cond, List, [], ◌∷◌, ◌++◌}
 use Rattle.std.proofs.Common.{length, filter, map, Option, Some, None, refl, sym, ap, ◌∙◌, subst, arith}
 use Rattle.std.specs.Global.{Vec}
-use Rattle.std.specs.Option.{is_none, is_some, option_and_then, option_map, option_to_list}
+use Rattle.std.specs.Option.{option_and_then, option_map, option_map_or, option_to_list}
 use Rattle.std.proofs.lemmas.List.{append-nil, append_assoc, take_more}
 use Rattle.std.proofs.lemmas.Grind.{flat_map-append}
 use Rattle.dt_aggstore.specs.History as store
 use Rattle.dt_buffer.specs.History as buffer
 use Rattle.dt_ecb.specs.Shapes.{ShapeForm}
-use Rattle.dt_record.specs.Taking.{TakenForm}
+use Rattle.dt_record.specs.Taking.{Outcome, TakenForm, abandoned, passed_over, leaves, is_abandoned, left_in}
 use Rattle.dt_alone.specs.Happened.{Adds, Brings, all_to, comes_to, faults_on, given_as, given_to, gives_to}
 use Rattle.dt_alone.specs.Happened.{is_fault_on}
 use Rattle.dt_alone.specs.declared.happened.Happened.{Happened}
 use Rattle.dt_alone.specs.declared.happened.Happened.TheVariants.{Failed, Left}
 use Rattle.dt_alone.specs.declared.happened.Left as left
-use Rattle.dt_life.specs.Aggregations.{contributions, contributions_of}
+use Rattle.dt_life.specs.Aggregations.{contributions, contributions_of, split_by, uses_by}
 use Rattle.dt_life.specs.Buffers.{attempts_of}
 use Rattle.dt_life.specs.Following.{where_taken}
 use Rattle.dt_life.specs.Takings.{Taking, faults}
@@ -119,48 +119,44 @@ one_there shapes there cpu t old new a a' n n' g g' b e f h =
     gives true = h
     gives false = refl
 
--- what one taking attempts, faults and gives, by what came of it
+-- what one taking attempts, faults and gives, by its outcome
 abbrev attempted : Bool → Option (List ℕ) → List buffer.BufferEvent
 attempted in_end o = option_to_list (option_map (λ bytes. buffer.attempt bytes in_end) o)
 
-abbrev bytes_in : Option (Option TakenForm) → Option (List ℕ)
-bytes_in came = option_and_then (λ (form : TakenForm). form.record_bytes) (option_and_then (λ left. left) came)
+abbrev bytes_in : Outcome → Option (List ℕ)
+bytes_in outcome = option_and_then (λ (form : TakenForm). form.record_bytes) (left_in outcome)
 
-abbrev counted : Option (Option TakenForm) → ℕ
-counted came = cond (is_none came) 1 0
+abbrev counted : Outcome → ℕ
+counted outcome = cond (is_abandoned outcome) 1 0
 
-attempts_one : (t : Taking) (came : Option (Option TakenForm)) → t.came ≡ came
-    → attempts_of (t ∷ []) ≡ attempted t.in_end (bytes_in came)
-attempts_one t came e =
-    append-nil (attempted t.in_end (bytes_in t.came)) ∙ ap (λ o. attempted t.in_end (bytes_in o)) e
+attempts_one : (t : Taking) (outcome : Outcome) → t.outcome ≡ outcome
+    → attempts_of (t ∷ []) ≡ attempted t.in_end (bytes_in outcome)
+attempts_one t outcome e =
+    append-nil (attempted t.in_end (bytes_in t.outcome)) ∙ ap (λ o. attempted t.in_end (bytes_in o)) e
 
-faults_one : (t : Taking) (came : Option (Option TakenForm)) → t.came ≡ came → faults (t ∷ []) ≡ counted came
-faults_one t came e = one (is_none t.came) ∙ ap counted e
+faults_one : (t : Taking) (outcome : Outcome) → t.outcome ≡ outcome → faults (t ∷ []) ≡ counted outcome
+faults_one t outcome e = one (is_abandoned t.outcome) ∙ ap counted e
   where
     one : (b : Bool) → length (cond b (t ∷ []) []) ≡ cond b 1 0
     one true = refl
     one false = refl
 
-given_none : (shapes : List ShapeForm) (t : Taking) (came : Option (Option TakenForm)) → t.came ≡ came
-    → is_some (option_and_then (λ left. left) came) ≡ false → contributions shapes (t ∷ []) ≡ []
-given_none shapes t came e none =
+given_none : (shapes : List ShapeForm) (t : Taking) (outcome : Outcome) → t.outcome ≡ outcome
+    → left_in outcome ≡ None → contributions shapes (t ∷ []) ≡ []
+given_none shapes t outcome e none =
     append-nil (contributions_of shapes t)
-    ∙ one (is_some (option_and_then (λ left. left) t.came)) _
-    (ap (λ o. is_some (option_and_then (λ (left : Option TakenForm). left) o)) e ∙ none)
-  where
-    one : (b : Bool) (xs : List store.Event) → b ≡ false → cond b xs [] ≡ []
-    one true xs e = cc
-    one false xs e = refl
+    ∙ ap (λ o. option_map_or (λ (form : TakenForm). split_by (uses_by shapes t.ecb.clause.statements) form.values) o [])
+    (ap left_in e ∙ none)
 
 -- a clause that was passed over
-pub adds_passed : (shapes : List ShapeForm) (there : ℕ) (t : Taking) (old : List Happened) → t.came ≡ Some None
+pub adds_passed : (shapes : List ShapeForm) (there : ℕ) (t : Taking) (old : List Happened) → t.outcome ≡ passed_over
     → Adds shapes there (t ∷ []) old old
 adds_passed shapes there t old e = λ cpu a n g b.
     one_there shapes there cpu t old old a [] n 0 g []
     (same_brings cpu old _ _ _ _ _ _ (nothing_more (there == cpu) a) (no_more (there == cpu) n)
     (nothing_more (there == cpu) g) b)
-    (sym (attempts_one t (Some None) e)) (sym (faults_one t (Some None) e))
-    (sym (given_none shapes t (Some None) e refl))
+    (sym (attempts_one t passed_over e)) (sym (faults_one t passed_over e))
+    (sym (given_none shapes t passed_over e refl))
   where
     nothing_more : {X : Type 0} (b : Bool) (xs : List X) → xs ≡ xs ++ cond b [] []
     nothing_more true xs = sym (append-nil xs)
@@ -171,14 +167,14 @@ adds_passed shapes there t old e = λ cpu a n g b.
     no_more false n = omega arith
 
 -- a division by zero
-pub adds_failed : (shapes : List ShapeForm) (there : ℕ) (t : Taking) (old : List Happened) → t.came ≡ None
+pub adds_failed : (shapes : List ShapeForm) (there : ℕ) (t : Taking) (old : List Happened) → t.outcome ≡ abandoned
     → Adds shapes there (t ∷ []) old (old ++ Failed there ∷ [])
 adds_failed shapes there t old e = λ cpu a n g b.
     one_there shapes there cpu t old (old ++ Failed there ∷ []) a [] n 1 g []
     (same_brings cpu (old ++ Failed there ∷ []) _ _ _ _ _ _ (ap (λ xs. a ++ xs) (none (there == cpu) []))
     (ap (λ k. n + k) (one (there == cpu))) (ap (λ xs. g ++ xs) (none (there == cpu) []))
     (brings_one cpu old (Failed there) a n g b))
-    (sym (attempts_one t None e)) (sym (faults_one t None e)) (sym (given_none shapes t None e refl))
+    (sym (attempts_one t abandoned e)) (sym (faults_one t abandoned e)) (sym (given_none shapes t abandoned e refl))
   where
     none : {X : Type 0} (b : Bool) (xs : List X) → xs ≡ cond b xs xs
     none true xs = refl
@@ -190,7 +186,7 @@ adds_failed shapes there t old e = λ cpu a n g b.
 
 -- a clause that left something
 pub adds_left : (shapes : List ShapeForm) (there : ℕ) (t : Taking) (in_end : Bool) (l : left.Left) (form : TakenForm)
-    (old : List Happened) → t.came ≡ Some (Some form) → t.in_end ≡ in_end
+    (old : List Happened) → t.outcome ≡ leaves form → t.in_end ≡ in_end
     → option_map (λ (bytes : Vec ℕ). bytes.items) l.bytes ≡ form.record_bytes
     → map given_as l.given.items ≡ contributions_of shapes t
     → Adds shapes there (t ∷ []) old (old ++ Left there in_end l ∷ [])
@@ -202,8 +198,8 @@ adds_left shapes there t in_end l form old e ends bytes given = λ cpu a n g b.
     (same_brings cpu new _ _ _ _ _ _ refl (ap (λ k. n + k) (none (there == cpu) 0)) refl
     (brings_one cpu old (Left there in_end l) a n g b))
     (twice l.bytes ∙ ap (attempted in_end) bytes ∙ ap (λ x. attempted x form.record_bytes) (sym ends)
-    ∙ sym (attempts_one t (Some (Some form)) e))
-    (sym (faults_one t (Some (Some form)) e))
+    ∙ sym (attempts_one t (leaves form) e))
+    (sym (faults_one t (leaves form) e))
     (given ∙ sym (append-nil (contributions_of shapes t)))
   where
     none : (b : Bool) (k : ℕ) → k ≡ cond b k k

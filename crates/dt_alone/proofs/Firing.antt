@@ -8,8 +8,9 @@ use Rattle.dt_ecb.specs.Ecbs.{EcbForm, of_probe}
 use Rattle.dt_ecb.specs.Forms.{form_of_ecb}
 use Rattle.dt_ecb.specs.declared.parts.Ecb.{Ecb}
 use Rattle.dt_lang.specs.Program.{ClauseForm}
+use Rattle.dt_machine.specs.Moment.{MomentForm}
 use Rattle.dt_life.specs.Following.{taking_by}
-use Rattle.dt_life.specs.Takings.{Taking, MomentForm, exit_of, first_exit, taken_at, taking_of, through_exit}
+use Rattle.dt_life.specs.Takings.{Taking, exit_of, first_exit, taken_at, taking_of, through_exit}
 use Rattle.dt_life.specs.laws.Takings.{first_exit-append, first_through, none_more, through_first, through_none}
 
 filter_push : {X : Type 0} (p : X → Bool) (xs : List X) (x : X)

@@ -1,8 +1,7 @@
 -- What a clause that is taken leaves.
-use Rattle.std.proofs.Common.{◌≡◌, ℕ, ℤ, pos, ◌+◌, ◌<◌, Bool, cond, List, [], ◌∷◌, ◌++◌, length, get_or}
+use Rattle.std.proofs.Common.{◌≡◌, ℕ, ℤ, pos, ◌+◌, ◌<◌, Bool, List, [], ◌∷◌, ◌++◌, length, get_or}
 use Rattle.std.proofs.Common.{map, take, drop, Option, Some, None, refl, sym, ap, ◌∙◌}
-use Rattle.std.specs.List.{flat_map}
-use Rattle.std.specs.Option.{is_some, option_and_then, option_to_list}
+use Rattle.std.specs.Option.{option_map_or}
 use Rattle.std.proofs.lemmas.List.{append-nil, get_or-drop, length-map, map-append, take_more}
 use Rattle.dt_aggstore.specs.History as store
 use Rattle.dt_aggstore.specs.declared.key.Aggregation.{Aggregation}
@@ -16,12 +15,13 @@ use Rattle.dt_program.specs.declared.clause.Clause.{Clause}
 use Rattle.dt_program.specs.declared.clause.Aggregation as program
 use Rattle.dt_program.specs.declared.clause.Statement.{Statement}
 use Rattle.dt_program.specs.declared.clause.Statement.TheVariants.{Aggregate, Exit, Stack, Trace, Ustack}
-use Rattle.dt_record.specs.Taking.{TakenForm, taking}
-use Rattle.dt_life.specs.Aggregations.{aggregation_of, contributions_of, given_by, number_given}
+use Rattle.dt_record.specs.Taking.{Outcome, TakenForm, leaves, left_in, taking}
+use Rattle.dt_machine.specs.Moment.{MomentForm}
+use Rattle.dt_life.specs.Aggregations.{aggregation_of, contributions_of, number_given}
 use Rattle.dt_life.specs.Following.{taking_by}
-use Rattle.dt_life.specs.Takings.{Taking, MomentForm, scene_at, taking_of}
-use Rattle.dt_life.specs.Uses.{UseForm, contribution_at, key_at, number_at, split_by, use_by, uses_by}
-use Rattle.dt_life.specs.laws.Giving.{left_of, span, span_more, split_given, split_more, uses_more}
+use Rattle.dt_life.specs.Takings.{Taking, scene_at, taking_of}
+use Rattle.dt_life.specs.Aggregations.{UseForm, contribution_at, key_at, number_at, split_by, use_by, uses_by}
+use Rattle.dt_life.specs.laws.Giving.{span, span_more, split_more, uses_more}
 use Rattle.dt_life.specs.laws.Takings.{clause_found}
 
 module _ (shapes : List ShapeForm) (in_end : Bool) (m : MomentForm) (clauses : List Clause) (ecb : Ecb)
@@ -29,34 +29,23 @@ module _ (shapes : List ShapeForm) (in_end : Bool) (m : MomentForm) (clauses : L
   abbrev taking_with : ClauseForm → Taking
   taking_with c = taking_of in_end m (record { epid = ecb.epid; probe = ecb.probe; clause = c })
 
-  -- what came of it
-  pub came_is : (came : Option (Option TakenForm))
-      → taking ecb.epid (scene_at m ecb.epid) (form_of_clause clause) ≡ came
-      → (taking_by in_end m (map form_of_clause clauses) ecb).came ≡ came
-  came_is came e =
+  -- what comes of it
+  pub outcome_is : (outcome : Outcome) → taking ecb.epid (scene_at m ecb.epid) (form_of_clause clause) ≡ outcome
+      → (taking_by in_end m (map form_of_clause clauses) ecb).outcome ≡ outcome
+  outcome_is outcome e =
       ap (λ (c : ClauseForm). taking ecb.epid (scene_at m ecb.epid) c)
       (clause_found clauses ecb.clause clause inside at) ∙ e
 
-  abbrev of_came : Option (Option TakenForm) → List store.Event
-  of_came came = cond (is_some (option_and_then (λ left. left) came))
-      (flat_map (λ s. option_to_list (given_by shapes (scene_at m ecb.epid) s)) (form_of_clause clause).statements) []
-
-  gives_as : contributions_of shapes (taking_by in_end m (map form_of_clause clauses) ecb)
-      ≡ of_came (taking ecb.epid (scene_at m ecb.epid) (form_of_clause clause))
-  gives_as =
-      ap (λ (c : ClauseForm). contributions_of shapes (taking_with c))
-      (clause_found clauses ecb.clause clause inside at)
-
-  -- what it gave
-  pub left_given : (form : TakenForm) → taking ecb.epid (scene_at m ecb.epid) (form_of_clause clause)
-      ≡ Some (Some form)
+  -- what it gives, of the values that it left
+  pub left_given : (form : TakenForm) → taking ecb.epid (scene_at m ecb.epid) (form_of_clause clause) ≡ leaves form
       → split_by (uses_by shapes (form_of_clause clause).statements) form.values
       ≡ contributions_of shapes (taking_by in_end m (map form_of_clause clauses) ecb)
-  left_given form came =
-      let l = left_of ecb.epid (scene_at m ecb.epid) (form_of_clause clause) form came in
-      ap (split_by (uses_by shapes (form_of_clause clause).statements)) l.values
-      ∙ split_given shapes (scene_at m ecb.epid) (form_of_clause clause).statements l.effects l.are
-      ∙ sym (gives_as ∙ ap of_came came)
+  left_given form comes =
+      sym
+      (ap (λ (c : ClauseForm). contributions_of shapes (taking_with c))
+      (clause_found clauses ecb.clause clause inside at)
+      ∙ ap (λ (o : Outcome). option_map_or
+      (λ (f : TakenForm). split_by (uses_by shapes (form_of_clause clause).statements) f.values) (left_in o) []) comes)
 
 -- the uses of the first statements, and of one more
 module _ (shapes : List ShapeForm) (statements : List Statement) (i : ℕ) (s : Statement)

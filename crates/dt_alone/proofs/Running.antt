@@ -22,6 +22,7 @@ use Rattle.dt_alone.specs.declared.happened.Happened.TheVariants.{Read, Truncate
 use Rattle.dt_alone.specs.declared.programs.Programs.{Programs}
 use Rattle.dt_alone.specs.declared.runner.Runner.{Runner}
 use Rattle.dt_alone.proofs.Bringing.{brings_one, same_brings}
+use Rattle.dt_machine.specs.Moment.{MomentForm}
 use Rattle.dt_life.specs.Aggregations.{aggregation_of, contributions}
 use Rattle.dt_life.specs.Buffers.{attempts_of, comes_by, comes_since, errors_in}
 use Rattle.dt_life.specs.Placed.{AreEcbs}
@@ -29,7 +30,7 @@ use Rattle.dt_life.specs.Following.{where_taken}
 use Rattle.dt_life.specs.Life.{SetUp, ecbs_in, end_by, happens, is_inactive, phase_of, seen_count, shapes_in}
 use Rattle.dt_life.specs.Life.{since_then, with_event}
 use Rattle.dt_life.specs.Stores.{given_on, given_since}
-use Rattle.dt_life.specs.Takings.{TracingEvent, MomentForm, Taking, began, seen, snapped, truncated, ended, closed, faults}
+use Rattle.dt_life.specs.Takings.{TracingEvent, Taking, began, seen, snapped, truncated, ended, closed, faults}
 use Rattle.dt_life.specs.Takings.{first_exit, is_end, moment_at, taken_at, taken_by, taken_on, taken_since}
 use Rattle.dt_life.specs.declared.phase.End.{End}
 use Rattle.dt_life.specs.declared.phase.End.TheVariants.{Exit, History}

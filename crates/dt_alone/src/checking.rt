@@ -56,7 +56,7 @@ fn judge(
 ) -> Result<Verdict, AllocError>
     ensures { IfOk result (IsTrailVerdict account.now machine.now (entries_of entries.now)) }
 {
-    let mut judge = Judge::new(alloc, *account, machine)?;
+    let mut judge = Judge::new(alloc, *account);
     for (index, entry) in entries.iter().enumerate() {
         match judge.take(alloc, machine, entry)? {
             Ruling::Right => {}

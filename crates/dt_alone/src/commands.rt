@@ -32,10 +32,10 @@ use dt_buffer::Policy;
 use dt_ecb::{EnableFault, ecbs_go_on, enable, listed, one_verdict, uses_of_both};
 use dt_lang::{Description, LangFault, ParseProgram, Program, Why, one_description, one_reading};
 use dt_life::{
-    BEGIN, Command, End, Known, Moment, OptionValue, Phase, Refusal, Reply, left_by_end,
-    own_firing, own_process,
+    BEGIN, Command, End, Known, OptionValue, Phase, Refusal, Reply, left_by_end, own_firing,
+    own_process,
 };
-use dt_machine::Machine;
+use dt_machine::{Machine, Moment};
 use dt_record::Layout;
 use std::alloc::{AllocError, Global};
 
@@ -53,17 +53,17 @@ impl Runner {
             → Answers account machine.now.registry life (ask_of command.now) reply self.new) }
     {
         match command {
-            Command::Option { name, value } => Ok(self.set_option(machine, name, value)),
+            Command::Option { name, value } => Ok(self.set_option(name, value)),
             Command::Enable { text } => self.enable(alloc, machine, text.as_bytes()),
             Command::Go => self.go(alloc, machine),
             Command::Stop => self.stop(alloc, machine),
             Command::Snap { cpu } => self.snap(alloc, machine, *cpu),
             Command::Agg { name } => self.table(alloc, machine, name.as_bytes()),
-            Command::Trunc { name } => self.truncate(machine, name.as_bytes()),
+            Command::Trunc { name } => self.truncate(name.as_bytes()),
             Command::Status => self.status(alloc, machine),
             Command::List { probe } => self.list(alloc, machine, probe.as_bytes()),
             Command::Describe { epid } => Ok(self.describe(machine, *epid)),
-            Command::Close => Ok(self.close(machine)),
+            Command::Close => Ok(self.close()),
         }
     }
 
@@ -75,10 +75,9 @@ impl Runner {
     }
 
     /// Sets an option.
-    fn set_option(&mut self, _machine: &Machine, name: &String, value: &OptionValue) -> Reply
-        ensures { (account : Account) (life : List Item) → HasAsked account _machine.now.registry self.old life
-            → Answers account _machine.now.registry life (option (setting_of (string_bytes name.now) value.now)) result
-            self.new }
+    fn set_option(&mut self, name: &String, value: &OptionValue) -> Reply
+        ensures { (account : Account) (registry : Registry) (life : List Item) → HasAsked account registry self.old life
+            → Answers account registry life (option (setting_of (string_bytes name.now) value.now)) result self.new }
     {
         // options hold for the whole of tracing
         if !self.is_inactive() {
@@ -297,11 +296,11 @@ impl Runner {
     }
 
     /// Truncates an aggregation.
-    fn truncate(&mut self, _machine: &Machine, name: &[u8]) -> Result<Reply, AllocError>
+    fn truncate(&mut self, name: &[u8]) -> Result<Reply, AllocError>
         requires room { vec_len self.old.since + 2 * ECBS_MAX ≤ 2 * ECBS_MAX * (self.old.lines + self.old.seen) }
-        ensures { IfOk result (λ reply. (account : Account) (life : List Item)
-            → HasAsked account _machine.now.registry self.old life
-            → Answers account _machine.now.registry life (trunc name.now) reply self.new) }
+        ensures { IfOk result (λ reply. (account : Account) (registry : Registry) (life : List Item)
+            → HasAsked account registry self.old life
+            → Answers account registry life (trunc name.now) reply self.new) }
     {
         // as for an `agg`, the name must be one that an accepted program uses, in whatever phase
         let Some(known) = Known::of(&self.programs.shapes, name) else {
@@ -354,9 +353,9 @@ impl Runner {
     }
 
     /// Closes the session: tracing stops without END, where it has not stopped.
-    fn close(&mut self, _machine: &Machine) -> Reply
-        ensures { (account : Account) (life : List Item) → HasAsked account _machine.now.registry self.old life
-            → Answers account _machine.now.registry life close result self.new }
+    fn close(&mut self) -> Reply
+        ensures { (account : Account) (registry : Registry) (life : List Item) → HasAsked account registry self.old life
+            → Answers account registry life close result self.new }
     {
         if !matches!(self.phase, Phase::Stopped(_)) {
             self.phase = Phase::Stopped(None);

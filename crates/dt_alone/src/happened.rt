@@ -45,7 +45,7 @@ pub(crate) struct Contribution {
 impl Contribution {
     ghost use Rattle.std.specs.Prelude.{◌≡◌, ◌*◌, ◌+◌, map, length, IfOk};
     ghost use Rattle.dt_alone.specs.Happened.{given_as};
-    ghost use Rattle.dt_life.specs.Uses.{split_by, uses_by};
+    ghost use Rattle.dt_life.specs.Aggregations.{split_by, uses_by};
     ghost use Rattle.dt_ecb.specs.Forms.{shapes_of};
     ghost use Rattle.dt_lang.specs.Program.{form_of_statement};
     ghost use Rattle.dt_program.specs.declared.clause.TheConstants.{KEYS_MAX};

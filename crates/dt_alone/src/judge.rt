@@ -30,23 +30,20 @@ pub(crate) struct Judge {
 impl Judge {
     ghost use Rattle.std.specs.Prelude.{◌≡◌, ◌↔◌, List, [], ◌∷◌, IfOk, IsTrue};
     ghost use Rattle.dt_cred.specs.declared.account.Account.{Account};
+    ghost use Rattle.dt_machine.specs.Registry.{Contents};
     ghost use Rattle.dt_proto.specs.Trail as trail;
     ghost use Rattle.dt_proto.specs.Trail.{fired_at, line_asked, long_asked};
     ghost use Rattle.dt_alone.specs.Judging.{HasJudged, IsRuling};
     ghost use Rattle.dt_alone.specs.Lent.{form_of_lent};
 
-    /// A judge that has seen no entry. `Err`: there was no memory for it.
-    pub(crate) fn new(
-        alloc: Global,
-        account: Account,
-        machine: &Machine,
-    ) -> Result<Self, AllocError>
-        ensures { IfOk result (HasJudged account machine.now []) }
+    /// A judge that has seen no entry.
+    pub(crate) fn new(alloc: Global, account: Account) -> Self
+        ensures { (contents : Contents) → HasJudged account contents [] result }
     {
-        Ok(Judge {
-            runner: Runner::new(alloc, account, machine)?,
+        Judge {
+            runner: Runner::new(alloc, account),
             least: [0; CPUS_MAX as usize],
-        })
+        }
     }
 
     /// Judges the next entry. After one that isn't right the judge is not to be used again, nor after an `Err`, which

@@ -11,7 +11,8 @@ use crate::happened::{Contribution, Happened, Left};
 use dt_ecb::{ECBS_MAX, Ecb, Shapes};
 use dt_expr::EvalFault;
 use dt_lang::Clause;
-use dt_life::{Moment, placed_after};
+use dt_life::{placed_after, scene_at};
+use dt_machine::Moment;
 use dt_record::{Taken, taken};
 use std::alloc::{AllocError, Global};
 
@@ -28,8 +29,8 @@ pub(crate) struct Programs {
 impl Programs {
     ghost use Rattle.dt_alone.specs.Happened.{Adds, given_as};
     ghost use Rattle.std.specs.Option.{option_map};
-    ghost use Rattle.dt_life.specs.Uses.{split_by, uses_by};
-    ghost use Rattle.dt_life.specs.Forms.{form_of_moment};
+    ghost use Rattle.dt_life.specs.Aggregations.{split_by, uses_by};
+    ghost use Rattle.dt_machine.specs.Moment.{form_of_moment};
     ghost use Rattle.dt_life.specs.Following.{taking_by};
     ghost use Rattle.dt_life.specs.Takings.{exit_of, first_exit, taken_at};
 
@@ -136,7 +137,7 @@ impl Programs {
         let Some(clause) = self.clauses.get(ecb.clause) else {
             return Ok(None);
         };
-        match taken(ecb.epid, clause, &moment.scene(ecb.epid)) {
+        match taken(ecb.epid, clause, &scene_at(moment, ecb.epid)) {
             Ok(Some(taken)) => {
                 let left = self.left(alloc, clause, &taken)?;
                 happened.push(Happened::Left { cpu, in_end, left })?;

@@ -25,7 +25,7 @@ pub fn alone(
         × Alone account.now machine.now.registry (view_of items.now) answers
         × (map (λ reply. reply.items) replies.items ≡ map reply_text answers)) }
 {
-    let mut runner = Runner::new(alloc, *account, machine)?;
+    let mut runner = Runner::new(alloc, *account);
     let mut replies = Vec::new(alloc);
     for item in items {
         match item {

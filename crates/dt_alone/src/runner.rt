@@ -9,10 +9,10 @@ use crate::happened::Happened;
 use crate::programs::Programs;
 use dt_cred::Account;
 use dt_life::{
-    BEGIN, Command, END, End, LINES_MAX, Moment, Options, Phase, Refusal, Reply, own_firing,
-    own_process, shown,
+    BEGIN, Command, END, End, LINES_MAX, Options, Phase, Refusal, Reply, own_firing, own_process,
+    shown,
 };
-use dt_machine::{Firing, Machine};
+use dt_machine::{Firing, Machine, Moment};
 use std::alloc::{AllocError, Global};
 
 /// What a plain runner has of a life: its options and programs, how many lines were asked and how many firings were
@@ -37,7 +37,7 @@ impl Runner {
     ghost use Rattle.std.specs.Prelude.{◌↔◌, ◌∷◌, ℕ, List, [], Option, Result, Ok, Some, None, IsTrue, IfOk, nat_le, false, length, if◌then◌else◌, ◌==◌};
     ghost use Rattle.dt_cred.specs.declared.account.Account.{Account};
     ghost use Rattle.dt_machine.specs.Registry.{Registry};
-    ghost use Rattle.dt_life.specs.Forms.{form_of_moment};
+    ghost use Rattle.dt_machine.specs.Moment.{form_of_moment};
     ghost use Rattle.dt_alone.specs.Runs.{Answers, Has, HasIn, HasAsked, IsFiring, Runs};
     ghost use Rattle.dt_life.specs.Answer.{answer_of};
     ghost use Rattle.dt_life.specs.Ask.{line_asks, ask_of};
@@ -49,14 +49,10 @@ impl Runner {
     ghost use Rattle.dt_life.specs.declared.phase.End.{End};
 
     /// A runner of the empty life.
-    pub(crate) fn new(
-        alloc: Global,
-        account: Account,
-        _machine: &Machine,
-    ) -> Result<Self, AllocError>
-        ensures { IfOk result (λ runner. Runs account _machine.now.registry runner []) }
+    pub(crate) fn new(alloc: Global, account: Account) -> Self
+        ensures { (registry : Registry) → Runs account registry result [] }
     {
-        Ok(Runner {
+        Runner {
             account,
             options: Options::new(),
             programs: Programs::new(alloc),
@@ -64,7 +60,7 @@ impl Runner {
             seen: 0,
             phase: Phase::Inactive,
             since: Vec::new(alloc),
-        })
+        }
     }
 
     /// Whether all lines were asked that one consumer may ask.

@@ -10,6 +10,9 @@ use Rattle.dt_alone.proofs.checking.judge.Goals as goal
 abbrev past_end : Entry
 past_end = Line (record { ref_ptr = (0, 0); now = [] }) (record { ref_ptr = (0, 0); now = [] })
 
+pub loop-index-init : goal.loop-index-init
+loop-index-init c = record { agreed = tt; after = c.new-judge.ensures c.args.machine.now }
+
 pub loop-index-preserved : goal.loop-index-preserved
 loop-index-preserved c =
     let entries = c.args.entries.now in

@@ -14,6 +14,16 @@ use Rattle.dt_alone.proofs.replies.alone.Goals as goal
 use Rattle.dt_alone.proofs.replies.alone.Goals.{in-Line+in_ok-answer-in-Line+in_ok-push-in-Line}
 use Rattle.dt_alone.proofs.replies.alone.Goals.{in-Firing+in_ok-offer-in-Firing}
 
+pub loop-item-init : goal.loop-item-init
+loop-item-init c = record {
+  life = [];
+  lives = refl;
+  runs = c.new-runner.ensures c.args.machine.now.registry;
+  answers = [];
+  alone = refl;
+  written = ap (map (λ reply. reply.items)) c.new-replies.ensures.items;
+}
+
 pub loop-item-preserved : goal.loop-item-preserved
 loop-item-preserved c =
     let items = c.args.items.now in

@@ -9,7 +9,7 @@ use Rattle.dt_alone.specs.Happened.{given_as}
 use Rattle.dt_alone.specs.declared.happened.Contribution.{Contribution}
 use Rattle.dt_alone.proofs.Leaving.{given_none, given_one, other_use, span_same, span_step, split_same, split_step}
 use Rattle.dt_life.specs.Aggregations.{aggregation_of}
-use Rattle.dt_life.specs.Uses.{key_at, number_at, split_by, uses_by}
+use Rattle.dt_life.specs.Aggregations.{key_at, number_at, split_by, uses_by}
 use Rattle.dt_alone.proofs.happened.Contribution.all.Goals as goal
 use Rattle.dt_alone.proofs.happened.Contribution.all.Goals.{in-Aggregate, in-Some+in_ok-push, in_default-of, in_default}
 

@@ -4,7 +4,7 @@ use Rattle.dt_ecb.specs.Forms.{shapes_of}
 use Rattle.dt_lang.specs.Program.{form_of_statement}
 use Rattle.dt_program.specs.declared.clause.TheConstants.{KEYS_MAX}
 use Rattle.dt_alone.specs.Happened.{given_as}
-use Rattle.dt_life.specs.Uses.{split_by, uses_by}
+use Rattle.dt_life.specs.Aggregations.{split_by, uses_by}
 use Rattle.dt_life.specs.laws.Giving.{span}
 use Rattle.dt_alone.proofs.happened.Contribution.all.Given as goal
 

@@ -8,7 +8,7 @@ use Rattle.std.proofs.lemmas.List.{take_all}
 use Rattle.dt_ecb.specs.Forms.{shapes_of}
 use Rattle.dt_ecb.specs.declared.parts.Ecb.{Ecb}
 use Rattle.dt_lang.specs.Program.{form_of_clause}
-use Rattle.dt_life.specs.Forms.{form_of_moment}
+use Rattle.dt_machine.specs.Moment.{form_of_moment}
 use Rattle.dt_alone.specs.Happened.{Adds}
 use Rattle.dt_alone.specs.declared.happened.Happened.{Happened}
 use Rattle.dt_alone.proofs.Bringing.{adds_both}

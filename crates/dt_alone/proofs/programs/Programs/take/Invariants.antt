@@ -3,7 +3,7 @@ use Rattle.std.proofs.Common.{◌≡◌, ◌≤◌, ◌<◌, ◌+◌, length, ma
 use Rattle.std.specs.List.{All}
 use Rattle.dt_ecb.specs.Forms.{shapes_of}
 use Rattle.dt_lang.specs.Program.{form_of_clause}
-use Rattle.dt_life.specs.Forms.{form_of_moment}
+use Rattle.dt_machine.specs.Moment.{form_of_moment}
 use Rattle.dt_alone.specs.Happened.{Adds}
 use Rattle.dt_alone.proofs.Firing.{exited, taken}
 use Rattle.dt_alone.proofs.programs.Programs.take.Given as goal

@@ -1,6 +1,6 @@
 -- ECBs were taken, and tracing goes on or ends.
 use Rattle.std.proofs.Common.{Some, refl, sym, ap, ◌∙◌}
-use Rattle.dt_life.specs.Forms.{form_of_moment}
+use Rattle.dt_machine.specs.Moment.{form_of_moment}
 use Rattle.dt_alone.proofs.Running.{ends_at, goes_on, has_since, never_none, never_some, own_placed, took_exit}
 use Rattle.dt_alone.proofs.Running.{took_told}
 use Rattle.dt_life.specs.Life.{phase_of}

@@ -7,18 +7,18 @@ use Rattle.dt_life.specs.Options.{setting_of, with_setting}
 use Rattle.dt_alone.proofs.runner.Runner.set_option.Goals as goal
 
 pub returns-in-Some : goal.returns-in-Some
-returns-in-Some c = λ account life k.
-    option_set account c.args._machine.now.registry life c.args.self.now k _ c.in-Some.options _
-    (early account c.args._machine.now.registry life c.args.self.now k
+returns-in-Some c = λ account registry life k.
+    option_set account registry life c.args.self.now k _ c.in-Some.options _
+    (early account registry life c.args.self.now k
     (sym c.is_inactive.ensures ∙ c.if-not-is_inactive.false))
     (c.in-Some.ensures ∙ ap (λ name. option_map (with_setting (form_of_options c.args.self.now.options))
     (setting_of name c.args.value.now)) c.as_str.ensures.value)
     (record { account = refl; seen = refl; since = refl }) refl refl refl refl
 
 pub returns-in-None : goal.returns-in-None
-returns-in-None c = λ account life k.
-    option_unset account c.args._machine.now.registry life c.args.self.now k _
-    (early account c.args._machine.now.registry life c.args.self.now k
+returns-in-None c = λ account registry life k.
+    option_unset account registry life c.args.self.now k _
+    (early account registry life c.args.self.now k
     (sym c.is_inactive.ensures ∙ c.if-not-is_inactive.false))
     (c.in-None.ensures ∙ ap (λ name. option_map (with_setting (form_of_options c.args.self.now.options))
     (setting_of name c.args.value.now)) c.as_str.ensures.value)
