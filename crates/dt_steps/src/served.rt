@@ -75,19 +75,22 @@ impl Served {
 
     /// Whether it may ask a line: no `go` is pending, and no `close` was accepted.
     pub(crate) fn may_ask(&self) -> bool
-        ensures { (registry : Registry) (session : Session) → IsSession registry session self.now
+        ensures may { (registry : Registry) (session : Session) → IsSession registry session self.now
             → result ≡ world.may_ask registry session }
+        ensures idle { result ≡ true → self.now.go ≡ None }
     {
         self.go.is_none() && !self.is_closed
     }
 
-    /// Asks a line of a session that may ask. A `go` that is accepted is pending then, without a reply.
+    /// Asks a line of a session that may ask: a line may change the consumer, and the draft of a pending `go` is of the
+    /// consumer as it is. A `go` that is accepted is pending then, without a reply.
     pub(crate) fn ask(
         &mut self,
         alloc: Global,
         machine: &Machine,
         line: WholeLine<'_>,
     ) -> Result<Option<Answered>, AllocError>
+        requires { self.old.go ≡ None }
         ensures asked { IfOk result (λ reply. (session : Session) → IsSession machine.now.registry session self.old
             → world.may_ask machine.now.registry session ≡ true
             → IsAsked machine.now.registry session (form_lent line.entry) (option_map (λ answered. answered.text.items) reply) self.new) }
@@ -95,10 +98,6 @@ impl Served {
             → IsSession machine.now.registry session self.old
             → answered.is_over ≡ is_over (world.life_in machine.now.registry session))) }
     {
-        // a line may change the consumer, and the draft of a pending `go` is of the consumer as it is
-        if self.go.is_some() {
-            return Ok(None);
-        }
         let asked = read_line(alloc, line)?;
         let draft = self.consumer.draft(alloc, machine, &asked)?;
         // an accepted `go` waits for its publication, and is answered at its finish

@@ -12,7 +12,7 @@ returns-in-Some-clause-asked c =
     asked-session c.args.machine.now.registry place c.args.self.now h (form_lent c.args.line)
     (option_map (λ answered. answered.text.items) reply) c.in-Some.served c.ask.new.self c.in-Some.is
     (λ session kept.
-    let may = sym (c.may_ask.ensures c.args.machine.now.registry session kept) ∙ c.if-may_ask.true in
+    let may = sym (c.may_ask.ensures.may c.args.machine.now.registry session kept) ∙ c.if-may_ask.true in
     (may, asks session kept may)))
     c.ask.ensures.asked
 

@@ -1,19 +1,13 @@
 -- A line was asked of a session.
-use Rattle.std.proofs.Common.{◌≡◌, ◌∙◌, true, is_some, rules, subst}
-use Rattle.std.proofs.lemmas.Bool.{false≢true}
+use Rattle.std.proofs.Common.{◌≡◌, true, subst}
 use Rattle.dt_life.specs.Answer.{answer_of}
 use Rattle.dt_life.specs.Life.{is_over}
 use Rattle.dt_consumer.specs.Draft.{IsDraftOf}
 use Rattle.dt_proto.specs.Asked.{form_lent}
 use Rattle.dt_proto.specs.Line.{ask_in}
 use Rattle.dt_steps.specs.World.{life_in}
-use Rattle.dt_steps.proofs.Serving.{asked_go, asked_other, asks_not, same_test}
+use Rattle.dt_steps.proofs.Serving.{asked_go, asked_other, same_test}
 use Rattle.dt_steps.proofs.served.Served.ask.Goals as goal
-
-pub returns-then-is_some-clause-asked : goal.returns-then-is_some-clause-asked
-returns-then-is_some-clause-asked c = λ session h may.
-    let waits : is_some c.args.self.now.go ≡ true = search rules in
-    absurd (false≢true (asks_not c.args.machine.now.registry session c.args.self.now h waits ∙ may))
 
 pub returns-then-publishes-clause-asked : goal.returns-then-publishes-clause-asked
 returns-then-publishes-clause-asked c = λ session h may.
