@@ -5,3 +5,4 @@ pub mod Placing
 pub mod Keeps
 pub mod StandsFor
 pub mod Draft
+pub mod laws
