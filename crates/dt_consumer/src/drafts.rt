@@ -381,11 +381,7 @@ impl Consumer {
     }
 
     /// The table of an aggregation: without rows where the consumer never traced.
-    fn table(
-        &self,
-        alloc: Global,
-        aggregation: Aggregation,
-    ) -> Result<Vec<Row>, AllocError>
+    fn table(&self, alloc: Global, aggregation: Aggregation) -> Result<Vec<Row>, AllocError>
         ensures { IfOk result (λ rows. (account : Account) (registry : Registry) (life : List Item)
             → StandsFor account registry self.now life
             → map form_of_row rows.items ≡ table_of (stores_in account registry

@@ -10,11 +10,11 @@ mod consumer;
 mod course;
 mod draft;
 mod drafts;
+mod ecb_lists;
 mod enabled;
 mod processor;
 mod processors;
 mod programs;
-mod ecb_lists;
 mod tracing;
 mod uses;
 

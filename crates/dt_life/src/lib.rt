@@ -24,6 +24,7 @@ mod values;
 mod visibility;
 
 pub use command::{Command, OptionValue};
+pub use dt_machine::Moment;
 pub use known::Known;
 pub use laws::{
     ecbs_stay, one_reply, phases, records_are_of_layouts, seen_by_interest, seen_within_history,
@@ -31,7 +32,6 @@ pub use laws::{
 };
 pub use limit_laws::limits_agree;
 pub use limits::{AGGSIZE, AGGSIZE_MIN, BEGIN, BUFFER_SIZE, END, HISTORY, HISTORY_MAX, LINES_MAX};
-pub use dt_machine::Moment;
 pub use options::Options;
 pub use own::{own_firing, own_process};
 pub use phase::{End, Phase};
