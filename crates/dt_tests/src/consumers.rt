@@ -284,17 +284,6 @@ fn command(alloc: Global, text: &str) -> Result<Command, Fail> {
     })
 }
 
-/// The draft of a command.
-fn drafted(
-    alloc: Global,
-    machine: &Machine,
-    consumer: &Consumer,
-    command: Command,
-) -> Result<Draft, Fail> {
-    let line: Result<Command, Refusal> = Ok(command);
-    Ok(consumer.draft(alloc, machine, &line)?)
-}
-
 /// What a draft says of its line.
 fn told(alloc: Global, draft: &Draft) -> Result<String, Fail> {
     let mut told = spelled(alloc, draft.reply())?;
@@ -305,10 +294,6 @@ fn told(alloc: Global, draft: &Draft) -> Result<String, Fail> {
         told.push_str(", closes")?;
     }
     Ok(told)
-}
-
-fn applied(consumer: &mut Consumer, machine: &Machine, draft: Draft) {
-    consumer.apply(machine, draft);
 }
 
 /// Whether the firing at a place of a processor's script is seen.
@@ -358,9 +343,10 @@ fn answered(
     if text == "interest" {
         return interest(alloc, consumer);
     }
-    let draft = drafted(alloc, machine, consumer, command(alloc, text)?)?;
+    let line: Result<Command, Refusal> = Ok(command(alloc, text)?);
+    let draft = consumer.draft(alloc, machine, &line)?;
     let told = told(alloc, &draft)?;
-    applied(consumer, machine, draft);
+    consumer.apply(machine, draft);
     Ok(told)
 }
 
