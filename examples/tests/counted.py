@@ -6,7 +6,7 @@ What an account may enable and is shown, what a clause records and what a table 
 import json
 import string
 
-from running import (FIRINGS_MAX, OK, call, enable, enabled, fired, fires, go, judge, machine, near, number, option, run, sessions, snap, status, table,
+from running import (FIRINGS_MAX, HISTORY_MAX, OK, call, enable, enabled, fired, fires, go, judge, machine, near, number, option, run, sessions, snap, status, table,
                      text_of)
 
 NO_MATCH = '{"clause":1,"error":5,"name":"NoMatch"}'
@@ -226,7 +226,7 @@ def options(folder):
     strange = ["-1", str(-1 << 63), "1.0", "1e3", str(1 << 64), "null", "true", '"1"', "[1]", '{"a":1}']
     for name, least, most, last, told in (
             ("bufsize", 1, 1 << 20, 12, [snap(f"{1:08x}" + number(0), 2)]), ("aggsize", 8, 1 << 20, 24, [status(3, aggdrops=1)]),
-            ("histsize", 1, FIRINGS_MAX, 2, [status(2, '"history"', "stopped")])):
+            ("histsize", 1, HISTORY_MAX, 2, [status(2, '"history"', "stopped")])):
         taken = [*near(most, least), last]
         others = [*strange, *map(str, [*range(least), *near((1 << 64) - 1, most + 1)])]
         used = [(enable("read:entry{trace(arg0);@[arg0] = count()}"), enabled(1)), go(), *fires(3), *told]

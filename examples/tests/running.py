@@ -12,6 +12,7 @@ import tempfile
 PROGRAM = sys.argv[1]
 LINES_MAX = 1_024
 FIRINGS_MAX = 65_536
+HISTORY_MAX = 1_048_576
 OK = '{"ok":true}'
 PRIVILEGES = {"root": (0, "dtrace_kernel"), "ann": (501, "dtrace_user"), "bob": (501, "dtrace_proc"), "joe": (502, "proc_owner")}
 
