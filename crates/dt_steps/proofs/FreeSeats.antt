@@ -1,7 +1,10 @@
 -- Free seats and idle processors.
-use Rattle.std.proofs.Common.{◌≡◌, ℕ, zero, suc, List, [], ◌∷◌, ◌++◌, None, IfSome, refl}
+use Rattle.std.proofs.Common.{◌≡◌, ℕ, zero, suc, List, [], ◌∷◌, ◌++◌, Option, Some, None, IfSome, refl, ap, subst}
 use Rattle.std.specs.List.{slice_get}
-use Rattle.dt_steps.specs.Stands.{due_of, due_in}
+use Rattle.dt_chain.specs.Seats.{life_at}
+use Rattle.dt_machine.specs.Moment.{IsMoment}
+use Rattle.dt_machine.specs.Registry.{Registry}
+use Rattle.dt_steps.specs.Stands.{due_by, due_in}
 use Rattle.dt_steps.specs.declared.looked.Looked.{Looked}
 
 -- one more element at the end
@@ -12,10 +15,13 @@ each_pushed P [] x h last (suc i) = tt
 each_pushed P (y ∷ ys) x h last zero = h zero
 each_pushed P (y ∷ ys) x h last (suc i) = each_pushed P ys x (λ j. h (suc j)) last i
 
--- one idle processor more
-pub idle_pushed : (xs : List Looked) (x : Looked) → ((cpu seat : ℕ) → None ≡ due_in (slice_get xs cpu) seat)
-    → ((seat : ℕ) → None ≡ due_of x seat) → (cpu seat : ℕ) → None ≡ due_in (slice_get (xs ++ x ∷ []) cpu) seat
-idle_pushed [] x h last zero seat = last seat
-idle_pushed [] x h last (suc cpu) seat = refl
-idle_pushed (y ∷ ys) x h last zero seat = h zero seat
-idle_pushed (y ∷ ys) x h last (suc cpu) seat = idle_pushed ys x (λ other. h (suc other)) last cpu seat
+-- a processor that looked for nothing owes nothing
+pub idle_due : (found : Option Looked) → IfSome found (λ looked. None ≡ looked.moment) → (seat : ℕ)
+    → None ≡ due_in found seat
+idle_due None idle seat = refl
+idle_due (Some looked) idle seat = ap (λ moment. due_by moment (life_at looked.left seat)) idle
+
+pub idle_moment : (registry : Registry) (found : Option Looked) → IfSome found (λ looked. None ≡ looked.moment)
+    → IfSome found (λ looked. IfSome looked.moment (IsMoment registry))
+idle_moment registry None idle = tt
+idle_moment registry (Some looked) idle = subst (λ moment. IfSome moment (IsMoment registry)) idle tt

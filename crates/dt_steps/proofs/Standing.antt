@@ -9,7 +9,9 @@ use Rattle.std.proofs.lemmas.Option.{slice_get_read, slice_get_past, slice_get_w
 use Rattle.std.specs.List.{slice_get, list_all, range_with_len}
 use Rattle.std.specs.Option.{option_map, option_map_or, option_and_then}
 use Rattle.dt_cred.specs.declared.account.Account.{Account}
+use Rattle.dt_machine.specs.Moment.{IsMoment}
 use Rattle.dt_machine.specs.Registry.{Registry}
+use Rattle.dt_machine.specs.declared.moment.Moment.{Moment}
 use Rattle.dt_cred.specs.declared.firing.Firing.{Firing}
 use Rattle.dt_chain.specs.IsAt as chain
 use Rattle.dt_chain.specs.Look.{IsLook}
@@ -145,6 +147,7 @@ module _ (registry : Registry) where
         entered = kept.entered;
         cpus = kept.cpus;
         due = kept.due;
+        moments = kept.moments;
       }
 
       -- nothing changed there
@@ -168,6 +171,7 @@ module _ (registry : Registry) where
         entered = kept.entered;
         cpus = kept.cpus;
         due = kept.due;
+        moments = kept.moments;
       }
 
       kept-answering : (session : Session) (line : LineForm) (after : Held)
@@ -175,7 +179,7 @@ module _ (registry : Registry) where
           → WorldIsKept registry (answering world seat session line) (set seats at after) entries processors
       kept-answering session line after h =
           let one = kept-with_place (with_present (world.places seat) (answered session line)) after h in
-          record { all = one.all; held = one.held; entered = one.entered; cpus = one.cpus; due = one.due }
+          record { all = one.all; held = one.held; entered = one.entered; cpus = one.cpus; due = one.due; moments = one.moments }
 
       -- Open
       pub kept-opening : (name : List ℕ) (after : Held)
@@ -327,13 +331,13 @@ module _ (registry : Registry) where
           processors
       kept_published session pending after later h entered =
           let one = kept-with_place (with_present (world.places seat) (waiting session pending.line true)) after h in
-          record { all = one.all; held = one.held; entered = entered; cpus = one.cpus; due = one.due }
+          record { all = one.all; held = one.held; entered = entered; cpus = one.cpus; due = one.due; moments = one.moments }
 
       kept_entries : (after : Held) (later : Entries) → IsHeld registry (world.places seat) after
           → chain.EntriesAreAt world.writes later → WorldIsKept registry world (set seats at after) later processors
       kept_entries after later h entered =
           let one = kept_same after h in
-          record { all = one.all; held = one.held; entered = entered; cpus = one.cpus; due = one.due }
+          record { all = one.all; held = one.held; entered = entered; cpus = one.cpus; due = one.due; moments = one.moments }
 
       pub kept-publishing : (after : Held) (later : Entries)
           → ((place : Place) (writes : List Write) → IsHeld registry place held → chain.EntriesAreAt writes entries
@@ -406,6 +410,7 @@ module _ (registry : Registry) where
               entered = does_ is world.writes kept.entered;
               cpus = kept.cpus;
               due = kept.due;
+              moments = kept.moments;
             }
             may_case told_ false is does_ none_ = record {
               all = kept.all;
@@ -413,6 +418,7 @@ module _ (registry : Registry) where
               entered = subst (λ e. chain.EntriesAreAt world.writes e) (sym (none_ is)) kept.entered;
               cpus = kept.cpus;
               due = kept.due;
+              moments = kept.moments;
             }
 
 -- what is named is one
@@ -497,16 +503,6 @@ module _ (registry : Registry) where
     none_of None h = refl
     none_of (Some a) h = cc
 
-    -- no offer is left where what a processor looked for is empty
-    no_due_left : (looked : Looked) (seat : ℕ) → life_at looked.left seat ≡ None → due_of looked seat ≡ None
-    no_due_left looked seat h = ap (option_map (λ life. record { life = life; firing = looked.firing })) h
-
-    no_life : (life : Option ℕ) (firing : Firing)
-        → is_none {T = Due} (option_map (λ (own : ℕ). record { life = own; firing = firing }) life) ≡ true
-        → life ≡ None
-    no_life None firing h = refl
-    no_life (Some own) firing h = cc
-
     done_from : (cpu : ℕ) → ((seat : ℕ) → world.due cpu seat ≡ None) → is_done (world.due cpu) ≡ true
     unfolding is_done
     done_from cpu none = done_all (world.due cpu) 0 SEATS none
@@ -528,30 +524,40 @@ module _ (registry : Registry) where
         lt-ltb cpu registry.cpus (omega arith)
 
     pub done-looked : (cpu : ℕ) (looked : Looked) (told : Bool) → slice_get processors cpu ≡ Some looked
-        → IsTrue told ↔ ((seat : ℕ) → life_at looked.left seat ≡ None)
+        → (told ≡ true → (seat : ℕ) → due_of looked seat ≡ None)
+        → (told ≡ false → ((seat : ℕ) → due_of looked seat ≡ None) → ⊥)
         → told ≡ (nat_lt cpu registry.cpus && is_done (world.due cpu))
-    done-looked cpu looked true is tells =
+    done-looked cpu looked true is done busy =
         sym (and_from (nat_lt cpu registry.cpus) (is_done (world.due cpu)) (near cpu looked is)
-        (done_from cpu (λ seat. kept.due cpu seat ∙ ap (λ o. due_in o seat) is
-        ∙ no_due_left looked seat (tells.0 refl seat))))
-    done-looked cpu looked false is tells =
+        (done_from cpu (λ seat. kept.due cpu seat ∙ ap (λ o. due_in o seat) is ∙ done refl seat)))
+    done-looked cpu looked false is done busy =
         let not_done : is_done (world.due cpu) ≡ false =
-        false_from_ne_true (is_done (world.due cpu)) (λ done.
-        let bad = tells.1 (λ seat.
-        no_life (life_at looked.left seat) looked.firing
-        (ap is_none (sym (ap (λ o. due_in o seat) is) ∙ sym (kept.due cpu seat) ∙ done_to cpu done seat))) in cc) in
+        false_from_ne_true (is_done (world.due cpu)) (λ none.
+        busy refl (λ seat.
+        sym (ap (λ o. due_in o seat) is) ∙ sym (kept.due cpu seat) ∙ done_to cpu none seat)) in
         sym (and_right (nat_lt cpu registry.cpus) (is_done (world.due cpu)) not_done)
 
     -- the lives that are due, of what a processor looked for
-    pub left-looked : (cpu : ℕ) (looked : Looked) → slice_get processors cpu ≡ Some looked → (seat : ℕ)
-        → life_at looked.left seat ≡ option_map (λ due. due.life) (world.due cpu seat)
-    left-looked cpu looked is seat =
-        let own : world.due cpu seat ≡ due_of looked seat = kept.due cpu seat ∙ ap (λ o. due_in o seat) is in
-        rw own (life_due (life_at looked.left seat) looked.firing) where
-          life_due : (life : Option ℕ) (firing : Firing) → life ≡ option_map (λ (due : Due). due.life)
-              (option_map (λ own. record { life = own; firing = firing }) life)
-          life_due None firing = refl
-          life_due (Some own) firing = refl
+    pub left-looked : (cpu : ℕ) (looked : Looked) (life : Option ℕ) → slice_get processors cpu ≡ Some looked
+        → (seat : ℕ) → life ≡ option_map (λ due. due.life) (due_of looked seat)
+        → life ≡ option_map (λ due. due.life) (world.due cpu seat)
+    left-looked cpu looked life is seat left =
+        left ∙ ap (option_map (λ due. due.life)) (sym (kept.due cpu seat ∙ ap (λ o. due_in o seat) is))
+
+    -- what a processor looked for is the machine's
+    pub lent-looked : (cpu : ℕ) (looked : Looked) (moment : Moment) → slice_get processors cpu ≡ Some looked
+        → looked.moment ≡ Some moment → IsMoment registry moment
+    lent-looked cpu looked moment is lent =
+        subst (λ m. IfSome m (IsMoment registry)) lent
+        (subst (λ o. IfSome o (λ (one : Looked). IfSome one.moment (IsMoment registry))) is (kept.moments cpu))
+
+    -- what processors looked for are the machine's, where one looks anew, or still has what it looked for
+    moments_after : (cpu other : ℕ) (looked : Looked) → cpu < length processors
+        → IfSome looked.moment (IsMoment registry)
+        → IfSome (slice_get (set processors cpu looked) other) (λ one. IfSome one.moment (IsMoment registry))
+    moments_after cpu other looked low moment =
+        get_set_at (λ o. IfSome o (λ (one : Looked). IfSome one.moment (IsMoment registry)))
+        processors cpu other looked (cpu == other) refl low (λ same. moment) (λ same. kept.moments other)
 
     pub left-past : (cpu : ℕ) → length processors ≤ cpu → (seat : ℕ)
         → None ≡ option_map (λ due. due.life) (world.due cpu seat)
@@ -585,9 +591,11 @@ module _ (registry : Registry) where
         → IsLook registry world.writes firing (life_at looked.left)
         → ((at : ℕ) → due_of looked at
         ≡ option_map (λ life. record { life = life; firing = firing }) (life_at looked.left at))
+        → IfSome looked.moment (IsMoment registry)
         → WorldIsKept registry (looking registry world cpu firing) seats entries (set processors cpu looked)
     unfolding looking mask_of
-    kept-looking cpu firing looked own enabled look owes =
+    kept-looking cpu firing looked own enabled look owes moment =
+        let cpus = kept.cpus in
         let parts = and_parts (nat_lt cpu registry.cpus) (is_done (world.due cpu)) enabled in
         let named = one_named registry world.writes firing (life_at looked.left) look in
         let may : (nat_lt cpu registry.cpus && (firing.cpu == cpu && is_done (world.due cpu))) ≡ true =
@@ -604,6 +612,8 @@ module _ (registry : Registry) where
           cpus = length-set processors cpu looked ∙ kept.cpus;
           due = λ other seat. due_after cpu other seat firing looked
               (ltb-true cpu registry.cpus parts.0) named owes;
+          moments = λ other. moments_after cpu other looked
+              (omega (arith, ltb-true cpu registry.cpus parts.0)) moment;
         })
 
     -- what the look named are the seats to which offers are due then
@@ -612,12 +622,13 @@ module _ (registry : Registry) where
         → IsLook registry world.writes firing (life_at looked.left)
         → ((at : ℕ) → due_of looked at
         ≡ option_map (λ life. record { life = life; firing = firing }) (life_at looked.left at))
+        → IfSome looked.moment (IsMoment registry)
         → ((at : ℕ) → has seats_named at ≡ is_some (due_of looked at))
         → IsNaming registry world cpu firing (Some seats_named)
-    naming-looking cpu firing looked seats_named own enabled look owes named =
+    naming-looking cpu firing looked seats_named own enabled look owes moment named =
         let parts = and_parts (nat_lt cpu registry.cpus) (is_done (world.due cpu)) enabled in
         let cpus = kept.cpus in
-        let later = kept-looking cpu firing looked own enabled look owes in
+        let later = kept-looking cpu firing looked own enabled look owes moment in
         let low : cpu < length processors = omega (arith, ltb-true cpu registry.cpus parts.0) in
         let long : cpu < length (set processors cpu looked) = omega (arith, length-set processors cpu looked) in
         let found : slice_get (set processors cpu looked) cpu ≡ Some looked =
@@ -690,10 +701,11 @@ module _ (registry : Registry) where
         → Found seats at seat held → slice_get processors cpu ≡ Some before
         → due_of before seat ≡ Some due
         → ((one : ℕ) → due_of left one ≡ cond (one == seat) None (due_of before one))
+        → left.moment ≡ before.moment
         → ((place : Place) → IsHeld registry place held → IsHeld registry (offered due place) after)
         → WorldIsKept registry (offering world cpu seat) (set seats at after) entries (set processors cpu left)
     unfolding offering
-    kept-offering cpu at seat held after before left due found is owes taken delivers =
+    kept-offering cpu at seat held after before left due found is owes taken stays delivers =
         let own : world.due cpu seat ≡ Some due = kept.due cpu seat ∙ ap (λ o. due_in o seat) is ∙ owes in
         let h = delivers (world.places seat)
         (held_at registry world seats entries processors kept at seat held found) in
@@ -704,6 +716,9 @@ module _ (registry : Registry) where
           entered = kept.entered;
           cpus = length-set processors cpu left ∙ kept.cpus;
           due = λ other one. due_taken cpu seat other one before left is taken;
+          moments = λ other. moments_after cpu other left (slice_get_within processors cpu before is)
+              (subst (λ m. IfSome m (IsMoment registry)) (sym stays)
+              (subst (λ o. IfSome o (λ (one : Looked). IfSome one.moment (IsMoment registry))) is (kept.moments cpu)));
         })
 
     -- nothing was taken

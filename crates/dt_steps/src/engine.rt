@@ -15,14 +15,14 @@ use std::alloc::{AllocError, Global};
 
 /// All seats, what is published, and what each processor looked for.
 #[derive(Drop)]
-pub struct Engine {
+pub struct Engine<'m> {
     pub(crate) seats: Vec<Held>,
     pub(crate) entries: Entries,
-    pub(crate) processors: Vec<Looked>,
+    pub(crate) processors: Vec<Looked<'m>>,
     ghost all: { vec_len seats ≡ SEATS },
 }
 
-impl Engine {
+impl<'m> Engine<'m> {
     ghost use Rattle.std.specs.Prelude.{ℕ, ◌+◌, ◌<◌, ◌^◌, ◌&&◌, Some, IsTrue, IfOk, IfSome, OnOk, is_some, option_map, nat_lt};
     ghost use Rattle.dt_machine.specs.Registry.{Registry};
     ghost use Rattle.dt_chain.specs.Seats.{life_at};
@@ -35,7 +35,7 @@ impl Engine {
     ghost use Rattle.dt_steps.specs.World.{World, Session, Pending, number_on, life_in, new_world, waits as waits_on, has_closed as has_closed_on};
 
     /// All seats are free, nothing is published, and no processor looked for anything.
-    pub fn new(alloc: Global, machine: &Machine) -> Result<Engine, AllocError>
+    pub fn new(alloc: Global, machine: &Machine) -> Result<Engine<'m>, AllocError>
         ensures { IfOk result (EngineIsAt machine.now.registry new_world) }
     {
         Ok(Engine {
@@ -116,8 +116,13 @@ impl Engine {
     }
 
     /// Looks whom a firing of a processor is to be offered to, and answers which seats that are. `None`: the look is not
-    /// enabled, and nothing happened.
-    pub fn look(&mut self, machine: &Machine, cpu: u32, firing: &Firing) -> Option<SeatSet>
+    /// enabled, and nothing happened. The machine and the firing are lent until the next look.
+    pub fn look(
+        &mut self,
+        machine: &'m Machine,
+        cpu: u32,
+        firing: &'m Firing,
+    ) -> Option<SeatSet>
         ensures at { (world : World) → EngineIsAt machine.now.registry world self.old
             → EngineIsAt machine.now.registry (looking machine.now.registry world cpu firing.now) self.new }
         ensures answer { (world : World) → EngineIsAt machine.now.registry world self.old
@@ -141,7 +146,7 @@ impl Engine {
             → result ≡ (nat_lt cpu registry.cpus && steps.is_done (world.due cpu)) }
     {
         match self.processors.get(cpu as usize) {
-            Some(looked) => looked.left.is_empty(),
+            Some(looked) => looked.is_done(),
             None => false,
         }
     }
@@ -152,7 +157,7 @@ impl Engine {
             → (seat : ℕ) → life_at result seat ≡ option_map (λ due. due.life) (world.due cpu seat) }
     {
         match self.processors.get(cpu as usize) {
-            Some(looked) => looked.left,
+            Some(looked) => looked.mask(),
             None => SeatMask::new(),
         }
     }
@@ -170,14 +175,14 @@ impl Engine {
         }
         let looked = &mut self.processors[cpu as usize];
         // nothing that it looked for is due to this seat
-        let life = looked.take(seat)?;
+        let (life, moment) = looked.take(seat)?;
         let held = &mut self.seats[seat.number() as usize];
         let place = ScriptPlace {
-            cpu: looked.firing.cpu,
-            place: looked.firing.place,
+            cpu: moment.firing.cpu,
+            place: moment.firing.place,
         };
         // the place is told where the session saw the firing: a trail has seen firings alone
-        held.deliver(machine, life, &looked.firing).then_some(place)
+        held.deliver(machine, life, &moment).then_some(place)
     }
 
     /// Ends the session on a seat.
@@ -230,8 +235,8 @@ impl Engine {
     pub(crate) fn take(
         &mut self,
         alloc: Global,
-        machine: &Machine,
-        step: &Step,
+        machine: &'m Machine,
+        step: &'m Step,
     ) -> Result<Outcome, AllocError>
         ensures { IfOk result (λ outcome. (world : World) → ((seat : ℕ) → number_on world seat + 1 < 2 ^ 64)
             → EngineIsAt machine.now.registry world self.old
@@ -272,7 +277,7 @@ impl Engine {
     }
 
     /// Looks, and tells all that the look named, if it was enabled.
-    fn named(&mut self, machine: &Machine, cpu: u32, firing: &Firing) -> Outcome
+    fn named(&mut self, machine: &'m Machine, cpu: u32, firing: &'m Firing) -> Outcome
         ensures at { (world : World) → EngineIsAt machine.now.registry world self.old
             → EngineIsAt machine.now.registry (looking machine.now.registry world cpu firing.now) self.new }
         ensures telling { (world : World) → EngineIsAt machine.now.registry world self.old

@@ -7,7 +7,7 @@ ghost use Rattle.dt_steps.specs.Stands.{IsHeld};
 use crate::served::{Answered, Finished, Served};
 use dt_chain::{Entries, SEATS, Seat};
 use dt_cred::Account;
-use dt_machine::{Firing, Machine};
+use dt_machine::{Machine, Moment};
 use dt_proto::WholeLine;
 use std::alloc::{AllocError, Global};
 
@@ -25,6 +25,7 @@ impl Held {
     ghost use Rattle.dt_chain.specs.IsAt.{EntriesAreAt};
     ghost use Rattle.dt_chain.specs.Writes.{Write};
     ghost use Rattle.dt_life.specs.Life.{is_over};
+    ghost use Rattle.dt_machine.specs.Moment.{IsMoment};
     ghost use Rattle.dt_proto.specs.Asked.{form_lent, form_asked};
     ghost use Rattle.dt_steps.specs.Stands.{IsAskedOn, IsFinishedOn, IsPublishedOn, opened_on, closed_on, first_account, sees_on};
     ghost use Rattle.dt_steps.specs.Steps as steps;
@@ -130,18 +131,21 @@ impl Held {
     }
 
     /// A firing reaches its session, if that has this life. Answers whether the session saw the firing.
-    pub(crate) fn deliver(&mut self, machine: &Machine, life: u64, firing: &Firing) -> bool
+    pub(crate) fn deliver(&mut self, machine: &Machine, life: u64, moment: &Moment) -> bool
         ensures seen { (place : Place) → IsHeld machine.now.registry place self.old
-            → result ≡ sees_on machine.now.registry (record { life = life; firing = firing.now }) place }
+            → IsMoment machine.now.registry moment.now
+            → result ≡ sees_on machine.now.registry (record { life = life; firing = moment.now.firing.now }) place }
         ensures reached { (place : Place) → IsHeld machine.now.registry place self.old
-            → IsHeld machine.now.registry (steps.offered (record { life = life; firing = firing.now }) place) self.new }
+            → IsMoment machine.now.registry moment.now
+            → IsHeld machine.now.registry
+            (steps.offered (record { life = life; firing = moment.now.firing.now }) place) self.new }
     {
         // the mask was made for a session that was here before
         if life != self.earlier {
             return false;
         }
         match &mut self.present {
-            Some(served) => served.offer(machine, firing),
+            Some(served) => served.offer(machine, moment),
             None => false,
         }
     }

@@ -5,7 +5,7 @@ ghost use Rattle.dt_steps.specs.Ready.{IsReady, ready_prop};
 use dt_consumer::{Consumer, Draft};
 use dt_cred::Account;
 use dt_life::Phase;
-use dt_machine::{Firing, Machine};
+use dt_machine::{Machine, Moment};
 use dt_proto::{Asked, WholeLine, read_line, reply_bytes};
 use std::alloc::{AllocError, Global};
 
@@ -49,6 +49,7 @@ pub struct Finished {
 impl Served {
     ghost use Rattle.std.specs.Prelude.{◌≡◌, List, [], ◌∷◌, Option, Some, None, true, IfOk, IfSome, option_map, if◌then◌else◌};
     ghost use Rattle.dt_cred.specs.declared.account.Account.{Account};
+    ghost use Rattle.dt_machine.specs.Moment.{IsMoment};
     ghost use Rattle.dt_machine.specs.Registry.{Registry};
     ghost use Rattle.dt_life.specs.Life.{Item, fired, is_over};
     ghost use Rattle.dt_proto.specs.Asked.{form_lent, form_asked};
@@ -180,15 +181,16 @@ impl Served {
     }
 
     /// A firing reaches it. Answers whether it saw the firing.
-    pub(crate) fn offer(&mut self, machine: &Machine, firing: &Firing) -> bool
+    pub(crate) fn offer(&mut self, machine: &Machine, moment: &Moment) -> bool
         ensures seen { (account : Account) (life : List Item) (go : Option Pending)
-            → IsServed machine.now.registry account life go self.old
-            → result ≡ is_seen account machine.now.registry life firing.now }
+            → IsServed machine.now.registry account life go self.old → IsMoment machine.now.registry moment.now
+            → result ≡ is_seen account machine.now.registry life moment.now.firing.now }
         ensures reached { (account : Account) (life : List Item) (go : Option Pending)
-            → IsServed machine.now.registry account life go self.old
+            → IsServed machine.now.registry account life go self.old → IsMoment machine.now.registry moment.now
             → IsServed machine.now.registry account
-            (if is_seen account machine.now.registry life firing.now then fired firing.now ∷ life else life) go self.new }
+            (if is_seen account machine.now.registry life moment.now.firing.now then fired moment.now.firing.now ∷ life else life)
+            go self.new }
     {
-        self.consumer.offer(machine, firing)
+        self.consumer.offer_moment(machine, moment)
     }
 }

@@ -19,13 +19,13 @@ use std::alloc::{AllocError, Global};
 
 /// The seats with their consumers, how many firings of each processor's script were taken, and what is to be written.
 #[derive(Drop)]
-pub(crate) struct Progress {
-    pub(crate) engine: Engine,
+pub(crate) struct Progress<'m> {
+    pub(crate) engine: Engine<'m>,
     pub(crate) taken: [u32; CPUS_MAX as usize],
     pub(crate) output: Output,
 }
 
-impl Progress {
+impl<'m> Progress<'m> {
     /// A replay of which no line was taken.
     pub(crate) fn new(alloc: Global, wanted: Wanted, machine: &Machine) -> Result<Self, AllocError>
         ensures { IfOk result (HasTakenLines wanted machine.now []) }
@@ -45,7 +45,7 @@ impl Progress {
     pub(crate) fn take_line(
         &mut self,
         alloc: Global,
-        machine: &Machine,
+        machine: &'m Machine,
         line: &[u8],
     ) -> Result<bool, AllocError>
         ensures taken { result ≡ Ok true → (wanted : Wanted) (lines : List (List ℕ)) → length lines + 1 < 2 ^ 64
@@ -74,7 +74,7 @@ impl Progress {
     fn take(
         &mut self,
         alloc: Global,
-        machine: &Machine,
+        machine: &'m Machine,
         step: StepLine<'_>,
     ) -> Result<(), AllocError>
         ensures { OnOk result ((wanted : Wanted) (now : Replayed) → ((seat : ℕ) → number_on now.world seat + 1 < 2 ^ 64)
@@ -199,7 +199,7 @@ impl Progress {
 
     /// Takes the next firing of a processor's script, where one is left and no offer of the processor is, and looks whom
     /// it is to be offered to. Answers which seats that are.
-    fn look(&mut self, machine: &Machine, cpu: u32) -> Option<SeatSet>
+    fn look(&mut self, machine: &'m Machine, cpu: u32) -> Option<SeatSet>
         ensures after { (wanted : Wanted) (now : Replayed) → cpu < machine.now.registry.cpus → IsAfter wanted machine.now now self.old
             → IsAfter wanted machine.now (after_step_line machine.now now (look_line cpu)) self.new }
         ensures answer { (wanted : Wanted) (now : Replayed) → cpu < machine.now.registry.cpus → IsAfter wanted machine.now now self.old
@@ -217,7 +217,7 @@ impl Progress {
     }
 
     /// Takes the next firing of a processor's script, and offers it to each seat that it is for.
-    fn fire(&mut self, alloc: Global, machine: &Machine, cpu: u32) -> Result<(), AllocError>
+    fn fire(&mut self, alloc: Global, machine: &'m Machine, cpu: u32) -> Result<(), AllocError>
         ensures { OnOk result ((wanted : Wanted) (now : Replayed) → cpu < machine.now.registry.cpus
             → IsAfter wanted machine.now now self.old
             → IsAfter wanted machine.now (after_step_line machine.now now (fire_line cpu)) self.new) }

@@ -10,4 +10,4 @@ returns-in-Some-clause-done c = λ registry world at.
     let is = read_at processors c.deref.result.now c.args.cpu c.in-Some.looked.now c.in-Some.looked.now
     c.deref.ensures.value lookup.0 lookup.1 refl in
     done-looked registry world c.args.self.now.seats.items c.args.self.now.entries processors at.0 at.1 c.args.cpu
-    c.in-Some.looked.now c.is_empty.result is c.is_empty.ensures
+    c.in-Some.looked.now c.is_done.result is c.is_done.ensures.done c.is_done.ensures.busy

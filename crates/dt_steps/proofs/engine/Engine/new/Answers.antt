@@ -1,5 +1,6 @@
 -- At the start.
-use Rattle.std.proofs.Common.{◌∙◌, sym}
+use Rattle.std.proofs.Common.{◌∙◌, sym, slice_get}
+use Rattle.dt_steps.proofs.FreeSeats.{idle_due, idle_moment}
 use Rattle.dt_steps.proofs.Soundness.{sound-start}
 use Rattle.dt_steps.proofs.engine.Engine.new.Goals as goal
 
@@ -11,6 +12,8 @@ returns c = (
     held = c.in_ok-free_seats.ensures.free c.args.machine.now.registry;
     entered = c.new.ensures;
     cpus = sym c.in_ok-idle_processors.field-0.ok.0 ∙ c.in_ok-idle_processors.ensures.all ∙ c.cpus.ensures.value;
-    due = c.in_ok-idle_processors.ensures.idle;
+    due = λ cpu. idle_due (slice_get c.in_ok-idle_processors.field-0.items cpu) (c.in_ok-idle_processors.ensures.idle cpu);
+    moments = λ cpu. idle_moment c.args.machine.now.registry (slice_get c.in_ok-idle_processors.field-0.items cpu)
+        (c.in_ok-idle_processors.ensures.idle cpu);
   },
 )

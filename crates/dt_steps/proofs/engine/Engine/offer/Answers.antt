@@ -9,7 +9,7 @@ use Rattle.dt_steps.specs.Stands.{due_of, due_in, place_of}
 use Rattle.dt_steps.specs.World.{Due}
 use Rattle.dt_steps.proofs.Soundness.{sound-offering}
 use Rattle.dt_steps.proofs.Standing.{Found, kept-offering, kept-offering-none, kept-offering-past}
-use Rattle.dt_steps.proofs.Standing.{seen-offered, seen-none}
+use Rattle.dt_steps.proofs.Standing.{lent-looked, seen-offered, seen-none}
 use Rattle.dt_steps.proofs.engine.Engine.offer.Goals as goal
 
 place_if : (b : Bool) (firing : Firing) → then_some b (place_of firing)
@@ -33,15 +33,19 @@ returns c = λ world at.
     let low : c.args.cpu < length processors = omega (arith, long, c.len.ensures, c.if-cpu-len.false) in
     let is : slice_get processors c.args.cpu ≡ Some before =
     slice_get-get_or processors c.args.cpu before low ∙ ap Some (sym c.index_mut-looked.ensures.value) in
-    let due : Due = record { life = c.in_ok-life.life; firing = c.take.new.self.firing } in
-    let owes : due_of before c.args.seat ≡ Some due = rw c.in_ok-life.ensures.firing c.in_ok-life.ensures.offer in
+    let due : Due = record { life = c.in_ok-life.life; firing = c.in_ok-life.moment.firing.now } in
+    let owes : due_of before c.args.seat ≡ Some due = c.in_ok-life.ensures.offer in
+    let lent = lent-looked registry world seats entries processors at.0 at.1 c.args.cpu before c.in_ok-life.moment is
+    c.in_ok-life.ensures.lent in
     let seen = seen-offered registry world seats entries processors at.0 at.1 c.args.cpu c.number.result c.args.seat
-    c.index_mut-held.result.now before due found is owes c.deliver.result c.deliver.ensures.seen in (
+    c.index_mut-held.result.now before due found is owes c.deliver.result
+    (λ place held. c.deliver.ensures.seen place held lent) in (
       (
         sound-offering registry world at.0 c.args.cpu c.args.seat,
         kept-offering registry world seats entries processors at.0 at.1 c.args.cpu c.number.result c.args.seat
             c.index_mut-held.result.now c.deliver.new.self before c.take.new.self due found is owes
-            c.in_ok-life.ensures.taken c.deliver.ensures.reached,
+            c.in_ok-life.ensures.taken c.in_ok-life.ensures.moment
+            (λ place held. c.deliver.ensures.reached place held lent),
       ),
       c.then_some.ensures ∙ place_if c.deliver.result due.firing ∙ sym (ap (option_map place_of) seen),
     )
