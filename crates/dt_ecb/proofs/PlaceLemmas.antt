@@ -120,6 +120,21 @@ module _ (account : Account) (registry : Registry) where
       ∙ sym (kept-append n front back)
       ∙ ap (kept_from n) (sym (keys_more i clauses clause inside is))
 
+-- a clause adds an ECB for each probe that it takes effect on
+pub count_added : (account : Account) (registry : Registry) (n place : ℕ) (clause : ClauseForm) (old new : List Ecb)
+    → map kept_in new ≡ map kept_in old ++ kept_from n (keys_at account registry place clause)
+    → length new ≡ length old + length (matched account registry clause)
+count_added account registry n place clause old new news =
+    omega (
+      arith,
+      ap length news,
+      length-append (map kept_in old) (kept_from n (keys_at account registry place clause)),
+      length-map new kept_in,
+      length-map old kept_in,
+      length-kept n (keys_at account registry place clause),
+      length-map (matched account registry clause) (key_at place),
+    )
+
 -- the clauses of ECBs are among as many
 abbrev AllBelow : ℕ → List (ℕ × ℕ) → Type 0
 AllBelow bound = AllByRecursion (λ (key : ℕ × ℕ). key.1 < bound)

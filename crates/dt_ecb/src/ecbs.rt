@@ -1,9 +1,13 @@
 //! The ECBs that a program's clauses make.
-ghost use Rattle.std.specs.Prelude.{◌≡◌, ◌+◌, ◌<◌, ◌≤◌, ◌^◌, ◌++◌, length, map, All, OnOk, IfOk, vec_len};
+ghost use Rattle.std.specs.Prelude.{◌≡◌, ℕ, ◌+◌, ◌<◌, ◌≤◌, ◌^◌, ◌++◌, false, length, map, OnOk, IfOk, IfErr, IfSome, vec_len};
+ghost use Rattle.std.specs.List.{list_any};
 ghost use Rattle.dt_machine.specs.declared.limits.TheConstants.{PROBE_ID_MAX};
 ghost use Rattle.dt_program.specs.Program.{form_of_clause, form_of_program};
+ghost use Rattle.dt_ecb.specs.Enable.{IsFirstSuch, Verdict, is_unmatched};
+ghost use Rattle.dt_ecb.specs.Forms.{verdict_of};
 ghost use Rattle.dt_ecb.specs.Places.{keys_at, keys_from, kept_from, kept_in};
 
+use crate::fault::EnableFault;
 use crate::limits::ECBS_MAX;
 use crate::matches::is_matched;
 use crate::parts::Ecb;
@@ -12,22 +16,34 @@ use dt_machine::Machine;
 use dt_program::{Clause, Program};
 use std::alloc::{AllocError, Global};
 
-/// The ECBs of a program, numbered from an EPID on: of its clauses in order, each matched with each probe once.
+/// The ECBs of a program, numbered from an EPID on: of its clauses in order, each matched with each probe once. A clause that
+/// takes effect on no probe refuses the whole program, and the first is told.
 pub(crate) fn ecbs_of(
     alloc: Global,
     account: &Account,
     machine: &Machine,
     program: &Program,
     next_epid: u32,
-) -> Result<Vec<Ecb>, AllocError>
+) -> Result<Vec<Ecb>, EnableFault>
     requires { next_epid ≤ ECBS_MAX + 1 }
     ensures value { IfOk result (λ ecbs. map kept_in ecbs.items
         ≡ kept_from next_epid (keys_from account.now machine.now.registry 0 (form_of_program program.now))) }
     ensures few { IfOk result (λ ecbs. vec_len ecbs < 2 ^ 31) }
+    ensures matched { IfOk result (λ _.
+        list_any (is_unmatched account.now machine.now.registry) (form_of_program program.now) ≡ false) }
+    ensures unmatched { IfErr result (λ fault. IfSome (verdict_of fault) (λ verdict. (clause : ℕ)
+        × (verdict ≡ Verdict.unmatched clause)
+        × IsFirstSuch (is_unmatched account.now machine.now.registry) (form_of_program program.now) clause)) }
 {
     let mut ecbs = Vec::new(alloc);
     for (place, clause) in program.clauses.iter().enumerate() {
+        let before = ecbs.len();
         push_matched(&mut ecbs, account, machine, clause, place, next_epid)?;
+        if ecbs.len() == before {
+            return Err(EnableFault::NoMatch {
+                clause: place as u32 + 1,
+            });
+        }
     }
     Ok(ecbs)
 }

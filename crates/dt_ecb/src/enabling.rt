@@ -9,7 +9,7 @@ ghost use Rattle.dt_ecb.specs.Shapes as spec;
 use crate::clashes::{first_clash, names_count};
 use crate::ecbs::ecbs_of;
 use crate::fault::{EnableFault, RestrictedAction};
-use crate::faults::{first_unallowed, first_unmatched};
+use crate::faults::first_unallowed;
 use crate::limits::{AGGREGATIONS_MAX, ECBS_MAX};
 use crate::parts::Ecb;
 use crate::shapes::Shapes;
@@ -54,10 +54,7 @@ pub fn enable(
     if let Some(what) = first_clash(shapes, &all) {
         return Err(EnableFault::AggClash { what });
     }
-    // asked before any ECB is made, so that no memory is taken for a program that is refused here
-    if let Some(clause) = first_unmatched(account, machine, program) {
-        return Err(EnableFault::NoMatch { clause });
-    }
+    // each clause is matched with each probe once: its ECBs tell whether it takes effect on any
     let ecbs = ecbs_of(alloc, account, machine, program, next_epid)?;
     // the limits are the consumer's: what its earlier programs added counts too
     if is_too_much(&all, next_epid, ecbs.len()) {

@@ -1,12 +1,11 @@
 -- The laws of the operators.
-use Rattle.std.proofs.Common.{◌≡◌, ◌≢◌, ℕ, zero, suc, ◌+◌, ◌-◌, ◌*◌, ◌%◌, ◌/◌, ◌^◌, ◌<◌, ◌≤◌, refl, sym, ap, ◌∙◌}
-use Rattle.std.proofs.Common.{arith, Some, None, Option, ℤ, pos, negsuc, ◌+ℤ◌, ◌-ℤ◌, ◌*ℤ◌, neg_ℤ, ◌≤ℤ◌, FitsSigned}
+use Rattle.std.proofs.Common.{◌≡◌, ◌≢◌, ℕ, zero, suc, ◌+◌, ◌-◌, ◌*◌, ◌%◌, ◌/◌, ◌^◌, ◌<◌, refl, sym, ap, ◌∙◌}
+use Rattle.std.proofs.Common.{arith, ℤ, pos, negsuc, ◌+ℤ◌, ◌-ℤ◌, ◌*ℤ◌, neg_ℤ, ◌≤ℤ◌, FitsSigned}
 use Rattle.std.proofs.Math.Nat.{mod-lt, mod-le, div-add-mod'}
-use Rattle.std.proofs.Math.Pow.{pow_pos}
-use Rattle.std.specs.Prelude.{int_div, int_rem, unsigned_abs}
+use Rattle.std.specs.Prelude.{int_rem, unsigned_abs}
 use Rattle.std.specs.Int.{w64, int_wrap, int_div_euclid, int_bit_not, cast_signed, cast_unsigned, int_rem_euclid}
-use Rattle.dt_expr.specs.Operators.{wrapped, DifferBy, shift_count, shifted_right}
-use Rattle.std.proofs.lemmas.Int.{ints, to_z-of_z, of_z-to_z, SFits-int_wrap, quot-rem, rem_below}
+use Rattle.dt_expr.specs.Operators.{wrapped, DifferBy, shift_count}
+use Rattle.std.proofs.lemmas.Int.{ints, to_z-of_z, of_z-to_z, SFits-int_wrap, rem_below}
 
 -- a number that fits and its bits
 from_bits : (y : ℤ) → FitsSigned w64 y → (k : ℕ) × (y +ℤ pos (k * 2 ^ 64) ≡ pos (cast_unsigned w64 y))

@@ -2,3 +2,4 @@
 pub mod Wrapping
 pub mod Facts
 pub mod LeftSide
+pub mod Joining

@@ -1,13 +1,13 @@
 -- What std's methods leave in 64 bits is the representative of the whole number.
-use Rattle.std.proofs.Common.{◌≡◌, ℕ, zero, suc, ◌+◌, ◌*◌, ◌%◌, ◌/◌, ◌^◌, ◌<◌, ◌≤◌, refl, sym, ap, ◌∙◌, arith, Some, ℤ}
+use Rattle.std.proofs.Common.{◌≡◌, ℕ, zero, suc, ◌%◌, ◌/◌, ◌^◌, ◌<◌, ◌≤◌, sym, ap, ◌∙◌, arith, ℤ}
 use Rattle.std.proofs.Common.{pos, negsuc, ◌*ℤ◌, neg_ℤ, FitsSigned}
-use Rattle.std.proofs.Math.Nat.{div-le_self, mod-lt}
-use Rattle.std.specs.Prelude.{int_div, unsigned_abs}
-use Rattle.std.specs.Int.{w64, int_wrap, int_wrapping_div, int_shl, cast_signed, cast_unsigned, int_rem_euclid}
+use Rattle.std.proofs.Math.Nat.{div-le_self}
+use Rattle.std.specs.Prelude.{int_div}
+use Rattle.std.specs.Int.{w64, int_wrap, int_wrapping_div, int_shl, cast_signed, cast_unsigned}
 use Rattle.dt_expr.specs.Operators.{wrapped, shift_count, shifted_left}
 use Rattle.std.proofs.Math.Facts.{Fits-of_z}
 use Rattle.std.proofs.Math.Pow.{pow-lt}
-use Rattle.std.proofs.lemmas.Int.{to_z-of_z, int_wrap_fits, wrapping_mul-bits, int_wrap-mul_right, SFits-int_wrap}
+use Rattle.std.proofs.lemmas.Int.{to_z-of_z, int_wrap_fits, wrapping_mul-bits, int_wrap-mul_right}
 
 -- the bits of a number below 2^64 stand for its representative
 pub bits_wrap : (n : ℕ) → n < 2 ^ 64 → cast_signed w64 n ≡ int_wrap w64 (pos n)

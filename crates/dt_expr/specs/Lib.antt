@@ -2,4 +2,5 @@
 pub mod Form
 pub mod Scene
 pub mod Operators
+pub mod Found
 pub mod Value

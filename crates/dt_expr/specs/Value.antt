@@ -1,5 +1,5 @@
 -- The value of an expression in a scene.
-use Rattle.std.specs.Prelude.{ℤ, Option, Some, None}
+use Rattle.std.specs.Prelude.{ℤ, Option, Some}
 use Rattle.std.specs.Option.{option_map, option_and_then, option_or}
 use Rattle.dt_expr.specs.Form.{Form, Num, Named, Prefixed, Joined, Compared}
 use Rattle.dt_expr.specs.Operators.{unary, binary, decided, compared}

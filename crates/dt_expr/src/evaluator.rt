@@ -1,7 +1,8 @@
 //! The evaluation of an expression.
-ghost use Rattle.std.specs.Prelude.{◌≡◌, Some, None, MatchResult};
+ghost use Rattle.std.specs.Prelude.{◌≡◌, Some, None, IfSome, MatchResult};
 ghost use Rattle.dt_expr.specs.Form.{form_of};
 ghost use Rattle.dt_expr.specs.Scene.{scene_of};
+ghost use Rattle.dt_expr.specs.Found.{IsFound};
 ghost use Rattle.dt_expr.specs.Value.{value};
 
 use crate::expr::Expr;
@@ -25,18 +26,51 @@ pub fn eval(expr: &Expr, scene: &Scene) -> Result<i64, EvalFault>
     ensures { MatchResult result (λ number. value (scene_of scene.now) (form_of expr.now) ≡ Some number)
         (λ _. value (scene_of scene.now) (form_of expr.now) ≡ None) }
 {
+    let mut divided_by_zero = false;
+    let number = number_of(expr, scene, &mut divided_by_zero);
+    if divided_by_zero {
+        return Err(EvalFault::DivZero);
+    }
+    Ok(number)
+}
+
+/// The number of an expression. Where a division by zero is evaluated the mark is set, and the number means nothing.
+///
+/// A mark, and no fault at each step: there is nothing to look at between two operators, and a number stays in its register.
+fn number_of(expr: &Expr, scene: &Scene, divided_by_zero: &mut bool) -> i64
+    ensures { IsFound (value (scene_of scene.now) (form_of expr.now)) result divided_by_zero.old divided_by_zero.new }
+{
     match expr {
-        Expr::Number(number) => Ok(*number),
-        Expr::Variable(variable) => Ok(scene.number(*variable)),
-        Expr::Unary(op, operand) => Ok(op.apply(eval(operand, scene)?)),
+        Expr::Number(number) => *number,
+        Expr::Variable(variable) => scene.number(*variable),
+        Expr::Unary(op, operand) => op.apply(number_of(operand, &*scene, divided_by_zero)),
         Expr::Binary(op, left, right) => {
-            let left = eval(left, scene)?;
+            // most operands are numbers and variables, which take no call
+            let left = match leaf(left, &*scene) {
+                Some(number) => number,
+                None => number_of(left, &*scene, divided_by_zero),
+            };
             // the left side decides: the right one isn't evaluated, and a division by zero in it is no fault
             if let Some(number) = op.decided(left) {
-                return Ok(number);
+                return number;
             }
-            op.apply(left, eval(right, scene)?)
+            let right = match leaf(right, &*scene) {
+                Some(number) => number,
+                None => number_of(right, &*scene, divided_by_zero),
+            };
+            op.apply(left, right, divided_by_zero)
         }
-        Expr::Compare(op, left, right) => Ok(op.apply(left.bytes(scene), right.bytes(scene))),
+        Expr::Compare(op, left, right) => op.apply(left.bytes(&*scene), right.bytes(&*scene)),
+    }
+}
+
+/// The number of an operand that has no operands itself: a number or a variable.
+fn leaf(expr: &Expr, scene: &Scene) -> Option<i64>
+    ensures { IfSome result (λ number. value (scene_of scene.now) (form_of expr.now) ≡ Some number) }
+{
+    match expr {
+        Expr::Number(number) => Some(*number),
+        Expr::Variable(variable) => Some(scene.number(*variable)),
+        _ => None,
     }
 }

@@ -1,9 +1,7 @@
 //! The operators, and what they do to signed numbers of 64 bits.
-ghost use Rattle.std.specs.Prelude.{◌≡◌, ◌<◌, Some, None, MatchResult, pos};
-ghost use Rattle.std.specs.Ordering.{int_eq};
+ghost use Rattle.std.specs.Prelude.{◌≡◌, ◌<◌};
+ghost use Rattle.dt_expr.specs.Found.{IsFound};
 ghost use Rattle.dt_expr.specs.Operators.{unary, binary, decided, quotient, remainder, shifted_left, shifted_right, shift_count, truth, compared};
-
-use crate::evaluator::EvalFault;
 
 /// An operator before its operand.
 #[derive(Clone, Copy, Debug, PartialEq, Eq)]
@@ -96,31 +94,30 @@ impl BinaryOp {
         }
     }
 
-    /// What the operator gives for both operands.
-    pub(crate) fn apply(self, left: i64, right: i64) -> Result<i64, EvalFault>
-        ensures { MatchResult result (λ number. binary self left right ≡ Some number)
-            (λ _. binary self left right ≡ None) }
+    /// What the operator gives for both operands. A division by zero sets the mark, and what it gives means nothing.
+    pub(crate) fn apply(self, left: i64, right: i64, divided_by_zero: &mut bool) -> i64
+        ensures { IsFound (binary self left right) result divided_by_zero.old divided_by_zero.new }
     {
         match self {
-            BinaryOp::Or => Ok(i64::from(left != 0 || right != 0)),
-            BinaryOp::Xor => Ok(i64::from((left != 0) != (right != 0))),
-            BinaryOp::And => Ok(i64::from(left != 0 && right != 0)),
-            BinaryOp::BitOr => Ok(left | right),
-            BinaryOp::BitXor => Ok(left ^ right),
-            BinaryOp::BitAnd => Ok(left & right),
-            BinaryOp::Equal => Ok(i64::from(left == right)),
-            BinaryOp::NotEqual => Ok(i64::from(left != right)),
-            BinaryOp::Less => Ok(i64::from(left < right)),
-            BinaryOp::LessEqual => Ok(i64::from(left <= right)),
-            BinaryOp::Greater => Ok(i64::from(left > right)),
-            BinaryOp::GreaterEqual => Ok(i64::from(left >= right)),
-            BinaryOp::ShiftLeft => Ok(shifted_left(left, right)),
-            BinaryOp::ShiftRight => Ok(shifted_right(left, right)),
-            BinaryOp::Add => Ok(left.wrapping_add(right)),
-            BinaryOp::Subtract => Ok(left.wrapping_sub(right)),
-            BinaryOp::Multiply => Ok(left.wrapping_mul(right)),
-            BinaryOp::Divide => quotient(left, right),
-            BinaryOp::Remainder => remainder(left, right),
+            BinaryOp::Or => i64::from(left != 0 || right != 0),
+            BinaryOp::Xor => i64::from((left != 0) != (right != 0)),
+            BinaryOp::And => i64::from(left != 0 && right != 0),
+            BinaryOp::BitOr => left | right,
+            BinaryOp::BitXor => left ^ right,
+            BinaryOp::BitAnd => left & right,
+            BinaryOp::Equal => i64::from(left == right),
+            BinaryOp::NotEqual => i64::from(left != right),
+            BinaryOp::Less => i64::from(left < right),
+            BinaryOp::LessEqual => i64::from(left <= right),
+            BinaryOp::Greater => i64::from(left > right),
+            BinaryOp::GreaterEqual => i64::from(left >= right),
+            BinaryOp::ShiftLeft => shifted_left(left, right),
+            BinaryOp::ShiftRight => shifted_right(left, right),
+            BinaryOp::Add => left.wrapping_add(right),
+            BinaryOp::Subtract => left.wrapping_sub(right),
+            BinaryOp::Multiply => left.wrapping_mul(right),
+            BinaryOp::Divide => quotient(left, right, divided_by_zero),
+            BinaryOp::Remainder => remainder(left, right, divided_by_zero),
         }
     }
 }
@@ -157,24 +154,24 @@ fn shifted_right(number: i64, count: i64) -> i64
     number.wrapping_shr(shift_count(count))
 }
 
-fn quotient(dividend: i64, divisor: i64) -> Result<i64, EvalFault>
-    ensures { MatchResult result (λ number. quotient dividend divisor ≡ Some number)
-        (λ _. quotient dividend divisor ≡ None) }
+fn quotient(dividend: i64, divisor: i64, divided_by_zero: &mut bool) -> i64
+    ensures { IsFound (quotient dividend divisor) result divided_by_zero.old divided_by_zero.new }
 {
     // there is no value to go on with: the clause is abandoned whole
     if divisor == 0 {
-        return Err(EvalFault::DivZero);
+        *divided_by_zero = true;
+        return 0;
     }
-    Ok(dividend.wrapping_div(divisor))
+    dividend.wrapping_div(divisor)
 }
 
-fn remainder(dividend: i64, divisor: i64) -> Result<i64, EvalFault>
-    ensures { MatchResult result (λ number. remainder dividend divisor ≡ Some number)
-        (λ _. remainder dividend divisor ≡ None) }
+fn remainder(dividend: i64, divisor: i64, divided_by_zero: &mut bool) -> i64
+    ensures { IsFound (remainder dividend divisor) result divided_by_zero.old divided_by_zero.new }
 {
     // a remainder by zero has no value either: the clause is abandoned whole
     if divisor == 0 {
-        return Err(EvalFault::DivZero);
+        *divided_by_zero = true;
+        return 0;
     }
-    Ok(dividend.wrapping_rem(divisor))
+    dividend.wrapping_rem(divisor)
 }

@@ -14,7 +14,7 @@ returns-then-is_too_much-clause-refused c =
     let clauses = form_of_program c.args.program.now in (
       no_answer _ _ _ c.in_default.not-Some c.first_unallowed.ensures,
       no_answer _ _ _ c.in_default-first_clash.not-Some (c.first_clash.ensures (uses_of clauses) c.in_ok-all.ensures),
-      no_answer _ _ _ c.in_default-first_unmatched.not-Some c.first_unmatched.ensures,
+      c.in_ok-ecbs.ensures.matched,
       sym (much_is c.args.account.now c.args.machine.now.registry (shapes_of c.args.shapes.now) c.args.next_epid
           clauses c.in_ok-ecbs.ecbs.items c.in_ok-ecbs.ensures.value c.len.result (shapes_of c.in_ok-all.all)
           (omega (arith, c.len.ensures)) c.in_ok-all.ensures)
@@ -32,7 +32,7 @@ returns-clause-enabled c =
           (no_answer _ _ _ c.in_default.not-Some c.first_unallowed.ensures)
           (no_answer _ _ _ c.in_default-first_clash.not-Some
           (c.first_clash.ensures (uses_of clauses) c.in_ok-all.ensures))
-          (no_answer _ _ _ c.in_default-first_unmatched.not-Some c.first_unmatched.ensures)
+          c.in_ok-ecbs.ensures.matched
           (sym (much_is account registry accepted c.args.next_epid clauses c.in_ok-ecbs.ecbs.items made c.len.result
           (shapes_of c.in_ok-all.all) (omega (arith, c.len.ensures)) c.in_ok-all.ensures)
           ∙ sym c.is_too_much.ensures ∙ c.if-is_too_much.false),
@@ -56,7 +56,7 @@ returns-clause-each c =
     c.in_ok-ecbs.ensures.value in
     omega (
       arith,
-      matched_many account registry clauses (no_answer _ _ _ c.in_default-first_unmatched.not-Some c.first_unmatched.ensures),
+      matched_many account registry clauses c.in_ok-ecbs.ensures.matched,
       length-added account registry c.args.next_epid clauses,
       ap length made,
       length-map ecbs (form_of_ecb clauses),

@@ -1,5 +1,5 @@
 -- What the proof of `quotient` is told at its goals.
-use Rattle.std.proofs.Common.{rules, ◌≡◌, arith}
+use Rattle.std.proofs.Common.{rules}
 use Rattle.std.proofs.lemmas.Int.{wraps}
 use Rattle.dt_expr.proofs.Wrapping.{quotient_wraps}
 use Rattle.dt_expr.proofs.operators.quotient.Goals as goal

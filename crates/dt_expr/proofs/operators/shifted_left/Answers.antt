@@ -1,5 +1,5 @@
 -- What the proof of `shifted_left` is told at its goals.
-use Rattle.std.proofs.Common.{◌≡◌, ◌%◌, ◌∙◌, ap, ℤ, FitsSigned}
+use Rattle.std.proofs.Common.{◌%◌, ◌∙◌, ap, ℤ, FitsSigned}
 use Rattle.std.proofs.lemmas.Int.{to_z-of_z}
 use Rattle.std.specs.Int.{w64, int_shl}
 use Rattle.dt_expr.specs.Operators.{shift_count}
