@@ -39,5 +39,5 @@ returns-clause-joins c = λ bags bag j none few own cell.
     subst (AreJoined function (joined_at key bag bags)) (sym c.in_ok-push.ensures.items)
     (pushed_at function bags bag c.args.self.now.rows.items key
     (record { key = c.copy.result; cell = c.in_ok-cell.cell }) j none
-    (λ d some. sym (c.ends_with.ensures.last d some) ∙ c.if-ends_with.false) c.copy.ensures
+    (λ d some. sym {A = Bool} (c.ends_with.ensures.last d some) ∙ c.if-ends_with.false) c.copy.ensures
     (c.in_ok-cell.ensures.items ∙ cell) own)
