@@ -1,5 +1,5 @@
 -- A share's bag joins the row of its key, or makes one.
-use Rattle.std.proofs.Common.{◌≡◌, ◌-◌, ◌<◌, length, get_or, refl, sym}
+use Rattle.std.proofs.Common.{◌≡◌, List, ◌-◌, ◌<◌, length, get_or, refl, sym}
 use Rattle.std.proofs.Common.{ap, ◌∙◌, subst, arith}
 use Rattle.std.proofs.lemmas.List.{with_items_is}
 use Rattle.dt_aggstore.specs.Keys.{same_key}
@@ -36,8 +36,8 @@ pub returns-clause-joins : goal.returns-clause-joins
 returns-clause-joins c = λ bags bag j none few own cell.
     let function = c.args.self.now.function in
     let key = shared_key c.args.share.now in
-    subst (AreJoined function (joined_at key bag bags)) (sym c.in_ok-push.ensures.items)
+    subst (AreJoined function (joined_at key bag bags)) (sym {A = List Joined} c.in_ok-push.ensures.items)
     (pushed_at function bags bag c.args.self.now.rows.items key
     (record { key = c.copy.result; cell = c.in_ok-cell.cell }) j none
-    (λ d some. sym {A = Bool} (c.ends_with.ensures.last d some) ∙ c.if-ends_with.false) c.copy.ensures
+    (λ d some. sym (c.ends_with.ensures.last d some) ∙ c.if-ends_with.false) c.copy.ensures
     (c.in_ok-cell.ensures.items ∙ cell) own)
