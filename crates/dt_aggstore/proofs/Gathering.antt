@@ -5,18 +5,16 @@ use Rattle.std.specs.Prelude.{slice_range}
 use Rattle.std.proofs.lemmas.Bool.{false≢true}
 use Rattle.std.proofs.lemmas.List.{append-nil, take_more, drop_more, map-append}
 use Rattle.std.proofs.lemmas.List.Folds.{list_any-append}
-use Rattle.dt_aggfn.specs.declared.function.AggFn.{AggFn}
-use Rattle.dt_aggfn.specs.declared.limits.TheConstants.{BAG_LIMIT}
 use Rattle.dt_aggfn.specs.Cells.{cell_words, cell_of, IsBag}
 use Rattle.dt_aggstore.specs.Keys.{Entry, same_entry, same_aggregation, same_key}
 use Rattle.dt_aggstore.specs.History.{Past}
 use Rattle.dt_aggstore.specs.Held.{entry_of, counted, held, bag}
 use Rattle.dt_aggstore.specs.Entries.{name_of, names_of, words_of}
 use Rattle.dt_aggstore.specs.IsAt.{IsAt}
-use Rattle.dt_aggstore.specs.Joining.{AreJoined, joined_at}
+use Rattle.dt_aggstore.specs.Joining.{AreShares, joined_at, shared_key}
 use Rattle.dt_aggstore.specs.declared.key.Aggregation.{Aggregation}
 use Rattle.dt_aggstore.specs.declared.held.Held.{Held}
-use Rattle.dt_aggstore.specs.declared.joining.Joined.{Joined}
+use Rattle.dt_aggstore.specs.declared.share.Share.{Share}
 use Rattle.dt_aggstore.specs.declared.store.AggStore.{AggStore}
 use Rattle.dt_aggstore.proofs.Same.{aggregation_is, own_aggregation, key_decides, own_entry}
 use Rattle.dt_aggstore.proofs.Filters.{yes_or_no}
@@ -25,6 +23,7 @@ use Rattle.dt_aggstore.proofs.Counting.{names, values_none}
 use Rattle.dt_aggstore.proofs.Words.{names-take}
 use Rattle.dt_aggstore.proofs.Standing.{held_bag, Lengths, apart_before, cell_at, cells_from}
 use Rattle.dt_aggstore.proofs.Rising.{Key}
+use Rattle.dt_aggstore.proofs.Sharing.{shared_alike, shared_more}
 
 aggregation_back : (a b : Aggregation) → same_aggregation a b ≡ false → same_aggregation b a ≡ false
 aggregation_back a b e = ⊎_elim
@@ -158,19 +157,13 @@ module _ (past : Past) (store : AggStore) (at : IsAt past store) (i : ℕ) (x : 
       (at.cells ∙ ap (cells_from bags) split)
       ∙ cell_at lengths bags (name_of x) Before Later
 
--- rows are joined from bags that are the same
-pub joined_alike : (function : AggFn) (bags other : Key → List ℤ) (rows : List Joined)
-    → ((key : Key) → bags key ≡ other key) → AreJoined function bags rows → AreJoined function other rows
-joined_alike function bags other rows h j =
-    let same : bags ≡ other = (λ i key. h key i) in subst (λ b. AreJoined function b rows) same j
-
 module _ (past : Past) (store : AggStore) (at : IsAt past store) (aggregation : Aggregation) (bags : Key → List ℤ)
     (i : ℕ)
-    (x : Held) (here : i < length store.entries.items) (is : x ≡ get_or store.entries.items i x) (rows rows' :
-    List Joined)
-    (so_far : AreJoined aggregation.function
+    (x : Held) (here : i < length store.entries.items) (is : x ≡ get_or store.entries.items i x)
+    (shares : List Share)
+    (so_far : AreShares aggregation.function
     (Gathered past store at aggregation bags (names_of (take i store.entries.items)))
-    rows) where
+    shares) where
   abbrev So-far : List Entry
   So-far = names_of (take i store.entries.items)
 
@@ -182,43 +175,32 @@ module _ (past : Past) (store : AggStore) (at : IsAt past store) (aggregation : 
   more key =
       ap (λ xs. Gathered past store at aggregation bags xs key) (sym (names_more store.entries.items i x here is))
 
-  pub entry_passed : same_aggregation aggregation x.aggregation ≡ false → rows' ≡ rows
-      → AreJoined aggregation.function (Gathered past store at aggregation bags Next) rows'
-  entry_passed other same =
-      subst (AreJoined aggregation.function (Gathered past store at aggregation bags Next)) (sym same)
-      (joined_alike aggregation.function (Gathered past store at aggregation bags So-far)
-      (Gathered past store at aggregation bags Next) rows
-      (λ key. gathered_other past store at aggregation bags So-far (name_of x) other key ∙ more key) so_far)
+  pub entry_passed : same_aggregation aggregation x.aggregation ≡ false
+      → AreShares aggregation.function (Gathered past store at aggregation bags Next) shares
+  entry_passed other =
+      shared_alike aggregation.function (Gathered past store at aggregation bags So-far)
+      (Gathered past store at aggregation bags Next) shares
+      (λ key. gathered_other past store at aggregation bags So-far (name_of x) other key ∙ more key) so_far
 
-  abbrev Joins : AggFn → List ℕ → Type 0
-  Joins function cell =
-      (bags : Key → List ℤ) (bag : List ℤ) → AreJoined function bags rows
-      → length (bags x.key.parts.items) < BAG_LIMIT
-      → IsBag bag → cell ≡ cell_of function bag → AreJoined function (joined_at x.key.parts.items bag bags) rows'
-
-  pub entry_joined : Lengths → ((key : Key) → length (bags key) < BAG_LIMIT)
-      → same_aggregation aggregation x.aggregation ≡ true → (function : AggFn) → function ≡ aggregation.function
+  pub entry_shared : Lengths → same_aggregation aggregation x.aggregation ≡ true
       → (place words : ℕ) → place ≡ words_of So-far → words ≡ cell_words x.aggregation.function
-      → (cell : List ℕ) → cell ≡ slice_range store.cells.items place (place + words) → Joins function cell
-      → AreJoined aggregation.function (Gathered past store at aggregation bags Next) rows'
-  entry_joined lengths few same function f place words p w cell c joins =
+      → (share : Share) → shared_key share ≡ x.key.parts.items
+      → share.cell.now ≡ slice_range store.cells.items place (place + words)
+      → AreShares aggregation.function (Gathered past store at aggregation bags Next) (shares ++ share ∷ [])
+  entry_shared lengths same place words p w share k c =
       let key = x.key.parts.items in
       let own = aggregation_is aggregation x.aggregation same in
       let gathered = Gathered past store at aggregation bags So-far in
       let bag-of = bag past.events at.chosen aggregation key in
       let is_bag : IsBag bag-of =
       subst (λ a. IsBag (bag past.events at.chosen a key)) (sym own) (bag_here past store at i x here is) in
-      let has_cell : cell ≡ cell_of aggregation.function bag-of =
+      let has_cell : share.cell.now ≡ cell_of aggregation.function bag-of =
       c ∙ cell_here past store at i x here is lengths place words p w
       ∙ ap (λ (a : Aggregation). cell_of a.function (bag past.events at.chosen a key)) (sym own) in
-      let never : has (entry_of aggregation key) So-far ≡ false =
-      subst (λ a. has (entry_of a key) So-far ≡ false) (sym own) (not_before past store at i x here is) in
-      let short : length (gathered key) < BAG_LIMIT =
-      subst (λ b. length (cond b (bags key ++ bag-of) (bags key)) < BAG_LIMIT) (sym never) (few key) in
-      let joins' = subst (λ g. Joins g cell) f joins in
-      joined_alike aggregation.function (joined_at key bag-of gathered)
-      (Gathered past store at aggregation bags Next) rows'
+      shared_alike aggregation.function (joined_at key bag-of gathered)
+      (Gathered past store at aggregation bags Next) (shares ++ share ∷ [])
       (λ k. gathered_more past store at aggregation bags So-far (name_of x)
       (not_before past store at i x here is) same k
       ∙ more k)
-      (joins' gathered bag-of so_far short is_bag has_cell)
+      (subst (λ k. AreShares aggregation.function (joined_at k bag-of gathered) (shares ++ share ∷ [])) k
+      (shared_more aggregation.function gathered bag-of shares share so_far is_bag has_cell))

@@ -1,19 +1,18 @@
 -- A bag joins the row of its key, or makes one.
-use Rattle.std.proofs.Common.{◌≡◌, ◌≢◌, ℕ, zero, suc, ◌+◌, ◌<◌, ◌≤◌, ◌⊎◌, ⊎_elim, inl, inr, ℤ, Bool, true, false, cond}
+use Rattle.std.proofs.Common.{◌≡◌, ◌≢◌, ℕ, zero, suc, ◌+◌, ◌-◌, ◌<◌, ◌≤◌, ◌⊎◌, ⊎_elim, inl, inr, ℤ, Bool, true, false, cond}
 use Rattle.std.proofs.Common.{List, [], ◌∷◌, ◌++◌, length, get_or, set, take, drop, refl, sym, ap, ◌∙◌, subst, add-one}
 use Rattle.std.proofs.Common.{arith}
 use Rattle.std.specs.Prelude.{FitsSigned, Contains}
 use Rattle.std.specs.Int.{w64}
-use Rattle.std.specs.List.{AllByRecursion, insert}
+use Rattle.std.specs.List.{AllByRecursion}
 use Rattle.std.proofs.lemmas.Bool.{cases_lt, false≢true}
-use Rattle.std.proofs.lemmas.List.{take-append-drop, drop_more, drop_all, map-append, length-map, set_split, take-map}
-use Rattle.std.proofs.lemmas.List.{drop-map}
+use Rattle.std.proofs.lemmas.List.{take-append-drop, drop_more, map-append, set_split, append-nil}
 use Rattle.dt_aggfn.specs.declared.function.AggFn.{AggFn}
 use Rattle.dt_aggfn.specs.declared.limits.TheConstants.{BAG_LIMIT}
 use Rattle.dt_aggfn.specs.Cells.{cell_of, IsBag}
 use Rattle.dt_aggstore.specs.Keys.{same_key, IsBelow}
 use Rattle.dt_aggstore.specs.Table.{IsRising}
-use Rattle.dt_aggstore.specs.Joining.{key_of, keys_of, AreJoined, joined_at, IsPlaceOf}
+use Rattle.dt_aggstore.specs.Joining.{key_of, keys_of, AreJoined, joined_at, NoneAfter}
 use Rattle.dt_aggstore.specs.declared.joining.Joined.{Joined}
 use Rattle.dt_aggstore.proofs.Same.{key_decides}
 use Rattle.dt_aggstore.proofs.Filters.{yes_or_no}
@@ -212,56 +211,34 @@ module _ (function : AggFn) (bags : Bags-of) (bag : List ℤ) (before later : Li
     words = joined_words New-key bag bags j.words own.words;
   }
 
--- ---- at a place
+-- ---- at the end
 
-all_taken : (P : Key → Type 0) (keys : List Key) (n : ℕ) → n ≤ length keys
-    → ((k : ℕ) (d : Key) → k < n → P (get_or keys k d)) → AllByRecursion P (take n keys)
-all_taken P keys zero h all = tt
-all_taken P [] (suc n) h all = absurd (omega arith)
-all_taken P (key ∷ keys) (suc n) h all =
-    (all 0 key (omega arith), all_taken P keys n (omega arith) (λ k d lt. all (suc k) d (omega arith)))
+-- where no key comes after one, and the last of them is another, all come before it
+pub all_below : (rows : List Joined) (n : ℕ) (key : Key) → n + 1 ≡ length rows → IsRising (keys_of rows)
+    → NoneAfter key (keys_of rows) → ((d : Joined) → same_key (key_of (get_or rows n d)) key ≡ false)
+    → AllBelow (keys_of rows) key
+all_below [] n key e rising none apart = tt
+all_below (row ∷ []) zero key e rising none apart = ⊎_elim
+    (λ same. absurd (false≢true (sym (apart row) ∙ (key_decides (key_of row) key).1 (sym same))))
+    (λ below. (below, tt))
+    (one_or_above key (key_of row) none.0)
+all_below (row ∷ []) (suc n) key e rising none apart = absurd (omega arith)
+all_below (row ∷ next ∷ rows) zero key e rising none apart = absurd (omega arith)
+all_below (row ∷ next ∷ rows) (suc n) key e rising none apart =
+    let rest = all_below (next ∷ rows) n key (omega arith) rising.1 none.1 apart in
+    (below_chain (key_of row) (key_of next) key rising.0.0 rest.0, rest)
 
-module _ (rows : List Joined) (place : ℕ) (key : Key) (at : IsPlaceOf (keys_of rows) key place)
-    (rising : IsRising (keys_of rows)) where
-  pub below_place : AllBelow (keys_of (take place rows)) key
-  below_place =
-      subst (λ xs. AllBelow xs key) (take-map key_of place rows)
-      (all_taken (λ k. IsBelow k key) (keys_of rows) place at.within at.before)
-
-  -- the next key is another one
-  pub above_place : ((d : Joined) → place < length rows → same_key (key_of (get_or rows place d)) key ≡ false)
-      → AllAbove key (keys_of (drop place rows))
-  above_place apart = ⊎_elim
-      (λ within.
-      let keys = keys_of rows in
-      let long : place < length keys = omega (arith, length-map rows key_of) in
-      let next = get_or keys place [] in
-      let split : keys ≡ take place keys ++ next ∷ drop (place + 1) keys =
-      sym (take-append-drop place keys) ∙ ap (λ xs. take place keys ++ xs) (drop_more keys place [] long) in
-      let order = rising_back (take place keys) (next ∷ drop (place + 1) keys) (subst IsRising split rising) in
-      let above : IsBelow key next = ⊎_elim
-      (λ same. absurd (differs within same))
-      (λ above. above)
-      (one_or_above next key (at.rest [] long)) in
-      subst (AllAbove key) (sym (drop_more keys place [] long) ∙ drop-map key_of place rows) (
-        above,
-        all_weaker (IsBelow next) (IsBelow key) (λ k b. below_chain key next k above b)
-            (drop (place + 1) keys) order.0,
-      ))
-      (λ over. subst (AllAbove key) (sym (ap keys_of (drop_all place rows over))) tt)
-      (cases_lt place (length rows))
-    where
-      differs : place < length rows → get_or (keys_of rows) place [] ≡ key → ⊥
-      differs within same = by rows place within apart same
-        where
-          by : (rows : List Joined) (place : ℕ) → place < length rows
-              → ((d : Joined) → place < length rows → same_key (key_of (get_or rows place d)) key ≡ false)
-              → get_or (keys_of rows) place [] ≡ key → ⊥
-          by [] place within apart same = omega arith
-          by (row ∷ rows) zero within apart same =
-              false≢true (sym (apart row within) ∙ (key_decides (key_of row) key).1 same)
-          by (row ∷ rows) (suc place) within apart same =
-              by rows place (omega arith) (λ d h. apart d (omega arith)) same
+pub all_below_end : (rows : List Joined) (key : Key) → IsRising (keys_of rows) → NoneAfter key (keys_of rows)
+    → ((d : Joined) → 0 < length rows → same_key (key_of (get_or rows (length rows - 1) d)) key ≡ false)
+    → AllBelow (keys_of rows) key
+all_below_end rows key rising none apart = ⊎_elim
+    (λ some. all_below rows (length rows - 1) key (omega arith) rising none (λ d. apart d some))
+    (λ over. subst (λ xs. AllBelow (keys_of xs) key) (sym (empty rows over)) tt)
+    (cases_lt 0 (length rows))
+  where
+    empty : (rows : List Joined) → length rows ≤ 0 → rows ≡ []
+    empty [] h = refl
+    empty (row ∷ rows) h = absurd (omega arith)
 
 -- the rows around the one at a place
 pub rows_at : (rows : List Joined) (place : ℕ) (row : Joined) → place < length rows → row ≡ get_or rows place row
@@ -302,17 +279,33 @@ module _ (function : AggFn) (bags : Bags-of) (bag : List ℤ) (rows : List Joine
       (merged function bags bag (take place rows) row new (drop (place + 1) rows) around e
       (cell ∙ ap (λ k. cell_of function (bags k ++ bag)) (sym same)) own))
 
-pub inserted_at : (function : AggFn) (bags : Bags-of) (bag : List ℤ) (rows : List Joined) (place : ℕ) (key : Key)
-    (new : Joined)
-    → AreJoined function bags rows → IsPlaceOf (keys_of rows) key place
-    → ((d : Joined) → place < length rows → same_key (key_of (get_or rows place d)) key ≡ false)
+pub pushed_at : (function : AggFn) (bags : Bags-of) (bag : List ℤ) (rows : List Joined) (key : Key) (new : Joined)
+    → AreJoined function bags rows → NoneAfter key (keys_of rows)
+    → ((d : Joined) → 0 < length rows → same_key (key_of (get_or rows (length rows - 1) d)) key ≡ false)
     → key_of new ≡ key → new.cell.items ≡ cell_of function bag → IsBag bag
-    → AreJoined function (joined_at key bag bags) (insert rows place new)
-inserted_at function bags bag rows place key new j at apart e cell own =
-    let below = below_place rows place key at j.rising in
-    let above = above_place rows place key at j.rising apart in
-    subst (λ k. AreJoined function (joined_at k bag bags) (insert rows place new)) e
-    (inserted function bags bag (take place rows) (drop place rows) new
-    (subst (AreJoined function bags) (sym (take-append-drop place rows)) j)
-    (subst (AllBelow (keys_of (take place rows))) (sym e) below)
-    (subst (λ k. AllAbove k (keys_of (drop place rows))) (sym e) above) cell own)
+    → AreJoined function (joined_at key bag bags) (rows ++ new ∷ [])
+pushed_at function bags bag rows key new j none apart e cell own =
+    let below = all_below_end rows key j.rising none apart in
+    subst (λ k. AreJoined function (joined_at k bag bags) (rows ++ new ∷ [])) e
+    (inserted function bags bag rows [] new
+    (subst (AreJoined function bags) (sym (append-nil rows)) j)
+    (subst (AllBelow (keys_of rows)) (sym e) below) tt cell own)
+
+-- before all shares nothing is joined
+pub none_joined : (function : AggFn) (bags : Bags-of) (rows : List Joined) → rows ≡ []
+    → ((key : Key) → bags key ≡ [])
+    → AreJoined function bags rows
+none_joined function bags rows e none =
+    let P : List Joined → Type 0 = λ xs. AreJoined function bags xs in
+    subst P (sym e) (record {
+      rising = tt;
+      has = λ key. ((λ (k, lt, e). absurd (omega arith)), (λ some. absurd (some (none key))));
+      cells = tt;
+      words = λ key. subst (λ b. AllByRecursion (λ z. FitsSigned w64 z) b) (sym (none key)) tt;
+    })
+
+-- rows are joined from bags that are the same
+pub joined_alike : (function : AggFn) (bags other : Bags-of) (rows : List Joined)
+    → ((key : Key) → bags key ≡ other key) → AreJoined function bags rows → AreJoined function other rows
+joined_alike function bags other rows h j =
+    let same : bags ≡ other = (λ i key. h key i) in subst (λ b. AreJoined function b rows) same j

@@ -11,6 +11,7 @@ pub mod Steps
 pub mod Costs
 pub mod Rising
 pub mod Joins
+pub mod Sharing
 pub mod Gathering
 pub mod Tables
 pub mod SomeTables

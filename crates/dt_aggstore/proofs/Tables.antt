@@ -1,8 +1,7 @@
 -- The table of the pasts of all stores.
 use Rattle.std.proofs.Common.{◌≡◌, ◌≢◌, ℕ, zero, suc, ◌+◌, ◌*◌, ◌<◌, ◌≤◌, ◌⊎◌, ⊎_elim, inl, inr, ℤ, Bool, List, []}
 use Rattle.std.proofs.Common.{◌∷◌, ◌++◌, length, get_or, take, refl, sym, ap, ◌∙◌, subst, arith}
-use Rattle.std.specs.Prelude.{map, FitsSigned, Contains}
-use Rattle.std.specs.Int.{w64}
+use Rattle.std.specs.Prelude.{map, Contains}
 use Rattle.std.specs.List.{AllByRecursion, AllZip}
 use Rattle.std.proofs.lemmas.List.{append-nil, append_assoc, length-append, take_all}
 use Rattle.dt_aggfn.specs.declared.function.AggFn.{AggFn}
@@ -13,18 +12,18 @@ use Rattle.dt_aggstore.specs.Held.{entry_of, counted, held, bag}
 use Rattle.dt_aggstore.specs.Choice.{IsChoice}
 use Rattle.dt_aggstore.specs.Table.{IsRising, HeldInSome, joined_bag, RowForm, IsTable}
 use Rattle.dt_aggstore.specs.IsAt.{IsAt}
-use Rattle.dt_aggstore.specs.Joining.{keys_of, AreJoined, MakesRows}
+use Rattle.dt_aggstore.specs.Joining.{keys_of, AreJoined, AreShares, MakesRows}
 use Rattle.dt_aggstore.specs.declared.limits.TheConstants.{ADDED_LIMIT}
 use Rattle.dt_aggstore.specs.declared.key.Aggregation.{Aggregation}
 use Rattle.dt_aggstore.specs.declared.joining.Joined.{Joined}
+use Rattle.dt_aggstore.specs.declared.share.Share.{Share}
 use Rattle.dt_aggstore.specs.declared.store.AggStore.{AggStore}
 use Rattle.dt_aggstore.proofs.Filters.{yes_or_no}
 use Rattle.dt_aggstore.proofs.Distinct.{has, has-distinct, has_from_contains, contains_from_has}
 use Rattle.dt_aggstore.proofs.Counting.{names, values_none, values_some}
 use Rattle.dt_aggstore.proofs.Choices.{one_choice}
 use Rattle.dt_aggstore.proofs.Standing.{few_values}
-use Rattle.dt_aggfn.specs.declared.limits.TheConstants.{BAG_LIMIT}
-use Rattle.dt_aggstore.proofs.Gathering.{joined_alike}
+use Rattle.dt_aggstore.proofs.Sharing.{shared_alike}
 use Rattle.dt_aggstore.proofs.Rising.{Key, below_chain, below_apart, all_contains, contains_here, contains_later}
 use Rattle.dt_aggstore.proofs.Rising.{contains_cases}
 
@@ -160,19 +159,6 @@ module _ (aggregation : Aggregation) where
       (λ later. inr (held_values key pasts choices later))
       (append_cases (bag p.events c aggregation key) (joined_bag aggregation key pasts choices) h)
 
--- before all stores nothing is joined
-pub none_joined : (function : AggFn) (bags : Key → List ℤ) (rows : List Joined) → rows ≡ []
-    → ((key : Key) → bags key ≡ [])
-    → AreJoined function bags rows
-none_joined function bags rows e none =
-    let P : List Joined → Type 0 = λ xs. AreJoined function bags xs in
-    subst P (sym e) (record {
-      rising = tt;
-      has = λ key. ((λ (k, lt, e). absurd (omega arith)), (λ some. absurd (some (none key))));
-      cells = tt;
-      words = λ key. subst (λ b. AllByRecursion (λ z. FitsSigned w64 z) b) (sym (none key)) tt;
-    })
-
 -- ---- the table
 
 made_keys : (function : AggFn) (bags : Key → List ℤ) (rows : List Joined) (forms : List RowForm)
@@ -278,35 +264,35 @@ one_table pasts aggregation rows other t u =
     (λ k a. (t.held k).1 (subst (HeldInSome aggregation k pasts) same ((u.held k).0 a))) in
     same_rows answer rows other keys t.answers answers
 
--- ---- a store is joined
+-- ---- a store is shared
 
--- what joining a store does to rows
-abbrev pub JoinsStore : Aggregation → List Joined → List Joined → AggStore → Type 0
-JoinsStore aggregation rows rows' store =
-    (past : Past) (at : IsAt past store) (bags : Key → List ℤ) → AreJoined aggregation.function bags rows
-    → ((key : Key) → length (bags key) < BAG_LIMIT)
-    → AreJoined aggregation.function (λ key. bags key ++ bag past.events at.chosen aggregation key) rows'
+-- what a store's shares do to shares
+abbrev pub SharesStore : Aggregation → List Share → List Share → AggStore → Type 0
+SharesStore aggregation shares shares' store =
+    (past : Past) (at : IsAt past store) (bags : Key → List ℤ) → AreShares aggregation.function bags shares
+    → AreShares aggregation.function (λ key. bags key ++ bag past.events at.chosen aggregation key) shares'
 
-pub store_joined : (aggregation : Aggregation) (pasts : List Past) (stores : List AggStore) (at :
+pub store_shared : (aggregation : Aggregation) (pasts : List Past) (stores : List AggStore) (at :
     AllZip IsAt pasts stores)
-    (i : ℕ) (store : AggStore) (rows rows' : List Joined) → i < length stores → store ≡ get_or stores i store
-    → i * ADDED_LIMIT < BAG_LIMIT → JoinsStore aggregation rows rows' store
-    → AreJoined aggregation.function (Bags-to aggregation pasts stores at i) rows
-    → AreJoined aggregation.function (Bags-to aggregation pasts stores at (i + 1)) rows'
-store_joined aggregation pasts stores at i store rows rows' here is few joins so_far =
+    (i : ℕ) (store : AggStore) (shares shares' : List Share) → i < length stores → store ≡ get_or stores i store
+    → SharesStore aggregation shares shares' store
+    → AreShares aggregation.function (Bags-to aggregation pasts stores at i) shares
+    → AreShares aggregation.function (Bags-to aggregation pasts stores at (i + 1)) shares'
+store_shared aggregation pasts stores at i store shares shares' here is joins so_far =
     let next = bags_next aggregation pasts stores at i store here in
-    joined_alike aggregation.function _ (Bags-to aggregation pasts stores at (i + 1)) rows' (λ key. sym (next.2 key))
-    (subst (JoinsStore aggregation rows rows') is joins next.0 next.1 (Bags-to aggregation pasts stores at i) so_far
-    (λ key. omega (arith, bags_short aggregation pasts stores at i key, few)))
+    shared_alike aggregation.function _ (Bags-to aggregation pasts stores at (i + 1)) shares'
+    (λ key. sym (next.2 key))
+    (subst (SharesStore aggregation shares shares') is joins next.0 next.1 (Bags-to aggregation pasts stores at i)
+    so_far)
 
--- all stores were joined
-pub all_joined : (aggregation : Aggregation) (pasts : List Past) (stores : List AggStore) (at :
+-- all stores were shared
+pub all_shared : (aggregation : Aggregation) (pasts : List Past) (stores : List AggStore) (at :
     AllZip IsAt pasts stores) (n : ℕ)
-    (rows : List Joined) → length stores ≤ n
-    → AreJoined aggregation.function (Bags-to aggregation pasts stores at n) rows
-    → AreJoined aggregation.function (λ key. joined_bag aggregation key pasts (choices_of pasts stores at)) rows
-all_joined aggregation pasts stores at n rows all j =
-    joined_alike aggregation.function (Bags-to aggregation pasts stores at n) _ rows
+    (shares : List Share) → length stores ≤ n
+    → AreShares aggregation.function (Bags-to aggregation pasts stores at n) shares
+    → AreShares aggregation.function (λ key. joined_bag aggregation key pasts (choices_of pasts stores at)) shares
+all_shared aggregation pasts stores at n shares all j =
+    shared_alike aggregation.function (Bags-to aggregation pasts stores at n) _ shares
     (λ key. ap (λ ps. joined_bag aggregation key ps (take n (choices_of pasts stores at)))
     (take_all n pasts (omega (arith, as_many pasts stores at)))
     ∙ ap (joined_bag aggregation key pasts)

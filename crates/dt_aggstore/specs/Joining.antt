@@ -1,14 +1,15 @@
--- Rows while a table is made.
-use Rattle.std.specs.Prelude.{◌≡◌, ◌≢◌, ◌↔◌, ℕ, ◌<◌, ◌≤◌, length, slice_index_or, ℤ, cond, List, [], ◌++◌, map, Contains, FitsSigned}
+-- Shares and rows while a table is made.
+use Rattle.std.specs.Prelude.{◌≡◌, ◌≢◌, ◌↔◌, ℤ, cond, List, [], ◌++◌, map, filter, Contains, FitsSigned}
 use Rattle.std.specs.Int.{w64}
-use Rattle.std.specs.List.{AllByRecursion, AllZip}
+use Rattle.std.specs.List.{AllByRecursion, AllZip, flat_map}
 use Rattle.dt_aggfn.specs.declared.function.AggFn.{AggFn}
 use Rattle.dt_aggfn.specs.Answers.{answer_of}
-use Rattle.dt_aggfn.specs.Cells.{cell_of}
+use Rattle.dt_aggfn.specs.Cells.{cell_of, IsBag}
 use Rattle.dt_aggstore.specs.Keys.{same_key, IsBelow}
 use Rattle.dt_aggstore.specs.Table.{IsRising, RowForm}
 use Rattle.dt_aggstore.specs.declared.key.KeyPart.{KeyPart}
 use Rattle.dt_aggstore.specs.declared.joining.Joined.{Joined}
+use Rattle.dt_aggstore.specs.declared.share.Share.{Share}
 
 abbrev pub key_of : Joined → List KeyPart
 key_of row = row.key.parts.items
@@ -28,11 +29,23 @@ pub record AreJoined (function : AggFn) (bags : List KeyPart → List ℤ) (rows
 abbrev pub joined_at : List KeyPart → List ℤ → (List KeyPart → List ℤ) → List KeyPart → List ℤ
 joined_at key bag bags other = cond (same_key key other) (bags other ++ bag) (bags other)
 
--- So many keys come before a key, and the next one doesn't.
-pub record IsPlaceOf (keys : List (List KeyPart)) (key : List KeyPart) (place : ℕ) : Type 0 where
-  pub within : place ≤ length keys
-  pub before : (k : ℕ) (default : List KeyPart) → k < place → IsBelow (slice_index_or keys k default) key
-  pub rest : (default : List KeyPart) → place < length keys → IsBelow (slice_index_or keys place default) key → ⊥
+-- no key comes after this one
+abbrev pub NoneAfter : List KeyPart → List (List KeyPart) → Type 0
+NoneAfter key keys = AllByRecursion (λ other. IsBelow key other → ⊥) keys
+
+abbrev pub shared_key : Share → List KeyPart
+shared_key share = share.key.now.parts.items
+
+-- Shares make a bag: each has the cell of a bag, and those bags, joined in order, are it.
+pub record MakeBag (function : AggFn) (shares : List Share) (bag : List ℤ) : Type 0 where
+  pub parts : List (List ℤ)
+  pub cells : AllZip (λ share part. IsBag part × (share.cell.now ≡ cell_of function part)) shares parts
+  pub joined : bag ≡ flat_map (λ part. part) parts
+
+-- Shares are of bags: those of each key make its bag.
+abbrev pub AreShares : AggFn → (List KeyPart → List ℤ) → List Share → Type 0
+AreShares function bags shares =
+    (key : List KeyPart) → MakeBag function (filter (λ share. same_key (shared_key share) key) shares) (bags key)
 
 -- Rows of a table are made of joined ones: each has its key, and the answer of its bag.
 abbrev pub MakesRows : AggFn → (List KeyPart → List ℤ) → List Joined → List RowForm → Type 0

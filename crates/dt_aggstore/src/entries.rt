@@ -11,7 +11,7 @@ ghost use Rattle.dt_aggstore.specs.declared.limits.TheConstants.{AGGSIZE_MAX};
 
 use crate::held::Held;
 use crate::key::{Aggregation, Key};
-use crate::limits::AGGSIZE_MAX;
+use crate::limits::{AGGSIZE_MAX, RECENT_MAX};
 use indexmap::IndexMap;
 use std::alloc::{AllocError, Global};
 use std::marker::Model;
@@ -25,8 +25,9 @@ pub(crate) struct Entries {
     /// are let go move over to this one.
     other: IndexMap<Held, usize>,
     room: usize,
-    /// Where in the order the entry stands that was found last: mostly it is the next one too, and no name is hashed.
-    recent: usize,
+    /// Where in the order the entry stands that was found or put last, for each aggregation by its number: mostly it is
+    /// the next one of that aggregation too, and no name is hashed. Where it is another one, the name is looked up.
+    recent: [usize; RECENT_MAX],
 }
 
 impl Model for Entries {
@@ -51,7 +52,7 @@ impl Entries {
             index: IndexMap::with_capacity(alloc, room)?,
             other: IndexMap::with_capacity(alloc, room)?,
             room,
-            recent: 0,
+            recent: [0; RECENT_MAX],
         })
     }
 
@@ -62,13 +63,14 @@ impl Entries {
         ensures found { IfSome result (LiesAt (names_of self.old.items) (entry_of aggregation key.now.parts.items)) }
         ensures none { IfNone result (Contains (names_of self.old.items) (entry_of aggregation key.now.parts.items) → ⊥) }
     {
-        let place = recent_place(&self.index, self.recent, aggregation, key);
+        let number = aggregation.number % RECENT_MAX;
+        let place = recent_place(&self.index, self.recent[number], aggregation, key);
         // mostly the entry that was found last is meant again, and then no name is hashed
         if place.is_some() {
             return place;
         }
         let recent = self.index.get_index_of(&Held::of(aggregation, key))?;
-        self.recent = recent;
+        self.recent[number] = recent;
         Some(self.index[recent])
     }
 
@@ -80,6 +82,7 @@ impl Entries {
         ensures places { self.new.places ≡ self.old.places ++ place ∷ [] }
         ensures room { self.new.room ≡ self.old.room }
     {
+        self.recent[held.aggregation.number % RECENT_MAX] = self.index.len();
         put(&mut self.index, held, place);
     }
 

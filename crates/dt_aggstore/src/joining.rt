@@ -1,9 +1,10 @@
 //! Rows while a table is made.
-ghost use Rattle.std.specs.Prelude.{◌≡◌, ◌<◌, ◌≤◌, ◌+◌, ℕ, ℤ, List, [], ◌∷◌, ◌++◌, length, IfOk, OnOk, vec_len, All};
+ghost use Rattle.std.specs.Prelude.{◌≡◌, ◌<◌, ◌≤◌, ◌+◌, ℕ, ℤ, List, [], ◌∷◌, ◌++◌, ◌-◌, true, length, slice_index_or, IfOk, OnOk, vec_len, All};
 ghost use Rattle.dt_aggfn.specs.Cells.{cell_words, cell_of, IsBag};
 ghost use Rattle.dt_aggfn.specs.declared.limits.TheConstants.{BAG_LIMIT};
 
 use crate::key::Key;
+use crate::share::Share;
 use dt_aggfn::AggFn;
 use std::alloc::{AllocError, Global};
 
@@ -23,49 +24,77 @@ pub(crate) struct Joining {
 }
 
 impl Joining {
-    ghost use Rattle.dt_aggstore.specs.Joining.{AreJoined, joined_at, keys_of, IsPlaceOf};
+    ghost use Rattle.dt_aggstore.specs.declared.joining.Joined.{Joined};
+    ghost use Rattle.dt_aggstore.specs.Joining.{AreJoined, AreShares, joined_at, key_of, keys_of, shared_key, NoneAfter};
+    ghost use Rattle.dt_aggstore.specs.Keys.{key_cmp, same_key};
     ghost use Rattle.dt_aggstore.specs.declared.key.KeyPart.{KeyPart};
+    ghost use Rattle.dt_aggstore.specs.declared.share.Share.{Share};
+    ghost use Rattle.std.specs.List.Sorted.{IsSortedByKey};
 
-    /// Joins the cell of a key's bag. `Err`: there was no memory for a new row.
-    pub(crate) fn join(&mut self, alloc: Global, key: &Key, cell: &[u64]) -> Result<(), AllocError>
-        requires { length cell.now ≡ cell_words self.old.function }
+    /// The rows of shares that are in order of key. `Err`: there was no memory for them.
+    pub(crate) fn of(
+        alloc: Global,
+        function: AggFn,
+        shares: &[Share<'_>],
+    ) -> Result<Self, AllocError>
+        requires words { All (λ (share : Share). length share.cell.now ≡ cell_words function) shares.now }
+        requires sorted { IsSortedByKey shared_key key_cmp shares.now }
+        ensures function { IfOk result (λ joining. joining.function ≡ function) }
+        // where shares are of bags, the rows are joined from those
+        ensures rows { (bags : List KeyPart → List ℤ) → AreShares function bags shares.now
+            → ((key : List KeyPart) → length (bags key) < BAG_LIMIT)
+            → IfOk result (λ joining. AreJoined function bags joining.rows.items) }
+    {
+        let mut joining = Joining {
+            function,
+            rows: Vec::new(alloc),
+        };
+        for share in shares {
+            joining.join(alloc, share)?;
+        }
+        Ok(joining)
+    }
+
+    /// Joins a share. `Err`: there was no memory for a new row.
+    fn join(&mut self, alloc: Global, share: &Share<'_>) -> Result<(), AllocError>
+        requires { length share.now.cell.now ≡ cell_words self.old.function }
         ensures function { self.new.function ≡ self.old.function }
-        // on success rows joined from bags are those of the same bags with this one added at its key
+        // On success rows joined from bags, of which none comes after the share's key, are those of the same bags with
+        // the share's added at its key.
         ensures joins { (bags : List KeyPart → List ℤ) (bag : List ℤ)
-            → AreJoined self.old.function bags self.old.rows.items → length (bags key.now.parts.items) < BAG_LIMIT
-            → IsBag bag → cell.now ≡ cell_of self.old.function bag
-            → OnOk result (AreJoined self.old.function (joined_at key.now.parts.items bag bags)
+            → AreJoined self.old.function bags self.old.rows.items
+            → NoneAfter (shared_key share.now) (keys_of self.old.rows.items)
+            → length (bags (shared_key share.now)) < BAG_LIMIT
+            → IsBag bag → share.now.cell.now ≡ cell_of self.old.function bag
+            → OnOk result (AreJoined self.old.function (joined_at (shared_key share.now) bag bags)
             self.new.rows.items) }
     {
-        let place = self.place_of(key);
-        // the key has its row, so its cell is merged in place: only a new row takes memory
-        if place < self.rows.len() && self.rows[place].key.is(key) {
+        // rows rise by key, and the share's key is before none of theirs: if it has a row, that is the last one
+        if self.ends_with(share.key) {
+            let place = self.rows.len() - 1;
             let function = self.function;
             let row = &mut self.rows[place];
-            function.merge(&mut row.cell, cell);
+            function.merge(&mut row.cell, share.cell);
             return Ok(());
         }
-        let cell = Vec::from_slice(alloc, cell)?;
-        self.rows.insert(
-            place,
-            Joined {
-                key: key.copy(),
-                cell,
-            },
-        )?;
+        let cell = Vec::from_slice(alloc, share.cell)?;
+        self.rows.push(Joined {
+            key: share.key.copy(),
+            cell,
+        })?;
         Ok(())
     }
 
-    /// How many rows come before a key.
-    fn place_of(&self, key: &Key) -> usize
-        ensures { IsPlaceOf (keys_of self.now.rows.items) key.now.parts.items result }
+    /// Whether the last row has this key.
+    fn ends_with(&self, key: &Key) -> bool
+        ensures some { result ≡ true → 0 < length self.now.rows.items }
+        ensures last { (row : Joined) → 0 < length self.now.rows.items
+            → result ≡ same_key (key_of (slice_index_or self.now.rows.items (length self.now.rows.items - 1) row))
+            key.now.parts.items }
     {
-        for (place, row) in self.rows.iter().enumerate() {
-            // rows rise by key: from here on none comes before it
-            if row.key.order(key).is_ge() {
-                return place;
-            }
+        match self.rows.last() {
+            Some(row) => row.key.is(key),
+            None => false,
         }
-        self.rows.len()
     }
 }

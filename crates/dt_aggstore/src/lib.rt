@@ -17,6 +17,7 @@ mod key;
 mod laws;
 mod limit_laws;
 mod limits;
+mod share;
 mod store;
 mod table;
 

@@ -13,3 +13,6 @@ pub const STORES_MAX: usize = 64;
 
 /// The least bytes that an entry costs: its head and a cell of one word.
 pub(crate) const COST_MIN: usize = 16;
+
+/// For how many aggregations, by their numbers, a store remembers an entry each: as many as a consumer has at most.
+pub(crate) const RECENT_MAX: usize = 64;

@@ -1,21 +1,24 @@
 //! The table of an aggregation over the stores of all processors.
-ghost use Rattle.std.specs.Prelude.{◌≡◌, ◌≤◌, ◌<◌, ◌+◌, ℕ, ℤ, List, [], ◌++◌, map, length, IfOk, OnOk};
+ghost use Rattle.std.specs.Prelude.{◌≡◌, ◌≤◌, ◌<◌, ◌+◌, ℕ, ℤ, List, [], ◌++◌, map, length, All, IfOk, OnOk};
 ghost use Rattle.std.specs.List.{AllZip};
 ghost use Rattle.dt_aggfn.specs.declared.limits.TheConstants.{BAG_LIMIT};
 ghost use Rattle.dt_aggstore.specs.Entries.{form_of_row};
 ghost use Rattle.dt_aggstore.specs.History.{Past};
 ghost use Rattle.dt_aggstore.specs.Held.{bag};
 ghost use Rattle.dt_aggstore.specs.IsAt.{IsAt};
-ghost use Rattle.dt_aggstore.specs.Joining.{AreJoined, MakesRows};
+ghost use Rattle.dt_aggstore.specs.Joining.{AreJoined, AreShares, MakesRows};
 ghost use Rattle.dt_aggstore.specs.Table.{IsTable};
 ghost use Rattle.dt_aggstore.specs.TableOf.{table_of};
+ghost use Rattle.dt_aggfn.specs.Cells.{cell_words};
 ghost use Rattle.dt_aggstore.specs.declared.key.KeyPart.{KeyPart};
+ghost use Rattle.dt_aggstore.specs.declared.share.Share.{Share};
 ghost use Rattle.dt_aggstore.specs.declared.limits.TheConstants.{STORES_MAX, ADDED_LIMIT};
 
 use crate::cells::cell_at;
 use crate::joining::Joining;
 use crate::key::{Aggregation, Key};
 use crate::limits::STORES_MAX;
+use crate::share::{Share, sort};
 use crate::store::AggStore;
 use dt_aggfn::{Answer, cell_length};
 use std::alloc::{AllocError, Global};
@@ -42,31 +45,29 @@ impl AggStore {
         ensures value { (pasts : List Past) → AllZip IsAt pasts stores.now
             → IfOk result (λ rows. map form_of_row rows.items ≡ table_of pasts aggregation) }
     {
-        let mut joining = Joining {
-            function: aggregation.function,
-            rows: Vec::new(alloc),
-        };
+        let mut shares = Vec::new(alloc);
         for store in stores {
-            store.join_into(alloc, aggregation, &mut joining)?;
+            store.share_into(aggregation, &mut shares)?;
         }
+        sort(&mut shares)?;
+        let joining = Joining::of(alloc, aggregation.function, &shares)?;
         rows_of(alloc, &joining)
     }
 
-    /// Joins the bags of an aggregation's entries. `Err`: there was no memory for new rows.
-    fn join_into(
-        &self,
-        alloc: Global,
+    /// Puts what this store has of an aggregation's keys at the end of shares. `Err`: there was no memory for it.
+    fn share_into<'a>(
+        &'a self,
         aggregation: Aggregation,
-        joining: &mut Joining,
+        shares: &mut Vec<Share<'a>>,
     ) -> Result<(), AllocError>
-        requires { joining.old.function ≡ aggregation.function }
-        ensures function { joining.new.function ≡ joining.old.function }
-        // on success rows joined from bags are those of the same bags with what this store keeps of each key
-        ensures joins { (past : Past) (at : IsAt past self.now) (bags : List KeyPart → List ℤ)
-            → AreJoined aggregation.function bags joining.old.rows.items
-            → ((key : List KeyPart) → length (bags key) < BAG_LIMIT)
-            → OnOk result (AreJoined aggregation.function
-            (λ key. bags key ++ bag past.events at.chosen aggregation key) joining.new.rows.items) }
+        ensures words { All (λ (share : Share). length share.cell.now ≡ cell_words aggregation.function)
+            shares.old.items
+            → All (λ (share : Share). length share.cell.now ≡ cell_words aggregation.function) shares.new.items }
+        // on success shares of bags are those of the same bags with what this store keeps of each key
+        ensures shares { (past : Past) (at : IsAt past self.now) (bags : List KeyPart → List ℤ)
+            → AreShares aggregation.function bags shares.old.items
+            → OnOk result (AreShares aggregation.function
+            (λ key. bags key ++ bag past.events at.chosen aggregation key) shares.new.items) }
     {
         cell_length();
         let mut place = 0;
@@ -74,7 +75,10 @@ impl AggStore {
             let words = held.aggregation.function.cell_words();
             if aggregation.is(held.aggregation) {
                 let cell = cell_at(&self.cells, place, words);
-                joining.join(alloc, &held.key, cell)?;
+                shares.push(Share {
+                    key: &held.key,
+                    cell,
+                })?;
             }
             place += words;
         }

@@ -1,18 +1,22 @@
--- One store more is joined.
-use Rattle.std.proofs.Common.{◌<◌, ℤ, List, length, Result, refl, ◌∙◌, subst, arith}
-use Rattle.std.specs.Prelude.{map, IfOk}
+-- One store more is shared.
+use Rattle.std.proofs.Common.{◌≡◌, ◌<◌, ℤ, List, length, Result, refl, sym, subst, arith}
+use Rattle.std.specs.Prelude.{All, map, IfOk}
 use Rattle.dt_aggfn.specs.declared.limits.TheConstants.{BAG_LIMIT}
 use Rattle.dt_aggfn.specs.declared.function.AggFn.{AggFn}
 use Rattle.dt_aggstore.specs.Entries.{form_of_row}
 use Rattle.dt_aggstore.specs.Table.{joined_bag}
-use Rattle.dt_aggstore.specs.Joining.{AreJoined, MakesRows}
+use Rattle.dt_aggstore.specs.Joining.{AreJoined, AreShares, MakesRows}
+use Rattle.dt_aggstore.specs.declared.share.Share.{Share}
+use Rattle.dt_aggfn.specs.Cells.{cell_words}
+use Rattle.std.proofs.lemmas.List.Elements.{All-nil}
+use Rattle.dt_aggstore.proofs.Sharing.{none_shared}
 use Rattle.std.proofs.lemmas.Result.{IfOk-weaker}
 use Rattle.std.specs.Global.{Vec}
 use Rattle.std.specs.declared.alloc.AllocError.{AllocError}
 use Rattle.dt_aggstore.specs.declared.joining.Joined.{Joined}
 use Rattle.dt_aggstore.specs.declared.table.Row.{Row}
 use Rattle.dt_aggstore.proofs.Rising.{Key}
-use Rattle.dt_aggstore.proofs.Tables.{choices_of, choices_are, none_joined, store_joined, all_joined, all_short}
+use Rattle.dt_aggstore.proofs.Tables.{choices_of, choices_are, store_shared, all_shared, all_short}
 use Rattle.dt_aggstore.proofs.Tables.{table_is, one_table}
 use Rattle.dt_aggstore.proofs.SomeTables.{is_table}
 use Rattle.dt_aggstore.specs.TableOf.{table_of}
@@ -20,19 +24,27 @@ use Rattle.dt_aggstore.proofs.store.AggStore.merge_all.Goals as goal
 
 pub loop-store-init : goal.loop-store-init
 loop-store-init c = record {
-  function = refl;
-  joins = λ pasts at. none_joined c.args.aggregation.function _ c.new.result.items c.new.ensures.items (λ key. refl);
+  words = subst (All (λ (share : Share). length share.cell.now ≡ cell_words c.args.aggregation.function))
+      (sym c.new-shares.ensures.items)
+      (All-nil (λ (share : Share). length share.cell.now ≡ cell_words c.args.aggregation.function));
+  shares = λ pasts at. none_shared c.args.aggregation.function _ c.new-shares.result.items
+      c.new-shares.ensures.items (λ key. refl);
 }
 
 pub loop-store-preserved : goal.loop-store-preserved
 loop-store-preserved c = record {
-  function = c.in_ok-join_into.ensures.function ∙ c.loop-store.invariant.function;
-  joins = λ pasts at.
-      store_joined c.args.aggregation pasts c.args.stores.now at c.loop-store.store-index c.store-item.result
-      c.loop-store.joining.rows.items c.join_into.new.joining.rows.items c.loop-store-test.true c.store-item.is
-      (omega (arith, c.requires, c.loop-store-test.true)) c.in_ok-join_into.ensures.joins
-      (c.loop-store.invariant.joins pasts at);
+  words = c.in_ok-share_into.ensures.words c.loop-store.invariant.words;
+  shares = λ pasts at.
+      store_shared c.args.aggregation pasts c.args.stores.now at c.loop-store.store-index c.store-item.result
+      c.loop-store.shares.items c.share_into.new.shares.items c.loop-store-test.true c.store-item.is
+      c.in_ok-share_into.ensures.shares (c.loop-store.invariant.shares pasts at);
 }
+
+pub of-requires-clause-words : goal.of-requires-clause-words
+of-requires-clause-words c =
+    subst (All (λ (share : Share). length share.cell.now ≡ cell_words c.args.aggregation.function))
+    (sym c.deref.ensures.value)
+    (c.in_ok-sort.ensures.words (cell_words c.args.aggregation.function) c.loop-store.invariant.words)
 
 -- what the rows of a function are
 abbrev AnswersRows : Result (Vec Row) AllocError → List Joined → AggFn → Type 0
@@ -44,16 +56,22 @@ pub returns-clause-table : goal.returns-clause-table
 returns-clause-table c = λ pasts at.
     let aggregation = c.args.aggregation in
     let stores = c.args.stores.now in
-    let rows = c.loop-store.joining.rows.items in
-    let answers = subst (AnswersRows c.rows_of.result rows) c.loop-store.invariant.function c.rows_of.ensures in
     let choices = choices_of pasts stores at in
-    let j = all_joined aggregation pasts stores at c.loop-store.store-index rows c.loop-store-test.false
-    (c.loop-store.invariant.joins pasts at) in
+    let bags : Key → List ℤ = λ key. joined_bag aggregation key pasts choices in
+    let few : (key : Key) → length (bags key) < BAG_LIMIT =
+    λ key. omega (arith, c.requires, all_short aggregation pasts stores at key) in
+    let shares = all_shared aggregation pasts stores at c.loop-store.store-index c.loop-store.shares.items
+    c.loop-store-test.false (c.loop-store.invariant.shares pasts at) in
+    let j = c.in_ok-joining.ensures.rows bags
+    (subst (AreShares aggregation.function bags) (sym c.deref.ensures.value)
+    (c.in_ok-sort.ensures.bags aggregation.function bags shares))
+    few in
+    let answers = subst (AnswersRows c.rows_of.result c.in_ok-joining.joining.rows.items)
+    c.in_ok-joining.ensures.function c.rows_of.ensures in
     IfOk-weaker c.rows_of.result _ _
-    (λ made m. table_is aggregation pasts choices rows (map form_of_row made.items)
+    (λ made m. table_is aggregation pasts choices c.in_ok-joining.joining.rows.items (map form_of_row made.items)
     (choices_are pasts stores at) j m)
-    (answers (λ key. joined_bag aggregation key pasts choices) j
-    (λ key. omega (arith, c.requires, all_short aggregation pasts stores at key)))
+    (answers bags j few)
 
 pub returns-clause-value : goal.returns-clause-value
 returns-clause-value c = λ pasts at.

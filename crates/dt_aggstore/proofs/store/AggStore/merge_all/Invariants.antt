@@ -1,16 +1,19 @@
--- The bags of the stores so far are joined.
-use Rattle.std.proofs.Common.{◌≡◌, List}
+-- The bags of the stores so far are shared.
+use Rattle.std.proofs.Common.{◌≡◌, List, length}
+use Rattle.std.specs.Prelude.{All}
 use Rattle.std.specs.List.{AllZip}
+use Rattle.dt_aggfn.specs.Cells.{cell_words}
 use Rattle.dt_aggstore.specs.History.{Past}
 use Rattle.dt_aggstore.specs.IsAt.{IsAt}
-use Rattle.dt_aggstore.specs.Joining.{AreJoined}
+use Rattle.dt_aggstore.specs.Joining.{AreShares}
+use Rattle.dt_aggstore.specs.declared.share.Share.{Share}
 use Rattle.dt_aggstore.proofs.Tables.{Bags-to}
 use Rattle.dt_aggstore.proofs.store.AggStore.merge_all.Given as goal
 
 abbrev pub invariant-loop-store : goal.invariant-loop-store
 invariant-loop-store l = record {
-  function : l.joining.function ≡ l.aggregation.function;
-  joins : (pasts : List Past) (at : AllZip IsAt pasts l.stores)
-      → AreJoined l.aggregation.function
-      (Bags-to l.aggregation pasts l.stores at l.store-index) l.joining.rows.items;
+  words : All (λ (share : Share). length share.cell.now ≡ cell_words l.aggregation.function) l.shares.items;
+  shares : (pasts : List Past) (at : AllZip IsAt pasts l.stores)
+      → AreShares l.aggregation.function
+      (Bags-to l.aggregation pasts l.stores at l.store-index) l.shares.items;
 }

@@ -1,0 +1,24 @@
+-- The bags of the entries so far are shared.
+use Rattle.std.proofs.Common.{◌≡◌, List, take, ℤ, length}
+use Rattle.std.specs.Prelude.{All}
+use Rattle.dt_aggfn.specs.Cells.{cell_words}
+use Rattle.dt_aggstore.specs.Entries.{names_of, words_of}
+use Rattle.dt_aggstore.specs.History.{Past}
+use Rattle.dt_aggstore.specs.IsAt.{IsAt}
+use Rattle.dt_aggstore.specs.Joining.{AreShares}
+use Rattle.dt_aggstore.specs.declared.share.Share.{Share}
+use Rattle.dt_aggstore.proofs.Rising.{Key}
+use Rattle.dt_aggstore.proofs.Gathering.{Gathered}
+use Rattle.dt_aggstore.proofs.store.AggStore.share_into.Given as goal
+
+abbrev pub invariant-loop-held : goal.invariant-loop-held
+invariant-loop-held l = record {
+  place_is : l.place ≡ words_of (names_of (take l.held-index l.self.entries.items));
+  words : All (λ (share : Share). length share.cell.now ≡ cell_words l.aggregation.function) l.fn.shares.items
+      → All (λ (share : Share). length share.cell.now ≡ cell_words l.aggregation.function) l.shares.items;
+  shares : (past : Past) (at : IsAt past l.self) (bags : Key → List ℤ)
+      → AreShares l.aggregation.function bags l.fn.shares.items
+      → AreShares l.aggregation.function
+      (Gathered past l.self at l.aggregation bags (names_of (take l.held-index l.self.entries.items)))
+      l.shares.items;
+}
