@@ -4,19 +4,22 @@ ghost use denote.RawPtr.{InBlock};
 ghost use Rattle.dt_trail.specs.Placed.{in_block_prop};
 
 use crate::law::Law;
+use crate::limits::WIDENINGS_MAX;
 use crate::rule::{About, Row, View};
 use atomic_blocks::rows::{Rows, Seat};
 use std::alloc::Global;
 
-// Row 0 is the root, which has a cell for each block, and one more.
+// Row 0 is the root, which has a cell for each block, and one more: so a note that looks behind the last block finds none.
 pub const ROOT: u64 = 0;
 
-pub const MOST_BLOCKS: u64 = 32;
+pub const MOST_BLOCKS: u64 = WIDENINGS_MAX + 1;
 
 pub const ROOT_LEN: usize = 33;
 
+// What a handle does its steps by, and what it knows.
 pub type Place<K> = Seat<(), View<K>, Global>;
 
+/// The rows of cells, of which row 0 is the root and each other a block, and what is fixed of them.
 pub struct Inner<K, L: Law<K>> {
     pub rows: Rows<(), View<K>, About<K>, Row<L>, Global>,
     pub about: About<K>,

@@ -10,9 +10,10 @@ use crate::door::Door;
 use crate::inner::{Inner, Place};
 use crate::item::Item;
 use crate::law::Law;
-use crate::moves::{arrive, lay_in, set_next, show_all};
+use crate::moves::{arrive, lay_in, set_next, show_all, tell};
 use crate::note::TrailNote;
 use crate::storage;
+use crate::told::Told;
 use std::alloc::{AllocError, Global};
 use std::marker::{Brand, Model};
 use std::sync::Arc;
@@ -145,6 +146,24 @@ impl<K, L: Law<K>> TrailOwner<K, L> {
         self.seat = Some(right);
         note.door = self.door;
         note.count = self.count;
+    }
+
+    /// The whole row as it is now, to be told to a note of the row.
+    pub fn told(&mut self) -> Told<K>
+        ensures told { (result.row ≡ self.old.row.id) × (result.knows ≡ self.old.knows) }
+        ensures same { self.new ≡ self.old }
+    {
+        let Some(mut right) = self.seat.take() else {
+            unreachable!()
+        };
+        let inner: &Inner<K, L> = &self.cells;
+        let seat = tell(inner, &mut right);
+        self.seat = Some(right);
+        Told {
+            seat,
+            door: self.door,
+            count: self.count,
+        }
     }
 
     /// Adds a block of empty cells at the row's end, on behalf of a note, which then knows the whole row. It takes the memory of
