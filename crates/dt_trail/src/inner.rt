@@ -14,7 +14,7 @@ pub const ROOT: u64 = 0;
 
 pub const MOST_BLOCKS: u64 = WIDENINGS_MAX + 1;
 
-pub const ROOT_LEN: usize = 33;
+pub const ROOT_LEN: usize = MOST_BLOCKS as usize + 1;
 
 // What a handle does its steps by, and what it knows.
 pub type Place<K> = Seat<(), View<K>, Global>;

@@ -50,12 +50,10 @@ pub fn look<K, L: Law<K>>(inner: &Inner<K, L>, seat: &mut Place<K>, door: Door, 
     ensures next { MatchBool (result == 0) (seat.new.me ≡ seat.old.me) (Finds seat.old.me result seat.new.me) }
     ensures lawful { L.lawful inner.now.about.account seat.new.me.view.knows }
 {
-    inner.rows.load::<Reads<L>>(
-        seat,
-        door.block + 1,
-        door.link,
-        (count - door.from) as usize,
-    )
+    let next = (count - door.from) as usize;
+    inner
+        .rows
+        .load::<Reads<L>>(seat, door.block + 1, door.link, next)
 }
 
 /// Sets the first empty cell, in the note's seat. The owner's right goes in, and comes out again.
@@ -80,13 +78,11 @@ pub fn set_next<P: Picked, K, L: Law<K>>(
 {
     let root = inner.about.root;
     inner.rows.join_seat::<Lends>(seat, right, ROOT, root);
-    inner.rows.store::<Sets<P>>(
-        seat,
-        door.block + 1,
-        door.link,
-        (count - door.from) as usize,
-        item.code(),
-    );
+    let empty = (count - door.from) as usize;
+    let word = item.code();
+    inner
+        .rows
+        .store::<Sets<P>>(seat, door.block + 1, door.link, empty, word);
     inner.rows.split_seat::<Lends>(seat, ROOT, root)
 }
 

@@ -18,13 +18,16 @@ use atomic_blocks::rows::Rows;
 use std::alloc::{AllocError, Global};
 use std::sync::Arc;
 
-/// The names of what a new row gives.
+/// A row of cells, each written once. It lives as long as its owner or one of its notes does.
 pub struct Trail;
 
 impl Trail {
     ghost use Rattle.dt_trail.specs.Known.{known, AreNew};
 
-    /// A row of empty cells, with its owner and its notes, which are numbered from 0.
+    /// A row of empty cells for an account, with its owner and its notes, which are numbered from 0: the session's, and then those of
+    /// the processors. The empty row has to be lawful for the account. It takes 16 bytes a cell, and some for each note.
+    ///
+    /// `Err`: there was no memory.
     pub fn new<K: Drop, L: Law<K>>(
         alloc: Global,
         account: K,

@@ -34,7 +34,7 @@ store-requires g c =
       j.1 ∙ r.seat.0.1,
       r.door.1.placed,
       (let s = r.door.1.small in omega (arith, r.at.0, r.at.1, r.at.2)),
-      sets_as g.L.Law.lawful k.rows.key k.about k.keyed.0 _ _ _ _ _ _ _ _ _ x _ (c.code.ensures.word ∙ ap code (sym r.picked)) is r.door.1 r.at.0 r.at.1 r.at.2 (ap whose r.picked ∙ r.item) (subst IsReal (sym r.picked) c.code.ensures.real) ok,
+      sets_as g.L.Law.lawful k.rows.key k.about k.keyed.0 _ _ _ _ _ _ _ _ _ x _ (c.code-word.ensures.word ∙ ap code (sym r.picked)) is r.door.1 r.at.0 r.at.1 r.at.2 (ap whose r.picked ∙ r.item) (subst IsReal (sym r.picked) c.code-word.ensures.real) ok,
     )
 
 pub split_seat-requires : goal.split_seat-requires
