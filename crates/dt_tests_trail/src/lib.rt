@@ -1,0 +1,13 @@
+//! Tests of `dt_trail`, by its public calls alone. The crate has no function of its own.
+#![tactic(auto)]
+
+#[cfg(test)]
+mod items;
+#[cfg(test)]
+mod longest;
+#[cfg(test)]
+mod rows;
+#[cfg(test)]
+mod threads;
+#[cfg(test)]
+mod writers;

@@ -1,0 +1,175 @@
+-- Each step on a word keeps the rule.
+use Rattle.std.proofs.Common.{◌≡◌, ◌≢◌, ℕ, suc, ◌+◌, ◌<◌, ◌≤◌, ◌^◌, List, [], ◌∷◌, ◌++◌, length, true, refl, sym, ap, ◌∙◌, subst, arith, append_assoc, length-append, eq-eqb, ne_eqb}
+use Rattle.std.specs.Prelude.{Option, Some, MatchBool}
+use native.Mathlib.Decide.{dec_le}
+use lib.ListN.{get_elem?}
+use denote.RawPtr.{Ptr, InBlock}
+use Rattle.atomic_blocks.specs.Cells.{Row, State, Step, step, no_row, row, cell_in, word_of, link_of, with_word, Goes, Allows, AllowsLink}
+use Rattle.dt_trail.specs.declared.door.Door.{Door}
+use Rattle.dt_trail.specs.declared.rule.Site.{Site}
+use Rattle.dt_trail.specs.declared.rule.View.{View}
+use Rattle.dt_trail.specs.Items.{Item, code, IsReal, AllReal, own, code_at, StartsWith}
+use Rattle.dt_trail.specs.Blocks.{before, Stands}
+use Rattle.dt_trail.specs.Rule.{Slot, Fits, Kept, Turn, appender, through, door_at, pushed, reviewed, Finds, IsCompared, IsRead, IsTurned, IsSeen}
+use Rattle.dt_trail.proofs.Begins.{own_rest, own_longer, not_own, All-at, code_some, code_behind}
+use Rattle.dt_trail.proofs.Flats.{before_next, before_all, before_le}
+use Rattle.dt_trail.proofs.Fitting.{root_is, in_root, in_block, word_is, quiet, quiet_link, fits_again}
+
+module _ {K : Type 0} (lawful : K → List Item → Type 0) (root : Ptr) (acct : K) where
+  abbrev H : State Slot (View K) → Type 0
+  H = Kept lawful root acct
+
+  -- a read of the first cell that the seat doesn't know
+  pub reads : (id : ℕ) (m : Turn K) (i : ℕ) → 0 < m.view.door.len → m.view.door.from + i ≡ length m.view.knows → i < m.view.door.len
+      → Allows H id m (suc m.view.door.block) m.view.door.link.ptr i (λ n. n) (IsRead lawful (step (suc m.view.door.block) m.view.door.link.ptr i 0 0) m)
+  reads id m i pos here near s h at = (in_block lawful root acct s h d i st near, λ _. by_rest f.begins.0 f.begins.1)
+    where
+      v : View K
+      v = m.view
+
+      d : Door
+      d = m.view.door
+
+      f : Fits h.world id m.view
+      f = h.each id m.view at
+
+      st : Stands h.world.blocks m.view.door
+      st = f.stands pos
+
+      k : ℕ
+      k = suc m.view.door.block
+
+      st0 : Step
+      st0 = step (suc m.view.door.block) m.view.door.link.ptr i 0 0
+
+      items : List Item
+      items = h.world.items
+
+      found : ℕ
+      found = word_of s.rows (suc m.view.door.block) i
+
+      found_is : found ≡ code_at items (length m.view.knows)
+      found_is = word_is lawful root acct s h d i st near ∙ ap (code_at items) here
+
+      by_rest : (rest : List Item) → items ≡ v.knows ++ rest → Goes H s (with_word s.rows k i found) id m (IsRead lawful st0 m found)
+      by_rest [] e =
+          let none : found ≡ 0 = found_is ∙ (ap (λ l. code_at l (length v.knows)) e ∙ code_behind v.knows []) in
+          quiet lawful root acct s h k i id m v (IsRead lawful st0 m found) (fits_again lawful root acct s h id v f)
+          ((λ y ey. ([], subst (λ z. lawful z (v.knows ++ [])) (sym (f.account y ey ∙ h.keyed)) (subst (lawful acct) e h.shows.legal))), subst (λ b. MatchBool b (m ≡ m) (Finds m found m)) (sym (eq-eqb found 0 none)) refl)
+      by_rest (x ∷ xs) e =
+          let is : found ≡ code x = found_is ∙ (ap (λ l. code_at l (length v.knows)) e ∙ code_behind v.knows (x ∷ xs)) in
+          let real : IsReal x = All-at v.knows x xs (subst AllReal e h.shows.real) in
+          let some : found ≢ 0 = (λ z. let o : 0 < code x = code_some x in omega arith) in
+          let w : View K = pushed v x in
+          let next : StartsWith items w.knows = (xs, e ∙ sym (append_assoc v.knows (x ∷ []) xs)) in
+          let begin : StartsWith w.knows v.knows = (x ∷ [], refl) in
+          quiet lawful root acct s h k i id m w (IsRead lawful st0 m found)
+          (fits_again lawful root acct s h id w record {
+            account = f.account;
+            begins = next;
+            live = (λ l. let g = f.live l in (g.0, g.1, own_longer v.note items v.knows w.knows next begin g.2));
+            owns = (λ o. absurd (omega (arith, ap length (sym (f.owns o).1 ∙ e), length-append v.knows (x ∷ xs))));
+            makes = f.makes;
+            had = f.had;
+            stands = f.stands;
+            site = f.site;
+            plan = f.plan;
+          }) (
+            (λ y ey. (next.0, subst (λ z. lawful z (w.knows ++ next.0)) (sym (f.account y ey ∙ h.keyed)) (subst (lawful acct) next.1 h.shows.legal))),
+            subst (λ b. MatchBool b (reviewed m w ≡ m) (Finds m found (reviewed m w))) (sym (ne_eqb found 0 some))
+                record { item = x; shown = is; real = real; other = (λ l. not_own v.note x xs (own_rest v.note items v.knows (x ∷ xs, e) (f.live l).2)); next = refl },
+          )
+
+  -- a read of the root: what the next block is
+  pub turns : (id : ℕ) (m : Turn K) (i : ℕ) → 0 < m.view.door.len → i ≡ suc m.view.door.block → i < 33
+      → Allows H id m 0 root i (λ n. n) (IsTurned lawful (step 0 root i 0 0) m)
+  turns id m i pos ei near s h at = (in_root lawful root acct s h i near, λ _. by_case (dec_le (suc i) (length h.world.blocks)))
+    where
+      v : View K
+      v = m.view
+
+      d : Door
+      d = m.view.door
+
+      f : Fits h.world id m.view
+      f = h.each id m.view at
+
+      st : Stands h.world.blocks m.view.door
+      st = f.stands pos
+
+      bs : List (Row Slot)
+      bs = h.world.blocks
+
+      found : ℕ
+      found = word_of s.rows 0 i
+
+      st0 : Step
+      st0 = step 0 root i 0 0
+
+      found_is : found ≡ length (row bs i).cells
+      found_is = ap (λ (r : Row Slot). (cell_in r.cells i).word) (root_is lawful root acct s h) ∙ h.laid.sizes i near
+
+      from_is : before bs i ≡ d.from + d.len
+      from_is = ap (before bs) ei ∙ (before_next bs d.block ∙ (λ t. sym st.from t + sym st.len t))
+
+      legal : (x : K) → v.account ≡ Some x → (rest : List Item) × lawful x (v.knows ++ rest)
+      legal x e = (f.begins.0, subst (λ z. lawful z (v.knows ++ f.begins.0)) (sym (f.account x e ∙ h.keyed)) (subst (lawful acct) f.begins.1 h.shows.legal))
+
+      Next : View K → Type 0
+      Next u = (p : Ptr) × InBlock p × (found < 2 ^ 40) × (d.from + d.len + found < 2 ^ 60) × (i < 32) × (reviewed m u ≡ reviewed m (through v (door_at i (d.from + d.len) found p)))
+
+      by_case : Dec (suc i ≤ length bs) → Goes H s (with_word s.rows 0 i found) id m (IsTurned lawful st0 m found)
+      by_case (yes there) =
+          let pl = h.laid.places i (omega arith) in
+          let p : Ptr = (row bs i).at in
+          let some : found ≢ 0 = (λ z. let x : 0 < length (row bs i).cells = pl.2 in let y : length (row bs i).cells ≡ 0 = sym found_is ∙ z in omega arith) in
+          let few : length bs ≤ 32 = h.laid.few in
+          let w : View K = through v (door_at i (d.from + d.len) found p) in
+          quiet lawful root acct s h 0 i id m w (IsTurned lawful st0 m found)
+          (fits_again lawful root acct s h id w record {
+            account = f.account;
+            begins = f.begins;
+            live = f.live;
+            owns = f.owns;
+            makes = f.makes;
+            had = f.had;
+            stands = (λ _. record { near = omega arith; from = sym from_is; len = found_is; at = refl });
+            site = f.site;
+            plan = f.plan;
+          }) (
+            legal,
+            subst (λ b. MatchBool b ((reviewed m w ≡ m) × (v.owns ≡ true → v.site.cells ≡ d.from + d.len)) (Next w)) (sym (ne_eqb found 0 some))
+                (p, pl.1, subst (λ (n : ℕ). n < 2 ^ 40) (sym found_is) pl.3, (let a = before_le bs i in let b = h.laid.wide in let e = from_is in let g = found_is in omega arith), omega arith, refl),
+          )
+      by_case (no none) =
+          let gone : row bs i ≡ no_row = lib.ListN.get_or-eq_default bs no_row (omega arith) in
+          let empty : found ≡ 0 = found_is ∙ ap (λ (r : Row Slot). length r.cells) gone in
+          quiet lawful root acct s h 0 i id m v (IsTurned lawful st0 m found) (fits_again lawful root acct s h id v f) (
+            legal,
+            subst (λ b. MatchBool b ((m ≡ m) × (v.owns ≡ true → v.site.cells ≡ d.from + d.len)) (Next v)) (sym (eq-eqb found 0 empty))
+                (refl, λ o. (f.site o).1 ∙ (sym (before_all bs i (omega arith)) ∙ from_is)),
+          )
+
+  -- a read of the root: where the block lies
+  pub sees : (id : ℕ) (m : Turn K) (i : ℕ) → 0 < m.view.door.len → i ≡ m.view.door.block → i < 33
+      → AllowsLink H id m 0 root i (λ q. q) (IsSeen 0 i m)
+  sees id m i pos ei near s h at =
+      let f = h.each id m.view at in
+      let st = f.stands pos in
+      let there : i < length h.world.blocks = subst (λ (n : ℕ). n < length h.world.blocks) (sym ei) st.near in
+      let pl = h.laid.places i there in (
+        in_root lawful root acct s h i near,
+        quiet_link lawful root acct s h 0 i id m m.view (IsSeen 0 i m (link_of s.rows 0 i)) (fits_again lawful root acct s h id m.view f)
+            (refl, ap (λ (r : Row Slot). (cell_in r.cells i).link) (root_is lawful root acct s h) ∙ (pl.0 ∙ (ap (λ (n : ℕ). (row h.world.blocks n).at) ei ∙ st.at))),
+      )
+
+  -- a note that has the owner's right compares
+  pub compares : (id : ℕ) (a : Option K) (n : ℕ) (had ks : List Item) (d : Door) (t : Site) (m : Turn K) → m.view ≡ appender a n had ks d t → Allows H id m 0 root 0 (λ x. x) (IsCompared (step 0 root 0 0 0) m)
+  compares id a n had ks d t m e s h at =
+      let f = h.each id m.view at in
+      let a = f.had (ap (λ (v : View K). v.owns) e) (ap (λ (v : View K). v.live) e) in
+      let whole = (f.owns (ap (λ (v : View K). v.owns) e)).1 in (
+        in_root lawful root acct s h 0 (omega arith),
+        λ _. quiet lawful root acct s h 0 0 id m m.view (IsCompared (step 0 root 0 0 0) m (word_of s.rows 0 0)) (fits_again lawful root acct s h id m.view f)
+            (refl, (subst (λ l. StartsWith l m.view.had) whole a.0, ap (own m.view.note) (sym whole) ∙ a.1)),
+      )

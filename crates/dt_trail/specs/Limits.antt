@@ -1,0 +1,24 @@
+-- The limits, with their numbers. The law `limits_agree` says that the code keeps these.
+use Rattle.std.specs.Prelude.{ℕ}
+
+-- how many processors there are at most. They are numbered from 0 on
+abbrev pub cpu_count : ℕ
+cpu_count = 64
+
+-- a block has fewer cells
+abbrev pub block_bound : ℕ
+block_bound = 1099511627776
+
+-- how often a trail can be widened
+abbrev pub widenings : ℕ
+widenings = 31
+
+-- how many cells a session's trail has as it is opened, how many it is widened by, and how many the longest has
+abbrev pub opening_cells : ℕ
+opening_cells = 66560
+
+abbrev pub block_cells : ℕ
+block_cells = 65536
+
+abbrev pub longest : ℕ
+longest = 1049600

@@ -1,0 +1,196 @@
+-- The rule of a row of blocks, what seats know of it, and what each step tells.
+use Rattle.std.specs.Prelude.{◌≡◌, ◌≢◌, ℕ, ◌+◌, ◌<◌, ◌≤◌, ◌==◌, ◌^◌, List, [], ◌∷◌, ◌++◌, length, Bool, true, false, cond, nat_lt, MatchBool, Option, Some, None}
+use mathlib.Core.Option.{some}
+use lib.ListN.{get_elem?}
+use denote.RawPtr.{Ptr, null_ptr, InBlock}
+use Rattle.atomic_blocks.specs.Cells.{Cell, Row, State, Step, Me, me, cell_in}
+use Rattle.atomic_blocks.specs.declared.rows.loose.Link.{Link}
+use Rattle.dt_trail.specs.declared.door.Door.{Door}
+use Rattle.dt_trail.specs.declared.rule.Site.{Site}
+use Rattle.dt_trail.specs.declared.rule.View.{View}
+use Rattle.dt_trail.specs.Items.{Item, whose, code, IsReal, AllReal, own, code_at, StartsWith}
+use Rattle.dt_trail.specs.Blocks.{flat, Laid, Stands}
+
+abbrev pub Slot : Type 0
+Slot = Unit {0}
+
+abbrev pub link_at : Ptr → Link Slot
+link_at p = record { ptr = p; marker = record {} }
+
+abbrev pub door_at : ℕ → ℕ → ℕ → Ptr → Door
+door_at b from len p = record { block = b; from = from; len = len; link = link_at p }
+
+abbrev pub no_door : Door
+no_door = door_at 0 0 0 null_ptr
+
+abbrev pub site_of : ℕ → ℕ → Bool → Ptr → Site
+site_of blocks cells planned p = record { blocks = blocks; cells = cells; planned = planned; plan = link_at p }
+
+abbrev pub no_site : Site
+no_site = site_of 0 0 false null_ptr
+
+abbrev pub first_door : ℕ → Ptr → Door
+first_door size p = door_at 0 0 size p
+
+abbrev pub first_site : ℕ → Site
+first_site size = site_of 1 size false null_ptr
+
+-- what the rule speaks of: the root and the blocks, the items, the seat of each note and of the owner, and how many notes there are
+pub record World (K : Type 0) : Type 0 where
+  pub account : K
+  pub base : Row Slot
+  pub blocks : List (Row Slot)
+  pub items : List Item
+  pub place : ℕ → ℕ
+  pub keeper : ℕ
+  pub made : ℕ
+
+-- cells are set from the left, and a set cell has its item
+pub record Shows (lawful : List Item → Type 0) (items : List Item) (cells : List (Cell Slot)) : Type 0 where
+  pub room : length items ≤ length cells
+  pub words : (k : ℕ) → (cell_in cells k).word ≡ code_at items k
+  pub legal : lawful items
+  pub real : AllReal items
+
+abbrev pub Turn : Type 0 → Type 0
+Turn K = Me Slot (View K)
+
+module _ {K : Type 0} where
+  abbrev pub viewed : Option K → Bool → Bool → Bool → ℕ → List Item → List Item → Door → Site → View K
+  viewed a live owns makes n knows had d t = record { account = a; live = live; owns = owns; makes = makes; note = n; knows = knows; had = had; door = d; site = t }
+
+  -- a note's view
+  abbrev pub note : Option K → ℕ → List Item → Door → View K
+  note a n knows d = viewed a true false false n knows [] d no_site
+
+  -- the view of a note that has the owner's right
+  abbrev pub appender : Option K → ℕ → List Item → List Item → Door → Site → View K
+  appender a n had knows d t = viewed a true true false n knows had d t
+
+  abbrev pub owner : Option K → List Item → Door → Site → View K
+  owner a knows d t = viewed a false true false 0 knows [] d t
+
+  -- the owner of an empty row, of which this many notes were made
+  abbrev pub maker : Option K → ℕ → Door → Site → View K
+  maker a n d t = viewed a false true true n [] [] d t
+
+  abbrev pub nobody : View K
+  nobody = viewed None false false false 0 [] [] no_door no_site
+
+  abbrev pub maker_after : View K → View K
+  maker_after v = maker v.account (v.note + 1) v.door v.site
+
+  abbrev pub made : View K → View K
+  made v = note v.account v.note [] v.door
+
+  abbrev pub with_right : View K → View K → View K
+  with_right v w = viewed v.account v.live w.owns false v.note w.knows v.knows w.door w.site
+
+  abbrev pub without_right : View K → View K
+  without_right v = note v.account v.note v.knows v.door
+
+  abbrev pub right_of : View K → View K
+  right_of v = owner v.account v.knows v.door v.site
+
+  abbrev pub ended : View K → View K
+  ended v = nobody
+
+  -- the view, with another door
+  abbrev pub through : View K → Door → View K
+  through v d = viewed v.account v.live v.owns v.makes v.note v.knows v.had d v.site
+
+  -- each view is a beginning of the row; a note's has all of the row that is its own; one seat at most is the owner's, and knows the whole row
+  pub record Fits (w : World K) (by : ℕ) (v : View K) : Type 0 where
+    pub account : (x : K) → v.account ≡ Some x → x ≡ w.account
+    pub begins : StartsWith w.items v.knows
+    pub live : v.live ≡ true → (w.place v.note ≡ by) × (v.note < w.made) × (own v.note w.items ≡ own v.note v.knows)
+    pub owns : v.owns ≡ true → (w.keeper ≡ by) × (w.items ≡ v.knows)
+    pub makes : v.makes ≡ true → (v.owns ≡ true) × (w.made ≡ v.note)
+    pub had : v.owns ≡ true → v.live ≡ true → StartsWith w.items v.had × (own v.note w.items ≡ own v.note v.had)
+    pub stands : 0 < v.door.len → Stands w.blocks v.door
+    pub site : v.owns ≡ true → (v.site.blocks ≡ length w.blocks) × (v.site.cells ≡ length (flat w.blocks))
+    pub plan : v.owns ≡ true → v.site.planned ≡ true → (cell_in w.base.cells v.site.blocks).link ≡ v.site.plan.ptr
+
+  abbrev pub FitsEach : World K → List (View K) → Type 0
+  FitsEach w views = (by : ℕ) (v : View K) → get_elem? views by ≡ some v → Fits w by v
+
+  pub record Kept (lawful : K → List Item → Type 0) (root : Ptr) (acct : K) (s : State Slot (View K)) : Type 0 where
+    pub world : World K
+    pub keyed : world.account ≡ acct
+    pub is : s.rows ≡ world.base ∷ world.blocks
+    pub laid : Laid root world.base world.blocks
+    pub shows : Shows (lawful acct) world.items (flat world.blocks)
+    pub each : FitsEach world s.views
+
+  -- what the view had begins what it knows, which has no more of its own
+  abbrev pub HadAll : View K → Type 0
+  HadAll v = StartsWith v.knows v.had × (own v.note v.knows ≡ own v.note v.had)
+
+  abbrev pub reviewed : Turn K → View K → Turn K
+  reviewed m v = me v m.hand m.spare
+
+  -- the view, once it knows one item more
+  abbrev pub pushed : View K → Item → View K
+  pushed v item = viewed v.account v.live v.owns v.makes v.note (v.knows ++ item ∷ []) v.had v.door v.site
+
+  -- the same, of a note that has the owner's right
+  abbrev pub appended : View K → Item → View K
+  appended v item = viewed v.account v.live v.owns v.makes v.note (v.knows ++ item ∷ []) (v.knows ++ item ∷ []) v.door v.site
+
+  -- the cell of the first item that is not known was set to it
+  abbrev pub IsSet : Item → Step → Turn K → ℕ → Turn K → Type 0
+  IsSet x st m found n = (n ≡ reviewed m (appended m.view x)) × HadAll m.view
+
+  -- a note that has the owner's right finds that it had all of the row that is its own
+  abbrev pub IsCompared : Step → Turn K → ℕ → Turn K → Type 0
+  IsCompared st m found n = (n ≡ m) × HadAll m.view
+
+  -- the word stands for the next item, which is not the note's own
+  pub record Finds (m : Turn K) (found : ℕ) (n : Turn K) : Type 0 where
+    pub item : Item
+    pub shown : found ≡ code item
+    pub real : IsReal item
+    pub other : m.view.live ≡ true → whose item ≢ m.view.note
+    pub next : n ≡ reviewed m (pushed m.view item)
+
+  -- an empty cell was found, or the next item, which is not the note's own
+  abbrev pub IsRead : (K → List Item → Type 0) → Step → Turn K → ℕ → Turn K → Type 0
+  IsRead lawful st m found n =
+      ((x : K) → m.view.account ≡ Some x → (rest : List Item) × lawful x (n.view.knows ++ rest))
+      × MatchBool (found == 0) (n ≡ m) (Finds m found n)
+
+  -- there is no further block yet, or it has so many cells, and lies somewhere
+  abbrev pub IsTurned : (K → List Item → Type 0) → Step → Turn K → ℕ → Turn K → Type 0
+  IsTurned lawful st m found n =
+      ((x : K) → m.view.account ≡ Some x → (rest : List Item) × lawful x (n.view.knows ++ rest))
+      × MatchBool (found == 0)
+      ((n ≡ m) × (m.view.owns ≡ true → m.view.site.cells ≡ m.view.door.from + m.view.door.len))
+      ((p : Ptr) × InBlock p × (found < 2 ^ 40) × (m.view.door.from + m.view.door.len + found < 2 ^ 60) × (st.index < 32) × (n ≡ reviewed m (through m.view (door_at st.index (m.view.door.from + m.view.door.len) found p))))
+
+  abbrev pub IsSeen : ℕ → ℕ → Turn K → Ptr → Turn K → Type 0
+  IsSeen k i m q n = (n ≡ m) × (q ≡ m.view.door.link.ptr)
+
+  abbrev pub planned_at : View K → Ptr → View K
+  planned_at v p = viewed v.account v.live v.owns v.makes v.note v.knows v.had v.door (site_of v.site.blocks v.site.cells true p)
+
+  abbrev pub IsPlanned : ℕ → ℕ → Turn K → Ptr → Turn K → Type 0
+  IsPlanned k i m q n = n ≡ reviewed m (planned_at m.view q)
+
+  abbrev pub wider : View K → ℕ → View K
+  wider v size = viewed v.account v.live v.owns v.makes v.note v.knows v.had v.door (site_of (v.site.blocks + 1) (v.site.cells + size) false null_ptr)
+
+  abbrev pub IsLaid : Step → Turn K → ℕ → Turn K → Type 0
+  IsLaid st m found n = (n ≡ me (wider m.view st.first) m.hand None) × (m.view.live ≡ true → HadAll m.view)
+
+  -- a seat that knows a beginning, and no more
+  abbrev pub claim : Option K → List Item → Door → View K
+  claim a knows d = viewed a false false false 0 knows [] d no_site
+
+  abbrev pub claim_of : View K → View K
+  claim_of v = claim v.account v.knows v.door
+
+  abbrev pub is_longer : View K → View K → Bool
+  is_longer v w = nat_lt (length v.knows) (length w.knows)
+
+  abbrev pub informed : View K → View K → View K
+  informed v w = viewed v.account v.live v.owns v.makes v.note (cond (is_longer v w) w.knows v.knows) v.had (cond (is_longer v w) w.door v.door) v.site

@@ -1,0 +1,102 @@
+//! What a cell stands for.
+ghost use Rattle.std.specs.Prelude.{◌≡◌, ◌<◌, ◌^◌};
+ghost use Rattle.dt_trail.specs.Limits.{cpu_count};
+
+use std::marker::Model;
+
+/// An item of a trail: a line of its session, or a firing by its processor and its place in that processor's script.
+///
+/// Contracts see it as an `Item` of `specs/Items.antt`.
+#[derive(Drop)]
+pub struct Item {
+    kind: Kind,
+}
+
+#[derive(Drop)]
+enum Kind {
+    Line(Vec<u8>),
+    LongLine,
+    Fired { cpu: u32, place: u32 },
+}
+
+impl Model for Item {
+    ghost use Rattle.dt_trail.specs.Items.{Item};
+
+    ghost Value = { Item };
+
+    ghost use Rattle.dt_trail.specs.Items.{IsReal};
+    ghost use Rattle.dt_trail.specs.Kinds.{item_of};
+
+    ghost view = { λ item. item_of item.kind };
+
+    ghost invariant = { λ item. IsReal (item_of item.kind) };
+}
+
+/// What an item is, lent by it.
+#[derive(Clone, Copy, Debug, PartialEq, Eq)]
+pub enum ItemKind<'a> {
+    /// A line of the session, with its bytes.
+    Line(&'a [u8]),
+    /// A line of the session that was too long: its bytes weren't kept.
+    LongLine,
+    /// A firing, by its processor and its place in that processor's script, both from 0 on.
+    Fired { cpu: u32, place: u32 },
+}
+
+impl Item {
+    ghost use Rattle.dt_trail.specs.Items.{line, long_line, fired, code, IsReal};
+    ghost use Rattle.dt_trail.specs.Kinds.{item_lent};
+
+    /// A line of the session.
+    pub fn line(bytes: Vec<u8>) -> Item
+        ensures { result ≡ line bytes.items }
+    {
+        Item {
+            kind: Kind::Line(bytes),
+        }
+    }
+
+    /// A line of the session that was too long.
+    pub fn long_line() -> Item
+        ensures { result ≡ long_line }
+    {
+        Item {
+            kind: Kind::LongLine,
+        }
+    }
+
+    /// A firing, by its processor and its place in that processor's script.
+    pub fn fired(cpu: u32, place: u32) -> Item
+        requires { cpu < cpu_count }
+        ensures { result ≡ fired cpu place }
+    {
+        Item {
+            kind: Kind::Fired { cpu, place },
+        }
+    }
+
+    /// What it is.
+    pub fn kind(&self) -> ItemKind<'_>
+        ensures { item_lent result ≡ self.now }
+    {
+        match &self.kind {
+            Kind::Line(bytes) => ItemKind::Line(bytes),
+            Kind::LongLine => ItemKind::LongLine,
+            Kind::Fired { cpu, place } => ItemKind::Fired {
+                cpu: *cpu,
+                place: *place,
+            },
+        }
+    }
+
+    /// The word of a cell that stands for it.
+    pub(crate) fn code(&self) -> u64
+        ensures word { result ≡ code self.now }
+        ensures real { IsReal self.now }
+    {
+        match &self.kind {
+            Kind::Line(_) | Kind::LongLine => 1,
+            Kind::Fired { cpu, place } => 2 + u64::from(*cpu) * 0x1_0000_0000 + u64::from(*place),
+        }
+    }
+}

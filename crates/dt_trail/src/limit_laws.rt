@@ -1,0 +1,19 @@
+//! The limits that the code keeps are those of the definitions.
+ghost use Rattle.std.specs.Prelude.{◌≡◌, ◌<◌, ◌+◌, ◌*◌};
+ghost use Rattle.dt_trail.specs.Limits.{cpu_count, block_bound, widenings, opening_cells, block_cells, longest};
+
+use crate::limits::{
+    BLOCK_CELLS, BLOCK_CELLS_MAX, CPUS_MAX, TRAIL_CELLS, TRAIL_CELLS_MAX, WIDENINGS_MAX,
+};
+
+/// Law: the limits that the code keeps are the numbers of the definitions (`specs/Limits.antt`), and a session's longest trail is
+/// reached by fewer widenings than there may be.
+pub fn limits_agree()
+    ensures cpus { CPUS_MAX ≡ cpu_count }
+    ensures block { BLOCK_CELLS_MAX ≡ block_bound }
+    ensures widenings { WIDENINGS_MAX ≡ widenings }
+    ensures opening { TRAIL_CELLS ≡ opening_cells }
+    ensures wider { BLOCK_CELLS ≡ block_cells }
+    ensures longest { TRAIL_CELLS_MAX ≡ longest }
+    ensures enough { longest ≡ opening_cells + 15 * block_cells }
+{}

@@ -1,0 +1,19 @@
+//! The limits of a trail.
+
+/// Processors whose firings an item can name are numbered from 0 to one less.
+pub const CPUS_MAX: u32 = 64;
+
+/// A block of a trail has fewer cells than this.
+pub const BLOCK_CELLS_MAX: u64 = 1 << 40;
+
+/// How often a trail can be widened.
+pub const WIDENINGS_MAX: u64 = 31;
+
+/// How many cells a session's trail has as it is opened: a history of 65,536 firings, and 1,024 lines.
+pub const TRAIL_CELLS: u64 = 66_560;
+
+/// How many cells a session's trail is widened by.
+pub const BLOCK_CELLS: u64 = 65_536;
+
+/// How many cells a session's longest trail has: a history of 1,048,576 firings, and 1,024 lines.
+pub const TRAIL_CELLS_MAX: u64 = 1_049_600;

@@ -1,0 +1,198 @@
+//! What a seat does at the row.
+ghost use Rattle.std.specs.Prelude.{◌≡◌, ◌≢◌, ◌<◌, ◌≤◌, ◌+◌, ◌++◌, ◌==◌, ◌^◌, [], ◌∷◌, ℕ, List, length, true, false, Some, None, MatchBool, MatchOption};
+ghost use denote.RawPtr.{null_ptr, InBlock};
+ghost use Rattle.atomic_blocks.specs.Cells.{me, AllHome};
+ghost use Rattle.dt_trail.specs.Blocks.{Blank};
+ghost use Rattle.dt_trail.specs.Limits.{block_bound};
+ghost use Rattle.dt_trail.specs.Items.{whose, own, StartsWith};
+ghost use Rattle.dt_trail.specs.Rule.{note, owner, Finds, site_of, through, reviewed, claim_of, informed, wider, HadAll};
+ghost use Rattle.dt_trail.specs.Insides.{OfRow, SameSeat, IsDoor, IsAt, Owner, Note, Claim};
+
+use crate::door::Door;
+use crate::inner::{Inner, Place, ROOT};
+use crate::item::Item;
+use crate::law::Law;
+use crate::rule::{Compares, Lays, Lends, Picked, Plans, Reads, Sees, Sets, Tells, Turns};
+use atomic_blocks::rows::{Link, Loose};
+use std::alloc::Global;
+
+/// The door to the next block, if there is one.
+pub fn turn<K, L: Law<K>>(inner: &Inner<K, L>, seat: &mut Place<K>, door: Door) -> Option<Door>
+    requires seat { OfRow inner.now seat.old × (seat.old.me.view.account ≡ Some inner.now.about.account) }
+    requires door { (seat.old.me.view.door ≡ door) × IsDoor door }
+    ensures same { SameSeat seat.old seat.new }
+    ensures lawful { L.lawful inner.now.about.account seat.new.me.view.knows }
+    ensures next { MatchOption result ((seat.new.me ≡ seat.old.me) × (seat.old.me.view.owns ≡ true → seat.old.me.view.site.cells ≡ door.from + door.len)) (λ d. (seat.new.me ≡ reviewed seat.old.me (through seat.old.me.view d)) × IsDoor d × (d.from ≡ door.from + door.len)) }
+{
+    let next = door.block + 1;
+    let root = inner.about.root;
+    let len = inner.rows.load::<Turns<L>>(seat, ROOT, root, next as usize);
+    if len == 0 {
+        return None;
+    }
+    let link = inner
+        .rows
+        .load_link::<Sees>(seat, ROOT, root, next as usize);
+    Some(Door {
+        block: next,
+        from: door.from + door.len,
+        len,
+        link,
+    })
+}
+
+/// The word of the first item that the seat doesn't know, or 0 where there is none yet.
+pub fn look<K, L: Law<K>>(inner: &Inner<K, L>, seat: &mut Place<K>, door: Door, count: u64) -> u64
+    requires seat { OfRow inner.now seat.old × (seat.old.me.view.account ≡ Some inner.now.about.account) }
+    requires door { (seat.old.me.view.door ≡ door) × IsDoor door }
+    requires at { (count ≡ length seat.old.me.view.knows) × (door.from ≤ count) × (count < door.from + door.len) }
+    ensures same { SameSeat seat.old seat.new }
+    ensures next { MatchBool (result == 0) (seat.new.me ≡ seat.old.me) (Finds seat.old.me result seat.new.me) }
+    ensures lawful { L.lawful inner.now.about.account seat.new.me.view.knows }
+{
+    let next = (count - door.from) as usize;
+    inner
+        .rows
+        .load::<Reads<L>>(seat, door.block + 1, door.link, next)
+}
+
+/// Sets the first empty cell, in the note's seat. The owner's right goes in, and comes out again.
+pub fn set_next<P: Picked, K, L: Law<K>>(
+    inner: &Inner<K, L>,
+    seat: &mut Place<K>,
+    right: Place<K>,
+    door: Door,
+    count: u64,
+    item: &Item,
+) -> Place<K>
+    requires picked { P.item ≡ item.now }
+    requires seat { OfRow inner.now seat.old × Note seat.old }
+    requires right { OfRow inner.now right × Owner right × (right.me.view.account ≡ seat.old.me.view.account) }
+    requires door { (right.me.view.door ≡ door) × IsDoor door }
+    requires at { (count ≡ length right.me.view.knows) × (door.from ≤ count) × (count < door.from + door.len) }
+    requires item { whose item.now ≡ seat.old.me.view.note }
+    requires lawful { (seat.old.me.view.account ≡ Some inner.now.about.account) × L.lawful inner.now.about.account (right.me.view.knows ++ item.now ∷ []) }
+    ensures seat { (seat.new.rows ≡ seat.old.rows) × (seat.new.heap ≡ seat.old.heap) × (seat.new.me ≡ me (note seat.old.me.view.account seat.old.me.view.note (right.me.view.knows ++ item.now ∷ []) door) None None) }
+    ensures right { (result.rows ≡ seat.old.rows) × (result.heap ≡ seat.old.heap) × (result.me ≡ me (owner seat.old.me.view.account (right.me.view.knows ++ item.now ∷ []) door right.me.view.site) None None) }
+    ensures met { StartsWith right.me.view.knows seat.old.me.view.knows × (own seat.old.me.view.note right.me.view.knows ≡ own seat.old.me.view.note seat.old.me.view.knows) }
+{
+    let root = inner.about.root;
+    inner.rows.join_seat::<Lends>(seat, right, ROOT, root);
+    let empty = (count - door.from) as usize;
+    let word = item.code();
+    inner
+        .rows
+        .store::<Sets<P>>(seat, door.block + 1, door.link, empty, word);
+    inner.rows.split_seat::<Lends>(seat, ROOT, root)
+}
+
+/// The note's seat then knows the whole row.
+pub fn show_all<K, L: Law<K>>(inner: &Inner<K, L>, seat: &mut Place<K>, right: Place<K>) -> Place<K>
+    requires seat { OfRow inner.now seat.old × Note seat.old }
+    requires right { OfRow inner.now right × Owner right × (right.me.view.account ≡ seat.old.me.view.account) }
+    ensures seat { (seat.new.rows ≡ seat.old.rows) × (seat.new.heap ≡ seat.old.heap) × (seat.new.me ≡ me (note seat.old.me.view.account seat.old.me.view.note right.me.view.knows right.me.view.door) None None) }
+    ensures right { (result.rows ≡ seat.old.rows) × (result.heap ≡ seat.old.heap) × (result.me ≡ me (owner seat.old.me.view.account right.me.view.knows right.me.view.door right.me.view.site) None None) }
+    ensures met { StartsWith right.me.view.knows seat.old.me.view.knows × (own seat.old.me.view.note right.me.view.knows ≡ own seat.old.me.view.note seat.old.me.view.knows) }
+{
+    let root = inner.about.root;
+    inner.rows.join_seat::<Lends>(seat, right, ROOT, root);
+    inner.rows.load::<Compares>(seat, ROOT, root, 0);
+    inner.rows.split_seat::<Lends>(seat, ROOT, root)
+}
+
+/// Moves the owner's door to the block of the first empty cell.
+pub fn arrive<K, L: Law<K>>(
+    inner: &Inner<K, L>,
+    seat: &mut Place<K>,
+    door: Door,
+    count: u64,
+) -> Door
+    requires seat { OfRow inner.now seat.old × (seat.old.me.view.account ≡ Some inner.now.about.account) × (seat.old.me.view.owns ≡ true) }
+    requires door { (seat.old.me.view.door ≡ door) × IsAt door count }
+    requires room { count < seat.old.me.view.site.cells }
+    ensures same { SameSeat seat.old seat.new }
+    ensures view { seat.new.me ≡ reviewed seat.old.me (through seat.old.me.view result) }
+    ensures door { IsDoor result × (result.from ≤ count) × (count < result.from + result.len) }
+{
+    if count < door.from + door.len {
+        return door;
+    }
+    let Some(next) = turn(inner, seat, door) else {
+        unreachable!()
+    };
+    next
+}
+
+/// The block joins the row, by a seat that has the owner's right.
+pub fn lay<K, L: Law<K>>(
+    inner: &Inner<K, L>,
+    seat: &mut Place<K>,
+    blocks: u64,
+    cells: u64,
+    link: Link<()>,
+    block: Loose<(), Global>,
+)
+    requires seat { OfRow inner.now seat.old × (seat.old.me.view.owns ≡ true) × (seat.old.me.spare ≡ None) }
+    requires site { seat.old.me.view.site ≡ site_of blocks seat.old.me.view.site.cells false null_ptr }
+    requires room { (blocks < 32) × (seat.old.me.view.site.cells + cells < 2 ^ 60) }
+    requires block { (block.heap ≡ inner.now.rows.heap) × (block.at ≡ link.ptr) × InBlock link.ptr × (block.left ≡ 0) × AllHome block.cells × (length block.cells ≡ cells) × Blank block.cells }
+    requires wide { (0 < cells) × (cells < block_bound) }
+    ensures same { SameSeat seat.old seat.new }
+    ensures view { seat.new.me ≡ me (wider seat.old.me.view cells) seat.old.me.hand None }
+    ensures had { seat.old.me.view.live ≡ true → HadAll seat.old.me.view }
+{
+    let root = inner.about.root;
+    inner
+        .rows
+        .store_link::<Plans>(seat, ROOT, root, blocks as usize, link);
+    seat.hold(block);
+    inner
+        .rows
+        .store::<Lays>(seat, ROOT, root, blocks as usize, cells);
+}
+
+/// The block joins the row, in the note's seat. The owner's right goes in, and comes out again.
+pub fn lay_in<K, L: Law<K>>(
+    inner: &Inner<K, L>,
+    seat: &mut Place<K>,
+    right: Place<K>,
+    blocks: u64,
+    cells: u64,
+    link: Link<()>,
+    block: Loose<(), Global>,
+) -> Place<K>
+    requires seat { OfRow inner.now seat.old × Note seat.old }
+    requires right { OfRow inner.now right × Owner right × (right.me.view.account ≡ seat.old.me.view.account) }
+    requires site { right.me.view.site ≡ site_of blocks right.me.view.site.cells false null_ptr }
+    requires room { (blocks < 32) × (right.me.view.site.cells + cells < 2 ^ 60) }
+    requires block { (block.heap ≡ inner.now.rows.heap) × (block.at ≡ link.ptr) × InBlock link.ptr × (block.left ≡ 0) × AllHome block.cells × (length block.cells ≡ cells) × Blank block.cells }
+    requires wide { (0 < cells) × (cells < block_bound) }
+    ensures seat { (seat.new.rows ≡ seat.old.rows) × (seat.new.heap ≡ seat.old.heap) × (seat.new.me ≡ me (note seat.old.me.view.account seat.old.me.view.note right.me.view.knows right.me.view.door) None None) }
+    ensures right { (result.rows ≡ seat.old.rows) × (result.heap ≡ seat.old.heap) × (result.me ≡ me (owner seat.old.me.view.account right.me.view.knows right.me.view.door (site_of (blocks + 1) (right.me.view.site.cells + cells) false null_ptr)) None None) }
+    ensures met { StartsWith right.me.view.knows seat.old.me.view.knows × (own seat.old.me.view.note right.me.view.knows ≡ own seat.old.me.view.note seat.old.me.view.knows) }
+{
+    let root = inner.about.root;
+    inner.rows.join_seat::<Lends>(seat, right, ROOT, root);
+    lay(inner, seat, blocks, cells, link, block);
+    inner.rows.split_seat::<Lends>(seat, ROOT, root)
+}
+
+/// What the seat knows, for another.
+pub fn tell<K, L: Law<K>>(inner: &Inner<K, L>, seat: &mut Place<K>) -> Place<K>
+    requires { OfRow inner.now seat.old }
+    ensures seat { SameSeat seat.old seat.new × (seat.new.me ≡ seat.old.me) }
+    ensures told { (result.rows ≡ seat.old.rows) × (result.heap ≡ seat.old.heap) × (result.me ≡ me (claim_of seat.old.me.view) None None) }
+{
+    let root = inner.about.root;
+    inner.rows.split_seat::<Tells>(seat, ROOT, root)
+}
+
+/// Takes in what was told.
+pub fn take_in<K, L: Law<K>>(inner: &Inner<K, L>, seat: &mut Place<K>, told: Place<K>)
+    requires seat { OfRow inner.now seat.old }
+    requires told { OfRow inner.now told × Claim told }
+    ensures { SameSeat seat.old seat.new × (seat.new.me ≡ reviewed seat.old.me (informed seat.old.me.view told.me.view)) }
+{
+    let root = inner.about.root;
+    inner.rows.join_seat::<Tells>(seat, told, ROOT, root);
+}

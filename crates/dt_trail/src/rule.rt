@@ -1,0 +1,194 @@
+//! The rule of the row. The types here are for the proofs.
+
+use crate::door::Door;
+use crate::item::Item;
+use crate::law::Law;
+use atomic_blocks::rows::{Link, LinkPlay, Play, RowRule};
+use atomic_table::{Join, Split};
+use std::collections::LinkedList;
+use std::marker::{Brand, PhantomData};
+
+// What the owner knows of the blocks: how many there are, with how many cells, and the place of the next, once it stands in the root.
+pub struct Site {
+    pub blocks: u64,
+    pub cells: u64,
+    pub planned: bool,
+    pub plan: Link<()>,
+}
+
+// What a seat knows. A live seat is a note's, with its number. The owner's knows the whole row, and the
+// maker's is the owner's while notes are made, with the number of the next. A note that has the owner's right
+// remembers what it had known. All but a spent seat know the account. No value of it is made.
+pub struct View<K> {
+    pub account: Option<K>,
+    pub live: bool,
+    pub owns: bool,
+    pub makes: bool,
+    pub note: u64,
+    pub knows: LinkedList<Item>,
+    pub had: LinkedList<Item>,
+    pub door: Door,
+    pub site: Site,
+}
+
+/// What is fixed at the start: the root, the first block and its cells, and the account that the law is about.
+pub struct About<K> {
+    pub root: Link<()>,
+    pub first: Link<()>,
+    pub size: u64,
+    pub account: K,
+}
+
+/// A root, and blocks of words, each 0 until it is set to an item.
+pub struct Row<L> {
+    of: PhantomData<L>,
+}
+
+impl<K, L: Law<K>> RowRule<(), View<K>, About<K>> for Row<L> {
+    ghost use Rattle.dt_trail.specs.Rule.{Kept, maker, first_door, first_site};
+    ghost use Rattle.std.specs.Prelude.{Some};
+
+    ghost holds = { λ about. Kept L.lawful about.root.ptr about.account };
+
+    ghost first = { λ about. maker (Some about.account) 0 (first_door about.size about.first.ptr) (first_site about.size) };
+}
+
+/// An item that a call picks: what it appends.
+pub trait Picked {
+    ghost use Rattle.dt_trail.specs.Items.{Item};
+
+    ghost item: { Item };
+}
+
+impl Picked for Brand {
+    ghost use Rattle.dt_trail.specs.Items.{long_line};
+
+    ghost item = { long_line };
+}
+
+// The first empty cell is set to the item that was picked.
+pub struct Sets<P> {
+    of: PhantomData<P>,
+}
+
+impl<K, P: Picked> Play<(), View<K>> for Sets<P> {
+    ghost use Rattle.dt_trail.specs.Rule.{IsSet};
+
+    ghost then = { IsSet P.item };
+}
+
+pub struct Reads<L> {
+    of: PhantomData<L>,
+}
+
+impl<K, L: Law<K>> Play<(), View<K>> for Reads<L> {
+    ghost use Rattle.dt_trail.specs.Rule.{IsRead};
+
+    ghost then = { IsRead L.lawful };
+}
+
+pub struct Compares;
+
+impl<K> Play<(), View<K>> for Compares {
+    ghost use Rattle.dt_trail.specs.Rule.{IsCompared};
+
+    ghost then = { IsCompared };
+}
+
+// The root says how many cells the next block has.
+pub struct Turns<L> {
+    of: PhantomData<L>,
+}
+
+impl<K, L: Law<K>> Play<(), View<K>> for Turns<L> {
+    ghost use Rattle.dt_trail.specs.Rule.{IsTurned};
+
+    ghost then = { IsTurned L.lawful };
+}
+
+// And where it lies.
+pub struct Sees;
+
+impl<K> LinkPlay<(), View<K>> for Sees {
+    ghost use Rattle.dt_trail.specs.Rule.{IsSeen};
+
+    ghost then = { IsSeen };
+}
+
+// The place of the next block is written into the root.
+pub struct Plans;
+
+impl<K> LinkPlay<(), View<K>> for Plans {
+    ghost use Rattle.dt_trail.specs.Rule.{IsPlanned};
+
+    ghost then = { IsPlanned };
+}
+
+// The block is set.
+pub struct Lays;
+
+impl<K> Play<(), View<K>> for Lays {
+    ghost use Rattle.dt_trail.specs.Rule.{IsLaid};
+
+    ghost then = { IsLaid };
+}
+
+// The maker makes a note.
+pub struct Makes;
+
+impl<K> Split<View<K>> for Makes {
+    ghost use Rattle.dt_trail.specs.Rule.{maker_after, made};
+
+    ghost left = { maker_after };
+
+    ghost right = { made };
+}
+
+// The maker ends, and the owner begins.
+pub struct Opens;
+
+impl<K> Split<View<K>> for Opens {
+    ghost use Rattle.dt_trail.specs.Rule.{ended, right_of};
+
+    ghost left = { ended };
+
+    ghost right = { right_of };
+}
+
+// The owner's right goes into a note for the time of one append, and out again.
+pub struct Lends;
+
+impl<K> Split<View<K>> for Lends {
+    ghost use Rattle.dt_trail.specs.Rule.{without_right, right_of};
+
+    ghost left = { without_right };
+
+    ghost right = { right_of };
+}
+
+impl<K> Join<View<K>> for Lends {
+    ghost use Rattle.dt_trail.specs.Rule.{with_right, nobody};
+
+    ghost both = { with_right };
+
+    ghost spent = { nobody };
+}
+
+// What a seat knows, told to another.
+pub struct Tells;
+
+impl<K> Split<View<K>> for Tells {
+    ghost use Rattle.dt_trail.specs.Rule.{claim_of};
+
+    ghost left = { λ v. v };
+
+    ghost right = { claim_of };
+}
+
+impl<K> Join<View<K>> for Tells {
+    ghost use Rattle.dt_trail.specs.Rule.{informed, nobody};
+
+    ghost both = { informed };
+
+    ghost spent = { nobody };
+}
