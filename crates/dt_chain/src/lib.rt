@@ -9,16 +9,30 @@
 //! each seat is all that counts. Looking takes no memory.
 #![tactic(auto)]
 
+mod book;
+mod chain_copy;
+mod chain_reader;
+mod chain_rule;
+mod chain_writer;
+mod chains;
 mod entries;
+mod front;
+mod history;
 mod laws;
 mod limit_laws;
 mod lists;
+mod press;
 mod seat;
 mod seat_mask;
 mod seat_set;
 mod write;
 
+pub use book::Site;
+pub use chain_reader::{ChainReader, Refused};
+pub use chain_writer::ChainWriter;
+pub use chains::Chains;
 pub use entries::Entries;
+pub use front::Front;
 pub use laws::{
     copies_agree, last_write_tells, last_writes_suffice, one_look, own_writes_tell, tests_agree,
 };
