@@ -49,7 +49,8 @@ impl<J: Site> ChainWriter<J> {
     /// `Err`: there was no memory, and what is published is as it was. The write may be in the list of all writes, and is then
     /// published with the next one.
     pub fn publish<R: Wait>(&mut self, rt: &R, write: Write) -> Result<(), AllocError>
-        ensures ok { OnOk result ((self.new.writes ≡ self.old.writes ++ write ∷ []) × (self.new.published ≡ self.new.writes)) }
+        ensures ok { OnOk result ((self.new.writes ≡ self.old.writes ++ write ∷ [])
+            × (self.new.published ≡ self.new.writes)) }
         ensures err { OnErr result ((self.new.published ≡ self.old.published)
             × ((self.new.writes ≡ self.old.writes) ⊎ (self.new.writes ≡ self.old.writes ++ write ∷ []))) }
     {
@@ -64,9 +65,11 @@ impl<J: Site> ChainWriter<J> {
     ///
     /// `Err`: as of [`ChainWriter::publish`].
     pub fn withdraw<R: Wait>(&mut self, rt: &R, seat: Seat) -> Result<(), AllocError>
-        ensures ok { OnOk result ((self.new.writes ≡ self.old.writes ++ withdrawn seat ∷ []) × (self.new.published ≡ self.new.writes)) }
+        ensures ok { OnOk result ((self.new.writes ≡ self.old.writes ++ withdrawn seat ∷ [])
+            × (self.new.published ≡ self.new.writes)) }
         ensures err { OnErr result ((self.new.published ≡ self.old.published)
-            × ((self.new.writes ≡ self.old.writes) ⊎ (self.new.writes ≡ self.old.writes ++ withdrawn seat ∷ []))) }
+            × ((self.new.writes ≡ self.old.writes)
+            ⊎ (self.new.writes ≡ self.old.writes ++ withdrawn seat ∷ []))) }
     {
         self.publish(rt, Write::withdrawal(seat))
     }

@@ -7,6 +7,10 @@
 //! is defined over the list of all publications and withdrawals (`specs/Writes.antt`, `specs/Look.antt`), and not over
 //! how entries are kept; `one_look` says that there is one answer, and `last_writes_suffice` that the last write of
 //! each seat is all that counts. Looking takes no memory.
+//!
+//! Where threads run, one writer publishes its writes to readers that take no lock and wait for nobody ([`Chains`],
+//! [`ChainWriter`], [`ChainReader`]). All writes are one list, which only grows: who knows a beginning of it has a [`Front`].
+//! The rule of the chains stands in `specs/Chains.antt`.
 #![tactic(auto)]
 
 mod book;

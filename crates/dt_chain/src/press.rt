@@ -31,10 +31,15 @@ impl<J: Site> Model for Press<J> {
 
     ghost Value = { Pressed };
 
-    ghost view = { λ press. record { published = press.inner.desk.shown.value.mark.log; writes = press.writes; waits = is_some press.waiting } };
+    ghost view = { λ press. record {
+      published = press.inner.desk.shown.value.mark.log;
+      writes = press.writes;
+      waits = is_some press.waiting;
+    } };
 
     ghost invariant = { λ press. (press.ledger ≡ J.book) × (press.origin ≡ [])
-        × IsPress J.book press.inner.desk.shown.value (drop press.inner.behind press.inner.log.items) press.waiting press.writes };
+        × IsPress J.book press.inner.desk.shown.value (drop press.inner.behind press.inner.log.items)
+        press.waiting press.writes };
 }
 
 /// A book has fewer writes than this: at a write each nanosecond it is reached after a hundred years.
@@ -164,7 +169,8 @@ impl<J: Site> Press<J> {
     ///
     /// `Err`: there was no memory. If the write is in the list it waits, and is published with the next one.
     pub(crate) fn publish<R: Wait>(self, rt: &R, write: Write) -> (Press<J>, Result<(), AllocError>)
-        ensures ok { OnOk result.1 ((result.0.writes ≡ self.writes ++ write ∷ []) × (result.0.published ≡ result.0.writes)) }
+        ensures ok { OnOk result.1 ((result.0.writes ≡ self.writes ++ write ∷ [])
+            × (result.0.published ≡ result.0.writes)) }
         ensures err { OnErr result.1 ((result.0.published ≡ self.published)
             × ((result.0.writes ≡ self.writes) ⊎ (result.0.writes ≡ self.writes ++ write ∷ []))) }
     {

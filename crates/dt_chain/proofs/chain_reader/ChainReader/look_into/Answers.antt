@@ -8,5 +8,6 @@ pub returns-in-Some-clause-seen : goal.returns-in-Some-clause-seen
 returns-in-Some-clause-seen g c =
     let there : IsPrefix c.self.inside.seen (view c.unwrap.result.place) = search rules in
     let last : c.in-Some.field-0.front ≡ view c.enter-inner.result.0.place = search rules in
-    let all = prefix_trans c.self.inside.seen (view c.unwrap.result.place) (view c.enter-inner.result.0.place) there c.enter-inner.ensures.grows in
+    let all = prefix_trans c.self.inside.seen (view c.unwrap.result.place) (view c.enter-inner.result.0.place)
+    there c.enter-inner.ensures.grows in
     rw (last, ← c.self.view_is) all
