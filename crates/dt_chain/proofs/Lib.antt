@@ -4,3 +4,7 @@ pub mod Looking
 pub mod Agreeing
 pub mod Marking
 pub mod Publishing
+pub mod Fronts
+pub mod Adding
+pub mod Rises
+pub mod Pending

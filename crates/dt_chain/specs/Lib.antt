@@ -10,4 +10,7 @@ pub mod Lists
 pub mod Kept
 pub mod IsAt
 pub mod Tests
+pub mod Books
+pub mod Copies
+pub mod Chains
 pub mod laws

@@ -7,18 +7,36 @@
 //! is defined over the list of all publications and withdrawals (`specs/Writes.antt`, `specs/Look.antt`), and not over
 //! how entries are kept; `one_look` says that there is one answer, and `last_writes_suffice` that the last write of
 //! each seat is all that counts. Looking takes no memory.
+//!
+//! Where threads run, one writer publishes its writes to readers that take no lock and wait for nobody ([`Chains`],
+//! [`ChainWriter`], [`ChainReader`]). All writes are one list, which only grows: who knows a beginning of it has a [`Front`].
+//! The rule of the chains stands in `specs/Chains.antt`.
 #![tactic(auto)]
 
+mod book;
+mod chain_copy;
+mod chain_reader;
+mod chain_rule;
+mod chain_writer;
+mod chains;
 mod entries;
+mod front;
+mod history;
 mod laws;
 mod limit_laws;
 mod lists;
+mod press;
 mod seat;
 mod seat_mask;
 mod seat_set;
 mod write;
 
+pub use book::Site;
+pub use chain_reader::{ChainReader, Refused};
+pub use chain_writer::ChainWriter;
+pub use chains::Chains;
 pub use entries::Entries;
+pub use front::Front;
 pub use laws::{
     copies_agree, last_write_tells, last_writes_suffice, one_look, own_writes_tell, tests_agree,
 };

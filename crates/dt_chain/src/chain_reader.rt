@@ -1,0 +1,170 @@
+//! A processor's end of the chains.
+ghost use Rattle.std.specs.Prelude.{◌≡◌, ℕ, [], None, IfNone, IfOk, IfSome, IfErr, OnOk, OnErr};
+ghost use mathlib.Core.List.{IsPrefix};
+ghost use Rattle.left_right.specs.Sides.{view};
+ghost use Rattle.dt_chain.specs.Chains.{IsMaskAfter};
+ghost use Rattle.dt_chain.specs.Seats.{life_at};
+ghost use Rattle.dt_machine.specs.Moment.{IsMoment};
+
+use crate::book::Site;
+use crate::chain_rule::{InnerReader, Sees};
+use crate::front::Front;
+use crate::seat_mask::SeatMask;
+use dt_machine::{Firing, Machine, Moment};
+use std::marker::Model;
+use thiserror::Error;
+
+/// A look got no entry to the chains, and nothing has changed.
+#[derive(Clone, Copy, Debug, Error, PartialEq, Eq)]
+#[error("the chains gave no entry")]
+pub struct Refused;
+
+/// What one processor looks through. It takes no lock and waits for nobody, whatever the writer does meanwhile.
+///
+/// Contracts see two lists of writes, the oldest first: `seen`, which was published at its last look, and `told`.
+#[derive(Drop)]
+pub struct ChainReader<J: Site> {
+    inner: Option<InnerReader<J>>,
+    seen: Front<J>,
+    told: Front<J>,
+}
+
+impl<J: Site> Model for ChainReader<J> {
+    ghost use Rattle.std.specs.Prelude.{IsSome, IfSome};
+    ghost use mathlib.Core.List.{IsPrefix};
+    ghost use Rattle.left_right.specs.Sides.{view as reached};
+    ghost use Rattle.dt_chain.specs.Chains.{Watched};
+
+    ghost Value = { Watched };
+
+    ghost view = { λ reader. record { seen = reader.seen; told = reader.told } };
+
+    ghost invariant = { λ reader. IsSome reader.inner
+        × IfSome reader.inner (λ inner. IsPrefix reader.seen (reached inner.place)) };
+}
+
+/// What one entry finds: the list that is published, and what the firing names where the mask names a seat.
+struct Found<'a, J: Site> {
+    front: Front<J>,
+    moment: Option<Moment<'a>>,
+}
+
+impl<J: Site> ChainReader<J> {
+    /// A reader that has seen and was told these writes.
+    pub(crate) fn new(inner: InnerReader<J>, known: &Front<J>) -> ChainReader<J>
+        requires { IsPrefix known.now (view inner.place) }
+        ensures { (result.seen ≡ known.now) × (result.told ≡ known.now) }
+    {
+        ChainReader {
+            inner: Some(inner),
+            seen: known.again(),
+            told: known.again(),
+        }
+    }
+
+    /// The seats that the published writes name for a firing, each with its life, into a mask that is lent. The published
+    /// writes begin with all that were seen before, and with all that this reader was told of. It takes no memory.
+    ///
+    /// Where a seat is named, the firing is answered with the probe and the process that it names, as by
+    /// [`Entries::look_into`](crate::Entries::look_into).
+    ///
+    /// `Err`: there was no entry, and nothing has changed. The mask names nobody.
+    pub fn look_into<'a>(
+        &mut self,
+        machine: &'a Machine,
+        firing: &'a Firing,
+        mask: &mut SeatMask,
+    ) -> Result<Option<Moment<'a>>, Refused>
+        ensures mask { OnOk result (IsMaskAfter machine.now.registry self.new.seen firing.now mask.new) }
+        ensures seen { OnOk result (IsPrefix self.old.seen self.new.seen) }
+        ensures told { OnOk result (IsPrefix self.old.told self.new.seen) }
+        ensures told_stays { self.new.told ≡ self.old.told }
+        ensures moment { IfOk result (λ found. IfSome found (λ moment.
+            IsMoment machine.now.registry moment × (moment.firing.now ≡ firing.now))) }
+        ensures none { IfOk result (λ found. IfNone found ((seat : ℕ) → life_at mask.new seat ≡ None)) }
+        ensures refused { OnErr result (self.new ≡ self.old) }
+        ensures nobody { OnErr result ((seat : ℕ) → life_at mask.new seat ≡ None) }
+    {
+        let (inner, found) = enter(
+            self.inner.take().unwrap(),
+            &self.told,
+            machine,
+            firing,
+            mask,
+        );
+        self.inner = Some(inner);
+        match found {
+            Some(Found { front, moment }) => {
+                self.seen = front;
+                Ok(moment)
+            }
+            None => Err(Refused),
+        }
+    }
+
+    /// A look ([`ChainReader::look_into`]) into a new mask, which is of 2 KB.
+    ///
+    /// `None`: there was no entry, and nothing has changed.
+    pub fn look(&mut self, machine: &Machine, firing: &Firing) -> Option<SeatMask>
+        ensures mask { IfSome result (λ mask. IsMaskAfter machine.now.registry self.new.seen firing.now mask) }
+        ensures seen { IfSome result (λ _. IsPrefix self.old.seen self.new.seen) }
+        ensures told { IfSome result (λ _. IsPrefix self.old.told self.new.seen) }
+        ensures told_stays { self.new.told ≡ self.old.told }
+        ensures none { IfNone result (self.new ≡ self.old) }
+    {
+        let mut mask = SeatMask::new();
+        match self.look_into(machine, firing, &mut mask) {
+            Ok(_moment) => Some(mask),
+            Err(Refused) => None,
+        }
+    }
+
+    /// Takes in a beginning of the list: the writes of each later look begin with it.
+    pub fn tell(&mut self, known: &Front<J>)
+        ensures seen { self.new.seen ≡ self.old.seen }
+        ensures old { IsPrefix self.old.told self.new.told }
+        ensures known { IsPrefix known.now self.new.told }
+    {
+        self.told = self.told.longer(known);
+    }
+
+    /// The writes that were published at the last look.
+    pub fn seen(&self) -> Front<J>
+        ensures { result ≡ self.now.seen }
+    {
+        self.seen.again()
+    }
+}
+
+/// Enters the chains, looks, and leaves them.
+fn enter<'a, J: Site>(
+    inner: InnerReader<J>,
+    told: &Front<J>,
+    machine: &'a Machine,
+    firing: &'a Firing,
+    mask: &mut SeatMask,
+) -> (InnerReader<J>, Option<Found<'a, J>>)
+    ensures grows { IsPrefix (view inner.place) (view result.0.place) }
+    ensures front { IfSome result.1 (λ found. found.front ≡ view result.0.place) }
+    ensures told { IfSome result.1 (λ found. IsPrefix told.now found.front) }
+    ensures mask { IfSome result.1 (λ found. IsMaskAfter machine.now.registry found.front firing.now mask.new) }
+    ensures moment { IfSome result.1 (λ found. IfSome found.moment (λ moment.
+        IsMoment machine.now.registry moment × (moment.firing.now ≡ firing.now))) }
+    ensures none { IfSome result.1 (λ found. IfNone found.moment ((seat : ℕ) → life_at mask.new seat ≡ None)) }
+    ensures nobody { IfNone result.1 ((seat : ℕ) → life_at mask.new seat ≡ None) }
+{
+    mask.clear();
+    match inner.enter_as::<Sees<J>>() {
+        Ok(reading) => {
+            let copy = reading.get();
+            let front = Front::of(copy.mark());
+            // no rule spans the book and the copies: what is told was published before, and so it is never longer
+            if !told.begins(&front) {
+                return (reading.leave(), None);
+            }
+            let moment = copy.look_into(machine, firing, mask);
+            (reading.leave(), Some(Found { front, moment }))
+        }
+        Err(inner) => (inner, None),
+    }
+}

@@ -1,0 +1,117 @@
+//! Writes one after another, with looks that are compared with those of plain entries that had the same writes.
+ghost use Rattle.std.specs.Prelude.{◌≡◌};
+
+use crate::calls::{
+    FIRINGS, applied, firing, life_of, looked, machine, named_by_entries, published, seat_numbered,
+    told,
+};
+use dt_chain::{ChainReader, ChainWriter, Chains, Entries, SEATS, SeatMask, Site, Write};
+use dt_machine::{Interest, Machine};
+use std::alloc::{AllocError, Global};
+use std::marker::Brand;
+use std::process::Abort;
+use std::sync::{Mutex, Wait};
+use std::test::Fail;
+
+/// How many writes are made.
+const WRITES: u64 = 300;
+
+/// After each write the chains name what the entries name. A write that is refused for memory changes nothing, and comes with
+/// the next one if it is in the list: where no allocation is refused, none is.
+#[test]
+fn looks_are_those_of_entries(rt: HostRuntime) -> Result<(), Fail> {
+    let machine = machine(rt.alloc())?;
+    plays::<Brand, _>(&rt, rt.alloc(), &machine, Chains::new())
+}
+
+fn plays<J: Site, R: Wait + Abort>(
+    rt: &R,
+    alloc: Global,
+    machine: &Machine,
+    chains: Chains,
+) -> Result<(), Fail>
+    requires { chains ≡ J.book }
+{
+    let writer = chains.writer::<J>(alloc, 1)?;
+    let reader = writer.reader();
+    let writer = Mutex::new(writer);
+    let result = compares(rt, alloc, machine, &writer, reader);
+    writer.into_inner().end(rt);
+    result
+}
+
+fn compares<J: Site, R: Wait + Abort>(
+    rt: &R,
+    alloc: Global,
+    machine: &Machine,
+    writer: &Mutex<ChainWriter<J>>,
+    reader: Result<ChainReader<J>, AllocError>,
+) -> Result<(), Fail> {
+    let mut reader = reader?;
+    let mut entries = Entries::new(alloc);
+    entries.reserve()?;
+    let mut refused = None;
+    let mut count: u64 = 0;
+    for number in 0..WRITES {
+        let write = write_numbered(alloc, machine, number)?;
+        match published(rt, writer, write.clone()?) {
+            Ok(()) => {
+                if let Some(before) = refused.take() {
+                    if told(rt, writer, &mut reader) == count.wrapping_add(2) {
+                        applied(&mut entries, &before)?;
+                        count = count.wrapping_add(1);
+                    }
+                }
+                applied(&mut entries, &write)?;
+                count = count.wrapping_add(1);
+            }
+            Err(_) => refused = Some(write),
+        }
+        name_alike(rt, machine, &entries, &mut reader, count)?;
+    }
+    let all = told(rt, writer, &mut reader);
+    assert_eq!(rt; all, count);
+    Ok(())
+}
+
+/// The write of a number: seats, lives, accounts and probes by an even mixture.
+fn write_numbered(alloc: Global, machine: &Machine, number: u64) -> Result<Write, Fail> {
+    let mixed = number
+        .wrapping_mul(6_364_136_223_846_793_005)
+        .wrapping_add(1_442_695_040_888_963_407)
+        >> 33;
+    let seat = seat_numbered([0, 1, 63, 64, 255][(mixed % 5) as usize])?;
+    if mixed % 4 == 0 {
+        return Ok(Write::withdrawal(seat));
+    }
+    let name: &[u8] = if mixed % 3 == 0 { b"ann" } else { b"root" };
+    let account = machine.account(name).ok_or("no account")?;
+    let mut interest = Interest::new();
+    for probe in 3..7u32 {
+        if (mixed >> probe) % 2 == 0 {
+            interest.insert(probe);
+        }
+    }
+    Ok(Write::publication(alloc, seat, number, account, &interest)?)
+}
+
+/// A look at each firing names what the entries name, after so many writes.
+fn name_alike<J: Site>(
+    rt: &impl Abort,
+    machine: &Machine,
+    entries: &Entries,
+    reader: &mut ChainReader<J>,
+    count: u64,
+) -> Result<(), Fail> {
+    let mut mask = SeatMask::new();
+    for place in 0..FIRINGS {
+        let firing = firing(machine, place)?;
+        let seen = looked(reader, machine, &firing, &mut mask);
+        assert_eq!(rt; seen, Some(count));
+        let wanted = named_by_entries(entries, machine, &firing);
+        for seat in 0..SEATS as u32 {
+            assert_eq!(rt; life_of(&mask, seat), life_of(&wanted, seat));
+        }
+    }
+    Ok(())
+}

@@ -1,0 +1,78 @@
+//! How many readers there are, and what they are answered once the chains have ended.
+ghost use Rattle.std.specs.Prelude.{◌≡◌};
+
+use crate::calls::{
+    firing, life_of, looked, looked_anew, machine, published, seat_numbered, told, withdrawn,
+};
+use dt_chain::{ChainReader, ChainWriter, Chains, SeatMask, Site, Write};
+use dt_machine::{Interest, Machine};
+use std::alloc::{AllocError, Global};
+use std::marker::Brand;
+use std::process::Abort;
+use std::sync::{Mutex, Wait};
+use std::test::Fail;
+
+/// There are as many readers as were asked for, and a reader's place serves another once it is dropped. A look is refused once the
+/// chains have ended, and then the mask names nobody.
+#[test]
+fn places_and_the_end(rt: HostRuntime) -> Result<(), Fail> {
+    let machine = machine(rt.alloc())?;
+    ends::<Brand, _>(&rt, rt.alloc(), &machine, Chains::new())
+}
+
+type Made<J> = Result<ChainReader<J>, AllocError>;
+
+fn ends<J: Site, R: Wait + Abort>(
+    rt: &R,
+    alloc: Global,
+    machine: &Machine,
+    chains: Chains,
+) -> Result<(), Fail>
+    requires { chains ≡ J.book }
+{
+    let writer = chains.writer::<J>(alloc, 1)?;
+    let one = writer.reader();
+    let too_many = writer.reader();
+    assert!(rt; one.is_ok() && too_many.is_err());
+    drop(one);
+    let again = writer.reader();
+    let writer = Mutex::new(writer);
+    let looked_before = looks_once(rt, alloc, machine, &writer, again);
+    writer.into_inner().end(rt);
+    let mut reader = looked_before?;
+    let firing = firing(machine, 0)?;
+    let mut mask = SeatMask::new();
+    let seen = looked(&mut reader, machine, &firing, &mut mask);
+    assert!(rt; seen.is_none() && mask.is_empty());
+    assert!(rt; looked_anew(&mut reader, machine, &firing).is_none());
+    Ok(())
+}
+
+/// A publication is named, a withdrawal is not, and a look names nobody else.
+fn looks_once<J: Site, R: Wait + Abort>(
+    rt: &R,
+    alloc: Global,
+    machine: &Machine,
+    writer: &Mutex<ChainWriter<J>>,
+    reader: Made<J>,
+) -> Result<ChainReader<J>, Fail> {
+    let mut reader = reader?;
+    let firing = firing(machine, 0)?;
+    let account = machine.account(b"root").ok_or("no account")?;
+    let mut interest = Interest::new();
+    interest.insert(3);
+    let seat = seat_numbered(255)?;
+    published(
+        rt,
+        writer,
+        Write::publication(alloc, seat, 7, account, &interest)?,
+    )?;
+    let all = told(rt, writer, &mut reader);
+    assert_eq!(rt; all, 1);
+    let mask = looked_anew(&mut reader, machine, &firing).ok_or("a look was refused")?;
+    assert!(rt; life_of(&mask, 255) == Some(7) && life_of(&mask, 0).is_none());
+    withdrawn(rt, writer, seat)?;
+    let mask = looked_anew(&mut reader, machine, &firing).ok_or("a look was refused")?;
+    assert!(rt; mask.is_empty());
+    Ok(reader)
+}
