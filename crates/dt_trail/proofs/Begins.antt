@@ -4,19 +4,19 @@ use Rattle.std.proofs.lemmas.List.{append_cancel_left}
 use Rattle.std.proofs.lemmas.List.Elements.{filter-append}
 use mathlib.Core.Option.{some, some-ne-none, some-injective}
 use lib.ListN.{get_elem?}
-use Rattle.dt_trail.specs.Items.{Item, line, long_line, fired, whose, code, IsReal, AllReal, own, code_at, StartsWith}
+use Rattle.dt_trail.specs.Items.{TrailItem, line, long_line, fired, whose, code, IsReal, AllReal, own, code_at, StartsWith}
 
-pub starts_self : (xs : List Item) → StartsWith xs xs
+pub starts_self : (xs : List TrailItem) → StartsWith xs xs
 starts_self xs = ([], sym (append-nil xs))
 
-pub starts_trans : (row xs ys : List Item) → StartsWith row ys → StartsWith ys xs → StartsWith row xs
+pub starts_trans : (row xs ys : List TrailItem) → StartsWith row ys → StartsWith ys xs → StartsWith row xs
 starts_trans row xs ys a b = (b.0 ++ a.0, a.1 ∙ ap (λ l. l ++ a.0) b.1 ∙ append_assoc xs b.0 a.0)
 
-pub starts_length : (row xs : List Item) → StartsWith row xs → length xs ≤ length row
+pub starts_length : (row xs : List TrailItem) → StartsWith row xs → length xs ≤ length row
 starts_length row xs a = omega (arith, ap length a.1 ∙ length-append xs a.0)
 
 -- of two beginnings of one list the shorter begins the longer
-pub starts_shorter : (row xs ys : List Item) → StartsWith row xs → StartsWith row ys → length xs ≤ length ys → StartsWith ys xs
+pub starts_shorter : (row xs ys : List TrailItem) → StartsWith row xs → StartsWith row ys → length xs ≤ length ys → StartsWith ys xs
 starts_shorter row [] ys a b le = (ys, refl)
 starts_shorter row (x ∷ xs) [] a b le = absurd (omega arith)
 starts_shorter [] (x ∷ xs) (y ∷ ys) a b le = absurd (cc (a.1))
@@ -25,7 +25,7 @@ starts_shorter (z ∷ row) (x ∷ xs) (y ∷ ys) a b le =
     let r = starts_shorter row xs ys (a.0, cc (a.1)) (b.0, cc (b.1)) (omega arith) in
     (r.0, cc (heads, r.1))
 
-pub starts_whole : (row xs : List Item) → StartsWith row xs → length row ≤ length xs → row ≡ xs
+pub starts_whole : (row xs : List TrailItem) → StartsWith row xs → length row ≤ length xs → row ≡ xs
 starts_whole [] [] a le = refl
 starts_whole (z ∷ row) [] a le = absurd (omega arith)
 starts_whole [] (x ∷ xs) a le = absurd (cc (a.1))
@@ -33,17 +33,17 @@ starts_whole (z ∷ row) (x ∷ xs) a le =
     let heads : z ≡ x = cc (a.1) in
     let r = starts_whole row xs (a.0, cc (a.1)) (omega arith) in cc (heads, r)
 
-nothing_more : (xs ys : List Item) → xs ++ ys ≡ xs → ys ≡ []
+nothing_more : (xs ys : List TrailItem) → xs ++ ys ≡ xs → ys ≡ []
 nothing_more xs ys e = append_cancel_left xs ys [] (e ∙ sym (append-nil xs))
 
-pub own-append : (n : ℕ) (xs ys : List Item) → own n (xs ++ ys) ≡ own n xs ++ own n ys
+pub own-append : (n : ℕ) (xs ys : List TrailItem) → own n (xs ++ ys) ≡ own n xs ++ own n ys
 own-append n xs ys = filter-append (λ x. eqb (whose x) n) xs ys
 
 -- where a beginning has all that is one note's own, nothing behind it is
-pub own_rest : (n : ℕ) (row xs : List Item) (a : StartsWith row xs) → own n row ≡ own n xs → own n a.0 ≡ []
+pub own_rest : (n : ℕ) (row xs : List TrailItem) (a : StartsWith row xs) → own n row ≡ own n xs → own n a.0 ≡ []
 own_rest n row xs a e = nothing_more (own n xs) (own n a.0) (sym (own-append n xs a.0) ∙ ap (own n) (sym a.1) ∙ e)
 
-pub own_longer : (n : ℕ) (row xs ys : List Item) → StartsWith row ys → StartsWith ys xs → own n row ≡ own n xs → own n row ≡ own n ys
+pub own_longer : (n : ℕ) (row xs ys : List TrailItem) → StartsWith row ys → StartsWith ys xs → own n row ≡ own n xs → own n row ≡ own n ys
 unfolding starts_trans
 own_longer n row xs ys a b e =
     let c = starts_trans row xs ys a b in
@@ -51,41 +51,41 @@ own_longer n row xs ys a b e =
     let first : own n b.0 ≡ [] = front_empty (own n b.0) (own n a.0) (sym (own-append n b.0 a.0) ∙ none) in
     e ∙ sym (append-nil (own n xs)) ∙ ap (λ l. own n xs ++ l) (sym first) ∙ sym (own-append n xs b.0) ∙ ap (own n) (sym b.1)
   where
-    front_empty : (p q : List Item) → p ++ q ≡ [] → p ≡ []
+    front_empty : (p q : List TrailItem) → p ++ q ≡ [] → p ≡ []
     front_empty [] q e = refl
     front_empty (x ∷ p) q e = absurd (cc)
 
-pub own_one : (n : ℕ) (x : Item) → whose x ≡ n → own n (x ∷ []) ≡ x ∷ []
+pub own_one : (n : ℕ) (x : TrailItem) → whose x ≡ n → own n (x ∷ []) ≡ x ∷ []
 own_one n x e = ap (λ (b : Bool). cond b (x ∷ []) []) (eq-eqb (whose x) n e)
 
-pub own_none : (n : ℕ) (x : Item) → whose x ≢ n → own n (x ∷ []) ≡ []
+pub own_none : (n : ℕ) (x : TrailItem) → whose x ≢ n → own n (x ∷ []) ≡ []
 own_none n x e = ap (λ (b : Bool). cond b (x ∷ []) []) (ne_eqb (whose x) n e)
 
-pub not_own : (n : ℕ) (x : Item) (xs : List Item) → own n (x ∷ xs) ≡ [] → whose x ≢ n
+pub not_own : (n : ℕ) (x : TrailItem) (xs : List TrailItem) → own n (x ∷ xs) ≡ [] → whose x ≢ n
 not_own n x xs e same =
     let head : own n (x ∷ xs) ≡ x ∷ own n xs = ap (λ (b : Bool). cond b (x ∷ own n xs) (own n xs)) (eq-eqb (whose x) n same) in cc (e, head)
 
-pub own_push : (n : ℕ) (row xs : List Item) (x : Item) → own n row ≡ own n xs → own n (row ++ x ∷ []) ≡ own n (xs ++ x ∷ [])
+pub own_push : (n : ℕ) (row xs : List TrailItem) (x : TrailItem) → own n row ≡ own n xs → own n (row ++ x ∷ []) ≡ own n (xs ++ x ∷ [])
 own_push n row xs x e = own-append n row (x ∷ []) ∙ ap (λ l. l ++ own n (x ∷ [])) e ∙ sym (own-append n xs (x ∷ []))
 
-pub own_pushed_else : (n : ℕ) (row : List Item) (x : Item) → whose x ≢ n → own n (row ++ x ∷ []) ≡ own n row
+pub own_pushed_else : (n : ℕ) (row : List TrailItem) (x : TrailItem) → whose x ≢ n → own n (row ++ x ∷ []) ≡ own n row
 own_pushed_else n row x e = own-append n row (x ∷ []) ∙ ap (λ l. own n row ++ l) (own_none n x e) ∙ append-nil (own n row)
 
 -- the word of an item is none of an empty cell
-pub code_some : (x : Item) → 0 < code x
+pub code_some : (x : TrailItem) → 0 < code x
 code_some (line bytes) = omega arith
 code_some long_line = omega arith
 code_some (fired cpu place) = omega arith
 
-pub code_behind : (xs ys : List Item) → code_at (xs ++ ys) (length xs) ≡ code_at ys 0
+pub code_behind : (xs ys : List TrailItem) → code_at (xs ++ ys) (length xs) ≡ code_at ys 0
 code_behind [] ys = refl
 code_behind (x ∷ xs) ys = code_behind xs ys
 
-pub code_end : (row : List Item) → code_at row (length row) ≡ 0
+pub code_end : (row : List TrailItem) → code_at row (length row) ≡ 0
 code_end [] = refl
 code_end (x ∷ xs) = code_end xs
 
-pub code_push : (row : List Item) (x : Item) (j : ℕ) → j ≢ length row → code_at (row ++ x ∷ []) j ≡ code_at row j
+pub code_push : (row : List TrailItem) (x : TrailItem) (j : ℕ) → j ≢ length row → code_at (row ++ x ∷ []) j ≡ code_at row j
 code_push [] x zero n = absurd (n refl)
 code_push [] x (suc j) n = refl
 code_push (y ∷ row) x zero n = refl
@@ -98,10 +98,10 @@ at_snoc_at [] a b (suc j) e = absurd (some-ne-none b (sym e))
 at_snoc_at (x ∷ xs) a b zero e = inl e
 at_snoc_at (x ∷ xs) a b (suc j) e = ⊎_elim (λ t. inl t) (λ (t : (j ≡ length xs) × (a ≡ b)). inr (omega arith, t.1)) (at_snoc_at xs a b j e)
 
-pub All-push : (xs : List Item) (x : Item) → AllReal xs → IsReal x → AllReal (xs ++ x ∷ [])
+pub All-push : (xs : List TrailItem) (x : TrailItem) → AllReal xs → IsReal x → AllReal (xs ++ x ∷ [])
 All-push [] x a r = (r, tt)
 All-push (y ∷ xs) x a r = (a.0, All-push xs x a.1 r)
 
-pub All-at : (xs : List Item) (x : Item) (ys : List Item) → AllReal (xs ++ x ∷ ys) → IsReal x
+pub All-at : (xs : List TrailItem) (x : TrailItem) (ys : List TrailItem) → AllReal (xs ++ x ∷ ys) → IsReal x
 All-at [] x ys a = a.0
 All-at (y ∷ xs) x ys a = All-at xs x ys a.1

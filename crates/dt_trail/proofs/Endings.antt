@@ -5,24 +5,24 @@ use native.Mathlib.Decide.{ℕ_discrete, dec_le}
 use denote.RawPtr.{Ptr, InBlock}
 use Rattle.atomic_blocks.specs.Cells.{Cell, Row, State, row, no_row, cell_in, AllHome, CellsBack, Final}
 use Rattle.atomic_blocks.proofs.Homes.{cells_back, rows_back}
-use Rattle.dt_trail.specs.Items.{Item}
-use Rattle.dt_trail.specs.Rule.{Slot, Kept}
+use Rattle.dt_trail.specs.Items.{TrailItem}
+use Rattle.dt_trail.specs.Rule.{NoSlot, Kept}
 use Rattle.dt_trail.specs.Insides.{Ending}
 use Rattle.dt_trail.proofs.Fitting.{block_is, root_is}
 
-no_cells : (cs : List (Cell Slot)) → length cs ≡ 0 → cs ≡ []
+no_cells : (cs : List (Cell NoSlot)) → length cs ≡ 0 → cs ≡ []
 no_cells [] e = refl
 no_cells (c ∷ cs) e = absurd (omega arith)
 
-emptied : (mem : List (Row Slot)) (k : ℕ) → (row (set mem k no_row) k).cells ≡ []
+emptied : (mem : List (Row NoSlot)) (k : ℕ) → (row (set mem k no_row) k).cells ≡ []
 emptied [] k = refl
 emptied (x ∷ xs) zero = refl
 emptied (x ∷ xs) (suc k) = emptied xs k
 
-pub ending : {K : Type 0} (lawful : K → List Item → Type 0) (root : Ptr) (acct : K) (mem : List (Row Slot)) → Final (Kept lawful root acct) mem → Ending root 0 mem
+pub ending : {K : Type 0} (lawful : K → List TrailItem → Type 0) (root : Ptr) (acct : K) (mem : List (Row NoSlot)) → Final (Kept lawful root acct) mem → Ending root 0 mem
 ending {K = K} lawful root acct mem final = record {
-  at = (back 0).0 ∙ (ap (λ (r : Row Slot). r.at) base ∙ h.laid.at);
-  long = top.0 ∙ (ap (λ (r : Row Slot). length r.cells) base ∙ h.laid.long);
+  at = (back 0).0 ∙ (ap (λ (r : Row NoSlot). r.at) base ∙ h.laid.at);
+  long = top.0 ∙ (ap (λ (r : Row NoSlot). length r.cells) base ∙ h.laid.long);
   home = top.1;
   gone = (λ j pos low. absurd (omega arith));
   beyond = (λ j far. empty j (let few : length bs ≤ 32 = h.laid.few in omega arith));
@@ -30,19 +30,19 @@ ending {K = K} lawful root acct mem final = record {
   homes = (λ j _ near. (cells_back (row s.rows (j + 1)).cells (row mem (j + 1)).cells (back (j + 1)).1).1);
   places = (λ j _ near pos.
       let there : j < length bs = dite (dec_le (suc j) (length bs)) (λ y. y) (λ n.
-      let z : (cell_in (row mem 0).cells j).word ≡ 0 = word j ∙ (h.laid.sizes j (omega arith) ∙ ap (λ (r : Row Slot). length r.cells) (lib.ListN.get_or-eq_default bs no_row (omega arith))) in absurd (omega arith)) in
+      let z : (cell_in (row mem 0).cells j).word ≡ 0 = word j ∙ (h.laid.sizes j (omega arith) ∙ ap (λ (r : Row NoSlot). length r.cells) (lib.ListN.get_or-eq_default bs no_row (omega arith))) in absurd (omega arith)) in
       let p = h.laid.places j there in
-      let link : (cell_in (row mem 0).cells j).link ≡ (row bs j).at = (top.2 j).1 ∙ (ap (λ (r : Row Slot). (cell_in r.cells j).link) base ∙ p.0) in
-      (subst InBlock (sym link) p.1, (back (j + 1)).0 ∙ (ap (λ (r : Row Slot). r.at) (block j) ∙ sym link)));
+      let link : (cell_in (row mem 0).cells j).link ≡ (row bs j).at = (top.2 j).1 ∙ (ap (λ (r : Row NoSlot). (cell_in r.cells j).link) base ∙ p.0) in
+      (subst InBlock (sym link) p.1, (back (j + 1)).0 ∙ (ap (λ (r : Row NoSlot). r.at) (block j) ∙ sym link)));
 }
   where
-    s : State Slot (Rattle.dt_trail.specs.declared.rule.View.View K)
+    s : State NoSlot (Rattle.dt_trail.specs.declared.rule.View.View K)
     s = final.0
 
     h : Kept lawful root acct final.0
     h = final.1
 
-    bs : List (Row Slot)
+    bs : List (Row NoSlot)
     bs = h.world.blocks
 
     base : row final.0.rows 0 ≡ h.world.base
@@ -58,26 +58,26 @@ ending {K = K} lawful root acct mem final = record {
     top = cells_back (row s.rows 0).cells (row mem 0).cells (back 0).1
 
     word : (j : ℕ) → (cell_in (row mem 0).cells j).word ≡ (cell_in h.world.base.cells j).word
-    word j = (top.2 j).0 ∙ ap (λ (r : Row Slot). (cell_in r.cells j).word) base
+    word j = (top.2 j).0 ∙ ap (λ (r : Row NoSlot). (cell_in r.cells j).word) base
 
     long : (j : ℕ) → length (row mem (j + 1)).cells ≡ length (row h.world.blocks j).cells
-    long j = (cells_back (row s.rows (j + 1)).cells (row mem (j + 1)).cells (back (j + 1)).1).0 ∙ ap (λ (r : Row Slot). length r.cells) (block j)
+    long j = (cells_back (row s.rows (j + 1)).cells (row mem (j + 1)).cells (back (j + 1)).1).0 ∙ ap (λ (r : Row NoSlot). length r.cells) (block j)
 
     empty : (j : ℕ) → length h.world.blocks < j → (row mem j).cells ≡ []
     empty zero far = absurd (omega arith)
-    empty (suc j) far = no_cells (row mem (suc j)).cells (ap (λ (n : ℕ). length (row mem n).cells) (let o : suc j ≡ j + 1 = omega arith in o) ∙ (long j ∙ ap (λ (r : Row Slot). length r.cells) (lib.ListN.get_or-eq_default bs no_row (omega arith))))
+    empty (suc j) far = no_cells (row mem (suc j)).cells (ap (λ (n : ℕ). length (row mem n).cells) (let o : suc j ≡ j + 1 = omega arith in o) ∙ (long j ∙ ap (λ (r : Row NoSlot). length r.cells) (lib.ListN.get_or-eq_default bs no_row (omega arith))))
 
 -- the k-th block is freed
-pub ending_on : (root : Ptr) (k : ℕ) (mem mem' : List (Row Slot)) → mem' ≡ set mem (k + 1) no_row → Ending root k mem → Ending root (k + 1) mem'
+pub ending_on : (root : Ptr) (k : ℕ) (mem mem' : List (Row NoSlot)) → mem' ≡ set mem (k + 1) no_row → Ending root k mem → Ending root (k + 1) mem'
 ending_on root k mem mem' is old = subst (Ending root (k + 1)) (sym is) record {
-  at = ap (λ (x : Row Slot). x.at) zero_is ∙ old.at;
-  long = ap (λ (x : Row Slot). length x.cells) zero_is ∙ old.long;
-  home = subst (λ (x : Row Slot). AllHome x.cells) (sym zero_is) old.home;
-  gone = (λ j pos low. dite (ℕ_discrete j (k + 1)) (λ e. ap (λ (z : ℕ). (row (set mem (k + 1) no_row) z).cells) e ∙ emptied mem (k + 1)) (λ n. ap (λ (x : Row Slot). x.cells) (other j n) ∙ old.gone j pos (omega arith)));
-  beyond = (λ j far. dite (ℕ_discrete j (k + 1)) (λ e. ap (λ (z : ℕ). (row (set mem (k + 1) no_row) z).cells) e ∙ emptied mem (k + 1)) (λ n. ap (λ (x : Row Slot). x.cells) (other j n) ∙ old.beyond j far));
-  each = (λ j low near. subst (λ (x : Row Slot × Row Slot). length x.1.cells ≡ (cell_in x.0.cells j).word) (λ i. (sym zero_is i, sym (other (j + 1) (λ e. omega arith)) i)) (old.each j (omega arith) near));
-  homes = (λ j low near. subst (λ (x : Row Slot). AllHome x.cells) (sym (other (j + 1) (λ e. omega arith))) (old.homes j (omega arith) near));
-  places = (λ j low near pos. subst (λ (x : Row Slot × Row Slot). 0 < (cell_in x.0.cells j).word → InBlock (cell_in x.0.cells j).link × (x.1.at ≡ (cell_in x.0.cells j).link)) (λ i. (sym zero_is i, sym (other (j + 1) (λ e. omega arith)) i)) (old.places j (omega arith) near) pos);
+  at = ap (λ (x : Row NoSlot). x.at) zero_is ∙ old.at;
+  long = ap (λ (x : Row NoSlot). length x.cells) zero_is ∙ old.long;
+  home = subst (λ (x : Row NoSlot). AllHome x.cells) (sym zero_is) old.home;
+  gone = (λ j pos low. dite (ℕ_discrete j (k + 1)) (λ e. ap (λ (z : ℕ). (row (set mem (k + 1) no_row) z).cells) e ∙ emptied mem (k + 1)) (λ n. ap (λ (x : Row NoSlot). x.cells) (other j n) ∙ old.gone j pos (omega arith)));
+  beyond = (λ j far. dite (ℕ_discrete j (k + 1)) (λ e. ap (λ (z : ℕ). (row (set mem (k + 1) no_row) z).cells) e ∙ emptied mem (k + 1)) (λ n. ap (λ (x : Row NoSlot). x.cells) (other j n) ∙ old.beyond j far));
+  each = (λ j low near. subst (λ (x : Row NoSlot × Row NoSlot). length x.1.cells ≡ (cell_in x.0.cells j).word) (λ i. (sym zero_is i, sym (other (j + 1) (λ e. omega arith)) i)) (old.each j (omega arith) near));
+  homes = (λ j low near. subst (λ (x : Row NoSlot). AllHome x.cells) (sym (other (j + 1) (λ e. omega arith))) (old.homes j (omega arith) near));
+  places = (λ j low near pos. subst (λ (x : Row NoSlot × Row NoSlot). 0 < (cell_in x.0.cells j).word → InBlock (cell_in x.0.cells j).link × (x.1.at ≡ (cell_in x.0.cells j).link)) (λ i. (sym zero_is i, sym (other (j + 1) (λ e. omega arith)) i)) (old.places j (omega arith) near) pos);
 }
   where
     other : (j : ℕ) → j ≢ k + 1 → row (set mem (k + 1) no_row) j ≡ row mem j
@@ -87,7 +87,7 @@ ending_on root k mem mem' is old = subst (Ending root (k + 1)) (sym is) record {
     zero_is = other 0 (λ e. omega arith)
 
 -- there is no k-th block
-pub ending_past : (root : Ptr) (k : ℕ) (mem : List (Row Slot)) → k < 32 → (cell_in (row mem 0).cells k).word ≡ 0 → Ending root k mem → Ending root (k + 1) mem
+pub ending_past : (root : Ptr) (k : ℕ) (mem : List (Row NoSlot)) → k < 32 → (cell_in (row mem 0).cells k).word ≡ 0 → Ending root k mem → Ending root (k + 1) mem
 ending_past root k mem few none old = record {
   at = old.at;
   long = old.long;
@@ -99,13 +99,13 @@ ending_past root k mem few none old = record {
   places = (λ j low near pos. old.places j (omega arith) near pos);
 }
 
-pub all_taken : (root : Ptr) (k : ℕ) (mem mem' : List (Row Slot)) → 32 ≤ k → mem' ≡ set mem 0 no_row → Ending root k mem → (j : ℕ) → (row mem' j).cells ≡ []
-all_taken root k mem mem' done is old j = ap (λ (z : List (Row Slot)). (row z j).cells) is ∙ dite (ℕ_discrete j 0) (λ e. ap (λ (z : ℕ). (row (set mem 0 no_row) z).cells) e ∙ emptied mem 0)
-    (λ e. ap (λ (x : Row Slot). x.cells) (get_or-set_other mem 0 j no_row no_row e) ∙ dite (dec_le j k) (λ l. old.gone j (omega arith) l) (λ l. old.beyond j (omega arith)))
+pub all_taken : (root : Ptr) (k : ℕ) (mem mem' : List (Row NoSlot)) → 32 ≤ k → mem' ≡ set mem 0 no_row → Ending root k mem → (j : ℕ) → (row mem' j).cells ≡ []
+all_taken root k mem mem' done is old j = ap (λ (z : List (Row NoSlot)). (row z j).cells) is ∙ dite (ℕ_discrete j 0) (λ e. ap (λ (z : ℕ). (row (set mem 0 no_row) z).cells) e ∙ emptied mem 0)
+    (λ e. ap (λ (x : Row NoSlot). x.cells) (get_or-set_other mem 0 j no_row no_row e) ∙ dite (dec_le j k) (λ l. old.gone j (omega arith) l) (λ l. old.beyond j (omega arith)))
 
-pub in_base : (root : Ptr) (k : ℕ) (mem : List (Row Slot)) (i : ℕ) → i < 33 → Ending root k mem → ((row mem 0).at ≡ root) × (i < length (row mem 0).cells)
+pub in_base : (root : Ptr) (k : ℕ) (mem : List (Row NoSlot)) (i : ℕ) → i < 33 → Ending root k mem → ((row mem 0).at ≡ root) × (i < length (row mem 0).cells)
 in_base root k mem i near e = (e.at, let l : length (row mem 0).cells ≡ 33 = e.long in omega arith)
 
-pub block_lies : (root : Ptr) (k : ℕ) (mem : List (Row Slot)) → Ending root k mem → k < 32 → 0 < (cell_in (row mem 0).cells k).word
+pub block_lies : (root : Ptr) (k : ℕ) (mem : List (Row NoSlot)) → Ending root k mem → k < 32 → 0 < (cell_in (row mem 0).cells k).word
     → InBlock (cell_in (row mem 0).cells k).link × ((row mem (k + 1)).at ≡ (cell_in (row mem 0).cells k).link) × (0 < length (row mem (k + 1)).cells)
 block_lies root k mem e near pos = let p = e.places k (omega arith) near pos in let l = e.each k (omega arith) near in (p.0, p.1, omega arith)

@@ -8,9 +8,9 @@ use Rattle.atomic_blocks.proofs.After.{cell_again, count_stays, place_stays}
 use Rattle.atomic_table.proofs.Lists.{at_set}
 use Rattle.dt_trail.specs.declared.door.Door.{Door}
 use Rattle.dt_trail.specs.declared.rule.View.{View}
-use Rattle.dt_trail.specs.Items.{Item, code_at}
-use Rattle.dt_trail.specs.Blocks.{flat, before, Laid, Stands}
-use Rattle.dt_trail.specs.Rule.{Slot, World, Fits, FitsEach, Kept, Turn, nobody}
+use Rattle.dt_trail.specs.Items.{TrailItem, code_at}
+use Rattle.dt_trail.specs.Blocks.{flat, before, Laid, LiesAt}
+use Rattle.dt_trail.specs.Rule.{NoSlot, RowWorld, FitsRow, FitsEach, Kept, Turn, nobody}
 use Rattle.dt_trail.proofs.Begins.{at_snoc_at}
 use Rattle.dt_trail.proofs.Flats.{flat_at, flat_long, before_set}
 
@@ -18,24 +18,24 @@ pub off : false ≡ true → ⊥
 off e = true≢false (sym e)
 
 -- one view is changed, and the others still fit
-pub fits_set : {K : Type 0} (w : World K) (views : List (View K)) (id : ℕ) (v : View K) → ((j : ℕ) (u : View K) → j ≢ id → get_elem? views j ≡ some u → Fits w j u) → Fits w id v → FitsEach w (set views id v)
+pub fits_set : {K : Type 0} (w : RowWorld K) (views : List (View K)) (id : ℕ) (v : View K) → ((j : ℕ) (u : View K) → j ≢ id → get_elem? views j ≡ some u → FitsRow w j u) → FitsRow w id v → FitsEach w (set views id v)
 fits_set {K = K} w views id v others mine j u e =
     ⊎_elim
-    (λ (x : (j ≡ id) × (v ≡ u)). subst (λ (y : ℕ × View K). Fits w y.0 y.1) (λ i. (sym x.0 i, x.1 i)) mine)
+    (λ (x : (j ≡ id) × (v ≡ u)). subst (λ (y : ℕ × View K). FitsRow w y.0 y.1) (λ i. (sym x.0 i, x.1 i)) mine)
     (λ (x : (j ≢ id) × (get_elem? views j ≡ some u)). others j u x.0 x.1)
     (at_set views id j v u e)
 
 -- one view is changed and one is new
-pub fits_split : {K : Type 0} (w : World K) (views : List (View K)) (id : ℕ) (v n : View K)
-    → ((j : ℕ) (u : View K) → j ≢ id → get_elem? views j ≡ some u → Fits w j u) → Fits w id v → Fits w (length views) n
+pub fits_split : {K : Type 0} (w : RowWorld K) (views : List (View K)) (id : ℕ) (v n : View K)
+    → ((j : ℕ) (u : View K) → j ≢ id → get_elem? views j ≡ some u → FitsRow w j u) → FitsRow w id v → FitsRow w (length views) n
     → FitsEach w (set views id v ++ n ∷ [])
 fits_split {K = K} w views id v n others mine new j u e =
     ⊎_elim
     (λ (x : get_elem? (set views id v) j ≡ some u). fits_set w views id v others mine j u x)
-    (λ (x : (j ≡ length (set views id v)) × (n ≡ u)). subst (λ (y : ℕ × View K). Fits w y.0 y.1) (λ i. (sym (x.0 ∙ length-set views id v) i, x.1 i)) new)
+    (λ (x : (j ≡ length (set views id v)) × (n ≡ u)). subst (λ (y : ℕ × View K). FitsRow w y.0 y.1) (λ i. (sym (x.0 ∙ length-set views id v) i, x.1 i)) new)
     (at_snoc_at (set views id v) n u j e)
 
-pub fits_nobody : {K : Type 0} (w : World K) (by : ℕ) → Fits w by nobody
+pub fits_nobody : {K : Type 0} (w : RowWorld K) (by : ℕ) → FitsRow w by nobody
 fits_nobody w by = record {
   account = λ x e. absurd (cc);
   begins = (w.items, refl);
@@ -49,13 +49,13 @@ fits_nobody w by = record {
 }
 
 -- the same blocks, but for what is in a cell
-pub record Alike (old new : List (Row Slot)) : Type 0 where
+pub record Alike (old new : List (Row NoSlot)) : Type 0 where
   pub count : length new ≡ length old
   pub each : (j : ℕ) → ((row new j).at ≡ (row old j).at) × (length (row new j).cells ≡ length (row old j).cells)
   pub before_is : (j : ℕ) → before new j ≡ before old j
   pub long : length (flat new) ≡ length (flat old)
 
-pub alike_set : (bs : List (Row Slot)) (b i : ℕ) (c : Cell Slot) → i < length (row bs b).cells → Alike bs (with_cell bs b i c)
+pub alike_set : (bs : List (Row NoSlot)) (b i : ℕ) (c : Cell NoSlot) → i < length (row bs b).cells → Alike bs (with_cell bs b i c)
 alike_set bs b i c near = record {
   count = count_stays bs b i c near;
   each = place_stays bs b i c near;
@@ -63,7 +63,7 @@ alike_set bs b i c near = record {
   long = flat_long bs b i c near;
 }
 
-pub stands_alike : (old new : List (Row Slot)) (d : Door) → Alike old new → Stands old d → Stands new d
+pub stands_alike : (old new : List (Row NoSlot)) (d : Door) → Alike old new → LiesAt old d → LiesAt new d
 stands_alike old new d a s = record {
   near = subst (λ (n : ℕ). d.block < n) (sym a.count) s.near;
   from = s.from ∙ sym (a.before_is d.block);
@@ -71,7 +71,7 @@ stands_alike old new d a s = record {
   at = (a.each d.block).0 ∙ s.at;
 }
 
-pub laid_alike : (root : Ptr) (base : Row Slot) (old new : List (Row Slot)) → Alike old new → Laid root base old → Laid root base new
+pub laid_alike : (root : Ptr) (base : Row NoSlot) (old new : List (Row NoSlot)) → Alike old new → Laid root base old → Laid root base new
 laid_alike root base old new a l = record {
   at = l.at;
   long = l.long;
@@ -83,41 +83,41 @@ laid_alike root base old new a l = record {
       (p.0 ∙ sym e.0, subst InBlock (sym e.0) p.1, subst (λ (n : ℕ). 0 < n) (sym e.1) p.2, subst (λ (n : ℕ). n < 2 ^ 40) (sym e.1) p.3);
 }
 
-module _ {K : Type 0} (lawful : K → List Item → Type 0) (root : Ptr) (acct : K) where
-  abbrev H : State Slot (View K) → Type 0
+module _ {K : Type 0} (lawful : K → List TrailItem → Type 0) (root : Ptr) (acct : K) where
+  abbrev H : State NoSlot (View K) → Type 0
   H = Kept lawful root acct
 
-  pub block_is : (s : State Slot (View K)) (h : H s) (b : ℕ) → row s.rows (suc b) ≡ row h.world.blocks b
-  block_is s h b = ap (λ (rs : List (Row Slot)). row rs (suc b)) h.is
+  pub block_is : (s : State NoSlot (View K)) (h : H s) (b : ℕ) → row s.rows (suc b) ≡ row h.world.blocks b
+  block_is s h b = ap (λ (rs : List (Row NoSlot)). row rs (suc b)) h.is
 
-  pub root_is : (s : State Slot (View K)) (h : H s) → row s.rows 0 ≡ h.world.base
-  root_is s h = ap (λ (rs : List (Row Slot)). row rs 0) h.is
+  pub root_is : (s : State NoSlot (View K)) (h : H s) → row s.rows 0 ≡ h.world.base
+  root_is s h = ap (λ (rs : List (Row NoSlot)). row rs 0) h.is
 
-  pub in_root : (s : State Slot (View K)) (h : H s) (i : ℕ) → i < 33 → Lies s.rows 0 root i
-  in_root s h i near = subst (λ (r : Row Slot). (r.at ≡ root) × (i < length r.cells)) (sym (root_is s h)) (h.laid.at, subst (λ (n : ℕ). i < n) (sym h.laid.long) near)
+  pub in_root : (s : State NoSlot (View K)) (h : H s) (i : ℕ) → i < 33 → Lies s.rows 0 root i
+  in_root s h i near = subst (λ (r : Row NoSlot). (r.at ≡ root) × (i < length r.cells)) (sym (root_is s h)) (h.laid.at, subst (λ (n : ℕ). i < n) (sym h.laid.long) near)
 
-  pub in_block : (s : State Slot (View K)) (h : H s) (d : Door) (i : ℕ) → Stands h.world.blocks d → i < d.len → Lies s.rows (suc d.block) d.link.ptr i
-  in_block s h d i st near = subst (λ (r : Row Slot). (r.at ≡ d.link.ptr) × (i < length r.cells)) (sym (block_is s h d.block)) (st.at, subst (λ (n : ℕ). i < n) st.len near)
+  pub in_block : (s : State NoSlot (View K)) (h : H s) (d : Door) (i : ℕ) → LiesAt h.world.blocks d → i < d.len → Lies s.rows (suc d.block) d.link.ptr i
+  in_block s h d i st near = subst (λ (r : Row NoSlot). (r.at ≡ d.link.ptr) × (i < length r.cells)) (sym (block_is s h d.block)) (st.at, subst (λ (n : ℕ). i < n) st.len near)
 
   -- the word of a cell of a block
-  pub word_is : (s : State Slot (View K)) (h : H s) (d : Door) (i : ℕ) → Stands h.world.blocks d → i < d.len → word_of s.rows (suc d.block) i ≡ code_at h.world.items (d.from + i)
+  pub word_is : (s : State NoSlot (View K)) (h : H s) (d : Door) (i : ℕ) → LiesAt h.world.blocks d → i < d.len → word_of s.rows (suc d.block) i ≡ code_at h.world.items (d.from + i)
   word_is s h d i st near =
       let bs = h.world.blocks in
       let near' : i < length (row bs d.block).cells = subst (λ (n : ℕ). i < n) st.len near in
-      ap (λ (r : Row Slot). (cell_in r.cells i).word) (block_is s h d.block)
-      ∙ (sym (ap (λ (x : Cell Slot). x.word) (flat_at bs d.block i near'))
+      ap (λ (r : Row NoSlot). (cell_in r.cells i).word) (block_is s h d.block)
+      ∙ (sym (ap (λ (x : Cell NoSlot). x.word) (flat_at bs d.block i near'))
       ∙ (h.shows.words (before bs d.block + i) ∙ ap (λ (n : ℕ). code_at h.world.items (n + i)) (sym st.from)))
 
   -- a step that changes no cell
-  pub quiet : (s : State Slot (View K)) (h : H s) (k i id : ℕ) (m : Turn K) (v : View K) (then : Turn K → Type 0) → FitsEach h.world (set s.views id v) → then (me v m.hand m.spare)
+  pub quiet : (s : State NoSlot (View K)) (h : H s) (k i id : ℕ) (m : Turn K) (v : View K) (then : Turn K → Type 0) → FitsEach h.world (set s.views id v) → then (me v m.hand m.spare)
       → Goes H s (with_word s.rows k i (word_of s.rows k i)) id m then
-  quiet s h k i id m v then fits told = subst (λ (rs : List (Row Slot)). Goes H s rs id m then) (sym (cell_again s.rows k i))
+  quiet s h k i id m v then fits told = subst (λ (rs : List (Row NoSlot)). Goes H s rs id m then) (sym (cell_again s.rows k i))
       (v, keeps, tt, record { world = h.world; keyed = h.keyed; is = h.is; laid = h.laid; shows = h.shows; each = fits }, told)
 
-  pub quiet_link : (s : State Slot (View K)) (h : H s) (k i id : ℕ) (m : Turn K) (v : View K) (then : Turn K → Type 0) → FitsEach h.world (set s.views id v) → then (me v m.hand m.spare)
+  pub quiet_link : (s : State NoSlot (View K)) (h : H s) (k i id : ℕ) (m : Turn K) (v : View K) (then : Turn K → Type 0) → FitsEach h.world (set s.views id v) → then (me v m.hand m.spare)
       → Goes H s (with_link s.rows k i (link_of s.rows k i)) id m then
-  quiet_link s h k i id m v then fits told = subst (λ (rs : List (Row Slot)). Goes H s rs id m then) (sym (cell_again s.rows k i))
+  quiet_link s h k i id m v then fits told = subst (λ (rs : List (Row NoSlot)). Goes H s rs id m then) (sym (cell_again s.rows k i))
       (v, keeps, tt, record { world = h.world; keyed = h.keyed; is = h.is; laid = h.laid; shows = h.shows; each = fits }, told)
 
-  pub fits_again : (s : State Slot (View K)) (h : H s) (id : ℕ) (v : View K) → Fits h.world id v → FitsEach h.world (set s.views id v)
+  pub fits_again : (s : State NoSlot (View K)) (h : H s) (id : ℕ) (v : View K) → FitsRow h.world id v → FitsEach h.world (set s.views id v)
   fits_again s h id v f = fits_set h.world s.views id v (λ j u _ e. h.each j u e) f

@@ -5,7 +5,7 @@ use native.Mathlib.Decide.{ℕ_discrete, dec_le}
 use denote.RawPtr.{null_ptr}
 use Rattle.std.specs.Prelude.{None}
 use Rattle.atomic_blocks.specs.Cells.{Cell, Row, cell, row, cell_in, with_cell}
-use Rattle.dt_trail.specs.Items.{Item, code, code_at}
+use Rattle.dt_trail.specs.Items.{TrailItem, code, code_at}
 use Rattle.dt_trail.specs.Blocks.{flat, before}
 use Rattle.dt_trail.proofs.Begins.{code_behind, code_push}
 
@@ -87,7 +87,7 @@ module _ {S : Type 0} where
   flat_long bs b i c h = ap length (flat_set bs b i c h) ∙ length-set (flat bs) (before bs b + i) c
 
   -- the first empty cell is set to x
-  pub words_push : (cs : List (Cell S)) (items : List Item) (x : Item) (c : Cell S) → length items < length cs → c.word ≡ code x → ((k : ℕ) → (cell_in cs k).word ≡ code_at items k)
+  pub words_push : (cs : List (Cell S)) (items : List TrailItem) (x : TrailItem) (c : Cell S) → length items < length cs → c.word ≡ code x → ((k : ℕ) → (cell_in cs k).word ≡ code_at items k)
       → (j : ℕ) → (cell_in (set cs (length items) c) j).word ≡ code_at (items ++ x ∷ []) j
   words_push cs items x c room is shows j = dite (ℕ_discrete j (length items))
       (λ e. subst (λ (k : ℕ). (cell_in (set cs (length items) c) k).word ≡ code_at (items ++ x ∷ []) k) (sym e)
@@ -95,7 +95,7 @@ module _ {S : Type 0} where
       (λ n. ap (λ (y : Cell S). y.word) (get_or-set_other cs (length items) j c none n) ∙ (shows j ∙ sym (code_push items x j n)))
 
   -- empty cells are added
-  pub words_more : (cs ds : List (Cell S)) (items : List Item) → length items ≤ length cs → ((k : ℕ) → (cell_in ds k).word ≡ 0) → ((k : ℕ) → (cell_in cs k).word ≡ code_at items k)
+  pub words_more : (cs ds : List (Cell S)) (items : List TrailItem) → length items ≤ length cs → ((k : ℕ) → (cell_in ds k).word ≡ 0) → ((k : ℕ) → (cell_in cs k).word ≡ code_at items k)
       → (j : ℕ) → (cell_in (cs ++ ds) j).word ≡ code_at items j
   words_more cs ds items room zeros shows j = dite (dec_le (suc j) (length cs))
       (λ h. ap (λ (y : Cell S). y.word) (front cs ds j (omega arith)) ∙ shows j)

@@ -8,19 +8,19 @@ use Rattle.atomic_blocks.specs.Cells.{Cell, Row, State, step, cell, me, row_at, 
 use Rattle.dt_trail.specs.declared.door.Door.{Door}
 use Rattle.dt_trail.specs.declared.rule.Site.{Site}
 use Rattle.dt_trail.specs.declared.rule.View.{View}
-use Rattle.dt_trail.specs.Items.{Item, whose, code, IsReal, AllReal, own, code_at, StartsWith}
-use Rattle.dt_trail.specs.Blocks.{flat, before, Stands}
-use Rattle.dt_trail.specs.Rule.{Slot, World, Fits, Shows, Kept, Turn, appender, IsSet}
+use Rattle.dt_trail.specs.Items.{TrailItem, whose, code, IsReal, AllReal, own, code_at, StartsWith}
+use Rattle.dt_trail.specs.Blocks.{flat, before, LiesAt}
+use Rattle.dt_trail.specs.Rule.{NoSlot, RowWorld, FitsRow, ShowsRow, Kept, Turn, appender, IsSet}
 use Rattle.dt_trail.proofs.Begins.{starts_self, starts_trans, own_pushed_else, All-push}
 use Rattle.dt_trail.proofs.Flats.{flat_at, flat_set, flat_push, before_push, before_next, before_all, words_push, words_more, past}
 use Rattle.dt_trail.proofs.Fitting.{off, fits_set, Alike, alike_set, stands_alike, laid_alike, in_block}
 
-module _ {K : Type 0} (lawful : K → List Item → Type 0) (root : Ptr) (acct : K) where
-  abbrev H : State Slot (View K) → Type 0
+module _ {K : Type 0} (lawful : K → List TrailItem → Type 0) (root : Ptr) (acct : K) where
+  abbrev H : State NoSlot (View K) → Type 0
   H = Kept lawful root acct
 
   -- the first empty cell is set
-  pub sets : (id : ℕ) (a : Option K) (n : ℕ) (had ks : List Item) (d : Door) (t : Site) (hand : Option (Ptr × ℕ × Slot)) (spare : Option (Row Slot)) (i : ℕ) (x : Item)
+  pub sets : (id : ℕ) (a : Option K) (n : ℕ) (had ks : List TrailItem) (d : Door) (t : Site) (hand : Option (Ptr × ℕ × NoSlot)) (spare : Option (Row NoSlot)) (i : ℕ) (x : TrailItem)
       → 0 < d.len → d.from + i ≡ length ks → i < d.len → whose x ≡ n → IsReal x → lawful acct (ks ++ x ∷ [])
       → Allows H id (me (appender a n had ks d t) hand spare) (suc d.block) d.link.ptr i (λ _. code x) (λ _. IsSet x (step (suc d.block) d.link.ptr i (code x) 0) (me (appender a n had ks d t) hand spare) (code x))
   sets id a n had ks d t hand spare i x pos here near mine real ok s h at = (
@@ -37,22 +37,22 @@ module _ {K : Type 0} (lawful : K → List Item → Type 0) (root : Ptr) (acct :
       w : View K
       w = appender a n (ks ++ x ∷ []) (ks ++ x ∷ []) d t
 
-      f : Fits h.world id (appender a n had ks d t)
+      f : FitsRow h.world id (appender a n had ks d t)
       f = h.each id (appender a n had ks d t) at
 
-      st : Stands h.world.blocks d
+      st : LiesAt h.world.blocks d
       st = f.stands pos
 
       whole : (h.world.keeper ≡ id) × (h.world.items ≡ ks)
       whole = f.owns refl
 
-      bs : List (Row Slot)
+      bs : List (Row NoSlot)
       bs = h.world.blocks
 
-      items : List Item
+      items : List TrailItem
       items = ks ++ x ∷ []
 
-      c : Cell Slot
+      c : Cell NoSlot
       c = cell (code x) (link_of s.rows (suc d.block) i) (home_of s.rows (suc d.block) i)
 
       near_is : i < length (row h.world.blocks d.block).cells
@@ -61,10 +61,10 @@ module _ {K : Type 0} (lawful : K → List Item → Type 0) (root : Ptr) (acct :
       alike : Alike h.world.blocks (with_cell h.world.blocks d.block i (cell (code x) (link_of s.rows (suc d.block) i) (home_of s.rows (suc d.block) i)))
       alike = alike_set bs d.block i c near_is
 
-      new : List (Row Slot)
+      new : List (Row NoSlot)
       new = with_cell bs d.block i c
 
-      world : World K
+      world : RowWorld K
       world = record { account = h.world.account; base = h.world.base; blocks = new; items = items; place = h.world.place; keeper = h.world.keeper; made = h.world.made }
 
       spot : before bs d.block + i ≡ length ks
@@ -76,15 +76,15 @@ module _ {K : Type 0} (lawful : K → List Item → Type 0) (root : Ptr) (acct :
       room : length ks < length (flat bs)
       room = let a = Rattle.dt_trail.proofs.Flats.before_le bs d.block in let b : length (row bs d.block).cells ≡ d.len = sym st.len in let e : before bs d.block + i ≡ length ks = spot in let g = near in omega arith
 
-      shows : Shows (lawful acct) items (flat new)
-      shows = subst (Shows (lawful acct) items) (sym flat_is) record {
+      shows : ShowsRow (lawful acct) items (flat new)
+      shows = subst (ShowsRow (lawful acct) items) (sym flat_is) record {
         room = (let a = room in omega (arith, length-set (flat bs) (length ks) c, length-append ks (x ∷ [])));
         words = words_push (flat bs) ks x c room refl (λ k. h.shows.words k ∙ ap (λ l. code_at l k) whole.1);
         legal = ok;
         real = All-push ks x (subst AllReal whole.1 h.shows.real) real;
       }
 
-      others : (j : ℕ) (u : View K) → j ≢ id → get_elem? s.views j ≡ some u → Fits world j u
+      others : (j : ℕ) (u : View K) → j ≢ id → get_elem? s.views j ≡ some u → FitsRow world j u
       others j u apart e = let g = h.each j u e in
           let g0 : StartsWith ks u.knows = subst (λ l. StartsWith l u.knows) whole.1 g.begins in
           let live = f.live refl in record {
@@ -101,7 +101,7 @@ module _ {K : Type 0} (lawful : K → List Item → Type 0) (root : Ptr) (acct :
             plan = (λ o _. absurd (apart (sym (g.owns o).0 ∙ whole.0)));
           }
 
-      mine_fits : Fits world id w
+      mine_fits : FitsRow world id w
       mine_fits = let live = f.live refl in record {
         account = f.account;
         begins = starts_self items;
@@ -125,4 +125,4 @@ module _ {K : Type 0} (lawful : K → List Item → Type 0) (root : Ptr) (acct :
       }
         where
           row_set : with_word s.rows (suc d.block) i (code x) ≡ h.world.base ∷ new
-          row_set = ap (λ (rs : List (Row Slot)). set rs (suc d.block) (row_at (row rs (suc d.block)).at (set (row rs (suc d.block)).cells i c))) h.is
+          row_set = ap (λ (rs : List (Row NoSlot)). set rs (suc d.block) (row_at (row rs (suc d.block)).at (set (row rs (suc d.block)).cells i c))) h.is

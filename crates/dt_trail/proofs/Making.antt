@@ -9,9 +9,9 @@ use denote.RawPtr.{Ptr, InBlock}
 use Rattle.atomic_blocks.specs.Cells.{Cell, cell, row_at, row, cell_in}
 use Rattle.dt_trail.specs.declared.rule.About.{About}
 use Rattle.dt_trail.specs.declared.rule.View.{View}
-use Rattle.dt_trail.specs.Items.{Item}
+use Rattle.dt_trail.specs.Items.{TrailItem}
 use Rattle.dt_trail.specs.Blocks.{flat, Blank, Rooted}
-use Rattle.dt_trail.specs.Rule.{Slot, World, Fits, Kept, maker, first_door, first_site}
+use Rattle.dt_trail.specs.Rule.{NoSlot, RowWorld, FitsRow, Kept, maker, first_door, first_site}
 use Rattle.dt_trail.proofs.Fitting.{off}
 
 module _ {S : Type 0} where
@@ -29,7 +29,7 @@ module _ {S : Type 0} where
   blank_more (c ∷ cs) p h b zero = b 0
   blank_more (c ∷ cs) p h b (suc k) = blank_more cs p h (λ j. b (suc j)) k
 
-pub begins : {K : Type 0} (lawful : K → List Item → Type 0) (key : About K) (p q : Ptr) (cs ds : List (Cell Slot)) → p ≡ key.root.ptr → q ≡ key.first.ptr → Rooted key.first.ptr key.size 33 cs
+pub begins : {K : Type 0} (lawful : K → List TrailItem → Type 0) (key : About K) (p q : Ptr) (cs ds : List (Cell NoSlot)) → p ≡ key.root.ptr → q ≡ key.first.ptr → Rooted key.first.ptr key.size 33 cs
     → length ds ≡ key.size → Blank ds → 0 < key.size → key.size < 2 ^ 40 → InBlock q → lawful key.account []
     → Kept lawful key.root.ptr key.account record { rows = row_at p cs ∷ row_at q ds ∷ []; views = maker (Some key.account) 0 (first_door key.size key.first.ptr) (first_site key.size) ∷ [] }
 begins {K = K} lawful key p q cs ds ep eq rooted long blank pos small placed ok = record {
@@ -49,7 +49,7 @@ begins {K = K} lawful key p q cs ds ep eq rooted long blank pos small placed ok 
   each = each;
 }
   where
-    world : World K
+    world : RowWorld K
     world = record { account = key.account; base = row_at p cs; blocks = row_at q ds ∷ []; items = []; place = λ k. k; keeper = 0; made = 0 }
 
     flat_long : length (flat (row_at q ds ∷ [])) ≡ key.size
@@ -64,10 +64,10 @@ begins {K = K} lawful key p q cs ds ep eq rooted long blank pos small placed ok 
     places (suc j) h = absurd (omega arith)
 
     words : (k : ℕ) → (cell_in (flat (row_at q ds ∷ [])) k).word ≡ 0
-    words k = ap (λ (l : List (Cell Slot)). (cell_in l k).word) (append-nil ds) ∙ blank k
+    words k = ap (λ (l : List (Cell NoSlot)). (cell_in l k).word) (append-nil ds) ∙ blank k
 
-    each : (by : ℕ) (v : View K) → get_elem? (maker (Some key.account) 0 (first_door key.size key.first.ptr) (first_site key.size) ∷ []) by ≡ some v → Fits world by v
-    each zero v e = subst (Fits world 0) (some-injective _ _ e) record {
+    each : (by : ℕ) (v : View K) → get_elem? (maker (Some key.account) 0 (first_door key.size key.first.ptr) (first_site key.size) ∷ []) by ≡ some v → FitsRow world by v
+    each zero v e = subst (FitsRow world 0) (some-injective _ _ e) record {
       account = (λ x a. cc);
       begins = ([], refl);
       live = (λ c. absurd (off c));

@@ -9,15 +9,15 @@ use Rattle.atomic_table.proofs.Lists.{at_set}
 use Rattle.dt_trail.specs.declared.door.Door.{Door}
 use Rattle.dt_trail.specs.declared.rule.Site.{Site}
 use Rattle.dt_trail.specs.declared.rule.View.{View}
-use Rattle.dt_trail.specs.Items.{Item, own, StartsWith}
-use Rattle.dt_trail.specs.Blocks.{Stands}
+use Rattle.dt_trail.specs.Items.{TrailItem, own, StartsWith}
+use Rattle.dt_trail.specs.Blocks.{LiesAt}
 use Rattle.dt_trail.proofs.Begins.{starts_shorter, starts_length, own_longer}
 use Rattle.std.proofs.lemmas.Bool.{ltb-true}
-use Rattle.dt_trail.specs.Rule.{Slot, World, Fits, Kept, note, appender, owner, maker, nobody, viewed, claim, claim_of, informed}
+use Rattle.dt_trail.specs.Rule.{NoSlot, RowWorld, FitsRow, Kept, note, appender, owner, maker, nobody, viewed, claim, claim_of, informed}
 use Rattle.dt_trail.proofs.Fitting.{off, fits_set, fits_split, fits_nobody, in_root}
 
-module _ {K : Type 0} (lawful : K → List Item → Type 0) (root : Ptr) (acct : K) where
-  abbrev H : State Slot (View K) → Type 0
+module _ {K : Type 0} (lawful : K → List TrailItem → Type 0) (root : Ptr) (acct : K) where
+  abbrev H : State NoSlot (View K) → Type 0
   H = Kept lawful root acct
 
   -- the maker makes a note
@@ -28,7 +28,7 @@ module _ {K : Type 0} (lawful : K → List Item → Type 0) (root : Ptr) (acct :
       let count : h.world.made ≡ n = (f.makes refl).1 in
       let seat : ℕ = length s.views in
       let place : ℕ → ℕ = λ k. cond (eqb k n) seat (h.world.place k) in
-      let world : World K = record { account = h.world.account; base = h.world.base; blocks = h.world.blocks; items = h.world.items; place = place; keeper = h.world.keeper; made = n + 1 } in (
+      let world : RowWorld K = record { account = h.world.account; base = h.world.base; blocks = h.world.blocks; items = h.world.items; place = place; keeper = h.world.keeper; made = n + 1 } in (
         in_root lawful root acct s h 0 (omega arith),
         record {
           world = world;
@@ -69,7 +69,7 @@ module _ {K : Type 0} (lawful : K → List Item → Type 0) (root : Ptr) (acct :
       let f = h.each id (maker a n d t) at in
       let all = f.owns refl in
       let seat : ℕ = length s.views in
-      let world : World K = record { account = h.world.account; base = h.world.base; blocks = h.world.blocks; items = h.world.items; place = h.world.place; keeper = seat; made = h.world.made } in (
+      let world : RowWorld K = record { account = h.world.account; base = h.world.base; blocks = h.world.blocks; items = h.world.items; place = h.world.place; keeper = seat; made = h.world.made } in (
         in_root lawful root acct s h 0 (omega arith),
         record {
           world = world;
@@ -95,7 +95,7 @@ module _ {K : Type 0} (lawful : K → List Item → Type 0) (root : Ptr) (acct :
       )
 
   -- the owner's right goes into a note
-  pub lends : (id : ℕ) (a : Option K) (n : ℕ) (ks : List Item) (d : Door) (other : ℕ) (xs : List Item) (d' : Door) (t : Site) → Joins H 0 root id (note a n ks d) other (owner a xs d' t) (appender a n ks xs d' t) nobody
+  pub lends : (id : ℕ) (a : Option K) (n : ℕ) (ks : List TrailItem) (d : Door) (other : ℕ) (xs : List TrailItem) (d' : Door) (t : Site) → Joins H 0 root id (note a n ks d) other (owner a xs d' t) (appender a n ks xs d' t) nobody
   lends id a n ks d other xs d' t s h = (in_root lawful root acct s h 0 (omega arith), kept)
     where
       v : View K
@@ -107,7 +107,7 @@ module _ {K : Type 0} (lawful : K → List Item → Type 0) (root : Ptr) (acct :
       w : View K
       w = appender a n ks xs d' t
 
-      world : World K
+      world : RowWorld K
       world = record { account = h.world.account; base = h.world.base; blocks = h.world.blocks; items = h.world.items; place = h.world.place; keeper = id; made = h.world.made }
 
       kept : get_elem? s.views id ≡ some (note a n ks d) → ¬ (other ≡ id) → get_elem? (set s.views id (appender a n ks xs d' t)) other ≡ some (owner a xs d' t) → H record { rows = s.rows; views = set (set s.views id (appender a n ks xs d' t)) other nobody }
@@ -124,7 +124,7 @@ module _ {K : Type 0} (lawful : K → List Item → Type 0) (root : Ptr) (acct :
             shows = h.shows;
             each = fits_set world (set s.views id w) other nobody
                 (λ j u ne e. ⊎_elim
-                (λ (x : (j ≡ id) × (w ≡ u)). subst (λ (y : ℕ × View K). Fits world y.0 y.1) (λ i. (sym x.0 i, x.1 i)) record {
+                (λ (x : (j ≡ id) × (w ≡ u)). subst (λ (y : ℕ × View K). FitsRow world y.0 y.1) (λ i. (sym x.0 i, x.1 i)) record {
                   account = g.account;
                   begins = g.begins;
                   live = (λ _. (live.0, live.1, ap (own n) whole.1));
@@ -151,12 +151,12 @@ module _ {K : Type 0} (lawful : K → List Item → Type 0) (root : Ptr) (acct :
           }
 
   -- and out again
-  pub returns_right : (id : ℕ) (a : Option K) (n : ℕ) (had ks : List Item) (d : Door) (t : Site) → Splits H 0 root id (appender a n had ks d t) (note a n ks d) (owner a ks d t)
+  pub returns_right : (id : ℕ) (a : Option K) (n : ℕ) (had ks : List TrailItem) (d : Door) (t : Site) → Splits H 0 root id (appender a n had ks d t) (note a n ks d) (owner a ks d t)
   returns_right id a n had ks d t s h at =
       let f = h.each id (appender a n had ks d t) at in
       let whole = f.owns refl in
       let seat : ℕ = length s.views in
-      let world : World K = record { account = h.world.account; base = h.world.base; blocks = h.world.blocks; items = h.world.items; place = h.world.place; keeper = seat; made = h.world.made } in (
+      let world : RowWorld K = record { account = h.world.account; base = h.world.base; blocks = h.world.blocks; items = h.world.items; place = h.world.place; keeper = seat; made = h.world.made } in (
         in_root lawful root acct s h 0 (omega arith),
         record {
           world = world;
@@ -181,7 +181,7 @@ module _ {K : Type 0} (lawful : K → List Item → Type 0) (root : Ptr) (acct :
         },
       )
 
-  fits_claim : (w : World K) (by n : ℕ) (v : View K) → Fits w by v → Fits w n (claim_of v)
+  fits_claim : (w : RowWorld K) (by n : ℕ) (v : View K) → FitsRow w by v → FitsRow w n (claim_of v)
   fits_claim w by n v f = record {
     account = f.account;
     begins = f.begins;
@@ -209,13 +209,13 @@ module _ {K : Type 0} (lawful : K → List Item → Type 0) (root : Ptr) (acct :
         },
       )
 
-  pub fits_longer : (w : World K) (by : ℕ) (v u : View K) → Fits w by v → StartsWith w.items u.knows → (0 < u.door.len → Stands w.blocks u.door) → Fits w by (informed v u)
+  pub fits_longer : (w : RowWorld K) (by : ℕ) (v u : View K) → FitsRow w by v → StartsWith w.items u.knows → (0 < u.door.len → LiesAt w.blocks u.door) → FitsRow w by (informed v u)
   fits_longer w by v u f begins stands = by_case (ltb (length v.knows) (length u.knows)) refl
     where
       P : Bool → Type 0
-      P b = Fits w by (viewed v.account v.live v.owns v.makes v.note (cond b u.knows v.knows) v.had (cond b u.door v.door) v.site)
+      P b = FitsRow w by (viewed v.account v.live v.owns v.makes v.note (cond b u.knows v.knows) v.had (cond b u.door v.door) v.site)
 
-      by_case : (b : Bool) → ltb (length v.knows) (length u.knows) ≡ b → Fits w by (informed v u)
+      by_case : (b : Bool) → ltb (length v.knows) (length u.knows) ≡ b → FitsRow w by (informed v u)
       by_case false e = subst P (sym e) f
       by_case true e =
           let lt : length v.knows < length u.knows = ltb-true (length v.knows) (length u.knows) e in
@@ -233,7 +233,7 @@ module _ {K : Type 0} (lawful : K → List Item → Type 0) (root : Ptr) (acct :
           }
 
   -- a claim is taken in
-  pub learns : (id : ℕ) (v : View K) (other : ℕ) (a : Option K) (ks : List Item) (d : Door) → Joins H 0 root id v other (claim a ks d) (informed v (claim a ks d)) nobody
+  pub learns : (id : ℕ) (v : View K) (other : ℕ) (a : Option K) (ks : List TrailItem) (d : Door) → Joins H 0 root id v other (claim a ks d) (informed v (claim a ks d)) nobody
   learns id v other a ks d s h = (in_root lawful root acct s h 0 (omega arith), kept)
     where
       u : View K

@@ -8,20 +8,20 @@ use Rattle.atomic_blocks.specs.Cells.{Row, State, Step, step, no_row, row, cell_
 use Rattle.dt_trail.specs.declared.door.Door.{Door}
 use Rattle.dt_trail.specs.declared.rule.Site.{Site}
 use Rattle.dt_trail.specs.declared.rule.View.{View}
-use Rattle.dt_trail.specs.Items.{Item, code, IsReal, AllReal, own, code_at, StartsWith}
-use Rattle.dt_trail.specs.Blocks.{before, Stands}
-use Rattle.dt_trail.specs.Rule.{Slot, Fits, Kept, Turn, appender, through, door_at, pushed, reviewed, Finds, IsCompared, IsRead, IsTurned, IsSeen}
+use Rattle.dt_trail.specs.Items.{TrailItem, code, IsReal, AllReal, own, code_at, StartsWith}
+use Rattle.dt_trail.specs.Blocks.{before, LiesAt}
+use Rattle.dt_trail.specs.Rule.{NoSlot, FitsRow, Kept, Turn, appender, through, door_at, pushed, reviewed, FindsItem, HasCompared, HasRead, IsTurned, IsSeen}
 use Rattle.dt_trail.proofs.Begins.{own_rest, own_longer, not_own, All-at, code_some, code_behind}
 use Rattle.dt_trail.proofs.Flats.{before_next, before_all, before_le}
 use Rattle.dt_trail.proofs.Fitting.{root_is, in_root, in_block, word_is, quiet, quiet_link, fits_again}
 
-module _ {K : Type 0} (lawful : K → List Item → Type 0) (root : Ptr) (acct : K) where
-  abbrev H : State Slot (View K) → Type 0
+module _ {K : Type 0} (lawful : K → List TrailItem → Type 0) (root : Ptr) (acct : K) where
+  abbrev H : State NoSlot (View K) → Type 0
   H = Kept lawful root acct
 
   -- a read of the first cell that the seat doesn't know
   pub reads : (id : ℕ) (m : Turn K) (i : ℕ) → 0 < m.view.door.len → m.view.door.from + i ≡ length m.view.knows → i < m.view.door.len
-      → Allows H id m (suc m.view.door.block) m.view.door.link.ptr i (λ n. n) (IsRead lawful (step (suc m.view.door.block) m.view.door.link.ptr i 0 0) m)
+      → Allows H id m (suc m.view.door.block) m.view.door.link.ptr i (λ n. n) (HasRead lawful (step (suc m.view.door.block) m.view.door.link.ptr i 0 0) m)
   reads id m i pos here near s h at = (in_block lawful root acct s h d i st near, λ _. by_rest f.begins.0 f.begins.1)
     where
       v : View K
@@ -30,10 +30,10 @@ module _ {K : Type 0} (lawful : K → List Item → Type 0) (root : Ptr) (acct :
       d : Door
       d = m.view.door
 
-      f : Fits h.world id m.view
+      f : FitsRow h.world id m.view
       f = h.each id m.view at
 
-      st : Stands h.world.blocks m.view.door
+      st : LiesAt h.world.blocks m.view.door
       st = f.stands pos
 
       k : ℕ
@@ -42,7 +42,7 @@ module _ {K : Type 0} (lawful : K → List Item → Type 0) (root : Ptr) (acct :
       st0 : Step
       st0 = step (suc m.view.door.block) m.view.door.link.ptr i 0 0
 
-      items : List Item
+      items : List TrailItem
       items = h.world.items
 
       found : ℕ
@@ -51,11 +51,11 @@ module _ {K : Type 0} (lawful : K → List Item → Type 0) (root : Ptr) (acct :
       found_is : found ≡ code_at items (length m.view.knows)
       found_is = word_is lawful root acct s h d i st near ∙ ap (code_at items) here
 
-      by_rest : (rest : List Item) → items ≡ v.knows ++ rest → Goes H s (with_word s.rows k i found) id m (IsRead lawful st0 m found)
+      by_rest : (rest : List TrailItem) → items ≡ v.knows ++ rest → Goes H s (with_word s.rows k i found) id m (HasRead lawful st0 m found)
       by_rest [] e =
           let none : found ≡ 0 = found_is ∙ (ap (λ l. code_at l (length v.knows)) e ∙ code_behind v.knows []) in
-          quiet lawful root acct s h k i id m v (IsRead lawful st0 m found) (fits_again lawful root acct s h id v f)
-          ((λ y ey. ([], subst (λ z. lawful z (v.knows ++ [])) (sym (f.account y ey ∙ h.keyed)) (subst (lawful acct) e h.shows.legal))), subst (λ b. MatchBool b (m ≡ m) (Finds m found m)) (sym (eq-eqb found 0 none)) refl)
+          quiet lawful root acct s h k i id m v (HasRead lawful st0 m found) (fits_again lawful root acct s h id v f)
+          ((λ y ey. ([], subst (λ z. lawful z (v.knows ++ [])) (sym (f.account y ey ∙ h.keyed)) (subst (lawful acct) e h.shows.legal))), subst (λ b. MatchBool b (m ≡ m) (FindsItem m found m)) (sym (eq-eqb found 0 none)) refl)
       by_rest (x ∷ xs) e =
           let is : found ≡ code x = found_is ∙ (ap (λ l. code_at l (length v.knows)) e ∙ code_behind v.knows (x ∷ xs)) in
           let real : IsReal x = All-at v.knows x xs (subst AllReal e h.shows.real) in
@@ -63,7 +63,7 @@ module _ {K : Type 0} (lawful : K → List Item → Type 0) (root : Ptr) (acct :
           let w : View K = pushed v x in
           let next : StartsWith items w.knows = (xs, e ∙ sym (append_assoc v.knows (x ∷ []) xs)) in
           let begin : StartsWith w.knows v.knows = (x ∷ [], refl) in
-          quiet lawful root acct s h k i id m w (IsRead lawful st0 m found)
+          quiet lawful root acct s h k i id m w (HasRead lawful st0 m found)
           (fits_again lawful root acct s h id w record {
             account = f.account;
             begins = next;
@@ -76,7 +76,7 @@ module _ {K : Type 0} (lawful : K → List Item → Type 0) (root : Ptr) (acct :
             plan = f.plan;
           }) (
             (λ y ey. (next.0, subst (λ z. lawful z (w.knows ++ next.0)) (sym (f.account y ey ∙ h.keyed)) (subst (lawful acct) next.1 h.shows.legal))),
-            subst (λ b. MatchBool b (reviewed m w ≡ m) (Finds m found (reviewed m w))) (sym (ne_eqb found 0 some))
+            subst (λ b. MatchBool b (reviewed m w ≡ m) (FindsItem m found (reviewed m w))) (sym (ne_eqb found 0 some))
                 record { item = x; shown = is; real = real; other = (λ l. not_own v.note x xs (own_rest v.note items v.knows (x ∷ xs, e) (f.live l).2)); next = refl },
           )
 
@@ -91,13 +91,13 @@ module _ {K : Type 0} (lawful : K → List Item → Type 0) (root : Ptr) (acct :
       d : Door
       d = m.view.door
 
-      f : Fits h.world id m.view
+      f : FitsRow h.world id m.view
       f = h.each id m.view at
 
-      st : Stands h.world.blocks m.view.door
+      st : LiesAt h.world.blocks m.view.door
       st = f.stands pos
 
-      bs : List (Row Slot)
+      bs : List (Row NoSlot)
       bs = h.world.blocks
 
       found : ℕ
@@ -107,12 +107,12 @@ module _ {K : Type 0} (lawful : K → List Item → Type 0) (root : Ptr) (acct :
       st0 = step 0 root i 0 0
 
       found_is : found ≡ length (row bs i).cells
-      found_is = ap (λ (r : Row Slot). (cell_in r.cells i).word) (root_is lawful root acct s h) ∙ h.laid.sizes i near
+      found_is = ap (λ (r : Row NoSlot). (cell_in r.cells i).word) (root_is lawful root acct s h) ∙ h.laid.sizes i near
 
       from_is : before bs i ≡ d.from + d.len
       from_is = ap (before bs) ei ∙ (before_next bs d.block ∙ (λ t. sym st.from t + sym st.len t))
 
-      legal : (x : K) → v.account ≡ Some x → (rest : List Item) × lawful x (v.knows ++ rest)
+      legal : (x : K) → v.account ≡ Some x → (rest : List TrailItem) × lawful x (v.knows ++ rest)
       legal x e = (f.begins.0, subst (λ z. lawful z (v.knows ++ f.begins.0)) (sym (f.account x e ∙ h.keyed)) (subst (lawful acct) f.begins.1 h.shows.legal))
 
       Next : View K → Type 0
@@ -143,7 +143,7 @@ module _ {K : Type 0} (lawful : K → List Item → Type 0) (root : Ptr) (acct :
           )
       by_case (no none) =
           let gone : row bs i ≡ no_row = lib.ListN.get_or-eq_default bs no_row (omega arith) in
-          let empty : found ≡ 0 = found_is ∙ ap (λ (r : Row Slot). length r.cells) gone in
+          let empty : found ≡ 0 = found_is ∙ ap (λ (r : Row NoSlot). length r.cells) gone in
           quiet lawful root acct s h 0 i id m v (IsTurned lawful st0 m found) (fits_again lawful root acct s h id v f) (
             legal,
             subst (λ b. MatchBool b ((m ≡ m) × (v.owns ≡ true → v.site.cells ≡ d.from + d.len)) (Next v)) (sym (eq-eqb found 0 empty))
@@ -160,16 +160,16 @@ module _ {K : Type 0} (lawful : K → List Item → Type 0) (root : Ptr) (acct :
       let pl = h.laid.places i there in (
         in_root lawful root acct s h i near,
         quiet_link lawful root acct s h 0 i id m m.view (IsSeen 0 i m (link_of s.rows 0 i)) (fits_again lawful root acct s h id m.view f)
-            (refl, ap (λ (r : Row Slot). (cell_in r.cells i).link) (root_is lawful root acct s h) ∙ (pl.0 ∙ (ap (λ (n : ℕ). (row h.world.blocks n).at) ei ∙ st.at))),
+            (refl, ap (λ (r : Row NoSlot). (cell_in r.cells i).link) (root_is lawful root acct s h) ∙ (pl.0 ∙ (ap (λ (n : ℕ). (row h.world.blocks n).at) ei ∙ st.at))),
       )
 
   -- a note that has the owner's right compares
-  pub compares : (id : ℕ) (a : Option K) (n : ℕ) (had ks : List Item) (d : Door) (t : Site) (m : Turn K) → m.view ≡ appender a n had ks d t → Allows H id m 0 root 0 (λ x. x) (IsCompared (step 0 root 0 0 0) m)
+  pub compares : (id : ℕ) (a : Option K) (n : ℕ) (had ks : List TrailItem) (d : Door) (t : Site) (m : Turn K) → m.view ≡ appender a n had ks d t → Allows H id m 0 root 0 (λ x. x) (HasCompared (step 0 root 0 0 0) m)
   compares id a n had ks d t m e s h at =
       let f = h.each id m.view at in
       let a = f.had (ap (λ (v : View K). v.owns) e) (ap (λ (v : View K). v.live) e) in
       let whole = (f.owns (ap (λ (v : View K). v.owns) e)).1 in (
         in_root lawful root acct s h 0 (omega arith),
-        λ _. quiet lawful root acct s h 0 0 id m m.view (IsCompared (step 0 root 0 0 0) m (word_of s.rows 0 0)) (fits_again lawful root acct s h id m.view f)
+        λ _. quiet lawful root acct s h 0 0 id m m.view (HasCompared (step 0 root 0 0 0) m (word_of s.rows 0 0)) (fits_again lawful root acct s h id m.view f)
             (refl, (subst (λ l. StartsWith l m.view.had) whole a.0, ap (own m.view.note) (sym whole) ∙ a.1)),
       )

@@ -7,26 +7,26 @@ use Rattle.dt_trail.specs.declared.rule.About.{About}
 use Rattle.dt_trail.specs.declared.door.Door.{Door}
 use Rattle.dt_trail.specs.declared.rule.Site.{Site}
 use Rattle.dt_trail.specs.declared.rule.View.{View}
-use Rattle.dt_trail.specs.Items.{Item, whose, code, IsReal}
+use Rattle.dt_trail.specs.Items.{TrailItem, whose, code, IsReal}
 use Rattle.dt_trail.specs.Insides.{IsDoor}
-use Rattle.dt_trail.specs.Rule.{Slot, Kept, Turn, note, appender, owner, maker, nobody, site_of, with_right, without_right, right_of, maker_after, made, ended, IsSet, IsCompared, IsRead, IsTurned, IsSeen, IsPlanned, IsLaid, reviewed, through, door_at, claim, claim_of, informed}
+use Rattle.dt_trail.specs.Rule.{NoSlot, Kept, Turn, note, appender, owner, maker, nobody, site_of, with_right, without_right, right_of, maker_after, made, ended, IsSet, HasCompared, HasRead, IsTurned, IsSeen, IsPlanned, IsLaid, reviewed, through, door_at, claim, claim_of, informed}
 use Rattle.dt_trail.proofs.Steps as steps
 use Rattle.dt_trail.proofs.Grows as grows
 use Rattle.dt_trail.proofs.Widens as widens
 use Rattle.dt_trail.proofs.Seats as seats
 
-module _ {K : Type 0} (lawful : K → List Item → Type 0) (key about : About K) (keyed : key ≡ about) where
-  abbrev H : Rattle.atomic_blocks.specs.Cells.State Slot (View K) → Type 0
+module _ {K : Type 0} (lawful : K → List TrailItem → Type 0) (key about : About K) (keyed : key ≡ about) where
+  abbrev H : Rattle.atomic_blocks.specs.Cells.State NoSlot (View K) → Type 0
   H = Kept lawful key.root.ptr key.account
 
   abbrev root_is : key.root.ptr ≡ about.root.ptr
   root_is = ap (λ (k : About K). k.root.ptr) keyed
 
   pub reads_as : (id : ℕ) (m : Turn K) (d : Door) (count : ℕ) → m.view.door ≡ d → IsDoor d → count ≡ length m.view.knows → d.from ≤ count → count < d.from + d.len
-      → Allows H id m (d.block + 1) d.link.ptr (count - d.from) (λ n. n) (IsRead lawful (step (d.block + 1) d.link.ptr (count - d.from) 0 0) m)
+      → Allows H id m (d.block + 1) d.link.ptr (count - d.from) (λ n. n) (HasRead lawful (step (d.block + 1) d.link.ptr (count - d.from) 0 0) m)
   reads_as id m d count e is at low high = subst (λ (z : Door). IsDoor z → z.from ≤ count → count < z.from + z.len
-      → Allows H id m (z.block + 1) z.link.ptr (count - z.from) (λ n. n) (IsRead lawful (step (z.block + 1) z.link.ptr (count - z.from) 0 0) m)) e
-      (λ i l h. subst (λ (b : ℕ). Allows H id m b m.view.door.link.ptr (count - m.view.door.from) (λ n. n) (IsRead lawful (step b m.view.door.link.ptr (count - m.view.door.from) 0 0) m)) (let o : suc m.view.door.block ≡ m.view.door.block + 1 = omega arith in o)
+      → Allows H id m (z.block + 1) z.link.ptr (count - z.from) (λ n. n) (HasRead lawful (step (z.block + 1) z.link.ptr (count - z.from) 0 0) m)) e
+      (λ i l h. subst (λ (b : ℕ). Allows H id m b m.view.door.link.ptr (count - m.view.door.from) (λ n. n) (HasRead lawful (step b m.view.door.link.ptr (count - m.view.door.from) 0 0) m)) (let o : suc m.view.door.block ≡ m.view.door.block + 1 = omega arith in o)
       (steps.reads lawful key.root.ptr key.account id m (count - m.view.door.from) i.some (let x = at in omega arith) (omega arith))) is low high
 
   pub turns_as : (id : ℕ) (m : Turn K) (d : Door) → m.view.door ≡ d → IsDoor d → Allows H id m 0 about.root.ptr (d.block + 1) (λ n. n) (IsTurned lawful (step 0 about.root.ptr (d.block + 1) 0 0) m)
@@ -41,7 +41,7 @@ module _ {K : Type 0} (lawful : K → List Item → Type 0) (key about : About K
   lends_as id v other w ev ew same = subst (λ (p : Ptr × (View K × View K)). Joins H 0 p.0 id p.1.0 other p.1.1 (with_right p.1.0 p.1.1) nobody) (λ i. (root_is i, (sym ev i, sym (ew ∙ ap (λ (a : Option K). owner a w.knows w.door w.site) same) i)))
       (seats.lends lawful key.root.ptr key.account id v.account v.note v.knows v.door other w.knows w.door w.site)
 
-  pub sets_as : (id : ℕ) (m : Turn K) (a : Option K) (n : ℕ) (had ks : List Item) (d : Door) (t : Site) (count : ℕ) (x : Item) (word : ℕ) → word ≡ code x → m.view ≡ appender a n had ks d t → IsDoor d → count ≡ length ks → d.from ≤ count → count < d.from + d.len
+  pub sets_as : (id : ℕ) (m : Turn K) (a : Option K) (n : ℕ) (had ks : List TrailItem) (d : Door) (t : Site) (count : ℕ) (x : TrailItem) (word : ℕ) → word ≡ code x → m.view ≡ appender a n had ks d t → IsDoor d → count ≡ length ks → d.from ≤ count → count < d.from + d.len
       → whose x ≡ n → IsReal x → lawful key.account (ks ++ x ∷ [])
       → Allows H id m (d.block + 1) d.link.ptr (count - d.from) (λ _. word) (λ _. IsSet x (step (d.block + 1) d.link.ptr (count - d.from) word 0) m word)
   sets_as id m a n had ks d t count x word ew e is at low high mine real ok = subst (λ (w : ℕ). Allows H id m (d.block + 1) d.link.ptr (count - d.from) (λ _. w) (λ _. IsSet x (step (d.block + 1) d.link.ptr (count - d.from) w 0) m w)) (sym ew)
@@ -49,10 +49,10 @@ module _ {K : Type 0} (lawful : K → List Item → Type 0) (key about : About K
       (subst (λ (b : ℕ). Allows H id (me (appender a n had ks d t) m.hand m.spare) b d.link.ptr (count - d.from) (λ _. code x) (λ _. IsSet x (step b d.link.ptr (count - d.from) (code x) 0) (me (appender a n had ks d t) m.hand m.spare) (code x)))
       (let o : suc d.block ≡ d.block + 1 = omega arith in o) (grows.sets lawful key.root.ptr key.account id a n had ks d t m.hand m.spare (count - d.from) x is.some (let y = at in omega arith) (omega arith) mine real ok)))
 
-  pub compares_as : (id : ℕ) (m : Turn K) (a : Option K) (n : ℕ) (had ks : List Item) (d : Door) (t : Site) → m.view ≡ appender a n had ks d t → Allows H id m 0 about.root.ptr 0 (λ x. x) (IsCompared (step 0 about.root.ptr 0 0 0) m)
-  compares_as id m a n had ks d t e = subst (λ (p : Ptr). Allows H id m 0 p 0 (λ x. x) (IsCompared (step 0 p 0 0 0) m)) root_is (steps.compares lawful key.root.ptr key.account id a n had ks d t m e)
+  pub compares_as : (id : ℕ) (m : Turn K) (a : Option K) (n : ℕ) (had ks : List TrailItem) (d : Door) (t : Site) → m.view ≡ appender a n had ks d t → Allows H id m 0 about.root.ptr 0 (λ x. x) (HasCompared (step 0 about.root.ptr 0 0 0) m)
+  compares_as id m a n had ks d t e = subst (λ (p : Ptr). Allows H id m 0 p 0 (λ x. x) (HasCompared (step 0 p 0 0 0) m)) root_is (steps.compares lawful key.root.ptr key.account id a n had ks d t m e)
 
-  pub returns_right_as : (id : ℕ) (v : View K) (a : Option K) (n : ℕ) (had ks : List Item) (d : Door) (t : Site) → v ≡ appender a n had ks d t → Splits H 0 about.root.ptr id v (without_right v) (right_of v)
+  pub returns_right_as : (id : ℕ) (v : View K) (a : Option K) (n : ℕ) (had ks : List TrailItem) (d : Door) (t : Site) → v ≡ appender a n had ks d t → Splits H 0 about.root.ptr id v (without_right v) (right_of v)
   returns_right_as id v a n had ks d t e = subst (λ (p : Ptr × View K). Splits H 0 p.0 id p.1 (without_right p.1) (right_of p.1)) (λ i. (root_is i, sym e i)) (seats.returns_right lawful key.root.ptr key.account id a n had ks d t)
 
   pub makes_as : (id : ℕ) (v : View K) (a : Option K) (n : ℕ) (d : Door) (t : Site) → v ≡ maker a n d t → Splits H 0 about.root.ptr id v (maker_after v) (made v)
@@ -64,7 +64,7 @@ module _ {K : Type 0} (lawful : K → List Item → Type 0) (key about : About K
   pub plans_as : (id : ℕ) (m : Turn K) (i : ℕ) (q : Ptr) → m.view.owns ≡ true → i ≡ m.view.site.blocks → i < 32 → AllowsLink H id m 0 about.root.ptr i (λ _. q) (λ _. IsPlanned 0 i m q)
   plans_as id m i q owns ei few = subst (λ (p : Ptr). AllowsLink H id m 0 p i (λ _. q) (λ _. IsPlanned 0 i m q)) root_is (widens.plans lawful key.root.ptr key.account id m i q owns ei few)
 
-  pub widens_as : (id : ℕ) (blocks total : ℕ) (m : Turn K) (i size : ℕ) (q : Ptr) (cs : List (Cell Slot)) → m.view.owns ≡ true → m.view.site ≡ site_of blocks total true q → m.spare ≡ Some (row_at q cs)
+  pub widens_as : (id : ℕ) (blocks total : ℕ) (m : Turn K) (i size : ℕ) (q : Ptr) (cs : List (Cell NoSlot)) → m.view.owns ≡ true → m.view.site ≡ site_of blocks total true q → m.spare ≡ Some (row_at q cs)
       → i ≡ blocks → i < 32 → length cs ≡ size → 0 < size → size < 2 ^ 40 → InBlock q → ((k : ℕ) → (cell_in cs k).word ≡ 0) → total + size < 2 ^ 60
       → Allows H id m 0 about.root.ptr i (λ _. size) (λ _. IsLaid (step 0 about.root.ptr i size 0) m size)
   widens_as id blocks total m i size q cs owns site carried ei few long pos small placed empty room =
@@ -77,7 +77,7 @@ module _ {K : Type 0} (lawful : K → List Item → Type 0) (key about : About K
   learns_as id v other w e = subst (λ (p : Ptr × View K). Joins H 0 p.0 id v other p.1 (informed v p.1) nobody) (λ i. (root_is i, sym e i)) (seats.learns lawful key.root.ptr key.account id v other w.account w.knows w.door)
 
 -- what the root told, where there is a block
-pub turned : {K : Type 0} (lawful : K → List Item → Type 0) (st : Step) (m : Turn K) (found : ℕ) (n : Turn K) → found ≢ 0 → IsTurned lawful st m found n
+pub turned : {K : Type 0} (lawful : K → List TrailItem → Type 0) (st : Step) (m : Turn K) (found : ℕ) (n : Turn K) → found ≢ 0 → IsTurned lawful st m found n
     → (p : Ptr) × InBlock p × (found < 2 ^ 40) × (m.view.door.from + m.view.door.len + found < 2 ^ 60) × (st.index < 32) × (n ≡ reviewed m (through m.view (door_at st.index (m.view.door.from + m.view.door.len) found p)))
 turned {K = K} lawful st m found n some h = subst (λ b. MatchBool b ((n ≡ m) × (m.view.owns ≡ true → m.view.site.cells ≡ m.view.door.from + m.view.door.len))
     ((p : Ptr) × InBlock p × (found < 2 ^ 40) × (m.view.door.from + m.view.door.len + found < 2 ^ 60) × (st.index < 32) × (n ≡ reviewed m (through m.view (door_at st.index (m.view.door.from + m.view.door.len) found p))))) (ne_eqb found 0 some) h.1

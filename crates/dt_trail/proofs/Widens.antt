@@ -11,17 +11,17 @@ use Rattle.atomic_blocks.proofs.After.{row_before, row_last}
 use Rattle.dt_trail.specs.declared.door.Door.{Door}
 use Rattle.dt_trail.specs.declared.rule.Site.{Site}
 use Rattle.dt_trail.specs.declared.rule.View.{View}
-use Rattle.dt_trail.specs.Items.{Item, own, StartsWith}
-use Rattle.dt_trail.specs.Blocks.{flat, Laid, Stands}
-use Rattle.dt_trail.specs.Rule.{Slot, World, Fits, Kept, Turn, site_of, wider, planned_at, HadAll, IsPlanned, IsLaid}
+use Rattle.dt_trail.specs.Items.{TrailItem, own, StartsWith}
+use Rattle.dt_trail.specs.Blocks.{flat, Laid, LiesAt}
+use Rattle.dt_trail.specs.Rule.{NoSlot, RowWorld, FitsRow, Kept, Turn, site_of, wider, planned_at, HadAll, IsPlanned, IsLaid}
 use Rattle.dt_trail.proofs.Flats.{flat_push, before_push, words_more}
 use Rattle.dt_trail.proofs.Fitting.{off, fits_set, root_is, in_root}
 
-abbrev cell_none : Cell Slot
+abbrev cell_none : Cell NoSlot
 cell_none = cell 0 null_ptr None
 
-module _ {K : Type 0} (lawful : K → List Item → Type 0) (root : Ptr) (acct : K) where
-  abbrev H : State Slot (View K) → Type 0
+module _ {K : Type 0} (lawful : K → List TrailItem → Type 0) (root : Ptr) (acct : K) where
+  abbrev H : State NoSlot (View K) → Type 0
   H = Kept lawful root acct
 
   -- the place of the next block is written into the root
@@ -35,19 +35,19 @@ module _ {K : Type 0} (lawful : K → List Item → Type 0) (root : Ptr) (acct :
       w : View K
       w = planned_at m.view q
 
-      f : Fits h.world id m.view
+      f : FitsRow h.world id m.view
       f = h.each id m.view at
 
       count_is : i ≡ length h.world.blocks
       count_is = ei ∙ (f.site owns).0
 
-      c : Cell Slot
+      c : Cell NoSlot
       c = cell (word_of s.rows 0 i) q (home_of s.rows 0 i)
 
-      base : Row Slot
+      base : Row NoSlot
       base = row_at h.world.base.at (set h.world.base.cells i c)
 
-      world : World K
+      world : RowWorld K
       world = record { account = h.world.account; base = base; blocks = h.world.blocks; items = h.world.items; place = h.world.place; keeper = h.world.keeper; made = h.world.made }
 
       near : i < length h.world.base.cells
@@ -56,8 +56,8 @@ module _ {K : Type 0} (lawful : K → List Item → Type 0) (root : Ptr) (acct :
       same_word : (j : ℕ) → (cell_in base.cells j).word ≡ (cell_in h.world.base.cells j).word
       same_word j = dite (ℕ_discrete j i)
           (λ x. subst (λ (z : ℕ). (cell_in base.cells z).word ≡ (cell_in h.world.base.cells z).word) (sym x)
-          (ap (λ (y : Cell Slot). y.word) (get_or-set_same h.world.base.cells i c cell_none near) ∙ ap (λ (r : Row Slot). (cell_in r.cells i).word) (root_is lawful root acct s h)))
-          (λ n. ap (λ (y : Cell Slot). y.word) (get_or-set_other h.world.base.cells i j c cell_none n))
+          (ap (λ (y : Cell NoSlot). y.word) (get_or-set_same h.world.base.cells i c cell_none near) ∙ ap (λ (r : Row NoSlot). (cell_in r.cells i).word) (root_is lawful root acct s h)))
+          (λ n. ap (λ (y : Cell NoSlot). y.word) (get_or-set_other h.world.base.cells i j c cell_none n))
 
       laid : Laid root base h.world.blocks
       laid = record {
@@ -68,10 +68,10 @@ module _ {K : Type 0} (lawful : K → List Item → Type 0) (root : Ptr) (acct :
         wide = h.laid.wide;
         sizes = (λ j lt. same_word j ∙ h.laid.sizes j lt);
         places = (λ j lt. let p = h.laid.places j lt in let other : j ≢ i = (λ x. let y = count_is in omega arith) in
-            (ap (λ (y : Cell Slot). y.link) (get_or-set_other h.world.base.cells i j c cell_none other) ∙ p.0, p.1, p.2, p.3));
+            (ap (λ (y : Cell NoSlot). y.link) (get_or-set_other h.world.base.cells i j c cell_none other) ∙ p.0, p.1, p.2, p.3));
       }
 
-      others : (j : ℕ) (u : View K) → j ≢ id → get_elem? s.views j ≡ some u → Fits world j u
+      others : (j : ℕ) (u : View K) → j ≢ id → get_elem? s.views j ≡ some u → FitsRow world j u
       others j u apart at' = let g = h.each j u at' in record {
         account = g.account;
         begins = g.begins;
@@ -88,7 +88,7 @@ module _ {K : Type 0} (lawful : K → List Item → Type 0) (root : Ptr) (acct :
       kept = record {
         world = world;
         keyed = h.keyed;
-        is = ap (λ (rs : List (Row Slot)). set rs 0 (row_at (row rs 0).at (set (row rs 0).cells i c))) h.is;
+        is = ap (λ (rs : List (Row NoSlot)). set rs 0 (row_at (row rs 0).at (set (row rs 0).cells i c))) h.is;
         laid = laid;
         shows = h.shows;
         each = fits_set world s.views id w others record {
@@ -100,12 +100,12 @@ module _ {K : Type 0} (lawful : K → List Item → Type 0) (root : Ptr) (acct :
           had = f.had;
           stands = f.stands;
           site = f.site;
-          plan = (λ _ _. ap (λ (z : ℕ). (cell_in base.cells z).link) (sym ei) ∙ ap (λ (y : Cell Slot). y.link) (get_or-set_same h.world.base.cells i c cell_none near));
+          plan = (λ _ _. ap (λ (z : ℕ). (cell_in base.cells z).link) (sym ei) ∙ ap (λ (y : Cell NoSlot). y.link) (get_or-set_same h.world.base.cells i c cell_none near));
         };
       }
 
   -- the block is set
-  pub widens : (id : ℕ) (blocks total : ℕ) (m : Turn K) (i size : ℕ) (q : Ptr) (cs : List (Cell Slot)) → m.view.owns ≡ true → m.view.site ≡ site_of blocks total true q → m.spare ≡ Some (row_at q cs)
+  pub widens : (id : ℕ) (blocks total : ℕ) (m : Turn K) (i size : ℕ) (q : Ptr) (cs : List (Cell NoSlot)) → m.view.owns ≡ true → m.view.site ≡ site_of blocks total true q → m.spare ≡ Some (row_at q cs)
       → i ≡ blocks → i < 32 → length cs ≡ size → 0 < size → size < 2 ^ 40 → InBlock q → ((k : ℕ) → (cell_in cs k).word ≡ 0) → total + size < 2 ^ 60
       → Allows H id m 0 root i (λ _. size) (λ _. IsLaid (step 0 root i size 0) m size)
   widens id blocks total m i size q cs owns site_is carried ei few long pos small placed empty room s h at = (in_root lawful root acct s h i (omega arith), λ _. (w, lays x, carried, kept, (refl, had)))
@@ -113,28 +113,28 @@ module _ {K : Type 0} (lawful : K → List Item → Type 0) (root : Ptr) (acct :
       w : View K
       w = wider m.view size
 
-      x : Row Slot
+      x : Row NoSlot
       x = row_at q cs
 
-      f : Fits h.world id m.view
+      f : FitsRow h.world id m.view
       f = h.each id m.view at
 
-      bs : List (Row Slot)
+      bs : List (Row NoSlot)
       bs = h.world.blocks
 
       count_is : i ≡ length h.world.blocks
       count_is = ei ∙ (sym (ap (λ (u : Site). u.blocks) site_is) ∙ (f.site owns).0)
 
-      c : Cell Slot
+      c : Cell NoSlot
       c = cell size (link_of s.rows 0 i) (home_of s.rows 0 i)
 
-      base : Row Slot
+      base : Row NoSlot
       base = row_at h.world.base.at (set h.world.base.cells i c)
 
-      new : List (Row Slot)
+      new : List (Row NoSlot)
       new = bs ++ x ∷ []
 
-      world : World K
+      world : RowWorld K
       world = record { account = h.world.account; base = base; blocks = new; items = h.world.items; place = h.world.place; keeper = h.world.keeper; made = h.world.made }
 
       near : i < length h.world.base.cells
@@ -150,10 +150,10 @@ module _ {K : Type 0} (lawful : K → List Item → Type 0) (root : Ptr) (acct :
       old j lt = row_before bs x j (let y = count_is in omega arith)
 
       gone : (j : ℕ) → i < j → length (row new j).cells ≡ length (row bs j).cells
-      gone j lt = ap (λ (r : Row Slot). length r.cells) (lib.ListN.get_or-eq_default new no_row (let y = count_new in omega arith) ∙ sym (lib.ListN.get_or-eq_default bs no_row (let y = count_is in omega arith)))
+      gone j lt = ap (λ (r : Row NoSlot). length r.cells) (lib.ListN.get_or-eq_default new no_row (let y = count_new in omega arith) ∙ sym (lib.ListN.get_or-eq_default bs no_row (let y = count_is in omega arith)))
 
       link_here : link_of s.rows 0 i ≡ q
-      link_here = ap (λ (r : Row Slot). (cell_in r.cells i).link) (root_is lawful root acct s h)
+      link_here = ap (λ (r : Row NoSlot). (cell_in r.cells i).link) (root_is lawful root acct s h)
           ∙ (ap (λ (z : ℕ). (cell_in h.world.base.cells z).link) (ei ∙ sym (ap (λ (u : Site). u.blocks) site_is))
           ∙ (f.plan owns (ap (λ (u : Site). u.planned) site_is) ∙ ap (λ (u : Site). u.plan.ptr) site_is))
 
@@ -177,29 +177,29 @@ module _ {K : Type 0} (lawful : K → List Item → Type 0) (root : Ptr) (acct :
         some = (let y = count_new in omega arith);
         wide = (let a = long_new in let b = total_is in omega arith);
         sizes = (λ j lt. dite (ℕ_discrete j i)
-            (λ t. subst (λ (z : ℕ). (cell_in base.cells z).word ≡ length (row new z).cells) (sym t) (ap (λ (y : Cell Slot). y.word) here ∙ (sym long ∙ ap (λ (r : Row Slot). length r.cells) (sym last))))
-            (λ n. ap (λ (y : Cell Slot). y.word) (else j n) ∙ (h.laid.sizes j lt ∙ dite (dec_le (suc j) i) (λ l. ap (λ (r : Row Slot). length r.cells) (sym (old j l))) (λ g. sym (gone j (omega arith))))));
+            (λ t. subst (λ (z : ℕ). (cell_in base.cells z).word ≡ length (row new z).cells) (sym t) (ap (λ (y : Cell NoSlot). y.word) here ∙ (sym long ∙ ap (λ (r : Row NoSlot). length r.cells) (sym last))))
+            (λ n. ap (λ (y : Cell NoSlot). y.word) (else j n) ∙ (h.laid.sizes j lt ∙ dite (dec_le (suc j) i) (λ l. ap (λ (r : Row NoSlot). length r.cells) (sym (old j l))) (λ g. sym (gone j (omega arith))))));
         places = (λ j lt. dite (ℕ_discrete j i)
             (λ t. subst (λ (z : ℕ). ((cell_in base.cells z).link ≡ (row new z).at) × InBlock (row new z).at × (0 < length (row new z).cells) × (length (row new z).cells < 2 ^ 40)) (sym t)
-            (subst (λ (r : Row Slot). ((cell_in base.cells i).link ≡ r.at) × InBlock r.at × (0 < length r.cells) × (length r.cells < 2 ^ 40)) (sym last)
-            (ap (λ (y : Cell Slot). y.link) here ∙ link_here, placed, omega arith, omega arith)))
+            (subst (λ (r : Row NoSlot). ((cell_in base.cells i).link ≡ r.at) × InBlock r.at × (0 < length r.cells) × (length r.cells < 2 ^ 40)) (sym last)
+            (ap (λ (y : Cell NoSlot). y.link) here ∙ link_here, placed, omega arith, omega arith)))
             (λ n. let l : j < i = (let y = count_new in omega arith) in let p = h.laid.places j (let y = count_is in omega arith) in
-            subst (λ (r : Row Slot). ((cell_in base.cells j).link ≡ r.at) × InBlock r.at × (0 < length r.cells) × (length r.cells < 2 ^ 40)) (sym (old j l))
-            (ap (λ (y : Cell Slot). y.link) (else j n) ∙ p.0, p.1, p.2, p.3)));
+            subst (λ (r : Row NoSlot). ((cell_in base.cells j).link ≡ r.at) × InBlock r.at × (0 < length r.cells) × (length r.cells < 2 ^ 40)) (sym (old j l))
+            (ap (λ (y : Cell NoSlot). y.link) (else j n) ∙ p.0, p.1, p.2, p.3)));
       }
 
       had : m.view.live ≡ true → HadAll m.view
       had l = let a = f.had owns l in let whole = (f.owns owns).1 in (subst (λ z. StartsWith z m.view.had) whole a.0, ap (own m.view.note) (sym whole) ∙ a.1)
 
-      stands_more : (d' : Door) → Stands bs d' → Stands new d'
+      stands_more : (d' : Door) → LiesAt bs d' → LiesAt new d'
       stands_more d' st = let lt : d'.block < i = (let y = count_is in let z = st.near in omega arith) in record {
         near = (let y = count_new in omega arith);
         from = st.from ∙ sym (before_push bs x d'.block (let z = st.near in omega arith));
-        len = st.len ∙ ap (λ (r : Row Slot). length r.cells) (sym (old d'.block lt));
-        at = ap (λ (r : Row Slot). r.at) (old d'.block lt) ∙ st.at;
+        len = st.len ∙ ap (λ (r : Row NoSlot). length r.cells) (sym (old d'.block lt));
+        at = ap (λ (r : Row NoSlot). r.at) (old d'.block lt) ∙ st.at;
       }
 
-      others : (j : ℕ) (u : View K) → j ≢ id → get_elem? s.views j ≡ some u → Fits world j u
+      others : (j : ℕ) (u : View K) → j ≢ id → get_elem? s.views j ≡ some u → FitsRow world j u
       others j u apart at' = let g = h.each j u at' in record {
         account = g.account;
         begins = g.begins;
@@ -216,11 +216,11 @@ module _ {K : Type 0} (lawful : K → List Item → Type 0) (root : Ptr) (acct :
       kept = record {
         world = world;
         keyed = h.keyed;
-        is = ap (λ (rs : List (Row Slot)). set rs 0 (row_at (row rs 0).at (set (row rs 0).cells i c)) ++ x ∷ []) h.is;
+        is = ap (λ (rs : List (Row NoSlot)). set rs 0 (row_at (row rs 0).at (set (row rs 0).cells i c)) ++ x ∷ []) h.is;
         laid = laid;
         shows = record {
           room = (let a = h.shows.room in let b = long_new in omega arith);
-          words = (λ k. ap (λ (l : List (Cell Slot)). (cell_in l k).word) (flat_push bs x) ∙ words_more (flat bs) cs h.world.items h.shows.room empty h.shows.words k);
+          words = (λ k. ap (λ (l : List (Cell NoSlot)). (cell_in l k).word) (flat_push bs x) ∙ words_more (flat bs) cs h.world.items h.shows.room empty h.shows.words k);
           legal = h.shows.legal;
           real = h.shows.real;
         };

@@ -7,14 +7,14 @@ use Rattle.std.specs.declared.alloc.Global.{Global}
 use Rattle.dt_trail.specs.declared.door.Door.{Door}
 use Rattle.dt_trail.specs.declared.rule.View.{View}
 use Rattle.dt_trail.specs.declared.inner.Inner.{Inner}
-use Rattle.dt_trail.specs.Rule.{Slot, note, owner, claim, site_of, Turn}
+use Rattle.dt_trail.specs.Rule.{NoSlot, note, owner, claim, site_of, Turn}
 use Rattle.dt_trail.specs.declared.law.Named.{Named}
 use Rattle.dt_trail.specs.Limits.{block_bound, widenings}
-use Rattle.dt_trail.specs.Items.{Item}
+use Rattle.dt_trail.specs.Items.{TrailItem}
 use Rattle.dt_trail.specs.Known.{Known, Noted, Heard, named, known, noted}
 
-abbrev pub Place : Type 0 → Type 0 → Type 0
-Place K A = Seat Slot (View K) A
+abbrev pub RowSeat : Type 0 → Type 0 → Type 0
+RowSeat K A = Seat NoSlot (View K) A
 
 -- the door leads to a block
 pub record IsDoor (d : Door) : Type 0 where
@@ -25,81 +25,81 @@ pub record IsDoor (d : Door) : Type 0 where
   pub placed : InBlock d.link.ptr
 
 -- the next cell lies behind the door, or at its end
-pub record IsAt (d : Door) (count : ℕ) : Type 0 where
+pub record IsDoorAt (d : Door) (count : ℕ) : Type 0 where
   pub door : IsDoor d
   pub low : d.from ≤ count
   pub high : count ≤ d.from + d.len
 
 module _ {K L : Type 0} where
-  abbrev pub OfRow : Inner K L → Seat Slot (View K) Global → Type 0
+  abbrev pub OfRow : Inner K L → Seat NoSlot (View K) Global → Type 0
   OfRow i s = (s.rows ≡ i.rows.id) × (s.heap ≡ i.rows.heap)
 
 module _ {K A : Type 0} where
-  abbrev pub SameSeat : Place K A → Place K A → Type 0
+  abbrev pub SameSeat : RowSeat K A → RowSeat K A → Type 0
   SameSeat old new = (new.rows ≡ old.rows) × (new.heap ≡ old.heap) × (new.id ≡ old.id)
 
   -- a note's seat, and the owner's
-  abbrev pub Note : Place K A → Type 0
+  abbrev pub Note : RowSeat K A → Type 0
   Note s = s.me ≡ me (note s.me.view.account s.me.view.note s.me.view.knows s.me.view.door) None None
 
-  abbrev pub Claim : Place K A → Type 0
+  abbrev pub Claim : RowSeat K A → Type 0
   Claim s = s.me ≡ me (claim s.me.view.account s.me.view.knows s.me.view.door) None None
 
-  abbrev pub Owner : Place K A → Type 0
+  abbrev pub Owner : RowSeat K A → Type 0
   Owner s = s.me ≡ me (owner s.me.view.account s.me.view.knows s.me.view.door s.me.view.site) None None
 
-abbrev pub id_of : {K A : Type 0} → Option (Place K A) → ℕ
+abbrev pub id_of : {K A : Type 0} → Option (RowSeat K A) → ℕ
 id_of (Some s) = s.id
 id_of None = 0
 
-abbrev pub knows_of : {K A : Type 0} → Option (Place K A) → List Item
+abbrev pub knows_of : {K A : Type 0} → Option (RowSeat K A) → List TrailItem
 knows_of (Some s) = s.me.view.knows
 knows_of None = []
 
 module _ {K L : Type 0} where
   -- a seat of the row
-  abbrev pub sat : Inner K L → ℕ → Turn K → Place K Global
+  abbrev pub sat : Inner K L → ℕ → Turn K → RowSeat K Global
   sat i n m = record { marker = record {}; rows = i.rows.id; heap = i.rows.heap; id = n; me = m }
 
   abbrev pub row_of : Inner K L → Named K
   row_of i = named i.rows.id i.about.account
 
   -- the owner's right, when the row was widened so often
-  abbrev pub right : Inner K L → List Item → Door → ℕ → ℕ → Turn K
+  abbrev pub right : Inner K L → List TrailItem → Door → ℕ → ℕ → Turn K
   right i knows d widened cells = me (owner (Some i.about.account) knows d (site_of (widened + 1) cells false null_ptr)) None None
 
-  abbrev pub owner_known : Inner K L → Option (Place K Global) → ℕ → ℕ → Known K
+  abbrev pub owner_known : Inner K L → Option (RowSeat K Global) → ℕ → ℕ → Known K
   owner_known i s cells widened = known (row_of i) (knows_of s) cells widened
 
-  pub record IsOwner (i : Inner K L) (s : Option (Place K Global)) (d : Door) (count widened cells : ℕ) : Type 0 where
+  pub record IsOwner (i : Inner K L) (s : Option (RowSeat K Global)) (d : Door) (count widened cells : ℕ) : Type 0 where
     pub seat : s ≡ Some (sat i (id_of s) (right i (knows_of s) d widened cells))
-    pub at : IsAt d count
+    pub at : IsDoorAt d count
     pub counted : count ≡ length (knows_of s)
     pub full : count ≤ cells
     pub few : widened ≤ widenings
     pub wide : cells ≤ (widened + 1) * block_bound
 
-  abbrev pub note_noted : Inner K L → Place K Global → Noted K
+  abbrev pub note_noted : Inner K L → RowSeat K Global → Noted K
   note_noted i s = noted (row_of i) s.me.view.note s.me.view.knows
 
-  pub record IsNote (i : Inner K L) (s : Place K Global) (d : Door) (count : ℕ) : Type 0 where
+  pub record IsNote (i : Inner K L) (s : RowSeat K Global) (d : Door) (count : ℕ) : Type 0 where
     pub rows : s.rows ≡ i.rows.id
     pub heap : s.heap ≡ i.rows.heap
     pub mine : s.me ≡ me (note (Some i.about.account) s.me.view.note s.me.view.knows d) None None
-    pub at : IsAt d count
+    pub at : IsDoorAt d count
     pub counted : count ≡ length s.me.view.knows
 
 -- what was told
-abbrev pub heard : {K A : Type 0} → Place K A → Heard
+abbrev pub heard : {K A : Type 0} → RowSeat K A → Heard
 heard s = record { row = s.rows; knows = s.me.view.knows }
 
-pub record IsTold {K : Type 0} (s : Place K Global) (d : Door) (count : ℕ) : Type 0 where
+pub record IsHeard {K : Type 0} (s : RowSeat K Global) (d : Door) (count : ℕ) : Type 0 where
   pub mine : s.me ≡ me (claim s.me.view.account s.me.view.knows d) None None
-  pub at : IsAt d count
+  pub at : IsDoorAt d count
   pub counted : count ≡ length s.me.view.knows
 
 -- at the end, the blocks from the k-th on are still to be freed
-pub record Ending (root : Ptr) (k : ℕ) (mem : List (Row Slot)) : Type 0 where
+pub record Ending (root : Ptr) (k : ℕ) (mem : List (Row NoSlot)) : Type 0 where
   pub at : (row mem 0).at ≡ root
   pub long : length (row mem 0).cells ≡ 33
   pub home : AllHome (row mem 0).cells

@@ -3,13 +3,13 @@ use Rattle.std.specs.Prelude.{◌≡◌, ◌≢◌, ◌<◌, ℕ, List, [], ◌�
 use Rattle.atomic_blocks.specs.Lent.{RowsId}
 use Rattle.dt_trail.specs.declared.law.Named.{Named}
 use Rattle.dt_trail.specs.declared.seen.Seen.{Seen}
-use Rattle.dt_trail.specs.Items.{Item, whose, IsReal, own, StartsWith}
-use Rattle.dt_trail.specs.Kinds.{Shows}
+use Rattle.dt_trail.specs.Items.{TrailItem, whose, IsReal, own, StartsWith}
+use Rattle.dt_trail.specs.Kinds.{ShowsItem}
 
 -- an owner: a row, its items, how many cells it has, and how often it was widened
 pub record Known (K : Type 0) : Type 0 where
   pub row : Named K
-  pub knows : List Item
+  pub knows : List TrailItem
   pub cells : ℕ
   pub widened : ℕ
 
@@ -17,27 +17,27 @@ pub record Known (K : Type 0) : Type 0 where
 pub record Noted (K : Type 0) : Type 0 where
   pub row : Named K
   pub number : ℕ
-  pub knows : List Item
+  pub knows : List TrailItem
 
 -- what was told: items at the beginning of a row
 pub record Heard : Type 0 where
   pub row : RowsId
-  pub knows : List Item
+  pub knows : List TrailItem
 
 module _ {K : Type 0} where
   abbrev pub named : RowsId → K → Named K
   named id account = record { id = id; account = account }
 
-  abbrev pub known : Named K → List Item → ℕ → ℕ → Known K
+  abbrev pub known : Named K → List TrailItem → ℕ → ℕ → Known K
   known row knows cells widened = record { row = row; knows = knows; cells = cells; widened = widened }
 
-  abbrev pub noted : Named K → ℕ → List Item → Noted K
+  abbrev pub noted : Named K → ℕ → List TrailItem → Noted K
   noted row number knows = record { row = row; number = number; knows = knows }
 
   -- the note knows one item more, which isn't its own, and of which this was seen
   pub record KnowsNext (old : Noted K) (seen : Seen) (new : Noted K) : Type 0 where
-    pub item : Item
-    pub shown : Shows seen item
+    pub item : TrailItem
+    pub shown : ShowsItem seen item
     pub real : IsReal item
     pub other : whose item ≢ old.number
     pub next : new ≡ noted old.row old.number (old.knows ++ item ∷ [])
@@ -50,7 +50,7 @@ module _ {K : Type 0} where
     pub same_own : own old.number new.knows ≡ own old.number old.knows
 
   -- what a note knows begins these items, which have no more of its own
-  abbrev pub Meets : List Item → Noted K → Type 0
+  abbrev pub Meets : List TrailItem → Noted K → Type 0
   Meets items n = StartsWith items n.knows × (own n.number items ≡ own n.number n.knows)
 
   -- notes that know nothing, numbered from 0
@@ -58,5 +58,5 @@ module _ {K : Type 0} where
   AreNew row count notes = (length notes ≡ count) × ((k : ℕ) → k < count → slice_get notes k ≡ Some (noted row k []))
 
 -- the longer of two lists
-abbrev pub longer : List Item → List Item → List Item
+abbrev pub longer : List TrailItem → List TrailItem → List TrailItem
 longer xs ys = cond (nat_lt (length xs) (length ys)) ys xs

@@ -8,13 +8,13 @@ use Rattle.atomic_blocks.specs.declared.rows.loose.Link.{Link}
 use Rattle.dt_trail.specs.declared.door.Door.{Door}
 use Rattle.dt_trail.specs.declared.rule.Site.{Site}
 use Rattle.dt_trail.specs.declared.rule.View.{View}
-use Rattle.dt_trail.specs.Items.{Item, whose, code, IsReal, AllReal, own, code_at, StartsWith}
-use Rattle.dt_trail.specs.Blocks.{flat, Laid, Stands}
+use Rattle.dt_trail.specs.Items.{TrailItem, whose, code, IsReal, AllReal, own, code_at, StartsWith}
+use Rattle.dt_trail.specs.Blocks.{flat, Laid, LiesAt}
 
-abbrev pub Slot : Type 0
-Slot = Unit {0}
+abbrev pub NoSlot : Type 0
+NoSlot = Unit {0}
 
-abbrev pub link_at : Ptr → Link Slot
+abbrev pub link_at : Ptr → Link NoSlot
 link_at p = record { ptr = p; marker = record {} }
 
 abbrev pub door_at : ℕ → ℕ → ℕ → Ptr → Door
@@ -36,38 +36,38 @@ abbrev pub first_site : ℕ → Site
 first_site size = site_of 1 size false null_ptr
 
 -- what the rule speaks of: the root and the blocks, the items, the seat of each note and of the owner, and how many notes there are
-pub record World (K : Type 0) : Type 0 where
+pub record RowWorld (K : Type 0) : Type 0 where
   pub account : K
-  pub base : Row Slot
-  pub blocks : List (Row Slot)
-  pub items : List Item
+  pub base : Row NoSlot
+  pub blocks : List (Row NoSlot)
+  pub items : List TrailItem
   pub place : ℕ → ℕ
   pub keeper : ℕ
   pub made : ℕ
 
 -- cells are set from the left, and a set cell has its item
-pub record Shows (lawful : List Item → Type 0) (items : List Item) (cells : List (Cell Slot)) : Type 0 where
+pub record ShowsRow (lawful : List TrailItem → Type 0) (items : List TrailItem) (cells : List (Cell NoSlot)) : Type 0 where
   pub room : length items ≤ length cells
   pub words : (k : ℕ) → (cell_in cells k).word ≡ code_at items k
   pub legal : lawful items
   pub real : AllReal items
 
 abbrev pub Turn : Type 0 → Type 0
-Turn K = Me Slot (View K)
+Turn K = Me NoSlot (View K)
 
 module _ {K : Type 0} where
-  abbrev pub viewed : Option K → Bool → Bool → Bool → ℕ → List Item → List Item → Door → Site → View K
+  abbrev pub viewed : Option K → Bool → Bool → Bool → ℕ → List TrailItem → List TrailItem → Door → Site → View K
   viewed a live owns makes n knows had d t = record { account = a; live = live; owns = owns; makes = makes; note = n; knows = knows; had = had; door = d; site = t }
 
   -- a note's view
-  abbrev pub note : Option K → ℕ → List Item → Door → View K
+  abbrev pub note : Option K → ℕ → List TrailItem → Door → View K
   note a n knows d = viewed a true false false n knows [] d no_site
 
   -- the view of a note that has the owner's right
-  abbrev pub appender : Option K → ℕ → List Item → List Item → Door → Site → View K
+  abbrev pub appender : Option K → ℕ → List TrailItem → List TrailItem → Door → Site → View K
   appender a n had knows d t = viewed a true true false n knows had d t
 
-  abbrev pub owner : Option K → List Item → Door → Site → View K
+  abbrev pub owner : Option K → List TrailItem → Door → Site → View K
   owner a knows d t = viewed a false true false 0 knows [] d t
 
   -- the owner of an empty row, of which this many notes were made
@@ -100,26 +100,26 @@ module _ {K : Type 0} where
   through v d = viewed v.account v.live v.owns v.makes v.note v.knows v.had d v.site
 
   -- each view is a beginning of the row; a note's has all of the row that is its own; one seat at most is the owner's, and knows the whole row
-  pub record Fits (w : World K) (by : ℕ) (v : View K) : Type 0 where
+  pub record FitsRow (w : RowWorld K) (by : ℕ) (v : View K) : Type 0 where
     pub account : (x : K) → v.account ≡ Some x → x ≡ w.account
     pub begins : StartsWith w.items v.knows
     pub live : v.live ≡ true → (w.place v.note ≡ by) × (v.note < w.made) × (own v.note w.items ≡ own v.note v.knows)
     pub owns : v.owns ≡ true → (w.keeper ≡ by) × (w.items ≡ v.knows)
     pub makes : v.makes ≡ true → (v.owns ≡ true) × (w.made ≡ v.note)
     pub had : v.owns ≡ true → v.live ≡ true → StartsWith w.items v.had × (own v.note w.items ≡ own v.note v.had)
-    pub stands : 0 < v.door.len → Stands w.blocks v.door
+    pub stands : 0 < v.door.len → LiesAt w.blocks v.door
     pub site : v.owns ≡ true → (v.site.blocks ≡ length w.blocks) × (v.site.cells ≡ length (flat w.blocks))
     pub plan : v.owns ≡ true → v.site.planned ≡ true → (cell_in w.base.cells v.site.blocks).link ≡ v.site.plan.ptr
 
-  abbrev pub FitsEach : World K → List (View K) → Type 0
-  FitsEach w views = (by : ℕ) (v : View K) → get_elem? views by ≡ some v → Fits w by v
+  abbrev pub FitsEach : RowWorld K → List (View K) → Type 0
+  FitsEach w views = (by : ℕ) (v : View K) → get_elem? views by ≡ some v → FitsRow w by v
 
-  pub record Kept (lawful : K → List Item → Type 0) (root : Ptr) (acct : K) (s : State Slot (View K)) : Type 0 where
-    pub world : World K
+  pub record Kept (lawful : K → List TrailItem → Type 0) (root : Ptr) (acct : K) (s : State NoSlot (View K)) : Type 0 where
+    pub world : RowWorld K
     pub keyed : world.account ≡ acct
     pub is : s.rows ≡ world.base ∷ world.blocks
     pub laid : Laid root world.base world.blocks
-    pub shows : Shows (lawful acct) world.items (flat world.blocks)
+    pub shows : ShowsRow (lawful acct) world.items (flat world.blocks)
     pub each : FitsEach world s.views
 
   -- what the view had begins what it knows, which has no more of its own
@@ -130,39 +130,39 @@ module _ {K : Type 0} where
   reviewed m v = me v m.hand m.spare
 
   -- the view, once it knows one item more
-  abbrev pub pushed : View K → Item → View K
+  abbrev pub pushed : View K → TrailItem → View K
   pushed v item = viewed v.account v.live v.owns v.makes v.note (v.knows ++ item ∷ []) v.had v.door v.site
 
   -- the same, of a note that has the owner's right
-  abbrev pub appended : View K → Item → View K
+  abbrev pub appended : View K → TrailItem → View K
   appended v item = viewed v.account v.live v.owns v.makes v.note (v.knows ++ item ∷ []) (v.knows ++ item ∷ []) v.door v.site
 
   -- the cell of the first item that is not known was set to it
-  abbrev pub IsSet : Item → Step → Turn K → ℕ → Turn K → Type 0
+  abbrev pub IsSet : TrailItem → Step → Turn K → ℕ → Turn K → Type 0
   IsSet x st m found n = (n ≡ reviewed m (appended m.view x)) × HadAll m.view
 
   -- a note that has the owner's right finds that it had all of the row that is its own
-  abbrev pub IsCompared : Step → Turn K → ℕ → Turn K → Type 0
-  IsCompared st m found n = (n ≡ m) × HadAll m.view
+  abbrev pub HasCompared : Step → Turn K → ℕ → Turn K → Type 0
+  HasCompared st m found n = (n ≡ m) × HadAll m.view
 
   -- the word stands for the next item, which is not the note's own
-  pub record Finds (m : Turn K) (found : ℕ) (n : Turn K) : Type 0 where
-    pub item : Item
+  pub record FindsItem (m : Turn K) (found : ℕ) (n : Turn K) : Type 0 where
+    pub item : TrailItem
     pub shown : found ≡ code item
     pub real : IsReal item
     pub other : m.view.live ≡ true → whose item ≢ m.view.note
     pub next : n ≡ reviewed m (pushed m.view item)
 
   -- an empty cell was found, or the next item, which is not the note's own
-  abbrev pub IsRead : (K → List Item → Type 0) → Step → Turn K → ℕ → Turn K → Type 0
-  IsRead lawful st m found n =
-      ((x : K) → m.view.account ≡ Some x → (rest : List Item) × lawful x (n.view.knows ++ rest))
-      × MatchBool (found == 0) (n ≡ m) (Finds m found n)
+  abbrev pub HasRead : (K → List TrailItem → Type 0) → Step → Turn K → ℕ → Turn K → Type 0
+  HasRead lawful st m found n =
+      ((x : K) → m.view.account ≡ Some x → (rest : List TrailItem) × lawful x (n.view.knows ++ rest))
+      × MatchBool (found == 0) (n ≡ m) (FindsItem m found n)
 
   -- there is no further block yet, or it has so many cells, and lies somewhere
-  abbrev pub IsTurned : (K → List Item → Type 0) → Step → Turn K → ℕ → Turn K → Type 0
+  abbrev pub IsTurned : (K → List TrailItem → Type 0) → Step → Turn K → ℕ → Turn K → Type 0
   IsTurned lawful st m found n =
-      ((x : K) → m.view.account ≡ Some x → (rest : List Item) × lawful x (n.view.knows ++ rest))
+      ((x : K) → m.view.account ≡ Some x → (rest : List TrailItem) × lawful x (n.view.knows ++ rest))
       × MatchBool (found == 0)
       ((n ≡ m) × (m.view.owns ≡ true → m.view.site.cells ≡ m.view.door.from + m.view.door.len))
       ((p : Ptr) × InBlock p × (found < 2 ^ 40) × (m.view.door.from + m.view.door.len + found < 2 ^ 60) × (st.index < 32) × (n ≡ reviewed m (through m.view (door_at st.index (m.view.door.from + m.view.door.len) found p))))
@@ -183,7 +183,7 @@ module _ {K : Type 0} where
   IsLaid st m found n = (n ≡ me (wider m.view st.first) m.hand None) × (m.view.live ≡ true → HadAll m.view)
 
   -- a seat that knows a beginning, and no more
-  abbrev pub claim : Option K → List Item → Door → View K
+  abbrev pub claim : Option K → List TrailItem → Door → View K
   claim a knows d = viewed a false false false 0 knows [] d no_site
 
   abbrev pub claim_of : View K → View K

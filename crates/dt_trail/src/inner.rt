@@ -17,7 +17,7 @@ pub const MOST_BLOCKS: u64 = WIDENINGS_MAX + 1;
 pub const ROOT_LEN: usize = MOST_BLOCKS as usize + 1;
 
 // What a handle does its steps by, and what it knows.
-pub type Place<K> = Seat<(), View<K>, Global>;
+pub type RowSeat<K> = Seat<(), View<K>, Global>;
 
 /// The rows of cells, of which row 0 is the root and each other a block, and what is fixed of them.
 pub struct Inner<K, L: Law<K>> {

@@ -20,9 +20,9 @@ enum Kind {
 }
 
 impl Model for Item {
-    ghost use Rattle.dt_trail.specs.Items.{Item};
+    ghost use Rattle.dt_trail.specs.Items.{TrailItem};
 
-    ghost Value = { Item };
+    ghost Value = { TrailItem };
 
     ghost use Rattle.dt_trail.specs.Items.{IsReal};
     ghost use Rattle.dt_trail.specs.Kinds.{item_of};

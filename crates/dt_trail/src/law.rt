@@ -11,11 +11,11 @@ pub struct Named<K> {
 /// Which rows an account may have: a fact of each row as it grows.
 pub trait Law<K> {
     ghost use Rattle.std.specs.Prelude.{List, ◌++◌};
-    ghost use Rattle.dt_trail.specs.Items.{Item};
+    ghost use Rattle.dt_trail.specs.Items.{TrailItem};
 
     /// The account may have a row of these items.
-    ghost lawful: { K → List Item → Type 0 };
+    ghost lawful: { K → List TrailItem → Type 0 };
 
     /// A beginning of a lawful row is lawful.
-    ghost closed: { (k : K) (xs ys : List Item) → lawful k (xs ++ ys) → lawful k xs };
+    ghost closed: { (k : K) (xs ys : List TrailItem) → lawful k (xs ++ ys) → lawful k xs };
 }

@@ -5,11 +5,11 @@ ghost use Rattle.atomic_blocks.specs.Cells.{me, AllHome};
 ghost use Rattle.dt_trail.specs.Blocks.{Blank};
 ghost use Rattle.dt_trail.specs.Limits.{block_bound};
 ghost use Rattle.dt_trail.specs.Items.{whose, own, StartsWith};
-ghost use Rattle.dt_trail.specs.Rule.{note, owner, Finds, site_of, through, reviewed, claim_of, informed, wider, HadAll};
-ghost use Rattle.dt_trail.specs.Insides.{OfRow, SameSeat, IsDoor, IsAt, Owner, Note, Claim};
+ghost use Rattle.dt_trail.specs.Rule.{note, owner, FindsItem, site_of, through, reviewed, claim_of, informed, wider, HadAll};
+ghost use Rattle.dt_trail.specs.Insides.{OfRow, SameSeat, IsDoor, IsDoorAt, Owner, Note, Claim};
 
 use crate::door::Door;
-use crate::inner::{Inner, Place, ROOT};
+use crate::inner::{Inner, ROOT, RowSeat};
 use crate::item::Item;
 use crate::law::Law;
 use crate::rule::{Compares, Lays, Lends, Picked, Plans, Reads, Sees, Sets, Tells, Turns};
@@ -17,7 +17,7 @@ use atomic_blocks::rows::{Link, Loose};
 use std::alloc::Global;
 
 /// The door to the next block, if there is one.
-pub fn turn<K, L: Law<K>>(inner: &Inner<K, L>, seat: &mut Place<K>, door: Door) -> Option<Door>
+pub fn turn<K, L: Law<K>>(inner: &Inner<K, L>, seat: &mut RowSeat<K>, door: Door) -> Option<Door>
     requires seat { OfRow inner.now seat.old × (seat.old.me.view.account ≡ Some inner.now.about.account) }
     requires door { (seat.old.me.view.door ≡ door) × IsDoor door }
     ensures same { SameSeat seat.old seat.new }
@@ -42,12 +42,12 @@ pub fn turn<K, L: Law<K>>(inner: &Inner<K, L>, seat: &mut Place<K>, door: Door) 
 }
 
 /// The word of the first item that the seat doesn't know, or 0 where there is none yet.
-pub fn look<K, L: Law<K>>(inner: &Inner<K, L>, seat: &mut Place<K>, door: Door, count: u64) -> u64
+pub fn look<K, L: Law<K>>(inner: &Inner<K, L>, seat: &mut RowSeat<K>, door: Door, count: u64) -> u64
     requires seat { OfRow inner.now seat.old × (seat.old.me.view.account ≡ Some inner.now.about.account) }
     requires door { (seat.old.me.view.door ≡ door) × IsDoor door }
     requires at { (count ≡ length seat.old.me.view.knows) × (door.from ≤ count) × (count < door.from + door.len) }
     ensures same { SameSeat seat.old seat.new }
-    ensures next { MatchBool (result == 0) (seat.new.me ≡ seat.old.me) (Finds seat.old.me result seat.new.me) }
+    ensures next { MatchBool (result == 0) (seat.new.me ≡ seat.old.me) (FindsItem seat.old.me result seat.new.me) }
     ensures lawful { L.lawful inner.now.about.account seat.new.me.view.knows }
 {
     let next = (count - door.from) as usize;
@@ -59,12 +59,12 @@ pub fn look<K, L: Law<K>>(inner: &Inner<K, L>, seat: &mut Place<K>, door: Door, 
 /// Sets the first empty cell, in the note's seat. The owner's right goes in, and comes out again.
 pub fn set_next<P: Picked, K, L: Law<K>>(
     inner: &Inner<K, L>,
-    seat: &mut Place<K>,
-    right: Place<K>,
+    seat: &mut RowSeat<K>,
+    right: RowSeat<K>,
     door: Door,
     count: u64,
     item: &Item,
-) -> Place<K>
+) -> RowSeat<K>
     requires picked { P.item ≡ item.now }
     requires seat { OfRow inner.now seat.old × Note seat.old }
     requires right { OfRow inner.now right × Owner right × (right.me.view.account ≡ seat.old.me.view.account) }
@@ -87,7 +87,11 @@ pub fn set_next<P: Picked, K, L: Law<K>>(
 }
 
 /// The note's seat then knows the whole row.
-pub fn show_all<K, L: Law<K>>(inner: &Inner<K, L>, seat: &mut Place<K>, right: Place<K>) -> Place<K>
+pub fn show_all<K, L: Law<K>>(
+    inner: &Inner<K, L>,
+    seat: &mut RowSeat<K>,
+    right: RowSeat<K>,
+) -> RowSeat<K>
     requires seat { OfRow inner.now seat.old × Note seat.old }
     requires right { OfRow inner.now right × Owner right × (right.me.view.account ≡ seat.old.me.view.account) }
     ensures seat { (seat.new.rows ≡ seat.old.rows) × (seat.new.heap ≡ seat.old.heap) × (seat.new.me ≡ me (note seat.old.me.view.account seat.old.me.view.note right.me.view.knows right.me.view.door) None None) }
@@ -103,12 +107,12 @@ pub fn show_all<K, L: Law<K>>(inner: &Inner<K, L>, seat: &mut Place<K>, right: P
 /// Moves the owner's door to the block of the first empty cell.
 pub fn arrive<K, L: Law<K>>(
     inner: &Inner<K, L>,
-    seat: &mut Place<K>,
+    seat: &mut RowSeat<K>,
     door: Door,
     count: u64,
 ) -> Door
     requires seat { OfRow inner.now seat.old × (seat.old.me.view.account ≡ Some inner.now.about.account) × (seat.old.me.view.owns ≡ true) }
-    requires door { (seat.old.me.view.door ≡ door) × IsAt door count }
+    requires door { (seat.old.me.view.door ≡ door) × IsDoorAt door count }
     requires room { count < seat.old.me.view.site.cells }
     ensures same { SameSeat seat.old seat.new }
     ensures view { seat.new.me ≡ reviewed seat.old.me (through seat.old.me.view result) }
@@ -126,7 +130,7 @@ pub fn arrive<K, L: Law<K>>(
 /// The block joins the row, by a seat that has the owner's right.
 pub fn lay<K, L: Law<K>>(
     inner: &Inner<K, L>,
-    seat: &mut Place<K>,
+    seat: &mut RowSeat<K>,
     blocks: u64,
     cells: u64,
     link: Link<()>,
@@ -154,13 +158,13 @@ pub fn lay<K, L: Law<K>>(
 /// The block joins the row, in the note's seat. The owner's right goes in, and comes out again.
 pub fn lay_in<K, L: Law<K>>(
     inner: &Inner<K, L>,
-    seat: &mut Place<K>,
-    right: Place<K>,
+    seat: &mut RowSeat<K>,
+    right: RowSeat<K>,
     blocks: u64,
     cells: u64,
     link: Link<()>,
     block: Loose<(), Global>,
-) -> Place<K>
+) -> RowSeat<K>
     requires seat { OfRow inner.now seat.old × Note seat.old }
     requires right { OfRow inner.now right × Owner right × (right.me.view.account ≡ seat.old.me.view.account) }
     requires site { right.me.view.site ≡ site_of blocks right.me.view.site.cells false null_ptr }
@@ -178,7 +182,7 @@ pub fn lay_in<K, L: Law<K>>(
 }
 
 /// What the seat knows, for another.
-pub fn tell<K, L: Law<K>>(inner: &Inner<K, L>, seat: &mut Place<K>) -> Place<K>
+pub fn tell<K, L: Law<K>>(inner: &Inner<K, L>, seat: &mut RowSeat<K>) -> RowSeat<K>
     requires { OfRow inner.now seat.old }
     ensures seat { SameSeat seat.old seat.new × (seat.new.me ≡ seat.old.me) }
     ensures told { (result.rows ≡ seat.old.rows) × (result.heap ≡ seat.old.heap) × (result.me ≡ me (claim_of seat.old.me.view) None None) }
@@ -188,7 +192,7 @@ pub fn tell<K, L: Law<K>>(inner: &Inner<K, L>, seat: &mut Place<K>) -> Place<K>
 }
 
 /// Takes in what was told.
-pub fn take_in<K, L: Law<K>>(inner: &Inner<K, L>, seat: &mut Place<K>, told: Place<K>)
+pub fn take_in<K, L: Law<K>>(inner: &Inner<K, L>, seat: &mut RowSeat<K>, told: RowSeat<K>)
     requires seat { OfRow inner.now seat.old }
     requires told { OfRow inner.now told × Claim told }
     ensures { SameSeat seat.old seat.new × (seat.new.me ≡ reviewed seat.old.me (informed seat.old.me.view told.me.view)) }

@@ -6,7 +6,7 @@ ghost use Rattle.dt_trail.specs.Insides.{row_of, IsDoor, OfRow};
 ghost use Rattle.dt_trail.specs.Rule.{note};
 
 use crate::door::Door;
-use crate::inner::{Inner, Place};
+use crate::inner::{Inner, RowSeat};
 use crate::law::Law;
 use crate::moves::{look, take_in, tell, turn};
 use crate::seen::Seen;
@@ -21,7 +21,7 @@ use std::sync::Arc;
 /// Contracts see it as a `Noted` of `specs/Known.antt`: which row it is and whose, the note's number, and the items that it knows.
 pub struct TrailNote<K, L: Law<K>> {
     pub(crate) cells: Arc<Inner<K, L>, Global>,
-    pub(crate) seat: Place<K>,
+    pub(crate) seat: RowSeat<K>,
     pub(crate) door: Door,
     pub(crate) count: u64,
 }
@@ -55,7 +55,11 @@ impl<K: Drop, L: Law<K>> Drop for TrailNote<K, L> {
 impl<K, L: Law<K>> TrailNote<K, L> {
     ghost use Rattle.dt_trail.specs.Known.{noted, KnowsNext, Grows, longer};
 
-    pub(crate) fn of(cells: Arc<Inner<K, L>, Global>, seat: Place<K>, door: Door) -> TrailNote<K, L>
+    pub(crate) fn of(
+        cells: Arc<Inner<K, L>, Global>,
+        seat: RowSeat<K>,
+        door: Door,
+    ) -> TrailNote<K, L>
         requires row { OfRow (arc_value cells) seat }
         requires view { seat.me ≡ me (note (Some (arc_value cells).about.account) seat.me.view.note [] door) None None }
         requires door { IsDoor door × (door.from ≡ 0) }

@@ -8,7 +8,7 @@ ghost use Rattle.dt_trail.specs.Known.{noted};
 ghost use Rattle.dt_trail.specs.Limits.{block_bound};
 
 use crate::door::Door;
-use crate::inner::{Inner, Place, ROOT};
+use crate::inner::{Inner, ROOT, RowSeat};
 use crate::law::Law;
 use crate::note::TrailNote;
 use crate::owner::TrailOwner;
@@ -54,7 +54,7 @@ fn row_of<K: Drop, L: Law<K>>(
     alloc: Global,
     account: K,
     cells: u64,
-) -> Result<(Arc<Inner<K, L>, Global>, Place<K>, Door), AllocError>
+) -> Result<(Arc<Inner<K, L>, Global>, RowSeat<K>, Door), AllocError>
     requires wide { (0 < cells) × (cells < block_bound) }
     requires lawful { L.lawful account [] }
     ensures inner { IfOk result (λ t. ((arc_value t.0).about.account ≡ account) × OfRow (arc_value t.0) t.1) }
@@ -85,7 +85,7 @@ fn row_of<K: Drop, L: Law<K>>(
 // The maker's next note.
 fn next_note<K: Drop, L: Law<K>>(
     inner: &Arc<Inner<K, L>, Global>,
-    maker: &mut Place<K>,
+    maker: &mut RowSeat<K>,
     door: Door,
 ) -> Result<TrailNote<K, L>, AllocError>
     requires row { OfRow (arc_value inner.now) maker.old }
@@ -102,7 +102,7 @@ fn next_note<K: Drop, L: Law<K>>(
 }
 
 // The maker ends, and the owner begins.
-fn end_maker<K, L: Law<K>>(inner: &Inner<K, L>, maker: &mut Place<K>, door: Door) -> Place<K>
+fn end_maker<K, L: Law<K>>(inner: &Inner<K, L>, maker: &mut RowSeat<K>, door: Door) -> RowSeat<K>
     requires row { OfRow inner.now maker.old }
     requires view { maker.old.me ≡ me (maker_view (Some inner.now.about.account) maker.old.me.view.note door maker.old.me.view.site) None None }
     ensures row { (result.rows ≡ maker.old.rows) × (result.heap ≡ maker.old.heap) }

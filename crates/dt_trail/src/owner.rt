@@ -7,7 +7,7 @@ ghost use Rattle.dt_trail.specs.Limits.{block_bound, widenings};
 ghost use Rattle.dt_trail.specs.Rule.{owner, first_site};
 
 use crate::door::Door;
-use crate::inner::{Inner, Place};
+use crate::inner::{Inner, RowSeat};
 use crate::item::Item;
 use crate::law::Law;
 use crate::moves::{arrive, lay_in, set_next, show_all, tell};
@@ -24,7 +24,7 @@ use std::sync::Arc;
 /// and how often it was widened.
 pub struct TrailOwner<K, L: Law<K>> {
     pub(crate) cells: Arc<Inner<K, L>, Global>,
-    pub(crate) seat: Option<Place<K>>,
+    pub(crate) seat: Option<RowSeat<K>>,
     pub(crate) door: Door,
     pub(crate) count: u64,
     pub(crate) widened: u64,
@@ -65,7 +65,7 @@ impl<K, L: Law<K>> TrailOwner<K, L> {
 
     pub(crate) fn of(
         cells: Arc<Inner<K, L>, Global>,
-        right: Place<K>,
+        right: RowSeat<K>,
         door: Door,
         width: u64,
     ) -> TrailOwner<K, L>

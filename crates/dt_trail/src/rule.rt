@@ -55,9 +55,9 @@ impl<K, L: Law<K>> RowRule<(), View<K>, About<K>> for Row<L> {
 
 /// An item that a call picks: what it appends.
 pub trait Picked {
-    ghost use Rattle.dt_trail.specs.Items.{Item};
+    ghost use Rattle.dt_trail.specs.Items.{TrailItem};
 
-    ghost item: { Item };
+    ghost item: { TrailItem };
 }
 
 impl Picked for Brand {
@@ -82,17 +82,17 @@ pub struct Reads<L> {
 }
 
 impl<K, L: Law<K>> Play<(), View<K>> for Reads<L> {
-    ghost use Rattle.dt_trail.specs.Rule.{IsRead};
+    ghost use Rattle.dt_trail.specs.Rule.{HasRead};
 
-    ghost then = { IsRead L.lawful };
+    ghost then = { HasRead L.lawful };
 }
 
 pub struct Compares;
 
 impl<K> Play<(), View<K>> for Compares {
-    ghost use Rattle.dt_trail.specs.Rule.{IsCompared};
+    ghost use Rattle.dt_trail.specs.Rule.{HasCompared};
 
-    ghost then = { IsCompared };
+    ghost then = { HasCompared };
 }
 
 // The root says how many cells the next block has.

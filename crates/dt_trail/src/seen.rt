@@ -11,12 +11,12 @@ pub enum Seen {
 }
 
 impl Seen {
-    ghost use Rattle.dt_trail.specs.Items.{Item, code, IsReal};
-    ghost use Rattle.dt_trail.specs.Kinds.{Shows};
+    ghost use Rattle.dt_trail.specs.Items.{TrailItem, code, IsReal};
+    ghost use Rattle.dt_trail.specs.Kinds.{ShowsItem};
 
     /// What a word shows, or `None` where its cell is empty.
     pub(crate) fn of(word: u64) -> Option<Seen>
-        ensures { MatchOption result (word ≡ 0) (λ seen. (0 < word) × ((item : Item) → IsReal item → word ≡ code item → Shows seen item)) }
+        ensures { MatchOption result (word ≡ 0) (λ seen. (0 < word) × ((item : TrailItem) → IsReal item → word ≡ code item → ShowsItem seen item)) }
     {
         match word {
             0 => None,
@@ -26,7 +26,7 @@ impl Seen {
     }
 
     fn fired(firing: u64) -> Seen
-        ensures { (item : Item) → IsReal item → firing + 2 ≡ code item → Shows result item }
+        ensures { (item : TrailItem) → IsReal item → firing + 2 ≡ code item → ShowsItem result item }
     {
         Seen::Fired {
             cpu: (firing >> 32) as u32,

@@ -3,7 +3,7 @@ use Rattle.dt_trail.specs.Rule.{with_right, appender, appended}
 use Rattle.dt_trail.specs.declared.rule.View.{View}
 use Rattle.dt_trail.specs.declared.door.Door.{Door}
 use Rattle.dt_trail.specs.declared.rule.About.{About}
-use Rattle.dt_trail.specs.Items.{Item, whose, code, IsReal}
+use Rattle.dt_trail.specs.Items.{TrailItem, whose, code, IsReal}
 use Rattle.dt_trail.proofs.Uses.{lends_as, sets_as, returns_right_as}
 use Rattle.dt_trail.proofs.moves.set_next.Goals as goal
 
@@ -28,8 +28,8 @@ store-requires g c =
     let door : w.door ≡ c.args.door = r.door.0 in
     let is : c.join_seat.new.seat.me.view ≡ appender v.account v.note v.knows w.knows c.args.door w.site =
     ap (λ m. m.view) j.3 ∙ ap (λ (p : View g.row.K.Denot × (View g.row.K.Denot)). with_right p.0 p.1) (λ i. ((ap (λ m. m.view) r.seat.1) i, (ap (λ m. m.view) r.right.1) i)) ∙ ap (λ (d : Door). appender v.account v.note v.knows w.knows d w.site) door in
-    let x : Item = g.P.Picked.item in
-    let ok = subst (λ (q : About g.row.K.Denot × Item). g.L.Law.lawful q.0.account (w.knows ++ q.1 ∷ [])) (λ i. (sym k.keyed.0 i, sym r.picked i)) r.lawful.1 in (
+    let x : TrailItem = g.P.Picked.item in
+    let ok = subst (λ (q : About g.row.K.Denot × TrailItem). g.L.Law.lawful q.0.account (w.knows ++ q.1 ∷ [])) (λ i. (sym k.keyed.0 i, sym r.picked i)) r.lawful.1 in (
       j.0 ∙ r.seat.0.0,
       j.1 ∙ r.seat.0.1,
       r.door.1.placed,

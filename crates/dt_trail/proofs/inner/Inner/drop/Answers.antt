@@ -1,7 +1,7 @@
 use Rattle.std.proofs.Common.{arith, ◌≡◌, ℕ, ◌+◌, ◌<◌, length, refl, sym, subst, ap, ◌∙◌, set, List}
 use denote.RawPtr.{InBlock}
 use Rattle.atomic_blocks.specs.Cells.{Row, row, AllHome, no_row, link_of}
-use Rattle.dt_trail.specs.Rule.{Slot}
+use Rattle.dt_trail.specs.Rule.{NoSlot}
 use Rattle.dt_trail.specs.Insides.{Ending}
 use Rattle.dt_trail.specs.declared.rule.About.{About}
 use Rattle.dt_trail.proofs.Endings.{ending, ending_on, ending_past, all_taken, in_base, block_lies}
@@ -17,22 +17,22 @@ word-len-requires g c = (c.args.self.placed, in_base _ _ _ _ (omega (arith, c.ro
 pub link-link-requires : goal.link-link-requires
 link-link-requires g c =
     let a = ap (λ z. z.rows) c.word-len.ensures.0 in
-    (c.args.self.placed, subst (λ (m : List (Row Slot)). ((row m 0).at ≡ c.args.self.about.root.ptr) × (c.rows.block < length (row m 0).cells)) (sym a) (in_base _ _ _ _ (omega (arith, c.rows-test.true)) c.rows.invariant.1))
+    (c.args.self.placed, subst (λ (m : List (Row NoSlot)). ((row m 0).at ≡ c.args.self.about.root.ptr) × (c.rows.block < length (row m 0).cells)) (sym a) (in_base _ _ _ _ (omega (arith, c.rows-test.true)) c.rows.invariant.1))
 
 pub take-requires : goal.take-requires
 take-requires g c =
     let a = ap (λ z. z.rows) c.word-len.ensures.0 in let b = ap (λ z. z.rows) c.link-link.ensures.0 ∙ a in
-    let link = c.link-link.ensures.1 ∙ ap (λ (m : List (Row Slot)). link_of m 0 c.rows.block) a in
+    let link = c.link-link.ensures.1 ∙ ap (λ (m : List (Row NoSlot)). link_of m 0 c.rows.block) a in
     let l = block_lies _ _ _ c.rows.invariant.1 c.rows-test.true (subst (λ (n : ℕ). 0 < n) c.word-len.ensures.1 c.if-len-gt0.true) in
-    (ap (λ (m : List (Row Slot)). (row m (c.rows.block + 1)).at) b ∙ (l.1 ∙ sym link), subst (λ (m : List (Row Slot)). 0 < length (row m (c.rows.block + 1)).cells) (sym b) l.2)
+    (ap (λ (m : List (Row NoSlot)). (row m (c.rows.block + 1)).at) b ∙ (l.1 ∙ sym link), subst (λ (m : List (Row NoSlot)). 0 < length (row m (c.rows.block + 1)).cells) (sym b) l.2)
 
 pub free-requires : goal.free-requires
 free-requires g c =
     let a = ap (λ z. z.rows) c.word-len.ensures.0 in let b = ap (λ z. z.rows) c.link-link.ensures.0 ∙ a in
-    let link = c.link-link.ensures.1 ∙ ap (λ (m : List (Row Slot)). link_of m 0 c.rows.block) a in
+    let link = c.link-link.ensures.1 ∙ ap (λ (m : List (Row NoSlot)). link_of m 0 c.rows.block) a in
     let l = block_lies _ _ _ c.rows.invariant.1 c.rows-test.true (subst (λ (n : ℕ). 0 < n) c.word-len.ensures.1 c.if-len-gt0.true) in
     let t = c.take.ensures.taken in
-    let cells = t.2 ∙ ap (λ (m : List (Row Slot)). (row m (c.rows.block + 1)).cells) b in
+    let cells = t.2 ∙ ap (λ (m : List (Row NoSlot)). (row m (c.rows.block + 1)).cells) b in
     let heap = t.0 ∙ (ap (λ z. z.heap) c.link-link.ensures.0 ∙ (ap (λ z. z.heap) c.word-len.ensures.0 ∙ (c.rows.invariant.0 ∙ (c.close-closed.ensures.0 ∙ c.args.self.keyed.1)))) in
     (heap, t.1, subst InBlock (sym link) l.0, ap length cells ∙ (c.rows.invariant.1.each c.rows.block (omega arith) c.rows-test.true ∙ sym c.word-len.ensures.1), t.3, subst AllHome (sym cells) (c.rows.invariant.1.homes c.rows.block (omega arith) c.rows-test.true))
 
@@ -44,11 +44,11 @@ rows-preserved g c =
           let b = ap (λ z. z.rows) w.link-link.ensures.0 ∙ a in
           let left = w.take.ensures.left in (
             ap (λ z. z.heap) w.closed-is ∙ (left.0 ∙ (ap (λ z. z.heap) w.link-link.ensures.0 ∙ h)),
-            ending_on _ c.rows.block c.rows.closed.rows _ (ap (λ z. z.rows) w.closed-is ∙ (left.1 ∙ ap (λ (m : List (Row Slot)). set m (c.rows.block + 1) no_row) b)) c.rows.invariant.1,
+            ending_on _ c.rows.block c.rows.closed.rows _ (ap (λ z. z.rows) w.closed-is ∙ (left.1 ∙ ap (λ (m : List (Row NoSlot)). set m (c.rows.block + 1) no_row) b)) c.rows.invariant.1,
           )
       | else-len-gt0 w ↦ (
         ap (λ z. z.heap) w.closed-is ∙ h,
-        subst (λ (m : List (Row Slot)). Ending c.args.self.about.root.ptr (c.rows.block + 1) m) (sym (ap (λ z. z.rows) w.closed-is ∙ a))
+        subst (λ (m : List (Row NoSlot)). Ending c.args.self.about.root.ptr (c.rows.block + 1) m) (sym (ap (λ z. z.rows) w.closed-is ∙ a))
             (ending_past _ _ _ c.rows-test.true (sym c.word-len.ensures.1 ∙ (let z : c.word-len.result ≡ 0 = omega (arith, w.if-len-gt0.false) in z)) c.rows.invariant.1),
       )
     ]

@@ -6,7 +6,7 @@ use Rattle.dt_trail.specs.Rule.{Turn, owner, site_of}
 use Rattle.dt_trail.specs.Insides.{row_of, knows_of}
 use Rattle.dt_trail.specs.declared.law.Named.{Named}
 use Rattle.dt_trail.specs.Known.{Known, Noted}
-use Rattle.dt_trail.specs.Items.{Item}
+use Rattle.dt_trail.specs.Items.{TrailItem}
 use Rattle.dt_trail.proofs.Owning.{taken, owning}
 use Rattle.dt_trail.proofs.owner.TrailOwner.append.Goals as goal
 
@@ -14,7 +14,7 @@ pub invariant_of-self : goal.invariant_of-self
 invariant_of-self g c =
     let i = c.self.invariant in
     let inner = arc_value c.self.inside.cells in
-    let ks : List Item = knows_of c.self.inside.seat in
+    let ks : List TrailItem = knows_of c.self.inside.seat in
     let t = taken inner c.self.inside.seat c.in-Some.right c.self.inside.door c.self.inside.widened c.self.inside.width (sym c.take.ensures.value ∙ c.in-Some.is) i.seat in
     let n = c.note.invariant in
     let row : row_of (arc_value c.note.inside.cells) ≡ row_of inner = ap (λ (k : Noted g.row.K.Denot). k.row) c.note.view_is ∙ (sym c.requires.row ∙ sym (ap (λ (k : Known g.row.K.Denot). k.row) c.self.view_is)) in
@@ -22,7 +22,7 @@ invariant_of-self g c =
     let x = c.set_next-right.ensures in let a = c.arrive-door.ensures in
     let site : c.arrive-door.new.seat.me.view.site ≡ site_of (c.self.inside.widened + 1) c.self.inside.width false null_ptr = ap (λ (m : Turn g.row.K.Denot). m.view.site) a.view ∙ ap (λ (m : Turn g.row.K.Denot). m.view.site) t.2 in
     let knows : c.arrive-door.new.seat.me.view.knows ≡ ks = ap (λ (m : Turn g.row.K.Denot). m.view.knows) a.view ∙ ap (λ (m : Turn g.row.K.Denot). m.view.knows) t.2 in
-    let all : List Item = ks ++ c.args.item.now ∷ [] in
+    let all : List TrailItem = ks ++ c.args.item.now ∷ [] in
     let room : length ks < c.self.inside.width = subst (λ (k : Known g.row.K.Denot). length k.knows < k.cells) (sym c.self.view_is) c.requires.room in
     owning inner c.set_next-right.result c.arrive-door.result all (c.self.inside.count + 1) c.self.inside.widened c.self.inside.width
     (x.right.0 ∙ (n.rows ∙ ap (λ (r : Named g.row.K.Denot). r.id) row)) refl

@@ -5,7 +5,7 @@ use Rattle.dt_trail.specs.Rule.{Turn, owner}
 use Rattle.dt_trail.specs.Insides.{row_of, knows_of}
 use Rattle.dt_trail.specs.declared.law.Named.{Named}
 use Rattle.dt_trail.specs.Known.{Known, Noted}
-use Rattle.dt_trail.specs.Items.{Item}
+use Rattle.dt_trail.specs.Items.{TrailItem}
 use Rattle.dt_trail.proofs.Owning.{taken, owning}
 use Rattle.dt_trail.proofs.owner.TrailOwner.meet.Goals as goal
 
@@ -13,7 +13,7 @@ pub invariant_of-self : goal.invariant_of-self
 invariant_of-self g c =
     let i = c.self.invariant in
     let inner = arc_value c.self.inside.cells in
-    let ks : List Item = knows_of c.self.inside.seat in
+    let ks : List TrailItem = knows_of c.self.inside.seat in
     let t = taken inner c.self.inside.seat c.in-Some.right c.self.inside.door c.self.inside.widened c.self.inside.width (sym c.take.ensures.value ∙ c.in-Some.is) i.seat in
     let n = c.note.invariant in
     let row : row_of (arc_value c.note.inside.cells) ≡ row_of inner = ap (λ (k : Noted g.row.K.Denot). k.row) c.note.view_is ∙ (sym c.requires ∙ sym (ap (λ (k : Known g.row.K.Denot). k.row) c.self.view_is)) in

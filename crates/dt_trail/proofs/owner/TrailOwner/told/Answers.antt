@@ -1,7 +1,7 @@
 use Rattle.std.proofs.Common.{List, sym, ◌∙◌}
 use Rattle.std.specs.Arc.{arc_value}
 use Rattle.dt_trail.specs.Insides.{knows_of}
-use Rattle.dt_trail.specs.Items.{Item}
+use Rattle.dt_trail.specs.Items.{TrailItem}
 use Rattle.dt_trail.proofs.Owning.{taken, owning}
 use Rattle.dt_trail.proofs.owner.TrailOwner.told.Goals as goal
 
@@ -9,7 +9,7 @@ pub invariant_of-self : goal.invariant_of-self
 invariant_of-self g c =
     let i = c.self.invariant in
     let inner = arc_value c.self.inside.cells in
-    let ks : List Item = knows_of c.self.inside.seat in
+    let ks : List TrailItem = knows_of c.self.inside.seat in
     let t = taken inner c.self.inside.seat c.in-Some.right c.self.inside.door c.self.inside.widened c.self.inside.width (sym c.take.ensures.value ∙ c.in-Some.is) i.seat in
     let x = c.tell-seat.ensures in
     owning inner c.tell-seat.new.seat c.self.inside.door ks c.self.inside.count c.self.inside.widened c.self.inside.width
