@@ -52,7 +52,8 @@ fn main(rt: HostRuntime) -> io::Result<()> {
         Ok(words) => words.count(),
         Err(_) => 0,
     };
-    if words == 0 {
+    // the first is the program's own name
+    if words < 2 {
         return Ok(());
     }
     let Some(scene) = scene_to_measure(rt.alloc()) else {
