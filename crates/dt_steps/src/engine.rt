@@ -117,12 +117,7 @@ impl<'m> Engine<'m> {
 
     /// Looks whom a firing of a processor is to be offered to, and answers which seats that are. `None`: the look is not
     /// enabled, and nothing happened. The machine and the firing are lent until the next look.
-    pub fn look(
-        &mut self,
-        machine: &'m Machine,
-        cpu: u32,
-        firing: &'m Firing,
-    ) -> Option<SeatSet>
+    pub fn look(&mut self, machine: &'m Machine, cpu: u32, firing: &'m Firing) -> Option<SeatSet>
         ensures at { (world : World) → EngineIsAt machine.now.registry world self.old
             → EngineIsAt machine.now.registry (looking machine.now.registry world cpu firing.now) self.new }
         ensures answer { (world : World) → EngineIsAt machine.now.registry world self.old

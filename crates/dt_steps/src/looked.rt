@@ -97,10 +97,7 @@ impl<'m> Looked<'m> {
 }
 
 /// Processors that looked for nothing yet.
-pub(crate) fn idle_processors<'m>(
-    alloc: Global,
-    cpus: u32,
-) -> Result<Vec<Looked<'m>>, AllocError>
+pub(crate) fn idle_processors<'m>(alloc: Global, cpus: u32) -> Result<Vec<Looked<'m>>, AllocError>
     ensures all { IfOk result (λ processors. vec_len processors ≡ cpus) }
     ensures idle { IfOk result (λ processors. (cpu : ℕ)
         → IfSome (slice_get processors.items cpu) (λ looked. None ≡ looked.moment)) }

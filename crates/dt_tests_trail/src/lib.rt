@@ -4,6 +4,8 @@
 #[cfg(test)]
 mod items;
 #[cfg(test)]
+mod lawful;
+#[cfg(test)]
 mod longest;
 #[cfg(test)]
 mod rows;

@@ -1,0 +1,3 @@
+-- The definitions of the tests.
+
+pub mod Short
