@@ -1,0 +1,38 @@
+-- The steps at views that are known.
+use Rattle.std.proofs.Common.{◌≡◌, ℕ, List, sym, subst}
+use mathlib.Core.Option.{none}
+use Rattle.atomic_table.specs.Table.{step, Allows, Splits, Joins}
+use Rattle.dt_chain.specs.Writes.{Write}
+use Rattle.dt_facts.specs.declared.fact.Fact.{Fact}
+use Rattle.dt_facts.specs.declared.rule.View.{View}
+use Rattle.dt_facts.specs.Facts.{Follows}
+use Rattle.dt_facts.specs.Rule.{Mine, share, book, both, joined, beginning, opened, maker, nobody, next_maker, made, with_share, without_share, share_alone, beginning_of, longer_of, with_beginning, AllAgree, HasAgreed, HasGoneOn, HasBegun}
+use Rattle.dt_facts.proofs.Keeping.{makes, joins, agrees, goes_on, cuts}
+use Rattle.dt_facts.proofs.Growing.{begins, learns, opens, compares}
+
+pub makes_as : (id : ℕ) (v : View) (m : ℕ) → v ≡ maker m → Splits AllAgree id v (next_maker v) (made v)
+makes_as id v m e = subst (λ (u : View). Splits AllAgree id u (next_maker u) (made u)) (sym e) (makes id m)
+
+pub joins_as : (id : ℕ) (v : View) (n : ℕ) (x : Fact) (other : ℕ) (w : View) (y : Fact) → v ≡ book n x → w ≡ share n y → Joins AllAgree id v other w (with_share v w) nobody
+joins_as id v n x other w y e e' = subst (λ (p : View × View). Joins AllAgree id p.0 other p.1 (with_share p.0 p.1) nobody) (λ i. (sym e i, sym e' i)) (joins id n x other y)
+
+pub agrees_as : (slots id : ℕ) (me : Mine) (n : ℕ) (x y : Fact) → me.0 ≡ joined n x y → Allows AllAgree slots id me 0 (λ n. n) (HasAgreed (step slots 0 0 0 none) me)
+agrees_as slots id me n x y e = subst (λ (v : View). Allows AllAgree slots id (v, me.1) 0 (λ n. n) (HasAgreed (step slots 0 0 0 none) (v, me.1))) (sym e) (agrees slots id n x y me.1)
+
+pub goes_on_as : (slots id : ℕ) (me : Mine) (n : ℕ) (x z : Fact) → me.0 ≡ both n x → Follows x z → Allows AllAgree slots id me 0 (λ n. n) (HasGoneOn z (step slots 0 0 0 none) me)
+goes_on_as slots id me n x z e follows = subst (λ (v : View). Allows AllAgree slots id (v, me.1) 0 (λ n. n) (HasGoneOn z (step slots 0 0 0 none) (v, me.1))) (sym e) (goes_on slots id n x z me.1 follows)
+
+pub cuts_as : (id : ℕ) (v : View) (n : ℕ) (x : Fact) → v ≡ both n x → Splits AllAgree id v (without_share v) (share_alone v)
+cuts_as id v n x e = subst (λ (u : View). Splits AllAgree id u (without_share u) (share_alone u)) (sym e) (cuts id n x)
+
+pub begins_as : (id : ℕ) (v : View) (n : ℕ) (x : Fact) → v ≡ book n x → Splits AllAgree id v v (beginning_of v)
+begins_as id v n x e = subst (λ (u : View). Splits AllAgree id u u (beginning_of u)) (sym e) (begins id n x)
+
+pub learns_as : (id : ℕ) (v : View) (n : ℕ) (xs : List Write) (other : ℕ) (w : View) (ys : List Write) → v ≡ beginning n xs → w ≡ beginning n ys → Joins AllAgree id v other w (longer_of v w) nobody
+learns_as id v n xs other w ys e e' = subst (λ (p : View × View). Joins AllAgree id p.0 other p.1 (longer_of p.0 p.1) nobody) (λ i. (sym e i, sym e' i)) (learns id n xs other ys)
+
+pub opens_as : (id : ℕ) (v : View) (n : ℕ) (x : Fact) (other : ℕ) (w : View) (ys : List Write) → v ≡ book n x → w ≡ beginning n ys → Joins AllAgree id v other w (with_beginning v w) nobody
+opens_as id v n x other w ys e e' = subst (λ (p : View × View). Joins AllAgree id p.0 other p.1 (with_beginning p.0 p.1) nobody) (λ i. (sym e i, sym e' i)) (opens id n x other ys)
+
+pub compares_as : (slots id : ℕ) (me : Mine) (n : ℕ) (x : Fact) (ys : List Write) → me.0 ≡ opened n x ys → Allows AllAgree slots id me 0 (λ n. n) (HasBegun (step slots 0 0 0 none) me)
+compares_as slots id me n x ys e = subst (λ (v : View). Allows AllAgree slots id (v, me.1) 0 (λ n. n) (HasBegun (step slots 0 0 0 none) (v, me.1))) (sym e) (compares slots id n x ys me.1)

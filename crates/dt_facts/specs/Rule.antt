@@ -1,0 +1,111 @@
+-- The rule of the word, what seats know, and what each step tells. The rule speaks of names and facts, and not of words.
+use Rattle.std.specs.Prelude.{◌≡◌, ℕ, ◌+◌, ◌<◌, ◌≤◌, List, [], Bool, true, false}
+use mathlib.Core.List.{IsPrefix}
+use mathlib.Core.Option.{some}
+use lib.ListN.{get_elem?}
+use Rattle.atomic_table.specs.Table.{State, Step, Me}
+use Rattle.dt_chain.specs.Writes.{Write}
+use Rattle.dt_facts.specs.declared.fact.Fact.{Fact}
+use Rattle.dt_facts.specs.declared.rule.View.{View}
+use Rattle.dt_facts.specs.Facts.{nothing, writes_in, longer}
+
+abbrev pub NoSlot : Type 0
+NoSlot = Unit {0}
+
+-- what the rule speaks of: what each name holds, at which seat its share is and at which its book, the seat of the maker, and how many names
+-- were made
+pub record Roll : Type 0 where
+  pub held : ℕ → Fact
+  pub share_at : ℕ → ℕ
+  pub book_at : ℕ → ℕ
+  pub maker_at : ℕ
+  pub made : ℕ
+
+abbrev pub roll_of : (ℕ → Fact) → (ℕ → ℕ) → (ℕ → ℕ) → ℕ → ℕ → Roll
+roll_of held share_at book_at maker_at made = record { held = held; share_at = share_at; book_at = book_at; maker_at = maker_at; made = made }
+
+-- A seat's view fits. A name's share is at one seat and its book at one; both hold the name's fact, what a share held as it met its book is
+-- that fact, and a beginning is one of the fact's writes
+pub record FitsRoll (w : Roll) (by : ℕ) (v : View) : Type 0 where
+  pub share : v.share ≡ true → (w.share_at v.name ≡ by) × (v.fact ≡ w.held v.name) × (v.name < w.made)
+  pub book : v.book ≡ true → (w.book_at v.name ≡ by) × (v.fact ≡ w.held v.name) × (v.name < w.made)
+  pub met : v.met ≡ true → (v.share ≡ true) × (v.had ≡ w.held v.name)
+  pub begins : v.begins ≡ true → IsPrefix v.knows (writes_in (w.held v.name)) × (v.name < w.made)
+  pub makes : v.makes ≡ true → (w.maker_at ≡ by) × (w.made ≡ v.name)
+
+abbrev pub EachFitsRoll : Roll → List View → Type 0
+EachFitsRoll w views = (by : ℕ) (v : View) → get_elem? views by ≡ some v → FitsRoll w by v
+
+-- the rule: each view fits, and a name that wasn't made yet holds nothing
+pub record AllAgree (s : State NoSlot View) : Type 0 where
+  pub roll : Roll
+  pub unmade : (n : ℕ) → roll.made ≤ n → roll.held n ≡ nothing
+  pub each : EachFitsRoll roll s.views
+
+abbrev pub viewed : ℕ → Bool → Bool → Bool → Bool → Bool → Fact → Fact → List Write → View
+viewed n share book met begins makes fact had knows =
+    record { name = n; share = share; book = book; met = met; begins = begins; makes = makes; fact = fact; had = had; knows = knows }
+
+abbrev pub share : ℕ → Fact → View
+share n x = viewed n true false false false false x nothing []
+
+abbrev pub book : ℕ → Fact → View
+book n x = viewed n false true false false false x nothing []
+
+abbrev pub both : ℕ → Fact → View
+both n x = viewed n true true false false false x nothing []
+
+-- both, with what the share had held
+abbrev pub joined : ℕ → Fact → Fact → View
+joined n x y = viewed n true true true false false x y []
+
+abbrev pub beginning : ℕ → List Write → View
+beginning n ws = viewed n false false false true false nothing nothing ws
+
+-- a book with a beginning
+abbrev pub opened : ℕ → Fact → List Write → View
+opened n x ws = viewed n false true false true false x nothing ws
+
+abbrev pub maker : ℕ → View
+maker n = viewed n false false false false true nothing nothing []
+
+abbrev pub nobody : View
+nobody = viewed 0 false false false false false nothing nothing []
+
+abbrev pub next_maker : View → View
+next_maker v = maker (v.name + 1)
+
+abbrev pub made : View → View
+made v = both v.name nothing
+
+abbrev pub with_share : View → View → View
+with_share v w = joined v.name v.fact w.fact
+
+abbrev pub without_share : View → View
+without_share v = book v.name v.fact
+
+abbrev pub share_alone : View → View
+share_alone v = share v.name v.fact
+
+abbrev pub beginning_of : View → View
+beginning_of v = beginning v.name (writes_in v.fact)
+
+abbrev pub longer_of : View → View → View
+longer_of v w = beginning v.name (longer v.knows w.knows)
+
+abbrev pub with_beginning : View → View → View
+with_beginning v w = opened v.name v.fact w.knows
+
+abbrev pub Mine : Type 0
+Mine = Me NoSlot View
+
+-- what the share had held is what the book holds
+abbrev pub HasAgreed : Step NoSlot → Mine → ℕ → Mine → Type 0
+HasAgreed s v found w = (w.1 ≡ v.1) × (w.0 ≡ both v.0.name v.0.fact) × (v.0.fact ≡ v.0.had)
+
+abbrev pub HasGoneOn : Fact → Step NoSlot → Mine → ℕ → Mine → Type 0
+HasGoneOn x s v found w = (w.1 ≡ v.1) × (w.0 ≡ both v.0.name x)
+
+-- the book's writes begin with the beginning
+abbrev pub HasBegun : Step NoSlot → Mine → ℕ → Mine → Type 0
+HasBegun s v found w = (w.1 ≡ v.1) × (w.0 ≡ book v.0.name v.0.fact) × IsPrefix v.0.knows (writes_in v.0.fact)

@@ -1,0 +1,137 @@
+//! The rule of the word. The types here are for the proofs.
+
+use crate::fact::Fact;
+use atomic_table::{Join, Play, Seat, Split, Table, TableRule};
+use dt_chain::Write;
+use std::alloc::Global;
+use std::collections::LinkedList;
+use std::marker::{Brand, PhantomData};
+
+// What a seat has of a name: its share, its book, both at once, or a beginning of its writes. One that has just become both
+// remembers what the share held, until the two are compared. The maker's has the next name. No value of it is made.
+pub struct View {
+    pub name: u64,
+    pub share: bool,
+    pub book: bool,
+    pub met: bool,
+    pub begins: bool,
+    pub makes: bool,
+    pub fact: Fact,
+    pub had: Fact,
+    pub knows: LinkedList<Write>,
+}
+
+/// A word that never changes.
+pub struct Agreement;
+
+impl TableRule<(), View, ()> for Agreement {
+    ghost use Rattle.dt_facts.specs.Rule.{AllAgree, maker};
+
+    ghost holds = { λ _. AllAgree };
+
+    ghost first = { λ _. maker 0 };
+}
+
+pub type Cells = Table<(), View, (), Agreement, Global>;
+
+// What a handle does its steps by.
+pub type Place = Seat<(), View>;
+
+// The maker makes a name.
+pub struct Makes;
+
+impl Split<View> for Makes {
+    ghost use Rattle.dt_facts.specs.Rule.{next_maker, made};
+
+    ghost left = { next_maker };
+
+    ghost right = { made };
+}
+
+// A share goes into its book, and out again.
+pub struct Shares;
+
+impl Join<View> for Shares {
+    ghost use Rattle.dt_facts.specs.Rule.{with_share, nobody};
+
+    ghost both = { with_share };
+
+    ghost spent = { nobody };
+}
+
+impl Split<View> for Shares {
+    ghost use Rattle.dt_facts.specs.Rule.{without_share, share_alone};
+
+    ghost left = { without_share };
+
+    ghost right = { share_alone };
+}
+
+// A share that went into its book agrees with it.
+pub struct Agrees;
+
+impl Play<(), View> for Agrees {
+    ghost use Rattle.dt_facts.specs.Rule.{HasAgreed};
+
+    ghost then = { HasAgreed };
+}
+
+/// A fact that a call picks, which share and book go on to: a ghost of the call, made of its arguments.
+pub trait Given {
+    ghost use Rattle.dt_facts.specs.declared.fact.Fact.{Fact};
+
+    ghost fact: { Fact };
+}
+
+impl Given for Brand {
+    ghost use Rattle.dt_facts.specs.Facts.{nothing};
+
+    ghost fact = { nothing };
+}
+
+// Share and book go on to the fact that was picked.
+pub struct GoesOn<G> {
+    of: PhantomData<G>,
+}
+
+impl<G: Given> Play<(), View> for GoesOn<G> {
+    ghost use Rattle.dt_facts.specs.Rule.{HasGoneOn};
+
+    ghost then = { HasGoneOn G.fact };
+}
+
+// A beginning is cut from a book, and two are put together.
+pub struct Begins;
+
+impl Split<View> for Begins {
+    ghost use Rattle.dt_facts.specs.Rule.{beginning_of};
+
+    ghost left = { λ v. v };
+
+    ghost right = { beginning_of };
+}
+
+impl Join<View> for Begins {
+    ghost use Rattle.dt_facts.specs.Rule.{longer_of, nobody};
+
+    ghost both = { longer_of };
+
+    ghost spent = { nobody };
+}
+
+// A beginning goes into its book, and is found to be one.
+pub struct Compares;
+
+impl Join<View> for Compares {
+    ghost use Rattle.dt_facts.specs.Rule.{with_beginning, nobody};
+
+    ghost both = { with_beginning };
+
+    ghost spent = { nobody };
+}
+
+impl Play<(), View> for Compares {
+    ghost use Rattle.dt_facts.specs.Rule.{HasBegun};
+
+    ghost then = { HasBegun };
+}

@@ -1,0 +1,73 @@
+//! What a seat does at the word.
+ghost use Rattle.std.specs.Prelude.{◌≡◌};
+ghost use mathlib.Core.List.{IsPrefix};
+ghost use Rattle.dt_facts.specs.Rule.{both, book, share, beginning};
+ghost use Rattle.dt_facts.specs.Handles.{IsOf, IsShare, IsBook, IsBoth, IsBeginning};
+ghost use Rattle.dt_facts.specs.Facts.{Follows, writes_in};
+
+use crate::rule::{Agrees, Begins, Compares, Given, GoesOn, Place, Shares};
+use crate::word::Facts;
+use std::mem;
+
+impl Facts {
+    // The share goes into its book, and agrees with it.
+    pub(crate) fn put_in(&self, seat: &mut Place, other: Place)
+        requires book { IsBook seat.old × (seat.old.table_id ≡ self.now) }
+        requires share { IsShare other × (other.table_id ≡ self.now) × (other.me.0.name ≡ seat.old.me.0.name) }
+        ensures agree { seat.old.me.0.fact ≡ other.me.0.fact }
+        ensures both { IsOf self.now (both seat.old.me.0.name seat.old.me.0.fact) seat.new }
+    {
+        self.table.shared.join_seat::<Shares>(seat, other);
+        self.table.shared.load::<Agrees>(seat, 0);
+    }
+
+    // The share comes out of its book.
+    pub(crate) fn take_out(&self, seat: &mut Place) -> Place
+        requires both { IsBoth seat.old × (seat.old.table_id ≡ self.now) }
+        ensures book { IsOf self.now (book seat.old.me.0.name seat.old.me.0.fact) seat.new }
+        ensures share { IsOf self.now (share seat.old.me.0.name seat.old.me.0.fact) result }
+    {
+        self.table.shared.split_seat::<Shares>(seat)
+    }
+
+    // Both go on to the fact that was picked.
+    pub(crate) fn turn_to<G: Given>(&self, seat: &mut Place)
+        requires both { IsBoth seat.old × (seat.old.table_id ≡ self.now) }
+        requires follows { Follows seat.old.me.0.fact G.fact }
+        ensures { IsOf self.now (both seat.old.me.0.name G.fact) seat.new }
+    {
+        self.table.shared.load::<GoesOn<G>>(seat, 0);
+    }
+
+    // The writes so far are cut from the book.
+    pub(crate) fn copy_out(&self, seat: &mut Place) -> Place
+        requires book { IsBook seat.old × (seat.old.table_id ≡ self.now) }
+        ensures book { IsOf self.now (book seat.old.me.0.name seat.old.me.0.fact) seat.new }
+        ensures beginning { IsOf self.now (beginning seat.old.me.0.name (writes_in seat.old.me.0.fact)) result }
+    {
+        self.table.shared.split_seat::<Begins>(seat)
+    }
+
+    // A beginning goes into its book, and is found to be one.
+    pub(crate) fn look_up(&self, seat: &mut Place, other: Place)
+        requires book { IsBook seat.old × (seat.old.table_id ≡ self.now) }
+        requires beginning { IsBeginning other × (other.table_id ≡ self.now) × (other.me.0.name ≡ seat.old.me.0.name) }
+        ensures begins { IsPrefix other.me.0.knows (writes_in seat.old.me.0.fact) }
+        ensures book { IsOf self.now (book seat.old.me.0.name seat.old.me.0.fact) seat.new }
+    {
+        self.table.shared.join_seat::<Compares>(seat, other);
+        self.table.shared.load::<Compares>(seat, 0);
+    }
+
+    // The share goes into its book, and a beginning stands in its place.
+    pub(crate) fn unite(&self, seat: &mut Place, other: &mut Place)
+        requires book { IsBook seat.old × (seat.old.table_id ≡ self.now) }
+        requires share { IsShare other.old × (other.old.table_id ≡ self.now) × (other.old.me.0.name ≡ seat.old.me.0.name) }
+        ensures agree { seat.old.me.0.fact ≡ other.old.me.0.fact }
+        ensures both { IsOf self.now (both seat.old.me.0.name seat.old.me.0.fact) seat.new }
+    {
+        let held = self.copy_out(seat);
+        let share = mem::replace(other, held);
+        self.put_in(seat, share);
+    }
+}
