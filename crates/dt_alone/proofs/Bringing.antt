@@ -9,7 +9,7 @@ use Rattle.dt_aggstore.specs.History as store
 use Rattle.dt_buffer.specs.History as buffer
 use Rattle.dt_ecb.specs.Shapes.{ShapeForm}
 use Rattle.dt_record.specs.Taking.{Outcome, TakenForm, abandoned, passed_over, leaves, is_abandoned, left_in}
-use Rattle.dt_alone.specs.Happened.{Adds, Brings, all_to, comes_to, faults_on, given_as, given_to, gives_to}
+use Rattle.dt_alone.specs.Happened.{AddsTakings, Brings, all_to, comes_to, faults_on, given_as, given_to, gives_to}
 use Rattle.dt_alone.specs.Happened.{is_fault_on}
 use Rattle.dt_alone.specs.declared.happened.Happened.{Happened}
 use Rattle.dt_alone.specs.declared.happened.Happened.TheVariants.{Failed, Left}
@@ -75,7 +75,7 @@ where_both there cpu xs ys = one (there == cpu)
     one false = refl
 
 -- nothing more was taken
-pub adds_nothing : (shapes : List ShapeForm) (there : ℕ) (old : List Happened) → Adds shapes there [] old old
+pub adds_nothing : (shapes : List ShapeForm) (there : ℕ) (old : List Happened) → AddsTakings shapes there [] old old
 adds_nothing shapes there old = λ cpu a n g b.
     subst (λ ts. Brings cpu old (a ++ attempts_of ts) (n + faults ts) (g ++ contributions shapes ts))
     (sym (where_none there cpu))
@@ -83,7 +83,7 @@ adds_nothing shapes there old = λ cpu a n g b.
 
 -- some, and then more
 pub adds_both : (shapes : List ShapeForm) (there : ℕ) (xs ys : List Taking) (old mid new : List Happened)
-    → Adds shapes there xs old mid → Adds shapes there ys mid new → Adds shapes there (xs ++ ys) old new
+    → AddsTakings shapes there xs old mid → AddsTakings shapes there ys mid new → AddsTakings shapes there (xs ++ ys) old new
 adds_both shapes there xs ys old mid new f h = λ cpu a n g b.
     let us = where_taken there xs cpu in
     let vs = where_taken there ys cpu in
@@ -150,7 +150,7 @@ given_none shapes t outcome e none =
 
 -- a clause that was passed over
 pub adds_passed : (shapes : List ShapeForm) (there : ℕ) (t : Taking) (old : List Happened) → t.outcome ≡ passed_over
-    → Adds shapes there (t ∷ []) old old
+    → AddsTakings shapes there (t ∷ []) old old
 adds_passed shapes there t old e = λ cpu a n g b.
     one_there shapes there cpu t old old a [] n 0 g []
     (same_brings cpu old _ _ _ _ _ _ (nothing_more (there == cpu) a) (no_more (there == cpu) n)
@@ -168,7 +168,7 @@ adds_passed shapes there t old e = λ cpu a n g b.
 
 -- a division by zero
 pub adds_failed : (shapes : List ShapeForm) (there : ℕ) (t : Taking) (old : List Happened) → t.outcome ≡ abandoned
-    → Adds shapes there (t ∷ []) old (old ++ Failed there ∷ [])
+    → AddsTakings shapes there (t ∷ []) old (old ++ Failed there ∷ [])
 adds_failed shapes there t old e = λ cpu a n g b.
     one_there shapes there cpu t old (old ++ Failed there ∷ []) a [] n 1 g []
     (same_brings cpu (old ++ Failed there ∷ []) _ _ _ _ _ _ (ap (λ xs. a ++ xs) (none (there == cpu) []))
@@ -189,7 +189,7 @@ pub adds_left : (shapes : List ShapeForm) (there : ℕ) (t : Taking) (in_end : B
     (old : List Happened) → t.outcome ≡ leaves form → t.in_end ≡ in_end
     → option_map (λ (bytes : Vec ℕ). bytes.items) l.bytes ≡ form.record_bytes
     → map given_as l.given.items ≡ contributions_of shapes t
-    → Adds shapes there (t ∷ []) old (old ++ Left there in_end l ∷ [])
+    → AddsTakings shapes there (t ∷ []) old (old ++ Left there in_end l ∷ [])
 adds_left shapes there t in_end l form old e ends bytes given = λ cpu a n g b.
     let new = old ++ Left there in_end l ∷ [] in
     one_there shapes there cpu t old new a

@@ -14,7 +14,7 @@ use Rattle.dt_ecb.specs.Forms.{form_of_ecb, shapes_of}
 use Rattle.dt_ecb.specs.Shapes.{ShapeForm}
 use Rattle.dt_ecb.specs.declared.parts.Ecb.{Ecb}
 use Rattle.dt_life.specs.Forms.{form_of_options}
-use Rattle.dt_alone.specs.Happened.{Adds, Brings}
+use Rattle.dt_alone.specs.Happened.{AddsTakings, Brings}
 use Rattle.dt_alone.specs.Runs.{Has, HasIn}
 use Rattle.dt_alone.specs.Runs as runs
 use Rattle.dt_alone.specs.declared.happened.Happened.{Happened}
@@ -73,7 +73,7 @@ module _ (account : Account) (registry : Registry) where
     -- ECBs were taken
     pub told_firing : (event : TracingEvent) (m : MomentForm) (old new : List Happened) → IsFiring event
         → moment_at account registry event ≡ Some m
-        → Adds (shapes_in s) m.firing.cpu (taken_at (is_end event) (ecbs_in account registry s) m) old new
+        → AddsTakings (shapes_in s) m.firing.cpu (taken_at (is_end event) (ecbs_in account registry s) m) old new
         → Told s old → Told (with_event s event) new
     told_firing event m old new fires at adds told = λ cpu.
         let ts = where_taken m.firing.cpu (taken_at (is_end event) ecbs m) cpu in
@@ -131,12 +131,12 @@ module _ (account : Account) (registry : Registry) where
 
     -- what a runner took is what is taken by its set-up
     pub own_adds : (in_end : Bool) (m : MomentForm) (old new : List Happened)
-        → Adds (shapes_of r.programs.shapes) m.firing.cpu (taken_at in_end
+        → AddsTakings (shapes_of r.programs.shapes) m.firing.cpu (taken_at in_end
         (map (form_of_ecb (map form_of_clause r.programs.clauses.items)) r.programs.ecbs.items) m) old new
-        → Adds (shapes_in s) m.firing.cpu (taken_at in_end (ecbs_in account registry s) m) old new
+        → AddsTakings (shapes_in s) m.firing.cpu (taken_at in_end (ecbs_in account registry s) m) old new
     own_adds in_end m old new adds =
-        subst (λ shapes. Adds shapes m.firing.cpu (taken_at in_end (ecbs_in account registry s) m) old new) h.shapes
-        (subst (λ es. Adds (shapes_of r.programs.shapes) m.firing.cpu (taken_at in_end es m) old new) own_ecbs adds)
+        subst (λ shapes. AddsTakings shapes m.firing.cpu (taken_at in_end (ecbs_in account registry s) m) old new) h.shapes
+        (subst (λ es. AddsTakings (shapes_of r.programs.shapes) m.firing.cpu (taken_at in_end es m) old new) own_ecbs adds)
 
   pub not_idle : (phase : Phase) → is_inactive phase ≡ false → phase ≡ Inactive → ⊥
   not_idle phase begun e = let no : true ≡ false = sym (ap is_inactive e) ∙ begun in cc
@@ -209,12 +209,12 @@ module _ (account : Account) (registry : Registry) (s : SetUp) (event : TracingE
       ∙ ap (λ b. taken_at b (ecbs_in account registry s) m) (sym (firing_is event fires).1)
 
   pub took_told : (new : List Happened)
-      → Adds (shapes_of old.programs.shapes) m.firing.cpu own_taken old.since.items new
+      → AddsTakings (shapes_of old.programs.shapes) m.firing.cpu own_taken old.since.items new
       → Told account registry (with_event s event) new
   took_told new adds =
       told_firing account registry s event m old.since.items new (firing_is event fires).0 at
-      (subst (λ ts. Adds (shapes_in s) m.firing.cpu ts old.since.items new) is_taken
-      (subst (λ shapes. Adds shapes m.firing.cpu own_taken old.since.items new) h.shapes adds))
+      (subst (λ ts. AddsTakings (shapes_in s) m.firing.cpu ts old.since.items new) is_taken
+      (subst (λ shapes. AddsTakings shapes m.firing.cpu own_taken old.since.items new) h.shapes adds))
       h.brings
 
   pub took_exit : (exit : Option ℤ) → exit ≡ first_exit own_taken

@@ -61,8 +61,8 @@ pub record Brings (cpu : ℕ) (happened : List Happened) (comes : List buffer.Bu
   pub store : given_to cpu happened ≡ given
 
 -- The second list is the first and, after it, what was taken on a processor.
-abbrev pub Adds : List ShapeForm → ℕ → List Taking → List Happened → List Happened → Type 0
-Adds shapes there takings old new = (cpu : ℕ) (comes : List buffer.BufferEvent) (errors : ℕ) (given : List store.Event)
+abbrev pub AddsTakings : List ShapeForm → ℕ → List Taking → List Happened → List Happened → Type 0
+AddsTakings shapes there takings old new = (cpu : ℕ) (comes : List buffer.BufferEvent) (errors : ℕ) (given : List store.Event)
     → Brings cpu old comes errors given
     → Brings cpu new (comes ++ attempts_of (where_taken there takings cpu))
     (errors + faults (where_taken there takings cpu)) (given ++ contributions shapes (where_taken there takings cpu))

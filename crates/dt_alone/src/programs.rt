@@ -27,7 +27,7 @@ pub(crate) struct Programs {
 }
 
 impl Programs {
-    ghost use Rattle.dt_alone.specs.Happened.{Adds, given_as};
+    ghost use Rattle.dt_alone.specs.Happened.{AddsTakings, given_as};
     ghost use Rattle.std.specs.Option.{option_map};
     ghost use Rattle.dt_life.specs.Aggregations.{split_by, uses_by};
     ghost use Rattle.dt_machine.specs.Moment.{form_of_moment};
@@ -96,7 +96,7 @@ impl Programs {
         // listed on the firing's processor is what is taken there: up to the first exit, in END all
         ensures taken { All (λ ecb. ecb.clause < length self.now.clauses.items) self.now.ecbs.items
             → (let m = form_of_moment moment.now in
-            IfOk result (λ _. Adds (shapes_of self.now.shapes) m.firing.cpu (taken_at in_end
+            IfOk result (λ _. AddsTakings (shapes_of self.now.shapes) m.firing.cpu (taken_at in_end
             (map (form_of_ecb (map form_of_clause self.now.clauses.items)) self.now.ecbs.items) m)
             happened.old.items happened.new.items)) }
         ensures exit { All (λ ecb. ecb.clause < length self.now.clauses.items) self.now.ecbs.items → in_end ≡ false
@@ -125,7 +125,7 @@ impl Programs {
         in_end: bool,
     ) -> Result<Option<i64>, AllocError>
         ensures taken { ecb.clause < length self.now.clauses.items → (let m = form_of_moment moment.now in
-            IfOk result (λ _. Adds (shapes_of self.now.shapes) m.firing.cpu
+            IfOk result (λ _. AddsTakings (shapes_of self.now.shapes) m.firing.cpu
             (taking_by in_end m (map form_of_clause self.now.clauses.items) ecb ∷ [])
             happened.old.items happened.new.items)) }
         ensures exit { ecb.clause < length self.now.clauses.items → IfOk result (λ exit. exit

@@ -68,14 +68,14 @@ module _ (account : Account) (registry : Registry) (life : List Item) where
 
 -- A change can be made of a consumer: clauses and ECBs find their room before tracing began, and tracing that begins knows
 -- all clauses.
-abbrev pub Fits : Consumer → Change → Type 0
-Fits consumer (Enable clauses ecbs shapes) =
+abbrev pub ChangeFits : Consumer → Change → Type 0
+ChangeFits consumer (Enable clauses ecbs shapes) =
     (consumer.tracing ≡ None) × (vec_len clauses ≤ vec_len ecbs)
     × (vec_len consumer.programs.ecbs + vec_len ecbs ≤ ecbs_max)
     × All (IsPlaced (vec_len consumer.programs.clauses + vec_len clauses)) ecbs.items
-Fits consumer (Go tracing) = vec_len tracing.uses ≡ vec_len consumer.programs.clauses
-Fits consumer _ = Unit {0}
+ChangeFits consumer (Go tracing) = vec_len tracing.uses ≡ vec_len consumer.programs.clauses
+ChangeFits consumer _ = Unit {0}
 
 -- A draft can be applied to a consumer: `Consumer::draft` makes it so, and offers keep it so.
 pub record CanApply (consumer : Consumer) (draft : Draft) : Type 0 where
-  pub fits : Fits consumer draft.change
+  pub fits : ChangeFits consumer draft.change

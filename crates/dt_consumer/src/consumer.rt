@@ -35,7 +35,7 @@ impl Consumer {
     ghost use Rattle.dt_machine.specs.Moment.{IsMoment};
     ghost use Rattle.dt_machine.specs.Registry.{Registry};
     ghost use Rattle.dt_life.specs.Ask.{Ask};
-    ghost use Rattle.dt_consumer.specs.Draft.{CanApply, Drafted, Fits, IsDraftOf};
+    ghost use Rattle.dt_consumer.specs.Draft.{CanApply, Drafted, ChangeFits, IsDraftOf};
     ghost use Rattle.dt_life.specs.Acceptance.{after_line};
     ghost use Rattle.dt_life.specs.Sees.{Sees};
     ghost use Rattle.dt_life.specs.declared.refusal.Refusal.{Refusal};
@@ -175,7 +175,7 @@ impl Consumer {
 
     /// Enables further clauses.
     fn enable(&mut self, clauses: Vec<Clause>, ecbs: Vec<Ecb>, shapes: Shapes)
-        requires { Fits self.old (Change.Enable clauses ecbs shapes) }
+        requires { ChangeFits self.old (Change.Enable clauses ecbs shapes) }
         ensures { (account : Account) (registry : Registry) (life : List Item) (line : Result Ask Refusal)
             → StandsFor account registry self.old life
             → Drafted account registry life line (Change.Enable clauses ecbs shapes)
@@ -189,7 +189,7 @@ impl Consumer {
 
     /// Begins to trace.
     fn begin(&mut self, tracing: Tracing)
-        requires { Fits self.old (Change.Go tracing) }
+        requires { ChangeFits self.old (Change.Go tracing) }
         ensures { (account : Account) (registry : Registry) (life : List Item) (line : Result Ask Refusal)
             → StandsFor account registry self.old life → Drafted account registry life line (Change.Go tracing)
             → StandsFor account registry self.new (after_line life line) }

@@ -5,7 +5,7 @@ use Rattle.dt_glob.specs.declared.sign.Sign.{Sign}
 use Rattle.dt_glob.specs.declared.sign.Sign.TheVariants.{Plain, Escaped}
 use Rattle.dt_glob.specs.declared.element.Element.{Element}
 use Rattle.dt_glob.specs.declared.element.Element.TheVariants.{Single, Range}
-use Rattle.dt_glob.specs.Sign.{byte_of, sign_text, text_of_signs, IsSign, AreSigns, star, question, opening, closing}
+use Rattle.dt_glob.specs.Sign.{byte_of, sign_text, text_of_signs, IsSign, AreSigns, star, question, opening_bracket, closing_bracket}
 use Rattle.dt_glob.specs.Sign.{bang, dash}
 use Rattle.dt_glob.specs.PatternItem.{PatternItem, Star, AnyByte, Literal, OneOf, Holds, HoldsAny}
 use Rattle.dt_glob.specs.Spells.{BeginsRangeEnd, SpellsElements, Lacks, BeginsWithSign, SpellsSet, SpellsItem}
@@ -32,8 +32,8 @@ pub record Seeks (text : List ℕ) (len : ℕ) (rest : List ℕ) : Type 0 where
   pub rest_is : rest ≡ text_of_signs more ++ 93 ∷ behind
   pub are_seen : AreSigns seen
   pub are_more : AreSigns more
-  pub seen_unended : Lacks closing seen
-  pub more_unended : Lacks closing more
+  pub seen_unended : Lacks closing_bracket seen
+  pub more_unended : Lacks closing_bracket more
 
 -- the first of some signs, and what stands behind it
 pub record FirstSign (signs : List Sign) (sign : Sign) (rest : List ℕ) : Type 0 where
@@ -226,7 +226,7 @@ seeks_first text inside behind h = record {
   more_unended = h.unended;
 }
 
-closing_is : IsSign closing
+closing_is : IsSign closing_bracket
 closing_is e = omega arith
 
 Lacks-append : (sign : Sign) (a b : List Sign) → Lacks sign a → Lacks sign b → Lacks sign (a ++ b)
@@ -234,7 +234,7 @@ Lacks-append sign [] b h k = k
 Lacks-append sign (next ∷ a) b h k = (h.0, Lacks-append sign a b h.1 k)
 
 pub seeks_more : (text : List ℕ) (len : ℕ) (rest : List ℕ) (sign : Sign) (behind : List ℕ) → Seeks text len rest
-    → IsSign sign → sign ≢ closing
+    → IsSign sign → sign ≢ closing_bracket
     → rest ≡ sign_text sign ++ behind → Seeks text (length text - length behind) behind
 seeks_more text len rest sign behind h i n e = go h.more h.rest_is h.are_more h.more_unended
   where
@@ -242,9 +242,9 @@ seeks_more text len rest sign behind h i n e = go h.more h.rest_is h.are_more h.
     whole = h.text_is ∙ ap (λ (s : List ℕ). text_of_signs h.seen ++ s) e
         ∙ sym (rw (text_of_signs-append h.seen (sign ∷ []), append-nil, append_assoc) refl)
 
-    go : (more : List Sign) → rest ≡ text_of_signs more ++ 93 ∷ h.behind → AreSigns more → Lacks closing more
+    go : (more : List Sign) → rest ≡ text_of_signs more ++ 93 ∷ h.behind → AreSigns more → Lacks closing_bracket more
         → Seeks text (length text - length behind) behind
-    go [] k a u = absurd (n (same_sign sign closing behind h.behind i closing_is (sym e ∙ k)).0)
+    go [] k a u = absurd (n (same_sign sign closing_bracket behind h.behind i closing_is (sym e ∙ k)).0)
     go (first ∷ more) k a u =
         let both : sign_text first ++ (text_of_signs more ++ 93 ∷ h.behind) ≡ sign_text sign ++ behind =
         sym (append_assoc (sign_text first) (text_of_signs more) (93 ∷ h.behind)) ∙ sym k ∙ e in
@@ -259,19 +259,19 @@ seeks_more text len rest sign behind h i n e = go h.more h.rest_is h.are_more h.
           rest_is = sym same.1;
           are_seen = AreSigns-append h.seen (sign ∷ []) h.are_seen (i, tt);
           are_more = a.1;
-          seen_unended = Lacks-append closing h.seen (sign ∷ []) h.seen_unended (n, tt);
+          seen_unended = Lacks-append closing_bracket h.seen (sign ∷ []) h.seen_unended (n, tt);
           more_unended = u.1;
         }
 
 -- one set ends at one place
-closes_once : (a b : List Sign) (r s : List ℕ) → AreSigns a → AreSigns b → Lacks closing a → Lacks closing b
+closes_once : (a b : List Sign) (r s : List ℕ) → AreSigns a → AreSigns b → Lacks closing_bracket a → Lacks closing_bracket b
     → text_of_signs a ++ 93 ∷ r ≡ text_of_signs b ++ 93 ∷ s → (a ≡ b) × (r ≡ s)
 closes_once [] [] r s p q u v e = (refl, cc)
 closes_once [] (y ∷ b) r s p q u v e =
-    let same = same_sign closing y r (text_of_signs b ++ 93 ∷ s) closing_is q.0
+    let same = same_sign closing_bracket y r (text_of_signs b ++ 93 ∷ s) closing_is q.0
     (e ∙ append_assoc (sign_text y) (text_of_signs b) (93 ∷ s)) in absurd (v.0 (sym same.0))
 closes_once (x ∷ a) [] r s p q u v e =
-    let same = same_sign x closing (text_of_signs a ++ 93 ∷ r) s p.0 closing_is
+    let same = same_sign x closing_bracket (text_of_signs a ++ 93 ∷ r) s p.0 closing_is
     (sym (append_assoc (sign_text x) (text_of_signs a) (93 ∷ r)) ∙ e) in absurd (u.0 same.0)
 closes_once (x ∷ a) (y ∷ b) r s p q u v e =
     let same = same_sign x y (text_of_signs a ++ 93 ∷ r) (text_of_signs b ++ 93 ∷ s) p.0 q.0
@@ -282,7 +282,7 @@ closes_once (x ∷ a) (y ∷ b) r s p q u v e =
     (cc (same.0, more.0), more.1)
 
 SpellsSet-unended : (inner : List Sign) (negated : Bool) (elements : List Element) → SpellsSet inner negated elements
-    → Lacks closing inner
+    → Lacks closing_bracket inner
 SpellsSet-unended inner negated elements h = rw h.begins (Lacks-mark negated h.inside h.unended)
 
 pub begins_closes : (text : List ℕ) (negated : Bool) (elements : List Element) (behind : List ℕ)
@@ -422,7 +422,7 @@ star_item inner AnyByte e = let same : star ≡ question = cc in absurd (plain_a
 star_item inner (Literal byte) (inl e) = let same : Plain 42 ≡ Escaped byte = cc in cc
 star_item inner (Literal byte) (inr h) = let e = h.0 in let same : Plain 42 ≡ Plain byte =
     cc in absurd (h.1 (sym same))
-star_item inner (OneOf negated elements) h = let e = h.1 in let same : star ≡ opening =
+star_item inner (OneOf negated elements) h = let e = h.1 in let same : star ≡ opening_bracket =
     cc in absurd (plain_apart 42 91 (λ k. omega arith) same)
 
 question_item : (inner : List Sign) (item : PatternItem) → SpellsItem (question ∷ inner) item → (inner ≡ [])
@@ -432,10 +432,10 @@ question_item inner AnyByte e = (cc, refl)
 question_item inner (Literal byte) (inl e) = let same : Plain 63 ≡ Escaped byte = cc in cc
 question_item inner (Literal byte) (inr h) = let e = h.0 in let same : Plain 63 ≡ Plain byte =
     cc in absurd (h.2 (sym same))
-question_item inner (OneOf negated elements) h = let e = h.1 in let same : question ≡ opening =
+question_item inner (OneOf negated elements) h = let e = h.1 in let same : question ≡ opening_bracket =
     cc in absurd (plain_apart 63 91 (λ k. omega arith) same)
 
-literal_item : (sign : Sign) (inner : List Sign) (item : PatternItem) → sign ≢ star → sign ≢ question → sign ≢ opening
+literal_item : (sign : Sign) (inner : List Sign) (item : PatternItem) → sign ≢ star → sign ≢ question → sign ≢ opening_bracket
     → SpellsItem (sign ∷ inner) item → (inner ≡ []) × (item ≡ Literal (byte_of sign))
 literal_item sign inner Star n m o e = absurd (n (cc e))
 literal_item sign inner AnyByte n m o e = absurd (m (cc e))
@@ -459,17 +459,17 @@ pub set_read : (text rest : List ℕ) (items : List PatternItem) → text ≡ 91
     → ReadsSet items rest
 set_read text rest items e h = go r.item r.items_are r.spells
   where
-    r : ReadsItem opening items rest
-    r = item_read text opening rest items (λ k. omega arith) e h
+    r : ReadsItem opening_bracket items rest
+    r = item_read text opening_bracket rest items (λ k. omega arith) e h
 
-    go : (item : PatternItem) → items ≡ item ∷ r.tail → SpellsItem (opening ∷ r.inner) item → ReadsSet items rest
-    go Star k m = let same : opening ≡ star = cc in absurd (plain_apart 91 42 (λ k. omega arith) same)
-    go AnyByte k m = let same : opening ≡ question = cc in absurd (plain_apart 91 63 (λ k. omega arith) same)
+    go : (item : PatternItem) → items ≡ item ∷ r.tail → SpellsItem (opening_bracket ∷ r.inner) item → ReadsSet items rest
+    go Star k m = let same : opening_bracket ≡ star = cc in absurd (plain_apart 91 42 (λ k. omega arith) same)
+    go AnyByte k m = let same : opening_bracket ≡ question = cc in absurd (plain_apart 91 63 (λ k. omega arith) same)
     go (Literal byte) k (inl m) = let same : Plain 91 ≡ Escaped byte = cc in cc
     go (Literal byte) k (inr m) = let e = m.0 in let same : Plain 91 ≡ Plain byte = cc in absurd (m.3 (sym same))
     go (OneOf negated elements) k (inner, m, s) =
-        let inners : r.inner ≡ inner ++ closing ∷ [] = cc in
-        let are : AreSigns (inner ++ closing ∷ []) = rw inners at r.are_inner in
+        let inners : r.inner ≡ inner ++ closing_bracket ∷ [] = cc in
+        let are : AreSigns (inner ++ closing_bracket ∷ []) = rw inners at r.are_inner in
         record {
           negated = negated;
           elements = elements;
@@ -479,8 +479,8 @@ set_read text rest items e h = go r.item r.items_are r.spells
           begins = record {
             inner = inner;
             written = r.rest_is ∙ ap (λ (s : List Sign). text_of_signs s ++ text_of_signs r.after) inners
-                ∙ rw (text_of_signs-append inner (closing ∷ []), append_assoc) refl;
-            are_signs = AreSigns-front inner (closing ∷ []) are;
+                ∙ rw (text_of_signs-append inner (closing_bracket ∷ []), append_assoc) refl;
+            are_signs = AreSigns-front inner (closing_bracket ∷ []) are;
             spells = s;
           };
           spells = record { signs = r.after; written = refl; are_signs = r.are_after; spells = r.spells_tail };
@@ -514,7 +514,7 @@ question_read text rest items e h =
     plain_read token.AnyByte AnyByte text question rest items (λ k. omega arith) e question_item refl h
 
 pub literal_read : (text : List ℕ) (sign : Sign) (rest : List ℕ) (items : List PatternItem) → IsSign sign → text
-    ≡ sign_text sign ++ rest → sign ≢ star → sign ≢ question → sign ≢ opening
+    ≡ sign_text sign ++ rest → sign ≢ star → sign ≢ question → sign ≢ opening_bracket
     → Spells text items → ReadsToken (token.Literal (byte_of sign)) items rest
 literal_read text sign rest items i e n m o h =
     plain_read (token.Literal (byte_of sign)) (Literal (byte_of sign)) text sign rest items i e

@@ -3,7 +3,7 @@ use Rattle.std.specs.Prelude.{◌≡◌, ℕ, ◌⊎◌, Bool, List, [], ◌∷�
 use Rattle.dt_glob.specs.declared.sign.Sign.{Sign}
 use Rattle.dt_glob.specs.declared.fault.GlobFault.{GlobFault}
 use Rattle.dt_glob.specs.declared.fault.GlobFault.TheVariants.{Unclosed, EmptySet, LoneEscape}
-use Rattle.dt_glob.specs.Sign.{escape, text_of_signs, AreSigns, opening, closing}
+use Rattle.dt_glob.specs.Sign.{escape, text_of_signs, AreSigns, opening_bracket, closing_bracket}
 use Rattle.dt_glob.specs.PatternItem.{PatternItem}
 use Rattle.dt_glob.specs.Spells.{Lacks, mark, SpellsItems}
 
@@ -15,16 +15,16 @@ AreItems signs = (items : List PatternItem) × SpellsItems signs items
 pub record EndsInSet (signs : List Sign) : Type 0 where
   pub front : List Sign
   pub inside : List Sign
-  pub cut : signs ≡ front ++ opening ∷ inside
+  pub cut : signs ≡ front ++ opening_bracket ∷ inside
   pub items : AreItems front
-  pub unended : Lacks closing inside
+  pub unended : Lacks closing_bracket inside
 
 abbrev pub FaultOf : List ℕ → GlobFault → Type 0
 -- the text ends in a set
 FaultOf text Unclosed = (signs : List Sign) × (text ≡ text_of_signs signs) × AreSigns signs × EndsInSet signs
 -- a set ends before it has an element, whatever follows
 FaultOf text EmptySet = (front : List Sign) × (negated : Bool) × (rest : List ℕ)
-    × (text ≡ text_of_signs (front ++ opening ∷ (mark negated ++ closing ∷ [])) ++ rest) × AreSigns front × AreItems front
+    × (text ≡ text_of_signs (front ++ opening_bracket ∷ (mark negated ++ closing_bracket ∷ [])) ++ rest) × AreSigns front × AreItems front
 -- the text ends in a `\` with nothing behind it, in a set or behind whole items
 FaultOf text LoneEscape = (signs : List Sign) × (text ≡ text_of_signs signs ++ escape ∷ []) × AreSigns signs
     × (AreItems signs ⊎ EndsInSet signs)

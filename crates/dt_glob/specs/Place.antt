@@ -5,7 +5,7 @@ use Rattle.dt_glob.specs.declared.place.Place.{Place}
 use Rattle.dt_glob.specs.declared.place.Place.TheVariants.{Outside, Opened, Negated, Inside}
 use Rattle.dt_glob.specs.declared.fault.GlobFault.{GlobFault}
 use Rattle.dt_glob.specs.declared.fault.GlobFault.TheVariants.{EmptySet}
-use Rattle.dt_glob.specs.Sign.{opening, closing, bang}
+use Rattle.dt_glob.specs.Sign.{opening_bracket, closing_bracket, bang}
 use Rattle.dt_glob.specs.Spells.{Lacks, BeginsWithSign, mark}
 use Rattle.dt_glob.specs.Fault.{AreItems}
 use Rattle.dt_glob.specs.Reading.{is_plain}
@@ -22,16 +22,16 @@ pub record IsInside (signs : List Sign) : Type 0 where
   pub front : List Sign
   pub negated : Bool
   pub inside : List Sign
-  pub cut : signs ≡ front ++ opening ∷ (mark negated ++ inside)
+  pub cut : signs ≡ front ++ opening_bracket ∷ (mark negated ++ inside)
   pub items : AreItems front
   pub marked : negated ≡ false → ¬ BeginsWithSign bang inside
-  pub unended : Lacks closing inside
+  pub unended : Lacks closing_bracket inside
   pub some : inside ≢ []
 
 -- whole items and how a set begins
 pub record HasOpened (negated : Bool) (signs : List Sign) : Type 0 where
   pub front : List Sign
-  pub cut : signs ≡ front ++ opening ∷ mark negated
+  pub cut : signs ≡ front ++ opening_bracket ∷ mark negated
   pub items : AreItems front
 
 abbrev pub StandsAt : Place → List Sign → Type 0

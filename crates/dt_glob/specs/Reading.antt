@@ -39,9 +39,9 @@ elements_of (sign ∷ next ∷ last ∷ signs) =
     else Single (byte_of sign) ∷ elements_of (next ∷ last ∷ signs))
 
 -- an item that is no set
-abbrev pub item_of : Sign → PatternItem
-item_of (Plain byte) = if byte == 42 then Star else (if byte == 63 then AnyByte else Literal byte)
-item_of (Escaped byte) = Literal byte
+abbrev pub item_of_sign : Sign → PatternItem
+item_of_sign (Plain byte) = if byte == 42 then Star else (if byte == 63 then AnyByte else Literal byte)
+item_of_sign (Escaped byte) = Literal byte
 
 abbrev pub also : PatternItem → Result (List PatternItem) GlobFault → Result (List PatternItem) GlobFault
 also item (Ok items) = Ok (item ∷ items)
@@ -60,7 +60,7 @@ unfoldable pub items_from : Bool → Option (List Sign) → List Sign → Result
 items_from lone None [] = if lone then Err LoneEscape else Ok []
 items_from lone (Some inside) [] = if lone then Err LoneEscape else Err Unclosed
 items_from lone None (sign ∷ signs) =
-    if is_plain 91 sign then items_from lone (Some []) signs else also (item_of sign) (items_from lone None signs)
+    if is_plain 91 sign then items_from lone (Some []) signs else also (item_of_sign sign) (items_from lone None signs)
 items_from lone (Some inside) (sign ∷ signs) =
     if is_plain 93 sign then set_and inside (items_from lone None signs)
     else items_from lone (Some (inside ++ sign ∷ [])) signs

@@ -38,11 +38,11 @@ star = Plain 42
 abbrev pub question : Sign
 question = Plain 63
 
-abbrev pub opening : Sign
-opening = Plain 91
+abbrev pub opening_bracket : Sign
+opening_bracket = Plain 91
 
-abbrev pub closing : Sign
-closing = Plain 93
+abbrev pub closing_bracket : Sign
+closing_bracket = Plain 93
 
 abbrev pub bang : Sign
 bang = Plain 33

@@ -4,7 +4,7 @@ use Rattle.dt_glob.specs.declared.sign.Sign.{Sign}
 use Rattle.dt_glob.specs.declared.sign.Sign.TheVariants.{Plain, Escaped}
 use Rattle.dt_glob.specs.declared.element.Element.{Element}
 use Rattle.dt_glob.specs.declared.element.Element.TheVariants.{Single, Range}
-use Rattle.dt_glob.specs.Sign.{byte_of, text_of_signs, AreSigns, star, question, opening, closing, bang, dash}
+use Rattle.dt_glob.specs.Sign.{byte_of, text_of_signs, AreSigns, star, question, opening_bracket, closing_bracket, bang, dash}
 use Rattle.dt_glob.specs.PatternItem.{PatternItem, Star, AnyByte, Literal, OneOf}
 
 -- a plain `-` with a sign behind it
@@ -42,7 +42,7 @@ pub record SpellsSet (signs : List Sign) (negated : Bool) (elements : List Eleme
   pub inside : List Sign
   pub begins : signs ≡ mark negated ++ inside
   pub marked : negated ≡ false → ¬ BeginsWithSign bang inside
-  pub unended : Lacks closing inside
+  pub unended : Lacks closing_bracket inside
   pub some : inside ≢ []
   pub spells : SpellsElements inside elements
 
@@ -51,8 +51,8 @@ abbrev pub SpellsItem : List Sign → PatternItem → Type 0
 SpellsItem signs Star = signs ≡ star ∷ []
 SpellsItem signs AnyByte = signs ≡ question ∷ []
 SpellsItem signs (Literal byte) = (signs ≡ Escaped byte ∷ [])
-    ⊎ ((signs ≡ Plain byte ∷ []) × (Plain byte ≢ star) × (Plain byte ≢ question) × (Plain byte ≢ opening))
-SpellsItem signs (OneOf negated elements) = (inner : List Sign) × (signs ≡ opening ∷ (inner ++ closing ∷ []))
+    ⊎ ((signs ≡ Plain byte ∷ []) × (Plain byte ≢ star) × (Plain byte ≢ question) × (Plain byte ≢ opening_bracket))
+SpellsItem signs (OneOf negated elements) = (inner : List Sign) × (signs ≡ opening_bracket ∷ (inner ++ closing_bracket ∷ []))
     × SpellsSet inner negated elements
 
 -- the signs can be cut into pieces that spell the items in order

@@ -4,7 +4,7 @@ use Rattle.dt_glob.specs.declared.sign.Sign.{Sign}
 use Rattle.dt_glob.specs.declared.element.Element.{Element}
 use Rattle.dt_glob.specs.declared.token.Token.{Token}
 use Rattle.dt_glob.specs.declared.token.Token.TheVariants as token
-use Rattle.dt_glob.specs.Sign.{text_of_signs, AreSigns, closing}
+use Rattle.dt_glob.specs.Sign.{text_of_signs, AreSigns, closing_bracket}
 use Rattle.dt_glob.specs.PatternItem.{PatternItem, Star, AnyByte, Literal, OneOf}
 use Rattle.dt_glob.specs.Spells.{Lacks, SpellsElements, SpellsSet, Spells}
 
@@ -42,7 +42,7 @@ pub record ClosesAt (text inside rest : List ℕ) : Type 0 where
   pub signs : List Sign
   pub inside_is : inside ≡ text_of_signs signs
   pub are_signs : AreSigns signs
-  pub unended : Lacks closing signs
+  pub unended : Lacks closing_bracket signs
   pub cut : text ≡ inside ++ 93 ∷ rest
 
 -- the text, behind a `[`, begins with the rest of this set

@@ -31,7 +31,7 @@ pub const PATTERN_MAX: usize = 63;
 ///
 /// A set has bytes and ranges, as in `[a-z_]`: a range is all bytes from its first to its last. Each byte of a set may
 /// have a `\` in front of it, and then stands for itself. A `-` is a byte of the set where an element begins and in
-/// front of the closing `]`; elsewhere it makes a range of the bytes beside it.
+/// front of the closing_bracket `]`; elsewhere it makes a range of the bytes beside it.
 #[derive(Debug, Drop)]
 pub struct Pattern {
     text: ArrayVec<u8, PATTERN_MAX>,

@@ -1,5 +1,5 @@
 //! What a consumer asks for by the bytes of a line.
-ghost use Rattle.std.specs.Prelude.{◌≡◌, ◌≢◌, Some, None, Ok, Err, IfOk, IfErr, option_map};
+ghost use Rattle.std.specs.Prelude.{◌≡◌, ◌≢◌, Some, None, Ok, Err, IfOk, IfErr, IfSome, option_map};
 ghost use Rattle.std.specs.String.{string_bytes};
 ghost use Rattle.serde_json.specs.View.{view};
 ghost use Rattle.dt_life.specs.Ask.{line_asks};
@@ -51,10 +51,28 @@ pub fn command_of(alloc: Global, line: &[u8]) -> Result<Command, Refusal>
     ensures err { IfErr result (λ refusal. refusal ≢ Refusal.Memory → requested line.now ≡ Err refusal) }
     ensures no_command { IfErr result (λ refusal. refusal ≢ Refusal.Memory → IsNoCommand refusal) }
 {
+    // most lines of a session that traces are one of these, and to build a value costs far more than to compare a line
+    if let Some(command) = fixed_command(line) {
+        return Ok(command);
+    }
     match Value::from_slice(alloc, line) {
         Ok(request) => requested_command(alloc, &request),
         Err(fault) if fault.is_memory() => Err(Refusal::Memory),
         Err(_) => Err(Refusal::Json),
+    }
+}
+
+/// The command of a line that has no field but `cmd` and is written without a blank. Any other spelling of it asks the same,
+/// and is read as JSON.
+fn fixed_command(line: &[u8]) -> Option<Command>
+    ensures { IfSome result (λ command. requested line.now ≡ Ok (request_of command)) }
+{
+    match line {
+        b"{\"cmd\":\"status\"}" => Some(Command::Status),
+        b"{\"cmd\":\"go\"}" => Some(Command::Go),
+        b"{\"cmd\":\"stop\"}" => Some(Command::Stop),
+        b"{\"cmd\":\"close\"}" => Some(Command::Close),
+        _ => None,
     }
 }
 

@@ -68,17 +68,17 @@ IsOfLength (program.ustack n) = n ≤ frames_max
 IsOfLength _ = Unit {0}
 
 -- A value is what a statement shows of a scene: the expression's number, the text with its zeros, the first frames.
-abbrev pub Shows : SceneForm → StatementForm → RecordedForm → Type 0
-Shows scene (program.trace (program.number f)) (split.number z) = value scene f ≡ Some z
-Shows scene (program.trace (program.text t)) (split.text bytes) = bytes ≡ padded (text_bytes scene t)
-Shows scene (program.stack n) (split.frames list) = list ≡ take n scene.firing.kstack
-Shows scene (program.ustack n) (split.frames list) = list ≡ take n scene.firing.ustack
-Shows scene _ _ = ⊥
+abbrev pub ShowsStatement : SceneForm → StatementForm → RecordedForm → Type 0
+ShowsStatement scene (program.trace (program.number f)) (split.number z) = value scene f ≡ Some z
+ShowsStatement scene (program.trace (program.text t)) (split.text bytes) = bytes ≡ padded (text_bytes scene t)
+ShowsStatement scene (program.stack n) (split.frames list) = list ≡ take n scene.firing.kstack
+ShowsStatement scene (program.ustack n) (split.frames list) = list ≡ take n scene.firing.ustack
+ShowsStatement scene _ _ = ⊥
 
 -- as many values as statements, each shown by its own
 abbrev pub ShowAll : SceneForm → List StatementForm → List RecordedForm → Type 0
 ShowAll scene [] [] = Unit {0}
-ShowAll scene (statement ∷ statements) (value ∷ values) = Shows scene statement value × ShowAll scene statements values
+ShowAll scene (statement ∷ statements) (value ∷ values) = ShowsStatement scene statement value × ShowAll scene statements values
 ShowAll scene _ _ = ⊥
 
 -- The bytes are a record with this EPID and a value for each of these fields, in order: what the recording statements

@@ -6,11 +6,11 @@ use Rattle.dt_proto.specs.Lines.{LineForm}
 use Rattle.dt_steps.specs.Stands.{IsSession, IsPresent, IsHeld, IsAsked, IsAskedOn, IsFinishing, IsFinishedOn}
 use Rattle.dt_steps.specs.Stands.{closed_on}
 use Rattle.dt_steps.specs.World.{Session, Place, may_ask}
-use Rattle.dt_steps.specs.declared.held.Held.{Held}
-use Rattle.dt_steps.specs.declared.served.Served.{Served}
+use Rattle.dt_steps.specs.declared.place.Place.{Place as HeldPlace}
+use Rattle.dt_steps.specs.declared.session.Session.{Session as HeldSession}
 
 module _ (registry : Registry) where
-  present_known : (session : Option Session) (served : Option Served) → IsPresent registry session served
+  present_known : (session : Option Session) (served : Option HeldSession) → IsPresent registry session served
       → is_some served ≡ is_some session
   present_known None None h = refl
   present_known None (Some served) h = absurd h
@@ -18,22 +18,22 @@ module _ (registry : Registry) where
   present_known (Some session) (Some served) h = refl
 
   -- the session that is served
-  pub record Serves (place : Place) (served : Served) : Type 0 where
+  pub record Serves (place : Place) (served : HeldSession) : Type 0 where
     pub session : Session
     pub is : place.present ≡ Some session
     pub kept : IsSession registry session served
 
-  serves_at : (place : Place) (present : Option Session) (served : Served) → place.present ≡ present
+  serves_at : (place : Place) (present : Option Session) (served : HeldSession) → place.present ≡ present
       → IsPresent registry present (Some served) → Serves place served
   serves_at place None served is h = absurd h
   serves_at place (Some session) served is h = record { session = session; is = is; kept = h }
 
-  module _ (place : Place) (held : Held) (h : IsHeld registry place held) where
-    pub serves : (served : Served) → held.present ≡ Some served → Serves place served
+  module _ (place : Place) (held : HeldPlace) (h : IsHeld registry place held) where
+    pub serves : (served : HeldSession) → held.present ≡ Some served → Serves place served
     serves served is = serves_at place place.present served refl (rw is at h.present)
 
     -- the session that is there is the one that is served
-    pub served_session : (served : Served) (session : Session) → held.present ≡ Some served
+    pub served_session : (served : HeldSession) (session : Session) → held.present ≡ Some served
         → place.present ≡ Some session → IsSession registry session served
     served_session served session is at = rw (is, at) at h.present
 
@@ -41,7 +41,7 @@ module _ (registry : Registry) where
     known = present_known place.present held.present h.present
 
     -- its session was asked a line
-    pub asked-session : (line : LineForm) (reply : Option (List ℕ)) (served after : Served)
+    pub asked-session : (line : LineForm) (reply : Option (List ℕ)) (served after : HeldSession)
         → held.present ≡ Some served → ((session : Session) → IsSession registry session served
         → (may_ask registry session ≡ true) × IsAsked registry session line reply after)
         → IsAskedOn registry place line reply (record { present = Some after; earlier = held.earlier })
@@ -50,7 +50,7 @@ module _ (registry : Registry) where
         let a = asks s.session s.kept in
         rw (s.is, a.0) (after, h.counted, refl, a.1)
 
-    pub finished-session : (reply : Option (List ℕ)) (served after : Served) → held.present ≡ Some served
+    pub finished-session : (reply : Option (List ℕ)) (served after : HeldSession) → held.present ≡ Some served
         → ((session : Session) → IsSession registry session served → IsFinishing registry session reply after)
         → IsFinishedOn registry place reply (record { present = Some after; earlier = held.earlier })
     finished-session reply served after is does =

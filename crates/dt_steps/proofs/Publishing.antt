@@ -15,8 +15,8 @@ use Rattle.dt_life.specs.Life.{ecbs}
 use Rattle.dt_steps.specs.Stands.{IsSession, IsHeld, IsPublishedOn, is_unpublished, with_present}
 use Rattle.dt_ecb.specs.Interest.{interest_of}
 use Rattle.dt_steps.specs.World.{Session, Place, Pending, life_in, waiting}
-use Rattle.dt_steps.specs.declared.held.Held.{Held}
-use Rattle.dt_steps.specs.declared.served.Served.{Served}
+use Rattle.dt_steps.specs.declared.place.Place.{Place as HeldPlace}
+use Rattle.dt_steps.specs.declared.session.Session.{Session as HeldSession}
 use Rattle.dt_steps.proofs.Holding.{serves}
 use Rattle.dt_ecb.specs.laws.Interest.{interest_from, interest_to, wanted_from, wanted_to}
 use Rattle.dt_chain.specs.laws.Publishing.{entered_alike}
@@ -56,15 +56,15 @@ module _ (Same : Type 0) (Later : Session → Pending → Type 0) where
       (λ pending. MatchBool pending.published Same (Later own pending)))) (sym at)
       (go_does session session.go is h)
 
-module _ (registry : Registry) (place : Place) (held : Held) (h : IsHeld registry place held) (seat : ℕ)
+module _ (registry : Registry) (place : Place) (held : HeldPlace) (h : IsHeld registry place held) (seat : ℕ)
     (writes : List Write) where
-  abbrev Later : Held → Entries → Session → Pending → Type 0
+  abbrev Later : HeldPlace → Entries → Session → Pending → Type 0
   Later after later session pending =
       IsHeld registry (with_present place (waiting session pending.line true)) after
       × chain.EntriesAreAt (published seat (length place.earlier) session.account
       (interest_of (ecbs session.account registry (life_in registry session))) ∷ writes) later
 
-  pub published-now : (later : Entries) (served after : Served) (probes : Interest)
+  pub published-now : (later : Entries) (served after : HeldSession) (probes : Interest)
       → ((id : ℕ) → probe_id_max < id → interest.has_probe probes id ≡ false) → held.present ≡ Some served
       → ((session : Session) → IsSession registry session served → is_unpublished session ≡ true)
       → ((session : Session) (pending : Pending) → IsSession registry session served → session.go ≡ Some pending

@@ -16,12 +16,12 @@ use Rattle.dt_proto.specs.Lines.{LineForm}
 use Rattle.dt_proto.specs.Reply.{reply_text}
 use Rattle.dt_proto.specs.Session.{session_account}
 use Rattle.dt_steps.specs.Ran.{Told, IsReply, AreReplies, is_of, told_to, IsAnsweredAlone}
-use Rattle.dt_steps.specs.Steps.{Act, opens, asks, publishes, finishes, withdraws, looks, offers, closes, after_act}
+use Rattle.dt_steps.specs.Steps.{StepForm, opens, asks, publishes, finishes, withdraws, looks, offers, closes, after_step}
 use Rattle.dt_steps.specs.Steps.{with_session, question_of, answering, opening, asking, publishing, finishing}
 use Rattle.dt_steps.specs.Steps.{withdrawing, passed, looking, is_done, offered, offering, closing, world_after}
 use Rattle.dt_chain.specs.Tests.{mask_of}
-use Rattle.dt_steps.specs.World.{World, Session, Place, Due, Question, new_world, number_on, session_numbered}
-use Rattle.dt_steps.specs.World.{sessions_on, session_of, new_session, reached, answered, waiting, may_ask, begins}
+use Rattle.dt_steps.specs.World.{World, Session, Place, DueOffer, Question, new_world, number_on, session_numbered}
+use Rattle.dt_steps.specs.World.{sessions_on, session_of, new_session, reached, answered, waiting, may_ask, accepts_go}
 use Rattle.dt_steps.specs.World.{may_withdraw}
 use Rattle.dt_steps.proofs.Soundness.{updated, updated_others, option_case}
 
@@ -174,7 +174,7 @@ module _ (registry : Registry) (world : World) (h : AreAsked world) where
   asked-asking seat line =
       option_case AreAsked _ world (world.places seat).present h (λ session is.
       cond_both (may_ask registry session) _ world AreAsked
-      (λ may. cond_both (begins registry session line) _ _ AreAsked
+      (λ may. cond_both (accepts_go registry session line) _ _ AreAsked
       (λ begun. asked-with_session seat session (waiting session line false) is (λ n. refl))
       (λ no. asked-answering seat session line is))
       (λ no. h))
@@ -216,7 +216,7 @@ module _ (registry : Registry) (world : World) (h : AreAsked world) where
       (AreAskedOn world.questions seat)
       (λ own. before) (λ other. asked-reached seat place session firing is before))
 
-  asked-offered : (seat : ℕ) (place : Place) (due : Due)
+  asked-offered : (seat : ℕ) (place : Place) (due : DueOffer)
       → AreAskedOn world.questions seat place → AreAskedOn world.questions seat (offered due place)
   asked-offered seat place due before =
       option_case (AreAskedOn world.questions seat) _ place place.present before (λ session is.
@@ -244,8 +244,8 @@ module _ (registry : Registry) (world : World) (h : AreAsked world) where
       updated (AreAskedOn world.questions) world.places seat
       (record { present = None; earlier = session ∷ (world.places seat).earlier }) h (asked_at seat session is))
 
-asked-happens : (registry : Registry) (world : World) (act : Act) → AreAsked world
-    → AreAsked (after_act registry world act)
+asked-happens : (registry : Registry) (world : World) (step : StepForm) → AreAsked world
+    → AreAsked (after_step registry world step)
 asked-happens registry world (opens seat name) h = asked-opening registry world h seat name
 asked-happens registry world (asks seat line) h = asked-asking registry world h seat line
 asked-happens registry world (publishes seat) h = asked-publishing registry world h seat
@@ -255,15 +255,15 @@ asked-happens registry world (looks cpu firing) h = asked-looking registry world
 asked-happens registry world (offers cpu seat) h = asked-offering registry world h cpu seat
 asked-happens registry world (closes seat) h = asked-closing registry world h seat
 
-asked-fold : (registry : Registry) (world : World) (acts : List Act) → AreAsked world
-    → AreAsked (fold (after_act registry) world acts)
+asked-fold : (registry : Registry) (world : World) (steps : List StepForm) → AreAsked world
+    → AreAsked (fold (after_step registry) world steps)
 asked-fold registry world [] h = h
-asked-fold registry world (act ∷ acts) h =
-    asked-fold registry (after_act registry world act) acts (asked-happens registry world act h)
+asked-fold registry world (step ∷ steps) h =
+    asked-fold registry (after_step registry world step) steps (asked-happens registry world step h)
 
 -- in every world
-pub all_asked : (registry : Registry) (acts : List Act) → AreAsked (world_after registry acts)
-all_asked registry acts = asked-fold registry new_world acts (λ seat n. refl)
+pub all_asked : (registry : Registry) (steps : List StepForm) → AreAsked (world_after registry steps)
+all_asked registry steps = asked-fold registry new_world steps (λ seat n. refl)
 
 -- the texts of the replies to questions
 abbrev IsTextOf : Registry → Question → List ℕ → Type 0
@@ -344,12 +344,12 @@ module _ (registry : Registry) (seat n : ℕ) where
   alone_at (Some session) texts h = answers_of session.account session.view texts h
 
 -- What was told to a session is what its view is answered alone.
-pub told_alone : (registry : Registry) (acts : List Act) (told : List Told)
-    → AreReplies registry (world_after registry acts).questions told → (seat n : ℕ)
-    → IsAnsweredAlone registry (session_of (world_after registry acts) seat n)
-    (told_to seat n (world_after registry acts).questions told)
-told_alone registry acts told h seat n =
-    alone_at registry seat n (session_of (world_after registry acts) seat n)
-    (told_to seat n (world_after registry acts).questions told)
-    (subst (λ questions. AreTexts registry questions (told_to seat n (world_after registry acts).questions told))
-    (all_asked registry acts seat n) (texts_of registry seat n (world_after registry acts).questions told h))
+pub told_alone : (registry : Registry) (steps : List StepForm) (told : List Told)
+    → AreReplies registry (world_after registry steps).questions told → (seat n : ℕ)
+    → IsAnsweredAlone registry (session_of (world_after registry steps) seat n)
+    (told_to seat n (world_after registry steps).questions told)
+told_alone registry steps told h seat n =
+    alone_at registry seat n (session_of (world_after registry steps) seat n)
+    (told_to seat n (world_after registry steps).questions told)
+    (subst (λ questions. AreTexts registry questions (told_to seat n (world_after registry steps).questions told))
+    (all_asked registry steps seat n) (texts_of registry seat n (world_after registry steps).questions told h))

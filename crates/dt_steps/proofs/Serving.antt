@@ -26,36 +26,36 @@ use Rattle.dt_proto.specs.Line.{ask_in}
 use Rattle.dt_proto.specs.Lines.{LineForm}
 use Rattle.dt_proto.specs.Reply.{reply_text}
 use Rattle.dt_proto.specs.declared.asked.Asked.{Asked}
-use Rattle.dt_steps.specs.Ready.{IsReady}
+use Rattle.dt_steps.specs.Ready.{GoIsReady}
 use Rattle.dt_steps.specs.Stands.{IsWaiting, IsPending, IsServed, IsSession, IsAsked, IsFinishing}
 use Rattle.dt_life.specs.Tests.{is_seen}
-use Rattle.dt_steps.specs.World.{Session, Pending, life_in, is_closing, is_tracing, may_ask, begins, may_withdraw}
-use Rattle.dt_steps.specs.declared.served.Served.{Served}
-use Rattle.dt_steps.specs.declared.served.Waiting.{Waiting}
-use Rattle.dt_steps.proofs.Beginning.{begins_from, begins_to}
+use Rattle.dt_steps.specs.World.{Session, Pending, life_in, is_closing, is_tracing, may_ask, accepts_go, may_withdraw}
+use Rattle.dt_steps.specs.declared.session.Session.{Session as HeldSession}
+use Rattle.dt_steps.specs.declared.session.Pending.{Pending as HeldPending}
+use Rattle.dt_steps.proofs.Beginning.{accepts_from, accepts_to}
 use Rattle.dt_proto.specs.laws.Views.{reply_to}
 use Rattle.dt_life.specs.laws.Seeing.{seen_to, unseen_to}
 
 module _ (registry : Registry) (account : Account) (life : List Item) where
   -- where one has a pending `go`, so has the other
-  pending_known : (pending : Option Pending) (held : Option Waiting) → IsPending registry account life pending held
+  pending_known : (pending : Option Pending) (held : Option HeldPending) → IsPending registry account life pending held
       → is_some held ≡ is_some pending
   pending_known None None h = refl
   pending_known None (Some held) h = absurd h
   pending_known (Some pending) None h = absurd h
   pending_known (Some pending) (Some held) h = refl
 
-  pending_none : (held : Option Waiting) → IsPending registry account life None held → held ≡ None
+  pending_none : (held : Option HeldPending) → IsPending registry account life None held → held ≡ None
   pending_none None h = refl
   pending_none (Some held) h = absurd h
 
   -- the pending `go` of which this is kept
-  record Waits (pending : Option Pending) (held : Waiting) : Type 0 where
+  record Waits (pending : Option Pending) (held : HeldPending) : Type 0 where
     pub own : Pending
     pub is : pending ≡ Some own
     pub kept : IsWaiting registry account life own held
 
-  waits_for : (pending : Option Pending) (held : Waiting) → IsPending registry account life pending (Some held)
+  waits_for : (pending : Option Pending) (held : HeldPending) → IsPending registry account life pending (Some held)
       → Waits pending held
   waits_for None held h = absurd h
   waits_for (Some own) held h = record { own = own; is = refl; kept = h }
@@ -68,12 +68,12 @@ none_pending : (pending : Option Pending) → is_none pending ≡ true → pendi
 none_pending None h = refl
 none_pending (Some own) h = cc
 
-no_line_kept : (registry : Registry) (account : Account) (life later : List Item) (held : Option Waiting)
+no_line_kept : (registry : Registry) (account : Account) (life later : List Item) (held : Option HeldPending)
     → IsPending registry account life None held → IsPending registry account later None held
 no_line_kept registry account life later None h = h
 no_line_kept registry account life later (Some held) h = h
 
-module _ (registry : Registry) (session : Session) (served : Served) (h : IsSession registry session served) where
+module _ (registry : Registry) (session : Session) (served : HeldSession) (h : IsSession registry session served) where
   known : is_some served.go ≡ is_some session.go
   known = pending_known registry session.account (life_in registry session) session.go served.go h.pending
 
@@ -141,27 +141,37 @@ module _ (registry : Registry) (account : Account) (life : List Item) where
   go_open_at line true is = refl
   go_open_at line false is = ap (λ own. is_close own || list_any is_closing life) (sym is)
 
-module _ (registry : Registry) (session : Session) (line : LineForm) (served : Served)
+module _ (registry : Registry) (session : Session) (line : LineForm) (served : HeldSession)
     (h : IsSession registry session served) where
   -- an accepted `go` is kept
-  pub asked_go : (kept : Asked) (draft : Draft) → form_asked kept ≡ line
-      → IsDraftOf session.account registry (life_in registry session) (ask_in line) draft
+  pub asked_go : (held : HeldPending) (answer : Answer) → form_asked held.line ≡ line
+      → IsDraftOf session.account registry (life_in registry session) (ask_in line) held.draft
       → IsAcceptedGo session.account registry (life_in registry session) (ask_in line)
-      → (ready : IsReady served.consumer (Some (record { line = kept; draft = draft; is_published = false })))
+      → Replies session.account registry (life_in registry session) (ask_in line) answer
+      → held.text.items ≡ reply_text answer → held.is_published ≡ false
+      → (ready : GoIsReady served.consumer (Some held))
       → IsAsked registry session line None (record {
         account = served.account;
         consumer = served.consumer;
-        go = Some (record { line = kept; draft = draft; is_published = false });
+        go = Some held;
         is_closed = served.is_closed;
         ready = ready;
       })
-  asked_go kept draft same drafted is ready = (
-    begins_to registry session line is,
+  asked_go held answer same drafted is replies text not_yet ready = (
+    accepts_to registry session line is,
     record {
       owner = h.owner;
       stands = h.stands;
       closed = h.closed;
-      pending = record { line = same; published = refl; accepted = is; drafted = drafted };
+      pending = record {
+        line = same;
+        published = not_yet;
+        accepted = is;
+        drafted = drafted;
+        answer = answer;
+        replies = replies;
+        text = text;
+      };
     },
   )
 
@@ -179,7 +189,7 @@ module _ (registry : Registry) (session : Session) (line : LineForm) (served : S
       → IsTrue closes ↔ IsAcceptedClose session.account registry (life_in registry session) (ask_in line)
       → StandsFor session.account registry consumer (after_line (life_in registry session) (ask_in line))
       → Replies session.account registry (life_in registry session) (ask_in line) answer → text ≡ reply_text answer
-      → (ready : IsReady consumer served.go)
+      → (ready : GoIsReady consumer served.go)
       → IsAsked registry session line (Some text) (record {
         account = served.account;
         consumer = consumer;
@@ -191,7 +201,7 @@ module _ (registry : Registry) (session : Session) (line : LineForm) (served : S
       let parts = may_ask_parts may in
       let idle : IsPending registry session.account (life_in registry session) None served.go =
       rw parts.0 at h.pending in (
-        false_from_ne_true (begins registry session line) (λ go. none (begins_from registry session line go)),
+        false_from_ne_true (accepts_go registry session line) (λ go. none (accepts_from registry session line go)),
         record {
           owner = h.owner;
           stands = stands;
@@ -204,25 +214,28 @@ module _ (registry : Registry) (session : Session) (line : LineForm) (served : S
       )
 
 -- what is pending of a session, as it is kept
-pub record Finishes (registry : Registry) (session : Session) (held : Waiting) : Type 0 where
+pub record Finishes (registry : Registry) (session : Session) (held : HeldPending) : Type 0 where
   pub own : Pending
   pub is : session.go ≡ Some own
   pub line : form_asked held.line ≡ own.line
   pub published : held.is_published ≡ own.published
   pub accepted : IsAcceptedGo session.account registry (life_in registry session) (ask_in own.line)
   pub drafted : IsDraftOf session.account registry (life_in registry session) (ask_in own.line) held.draft
+  pub answer : Answer
+  pub replies : Replies session.account registry (life_in registry session) (ask_in own.line) answer
+  pub text : held.text.items ≡ reply_text answer
 
 not_published_at : (registry : Registry) (account : Account) (life : List Item) (pending : Option Pending)
-    (held : Option Waiting) → IsPending registry account life pending held
-    → option_map_or (λ (one : Waiting). one.is_published) held false ≡ false
+    (held : Option HeldPending) → IsPending registry account life pending held
+    → option_map_or (λ (one : HeldPending). one.is_published) held false ≡ false
     → option_map_or (λ (own : Pending). own.published) pending false ≡ false
 not_published_at registry account life None None h not_yet = refl
 not_published_at registry account life None (Some held) h not_yet = refl
 not_published_at registry account life (Some own) None h not_yet = absurd h
 not_published_at registry account life (Some own) (Some held) h not_yet = sym h.published ∙ not_yet
 
-module _ (registry : Registry) (session : Session) (served : Served) (h : IsSession registry session served) where
-  pub finishes : (held : Waiting) → served.go ≡ Some held → Finishes registry session held
+module _ (registry : Registry) (session : Session) (served : HeldSession) (h : IsSession registry session served) where
+  pub finishes : (held : HeldPending) → served.go ≡ Some held → Finishes registry session held
   finishes held is =
       let w = waits_for registry session.account (life_in registry session) session.go held (rw is at h.pending) in
       record {
@@ -232,10 +245,13 @@ module _ (registry : Registry) (session : Session) (served : Served) (h : IsSess
         published = w.kept.published;
         accepted = w.kept.accepted;
         drafted = w.kept.drafted;
+        answer = w.kept.answer;
+        replies = w.kept.replies;
+        text = w.kept.text;
       }
 
   -- the line that is kept is that of the pending `go`
-  pub kept_line : (held : Waiting) → served.go ≡ Some held → (pending : Pending) → session.go ≡ Some pending
+  pub kept_line : (held : HeldPending) → served.go ≡ Some held → (pending : Pending) → session.go ≡ Some pending
       → form_asked held.line ≡ pending.line
   kept_line held is pending waits =
       let f = finishes held is in
@@ -244,7 +260,7 @@ module _ (registry : Registry) (session : Session) (served : Served) (h : IsSess
       f.line ∙ ap (λ (p : Pending). p.line) same
 
   -- nothing is pending, or it isn't published
-  pub not_finishing : option_map_or (λ (held : Waiting). held.is_published) served.go false ≡ false
+  pub not_finishing : option_map_or (λ (held : HeldPending). held.is_published) served.go false ≡ false
       → IsFinishing registry session None served
   not_finishing unpublished = (
     not_published_at registry session.account (life_in registry session) session.go served.go h.pending unpublished,
@@ -252,31 +268,28 @@ module _ (registry : Registry) (session : Session) (served : Served) (h : IsSess
   )
 
   -- it takes effect, and is answered
-  pub finishing : (held : Waiting) (consumer : Consumer) (kept : Option Waiting) (answer : Answer) (text : List ℕ)
+  pub finishing : (held : HeldPending) (consumer : Consumer) (kept : Option HeldPending)
       → served.go ≡ Some held → kept ≡ None
       → held.is_published ≡ true
       → ((line : LineForm) → IsDraftOf session.account registry (life_in registry session) (ask_in line) held.draft
-      → StandsFor session.account registry consumer (after_line (life_in registry session) (ask_in line))
-      × Replies session.account registry (life_in registry session) (ask_in line) answer)
-      → text ≡ reply_text answer
-      → (ready : IsReady consumer kept)
-      → IsFinishing registry session (Some text) (record {
+      → StandsFor session.account registry consumer (after_line (life_in registry session) (ask_in line)))
+      → (ready : GoIsReady consumer kept)
+      → IsFinishing registry session (Some held.text.items) (record {
         account = served.account;
         consumer = consumer;
         go = kept;
         is_closed = served.is_closed;
         ready = ready;
       })
-  finishing held consumer kept answer text is emptied published does text_is ready =
-      let w = finishes held is in
-      let done = does w.own.line w.drafted in (
+  finishing held consumer kept is emptied published does ready =
+      let w = finishes held is in (
         w.own,
         w.is,
         sym w.published ∙ published,
-        (answer, reply_to session.account registry session.view w.own.line answer done.1, text_is),
+        (w.answer, reply_to session.account registry session.view w.own.line w.answer w.replies, w.text),
         record {
           owner = h.owner;
-          stands = done.0;
+          stands = does w.own.line w.drafted;
           closed = h.closed ∙ go_open_at registry session.account (life_in registry session) (ask_in w.own.line)
               (is_over (life_in registry session)) w.accepted.3;
           pending = rw emptied tt;
@@ -292,7 +305,7 @@ pub record IsOffered (account : Account) (registry : Registry) (consumer after :
 
 module _ (registry : Registry) (account : Account) (life : List Item) (firing : Firing) where
   -- nothing is pending of a session that sees a firing
-  kept_seen : (pending : Option Pending) (held : Option Waiting) → Sees account registry life firing
+  kept_seen : (pending : Option Pending) (held : Option HeldPending) → Sees account registry life firing
       → IsPending registry account life pending held → IsPending registry account (fired firing ∷ life) pending held
   kept_seen None None sees h = h
   kept_seen None (Some held) sees h = h
@@ -300,8 +313,8 @@ module _ (registry : Registry) (account : Account) (life : List Item) (firing : 
   kept_seen (Some own) (Some held) sees h =
       let both : Active ≡ Inactive = sym sees.active ∙ h.accepted.1 in cc
 
-  pub served_offered : (pending : Option Pending) (served : Served) (consumer : Consumer) (seen : Bool)
-      → (ready : IsReady consumer served.go) → IsServed registry account life pending served
+  pub served_offered : (pending : Option Pending) (served : HeldSession) (consumer : Consumer) (seen : Bool)
+      → (ready : GoIsReady consumer served.go) → IsServed registry account life pending served
       → IsOffered account registry served.consumer consumer firing seen life
       → IsServed registry account (cond (is_seen account registry life firing) (fired firing ∷ life) life) pending
       (record {

@@ -19,16 +19,16 @@ use Rattle.dt_proto.specs.Line.{ask_in}
 use Rattle.dt_proto.specs.Lines.{LineForm}
 use Rattle.dt_proto.specs.Session.{session_account}
 use Rattle.dt_steps.specs.Sound.{publication_of, IsEntered, IsSoundSeat, IsSoundWorld}
-use Rattle.dt_steps.specs.Steps.{Act, opens, asks, publishes, finishes, withdraws, looks, offers, closes, after_act}
+use Rattle.dt_steps.specs.Steps.{StepForm, opens, asks, publishes, finishes, withdraws, looks, offers, closes, after_step}
 use Rattle.dt_steps.specs.Steps.{world_after, with_session, answering, opening, asking, publishing, finishing}
 use Rattle.dt_steps.specs.Steps.{withdrawing, passed, looking, is_done, offered, offering, closing}
 use Rattle.dt_life.specs.Tests.{is_seen}
 use Rattle.dt_ecb.specs.Interest.{interest_of}
 use Rattle.dt_chain.specs.Tests.{mask_of}
-use Rattle.dt_steps.specs.World.{World, Session, Place, Pending, Due, new_world, number_on, life_in, is_tracing}
-use Rattle.dt_steps.specs.World.{new_session, reached, answered, waiting, may_ask, begins, may_withdraw}
+use Rattle.dt_steps.specs.World.{World, Session, Place, Pending, DueOffer, new_world, number_on, life_in, is_tracing}
+use Rattle.dt_steps.specs.World.{new_session, reached, answered, waiting, may_ask, accepts_go, may_withdraw}
 use Rattle.dt_life.specs.laws.Beginning.{inactive_from}
-use Rattle.dt_steps.proofs.Beginning.{begins_from, begins_to}
+use Rattle.dt_steps.proofs.Beginning.{accepts_from, accepts_to}
 use Rattle.dt_life.specs.laws.Keeping.{Keeps, may_begin, life-after_line, life-fired, ecbs-go}
 use Rattle.dt_life.specs.laws.Seeing.{seen_from}
 
@@ -228,7 +228,7 @@ module _ (registry : Registry) where
       (IsSoundSeat registry seat entry)
       (λ own. h) (λ other. sound-reached seat entry place session firing is h))
 
-  sound-offered : (seat : ℕ) (entry : Option Published) (place : Place) (due : Due)
+  sound-offered : (seat : ℕ) (entry : Option Published) (place : Place) (due : DueOffer)
       → IsSoundSeat registry seat entry place → IsSoundSeat registry seat entry (offered due place)
   sound-offered seat entry place due h =
       option_case (IsSoundSeat registry seat entry) _ place place.present h (λ session is.
@@ -287,14 +287,14 @@ module _ (registry : Registry) where
         let at = at_session seat session is in
         let idle : IsEntered registry session.account (life_in registry session) None (number_on world seat)
         (published_on world.writes seat) = rw (may_ask_none session may) at at.1 in
-        cond_both (begins registry session line) _ _ (IsSoundWorld registry)
+        cond_both (accepts_go registry session line) _ _ (IsSoundWorld registry)
         (λ begun. sound-with_session seat (waiting session line false) at.0
         (entered-waiting registry session.account (number_on world seat) (published_on world.writes seat)
-        (life_in registry session) line (begins_from registry session line begun) idle))
+        (life_in registry session) line (accepts_from registry session line begun) idle))
         (λ no. sound-answering seat session line at.0
         (entered-answered registry session.account (number_on world seat) (published_on world.writes seat)
         (life_in registry session) (ask_in line)
-        (λ is_go. both_ways (begins registry session line) no (begins_to registry session line is_go)) idle)))
+        (λ is_go. both_ways (accepts_go registry session line) no (accepts_to registry session line is_go)) idle)))
         (λ no. h))
 
     pub sound-publishing : (seat : ℕ) → IsSoundWorld registry (publishing registry world seat)
@@ -427,8 +427,8 @@ module _ (registry : Registry) where
   pub sound-start : IsSoundWorld registry new_world
   sound-start = record { seats = λ seat past. refl; due = λ cpu seat past. refl }
 
-  pub sound-happens : (world : World) (act : Act) → IsSoundWorld registry world
-      → IsSoundWorld registry (after_act registry world act)
+  pub sound-happens : (world : World) (step : StepForm) → IsSoundWorld registry world
+      → IsSoundWorld registry (after_step registry world step)
   sound-happens world (opens seat name) h = sound-opening world h seat name
   sound-happens world (asks seat line) h = sound-asking world h seat line
   sound-happens world (publishes seat) h = sound-publishing world h seat
@@ -438,10 +438,10 @@ module _ (registry : Registry) where
   sound-happens world (offers cpu seat) h = sound-offering world h cpu seat
   sound-happens world (closes seat) h = sound-closing world h seat
 
-  sound-fold : (world : World) (acts : List Act) → IsSoundWorld registry world
-      → IsSoundWorld registry (fold (after_act registry) world acts)
+  sound-fold : (world : World) (steps : List StepForm) → IsSoundWorld registry world
+      → IsSoundWorld registry (fold (after_step registry) world steps)
   sound-fold world [] h = h
-  sound-fold world (act ∷ acts) h = sound-fold (after_act registry world act) acts (sound-happens world act h)
+  sound-fold world (step ∷ steps) h = sound-fold (after_step registry world step) steps (sound-happens world step h)
 
-  pub sound-after : (acts : List Act) → IsSoundWorld registry (world_after registry acts)
-  sound-after acts = sound-fold new_world acts sound-start
+  pub sound-after : (steps : List StepForm) → IsSoundWorld registry (world_after registry steps)
+  sound-after steps = sound-fold new_world steps sound-start

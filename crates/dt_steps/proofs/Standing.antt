@@ -34,11 +34,11 @@ use Rattle.dt_steps.specs.Steps.{closing}
 use Rattle.dt_life.specs.Tests.{is_seen}
 use Rattle.dt_chain.specs.Tests.{is_named, mask_of}
 use Rattle.dt_ecb.specs.Interest.{interest_of}
-use Rattle.dt_steps.specs.World.{World, Session, Pending, Place, Due, number_on, life_in, new_session, reached}
-use Rattle.dt_steps.specs.World.{answered, waiting, may_ask, begins, may_withdraw}
-use Rattle.dt_steps.specs.declared.held.Held.{Held}
-use Rattle.dt_steps.specs.declared.looked.Looked.{Looked}
-use Rattle.dt_steps.specs.declared.served.Served.{Served}
+use Rattle.dt_steps.specs.World.{World, Session, Pending, Place, DueOffer, number_on, life_in, new_session, reached}
+use Rattle.dt_steps.specs.World.{answered, waiting, may_ask, accepts_go, may_withdraw}
+use Rattle.dt_steps.specs.declared.place.Place.{Place as HeldPlace}
+use Rattle.dt_steps.specs.declared.due.DueOffers.{DueOffers}
+use Rattle.dt_steps.specs.declared.session.Session.{Session as HeldSession}
 use Rattle.dt_chain.specs.laws.Tests.{mask_is_look}
 use Rattle.dt_steps.specs.laws.Unseen.{unseen_unless_named}
 
@@ -82,33 +82,33 @@ read_at xs ys i found value same low read is =
     ap (λ list. slice_get list i) (sym same) ∙ slice_get-get_or ys i found within ∙ ap Some (sym read) ∙ ap Some is
 
 -- what a call found on a seat
-pub record Found (seats : List Held) (at seat : ℕ) (held : Held) : Type 0 where
+pub record Found (seats : List HeldPlace) (at seat : ℕ) (held : HeldPlace) : Type 0 where
   pub is : at ≡ seat
   pub low : at < SEATS
   pub read : held ≡ get_or seats at held
 
 module _ (registry : Registry) where
   -- what is on a seat after the calls on it, in the words of its session
-  held_session : (place : Place) (session : Session) (held : Held) (served : Served)
+  held_session : (place : Place) (session : Session) (held : HeldPlace) (served : HeldSession)
       → held.earlier ≡ length place.earlier → held.present ≡ Some served → IsSession registry session served
       → IsHeld registry (with_present place session) held
   held_session place session held served counted is kept = record { counted = counted; present = rw is kept }
 
   -- the same session is served
-  held_same : (place : Place) (session : Session) (held : Held) (served : Served) → place.present ≡ Some session
+  held_same : (place : Place) (session : Session) (held : HeldPlace) (served : HeldSession) → place.present ≡ Some session
       → held.earlier ≡ length place.earlier → held.present ≡ Some served → IsSession registry session served
       → IsHeld registry place held
   held_same place session held served at counted is kept = record {
     counted = counted;
     present = present_same place.present held.present at is kept;
   } where
-    present_same : (present : Option Session) (served_ : Option Served) → present ≡ Some session
+    present_same : (present : Option Session) (served_ : Option HeldSession) → present ≡ Some session
         → served_ ≡ Some served → IsSession registry session served → IsPresent registry present served_
     present_same present served_ e f kept = rw (e, f) kept
 
-  module _ (world : World) (seats : List Held) (entries : Entries) (processors : List Looked)
+  module _ (world : World) (seats : List HeldPlace) (entries : Entries) (processors : List DueOffers)
       (kept : WorldIsKept registry world seats entries processors) where
-    module _ (at seat : ℕ) (held : Held) (found : Found seats at seat held) where
+    module _ (at seat : ℕ) (held : HeldPlace) (found : Found seats at seat held) where
       seat_low : seat < SEATS
       seat_low = let is = found.is in let low = found.low in omega arith
 
@@ -122,7 +122,7 @@ module _ (registry : Registry) where
           rw same at (kept.held seat)
 
       -- what is kept after something changed on this seat
-      kept_seat : (places : ℕ → Place) (place : Place) (after : Held)
+      kept_seat : (places : ℕ → Place) (place : Place) (after : HeldPlace)
           → ((other : ℕ) → IfSome (slice_get seats other) (IsHeld registry (places other)))
           → IsHeld registry place after → (other : ℕ)
           → IfSome (slice_get (set seats at after) other) (IsHeld registry (cond (seat == other) place (places other)))
@@ -135,11 +135,11 @@ module _ (registry : Registry) where
           (λ same. let own : (seat == other) ≡ false = ap (λ n. n == other) (sym found.is)
           ∙ same in rw own (before other))
 
-      set_all : (after : Held) → length (set seats at after) ≡ SEATS
+      set_all : (after : HeldPlace) → length (set seats at after) ≡ SEATS
       set_all after = length-set seats at after ∙ kept.all
 
       -- the session on this seat is another, or what is on it
-      kept-with_place : (place : Place) (after : Held) → IsHeld registry place after
+      kept-with_place : (place : Place) (after : HeldPlace) → IsHeld registry place after
           → WorldIsKept registry (with_place world seat place) (set seats at after) entries processors
       kept-with_place place after h = record {
         all = set_all after;
@@ -151,7 +151,7 @@ module _ (registry : Registry) where
       }
 
       -- nothing changed there
-      kept_same_at : (after : Held) (other : ℕ) → IsHeld registry (world.places seat) after
+      kept_same_at : (after : HeldPlace) (other : ℕ) → IsHeld registry (world.places seat) after
           → IfSome (slice_get (set seats at after) other) (IsHeld registry (world.places other))
       kept_same_at after other h =
           let long = kept.all in
@@ -163,7 +163,7 @@ module _ (registry : Registry) where
           subst (λ n. IsHeld registry (world.places n) after) own h)
           (λ same. kept.held other)
 
-      kept_same : (after : Held) → IsHeld registry (world.places seat) after
+      kept_same : (after : HeldPlace) → IsHeld registry (world.places seat) after
           → WorldIsKept registry world (set seats at after) entries processors
       kept_same after h = record {
         all = set_all after;
@@ -174,7 +174,7 @@ module _ (registry : Registry) where
         moments = kept.moments;
       }
 
-      kept-answering : (session : Session) (line : LineForm) (after : Held)
+      kept-answering : (session : Session) (line : LineForm) (after : HeldPlace)
           → IsHeld registry (with_present (world.places seat) (answered session line)) after
           → WorldIsKept registry (answering world seat session line) (set seats at after) entries processors
       kept-answering session line after h =
@@ -182,7 +182,7 @@ module _ (registry : Registry) where
           record { all = one.all; held = one.held; entered = one.entered; cpus = one.cpus; due = one.due; moments = one.moments }
 
       -- Open
-      pub kept-opening : (name : List ℕ) (after : Held)
+      pub kept-opening : (name : List ℕ) (after : HeldPlace)
           → ((place : Place) → IsHeld registry place held → IsHeld registry (opened_on registry place name) after)
           → WorldIsKept registry (opening registry world seat name) (set seats at after) entries processors
       unfolding opening
@@ -191,7 +191,7 @@ module _ (registry : Registry) where
           opened_at (is_some (world.places seat).present) (session_account registry name) refl refl here after
           (opens (world.places seat) held_at) where
             opened_at : (taken : Bool) (account : Option Account) → is_some (world.places seat).present ≡ taken
-                → session_account registry name ≡ account → nat_lt seat SEATS ≡ true → (after : Held)
+                → session_account registry name ≡ account → nat_lt seat SEATS ≡ true → (after : HeldPlace)
                 → IsHeld registry (opened_on registry (world.places seat) name) after
                 → WorldIsKept registry (cond (nat_lt seat SEATS && not (is_some (world.places seat).present))
                 (option_map_or (λ own. with_session world seat (new_session own))
@@ -206,15 +206,15 @@ module _ (registry : Registry) where
                 (rw (taken, is) at h))
 
       -- Ask
-      Asked : LineForm → Option (List ℕ) → Held → World → Type 0
+      Asked : LineForm → Option (List ℕ) → HeldPlace → World → Type 0
       Asked line reply after later =
           WorldIsKept registry later (set seats at after) entries processors
           × IsAnswered registry world later seat reply
 
-      asked_begun : (session : Session) (line : LineForm) (reply : Option (List ℕ)) (after : Held) (served : Served)
+      asked_begun : (session : Session) (line : LineForm) (reply : Option (List ℕ)) (after : HeldPlace) (served : HeldSession)
           → after.earlier ≡ length (world.places seat).earlier → after.present ≡ Some served
           → IsAsked registry session line reply served
-          → Asked line reply after (cond (begins registry session line)
+          → Asked line reply after (cond (accepts_go registry session line)
           (with_session world seat (waiting session line false)) (answering world seat session line))
       unfolding Asked
       asked_begun session line None after served counted is h = (
@@ -228,7 +228,7 @@ module _ (registry : Registry) where
         rw h.0 (question_of world seat session line, refl, (refl, h.2)),
       )
 
-      pub kept-asking : (line : LineForm) (reply : Option (List ℕ)) (after : Held)
+      pub kept-asking : (line : LineForm) (reply : Option (List ℕ)) (after : HeldPlace)
           → ((place : Place) → IsHeld registry place held → IsAskedOn registry place line reply after)
           → WorldIsKept registry (asking registry world seat line) (set seats at after) entries processors
           × IsAnswered registry world (asking registry world seat line) seat reply
@@ -237,11 +237,11 @@ module _ (registry : Registry) where
           asked_case (world.places seat).present (asks (world.places seat) held_at) where
             may_case : (session : Session) (may : Bool)
                 → MatchBool may
-                ((served : Served) × (after.earlier ≡ length (world.places seat).earlier)
+                ((served : HeldSession) × (after.earlier ≡ length (world.places seat).earlier)
                 × (after.present ≡ Some served)
                 × IsAsked registry session line reply served)
                 ((reply ≡ None) × IsHeld registry (world.places seat) after)
-                → Asked line reply after (cond may (cond (begins registry session line)
+                → Asked line reply after (cond may (cond (accepts_go registry session line)
                 (with_session world seat (waiting session line false)) (answering world seat session line)) world)
             may_case session true h = asked_begun session line reply after h.0 h.1 h.2 h.3
             may_case session false h = (kept_same after h.1, rw h.0 refl)
@@ -249,23 +249,23 @@ module _ (registry : Registry) where
             asked_case : (present : Option Session)
                 → MatchOption present ((reply ≡ None) × IsHeld registry (world.places seat) after)
                 (λ session. MatchBool (may_ask registry session)
-                ((served : Served) × (after.earlier ≡ length (world.places seat).earlier)
+                ((served : HeldSession) × (after.earlier ≡ length (world.places seat).earlier)
                 × (after.present ≡ Some served)
                 × IsAsked registry session line reply served)
                 ((reply ≡ None) × IsHeld registry (world.places seat) after))
                 → Asked line reply after (option_map_or (λ session. cond (may_ask registry session)
-                (cond (begins registry session line) (with_session world seat (waiting session line false))
+                (cond (accepts_go registry session line) (with_session world seat (waiting session line false))
                 (answering world seat session line)) world) present world)
             asked_case None h = (kept_same after h.1, rw h.0 refl)
             asked_case (Some session) h = may_case session (may_ask registry session) h
 
       -- Finish
-      Finished : Option (List ℕ) → Held → World → Type 0
+      Finished : Option (List ℕ) → HeldPlace → World → Type 0
       Finished reply after later =
           WorldIsKept registry later (set seats at after) entries processors
           × IsAnswered registry world later seat reply
 
-      finished_on : (session : Session) (reply : Option (List ℕ)) (after : Held) (served : Served)
+      finished_on : (session : Session) (reply : Option (List ℕ)) (after : HeldPlace) (served : HeldSession)
           → (world.places seat).present ≡ Some session
           → after.earlier ≡ length (world.places seat).earlier → after.present ≡ Some served
           → IsFinishing registry session reply served
@@ -289,7 +289,7 @@ module _ (registry : Registry) where
             (question_of world seat session h.0.line, refl, (refl, h.3)),
           )
 
-      pub kept-finishing : (reply : Option (List ℕ)) (after : Held)
+      pub kept-finishing : (reply : Option (List ℕ)) (after : HeldPlace)
           → ((place : Place) → IsHeld registry place held → IsFinishedOn registry place reply after)
           → WorldIsKept registry (finishing world seat) (set seats at after) entries processors
           × IsAnswered registry world (finishing world seat) seat reply
@@ -298,7 +298,7 @@ module _ (registry : Registry) where
           finished_case (world.places seat).present refl (finishes (world.places seat) held_at) where
             finished_case : (present : Option Session) → (world.places seat).present ≡ present
                 → MatchOption present ((reply ≡ None) × IsHeld registry (world.places seat) after)
-                (λ session. (served : Served) × (after.earlier ≡ length (world.places seat).earlier)
+                (λ session. (served : HeldSession) × (after.earlier ≡ length (world.places seat).earlier)
                 × (after.present ≡ Some served) × IsFinishing registry session reply served)
                 → Finished reply after (option_map_or (λ session. option_map_or (λ pending. cond pending.published
                 (answering world seat session pending.line) world) session.go world) present world)
@@ -306,7 +306,7 @@ module _ (registry : Registry) where
             finished_case (Some session) is h = finished_on session reply after h.0 is h.1 h.2 h.3
 
       -- Close
-      pub kept-closing : (after : Held)
+      pub kept-closing : (after : HeldPlace)
           → ((place : Place) → length place.earlier + 1 < 2 ^ 64 → IsHeld registry place held
           → IsHeld registry (closed_on place) after)
           → number_on world seat + 1 < 2 ^ 64
@@ -323,7 +323,7 @@ module _ (registry : Registry) where
             closed_case f (Some session) h = kept-with_place (f session) after h
 
       -- Publish
-      kept_published : (session : Session) (pending : Pending) (after : Held) (later : Entries)
+      kept_published : (session : Session) (pending : Pending) (after : HeldPlace) (later : Entries)
           → IsHeld registry (with_present (world.places seat) (waiting session pending.line true)) after
           → chain.EntriesAreAt (published seat (number_on world seat) session.account
           (interest_of (ecbs session.account registry (life_in registry session))) ∷ world.writes) later
@@ -333,13 +333,13 @@ module _ (registry : Registry) where
           let one = kept-with_place (with_present (world.places seat) (waiting session pending.line true)) after h in
           record { all = one.all; held = one.held; entered = entered; cpus = one.cpus; due = one.due; moments = one.moments }
 
-      kept_entries : (after : Held) (later : Entries) → IsHeld registry (world.places seat) after
+      kept_entries : (after : HeldPlace) (later : Entries) → IsHeld registry (world.places seat) after
           → chain.EntriesAreAt world.writes later → WorldIsKept registry world (set seats at after) later processors
       kept_entries after later h entered =
           let one = kept_same after h in
           record { all = one.all; held = one.held; entered = entered; cpus = one.cpus; due = one.due; moments = one.moments }
 
-      pub kept-publishing : (after : Held) (later : Entries)
+      pub kept-publishing : (after : HeldPlace) (later : Entries)
           → ((place : Place) (writes : List Write) → IsHeld registry place held → chain.EntriesAreAt writes entries
           → IsPublishedOn registry seat place writes after later)
           → WorldIsKept registry (publishing registry world seat) (set seats at after) later processors
@@ -437,7 +437,7 @@ one_named registry writes firing lives is seat =
     ))
 
 -- a seat after a firing reached its session, which didn't see it
-unseen_present : (registry : Registry) (session : Session) (firing : Firing) (served : Option Served)
+unseen_present : (registry : Registry) (session : Session) (firing : Firing) (served : Option HeldSession)
     → is_seen session.account registry (life_in registry session) firing ≡ false
     → IsPresent registry (Some session) served
     → IsPresent registry (Some (reached session (firing_made firing))) served
@@ -445,7 +445,7 @@ unseen_present registry session firing None unseen h = h
 unseen_present registry session firing (Some served) unseen h = rw unseen h
 
 module _ (registry : Registry) where
-  passed_held : (seat : ℕ) (entry : Option Published) (place : Place) (held : Held) (firing : Firing)
+  passed_held : (seat : ℕ) (entry : Option Published) (place : Place) (held : HeldPlace) (firing : Firing)
       → IsSoundSeat registry seat entry place → IsHeld registry place held
       → IsHeld registry (passed firing (option_and_then
       (λ one. cond (is_named registry one firing) (Some one.life) None) entry) place) held
@@ -469,23 +469,23 @@ module _ (registry : Registry) where
               present = unseen_present registry session firing held.present unseen (rw is at h.present);
             }
 
-  held_each : (seats : List Held) (places later : ℕ → Place) (seat : ℕ) (found : Option Held)
+  held_each : (seats : List HeldPlace) (places later : ℕ → Place) (seat : ℕ) (found : Option HeldPlace)
       → slice_get seats seat ≡ found
-      → ((held : Held) → IsHeld registry (places seat) held → IsHeld registry (later seat) held)
+      → ((held : HeldPlace) → IsHeld registry (places seat) held → IsHeld registry (later seat) held)
       → IfSome found (IsHeld registry (places seat)) → IfSome found (IsHeld registry (later seat))
   held_each seats places later seat None is keeps h = h
   held_each seats places later seat (Some held) is keeps h = keeps held h
 
-  module _ (world : World) (seats : List Held) (entries : Entries) (processors : List Looked)
+  module _ (world : World) (seats : List HeldPlace) (entries : Entries) (processors : List DueOffers)
       (sound : IsSoundWorld registry world) (kept : WorldIsKept registry world seats entries processors) where
     -- whether a look is enabled
-    done_all : (due : ℕ → Option Due) (from count : ℕ) → ((seat : ℕ) → due seat ≡ None)
+    done_all : (due : ℕ → Option DueOffer) (from count : ℕ) → ((seat : ℕ) → due seat ≡ None)
         → list_all (λ seat. is_none (due seat)) (range_with_len from count) ≡ true
     done_all due from zero none = refl
     done_all due from (suc count) none =
         and_from _ _ (ap is_none (none from)) (done_all due (from + 1) count none)
 
-    all_done : (due : ℕ → Option Due) (from count : ℕ)
+    all_done : (due : ℕ → Option DueOffer) (from count : ℕ)
         → list_all (λ seat. is_none (due seat)) (range_with_len from count) ≡ true
         → (seat : ℕ) → from ≤ seat → seat < from + count → is_none (due seat) ≡ true
     all_done due from zero h seat low high = absurd (omega arith)
@@ -516,14 +516,14 @@ module _ (registry : Registry) where
         (λ (high : SEATS ≤ seat). sound.due cpu seat high)
         (cases_lt seat SEATS)
 
-    near : (cpu : ℕ) (looked : Looked) → slice_get processors cpu ≡ Some looked
+    near : (cpu : ℕ) (looked : DueOffers) → slice_get processors cpu ≡ Some looked
         → nat_lt cpu registry.cpus ≡ true
     near cpu looked is =
         let cpus = kept.cpus in
         let low : cpu < length processors = slice_get_within processors cpu looked is in
         lt-ltb cpu registry.cpus (omega arith)
 
-    pub done-looked : (cpu : ℕ) (looked : Looked) (told : Bool) → slice_get processors cpu ≡ Some looked
+    pub done-looked : (cpu : ℕ) (looked : DueOffers) (told : Bool) → slice_get processors cpu ≡ Some looked
         → (told ≡ true → (seat : ℕ) → due_of looked seat ≡ None)
         → (told ≡ false → ((seat : ℕ) → due_of looked seat ≡ None) → ⊥)
         → told ≡ (nat_lt cpu registry.cpus && is_done (world.due cpu))
@@ -538,25 +538,25 @@ module _ (registry : Registry) where
         sym (and_right (nat_lt cpu registry.cpus) (is_done (world.due cpu)) not_done)
 
     -- the lives that are due, of what a processor looked for
-    pub left-looked : (cpu : ℕ) (looked : Looked) (life : Option ℕ) → slice_get processors cpu ≡ Some looked
+    pub left-looked : (cpu : ℕ) (looked : DueOffers) (life : Option ℕ) → slice_get processors cpu ≡ Some looked
         → (seat : ℕ) → life ≡ option_map (λ due. due.life) (due_of looked seat)
         → life ≡ option_map (λ due. due.life) (world.due cpu seat)
     left-looked cpu looked life is seat left =
         left ∙ ap (option_map (λ due. due.life)) (sym (kept.due cpu seat ∙ ap (λ o. due_in o seat) is))
 
     -- what a processor looked for is the machine's
-    pub lent-looked : (cpu : ℕ) (looked : Looked) (moment : Moment) → slice_get processors cpu ≡ Some looked
+    pub lent-looked : (cpu : ℕ) (looked : DueOffers) (moment : Moment) → slice_get processors cpu ≡ Some looked
         → looked.moment ≡ Some moment → IsMoment registry moment
     lent-looked cpu looked moment is lent =
         subst (λ m. IfSome m (IsMoment registry)) lent
-        (subst (λ o. IfSome o (λ (one : Looked). IfSome one.moment (IsMoment registry))) is (kept.moments cpu))
+        (subst (λ o. IfSome o (λ (one : DueOffers). IfSome one.moment (IsMoment registry))) is (kept.moments cpu))
 
     -- what processors looked for are the machine's, where one looks anew, or still has what it looked for
-    moments_after : (cpu other : ℕ) (looked : Looked) → cpu < length processors
+    moments_after : (cpu other : ℕ) (looked : DueOffers) → cpu < length processors
         → IfSome looked.moment (IsMoment registry)
         → IfSome (slice_get (set processors cpu looked) other) (λ one. IfSome one.moment (IsMoment registry))
     moments_after cpu other looked low moment =
-        get_set_at (λ o. IfSome o (λ (one : Looked). IfSome one.moment (IsMoment registry)))
+        get_set_at (λ o. IfSome o (λ (one : DueOffers). IfSome one.moment (IsMoment registry)))
         processors cpu other looked (cpu == other) refl low (λ same. moment) (λ same. kept.moments other)
 
     pub left-past : (cpu : ℕ) → length processors ≤ cpu → (seat : ℕ)
@@ -566,7 +566,7 @@ module _ (registry : Registry) where
         kept.due cpu seat ∙ ap (λ o. due_in o seat) (slice_get_past processors cpu high) in rw none refl
 
     -- Look
-    due_after : (cpu other seat : ℕ) (firing : Firing) (looked : Looked) → cpu < registry.cpus
+    due_after : (cpu other seat : ℕ) (firing : Firing) (looked : DueOffers) → cpu < registry.cpus
         → ((at : ℕ) → life_at looked.left at ≡ mask_of registry world.writes firing at)
         → ((at : ℕ) → due_of looked at
         ≡ option_map (λ life. record { life = life; firing = firing }) (life_at looked.left at))
@@ -586,7 +586,7 @@ module _ (registry : Registry) where
         let own : (other == cpu) ≡ false = ne_eqb other cpu (λ e. eqb-false cpu other same (sym e)) in
         rw own (kept.due other seat))
 
-    pub kept-looking : (cpu : ℕ) (firing : Firing) (looked : Looked) → (firing.cpu == cpu) ≡ true
+    pub kept-looking : (cpu : ℕ) (firing : Firing) (looked : DueOffers) → (firing.cpu == cpu) ≡ true
         → (nat_lt cpu registry.cpus && is_done (world.due cpu)) ≡ true
         → IsLook registry world.writes firing (life_at looked.left)
         → ((at : ℕ) → due_of looked at
@@ -617,7 +617,7 @@ module _ (registry : Registry) where
         })
 
     -- what the look named are the seats to which offers are due then
-    pub naming-looking : (cpu : ℕ) (firing : Firing) (looked : Looked) (seats_named : SeatSet)
+    pub naming-looking : (cpu : ℕ) (firing : Firing) (looked : DueOffers) (seats_named : SeatSet)
         → (firing.cpu == cpu) ≡ true → (nat_lt cpu registry.cpus && is_done (world.due cpu)) ≡ true
         → IsLook registry world.writes firing (life_at looked.left)
         → ((at : ℕ) → due_of looked at
@@ -669,7 +669,7 @@ module _ (registry : Registry) where
     seen-none cpu seat none = let is : world.due cpu seat ≡ None = kept.due cpu seat ∙ none in rw is refl
 
     -- the session on the seat tells whether the firing is seen
-    pub seen-offered : (cpu at seat : ℕ) (held : Held) (before : Looked) (due : Due) → Found seats at seat held
+    pub seen-offered : (cpu at seat : ℕ) (held : HeldPlace) (before : DueOffers) (due : DueOffer) → Found seats at seat held
         → slice_get processors cpu ≡ Some before → due_of before seat ≡ Some due → (seen : Bool)
         → ((place : Place) → IsHeld registry place held → seen ≡ sees_on registry due place)
         → seen_in registry world cpu seat ≡ cond seen (Some due.firing) None
@@ -679,7 +679,7 @@ module _ (registry : Registry) where
         (held_at registry world seats entries processors kept at seat held found) in
         rw own (ap (λ b. cond b (Some due.firing) None) (sym told))
 
-    due_taken : (cpu seat other at : ℕ) (before after : Looked) → slice_get processors cpu ≡ Some before
+    due_taken : (cpu seat other at : ℕ) (before after : DueOffers) → slice_get processors cpu ≡ Some before
         → ((one : ℕ) → due_of after one ≡ cond (one == seat) None (due_of before one))
         → cond (other == cpu && at == seat) None (world.due other at)
         ≡ due_in (slice_get (set processors cpu after) other) at
@@ -697,7 +697,7 @@ module _ (registry : Registry) where
         let own : (other == cpu) ≡ false = ne_eqb other cpu (λ e. eqb-false cpu other same (sym e)) in
         rw own (kept.due other at))
 
-    pub kept-offering : (cpu at seat : ℕ) (held after : Held) (before left : Looked) (due : Due)
+    pub kept-offering : (cpu at seat : ℕ) (held after : HeldPlace) (before left : DueOffers) (due : DueOffer)
         → Found seats at seat held → slice_get processors cpu ≡ Some before
         → due_of before seat ≡ Some due
         → ((one : ℕ) → due_of left one ≡ cond (one == seat) None (due_of before one))
@@ -718,11 +718,11 @@ module _ (registry : Registry) where
           due = λ other one. due_taken cpu seat other one before left is taken;
           moments = λ other. moments_after cpu other left (slice_get_within processors cpu before is)
               (subst (λ m. IfSome m (IsMoment registry)) (sym stays)
-              (subst (λ o. IfSome o (λ (one : Looked). IfSome one.moment (IsMoment registry))) is (kept.moments cpu)));
+              (subst (λ o. IfSome o (λ (one : DueOffers). IfSome one.moment (IsMoment registry))) is (kept.moments cpu)));
         })
 
     -- nothing was taken
-    pub kept-offering-none : (cpu seat : ℕ) (value changed : Looked) → cpu < length processors
+    pub kept-offering-none : (cpu seat : ℕ) (value changed : DueOffers) → cpu < length processors
         → value ≡ get_or processors cpu value → changed ≡ value → due_of value seat ≡ None
         → WorldIsKept registry (offering world cpu seat) seats entries (set processors cpu changed)
     kept-offering-none cpu seat value changed low read same none =

@@ -12,14 +12,14 @@ use Rattle.dt_proto.specs.Lines.{LineForm}
 use Rattle.dt_proto.specs.Session.{session_account}
 use Rattle.dt_steps.specs.Ran.{Told, IsReply, AreReplies, AreMasks, HasTold}
 use Rattle.dt_steps.specs.Stands.{IsAnswered, IsLooked}
-use Rattle.dt_steps.specs.Steps.{Act, opens, asks, publishes, finishes, withdraws, looks, offers, closes, after_act}
+use Rattle.dt_steps.specs.Steps.{StepForm, opens, asks, publishes, finishes, withdraws, looks, offers, closes, after_step}
 use Rattle.dt_steps.specs.Steps.{world_after, with_session, answering, opening, asking, publishing, publishing_of}
 use Rattle.dt_steps.specs.Steps.{finishing, withdrawing, passed, looking_at, may_look, looking, is_done, offered, offering}
 use Rattle.dt_steps.specs.Steps.{closing}
 use Rattle.dt_steps.specs.Telling.{IsTelling}
 use Rattle.dt_chain.specs.Tests.{mask_of}
-use Rattle.dt_steps.specs.World.{World, Place, Due, Question, new_world, number_on, new_session, answered, waiting}
-use Rattle.dt_steps.specs.World.{may_ask, begins, may_withdraw}
+use Rattle.dt_steps.specs.World.{World, Place, DueOffer, Question, new_world, number_on, new_session, answered, waiting}
+use Rattle.dt_steps.specs.World.{may_ask, accepts_go, may_withdraw}
 use Rattle.dt_steps.specs.declared.outcome.Outcome.TheVariants.{Quiet, Replied, Looked}
 use Rattle.dt_steps.proofs.Soundness.{updated, option_case}
 
@@ -40,7 +40,7 @@ module _ (registry : Registry) (world : World) where
   looks-asking seat line =
       option_case (λ (w : World). w.looks ≡ world.looks) _ world (world.places seat).present refl (λ session is.
       cond_both (may_ask registry session) _ world (λ w. w.looks ≡ world.looks)
-      (λ may. cond_both (begins registry session line) (with_session world seat (waiting session line false))
+      (λ may. cond_both (accepts_go registry session line) (with_session world seat (waiting session line false))
       (answering world seat session line) (λ w. w.looks ≡ world.looks) (λ yes. refl) (λ no. refl))
       (λ no. refl))
 
@@ -83,7 +83,7 @@ module _ (registry : Registry) (world : World) where
   unfolding looking
   looking_may cpu firing may = rw may refl
 
-  life_due : (own : Bool) (named : Option ℕ) (firing : Firing) (other : Option Due) → own ≡ true
+  life_due : (own : Bool) (named : Option ℕ) (firing : Firing) (other : Option DueOffer) → own ≡ true
       → option_map (λ due. due.life) (cond own (option_map (λ life. record { life = life; firing = firing }) named) other)
       ≡ named
   life_due own None firing other is = rw is refl
@@ -141,7 +141,7 @@ module _ (registry : Registry) (world : World) where
   grows-asking seat line =
       option_case Grows _ world (world.places seat).present grows_same (λ session is.
       cond_both (may_ask registry session) _ world Grows
-      (λ may. cond_both (begins registry session line) (with_session world seat (waiting session line false))
+      (λ may. cond_both (accepts_go registry session line) (with_session world seat (waiting session line false))
       (answering world seat session line) Grows
       (λ yes. grows_place seat (record {
         present = Some (waiting session line false);
@@ -189,7 +189,7 @@ module _ (registry : Registry) (world : World) where
       cond_both (option_map_or (λ life. life == length place.earlier) named false) _ _ (GrowsTo seat)
       (λ own. h) (λ other. h))
 
-  grows_offered : (seat : ℕ) (place : Place) (due : Due) → GrowsTo seat place → GrowsTo seat (offered due place)
+  grows_offered : (seat : ℕ) (place : Place) (due : DueOffer) → GrowsTo seat place → GrowsTo seat (offered due place)
   grows_offered seat place due h =
       option_case (GrowsTo seat) _ place place.present h (λ session is.
       cond_both (due.life == length place.earlier) _ _ (GrowsTo seat) (λ own. h) (λ other. h))
@@ -215,7 +215,7 @@ module _ (registry : Registry) (world : World) where
       option_case Grows _ world (world.places seat).present grows_same (λ session is.
       grows_place seat (record { present = None; earlier = session ∷ (world.places seat).earlier }) (omega arith))
 
-  grows-happens : (act : Act) → Grows (after_act registry world act)
+  grows-happens : (step : StepForm) → Grows (after_step registry world step)
   grows-happens (opens seat name) = grows-opening seat name
   grows-happens (asks seat line) = grows-asking seat line
   grows-happens (publishes seat) = grows-publishing seat
@@ -225,29 +225,29 @@ module _ (registry : Registry) (world : World) where
   grows-happens (offers cpu seat) = grows-offering cpu seat
   grows-happens (closes seat) = grows-closing seat
 
-few_fold : (registry : Registry) (world : World) (acts : List Act) (seat : ℕ)
-    → number_on (fold (after_act registry) world acts) seat ≤ number_on world seat + length acts
+few_fold : (registry : Registry) (world : World) (steps : List StepForm) (seat : ℕ)
+    → number_on (fold (after_step registry) world steps) seat ≤ number_on world seat + length steps
 few_fold registry world [] seat = omega arith
-few_fold registry world (act ∷ acts) seat =
-    let one = grows-happens registry world act seat in
-    let more = few_fold registry (after_act registry world act) acts seat in
+few_fold registry world (step ∷ steps) seat =
+    let one = grows-happens registry world step seat in
+    let more = few_fold registry (after_step registry world step) steps seat in
     omega (arith, one, more)
 
 -- no more sessions on a seat than there were steps
-pub few_after : (registry : Registry) (acts : List Act) (seat : ℕ)
-    → number_on (world_after registry acts) seat ≤ length acts
-few_after registry acts seat = let h = few_fold registry new_world acts seat in omega (arith, h)
+pub few_after : (registry : Registry) (steps : List StepForm) (seat : ℕ)
+    → number_on (world_after registry steps) seat ≤ length steps
+few_after registry steps seat = let h = few_fold registry new_world steps seat in omega (arith, h)
 
-fold_end : (registry : Registry) (world : World) (acts : List Act) (act : Act)
-    → fold (after_act registry) world (acts ++ act ∷ [])
-    ≡ after_act registry (fold (after_act registry) world acts) act
-fold_end registry world [] act = refl
-fold_end registry world (first ∷ acts) act = fold_end registry (after_act registry world first) acts act
+fold_end : (registry : Registry) (world : World) (steps : List StepForm) (step : StepForm)
+    → fold (after_step registry) world (steps ++ step ∷ [])
+    ≡ after_step registry (fold (after_step registry) world steps) step
+fold_end registry world [] step = refl
+fold_end registry world (first ∷ steps) step = fold_end registry (after_step registry world first) steps step
 
 -- one step more
-pub world_after-end : (registry : Registry) (acts : List Act) (act : Act)
-    → world_after registry (acts ++ act ∷ []) ≡ after_act registry (world_after registry acts) act
-world_after-end registry acts act = fold_end registry new_world acts act
+pub world_after-end : (registry : Registry) (steps : List StepForm) (step : StepForm)
+    → world_after registry (steps ++ step ∷ []) ≡ after_step registry (world_after registry steps) step
+world_after-end registry steps step = fold_end registry new_world steps step
 
 -- a reply, if there is one
 pub telling_replied : {A : Type 0} (text_of : A → Vec ℕ Global) (registry : Registry) (before after : World) (seat : ℕ)

@@ -17,11 +17,14 @@ use Rattle.dt_chain.specs.declared.seat_mask.SeatMask.{SeatMask}
 use Rattle.dt_chain.specs.declared.seat_set.SeatSet.{SeatSet}
 use Rattle.dt_life.specs.Acceptance.{IsAcceptedGo}
 use Rattle.dt_consumer.specs.Draft.{IsDraftOf}
+use Rattle.dt_life.specs.Answer.{Answer}
 use Rattle.dt_life.specs.Life.{Item, ecbs}
+use Rattle.dt_life.specs.Reply.{Replies}
 use Rattle.dt_consumer.specs.StandsFor.{StandsFor}
 use Rattle.dt_proto.specs.Asked.{form_asked}
 use Rattle.dt_proto.specs.Line.{ask_in}
 use Rattle.dt_proto.specs.Lines.{LineForm}
+use Rattle.dt_proto.specs.Reply.{reply_text}
 use Rattle.dt_proto.specs.Session.{session_account}
 use Rattle.dt_proto.specs.Alone.{IsText}
 use Rattle.dt_steps.specs.Ran.{IsReply}
@@ -29,14 +32,14 @@ use Rattle.dt_steps.specs.Sound.{IsSoundWorld}
 use Rattle.dt_steps.specs.Steps.{may_look, looking}
 use Rattle.dt_life.specs.Tests.{is_seen}
 use Rattle.dt_ecb.specs.Interest.{interest_of}
-use Rattle.dt_steps.specs.World.{World, Session, Place, Pending, Due, Question, life_in, is_closing, new_session}
-use Rattle.dt_steps.specs.World.{answered, waiting, may_ask, begins}
+use Rattle.dt_steps.specs.World.{World, Session, Place, Pending, DueOffer, Question, life_in, is_closing, new_session}
+use Rattle.dt_steps.specs.World.{answered, waiting, may_ask, accepts_go}
 use Rattle.dt_steps.specs.declared.engine.Engine.{Engine}
-use Rattle.dt_steps.specs.declared.held.Held.{Held}
-use Rattle.dt_steps.specs.declared.looked.Looked.{Looked}
-use Rattle.dt_steps.specs.declared.looked.ScriptPlace.{ScriptPlace}
-use Rattle.dt_steps.specs.declared.served.Served.{Served}
-use Rattle.dt_steps.specs.declared.served.Waiting.{Waiting}
+use Rattle.dt_steps.specs.declared.place.Place.{Place as HeldPlace}
+use Rattle.dt_steps.specs.declared.due.DueOffers.{DueOffers}
+use Rattle.dt_steps.specs.declared.due.ScriptPlace.{ScriptPlace}
+use Rattle.dt_steps.specs.declared.session.Session.{Session as HeldSession}
+use Rattle.dt_steps.specs.declared.session.Pending.{Pending as HeldPending}
 
 -- a `go` is pending, and its interest is published; or it isn't yet
 abbrev pub is_published : Session → Bool
@@ -64,40 +67,44 @@ abbrev pub place_of : Firing → ScriptPlace
 place_of firing = record { cpu = firing.cpu; place = firing.place }
 
 -- what a processor owes to a seat of what it looked for
-abbrev pub due_by : Option Moment → (life : Option ℕ) → Option Due
+abbrev pub due_by : Option Moment → (life : Option ℕ) → Option DueOffer
 due_by moment life = option_and_then
     (λ moment. option_map (λ life. record { life = life; firing = moment.firing.now }) life) moment
 
-abbrev pub due_of : Looked → (seat : ℕ) → Option Due
+abbrev pub due_of : DueOffers → (seat : ℕ) → Option DueOffer
 due_of looked seat = due_by looked.moment (life_at looked.left seat)
 
-abbrev pub due_in : Option Looked → (seat : ℕ) → Option Due
+abbrev pub due_in : Option DueOffers → (seat : ℕ) → Option DueOffer
 due_in (Some looked) seat = due_of looked seat
 due_in None seat = None
 
 module _ (registry : Registry) where
-  -- What is kept of a pending `go`, which is an accepted one: its line, whether it is published, and the draft.
-  pub record IsWaiting (account : Account) (life : List Item) (pending : Pending) (waiting : Waiting) : Type 0 where
+  -- What is kept of a pending `go`, which is an accepted one: its line, whether it is published, the draft, and the text of
+  -- the reply that is due to it.
+  pub record IsWaiting (account : Account) (life : List Item) (pending : Pending) (waiting : HeldPending) : Type 0 where
     pub line : form_asked waiting.line ≡ pending.line
     pub published : waiting.is_published ≡ pending.published
     pub accepted : IsAcceptedGo account registry life (ask_in pending.line)
     pub drafted : IsDraftOf account registry life (ask_in pending.line) waiting.draft
+    pub answer : Answer
+    pub replies : Replies account registry life (ask_in pending.line) answer
+    pub text : waiting.text.items ≡ reply_text answer
 
-  abbrev pub IsPending : Account → List Item → Option Pending → Option Waiting → Type 0
+  abbrev pub IsPending : Account → List Item → Option Pending → Option HeldPending → Type 0
   IsPending account life None None = Unit {0}
   IsPending account life None (Some waiting) = ⊥
   IsPending account life (Some pending) None = ⊥
   IsPending account life (Some pending) (Some waiting) = IsWaiting account life pending waiting
 
   -- What is kept of a session of this account, this life and this pending `go`: its consumer stands for the life.
-  pub record IsServed (account : Account) (life : List Item) (go : Option Pending) (served : Served) : Type 0 where
+  pub record IsServed (account : Account) (life : List Item) (go : Option Pending) (served : HeldSession) : Type 0 where
     pub owner : served.account ≡ account
     pub stands : StandsFor account registry served.consumer life
     pub closed : served.is_closed ≡ list_any is_closing life
     pub pending : IsPending account life go served.go
 
   -- the session on a seat sees the firing that is due to it
-  abbrev pub sees_on : Due → Place → Bool
+  abbrev pub sees_on : DueOffer → Place → Bool
   sees_on due place = option_map_or
       (λ session. (due.life == length place.earlier)
       && is_seen session.account registry (life_in registry session) due.firing) place.present false
@@ -107,30 +114,30 @@ module _ (registry : Registry) where
   seen_in world cpu seat = option_and_then
       (λ due. if sees_on due (world.places seat) then Some due.firing else None) (world.due cpu seat)
 
-  abbrev pub IsSession : Session → Served → Type 0
+  abbrev pub IsSession : Session → HeldSession → Type 0
   IsSession session served = IsServed session.account (life_in registry session) session.go served
 
-  abbrev pub IsPresent : Option Session → Option Served → Type 0
+  abbrev pub IsPresent : Option Session → Option HeldSession → Type 0
   IsPresent None None = Unit {0}
   IsPresent None (Some served) = ⊥
   IsPresent (Some session) None = ⊥
   IsPresent (Some session) (Some served) = IsSession session served
 
   -- What is kept of a seat: its session, and how many were there before it.
-  pub record IsHeld (place : Place) (held : Held) : Type 0 where
+  pub record IsHeld (place : Place) (held : HeldPlace) : Type 0 where
     pub counted : held.earlier ≡ length place.earlier
     pub present : IsPresent place.present held.present
 
   -- A line was asked of a session that may ask: an accepted `go` is pending without a reply, any other is answered.
-  abbrev pub IsAsked : Session → LineForm → (reply : Option (List ℕ)) → Served → Type 0
+  abbrev pub IsAsked : Session → LineForm → (reply : Option (List ℕ)) → HeldSession → Type 0
   IsAsked session line None served =
-      (begins registry session line ≡ true) × IsSession (waiting session line false) served
+      (accepts_go registry session line ≡ true) × IsSession (waiting session line false) served
   IsAsked session line (Some text) served =
-      (begins registry session line ≡ false) × IsSession (answered session line) served
+      (accepts_go registry session line ≡ false) × IsSession (answered session line) served
       × IsText session.account registry session.view line text
 
   -- A published `go` took effect, and is answered; or none is pending, and nothing happened.
-  abbrev pub IsFinishing : Session → (reply : Option (List ℕ)) → Served → Type 0
+  abbrev pub IsFinishing : Session → (reply : Option (List ℕ)) → HeldSession → Type 0
   IsFinishing session None served = (is_published session ≡ false) × IsSession session served
   IsFinishing session (Some text) served =
       (pending : Pending) × (session.go ≡ Some pending) × (pending.published ≡ true)
@@ -144,21 +151,21 @@ module _ (registry : Registry) where
       option_map_or (λ account. with_present place (new_session account)) (session_account registry name) place
 
   -- A line was asked on a seat.
-  abbrev pub IsAskedOn : Place → LineForm → (reply : Option (List ℕ)) → Held → Type 0
+  abbrev pub IsAskedOn : Place → LineForm → (reply : Option (List ℕ)) → HeldPlace → Type 0
   IsAskedOn place line reply held = MatchOption place.present ((reply ≡ None) × IsHeld place held)
       (λ session. MatchBool (may_ask registry session)
-      ((served : Served) × (held.earlier ≡ length place.earlier) × (held.present ≡ Some served)
+      ((served : HeldSession) × (held.earlier ≡ length place.earlier) × (held.present ≡ Some served)
       × IsAsked session line reply served)
       ((reply ≡ None) × IsHeld place held))
 
   -- A published `go` took effect on a seat, if there was one.
-  abbrev pub IsFinishedOn : Place → (reply : Option (List ℕ)) → Held → Type 0
+  abbrev pub IsFinishedOn : Place → (reply : Option (List ℕ)) → HeldPlace → Type 0
   IsFinishedOn place reply held = MatchOption place.present ((reply ≡ None) × IsHeld place held)
-      (λ session. (served : Served) × (held.earlier ≡ length place.earlier) × (held.present ≡ Some served)
+      (λ session. (served : HeldSession) × (held.earlier ≡ length place.earlier) × (held.present ≡ Some served)
       × IsFinishing session reply served)
 
   -- The interest of the session on a seat was published, if its pending `go` wasn't yet.
-  abbrev pub IsPublishedOn : (seat : ℕ) → Place → List Write → Held → Entries → Type 0
+  abbrev pub IsPublishedOn : (seat : ℕ) → Place → List Write → HeldPlace → Entries → Type 0
   IsPublishedOn seat place writes held entries =
       let same = IsHeld place held × chain.EntriesAreAt writes entries in
       MatchOption place.present same (λ session. MatchOption session.go same (λ pending. MatchBool pending.published same
@@ -167,7 +174,7 @@ module _ (registry : Registry) where
       (interest_of (ecbs session.account registry (life_in registry session))) ∷ writes) entries)))
 
   -- What is kept is that of a world: of each seat, of each processor, and the entries.
-  pub record WorldIsKept (world : World) (seats : List Held) (entries : Entries) (processors : List Looked)
+  pub record WorldIsKept (world : World) (seats : List HeldPlace) (entries : Entries) (processors : List DueOffers)
       : Type 0 where
     pub all : length seats ≡ seat_count
     pub held : (seat : ℕ) → IfSome (slice_get seats seat) (IsHeld (world.places seat))

@@ -14,31 +14,35 @@ use Rattle.dt_proto.specs.Lines.{LineForm}
 use Rattle.dt_proto.specs.Session.{session_account}
 use Rattle.dt_ecb.specs.Interest.{interest_of}
 use Rattle.dt_chain.specs.Tests.{mask_of}
-use Rattle.dt_steps.specs.World.{World, Session, Place, Pending, Due, Question, new_world, number_on, life_in}
-use Rattle.dt_steps.specs.World.{new_session, reached, answered, waiting, may_ask, begins, may_withdraw}
+use Rattle.dt_steps.specs.World.{World, Session, Place, Pending, DueOffer, Question, new_world, number_on, life_in}
+use Rattle.dt_steps.specs.World.{new_session, reached, answered, waiting, may_ask, accepts_go, may_withdraw}
 use Rattle.dt_steps.specs.declared.step.Step.{Step}
 use Rattle.dt_steps.specs.declared.step.Step.TheVariants.{Open, Ask, Publish, Finish, Withdraw, Look, Offer, Close}
 
 -- a step without where its texts lie in memory
-pub data Act : Type 0 where
-  opens : (seat : ℕ) → (name : List ℕ) → Act
-  asks : (seat : ℕ) → LineForm → Act
-  publishes : (seat : ℕ) → Act
-  finishes : (seat : ℕ) → Act
-  withdraws : (seat : ℕ) → Act
-  looks : (cpu : ℕ) → Firing → Act
-  offers : (cpu seat : ℕ) → Act
-  closes : (seat : ℕ) → Act
+pub data StepForm : Type 0 where
+  opens : (seat : ℕ) → (name : List ℕ) → StepForm
+  asks : (seat : ℕ) → LineForm → StepForm
+  publishes : (seat : ℕ) → StepForm
+  finishes : (seat : ℕ) → StepForm
+  withdraws : (seat : ℕ) → StepForm
+  looks : (cpu : ℕ) → Firing → StepForm
+  offers : (cpu seat : ℕ) → StepForm
+  closes : (seat : ℕ) → StepForm
 
-abbrev pub act_of : Step → Act
-act_of (Open seat name) = opens seat name.items
-act_of (Ask seat line) = asks seat (form_asked line)
-act_of (Publish seat) = publishes seat
-act_of (Finish seat) = finishes seat
-act_of (Withdraw seat) = withdraws seat
-act_of (Look cpu firing) = looks cpu firing
-act_of (Offer cpu seat) = offers cpu seat
-act_of (Close seat) = closes seat
+abbrev pub form_of_step : Step → StepForm
+form_of_step (Open seat name) = opens seat name.items
+form_of_step (Ask seat line) = asks seat (form_asked line)
+form_of_step (Publish seat) = publishes seat
+form_of_step (Finish seat) = finishes seat
+form_of_step (Withdraw seat) = withdraws seat
+form_of_step (Look cpu firing) = looks cpu firing
+form_of_step (Offer cpu seat) = offers cpu seat
+form_of_step (Close seat) = closes seat
+
+-- What comes of the world, or of what is on a seat, where something is there; without it all stays as it is.
+abbrev pub where_some : {A B : Type 0} → Option A → (same : B) → (A → B) → B
+where_some found same then_ = option_map_or then_ found same
 
 -- the world with this on a seat
 abbrev pub with_place : World → (seat : ℕ) → Place → World
@@ -68,18 +72,18 @@ answering world seat session line = record (with_session world seat (answered se
 -- Open, on a free seat: an account of the machine with a dtrace privilege begins a session.
 unfoldable pub opening : Registry → World → (seat : ℕ) → (name : List ℕ) → World
 opening registry world seat name =
-    if nat_lt seat seat_count && is_none (world.places seat).present then
-    option_map_or (λ account. with_session world seat (new_session account)) (session_account registry name) world
+    if nat_lt seat seat_count && is_none (world.places seat).present
+    then where_some (session_account registry name) world (λ account. with_session world seat (new_session account))
     else world
 
 -- Ask, of a session that may ask: an accepted `go` is pending, any other line is answered.
 unfoldable pub asking : Registry → World → (seat : ℕ) → LineForm → World
-asking registry world seat line = option_map_or
-    (λ session. if may_ask registry session then
-    (if begins registry session line then with_session world seat (waiting session line false)
+asking registry world seat line =
+    where_some (world.places seat).present world (λ session.
+    if may_ask registry session
+    then (if accepts_go registry session line then with_session world seat (waiting session line false)
     else answering world seat session line)
     else world)
-    (world.places seat).present world
 
 -- the interest of a session with a pending `go` is published
 abbrev pub publishing_of : Registry → World → (seat : ℕ) → Session → Pending → World
@@ -90,19 +94,17 @@ publishing_of registry world seat session pending = record (with_session world s
 
 -- Publish, where a `go` is pending and not published.
 unfoldable pub publishing : Registry → World → (seat : ℕ) → World
-publishing registry world seat = option_map_or
-    (λ session. option_map_or
-    (λ pending. if pending.published then world else publishing_of registry world seat session pending)
-    session.go world)
-    (world.places seat).present world
+publishing registry world seat =
+    where_some (world.places seat).present world (λ session.
+    where_some session.go world (λ pending.
+    if pending.published then world else publishing_of registry world seat session pending))
 
 -- Finish, where a published `go` is pending: it takes effect, and is answered.
 unfoldable pub finishing : World → (seat : ℕ) → World
-finishing world seat = option_map_or
-    (λ session. option_map_or
-    (λ pending. if pending.published then answering world seat session pending.line else world)
-    session.go world)
-    (world.places seat).present world
+finishing world seat =
+    where_some (world.places seat).present world (λ session.
+    where_some session.go world (λ pending.
+    if pending.published then answering world seat session pending.line else world))
 
 -- Withdraw, on a free seat, and where the session is not active and no `go` is pending: the entry goes.
 unfoldable pub withdrawing : Registry → World → (seat : ℕ) → World
@@ -111,15 +113,15 @@ withdrawing registry world seat =
     then record world { writes = withdrawn seat ∷ world.writes } else world
 
 -- no offer is left
-unfoldable pub is_done : (ℕ → Option Due) → Bool
+unfoldable pub is_done : (ℕ → Option DueOffer) → Bool
 is_done due = list_all (λ seat. is_none (due seat)) (range_with_len 0 seat_count)
 
 -- what is on a seat after a look named this life of it, or none: the firing reaches a session that isn't named
 abbrev pub passed : Firing → (named : Option ℕ) → Place → Place
-passed firing named place = option_map_or
-    (λ session. if option_map_or (λ life. life == length place.earlier) named false then place
+passed firing named place =
+    where_some place.present place (λ session.
+    if option_map_or (λ life. life == length place.earlier) named false then place
     else record place { present = Some (reached session (firing_made firing)) })
-    place.present place
 
 -- a look names these lives: offers are due to their seats, and the firing reaches the sessions that aren't named
 abbrev pub looking_at : World → (cpu : ℕ) → Firing → (ℕ → Option ℕ) → World
@@ -143,38 +145,38 @@ looking registry world cpu firing =
     then looking_at world cpu firing (mask_of registry world.writes firing) else world
 
 -- what is on a seat after an offer: the firing reaches the session that was named, if that goes on
-abbrev pub offered : Due → Place → Place
-offered due place = option_map_or
-    (λ session. if due.life == length place.earlier
+abbrev pub offered : DueOffer → Place → Place
+offered due place =
+    where_some place.present place (λ session.
+    if due.life == length place.earlier
     then record place { present = Some (reached session (firing_made due.firing)) } else place)
-    place.present place
 
-abbrev pub offering_of : World → (cpu seat : ℕ) → Due → World
+abbrev pub offering_of : World → (cpu seat : ℕ) → DueOffer → World
 offering_of world cpu seat due = record (with_place world seat (offered due (world.places seat))) {
   due = λ other at. if other == cpu && at == seat then None else world.due other at;
 }
 
 -- Offer, where one is left to the seat.
 unfoldable pub offering : World → (cpu seat : ℕ) → World
-offering world cpu seat = option_map_or (λ due. offering_of world cpu seat due) (world.due cpu seat) world
+offering world cpu seat = where_some (world.due cpu seat) world (λ due. offering_of world cpu seat due)
 
 -- Close, where a session is there: the seat is free, and a pending `go` is lost.
 unfoldable pub closing : World → (seat : ℕ) → World
-closing world seat = option_map_or
-    (λ session. with_place world seat (record { present = None; earlier = session ∷ (world.places seat).earlier }))
-    (world.places seat).present world
+closing world seat =
+    where_some (world.places seat).present world (λ session.
+    with_place world seat (record { present = None; earlier = session ∷ (world.places seat).earlier }))
 
 -- what a step does
-abbrev pub after_act : Registry → World → Act → World
-after_act registry world (opens seat name) = opening registry world seat name
-after_act registry world (asks seat line) = asking registry world seat line
-after_act registry world (publishes seat) = publishing registry world seat
-after_act registry world (finishes seat) = finishing world seat
-after_act registry world (withdraws seat) = withdrawing registry world seat
-after_act registry world (looks cpu firing) = looking registry world cpu firing
-after_act registry world (offers cpu seat) = offering world cpu seat
-after_act registry world (closes seat) = closing world seat
+abbrev pub after_step : Registry → World → StepForm → World
+after_step registry world (opens seat name) = opening registry world seat name
+after_step registry world (asks seat line) = asking registry world seat line
+after_step registry world (publishes seat) = publishing registry world seat
+after_step registry world (finishes seat) = finishing world seat
+after_step registry world (withdraws seat) = withdrawing registry world seat
+after_step registry world (looks cpu firing) = looking registry world cpu firing
+after_step registry world (offers cpu seat) = offering world cpu seat
+after_step registry world (closes seat) = closing world seat
 
 -- the world after these steps, the oldest first
-abbrev pub world_after : Registry → List Act → World
-world_after registry acts = fold (after_act registry) new_world acts
+abbrev pub world_after : Registry → List StepForm → World
+world_after registry steps = fold (after_step registry) new_world steps

@@ -33,7 +33,7 @@ pub record Place : Type 0 where
   pub earlier : List Session
 
 -- an offer that is due to a seat: the life that was named, and the firing
-pub record Due : Type 0 where
+pub record DueOffer : Type 0 where
   pub life : ℕ
   pub firing : Firing
 
@@ -50,7 +50,7 @@ pub record Question : Type 0 where
 pub record World : Type 0 where
   pub places : ℕ → Place
   pub writes : List Write
-  pub due : (cpu seat : ℕ) → Option Due
+  pub due : (cpu seat : ℕ) → Option DueOffer
   pub questions : List Question
   pub looks : List (ℕ → Option ℕ)
 
@@ -117,8 +117,8 @@ module _ (registry : Registry) where
   may_ask session = is_none session.go && not (list_any is_closing (life_in session))
 
   -- the line is a `go` that is accepted
-  unfoldable pub begins : Session → LineForm → Bool
-  begins session line = is_accepted_go session.account registry (life_in session) (ask_in line)
+  unfoldable pub accepts_go : Session → LineForm → Bool
+  accepts_go session line = is_accepted_go session.account registry (life_in session) (ask_in line)
 
   -- the entry may be withdrawn: the session is not active, and no `go` is pending
   unfoldable pub may_withdraw : Session → Bool

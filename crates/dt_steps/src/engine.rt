@@ -2,10 +2,10 @@
 ghost use Rattle.std.specs.Prelude.{◌≡◌, vec_len};
 ghost use Rattle.dt_chain.specs.declared.seat.TheConstants.{SEATS};
 
-use crate::held::{Held, free_seats};
-use crate::looked::{Looked, ScriptPlace, idle_processors};
+use crate::due::{DueOffers, ScriptPlace, idle_processors};
 use crate::outcome::Outcome;
-use crate::served::{Answered, Finished};
+use crate::place::{Place, free_seats};
+use crate::session::{Answered, Finished};
 use crate::step::Step;
 use dt_chain::{Entries, SEATS, Seat, SeatMask, SeatSet};
 use dt_cred::Account;
@@ -16,9 +16,9 @@ use std::alloc::{AllocError, Global};
 /// All seats, what is published, and what each processor looked for.
 #[derive(Drop)]
 pub struct Engine<'m> {
-    pub(crate) seats: Vec<Held>,
+    pub(crate) seats: Vec<Place>,
     pub(crate) entries: Entries,
-    pub(crate) processors: Vec<Looked<'m>>,
+    pub(crate) processors: Vec<DueOffers<'m>>,
     ghost all: { vec_len seats ≡ SEATS },
 }
 
@@ -31,7 +31,7 @@ impl<'m> Engine<'m> {
     ghost use Rattle.dt_steps.specs.Stands.{EngineIsAt, IsAnswered, IsNaming, first_account, place_of, seen_in};
     ghost use Rattle.dt_steps.specs.Steps as steps;
     ghost use Rattle.dt_steps.specs.Telling.{IsTelling};
-    ghost use Rattle.dt_steps.specs.Steps.{act_of, after_act, opening, asking, publishing, finishing, withdrawing, looking, offering, closing};
+    ghost use Rattle.dt_steps.specs.Steps.{form_of_step, after_step, opening, asking, publishing, finishing, withdrawing, looking, offering, closing};
     ghost use Rattle.dt_steps.specs.World.{World, Session, Pending, number_on, life_in, new_world, waits as waits_on, has_closed as has_closed_on};
 
     /// All seats are free, nothing is published, and no processor looked for anything.
@@ -88,21 +88,16 @@ impl<'m> Engine<'m> {
     }
 
     /// Lets the published `go` of the session on a seat take effect, and answers the reply's bytes.
-    pub fn finish(
-        &mut self,
-        alloc: Global,
-        machine: &Machine,
-        seat: Seat,
-    ) -> Result<Option<Finished>, AllocError>
-        ensures at { OnOk result ((world : World) → EngineIsAt machine.now.registry world self.old
-            → EngineIsAt machine.now.registry (finishing world seat) self.new) }
-        ensures answer { IfOk result (λ reply. (world : World) → EngineIsAt machine.now.registry world self.old
-            → IsAnswered machine.now.registry world (finishing world seat) seat (option_map (λ finished. finished.text.items) reply)) }
-        ensures line { IfOk result (λ reply. IfSome reply (λ finished. (world : World) (session : Session) (pending : Pending)
+    pub fn finish(&mut self, machine: &Machine, seat: Seat) -> Option<Finished>
+        ensures at { (world : World) → EngineIsAt machine.now.registry world self.old
+            → EngineIsAt machine.now.registry (finishing world seat) self.new }
+        ensures answer { (world : World) → EngineIsAt machine.now.registry world self.old
+            → IsAnswered machine.now.registry world (finishing world seat) seat (option_map (λ finished. finished.text.items) result) }
+        ensures line { IfSome result (λ finished. (world : World) (session : Session) (pending : Pending)
             → EngineIsAt machine.now.registry world self.old → (world.places seat).present ≡ Some session
-            → session.go ≡ Some pending → form_asked finished.line ≡ pending.line)) }
+            → session.go ≡ Some pending → form_asked finished.line ≡ pending.line) }
     {
-        self.seats[seat.number() as usize].finish(alloc, machine)
+        self.seats[seat.number() as usize].finish(machine)
     }
 
     /// Withdraws the entry of a seat.
@@ -141,7 +136,7 @@ impl<'m> Engine<'m> {
             → result ≡ (nat_lt cpu registry.cpus && steps.is_done (world.due cpu)) }
     {
         match self.processors.get(cpu as usize) {
-            Some(looked) => looked.is_done(),
+            Some(due) => due.is_done(),
             None => false,
         }
     }
@@ -152,7 +147,7 @@ impl<'m> Engine<'m> {
             → (seat : ℕ) → life_at result seat ≡ option_map (λ due. due.life) (world.due cpu seat) }
     {
         match self.processors.get(cpu as usize) {
-            Some(looked) => looked.mask(),
+            Some(due) => due.mask(),
             None => SeatMask::new(),
         }
     }
@@ -168,16 +163,16 @@ impl<'m> Engine<'m> {
         if cpu as usize >= self.processors.len() {
             return None;
         }
-        let looked = &mut self.processors[cpu as usize];
+        let due = &mut self.processors[cpu as usize];
         // nothing that it looked for is due to this seat
-        let (life, moment) = looked.take(seat)?;
-        let held = &mut self.seats[seat.number() as usize];
-        let place = ScriptPlace {
+        let (life, moment) = due.take(seat)?;
+        let at = ScriptPlace {
             cpu: moment.firing.cpu,
             place: moment.firing.place,
         };
-        // the place is told where the session saw the firing: a trail has seen firings alone
-        held.deliver(machine, life, &moment).then_some(place)
+        let place = &mut self.seats[seat.number() as usize];
+        // where the firing stands is told if the session saw it: a trail has seen firings alone
+        place.deliver(machine, life, &moment).then_some(at)
     }
 
     /// Ends the session on a seat.
@@ -194,7 +189,7 @@ impl<'m> Engine<'m> {
             → result ≡ waits_on (world.places seat) }
     {
         match &self.seats[seat.number() as usize].present {
-            Some(served) => served.go.is_some(),
+            Some(session) => session.go.is_some(),
             None => false,
         }
     }
@@ -205,7 +200,7 @@ impl<'m> Engine<'m> {
             → result ≡ has_closed_on registry (world.places seat) }
     {
         match &self.seats[seat.number() as usize].present {
-            Some(served) => served.is_closed,
+            Some(session) => session.is_closed,
             None => false,
         }
     }
@@ -235,8 +230,8 @@ impl<'m> Engine<'m> {
     ) -> Result<Outcome, AllocError>
         ensures { IfOk result (λ outcome. (world : World) → ((seat : ℕ) → number_on world seat + 1 < 2 ^ 64)
             → EngineIsAt machine.now.registry world self.old
-            → EngineIsAt machine.now.registry (after_act machine.now.registry world (act_of step.now)) self.new
-            × IsTelling machine.now.registry world (after_act machine.now.registry world (act_of step.now)) outcome) }
+            → EngineIsAt machine.now.registry (after_step machine.now.registry world (form_of_step step.now)) self.new
+            × IsTelling machine.now.registry world (after_step machine.now.registry world (form_of_step step.now)) outcome) }
     {
         match step {
             Step::Open(seat, name) => {
@@ -252,7 +247,7 @@ impl<'m> Engine<'m> {
                 Ok(Outcome::Quiet)
             }
             Step::Finish(seat) => {
-                let reply = self.finish(alloc, machine, *seat)?;
+                let reply = self.finish(machine, *seat);
                 Ok(Outcome::finished(*seat, reply))
             }
             Step::Withdraw(seat) => {

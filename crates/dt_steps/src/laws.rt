@@ -10,7 +10,7 @@ ghost use Rattle.dt_life.specs.Sees.{Sees};
 ghost use Rattle.dt_proto.specs.Alone.{Alone};
 ghost use Rattle.dt_steps.specs.Ran.{Told, AreReplies, told_to, IsAnsweredAlone};
 ghost use Rattle.dt_steps.specs.Sound.{IsSoundWorld, publication_of};
-ghost use Rattle.dt_steps.specs.Steps.{Act, world_after};
+ghost use Rattle.dt_steps.specs.Steps.{StepForm, world_after};
 ghost use Rattle.dt_proto.specs.Views.{seen_view};
 ghost use Rattle.dt_steps.specs.World.{Session, session_of};
 
@@ -21,8 +21,8 @@ use dt_life::one_reply;
 /// other scripts and other consumers.
 pub fn agree_alike()
     // two sessions of any two worlds on one registry: equal uids, privileges and seen views have equal answers
-    ensures { (registry : Registry) (acts others : List Act) (seat n other_seat other_n : ℕ) (a b : Session)
-        → session_of (world_after registry acts) seat n ≡ Some a
+    ensures { (registry : Registry) (steps others : List StepForm) (seat n other_seat other_n : ℕ) (a b : Session)
+        → session_of (world_after registry steps) seat n ≡ Some a
         → session_of (world_after registry others) other_seat other_n ≡ Some b
         → a.account.uid ≡ b.account.uid → a.account.privs ≡ b.account.privs
         → seen_view a.account registry a.view ≡ seen_view b.account registry b.view
@@ -36,10 +36,10 @@ pub fn agree_alike()
 /// Law: the questions of a session are the lines of its view, so replies that answer the questions of a world are,
 /// session by session, those that the session's view is answered alone: none missing and none more.
 pub fn told_alone()
-    ensures { (registry : Registry) (acts : List Act) (told : List Told)
-        → AreReplies registry (world_after registry acts).questions told → (seat n : ℕ)
-        → IsAnsweredAlone registry (session_of (world_after registry acts) seat n)
-        (told_to seat n (world_after registry acts).questions told) }
+    ensures { (registry : Registry) (steps : List StepForm) (told : List Told)
+        → AreReplies registry (world_after registry steps).questions told → (seat n : ℕ)
+        → IsAnsweredAlone registry (session_of (world_after registry steps) seat n)
+        (told_to seat n (world_after registry steps).questions told) }
 {}
 
 /// Law: a life that sees a firing is named by its own publication, the one that its interest makes at its `go`.
@@ -52,5 +52,5 @@ pub fn named_by_own()
 /// Law: every world is sound. A session that traces is published with exactly its own interest, so one that a look
 /// doesn't name doesn't see the firing.
 pub fn worlds_are_sound()
-    ensures { (registry : Registry) (acts : List Act) → IsSoundWorld registry (world_after registry acts) }
+    ensures { (registry : Registry) (steps : List StepForm) → IsSoundWorld registry (world_after registry steps) }
 {}

@@ -8,19 +8,19 @@
 //! alike, whatever else happened. [`Engine`] takes them one by one.
 #![tactic(auto)]
 
+mod due;
 mod engine;
-mod held;
 mod laws;
-mod looked;
 mod outcome;
+mod place;
 mod running;
-mod served;
+mod session;
 mod step;
 
 pub use dt_proto::seen_alike;
+pub use due::ScriptPlace;
 pub use engine::Engine;
 pub use laws::{agree_alike, named_by_own, told_alone, worlds_are_sound};
-pub use looked::ScriptPlace;
 pub use running::{Ran, run};
-pub use served::{Answered, Finished};
+pub use session::{Answered, Finished};
 pub use step::Step;

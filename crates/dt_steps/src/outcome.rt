@@ -1,5 +1,5 @@
 //! What a step answers.
-use crate::served::{Answered, Finished};
+use crate::session::{Answered, Finished};
 use dt_chain::{Seat, SeatMask};
 
 /// What a step answers.

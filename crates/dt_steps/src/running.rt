@@ -1,7 +1,7 @@
 //! A run of steps.
 ghost use Rattle.std.specs.Prelude.{ℕ, IfOk, map};
 ghost use Rattle.dt_steps.specs.Ran.{AreReplies, AreMasks, told_to, IsAnsweredAlone};
-ghost use Rattle.dt_steps.specs.Steps.{act_of, world_after};
+ghost use Rattle.dt_steps.specs.Steps.{form_of_step, world_after};
 ghost use Rattle.dt_steps.specs.World.{session_of};
 
 use crate::engine::Engine;
@@ -27,15 +27,15 @@ pub struct Ran {
 /// session is what its view is answered alone, none missing and none more, whatever other sessions did.
 pub fn run(alloc: Global, machine: &Machine, steps: &[Step]) -> Result<Ran, AllocError>
     ensures replies { IfOk result (λ ran. AreReplies machine.now.registry
-        (world_after machine.now.registry (map act_of steps.now)).questions
+        (world_after machine.now.registry (map form_of_step steps.now)).questions
         (map (λ reply. (reply.0, reply.1.items)) ran.replies.items)) }
     ensures masks { IfOk result (λ ran. AreMasks
-        (world_after machine.now.registry (map act_of steps.now)).looks ran.masks.items) }
+        (world_after machine.now.registry (map form_of_step steps.now)).looks ran.masks.items) }
     // a session was told what its view is answered alone; where there was none, nothing was told
     ensures alone { IfOk result (λ ran. (seat n : ℕ)
         → IsAnsweredAlone machine.now.registry
-        (session_of (world_after machine.now.registry (map act_of steps.now)) seat n)
-        (told_to seat n (world_after machine.now.registry (map act_of steps.now)).questions
+        (session_of (world_after machine.now.registry (map form_of_step steps.now)) seat n)
+        (told_to seat n (world_after machine.now.registry (map form_of_step steps.now)).questions
         (map (λ reply. (reply.0, reply.1.items)) ran.replies.items))) }
 {
     let mut engine = Engine::new(alloc, machine)?;

@@ -18,7 +18,7 @@ use Rattle.dt_steps.specs.Steps.{passed, offered}
 use Rattle.dt_life.specs.Tests.{is_seen}
 use Rattle.dt_chain.specs.Tests.{is_named}
 use Rattle.dt_world.specs.Told.{answer_told}
-use Rattle.dt_steps.specs.World.{Session, Place, Due, life_in, session_numbered, sessions_on, reached, answered}
+use Rattle.dt_steps.specs.World.{Session, Place, DueOffer, life_in, session_numbered, sessions_on, reached, answered}
 use Rattle.dt_steps.specs.laws.Unseen.{unseen_unless_named}
 use Rattle.dt_world.proofs.Telling.{trail-answered, trail-seen, trail-unseen}
 
@@ -106,7 +106,7 @@ module _ (place : Place) (session : Session) (is : place.present ≡ Some sessio
 
 module _ (registry : Registry) where
   -- a firing is offered, and seen
-  pub offered-seen : (due : Due) (place : Place) (text : List ℕ) → sees_on registry due place ≡ true
+  pub offered-seen : (due : DueOffer) (place : Place) (text : List ℕ) → sees_on registry due place ≡ true
       → IsTrailText registry (first_on place) text
       → IsTrailText registry (first_on (offered due place))
       (text ++ cond (is_some (first_account place)) (entry_text (fired_at due.firing.cpu due.firing.place)) [])
@@ -129,7 +129,7 @@ module _ (registry : Registry) where
     session_case (Some session) is seen = life_case session (due.life == length place.earlier) is seen
 
   -- a firing is offered, and not seen
-  pub offered-unseen : (due : Due) (place : Place) (text : List ℕ) → sees_on registry due place ≡ false
+  pub offered-unseen : (due : DueOffer) (place : Place) (text : List ℕ) → sees_on registry due place ≡ false
       → IsTrailText registry (first_on place) text → IsTrailText registry (first_on (offered due place)) text
   offered-unseen due place text sees h = session_case place.present refl sees where
     life_case : (session : Session) (same : Bool) → place.present ≡ Some session

@@ -8,20 +8,20 @@ use Rattle.dt_cred.specs.declared.firing.Firing.{Firing}
 use Rattle.dt_chain.specs.declared.seat.TheConstants.{SEATS}
 use Rattle.dt_proto.specs.Lines.{LineForm, line_form}
 use Rattle.dt_proto.specs.Session.{session_account}
-use Rattle.dt_world.specs.Replay.{Replayed, after_step_line, replayed, acts_of, firing_acts, next_of, seats_due}
+use Rattle.dt_world.specs.Replay.{Replayed, after_step_line, replayed, steps_of_line, firing_steps, next_of, seats_due}
 use Rattle.dt_world.specs.Replay.{beginning}
 use Rattle.dt_world.specs.StepLine.{StepLineForm, open_line, close_line, withdraw_line, ask_line, publish_line}
 use Rattle.dt_world.specs.StepLine.{finish_line, look_line, offer_line, call_line, fire_line}
-use Rattle.dt_steps.specs.Steps.{Act, opens, asks, publishes, finishes, withdraws, looks, offers, closes, after_act}
+use Rattle.dt_steps.specs.Steps.{StepForm, opens, asks, publishes, finishes, withdraws, looks, offers, closes, after_step}
 use Rattle.dt_steps.specs.Steps.{with_place, with_session, answering, opening, asking, publishing, publishing_of}
 use Rattle.dt_steps.specs.Steps.{finishing, withdrawing, passed, looking_at, looking, is_done, offered, offering_of}
 use Rattle.dt_steps.specs.Steps.{offering, closing}
 use Rattle.dt_chain.specs.Tests.{mask_of}
-use Rattle.dt_steps.specs.World.{World, Session, Place, Due, number_on, new_session, answered, waiting, may_ask, begins}
+use Rattle.dt_steps.specs.World.{World, Session, Place, DueOffer, number_on, new_session, answered, waiting, may_ask, accepts_go}
 use Rattle.dt_steps.specs.World.{may_withdraw, waits, has_closed}
 
 -- what a step adds to the number of closed sessions, at most
-abbrev adds : Act → ℕ
+abbrev adds : StepForm → ℕ
 adds (closes seat) = 1
 adds (opens seat name) = 0
 adds (asks seat line) = 0
@@ -31,9 +31,9 @@ adds (withdraws seat) = 0
 adds (looks cpu firing) = 0
 adds (offers cpu seat) = 0
 
-abbrev all_add : List Act → ℕ
+abbrev all_add : List StepForm → ℕ
 all_add [] = 0
-all_add (act ∷ acts) = adds act + all_add acts
+all_add (step ∷ steps) = adds step + all_add steps
 
 either : {A B : Type 0} (P : B → Type 0) (f : A → B) (b : B) (o : Option A) → P b → ((a : A) → P (f a))
     → P (option_map_or f o b)
@@ -78,7 +78,7 @@ module _ (world : World) (seat : ℕ) where
   after-asking registry at line =
       either (AtMost 0) _ world (world.places at).present same
       (λ session. cond_both (may_ask registry session) _ world (AtMost 0)
-      (λ _. cond_both (begins registry session line) (with_session world at (waiting session line false))
+      (λ _. cond_both (accepts_go registry session line) (with_session world at (waiting session line false))
       (answering world at session line) (AtMost 0)
       (λ _. kept at (waiting session line false)) (λ _. kept at (answered session line)))
       (λ _. same))
@@ -120,7 +120,7 @@ module _ (world : World) (seat : ℕ) where
       (λ _. passed_number firing (mask_of registry world.writes firing seat) (world.places seat))
       (λ _. same)
 
-  offered_number : (due : Due) (place : Place) → length (offered due place).earlier ≤ length place.earlier + 0
+  offered_number : (due : DueOffer) (place : Place) → length (offered due place).earlier ≤ length place.earlier + 0
   offered_number due place =
       either (λ after. length after.earlier ≤ length place.earlier + 0) _ place place.present (omega arith)
       (λ session. cond_both (due.life == length place.earlier) _ place
@@ -138,22 +138,22 @@ module _ (world : World) (seat : ℕ) where
       either (AtMost 1) _ world (world.places at).present (omega arith)
       (λ session. placed at (record { present = None; earlier = session ∷ (world.places at).earlier }) 1 (omega arith))
 
-  after-act : (registry : Registry) (act : Act) → AtMost (adds act) (after_act registry world act)
-  after-act registry (opens at name) = after-opening registry at name
-  after-act registry (asks at line) = after-asking registry at line
-  after-act registry (publishes at) = after-publishing registry at
-  after-act registry (finishes at) = after-finishing at
-  after-act registry (withdraws at) = after-withdrawing registry at
-  after-act registry (looks cpu firing) = after-looking registry cpu firing
-  after-act registry (offers cpu at) = after-offering cpu at
-  after-act registry (closes at) = after-closing at
+  after-step : (registry : Registry) (step : StepForm) → AtMost (adds step) (after_step registry world step)
+  after-step registry (opens at name) = after-opening registry at name
+  after-step registry (asks at line) = after-asking registry at line
+  after-step registry (publishes at) = after-publishing registry at
+  after-step registry (finishes at) = after-finishing at
+  after-step registry (withdraws at) = after-withdrawing registry at
+  after-step registry (looks cpu firing) = after-looking registry cpu firing
+  after-step registry (offers cpu at) = after-offering cpu at
+  after-step registry (closes at) = after-closing at
 
-after-acts : (registry : Registry) (seat : ℕ) (world : World) (acts : List Act)
-    → number_on (fold (after_act registry) world acts) seat ≤ number_on world seat + all_add acts
-after-acts registry seat world [] = omega arith
-after-acts registry seat world (act ∷ acts) =
-    let one = after-act world seat registry act in
-    let more = after-acts registry seat (after_act registry world act) acts in
+after-steps : (registry : Registry) (seat : ℕ) (world : World) (steps : List StepForm)
+    → number_on (fold (after_step registry) world steps) seat ≤ number_on world seat + all_add steps
+after-steps registry seat world [] = omega arith
+after-steps registry seat world (step ∷ steps) =
+    let one = after-step world seat registry step in
+    let more = after-steps registry seat (after_step registry world step) steps in
     omega (arith, one, more)
 
 offers_add : (cpu : ℕ) (seats : List ℕ) → all_add (map (offers cpu) seats) ≡ 0
@@ -161,7 +161,7 @@ offers_add cpu [] = refl
 offers_add cpu (seat ∷ seats) = let more = offers_add cpu seats in omega (arith, more)
 
 module _ (contents : Contents) where
-  line_adds : (now : Replayed) (form : StepLineForm) → all_add (acts_of contents now form) ≤ 1
+  line_adds : (now : Replayed) (form : StepLineForm) → all_add (steps_of_line contents now form) ≤ 1
   line_adds now (open_line seat account) = omega arith
   line_adds now (close_line seat) = omega arith
   line_adds now (withdraw_line seat) = omega arith
@@ -169,19 +169,19 @@ module _ (contents : Contents) where
   line_adds now (publish_line seat) = omega arith
   line_adds now (finish_line seat) = omega arith
   line_adds now (look_line cpu) =
-      either (λ acts. all_add acts ≤ 1) (λ firing. looks cpu firing ∷ []) [] (next_of contents now cpu) (omega arith)
+      either (λ steps. all_add steps ≤ 1) (λ firing. looks cpu firing ∷ []) [] (next_of contents now cpu) (omega arith)
       (λ firing. omega arith)
   line_adds now (offer_line cpu seat) = omega arith
   line_adds now (call_line seat line) =
       let world = asking contents.registry now.world seat (line_form line) in
       cond_both (waits (world.places seat)) (publishes seat ∷ finishes seat ∷ [])
       (cond (has_closed contents.registry (world.places seat)) (withdraws seat ∷ closes seat ∷ []) [])
-      (λ acts. all_add (asks seat (line_form line) ∷ acts) ≤ 1)
+      (λ steps. all_add (asks seat (line_form line) ∷ steps) ≤ 1)
       (λ _. omega arith)
       (λ _. cond_both (has_closed contents.registry (world.places seat)) (withdraws seat ∷ closes seat ∷ []) []
-      (λ acts. all_add (asks seat (line_form line) ∷ acts) ≤ 1) (λ _. omega arith) (λ _. omega arith))
+      (λ steps. all_add (asks seat (line_form line) ∷ steps) ≤ 1) (λ _. omega arith) (λ _. omega arith))
   line_adds now (fire_line cpu) =
-      either (λ acts. all_add acts ≤ 1) (firing_acts contents.registry now.world cpu) [] (next_of contents now cpu)
+      either (λ steps. all_add steps ≤ 1) (firing_steps contents.registry now.world cpu) [] (next_of contents now cpu)
       (omega arith)
       (λ firing. let none = offers_add cpu (seats_due (looking contents.registry now.world cpu firing) cpu) in
       omega (arith, none))
@@ -190,7 +190,7 @@ module _ (contents : Contents) where
       → number_on (fold (after_step_line contents) now forms).world seat ≤ number_on now.world seat + length forms
   from seat now [] = omega arith
   from seat now (form ∷ forms) =
-      let one = after-acts contents.registry seat now.world (acts_of contents now form) in
+      let one = after-steps contents.registry seat now.world (steps_of_line contents now form) in
       let adds_one = line_adds now form in
       let more = from seat (after_step_line contents now form) forms in
       omega (arith, one, adds_one, more)

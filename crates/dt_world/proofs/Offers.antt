@@ -11,9 +11,9 @@ use Rattle.dt_chain.specs.declared.seat.TheConstants.{SEATS}
 use Rattle.dt_chain.specs.declared.seat_set.SeatSet.{SeatSet}
 use Rattle.dt_machine.specs.Registry.{Contents}
 use Rattle.dt_cred.specs.declared.firing.Firing.{Firing}
-use Rattle.dt_world.specs.Replay.{Replayed, after_step_line, next_of, seats_due, firing_acts}
+use Rattle.dt_world.specs.Replay.{Replayed, after_step_line, next_of, seats_due, firing_steps}
 use Rattle.dt_world.specs.StepLine.{look_line, fire_line}
-use Rattle.dt_steps.specs.Steps.{looks, offers, after_act, offering, looking}
+use Rattle.dt_steps.specs.Steps.{looks, offers, after_step, offering, looking}
 
 -- the seats of a set, in rising order
 unfoldable pub in_order : SeatSet → List ℕ
@@ -69,7 +69,7 @@ order_none seats h = none_filtered (has seats) (range_with_len 0 SEATS) h
 abbrev pub offered_to : Contents → Replayed → (cpu : ℕ) → List ℕ → Replayed
 offered_to contents now cpu seats =
     let looked = after_step_line contents now (look_line cpu) in record {
-      world = fold (after_act contents.registry) looked.world (map (offers cpu) seats);
+      world = fold (after_step contents.registry) looked.world (map (offers cpu) seats);
       taken = looked.taken;
     }
 
@@ -78,8 +78,8 @@ pub one_more_offer : (contents : Contents) (now : Replayed) (cpu : ℕ) (seats :
     ≡ offering (offered_to contents now cpu seats).world cpu seat
 one_more_offer contents now cpu seats seat =
     let looked = (after_step_line contents now (look_line cpu)).world in
-    ap (fold (after_act contents.registry) looked) (map-append (offers cpu) seats (seat ∷ []))
-    ∙ fold-append (after_act contents.registry) looked (map (offers cpu) seats) (offers cpu seat ∷ [])
+    ap (fold (after_step contents.registry) looked) (map-append (offers cpu) seats (seat ∷ []))
+    ∙ fold-append (after_step contents.registry) looked (map (offers cpu) seats) (offers cpu seat ∷ [])
 
 module _ (contents : Contents) (now : Replayed) (cpu : ℕ) where
   abbrev taken_at : Option Firing → ℕ → ℕ
@@ -87,20 +87,20 @@ module _ (contents : Contents) (now : Replayed) (cpu : ℕ) where
 
   abbrev looked_at : Option Firing → Replayed
   looked_at o = record {
-    world = fold (after_act contents.registry) now.world (option_map_or (λ firing. looks cpu firing ∷ []) o []);
+    world = fold (after_step contents.registry) now.world (option_map_or (λ firing. looks cpu firing ∷ []) o []);
     taken = taken_at o;
   }
 
   abbrev fired_at : Option Firing → Replayed
   fired_at o = record {
-    world = fold (after_act contents.registry) now.world
-        (option_map_or (firing_acts contents.registry now.world cpu) o []);
+    world = fold (after_step contents.registry) now.world
+        (option_map_or (firing_steps contents.registry now.world cpu) o []);
     taken = taken_at o;
   }
 
   abbrev offers_at : Option Firing → Replayed
   offers_at o = record {
-    world = fold (after_act contents.registry) (looked_at o).world
+    world = fold (after_step contents.registry) (looked_at o).world
         (map (offers cpu) (seats_due (looked_at o).world cpu));
     taken = taken_at o;
   }

@@ -22,24 +22,24 @@ use Rattle.dt_proto.specs.Trail.{TrailEntry, line_asked, long_asked, IsEntryOf, 
 use Rattle.dt_proto.specs.Trail.{trail_text}
 use Rattle.dt_steps.specs.Ran.{Told, IsReply, AreReplies}
 use Rattle.dt_world.specs.Replay as replay
-use Rattle.dt_world.specs.Replay.{Replayed, IsReplay, IsTrailReplay, IsTrailText, replayed, acts_of, acts_from}
+use Rattle.dt_world.specs.Replay.{Replayed, IsReplay, IsTrailReplay, IsTrailText, replayed, steps_of_line, steps_from}
 use Rattle.dt_world.specs.Replay.{beginning, told_line}
 use Rattle.dt_world.specs.StepLine.{StepLineForm}
-use Rattle.dt_steps.specs.Steps.{after_act, world_after}
+use Rattle.dt_steps.specs.Steps.{after_step, world_after}
 use Rattle.dt_steps.specs.World.{Session, Question, session_of}
 use Rattle.dt_world.proofs.LineLists.{same_forms}
 
 from : (contents : Contents) (now : Replayed) (forms : List StepLineForm)
     → (fold (replay.after_step_line contents) now forms).world
-    ≡ fold (after_act contents.registry) now.world (acts_from contents now forms)
+    ≡ fold (after_step contents.registry) now.world (steps_from contents now forms)
 from contents now [] = refl
 from contents now (form ∷ forms) =
     from contents (replay.after_step_line contents now form) forms
-    ∙ sym (fold-append (after_act contents.registry) now.world (acts_of contents now form)
-    (acts_from contents (replay.after_step_line contents now form) forms))
+    ∙ sym (fold-append (after_step contents.registry) now.world (steps_of_line contents now form)
+    (steps_from contents (replay.after_step_line contents now form) forms))
 
 pub is_run : (contents : Contents) (forms : List StepLineForm)
-    → (replayed contents forms).world ≡ world_after contents.registry (acts_from contents beginning forms)
+    → (replayed contents forms).world ≡ world_after contents.registry (steps_from contents beginning forms)
 is_run contents forms = from contents beginning forms
 
 -- a line and a reply have one entry

@@ -23,9 +23,9 @@ use Rattle.dt_steps.specs.Steps.{offering_of, looking, looking_at, is_done}
 use Rattle.dt_steps.specs.Sound.{IsSoundWorld}
 use Rattle.dt_chain.specs.Tests.{mask_of}
 use Rattle.dt_world.specs.Told.{IsTold, IsToldText, opening_text, reply_told, answer_told, firing_told}
-use Rattle.dt_steps.specs.World.{World, Session, Pending, Place, Due, Question, life_in, session_of, new_session}
-use Rattle.dt_steps.specs.World.{answered, waiting, may_ask, begins, session_numbered}
-use Rattle.dt_steps.specs.declared.looked.ScriptPlace.{ScriptPlace}
+use Rattle.dt_steps.specs.World.{World, Session, Pending, Place, DueOffer, Question, life_in, session_of, new_session}
+use Rattle.dt_steps.specs.World.{answered, waiting, may_ask, accepts_go, session_numbered}
+use Rattle.dt_steps.specs.declared.due.ScriptPlace.{ScriptPlace}
 use Rattle.dt_world.specs.declared.output.Wanted.{Wanted}
 use Rattle.dt_world.specs.declared.output.Wanted.TheVariants as wanted
 use Rattle.dt_world.proofs.Firsts.{first_on, seen_as, text-same, first-same, first-answered, offered-seen}
@@ -115,7 +115,7 @@ module _ (registry : Registry) (world : World) where
 
   -- Ask
   abbrev begun : (at : ℕ) → LineForm → Session → World
-  begun at line session = cond (begins registry session line) (with_session world at (waiting session line false))
+  begun at line session = cond (accepts_go registry session line) (with_session world at (waiting session line false))
       (answering world at session line)
 
   asking_none : (at : ℕ) (line : LineForm) → (asking registry world at line).questions ≡ world.questions
@@ -138,7 +138,7 @@ module _ (registry : Registry) (world : World) where
     may_case : (session : Session) (may : Bool) → (world.places at).present ≡ Some session
         → (cond may (begun at line session) world).questions ≡ world.questions
         → SameViews world (cond may (begun at line session) world)
-    may_case session true is same = begun_case session (begins registry session line) is same
+    may_case session true is same = begun_case session (accepts_go registry session line) is same
     may_case session false is same = λ seat. refl
 
     asked_case : (present : Option Session) → (world.places at).present ≡ present
@@ -181,7 +181,7 @@ module _ (registry : Registry) (world : World) where
     may_case : (session : Session) (may : Bool) → (world.places at).present ≡ Some session
         → IsAnswered registry world (cond may (begun at line session) world) at (Some reply)
         → Answers (cond may (begun at line session) world) at line reply
-    may_case session true is a = begun_case session (begins registry session line) is a
+    may_case session true is a = begun_case session (accepts_go registry session line) is a
     may_case session false is a = absurd (no_more world.questions a.0 (sym a.1))
 
     asked_case : (present : Option Session) → (world.places at).present ≡ present
@@ -388,7 +388,7 @@ module _ (registry : Registry) (world : World) where
             let bad : false ≡ true = sym (ap is_some none) ∙ there in cc
 
   -- Offer
-  offered_case : (own cpu at : ℕ) (text more : List ℕ) (due : Due)
+  offered_case : (own cpu at : ℕ) (text more : List ℕ) (due : DueOffer)
       → (IsTrailText registry (first_on (world.places at)) text
       → IsTrailText registry (first_on (offered due (world.places at))) (text ++ more))
       → IsTrailText registry (session_of world own 0) text
@@ -396,7 +396,7 @@ module _ (registry : Registry) (world : World) where
   offered_case own cpu at text more due does told =
       changed_at own at (offered due (world.places at)) text more does told
 
-  abbrev brings : (at : ℕ) → Due → Option Firing
+  abbrev brings : (at : ℕ) → DueOffer → Option Firing
   brings at due = cond (sees_on registry due (world.places at)) (Some due.firing) None
 
   pub told-seen : (wanted : Wanted) (cpu at : ℕ) (firing : Firing) (text : List ℕ)
@@ -409,7 +409,7 @@ module _ (registry : Registry) (world : World) where
       (sym (offering_silent world cpu at)) told)
   told-seen (wanted.Trail own) cpu at firing text seen told =
       due_case (world.due cpu at) seen where
-        sees_case : (due : Due) (sees : Bool) → sees_on registry due (world.places at) ≡ sees
+        sees_case : (due : DueOffer) (sees : Bool) → sees_on registry due (world.places at) ≡ sees
             → Some firing ≡ cond sees (Some due.firing) None
             → IsTrailText registry (session_of (offering_of world cpu at due) own 0)
             (text ++ firing_told (wanted.Trail own) at (is_some (first_account (world.places at))) firing.cpu
@@ -422,7 +422,7 @@ module _ (registry : Registry) (world : World) where
             (offered-seen registry due (world.places at) text is) told)
         sees_case due false is seen = cc
 
-        due_case : (due : Option Due) → Some firing ≡ option_and_then (brings at) due
+        due_case : (due : Option DueOffer) → Some firing ≡ option_and_then (brings at) due
             → IsTrailText registry (session_of (option_map_or (λ one. offering_of world cpu at one) due world) own 0)
             (text ++ firing_told (wanted.Trail own) at (is_some (first_account (world.places at))) firing.cpu
             firing.place)
@@ -451,7 +451,7 @@ module _ (registry : Registry) (world : World) where
       subst (λ questions. IsToldText registry questions text) (sym (offering_silent world cpu at)) told
   told-unseen (wanted.Trail own) cpu at text seen told =
       due_case (world.due cpu at) seen where
-        sees_case : (due : Due) (sees : Bool) → sees_on registry due (world.places at) ≡ sees
+        sees_case : (due : DueOffer) (sees : Bool) → sees_on registry due (world.places at) ≡ sees
             → None ≡ cond sees (Some due.firing) None
             → IsTrailText registry (session_of (offering_of world cpu at due) own 0) text
         sees_case due true is seen = cc
@@ -459,7 +459,7 @@ module _ (registry : Registry) (world : World) where
             changed_to own at (offered due (world.places at)) text
             (offered-unseen registry due (world.places at) text is) told
 
-        due_case : (due : Option Due) → None ≡ option_and_then (brings at) due
+        due_case : (due : Option DueOffer) → None ≡ option_and_then (brings at) due
             → IsTrailText registry (session_of (option_map_or (λ one. offering_of world cpu at one) due world) own 0)
             text
         due_case None seen = told

@@ -10,5 +10,6 @@ pub mod Replay
 pub mod Told
 pub mod Progress
 pub mod Faults
+pub mod Replaying
 pub mod Orderly
 pub mod laws

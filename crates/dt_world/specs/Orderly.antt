@@ -4,7 +4,7 @@ use Rattle.std.specs.List.{AllByRecursion}
 use Rattle.dt_machine.specs.Registry.{Contents, firing_at}
 use Rattle.dt_proto.specs.Brought.{IsBrought, IsInForm, IsLower, IsOneLine, HasOnlyLines}
 use Rattle.dt_proto.specs.Session.{session_account}
-use Rattle.dt_steps.specs.World.{World, Session, Place, Pending, Due}
+use Rattle.dt_steps.specs.World.{World, Session, Place, Pending, DueOffer}
 
 -- Of each processor's script so many firings were taken.
 module _ (contents : Contents) (taken : ℕ → ℕ) where
@@ -19,7 +19,7 @@ module _ (contents : Contents) (taken : ℕ → ℕ) where
     pub pending : (go : Pending) → session.go ≡ Some go → IsInForm go.line × IsOneLine go.line
 
   -- An offer is orderly: its firing is one that was taken, and comes after those that reached the session that was named.
-  pub record IsOrderlyOffer (place : Place) (cpu : ℕ) (due : Due) : Type 0 where
+  pub record IsOrderlyOffer (place : Place) (cpu : ℕ) (due : DueOffer) : Type 0 where
     pub own : due.firing.cpu ≡ cpu
     pub there : firing_at contents.scripts cpu due.firing.place ≡ Some due.firing
     pub before : due.firing.place < taken cpu
@@ -27,10 +27,10 @@ module _ (contents : Contents) (taken : ℕ → ℕ) where
         → AllByRecursion (IsLower cpu due.firing.place) session.view
 
   -- A seat is orderly, with the offers that are due to it.
-  pub record IsOrderlySeat (due : (cpu : ℕ) → Option Due) (place : Place) : Type 0 where
+  pub record IsOrderlySeat (due : (cpu : ℕ) → Option DueOffer) (place : Place) : Type 0 where
     pub present : (session : Session) → place.present ≡ Some session → IsOrderly session
     pub earlier : AllByRecursion IsOrderly place.earlier
-    pub offers : (cpu : ℕ) (one : Due) → due cpu ≡ Some one → IsOrderlyOffer place cpu one
+    pub offers : (cpu : ℕ) (one : DueOffer) → due cpu ≡ Some one → IsOrderlyOffer place cpu one
 
   abbrev pub IsOrderlyWorld : World → Type 0
   IsOrderlyWorld world = (seat : ℕ) → IsOrderlySeat (λ cpu. world.due cpu seat) (world.places seat)

@@ -12,7 +12,7 @@ use Rattle.dt_world.specs.Input.{AreStepLines, input_lines}
 use Rattle.dt_steps.specs.Ran.{Told, AreReplies}
 use Rattle.dt_world.specs.StepLine.{StepLineForm, open_line, close_line, withdraw_line, ask_line, publish_line}
 use Rattle.dt_world.specs.StepLine.{finish_line, look_line, offer_line, call_line, fire_line}
-use Rattle.dt_steps.specs.Steps.{Act, opens, asks, publishes, finishes, withdraws, looks, offers, closes, after_act}
+use Rattle.dt_steps.specs.Steps.{StepForm, opens, asks, publishes, finishes, withdraws, looks, offers, closes, after_step}
 use Rattle.dt_steps.specs.Steps.{asking, looking, is_done}
 use Rattle.dt_steps.specs.World.{World, Session, new_world, session_of, waits, has_closed}
 
@@ -29,14 +29,14 @@ unfoldable pub seats_due : World → (cpu : ℕ) → List ℕ
 seats_due world cpu = filter (λ seat. is_some (world.due cpu seat)) (range_with_len 0 seat_count)
 
 -- what a `call` does after its ask: a pending `go` is published and finished; an accepted `close` ends the session
-abbrev pub after_ask : Registry → World → (seat : ℕ) → List Act
+abbrev pub after_ask : Registry → World → (seat : ℕ) → List StepForm
 after_ask registry world seat =
     if waits (world.places seat) then publishes seat ∷ finishes seat ∷ []
     else if has_closed registry (world.places seat) then withdraws seat ∷ closes seat ∷ [] else []
 
 -- what a `fire` does with the firing that it took: a look, and an offer to each seat that this named
-abbrev pub firing_acts : Registry → World → (cpu : ℕ) → Firing → List Act
-firing_acts registry world cpu firing =
+abbrev pub firing_steps : Registry → World → (cpu : ℕ) → Firing → List StepForm
+firing_steps registry world cpu firing =
     looks cpu firing ∷ map (offers cpu) (seats_due (looking registry world cpu firing) cpu)
 
 module _ (contents : Contents) where
@@ -45,18 +45,18 @@ module _ (contents : Contents) where
   next_of now cpu = if is_done (now.world.due cpu) then firing_at contents.scripts cpu (now.taken cpu) else None
 
   -- the steps of the world that a line is, where the replay stands
-  abbrev pub acts_of : Replayed → StepLineForm → List Act
-  acts_of now (open_line seat account) = opens seat account ∷ []
-  acts_of now (close_line seat) = closes seat ∷ []
-  acts_of now (withdraw_line seat) = withdraws seat ∷ []
-  acts_of now (ask_line seat line) = asks seat (line_form line) ∷ []
-  acts_of now (publish_line seat) = publishes seat ∷ []
-  acts_of now (finish_line seat) = finishes seat ∷ []
-  acts_of now (look_line cpu) = option_map_or (λ firing. looks cpu firing ∷ []) (next_of now cpu) []
-  acts_of now (offer_line cpu seat) = offers cpu seat ∷ []
-  acts_of now (call_line seat line) = asks seat (line_form line)
+  abbrev pub steps_of_line : Replayed → StepLineForm → List StepForm
+  steps_of_line now (open_line seat account) = opens seat account ∷ []
+  steps_of_line now (close_line seat) = closes seat ∷ []
+  steps_of_line now (withdraw_line seat) = withdraws seat ∷ []
+  steps_of_line now (ask_line seat line) = asks seat (line_form line) ∷ []
+  steps_of_line now (publish_line seat) = publishes seat ∷ []
+  steps_of_line now (finish_line seat) = finishes seat ∷ []
+  steps_of_line now (look_line cpu) = option_map_or (λ firing. looks cpu firing ∷ []) (next_of now cpu) []
+  steps_of_line now (offer_line cpu seat) = offers cpu seat ∷ []
+  steps_of_line now (call_line seat line) = asks seat (line_form line)
       ∷ after_ask contents.registry (asking contents.registry now.world seat (line_form line)) seat
-  acts_of now (fire_line cpu) = option_map_or (firing_acts contents.registry now.world cpu) (next_of now cpu) []
+  steps_of_line now (fire_line cpu) = option_map_or (firing_steps contents.registry now.world cpu) (next_of now cpu) []
 
   -- the line takes a firing of this processor's script
   abbrev pub takes_firing : Replayed → StepLineForm → (cpu : ℕ) → Bool
@@ -67,7 +67,7 @@ module _ (contents : Contents) where
   -- where a replay stands after a line more
   abbrev pub after_step_line : Replayed → StepLineForm → Replayed
   after_step_line now line = record {
-    world = fold (after_act contents.registry) now.world (acts_of now line);
+    world = fold (after_step contents.registry) now.world (steps_of_line now line);
     taken = λ cpu. if takes_firing now line cpu then now.taken cpu + 1 else now.taken cpu;
   }
 
@@ -76,9 +76,9 @@ module _ (contents : Contents) where
   replayed forms = fold after_step_line beginning forms
 
   -- all steps of these lines, from where the replay stands
-  abbrev pub acts_from : Replayed → List StepLineForm → List Act
-  acts_from now [] = []
-  acts_from now (line ∷ forms) = acts_of now line ++ acts_from (after_step_line now line) forms
+  abbrev pub steps_from : Replayed → List StepLineForm → List StepForm
+  steps_from now [] = []
+  steps_from now (line ∷ forms) = steps_of_line now line ++ steps_from (after_step_line now line) forms
 
 -- the line that is written for a reply: the seat, a blank, the reply
 abbrev pub told_line : Told → List ℕ

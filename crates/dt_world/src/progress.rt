@@ -77,8 +77,9 @@ impl<'m> Progress<'m> {
         machine: &'m Machine,
         step: StepLine<'_>,
     ) -> Result<(), AllocError>
+        requires { IsLineOn machine.now.registry (form_of_step_line step.entry) }
         ensures { OnOk result ((wanted : Wanted) (now : Replayed) → ((seat : ℕ) → number_on now.world seat + 1 < 2 ^ 64)
-            → IsLineOn machine.now.registry (form_of_step_line step.entry) → IsAfter wanted machine.now now self.old
+            → IsAfter wanted machine.now now self.old
             → IsAfter wanted machine.now (after_step_line machine.now now (form_of_step_line step.entry)) self.new) }
     {
         match step {
@@ -159,7 +160,7 @@ impl<'m> Progress<'m> {
             → IsAfter wanted machine.now (with_world now (finishing now.world seat)) self.new) }
     {
         let is_first = self.engine.is_first(seat);
-        match self.engine.finish(alloc, machine, seat)? {
+        match self.engine.finish(machine, seat) {
             Some(finished) => self.output.reply(
                 alloc,
                 seat,
@@ -200,15 +201,14 @@ impl<'m> Progress<'m> {
     /// Takes the next firing of a processor's script, where one is left and no offer of the processor is, and looks whom
     /// it is to be offered to. Answers which seats that are.
     fn look(&mut self, machine: &'m Machine, cpu: u32) -> Option<SeatSet>
-        ensures after { (wanted : Wanted) (now : Replayed) → cpu < machine.now.registry.cpus → IsAfter wanted machine.now now self.old
+        requires { cpu < machine.now.registry.cpus }
+        ensures after { (wanted : Wanted) (now : Replayed) → IsAfter wanted machine.now now self.old
             → IsAfter wanted machine.now (after_step_line machine.now now (look_line cpu)) self.new }
-        ensures answer { (wanted : Wanted) (now : Replayed) → cpu < machine.now.registry.cpus → IsAfter wanted machine.now now self.old
+        ensures answer { (wanted : Wanted) (now : Replayed) → IsAfter wanted machine.now now self.old
             → IsNamed machine.now now cpu result }
     {
-        // a line with such a processor was refused before, so this end is never met
-        if cpu >= machine.cpus() {
-            return None;
-        }
+        // a machine has no more processors than there are places here
+        prove!(cpu < machine.cpus());
         let place = self.taken[cpu as usize];
         let firing = machine.firing(cpu, place)?;
         let named = self.engine.look(machine, cpu, firing)?;
@@ -218,15 +218,14 @@ impl<'m> Progress<'m> {
 
     /// Takes the next firing of a processor's script, and offers it to each seat that it is for.
     fn fire(&mut self, alloc: Global, machine: &'m Machine, cpu: u32) -> Result<(), AllocError>
-        ensures { OnOk result ((wanted : Wanted) (now : Replayed) → cpu < machine.now.registry.cpus
-            → IsAfter wanted machine.now now self.old
+        requires { cpu < machine.now.registry.cpus }
+        ensures { OnOk result ((wanted : Wanted) (now : Replayed) → IsAfter wanted machine.now now self.old
             → IsAfter wanted machine.now (after_step_line machine.now now (fire_line cpu)) self.new) }
     {
         // at the script's end, or with offers left, no firing is taken, and there is none to offer
-        let Some(named) = self.look(machine, cpu) else {
+        let Some(mut left) = self.look(machine, cpu) else {
             return Ok(());
         };
-        let mut left = named;
         while let Some(seat) = left.first() {
             left.remove(seat);
             self.offer(alloc, machine, cpu, seat)?;

@@ -1,7 +1,7 @@
 //! What holds of the definition of a replay alone: it is a run of the world, and its output and its trails are one.
 ghost use Rattle.std.specs.Prelude.{◌≡◌, ℕ, List};
 ghost use Rattle.dt_machine.specs.Registry.{Contents};
-ghost use Rattle.dt_world.specs.Replay.{IsReplay, IsTrailReplay, replayed, acts_from, beginning};
+ghost use Rattle.dt_world.specs.Replay.{IsReplay, IsTrailReplay, replayed, steps_from, beginning};
 ghost use Rattle.dt_world.specs.StepLine.{StepLineForm};
 ghost use Rattle.dt_steps.specs.Steps.{world_after};
 
@@ -11,7 +11,7 @@ use dt_life::one_reply;
 /// every replay.
 pub fn replays_are_runs()
     ensures { (contents : Contents) (forms : List StepLineForm) → (replayed contents forms).world
-        ≡ world_after contents.registry (acts_from contents beginning forms) }
+        ≡ world_after contents.registry (steps_from contents beginning forms) }
 {}
 
 /// Law: for an input on a machine one output is written at most.

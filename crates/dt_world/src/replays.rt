@@ -1,14 +1,10 @@
 //! A replay: a machine file and step lines, from bytes to bytes.
-ghost use Rattle.std.specs.Prelude.{◌≡◌, ◌≢◌, ◌<◌, ℕ, List, [], ◌∷◌, IfOk, IfErr, IfSome, IfNone, OnOk, length, take};
-ghost use Rattle.std.specs.Io.KnownBytes.{Appends, Keeps};
-ghost use Rattle.dt_machine.specs.Reading.{IsDescribed, IsFaultOf};
-ghost use Rattle.dt_machine.specs.Registry.{Contents};
-ghost use Rattle.dt_machine.specs.Sections.{NowhereIfMemory, UnlessMemory};
-ghost use Rattle.dt_machine.specs.declared.fault.MachineFault.{MachineFault};
+ghost use Rattle.std.specs.Prelude.{◌≡◌, ◌≢◌, ℕ, IfOk, IfErr, IfSome, IfNone, OnOk, take};
+ghost use Rattle.std.specs.Io.KnownBytes.{Appends};
 ghost use Rattle.dt_proto.specs.Splits.{HasNoNewline, IsCut};
 ghost use Rattle.dt_world.specs.Faults.{IsFaultOfReading, IsFaultOfLines, IsOfMachine};
-ghost use Rattle.dt_world.specs.Input.{input_lines, IsRefused};
 ghost use Rattle.dt_world.specs.Replay.{IsReplay, IsTrailReplay};
+ghost use Rattle.dt_world.specs.Replaying.{HasReplayed, HasFailed};
 ghost use Rattle.dt_world.specs.Told.{IsOutput};
 
 use crate::output::Wanted;
@@ -54,33 +50,15 @@ pub fn replay<R: Read, W: Write>(
     reader: &mut R,
     writer: &mut W,
 ) -> Result<(), ReplayFault>
-    // What is written are the replies that the definition gives to what was read.
-    ensures ok { OnOk result (IfSome (R.remaining reader.old) (λ input.
-        (contents : Contents) × (output : List ℕ) × IsDescribed machine.now contents × IsReplay contents input output
-        × Appends (W.contents writer.old) (W.contents writer.new) output)) }
-
-    // The machine file is tested first: it is named where it is refused, and then nothing was read. Every other fault
-    // comes after it was read as a machine.
-    ensures machine { IfErr result (λ fault. (refused : MachineFault) → fault ≡ ReplayFault.Machine refused
-        → NowhereIfMemory refused × UnlessMemory refused (IsFaultOf machine.now refused)) }
+    // What is written is what the definition gives to what was read.
+    ensures ok { OnOk result (HasReplayed IsReplay machine.now
+        (R.remaining reader.old) (W.contents writer.old) (W.contents writer.new)) }
+    ensures err { IfErr result (HasFailed IsReplay machine.now
+        (R.remaining reader.old) (W.contents writer.old) (W.contents writer.new)) }
+    // Where the machine file is refused, nothing was read.
     ensures unread { IfErr result (λ fault. IsOfMachine fault → reader.new ≡ reader.old) }
-    ensures described { IfErr result (λ fault. (IsOfMachine fault → ⊥)
-        → (contents : Contents) × IsDescribed machine.now contents) }
-
-    // A line is named where it is the first that is refused.
-    ensures line { IfErr result (λ fault. (n : ℕ) → fault ≡ ReplayFault.Line n
-        → IfSome (R.remaining reader.old) (λ input.
-        (contents : Contents) × IsDescribed machine.now contents × IsRefused contents.registry (input_lines input) n)) }
-
-    // Only a write that fails leaves anything written: a beginning of what would have been.
-    ensures nothing_written { IfErr result (λ fault. fault ≢ ReplayFault.Write
-        → Keeps (W.contents writer.old) (W.contents writer.new)) }
-    // On any other fault the writer wasn't even asked: a writer that fails is never told as a lack of memory.
+    // On any fault but a failed write the writer wasn't even asked: one that fails is never told as a lack of memory.
     ensures untouched { IfErr result (λ fault. fault ≢ ReplayFault.Write → writer.new ≡ writer.old) }
-    ensures beginning_written { IfErr result (λ fault. fault ≡ ReplayFault.Write
-        → IfSome (R.remaining reader.old) (λ input.
-        (contents : Contents) × (output : List ℕ) × (count : ℕ) × IsDescribed machine.now contents
-        × IsReplay contents input output × Appends (W.contents writer.old) (W.contents writer.new) (take count output))) }
 {
     replay_as(alloc, Wanted::Replies, machine, reader, writer)
 }
@@ -95,33 +73,15 @@ pub fn replay_trail<R: Read, W: Write>(
     reader: &mut R,
     writer: &mut W,
 ) -> Result<(), ReplayFault>
-    // What is written is the trail that the definition gives to what was read.
-    ensures ok { OnOk result (IfSome (R.remaining reader.old) (λ input.
-        (contents : Contents) × (output : List ℕ) × IsDescribed machine.now contents × IsTrailReplay contents input seat output
-        × Appends (W.contents writer.old) (W.contents writer.new) output)) }
-
-    // The machine file is tested first: it is named where it is refused, and then nothing was read. Every other fault
-    // comes after it was read as a machine.
-    ensures machine { IfErr result (λ fault. (refused : MachineFault) → fault ≡ ReplayFault.Machine refused
-        → NowhereIfMemory refused × UnlessMemory refused (IsFaultOf machine.now refused)) }
+    // What is written is what the definition gives to what was read.
+    ensures ok { OnOk result (HasReplayed (λ contents input. IsTrailReplay contents input seat) machine.now
+        (R.remaining reader.old) (W.contents writer.old) (W.contents writer.new)) }
+    ensures err { IfErr result (HasFailed (λ contents input. IsTrailReplay contents input seat) machine.now
+        (R.remaining reader.old) (W.contents writer.old) (W.contents writer.new)) }
+    // Where the machine file is refused, nothing was read.
     ensures unread { IfErr result (λ fault. IsOfMachine fault → reader.new ≡ reader.old) }
-    ensures described { IfErr result (λ fault. (IsOfMachine fault → ⊥)
-        → (contents : Contents) × IsDescribed machine.now contents) }
-
-    // A line is named where it is the first that is refused.
-    ensures line { IfErr result (λ fault. (n : ℕ) → fault ≡ ReplayFault.Line n
-        → IfSome (R.remaining reader.old) (λ input.
-        (contents : Contents) × IsDescribed machine.now contents × IsRefused contents.registry (input_lines input) n)) }
-
-    // Only a write that fails leaves anything written: a beginning of what would have been.
-    ensures nothing_written { IfErr result (λ fault. fault ≢ ReplayFault.Write
-        → Keeps (W.contents writer.old) (W.contents writer.new)) }
-    // On any other fault the writer wasn't even asked: a writer that fails is never told as a lack of memory.
+    // On any fault but a failed write the writer wasn't even asked: one that fails is never told as a lack of memory.
     ensures untouched { IfErr result (λ fault. fault ≢ ReplayFault.Write → writer.new ≡ writer.old) }
-    ensures beginning_written { IfErr result (λ fault. fault ≡ ReplayFault.Write
-        → IfSome (R.remaining reader.old) (λ input.
-        (contents : Contents) × (output : List ℕ) × (count : ℕ) × IsDescribed machine.now contents
-        × IsTrailReplay contents input seat output × Appends (W.contents writer.old) (W.contents writer.new) (take count output))) }
 {
     replay_as(alloc, Wanted::Trail(seat), machine, reader, writer)
 }
@@ -135,32 +95,14 @@ fn replay_as<R: Read, W: Write>(
     writer: &mut W,
 ) -> Result<(), ReplayFault>
     // What is written is what the definition gives to what was read.
-    ensures ok { OnOk result (IfSome (R.remaining reader.old) (λ input.
-        (contents : Contents) × (output : List ℕ) × IsDescribed machine.now contents × IsOutput wanted contents input output
-        × Appends (W.contents writer.old) (W.contents writer.new) output)) }
-
-    // The machine file is tested first: it is named where it is refused, and then nothing was read. Every other fault
-    // comes after it was read as a machine.
-    ensures machine { IfErr result (λ fault. (refused : MachineFault) → fault ≡ ReplayFault.Machine refused
-        → NowhereIfMemory refused × UnlessMemory refused (IsFaultOf machine.now refused)) }
+    ensures ok { OnOk result (HasReplayed (IsOutput wanted) machine.now
+        (R.remaining reader.old) (W.contents writer.old) (W.contents writer.new)) }
+    ensures err { IfErr result (HasFailed (IsOutput wanted) machine.now
+        (R.remaining reader.old) (W.contents writer.old) (W.contents writer.new)) }
+    // Where the machine file is refused, nothing was read.
     ensures unread { IfErr result (λ fault. IsOfMachine fault → reader.new ≡ reader.old) }
-    ensures described { IfErr result (λ fault. (IsOfMachine fault → ⊥)
-        → (contents : Contents) × IsDescribed machine.now contents) }
-
-    // A line is named where it is the first that is refused.
-    ensures line { IfErr result (λ fault. (n : ℕ) → fault ≡ ReplayFault.Line n
-        → IfSome (R.remaining reader.old) (λ input.
-        (contents : Contents) × IsDescribed machine.now contents × IsRefused contents.registry (input_lines input) n)) }
-
-    // Only a write that fails leaves anything written: a beginning of what would have been.
-    ensures nothing_written { IfErr result (λ fault. fault ≢ ReplayFault.Write
-        → Keeps (W.contents writer.old) (W.contents writer.new)) }
-    // On any other fault the writer wasn't even asked: a writer that fails is never told as a lack of memory.
+    // On any fault but a failed write the writer wasn't even asked: one that fails is never told as a lack of memory.
     ensures untouched { IfErr result (λ fault. fault ≢ ReplayFault.Write → writer.new ≡ writer.old) }
-    ensures beginning_written { IfErr result (λ fault. fault ≡ ReplayFault.Write
-        → IfSome (R.remaining reader.old) (λ input.
-        (contents : Contents) × (output : List ℕ) × (count : ℕ) × IsDescribed machine.now contents
-        × IsOutput wanted contents input output × Appends (W.contents writer.old) (W.contents writer.new) (take count output))) }
 {
     // the machine file goes first: where it is refused, nothing is read of the input
     let machine = match Machine::read(alloc, machine) {

@@ -34,9 +34,9 @@ IsSeatOf (Some word) None = ⊥
 IsSeatOf (Some word) (Some seat) = SpellsSeat word seat
 
 -- The subcommand that asks for it.
-abbrev pub name_of : Words → Text
-name_of (Replay machine trail) = codes "replay"
-name_of (Check machine trail) = codes "check"
+abbrev pub subcommand_name : Words → Text
+subcommand_name (Replay machine trail) = codes "replay"
+subcommand_name (Check machine trail) = codes "check"
 
 -- These are the values of the subcommand's arguments.
 abbrev pub HasValues : List Row → Words → Type 0
@@ -50,5 +50,5 @@ HasValues given (Check machine trail) =
 pub record Asks (words : List Text) (asked : Words) : Type 0 where
   pub faultless : fault_of program words ≡ []
   pub given : List Row
-  pub named : subcommand_of program words ≡ Some (name_of asked, given)
+  pub named : subcommand_of program words ≡ Some (subcommand_name asked, given)
   pub values : HasValues given asked

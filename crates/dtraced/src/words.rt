@@ -2,7 +2,7 @@
 ghost use Rattle.std.specs.Prelude.{◌≡◌, ◌↔◌, ℕ, List, [], IfOk, IfErr, false, map, option_map, Option};
 ghost use Rattle.std.specs.Borrow.{Bor};
 ghost use Rattle.clap.specs.Words.{app_of, fault_of, first_of, found_of, kind_of, rows_of, rule_of, subcommand_of, subcommand_rows_of};
-ghost use Rattle.dtraced.specs.Words.{Asks, HasValues, IsSeatOf, file, name_of, program};
+ghost use Rattle.dtraced.specs.Words.{Asks, HasValues, IsSeatOf, file, subcommand_name, program};
 
 use crate::seat::seat_of;
 use clap::error::ErrorKind;
@@ -65,9 +65,9 @@ impl<'a> Words<'a> {
 
     /// What the subcommand of this name asks for with these values.
     fn of_subcommand(name: &str, given: &ArgMatches<'a>) -> Result<Self, WordsFault>
-        ensures ok { IfOk result (λ asked. (name_of asked ≡ name.now) × HasValues (rows_of (found_of given.now)) asked) }
+        ensures ok { IfOk result (λ asked. (subcommand_name asked ≡ name.now) × HasValues (rows_of (found_of given.now)) asked) }
         ensures err { IfErr result (λ _. (asked : Words)
-            → name_of asked ≡ name.now → HasValues (rows_of (found_of given.now)) asked → ⊥) }
+            → subcommand_name asked ≡ name.now → HasValues (rows_of (found_of given.now)) asked → ⊥) }
     {
         if name == "replay" {
             return Words::of_replay(given);

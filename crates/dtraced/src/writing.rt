@@ -1,14 +1,10 @@
 //! What a replay and a check write on given streams.
-ghost use Rattle.std.specs.Prelude.{◌≡◌, ◌≢◌, ℕ, List, ◌++◌, Err, IfErr, IfOk, IfSome, OnOk, codes, take};
+ghost use Rattle.std.specs.Prelude.{◌≡◌, ◌≢◌, ◌++◌, Err, IfErr, IfOk, OnOk, codes};
 ghost use Rattle.std.specs.Io.KnownBytes.{Appends, Keeps};
 ghost use Rattle.dt_alone.specs.VerdictText.{verdict_text};
 ghost use Rattle.dt_alone.specs.Verdicts.{IsTrail, IsVerdictOn};
-ghost use Rattle.dt_machine.specs.Reading.{IsDescribed, IsFaultOf};
-ghost use Rattle.dt_machine.specs.Registry.{Contents};
-ghost use Rattle.dt_machine.specs.Sections.{NowhereIfMemory, UnlessMemory};
-ghost use Rattle.dt_machine.specs.declared.fault.MachineFault.{MachineFault};
 ghost use Rattle.dt_world.specs.Faults.{IsOfMachine};
-ghost use Rattle.dt_world.specs.Input.{input_lines, IsRefused};
+ghost use Rattle.dt_world.specs.Replaying.{HasReplayed, HasFailed};
 ghost use Rattle.dtraced.specs.Status.{IsOfCheck};
 ghost use Rattle.dtraced.specs.Writing.{IsWritten};
 
@@ -29,34 +25,14 @@ pub fn write_replay<R: Read, W: Write>(
     writer: &mut W,
 ) -> Result<(), ReplayFault>
     // What is written is what the definition gives to what was read.
-    ensures ok { OnOk result (IfSome (R.remaining reader.old) (λ input.
-        (contents : Contents) × (output : List ℕ) × IsDescribed machine.now contents × IsWritten trail contents input output
-        × Appends (W.contents writer.old) (W.contents writer.new) output)) }
-
-    // The machine file is tested first: it is named where it is refused, and then nothing was read. Every other fault
-    // comes after it was read as a machine.
-    ensures machine { IfErr result (λ fault. (refused : MachineFault) → fault ≡ ReplayFault.Machine refused
-        → NowhereIfMemory refused × UnlessMemory refused (IsFaultOf machine.now refused)) }
+    ensures ok { OnOk result (HasReplayed (IsWritten trail) machine.now
+        (R.remaining reader.old) (W.contents writer.old) (W.contents writer.new)) }
+    ensures err { IfErr result (HasFailed (IsWritten trail) machine.now
+        (R.remaining reader.old) (W.contents writer.old) (W.contents writer.new)) }
+    // Where the machine file is refused, nothing was read.
     ensures unread { IfErr result (λ fault. IsOfMachine fault → reader.new ≡ reader.old) }
-    ensures described { IfErr result (λ fault. (IsOfMachine fault → ⊥)
-        → (contents : Contents) × IsDescribed machine.now contents) }
-
-    // A line is named where it is the first that is refused.
-    ensures line { IfErr result (λ fault. (n : ℕ) → fault ≡ ReplayFault.Line n
-        → IfSome (R.remaining reader.old) (λ input.
-        (contents : Contents) × IsDescribed machine.now contents × IsRefused contents.registry (input_lines input) n)) }
-
-    // Only a write that fails leaves anything written: a beginning of what would have been.
-    ensures nothing_written { IfErr result (λ fault. fault ≢ ReplayFault.Write
-        → Keeps (W.contents writer.old) (W.contents writer.new)) }
-    // On any other fault the writer wasn't even asked: a writer that fails is never told as a lack of memory.
+    // On any fault but a failed write the writer wasn't even asked: one that fails is never told as a lack of memory.
     ensures untouched { IfErr result (λ fault. fault ≢ ReplayFault.Write → writer.new ≡ writer.old) }
-    // What a failed write leaves are the first bytes of what the definition gives, and no others.
-    ensures beginning_written { IfErr result (λ fault. fault ≡ ReplayFault.Write
-        → IfSome (R.remaining reader.old) (λ input.
-        (contents : Contents) × (output : List ℕ) × (count : ℕ) × IsDescribed machine.now contents
-        × IsWritten trail contents input output
-        × Appends (W.contents writer.old) (W.contents writer.new) (take count output))) }
 {
     match trail {
         Some(seat) => replay_trail(alloc, machine, seat, reader, writer),

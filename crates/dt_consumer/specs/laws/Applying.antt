@@ -4,7 +4,7 @@ use Rattle.std.proofs.Math.Bool.{Bool-set}
 use Rattle.std.proofs.Math.Path.{path_j'}
 use Rattle.std.proofs.Props.{props}
 use Rattle.std.proofs.lemmas.Bool.{false≢true}
-use Rattle.dt_consumer.specs.Draft.{CanApply, Fits}
+use Rattle.dt_consumer.specs.Draft.{CanApply, ChangeFits}
 use Rattle.dt_consumer.specs.declared.consumer.Consumer.{Consumer}
 use Rattle.dt_consumer.specs.declared.draft.Change.{Change}
 use Rattle.dt_consumer.specs.declared.draft.Change.TheVariants.{Counted, Set, Enable, Go, Stop, Snap, Trunc, Close}
@@ -22,7 +22,7 @@ none_prop : {T : Type 0} (o : Option T) → IsProp (o ≡ None)
 none_prop o = λ p q.
     sym (none_same o p) ∙ ap (none_from o) (Bool-set _ _ (ap is_some p) (ap is_some q)) ∙ none_same o q
 
-fits_prop : (consumer : Consumer) (change : Change) → IsProp (Fits consumer change)
+fits_prop : (consumer : Consumer) (change : Change) → IsProp (ChangeFits consumer change)
 fits_prop consumer (Enable clauses ecbs shapes) = hlevel (none_prop, props)
 fits_prop consumer (Go tracing) = hlevel props
 fits_prop consumer Counted = hlevel props

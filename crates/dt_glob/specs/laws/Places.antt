@@ -9,7 +9,7 @@ use Rattle.dt_glob.specs.declared.place.Place.{Place}
 use Rattle.dt_glob.specs.declared.place.Place.TheVariants.{Outside, Opened, Negated, Inside}
 use Rattle.dt_glob.specs.declared.fault.GlobFault.{GlobFault}
 use Rattle.dt_glob.specs.declared.fault.GlobFault.TheVariants.{Unclosed, EmptySet, LoneEscape}
-use Rattle.dt_glob.specs.Sign.{byte_of, sign_text, text_of_signs, AreSigns, opening, closing, bang}
+use Rattle.dt_glob.specs.Sign.{byte_of, sign_text, text_of_signs, AreSigns, opening_bracket, closing_bracket, bang}
 use Rattle.dt_glob.specs.PatternItem.{PatternItem, Star, AnyByte, Literal, OneOf}
 use Rattle.dt_glob.specs.Spells.{SpellsElements, Lacks, BeginsWithSign, mark, SpellsSet, SpellsItem, SpellsItems}
 use Rattle.dt_glob.specs.Spells.{Spells}
@@ -55,7 +55,7 @@ pub AreItems-push : (a b : List Sign) (item : PatternItem) → AreItems a → Sp
 AreItems-push a b item h k = (h.0 ++ item ∷ [], SpellsItems-push a b h.0 item h.1 k)
 
 -- a sign that begins no set is an item
-item_exists : (sign : Sign) → sign ≢ opening → (item : PatternItem) × SpellsItem (sign ∷ []) item
+item_exists : (sign : Sign) → sign ≢ opening_bracket → (item : PatternItem) × SpellsItem (sign ∷ []) item
 item_exists (Escaped byte) n = (Literal byte, inl refl)
 item_exists (Plain byte) n =
     elim (plain_cases 42 (Plain byte)) [
@@ -82,7 +82,7 @@ append_some (next ∷ a) sign e = cc
 pub record EndsEmptySet (signs : List Sign) (sign : Sign) : Type 0 where
   pub front : List Sign
   pub negated : Bool
-  pub cut : signs ++ sign ∷ [] ≡ front ++ opening ∷ (mark negated ++ closing ∷ [])
+  pub cut : signs ++ sign ∷ [] ≡ front ++ opening_bracket ∷ (mark negated ++ closing_bracket ∷ [])
   pub items : AreItems front
 
 -- what one more sign leads to
@@ -90,7 +90,7 @@ abbrev pub Leads : List Sign → Sign → Result Place GlobFault → Type 0
 Leads signs sign (Ok next) = StandsAt next (signs ++ sign ∷ [])
 Leads signs sign (Err fault) = (fault ≡ EmptySet) × EndsEmptySet signs sign
 
-whole_set : (signs : List Sign) (sign : Sign) → sign ≡ closing → IsInside signs → AreItems (signs ++ sign ∷ [])
+whole_set : (signs : List Sign) (sign : Sign) → sign ≡ closing_bracket → IsInside signs → AreItems (signs ++ sign ∷ [])
 whole_set signs sign e h =
     let elements = elements_exist h.inside in
     let set : SpellsSet (mark h.negated ++ h.inside) h.negated elements.0 = record {
@@ -102,46 +102,46 @@ whole_set signs sign e h =
       spells = elements.1;
     } in
     let inner : List Sign = mark h.negated ++ h.inside in
-    let cut : signs ++ sign ∷ [] ≡ h.front ++ opening ∷ (inner ++ closing ∷ []) =
-    ap (λ (s : List Sign). s ++ sign ∷ []) h.cut ∙ append_assoc h.front (opening ∷ inner) (sign ∷ [])
-    ∙ ap (λ (s : Sign). h.front ++ opening ∷ (inner ++ s ∷ [])) e in
-    rw cut (AreItems-push h.front (opening ∷ (inner ++ closing ∷ [])) (OneOf h.negated elements.0) h.items
+    let cut : signs ++ sign ∷ [] ≡ h.front ++ opening_bracket ∷ (inner ++ closing_bracket ∷ []) =
+    ap (λ (s : List Sign). s ++ sign ∷ []) h.cut ∙ append_assoc h.front (opening_bracket ∷ inner) (sign ∷ [])
+    ∙ ap (λ (s : Sign). h.front ++ opening_bracket ∷ (inner ++ s ∷ [])) e in
+    rw cut (AreItems-push h.front (opening_bracket ∷ (inner ++ closing_bracket ∷ [])) (OneOf h.negated elements.0) h.items
     (inner, refl, set))
 
-more_inside : (signs : List Sign) (sign : Sign) → sign ≢ closing → IsInside signs → IsInside (signs ++ sign ∷ [])
+more_inside : (signs : List Sign) (sign : Sign) → sign ≢ closing_bracket → IsInside signs → IsInside (signs ++ sign ∷ [])
 more_inside signs sign n h = record {
   front = h.front;
   negated = h.negated;
   inside = h.inside ++ sign ∷ [];
   cut = ap (λ (s : List Sign). s ++ sign ∷ []) h.cut
-      ∙ append_assoc h.front (opening ∷ (mark h.negated ++ h.inside)) (sign ∷ [])
-      ∙ ap (λ (s : List Sign). h.front ++ opening ∷ s) (append_assoc (mark h.negated) h.inside (sign ∷ []));
+      ∙ append_assoc h.front (opening_bracket ∷ (mark h.negated ++ h.inside)) (sign ∷ [])
+      ∙ ap (λ (s : List Sign). h.front ++ opening_bracket ∷ s) (append_assoc (mark h.negated) h.inside (sign ∷ []));
   items = h.items;
   marked = λ e b. h.marked e (BeginsWith-append bang h.inside (sign ∷ []) h.some b);
-  unended = Lacks-append closing h.inside (sign ∷ []) h.unended (n, tt);
+  unended = Lacks-append closing_bracket h.inside (sign ∷ []) h.unended (n, tt);
   some = append_some h.inside sign;
 }
 
-begins_inside : (negated : Bool) (signs : List Sign) (sign : Sign) → sign ≢ closing → (negated ≡ false → sign ≢ bang)
+begins_inside : (negated : Bool) (signs : List Sign) (sign : Sign) → sign ≢ closing_bracket → (negated ≡ false → sign ≢ bang)
     → HasOpened negated signs → IsInside (signs ++ sign ∷ [])
 begins_inside negated signs sign n m h = record {
   front = h.front;
   negated = negated;
   inside = sign ∷ [];
-  cut = ap (λ (s : List Sign). s ++ sign ∷ []) h.cut ∙ append_assoc h.front (opening ∷ mark negated) (sign ∷ []);
+  cut = ap (λ (s : List Sign). s ++ sign ∷ []) h.cut ∙ append_assoc h.front (opening_bracket ∷ mark negated) (sign ∷ []);
   items = h.items;
   marked = m;
   unended = (n, tt);
   some = append_some [] sign;
 }
 
-ends_empty : (negated : Bool) (signs : List Sign) (sign : Sign) → sign ≡ closing → HasOpened negated signs
+ends_empty : (negated : Bool) (signs : List Sign) (sign : Sign) → sign ≡ closing_bracket → HasOpened negated signs
     → EndsEmptySet signs sign
 ends_empty negated signs sign e h = record {
   front = h.front;
   negated = negated;
-  cut = ap (λ (s : List Sign). s ++ sign ∷ []) h.cut ∙ append_assoc h.front (opening ∷ mark negated) (sign ∷ [])
-      ∙ ap (λ (s : Sign). h.front ++ opening ∷ (mark negated ++ s ∷ [])) e;
+  cut = ap (λ (s : List Sign). s ++ sign ∷ []) h.cut ∙ append_assoc h.front (opening_bracket ∷ mark negated) (sign ∷ [])
+      ∙ ap (λ (s : Sign). h.front ++ opening_bracket ∷ (mark negated ++ s ∷ [])) e;
   items = h.items;
 }
 
@@ -156,8 +156,8 @@ stepped Opened signs sign h = elim (plain_cases 93 sign) [
   | inr w ↦ elim (plain_cases 33 sign) [
     | inl v ↦ rw (w.0, v.0) (record {
       front = h.front;
-      cut = ap (λ (s : List Sign). s ++ sign ∷ []) h.cut ∙ append_assoc h.front (opening ∷ []) (sign ∷ [])
-          ∙ ap (λ (s : Sign). h.front ++ opening ∷ s ∷ []) v.1;
+      cut = ap (λ (s : List Sign). s ++ sign ∷ []) h.cut ∙ append_assoc h.front (opening_bracket ∷ []) (sign ∷ [])
+          ∙ ap (λ (s : Sign). h.front ++ opening_bracket ∷ s ∷ []) v.1;
       items = h.items;
     })
     | inr v ↦ rw (w.0, v.0) (begins_inside false signs sign w.1 (λ _. v.1) h)
@@ -201,7 +201,7 @@ pub FaultOf-empty : (text : List ℕ) (signs : List Sign) (sign : Sign) (rest : 
     ≡ text_of_signs (signs ++ sign ∷ []) ++ rest
     → AreSigns (signs ++ sign ∷ []) → EndsEmptySet signs sign → FaultOf text EmptySet
 FaultOf-empty text signs sign rest e a h =
-    let are : AreSigns (h.front ++ opening ∷ (mark h.negated ++ closing ∷ [])) = rw h.cut at a in (
+    let are : AreSigns (h.front ++ opening_bracket ∷ (mark h.negated ++ closing_bracket ∷ [])) = rw h.cut at a in (
       h.front,
       h.negated,
       rest,

@@ -7,7 +7,7 @@ use Rattle.dt_glob.specs.declared.element.Element.{Element}
 use Rattle.dt_glob.specs.declared.element.Element.TheVariants.{Single, Range}
 use Rattle.dt_glob.specs.declared.fault.GlobFault.{GlobFault}
 use Rattle.dt_glob.specs.declared.fault.GlobFault.TheVariants.{Unclosed, EmptySet, LoneEscape}
-use Rattle.dt_glob.specs.Sign.{byte_of, sign_text, text_of_signs, IsSign, AreSigns, opening, closing, bang, dash}
+use Rattle.dt_glob.specs.Sign.{byte_of, sign_text, text_of_signs, IsSign, AreSigns, opening_bracket, closing_bracket, bang, dash}
 use Rattle.dt_glob.specs.PatternItem.{PatternItem, Star, AnyByte, Literal, OneOf}
 use Rattle.dt_glob.specs.Spells.{BeginsRangeEnd, SpellsElements, Lacks, BeginsWithSign, mark, SpellsSet, SpellsItem}
 use Rattle.dt_glob.specs.Spells.{SpellsItems, Spells}
@@ -96,7 +96,7 @@ set_and-spelled signs false elements rest h =
     rw h.begins (set_and-false h.inside rest h.some (h.marked refl)
     ∙ ap (λ e. also (OneOf false e) rest) (elements_of-spelled h.inside elements h.spells))
 
-items_from-set : (lone : Bool) (seen inside rest : List Sign) → Lacks closing inside
+items_from-set : (lone : Bool) (seen inside rest : List Sign) → Lacks closing_bracket inside
     → items_from lone (Some seen) (inside ++ rest) ≡ items_from lone (Some (seen ++ inside)) rest
 unfolding items_from
 items_from-set lone seen [] rest h = simp append-nil
@@ -105,11 +105,11 @@ items_from-set lone seen (sign ∷ inside) rest h =
     (items_from-set lone (seen ++ sign ∷ []) inside rest h.1
     ∙ ap (λ s. items_from lone (Some s) rest) (append_assoc seen (sign ∷ []) inside))
 
-items_from-closed : (lone : Bool) (inside rest : List Sign) → Lacks closing inside
-    → items_from lone None (opening ∷ (inside ++ closing ∷ []) ++ rest) ≡ set_and inside (items_from lone None rest)
+items_from-closed : (lone : Bool) (inside rest : List Sign) → Lacks closing_bracket inside
+    → items_from lone None (opening_bracket ∷ (inside ++ closing_bracket ∷ []) ++ rest) ≡ set_and inside (items_from lone None rest)
 unfolding items_from
 items_from-closed lone inside rest h =
-    rw append_assoc (items_from-set lone [] inside (closing ∷ rest) h)
+    rw append_assoc (items_from-set lone [] inside (closing_bracket ∷ rest) h)
 
 items_from-item : (lone : Bool) (front rest : List Sign) (item : PatternItem) → SpellsItem front item
     → items_from lone None (front ++ rest) ≡ also item (items_from lone None rest)
@@ -154,11 +154,11 @@ items_from-open : (lone : Bool) (signs : List Sign) → EndsInSet signs → item
 unfolding items_from ending
 items_from-open true signs h =
     let k = items_from-set true [] h.inside [] h.unended in
-    rw h.cut (items_from-items true h.front (opening ∷ h.inside) h.items.0 h.items.1
+    rw h.cut (items_from-items true h.front (opening_bracket ∷ h.inside) h.items.0 h.items.1
     ∙ ap (all_also h.items.0) (rw append-nil at k) ∙ all_also-err h.items.0 LoneEscape)
 items_from-open false signs h =
     let k = items_from-set false [] h.inside [] h.unended in
-    rw h.cut (items_from-items false h.front (opening ∷ h.inside) h.items.0 h.items.1
+    rw h.cut (items_from-items false h.front (opening_bracket ∷ h.inside) h.items.0 h.items.1
     ∙ ap (all_also h.items.0) (rw append-nil at k) ∙ all_also-err h.items.0 Unclosed)
 
 items_from-whole : (lone : Bool) (signs : List Sign) (items : List PatternItem) → SpellsItems signs items
@@ -166,12 +166,12 @@ items_from-whole : (lone : Bool) (signs : List Sign) (items : List PatternItem) 
 items_from-whole lone signs items h = let e = items_from-items lone signs [] items h in rw append-nil at e
 
 items_from-empty_set : (lone negated : Bool) (front rest : List Sign) → AreItems front
-    → items_from lone None ((front ++ opening ∷ (mark negated ++ closing ∷ [])) ++ rest) ≡ Err EmptySet
+    → items_from lone None ((front ++ opening_bracket ∷ (mark negated ++ closing_bracket ∷ [])) ++ rest) ≡ Err EmptySet
 items_from-empty_set lone true front rest h =
-    rw append_assoc (items_from-items lone front (opening ∷ (bang ∷ [] ++ closing ∷ []) ++ rest) h.0 h.1
+    rw append_assoc (items_from-items lone front (opening_bracket ∷ (bang ∷ [] ++ closing_bracket ∷ []) ++ rest) h.0 h.1
     ∙ ap (all_also h.0) (items_from-closed lone (bang ∷ []) rest (bang_apart, tt)) ∙ all_also-err h.0 EmptySet)
 items_from-empty_set lone false front rest h =
-    rw append_assoc (items_from-items lone front (opening ∷ ([] ++ closing ∷ []) ++ rest) h.0 h.1
+    rw append_assoc (items_from-items lone front (opening_bracket ∷ ([] ++ closing_bracket ∷ []) ++ rest) h.0 h.1
     ∙ ap (all_also h.0) (items_from-closed lone [] rest tt) ∙ all_also-err h.0 EmptySet)
 
 -- the reading of signs and what stands behind them
@@ -191,7 +191,7 @@ reading_of-lone : (signs : List Sign) → AreSigns signs → reading_of (text_of
 unfolding signs_of
 reading_of-lone signs h = let e = reading_of-signs signs (92 ∷ []) h in rw append-nil at e
 
-AreSigns-empty_set : (negated : Bool) → AreSigns (opening ∷ (mark negated ++ closing ∷ []))
+AreSigns-empty_set : (negated : Bool) → AreSigns (opening_bracket ∷ (mark negated ++ closing_bracket ∷ []))
 AreSigns-empty_set true = (λ e. omega arith, (λ e. omega arith, (λ e. omega arith, tt)))
 AreSigns-empty_set false = (λ e. omega arith, (λ e. omega arith, tt))
 
@@ -207,9 +207,9 @@ unfolding items_from ending
 reading_of-fault text Unclosed (signs, e, a, h) =
     rw e (reading_of-text_of_signs signs a ∙ items_from-open false signs h)
 reading_of-fault text EmptySet (front, negated, rest, e, a, h) =
-    let signs : List Sign = front ++ opening ∷ (mark negated ++ closing ∷ []) in
+    let signs : List Sign = front ++ opening_bracket ∷ (mark negated ++ closing_bracket ∷ []) in
     let are : AreSigns signs =
-    AreSigns-append front (opening ∷ (mark negated ++ closing ∷ [])) a (AreSigns-empty_set negated) in
+    AreSigns-append front (opening_bracket ∷ (mark negated ++ closing_bracket ∷ [])) a (AreSigns-empty_set negated) in
     rw e (reading_of-signs signs rest are
     ∙ items_from-empty_set (signs_of rest).lone negated front (signs_of rest).signs h)
 reading_of-fault text LoneEscape (signs, e, a, inl h) =

@@ -4,7 +4,7 @@ use Rattle.std.proofs.Common.{append_assoc, arith}
 use Rattle.std.proofs.lemmas.Bool.{false≢true}
 use Rattle.dt_glob.specs.declared.sign.Sign.{Sign}
 use Rattle.dt_glob.specs.declared.sign.Sign.TheVariants.{Plain, Escaped}
-use Rattle.dt_glob.specs.Sign.{sign_text, text_of_signs, IsSign, AreSigns, closing, bang}
+use Rattle.dt_glob.specs.Sign.{sign_text, text_of_signs, IsSign, AreSigns, closing_bracket, bang}
 use Rattle.dt_glob.specs.Spells.{Lacks, mark}
 use Rattle.dt_glob.specs.Reading.{is_plain}
 
@@ -50,10 +50,10 @@ is_plain-same own = elim (plain_cases own (Plain own)) [ inl w ↦ w.0 | inr w �
 pub plain_apart : (a b : ℕ) → a ≢ b → Plain a ≢ Plain b
 plain_apart a b n e = n (cc e)
 
-pub bang_apart : bang ≢ closing
+pub bang_apart : bang ≢ closing_bracket
 bang_apart = plain_apart 33 93 (λ e. omega arith)
 
-pub Lacks-mark : (negated : Bool) (inside : List Sign) → Lacks closing inside → Lacks closing (mark negated ++ inside)
+pub Lacks-mark : (negated : Bool) (inside : List Sign) → Lacks closing_bracket inside → Lacks closing_bracket (mark negated ++ inside)
 Lacks-mark true inside h = (bang_apart, h)
 Lacks-mark false inside h = h
 

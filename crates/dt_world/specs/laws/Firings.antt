@@ -11,11 +11,11 @@ use Rattle.dt_machine.specs.Registry.{Registry, Contents, firing_at}
 use Rattle.dt_proto.specs.Alone.{Reached, own_line, firing_made}
 use Rattle.dt_proto.specs.Brought.{IsBrought, IsLower}
 use Rattle.dt_steps.specs.Steps.{is_done, passed, looking_at, looking, offered, offering_of, offering}
-use Rattle.dt_steps.specs.World.{World, Session, Place, Due, reached}
+use Rattle.dt_steps.specs.World.{World, Session, Place, DueOffer, reached}
 use Rattle.dt_world.specs.Orderly.{IsOrderly, IsOrderlyOffer, IsOrderlySeat, IsOrderlyWorld}
 use Rattle.dt_world.specs.laws.Orderly.{all_weaker, all_lower_more, opt_case, seat_raised}
 
-same_due : (a b : Due) → Some a ≡ Some b → a ≡ b
+same_due : (a b : DueOffer) → Some a ≡ Some b → a ≡ b
 same_due a b e = ap (λ o. option_map_or (λ d. d) o a) e
 
 same_session : (a b : Session) → Some a ≡ Some b → a ≡ b
@@ -31,8 +31,8 @@ module _ (firing : Firing) (cpu : ℕ) (own : firing.cpu ≡ cpu) where
 
 module _ (contents : Contents) (taken : ℕ → ℕ) where
   -- fewer offers are due
-  fewer : (due fewer_due : (cpu : ℕ) → Option Due) (place : Place)
-      → ((cpu : ℕ) (one : Due) → fewer_due cpu ≡ Some one → due cpu ≡ Some one)
+  fewer : (due fewer_due : (cpu : ℕ) → Option DueOffer) (place : Place)
+      → ((cpu : ℕ) (one : DueOffer) → fewer_due cpu ≡ Some one → due cpu ≡ Some one)
       → IsOrderlySeat contents taken due place → IsOrderlySeat contents taken fewer_due place
   fewer due fewer_due place still h = record {
     present = h.present;
@@ -58,8 +58,8 @@ module _ (contents : Contents) (taken : ℕ → ℕ) where
       pending = h.pending;
     }
 
-    reached_seat : (due : (cpu : ℕ) → Option Due)
-        → ((one : Due) → due cpu ≡ Some one → one.life ≡ length place.earlier → ⊥)
+    reached_seat : (due : (cpu : ℕ) → Option DueOffer)
+        → ((one : DueOffer) → due cpu ≡ Some one → one.life ≡ length place.earlier → ⊥)
         → IsOrderlySeat contents taken due place
         → IsOrderlySeat contents taken due (record place { present = Some (reached session (firing_made firing)) })
     reached_seat due none h = record {
@@ -85,23 +85,23 @@ module _ (contents : Contents) (taken : ℕ → ℕ) where
 
   -- Offer
   module _ (world : World) (h : IsOrderlyWorld contents taken world) where
-    abbrev left : (cpu seat at other : ℕ) → Option Due
+    abbrev left : (cpu seat at other : ℕ) → Option DueOffer
     left cpu seat at other = cond (other == cpu && at == seat) None (world.due other at)
 
-    left_is : (cpu seat at other : ℕ) (one : Due) → left cpu seat at other ≡ Some one → world.due other at ≡ Some one
+    left_is : (cpu seat at other : ℕ) (one : DueOffer) → left cpu seat at other ≡ Some one → world.due other at ≡ Some one
     left_is cpu seat at other one = by_both (other == cpu && at == seat) where
       by_both : (b : Bool) → cond b None (world.due other at) ≡ Some one → world.due other at ≡ Some one
       by_both true e = cc
       by_both false e = e
 
-    gone : (cpu seat : ℕ) (one : Due) → left cpu seat seat cpu ≡ Some one → ⊥
+    gone : (cpu seat : ℕ) (one : DueOffer) → left cpu seat seat cpu ≡ Some one → ⊥
     gone cpu seat one e =
         let mine : left cpu seat seat cpu ≡ None =
         ap (λ b. cond (b && seat == seat) None (world.due cpu seat)) (eq-eqb cpu cpu refl)
         ∙ ap (λ b. cond b None (world.due cpu seat)) (eq-eqb seat seat refl) in
         let no : None ≡ Some one = sym mine ∙ e in cc
 
-    offered_orderly : (cpu seat : ℕ) (due : Due) → world.due cpu seat ≡ Some due
+    offered_orderly : (cpu seat : ℕ) (due : DueOffer) → world.due cpu seat ≡ Some due
         → IsOrderlySeat contents taken (left cpu seat seat) (offered due (world.places seat))
     offered_orderly cpu seat due owed =
         let place = world.places seat in
@@ -125,7 +125,7 @@ module _ (contents : Contents) (taken : ℕ → ℕ) where
         opt_case (IsOrderlyWorld contents taken) (λ due. offering_of world cpu seat due) (world.due cpu seat) world h
         (λ due owed. λ at. by_seat due owed at (seat == at) refl)
       where
-        by_seat : (due : Due) → world.due cpu seat ≡ Some due → (at : ℕ) (b : Bool) → (seat == at) ≡ b
+        by_seat : (due : DueOffer) → world.due cpu seat ≡ Some due → (at : ℕ) (b : Bool) → (seat == at) ≡ b
             → IsOrderlySeat contents taken (λ other. left cpu seat at other)
             (cond b (offered due (world.places seat)) (world.places at))
         by_seat due owed at true is =
@@ -160,13 +160,13 @@ module _ (contents : Contents) (taken : ℕ → ℕ) (cpu : ℕ) (firing : Firin
   there_now = subst (λ n. firing_at contents.scripts cpu n ≡ Some firing) (sym row) there
 
   -- the offers of a seat after the look named this life of it, or none
-  abbrev due_then : ((other : ℕ) → Option Due) → Option ℕ → (other : ℕ) → Option Due
+  abbrev due_then : ((other : ℕ) → Option DueOffer) → Option ℕ → (other : ℕ) → Option DueOffer
   due_then due named other = cond (other == cpu) (option_map (λ life. record { life = life; firing = firing }) named)
       (due other)
 
-  module _ (place : Place) (due : (other : ℕ) → Option Due) (named : Option ℕ)
+  module _ (place : Place) (due : (other : ℕ) → Option DueOffer) (named : Option ℕ)
       (h : IsOrderlySeat contents taken due place) where
-    is_due : (one : Due) → option_map (λ (life : ℕ). record { life = life; firing = firing }) named ≡ Some one
+    is_due : (one : DueOffer) → option_map (λ (life : ℕ). record { life = life; firing = firing }) named ≡ Some one
         → (one.firing ≡ firing) × (named ≡ Some one.life)
     is_due one = by_name named where
       by_name : (o : Option ℕ) → option_map (λ (life : ℕ). record { life = life; firing = firing }) o ≡ Some one
@@ -174,9 +174,9 @@ module _ (contents : Contents) (taken : ℕ → ℕ) (cpu : ℕ) (firing : Firin
       by_name None e = cc
       by_name (Some life) e =
           let same = same_due (record { life = life; firing = firing }) one e in
-          (sym (ap (λ (d : Due). d.firing) same), ap (λ (d : Due). Some d.life) same)
+          (sym (ap (λ (d : DueOffer). d.firing) same), ap (λ (d : DueOffer). Some d.life) same)
 
-    new_offer : (one : Due) → one.firing ≡ firing → IsOrderlyOffer contents later place cpu one
+    new_offer : (one : DueOffer) → one.firing ≡ firing → IsOrderlyOffer contents later place cpu one
     new_offer one is = record {
       own = ap (λ (f : Firing). f.cpu) is ∙ own;
       there = subst (λ (f : Firing). firing_at contents.scripts cpu f.place ≡ Some f) (sym is) there_now;
@@ -196,7 +196,7 @@ module _ (contents : Contents) (taken : ℕ → ℕ) (cpu : ℕ) (firing : Firin
           offers = λ other one owed. by_cpu raised other one owed (eqb_tells other cpu);
         }
       where
-        by_cpu : IsOrderlySeat contents later due place → (other : ℕ) (one : Due) → due_then due named other ≡ Some one
+        by_cpu : IsOrderlySeat contents later due place → (other : ℕ) (one : DueOffer) → due_then due named other ≡ Some one
             → (((other == cpu) ≡ true) × (other ≡ cpu)) ⊎ (((other == cpu) ≡ false) × (other ≢ cpu))
             → IsOrderlyOffer contents later place other one
         by_cpu raised other one owed (inl is) =
@@ -210,7 +210,7 @@ module _ (contents : Contents) (taken : ℕ → ℕ) (cpu : ℕ) (firing : Firin
             ∙ owed)
 
     -- the offer that is due now is to another session
-    none_due : option_map_or (λ life. life == length place.earlier) named false ≡ false → (one : Due)
+    none_due : option_map_or (λ life. life == length place.earlier) named false ≡ false → (one : DueOffer)
         → due_then due named cpu ≡ Some one → one.life ≡ length place.earlier → ⊥
     none_due unnamed one owed life =
         let mine : option_map (λ (life : ℕ). record { life = life; firing = firing }) named ≡ Some one =

@@ -16,8 +16,8 @@ use Rattle.dt_proto.specs.Lines.{LineForm}
 use Rattle.dt_proto.specs.Session.{session_account}
 use Rattle.dt_steps.specs.Steps.{with_place, with_session, answering, opening, asking, publishing, publishing_of, finishing}
 use Rattle.dt_steps.specs.Steps.{withdrawing, is_done, passed, looking_at, looking, offered, offering_of, offering, closing}
-use Rattle.dt_steps.specs.World.{World, Session, Place, Pending, Due, new_session, reached, answered, waiting, may_ask}
-use Rattle.dt_steps.specs.World.{begins, may_withdraw}
+use Rattle.dt_steps.specs.World.{World, Session, Place, Pending, DueOffer, new_session, reached, answered, waiting, may_ask}
+use Rattle.dt_steps.specs.World.{accepts_go, may_withdraw}
 use Rattle.dt_world.specs.Orderly.{IsOrderly, IsOrderlyOffer, IsOrderlySeat, IsOrderlyWorld}
 
 pub all_weaker : {X : Type 0} (P Q : X → Type 0) → ((x : X) → P x → Q x) → (xs : List X) → AllByRecursion P xs
@@ -55,14 +55,14 @@ module _ (contents : Contents) (taken later : ℕ → ℕ) (more : (cpu : ℕ) �
     pending = h.pending;
   }
 
-  offer_raised : (place : Place) (cpu : ℕ) (due : Due) → IsOrderlyOffer contents taken place cpu due
+  offer_raised : (place : Place) (cpu : ℕ) (due : DueOffer) → IsOrderlyOffer contents taken place cpu due
       → IsOrderlyOffer contents later place cpu due
   offer_raised place cpu due h =
       let le = more cpu in
       let before = h.before in
       record { own = h.own; there = h.there; before = omega (arith, before, le); next = h.next }
 
-  pub seat_raised : (due : (cpu : ℕ) → Option Due) (place : Place) → IsOrderlySeat contents taken due place
+  pub seat_raised : (due : (cpu : ℕ) → Option DueOffer) (place : Place) → IsOrderlySeat contents taken due place
       → IsOrderlySeat contents later due place
   seat_raised due place h = record {
     present = λ session is. session_raised session (h.present session is);
@@ -84,7 +84,7 @@ module _ (contents : Contents) (taken : ℕ → ℕ) where
     by_seat false is = h seat
 
   -- the session on a seat is another
-  changed : (due : (cpu : ℕ) → Option Due) (place : Place) (session new : Session) → place.present ≡ Some session
+  changed : (due : (cpu : ℕ) → Option DueOffer) (place : Place) (session new : Session) → place.present ≡ Some session
       → IsOrderlySeat contents taken due place → IsOrderly contents taken new
       → ((cpu n : ℕ) → AllByRecursion (IsLower cpu n) session.view → AllByRecursion (IsLower cpu n) new.view)
       → IsOrderlySeat contents taken due (record { present = Some new; earlier = place.earlier })
@@ -193,12 +193,12 @@ module _ (contents : Contents) (taken : ℕ → ℕ) where
     unfolding asking
     asking_orderly seat line form one =
         opt_case Orderly
-        (λ session. cond (may_ask registry session) (cond (begins registry session line)
+        (λ session. cond (may_ask registry session) (cond (accepts_go registry session line)
         (with_session world seat (waiting session line false)) (answering world seat session line)) world)
         (world.places seat).present world h
-        (λ session is. cond_both (may_ask registry session) (cond (begins registry session line)
+        (λ session is. cond_both (may_ask registry session) (cond (accepts_go registry session line)
         (with_session world seat (waiting session line false)) (answering world seat session line)) world Orderly
-        (λ _. cond_both (begins registry session line) (with_session world seat (waiting session line false))
+        (λ _. cond_both (accepts_go registry session line) (with_session world seat (waiting session line false))
         (answering world seat session line) Orderly
         (λ _. waiting_world seat session line false is form one)
         (λ _. answering_orderly seat session line is form one))

@@ -13,12 +13,12 @@ use Rattle.dt_proto.specs.Limits.{line_max}
 use Rattle.dt_proto.specs.Lines.{LineForm, short_line, long_line, line_form}
 use Rattle.dt_proto.specs.Splits.{HasNoNewline}
 use Rattle.dt_proto.specs.laws.Splitting.{splits}
-use Rattle.dt_steps.specs.Steps.{Act, offers, looks, publishes, finishes, withdraws, closes, after_act, asking, looking, is_done}
+use Rattle.dt_steps.specs.Steps.{StepForm, offers, looks, publishes, finishes, withdraws, closes, after_step, asking, looking, is_done}
 use Rattle.dt_steps.specs.Steps.{publishing, withdrawing}
-use Rattle.dt_steps.specs.World.{World, Session, Place, Due, new_world, session_numbered, sessions_on, session_of, waits, has_closed}
+use Rattle.dt_steps.specs.World.{World, Session, Place, DueOffer, new_world, session_numbered, sessions_on, session_of, waits, has_closed}
 use Rattle.dt_world.specs.Input.{AreStepLines, input_lines, is_written}
 use Rattle.dt_world.specs.Orderly.{IsOrderly, IsOrderlySeat, IsOrderlyWorld}
-use Rattle.dt_world.specs.Replay.{Replayed, beginning, seats_due, firing_acts, after_ask, next_of, acts_of, takes_firing, after_step_line, replayed}
+use Rattle.dt_world.specs.Replay.{Replayed, beginning, seats_due, firing_steps, after_ask, next_of, steps_of_line, takes_firing, after_step_line, replayed}
 use Rattle.dt_world.specs.StepLine.{StepLineForm, open_line, close_line, withdraw_line, ask_line, publish_line, finish_line}
 use Rattle.dt_world.specs.StepLine.{look_line, offer_line, call_line, fire_line, step_line_text}
 use Rattle.dt_world.specs.laws.Firings.{one_more, offering_orderly, looking_orderly}
@@ -92,7 +92,7 @@ module _ (contents : Contents) (sound : IsSound contents) where
       (now.taken other + 1) (now.taken other)) world) (sym is) h
 
   offered_all : (taken : ℕ → ℕ) (cpu : ℕ) (seats : List ℕ) (world : World) → IsOrderlyWorld contents taken world
-      → IsOrderlyWorld contents taken (fold (after_act registry) world (map (offers cpu) seats))
+      → IsOrderlyWorld contents taken (fold (after_step registry) world (map (offers cpu) seats))
   offered_all taken cpu [] world h = h
   offered_all taken cpu (seat ∷ seats) world h =
       offered_all taken cpu seats _ (offering_orderly contents taken world h cpu seat)
@@ -104,11 +104,11 @@ module _ (contents : Contents) (sound : IsSound contents) where
         → IsInOrder (after_step_line contents now (look_line cpu))
     by_next None is =
         subst (λ o. IsOrderlyWorld contents (λ other. cond (is_some o && other == cpu) (now.taken other + 1)
-        (now.taken other)) (fold (after_act registry) now.world (option_map_or (λ firing. looks cpu firing ∷ []) o [])))
+        (now.taken other)) (fold (after_step registry) now.world (option_map_or (λ firing. looks cpu firing ∷ []) o [])))
         (sym is) h
     by_next (Some firing) is =
         subst (λ o. IsOrderlyWorld contents (λ other. cond (is_some o && other == cpu) (now.taken other + 1)
-        (now.taken other)) (fold (after_act registry) now.world (option_map_or (λ firing. looks cpu firing ∷ []) o [])))
+        (now.taken other)) (fold (after_step registry) now.world (option_map_or (λ firing. looks cpu firing ∷ []) o [])))
         (sym is) (looked now cpu firing is h)
 
   after_fire : (now : Replayed) (cpu : ℕ) → IsInOrder now → IsInOrder (after_step_line contents now (fire_line cpu))
@@ -117,12 +117,12 @@ module _ (contents : Contents) (sound : IsSound contents) where
         → IsInOrder (after_step_line contents now (fire_line cpu))
     by_next None is =
         subst (λ o. IsOrderlyWorld contents (λ other. cond (is_some o && other == cpu) (now.taken other + 1)
-        (now.taken other)) (fold (after_act registry) now.world
-        (option_map_or (firing_acts registry now.world cpu) o []))) (sym is) h
+        (now.taken other)) (fold (after_step registry) now.world
+        (option_map_or (firing_steps registry now.world cpu) o []))) (sym is) h
     by_next (Some firing) is =
         subst (λ o. IsOrderlyWorld contents (λ other. cond (is_some o && other == cpu) (now.taken other + 1)
-        (now.taken other)) (fold (after_act registry) now.world
-        (option_map_or (firing_acts registry now.world cpu) o []))) (sym is)
+        (now.taken other)) (fold (after_step registry) now.world
+        (option_map_or (firing_steps registry now.world cpu) o []))) (sym is)
         (offered_all (one_more now.taken cpu) cpu (seats_due (looking registry now.world cpu firing) cpu)
         (looking registry now.world cpu firing) (looked now cpu firing is h))
 
@@ -134,7 +134,7 @@ module _ (contents : Contents) (sound : IsSound contents) where
       called asked fair (waits (asked.places seat)) (has_closed registry (asked.places seat))
     where
       called : (asked : World) → IsOrderlyWorld contents now.taken asked → (waiting closed : Bool)
-          → IsOrderlyWorld contents now.taken (fold (after_act registry) asked
+          → IsOrderlyWorld contents now.taken (fold (after_step registry) asked
           (cond waiting (publishes seat ∷ finishes seat ∷ []) (cond closed (withdraws seat ∷ closes seat ∷ []) [])))
       called asked fair true closed =
           finishing_orderly contents now.taken registry (publishing registry asked seat)
@@ -205,7 +205,7 @@ module _ (contents : Contents) (sound : IsSound contents) where
       by_number true later e = subst (IsOrderly contents taken) (ap (λ o. option_map_or (λ s. s) o one) e) h.0
       by_number false later e = later e
 
-  all_on : (taken : ℕ → ℕ) (due : ℕ → Option Due) (place : Place) → IsOrderlySeat contents taken due place
+  all_on : (taken : ℕ → ℕ) (due : ℕ → Option DueOffer) (place : Place) → IsOrderlySeat contents taken due place
       → AllByRecursion (IsOrderly contents taken) (sessions_on place)
   all_on taken due place h = opt_case (AllByRecursion (IsOrderly contents taken)) (λ session. session ∷ place.earlier)
       place.present place.earlier h.earlier (λ session is. (h.present session is, h.earlier))

@@ -9,7 +9,7 @@ use Rattle.dt_ecb.specs.Forms.{shapes_of}
 use Rattle.dt_ecb.specs.declared.parts.Ecb.{Ecb}
 use Rattle.dt_lang.specs.Program.{form_of_clause}
 use Rattle.dt_machine.specs.Moment.{form_of_moment}
-use Rattle.dt_alone.specs.Happened.{Adds}
+use Rattle.dt_alone.specs.Happened.{AddsTakings}
 use Rattle.dt_alone.specs.declared.happened.Happened.{Happened}
 use Rattle.dt_alone.proofs.Bringing.{adds_both}
 use Rattle.dt_alone.proofs.Firing.{exit_all, exited, exited_here, exited_other, exited_past, none_is, some_exit}
@@ -46,18 +46,18 @@ loop-ecb-preserved c =
     → (taken c.args.in_end m cs (take (i + 1) all) ≡ taken c.args.in_end m cs (take i all))
     → l ≡ c.loop-ecb.happened.items
     → (All (λ e. e.clause < length c.args.self.now.clauses.items) c.args.self.now.ecbs.items
-    → Adds shapes m.firing.cpu (taken c.args.in_end m cs (take (i + 1) all)) old l) =
+    → AddsTakings shapes m.firing.cpu (taken c.args.in_end m cs (take (i + 1) all)) old l) =
     λ l same is placed.
-    subst (λ ts. Adds shapes m.firing.cpu ts old l) (sym same)
-    (subst (λ x. Adds shapes m.firing.cpu (taken c.args.in_end m cs (take i all)) old x) (sym is)
+    subst (λ ts. AddsTakings shapes m.firing.cpu ts old l) (sym same)
+    (subst (λ x. AddsTakings shapes m.firing.cpu (taken c.args.in_end m cs (take i all)) old x) (sym is)
     (c.loop-ecb.invariant.adds placed)) in
     let grows : (l : List Happened) → (ecb.probe == m.firing.probe) ≡ true → c.loop-ecb.exit ≡ None
     → (ecb.clause < length c.args.self.now.clauses.items
-    → Adds shapes m.firing.cpu (taking_by c.args.in_end m cs ecb ∷ []) c.loop-ecb.happened.items l)
+    → AddsTakings shapes m.firing.cpu (taking_by c.args.in_end m cs ecb ∷ []) c.loop-ecb.happened.items l)
     → (All (λ e. e.clause < length c.args.self.now.clauses.items) c.args.self.now.ecbs.items
-    → Adds shapes m.firing.cpu (taken c.args.in_end m cs (take (i + 1) all)) old l) =
+    → AddsTakings shapes m.firing.cpu (taken c.args.in_end m cs (take (i + 1) all)) old l) =
     λ l its none one placed.
-    subst (λ ts. Adds shapes m.firing.cpu ts old l)
+    subst (λ ts. AddsTakings shapes m.firing.cpu ts old l)
     (sym (taken_here c.args.in_end m cs all i ecb inside is_at its (sym (c.loop-ecb.invariant.exit placed) ∙ none)))
     (adds_both shapes m.firing.cpu (taken c.args.in_end m cs (take i all)) (taking_by c.args.in_end m cs ecb ∷ [])
     old c.loop-ecb.happened.items l (c.loop-ecb.invariant.adds placed) (one (here placed))) in
@@ -69,7 +69,7 @@ loop-ecb-preserved c =
           let is = ap (λ (v : Vec Happened). v.items) w.happened-is in
           record {
             adds = λ placed.
-                subst (λ l. Adds shapes m.firing.cpu (taken c.args.in_end m cs (take (i + 1) all)) old l) (sym is)
+                subst (λ l. AddsTakings shapes m.firing.cpu (taken c.args.in_end m cs (take (i + 1) all)) old l) (sym is)
                 (grows w.take_one.new.happened.items its none w.in_ok-status.ensures.taken placed);
             exit = λ placed.
                 w.exit-is
@@ -83,7 +83,7 @@ loop-ecb-preserved c =
           let is = ap (λ (v : Vec Happened). v.items) w.happened-is in
           record {
             adds = λ placed.
-                subst (λ l. Adds shapes m.firing.cpu (taken c.args.in_end m cs (take (i + 1) all)) old l) (sym is)
+                subst (λ l. AddsTakings shapes m.firing.cpu (taken c.args.in_end m cs (take (i + 1) all)) old l) (sym is)
                 (grows w.take_one.new.happened.items its none w.in_ok-status.ensures.taken placed);
             exit = λ placed.
                 w.exit-is ∙ w.in_ok-status.ensures.exit (here placed)
@@ -125,7 +125,7 @@ returns-clause-taken c = λ placed.
     take_all c.loop-ecb.ecb-index c.deref-ecb-items.result.now (omega (arith, c.loop-ecb-test.false))
     ∙ c.deref-ecb-items.ensures.value in
     subst
-    (λ es. Adds (shapes_of c.args.self.now.shapes) m.firing.cpu (taken c.args.in_end m cs es)
+    (λ es. AddsTakings (shapes_of c.args.self.now.shapes) m.firing.cpu (taken c.args.in_end m cs es)
     c.args.happened.now.items c.loop-ecb.happened.items) all (c.loop-ecb.invariant.adds placed)
 
 pub returns-clause-exit : goal.returns-clause-exit

@@ -4,14 +4,14 @@ use Rattle.std.specs.List.{All}
 use Rattle.dt_ecb.specs.Forms.{shapes_of}
 use Rattle.dt_lang.specs.Program.{form_of_clause}
 use Rattle.dt_machine.specs.Moment.{form_of_moment}
-use Rattle.dt_alone.specs.Happened.{Adds}
+use Rattle.dt_alone.specs.Happened.{AddsTakings}
 use Rattle.dt_alone.proofs.Firing.{exited, taken}
 use Rattle.dt_alone.proofs.programs.Programs.take.Given as goal
 
 abbrev pub invariant-loop-ecb : goal.invariant-loop-ecb
 invariant-loop-ecb l = record {
   adds : All (λ ecb. ecb.clause < length l.self.clauses.items) l.self.ecbs.items
-      → Adds (shapes_of l.self.shapes) (form_of_moment l.moment).firing.cpu
+      → AddsTakings (shapes_of l.self.shapes) (form_of_moment l.moment).firing.cpu
       (taken l.in_end (form_of_moment l.moment) (map form_of_clause l.self.clauses.items)
       (take l.ecb-index l.ecb-items)) l.fn.happened.items l.happened.items;
   exit : All (λ ecb. ecb.clause < length l.self.clauses.items) l.self.ecbs.items

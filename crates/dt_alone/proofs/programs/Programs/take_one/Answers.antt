@@ -6,7 +6,7 @@ use Rattle.dt_lang.specs.Program.{form_of_clause}
 use Rattle.dt_record.specs.Forms.{form_of_taken, outcome_of}
 use Rattle.dt_record.specs.Taking.{leaves, taking}
 use Rattle.dt_machine.specs.Moment.{form_of_moment}
-use Rattle.dt_alone.specs.Happened.{Adds}
+use Rattle.dt_alone.specs.Happened.{AddsTakings}
 use Rattle.dt_alone.proofs.Bringing.{adds_left}
 use Rattle.dt_alone.proofs.Leaving.{left_given, outcome_is}
 use Rattle.dt_life.specs.Following.{taking_by}
@@ -27,7 +27,7 @@ returns-in_ok-push-in-Ok-Some-clause-taken c = λ inside.
     ap (λ (s : SceneForm). taking c.args.ecb.epid s (form_of_clause clause)) (sym c.scene_at.ensures)
     ∙ c.in-Ok-Some.ensures ∙ ap outcome_of c.in-Ok-Some.field-0-is in
     let t = taking_by c.args.in_end m (map form_of_clause clauses) c.args.ecb in
-    subst (λ items. Adds shapes m.firing.cpu (t ∷ []) c.args.happened.now.items items)
+    subst (λ items. AddsTakings shapes m.firing.cpu (t ∷ []) c.args.happened.now.items items)
     (sym c.in_ok-push-in-Ok-Some.ensures.items)
     (adds_left shapes m.firing.cpu t c.args.in_end left form c.args.happened.now.items
     (outcome_is shapes c.args.in_end m clauses c.args.ecb clause inside at (leaves form) comes) refl

@@ -2,7 +2,7 @@
 use Rattle.std.proofs.Common.{◌≡◌, ◌≢◌, ℕ, ◌∙◌, ap, sym, ◌++◌}
 use Rattle.dt_glob.specs.declared.sign.Sign.{Sign}
 use Rattle.dt_glob.specs.declared.sign.Sign.TheVariants.{Plain}
-use Rattle.dt_glob.specs.Sign.{byte_of, sign_text, star, question, opening}
+use Rattle.dt_glob.specs.Sign.{byte_of, sign_text, star, question, opening_bracket}
 use Rattle.dt_glob.specs.laws.Signs.{escaped_apart}
 use Rattle.dt_glob.proofs.TokenLemmas.{no_spelling, star_read, question_read, literal_read, set_read, set_token}
 use Rattle.dt_glob.proofs.token.Token.split_first.Goals as goal
@@ -28,7 +28,7 @@ returns-in-Plain-eq63-clause-some c items h =
 
 pub split_set-requires : goal.split_set-requires
 split_set-requires c =
-    let sign : c.in_ok-sign.sign ≡ opening =
+    let sign : c.in_ok-sign.sign ≡ opening_bracket =
     c.in-Plain-eq91.is ∙ ap Plain (sym c.in-Plain-eq91.field-0-is ∙ c.in-Plain-eq91.field-0-test) in
     let opens = c.in_ok-sign.ensures.some.1 ∙ ap (λ (s : Sign). sign_text s ++ c.in_ok-sign.rest.now) sign in
     let r = set_read c.args.text.now c.in_ok-sign.rest.now c.requires.0 opens c.requires.1 in
@@ -36,7 +36,7 @@ split_set-requires c =
 
 pub returns-in-Plain-eq91-clause-some : goal.returns-in-Plain-eq91-clause-some
 returns-in-Plain-eq91-clause-some c items h =
-    let sign : c.in_ok-sign.sign ≡ opening =
+    let sign : c.in_ok-sign.sign ≡ opening_bracket =
     c.in-Plain-eq91.is ∙ ap Plain (sym c.in-Plain-eq91.field-0-is ∙ c.in-Plain-eq91.field-0-test) in
     let opens = c.in_ok-sign.ensures.some.1 ∙ ap (λ (s : Sign). sign_text s ++ c.in_ok-sign.rest.now) sign in
     let r = set_read c.args.text.now c.in_ok-sign.rest.now items opens h in

@@ -6,7 +6,7 @@ use Rattle.std.specs.List.{slice_get}
 use Rattle.std.specs.Bool.{then_some}
 use Rattle.dt_cred.specs.declared.firing.Firing.{Firing}
 use Rattle.dt_steps.specs.Stands.{due_of, due_in, place_of}
-use Rattle.dt_steps.specs.World.{Due}
+use Rattle.dt_steps.specs.World.{DueOffer}
 use Rattle.dt_steps.proofs.Soundness.{sound-offering}
 use Rattle.dt_steps.proofs.Standing.{Found, kept-offering, kept-offering-none, kept-offering-past}
 use Rattle.dt_steps.proofs.Standing.{lent-looked, seen-offered, seen-none}
@@ -23,27 +23,27 @@ returns c = λ world at.
     let seats = c.args.self.now.seats.items in
     let processors = c.args.self.now.processors.items in
     let entries = c.args.self.now.entries in
-    let found : Found seats c.number.result c.args.seat c.index_mut-held.result.now = record {
+    let found : Found seats c.number.result c.args.seat c.index_mut-place.result.now = record {
       is = c.number.ensures.value;
       low = c.number.ensures.small;
-      read = c.index_mut-held.ensures.value;
+      read = c.index_mut-place.ensures.value;
     } in
-    let before = c.index_mut-looked.result.now in
+    let before = c.index_mut-due.result.now in
     let long = c.args.self.now.processors.ok.0 in
     let low : c.args.cpu < length processors = omega (arith, long, c.len.ensures, c.if-cpu-len.false) in
     let is : slice_get processors c.args.cpu ≡ Some before =
-    slice_get-get_or processors c.args.cpu before low ∙ ap Some (sym c.index_mut-looked.ensures.value) in
-    let due : Due = record { life = c.in_ok-life.life; firing = c.in_ok-life.moment.firing.now } in
+    slice_get-get_or processors c.args.cpu before low ∙ ap Some (sym c.index_mut-due.ensures.value) in
+    let due : DueOffer = record { life = c.in_ok-life.life; firing = c.in_ok-life.moment.firing.now } in
     let owes : due_of before c.args.seat ≡ Some due = c.in_ok-life.ensures.offer in
     let lent = lent-looked registry world seats entries processors at.0 at.1 c.args.cpu before c.in_ok-life.moment is
     c.in_ok-life.ensures.lent in
     let seen = seen-offered registry world seats entries processors at.0 at.1 c.args.cpu c.number.result c.args.seat
-    c.index_mut-held.result.now before due found is owes c.deliver.result
+    c.index_mut-place.result.now before due found is owes c.deliver.result
     (λ place held. c.deliver.ensures.seen place held lent) in (
       (
         sound-offering registry world at.0 c.args.cpu c.args.seat,
         kept-offering registry world seats entries processors at.0 at.1 c.args.cpu c.number.result c.args.seat
-            c.index_mut-held.result.now c.deliver.new.self before c.take.new.self due found is owes
+            c.index_mut-place.result.now c.deliver.new.self before c.take.new.self due found is owes
             c.in_ok-life.ensures.taken c.in_ok-life.ensures.moment
             (λ place held. c.deliver.ensures.reached place held lent),
       ),
@@ -55,16 +55,16 @@ returns-in_err-life c = λ world at.
     let registry = c.args.machine.now.registry in
     let seats = c.args.self.now.seats.items in
     let processors = c.args.self.now.processors.items in
-    let before = c.index_mut-looked.result.now in
+    let before = c.index_mut-due.result.now in
     let long = c.args.self.now.processors.ok.0 in
     let low : c.args.cpu < length processors = omega (arith, long, c.len.ensures, c.if-cpu-len.false) in
     let is : slice_get processors c.args.cpu ≡ Some before =
-    slice_get-get_or processors c.args.cpu before low ∙ ap Some (sym c.index_mut-looked.ensures.value) in
+    slice_get-get_or processors c.args.cpu before low ∙ ap Some (sym c.index_mut-due.ensures.value) in
     let none : due_of before c.args.seat ≡ None = c.in_err-life.ensures.none in (
       (
         sound-offering registry world at.0 c.args.cpu c.args.seat,
         kept-offering-none registry world seats c.args.self.now.entries processors at.0 at.1 c.args.cpu c.args.seat
-            before c.take.new.self low c.index_mut-looked.ensures.value c.in_err-life.ensures.same none,
+            before c.take.new.self low c.index_mut-due.ensures.value c.in_err-life.ensures.same none,
       ),
       c.from_residual.ensures ∙ sym (ap (option_map place_of)
           (seen-none registry world seats c.args.self.now.entries processors at.0 at.1

@@ -21,15 +21,15 @@ returns-in-Some c =
     let line = form_asked done.line in
     let answers : IsAnswered registry now.world world seat (Some done.text.items) =
     subst (IsAnswered registry now.world world seat) (ap (option_map (λ one. one.text.items)) c.in-Some.is)
-    (c.in_ok-finished.ensures.answer now.world before.at) in
+    (c.finish.ensures.answer now.world before.at) in
     let f = finishing-answers registry now.world seat done.text.items answers in
-    let same = some_of _ done _ c.in-Some.is c.in_ok-finished.ensures.line now.world f.answers.session f.pending
+    let same = some_of _ done _ c.in-Some.is c.finish.ensures.line now.world f.answers.session f.pending
     before.at f.answers.present f.go in
     let first : c.is_first-is_first.result ≡ is_some (first_account (now.world.places seat)) =
     c.is_first-is_first.ensures registry now.world before.at in
     after-told wanted c.args.machine.now now world c.args.self.now
     (record { engine = c.finish.new.self; taken = c.args.self.now.taken; output = c.reply.new.self })
-    before (c.in_ok-finished.ensures.at now.world before.at) refl
+    before (c.finish.ensures.at now.world before.at) refl
     (λ w. reply_told w seat (is_some (first_account (now.world.places seat))) line done.text.items false)
     (rw (← first, ← c.deref.ensures.value, ← c.lent.ensures) tells)
     (λ told. subst (λ one. IsTold wanted registry world (c.args.self.now.output.text.items
@@ -46,8 +46,8 @@ returns-in-None c = λ wanted now before.
     let world = finishing now.world seat in
     let none : IsAnswered registry now.world world seat None =
     subst (IsAnswered registry now.world world seat) (ap (option_map (λ one. one.text.items)) c.in-None.is)
-    (c.in_ok-finished.ensures.answer now.world before.at) in
+    (c.finish.ensures.answer now.world before.at) in
     after-untold wanted c.args.machine.now now world c.args.self.now
     (record { engine = c.finish.new.self; taken = c.args.self.now.taken; output = c.args.self.now.output })
-    before (c.in_ok-finished.ensures.at now.world before.at) refl refl
+    before (c.finish.ensures.at now.world before.at) refl refl
     (told-unfinished registry now.world wanted seat c.args.self.now.output.text.items none)

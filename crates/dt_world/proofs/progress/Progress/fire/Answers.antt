@@ -9,11 +9,11 @@ use Rattle.dt_world.proofs.Offers.{in_order, order_first, order_none, order_due,
 use Rattle.dt_world.proofs.progress.Progress.fire.Goals as goal
 
 pub loop-seat-init : goal.loop-seat-init
-loop-seat-init c = λ wanted now there before.
-    let answer = c.in-Some.ensures.answer wanted now there before in (
+loop-seat-init c = λ wanted now before.
+    let answer = c.in-Some.ensures.answer wanted now before in (
       [],
-      order_due c.args.machine.now now c.args.cpu answer.0 c.in-Some.named answer.1 answer.2,
-      c.in-Some.ensures.after wanted now there before,
+      order_due c.args.machine.now now c.args.cpu answer.0 c.in-Some.left answer.1 answer.2,
+      c.in-Some.ensures.after wanted now before,
     )
 
 pub loop-seat-smaller : goal.loop-seat-smaller
@@ -28,11 +28,11 @@ loop-seat-smaller c =
     shorter
 
 pub loop-seat-preserved : goal.loop-seat-preserved
-loop-seat-preserved c = λ wanted now there before.
+loop-seat-preserved c = λ wanted now before.
     let contents = c.args.machine.now in
     let cpu = c.args.cpu in
     let seat = c.in-Some-first.seat in
-    let so = c.loop-seat.invariant wanted now there before in
+    let so = c.loop-seat.invariant wanted now before in
     let low : seat < SEATS = search rules in
     let first =
     order_first c.loop-seat.left c.remove.new.self seat low c.in-Some-first.ensures.0
@@ -46,11 +46,11 @@ loop-seat-preserved c = λ wanted now there before.
     )
 
 pub returns : goal.returns
-returns c = λ wanted now there before.
+returns c = λ wanted now before.
     let contents = c.args.machine.now in
     let cpu = c.args.cpu in
-    let answer = c.in-Some.ensures.answer wanted now there before in
-    let so = c.loop-seat.invariant wanted now there before in
+    let answer = c.in-Some.ensures.answer wanted now before in
+    let so = c.loop-seat.invariant wanted now before in
     let none = order_none c.loop-seat.left c.in_default-first.ensures in
     let all : so.0 ≡ seats_due (after_step_line contents now (look_line cpu)).world cpu =
     sym (append-nil so.0) ∙ ap (λ rest. so.0 ++ rest) (sym none) ∙ so.1 in

@@ -9,7 +9,8 @@ use Rattle.dt_world.proofs.Trails.{told-looked}
 use Rattle.dt_world.proofs.progress.Progress.look.Goals as goal
 
 pub returns-in_err-named-clause-after : goal.returns-in_err-named-clause-after
-returns-in_err-named-clause-after c = λ wanted now there before.
+returns-in_err-named-clause-after c = λ wanted now before.
+    let there = c.requires in
     let contents = c.args.machine.now in
     let cpu = c.args.cpu in
     let sound = c.firing.ensures.sound in
@@ -32,7 +33,8 @@ returns-in_err-named-clause-after c = λ wanted now there before.
     })
 
 pub returns-in_err-named-clause-answer : goal.returns-in_err-named-clause-answer
-returns-in_err-named-clause-answer c = λ wanted now there before.
+returns-in_err-named-clause-answer c = λ wanted now before.
+    let there = c.requires in
     let contents = c.args.machine.now in
     let cpu = c.args.cpu in
     let sound = c.firing.ensures.sound in
@@ -45,7 +47,8 @@ returns-in_err-named-clause-answer c = λ wanted now there before.
     rw c.from_residual-in_err-named.ensures (next_not_done contents now cpu left.0)
 
 pub returns-clause-after : goal.returns-clause-after
-returns-clause-after c = λ wanted now there before.
+returns-clause-after c = λ wanted now before.
+    let there = c.requires in
     let contents = c.args.machine.now in
     let cpu = c.args.cpu in
     let sound = c.firing.ensures.sound in
@@ -80,7 +83,8 @@ returns-clause-after c = λ wanted now there before.
     })
 
 pub returns-clause-answer : goal.returns-clause-answer
-returns-clause-answer c = λ wanted now there before.
+returns-clause-answer c = λ wanted now before.
+    let there = c.requires in
     let contents = c.args.machine.now in
     let cpu = c.args.cpu in
     let sound = c.firing.ensures.sound in

@@ -11,7 +11,7 @@ use Rattle.dt_world.proofs.Silences.{closing_silent, closing_views}
 use Rattle.dt_world.proofs.progress.Progress.take.Goals as goal
 
 pub returns-in-Close : goal.returns-in-Close
-returns-in-Close c = λ wanted now few known before.
+returns-in-Close c = λ wanted now few before.
     let contents = c.args.machine.now in
     subst
     (λ step. IsAfter wanted contents (after_step_line contents now (form_of_step_line step))
@@ -24,7 +24,7 @@ returns-in-Close c = λ wanted now few known before.
     (closing_views now.world c.in-Close.seat) refl)
 
 pub returns-in-Withdraw : goal.returns-in-Withdraw
-returns-in-Withdraw c = λ wanted now few known before.
+returns-in-Withdraw c = λ wanted now few before.
     let contents = c.args.machine.now in
     subst
     (λ step. IsAfter wanted contents (after_step_line contents now (form_of_step_line step))
@@ -38,7 +38,7 @@ returns-in-Withdraw c = λ wanted now few known before.
 pub returns-in-Publish : goal.returns-in-Publish
 returns-in-Publish c =
     on_ok_weaker c.publish.result
-    (λ does wanted now few known before.
+    (λ does wanted now few before.
     let contents = c.args.machine.now in
     subst
     (λ step. IsAfter wanted contents (after_step_line contents now (form_of_step_line step))

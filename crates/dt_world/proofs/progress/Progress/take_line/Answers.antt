@@ -28,5 +28,5 @@ returns-clause-taken c = λ _ wanted lines small before.
     c.take.new.self
     before (written c.args.line.now c.if-is_empty.ensures) c.in-Some.ensures.found on
     (c.in_ok-take.ensures wanted (replayed contents before.forms)
-    (room wanted contents lines c.args.self.now before small) on
+    (room wanted contents lines c.args.self.now before small)
     before.after)

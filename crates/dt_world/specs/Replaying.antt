@@ -1,0 +1,34 @@
+-- What a replay writes, and why it fails: from the bytes of a machine file and of an input to those that are written.
+use Rattle.std.specs.Prelude.{◌≡◌, ◌≢◌, ℕ, List, Option, IfSome, take}
+use Rattle.std.specs.Io.KnownBytes.{Appends, Keeps}
+use Rattle.dt_machine.specs.Reading.{IsDescribed, IsFaultOf}
+use Rattle.dt_machine.specs.Registry.{Contents}
+use Rattle.dt_machine.specs.Sections.{NowhereIfMemory, UnlessMemory}
+use Rattle.dt_machine.specs.declared.fault.MachineFault.{MachineFault}
+use Rattle.dt_world.specs.Faults.{IsOfMachine}
+use Rattle.dt_world.specs.Input.{input_lines, IsRefused}
+use Rattle.dt_world.specs.declared.replays.ReplayFault.{ReplayFault}
+use Rattle.dt_world.specs.declared.replays.ReplayFault.TheVariants.{Machine, Line, Write}
+
+-- `IsWanted` says which text an input has to be answered with on a machine. The machine file is given by its bytes, and the
+-- input and what is written by theirs, where those are known.
+module _ (IsWanted : Contents → (text output : List ℕ) → Type 0) (file : List ℕ) (input before after : Option (List ℕ)) where
+  -- What is written is what the definition gives to what was read.
+  abbrev pub HasReplayed : Type 0
+  HasReplayed = IfSome input (λ text.
+      (contents : Contents) × (output : List ℕ) × IsDescribed file contents × IsWanted contents text output
+      × Appends before after output)
+
+  pub record HasFailed (fault : ReplayFault) : Type 0 where
+    -- The machine file is tested first: it is named where it is refused. Every other fault comes after it was read.
+    pub machine : (refused : MachineFault) → fault ≡ Machine refused
+        → NowhereIfMemory refused × UnlessMemory refused (IsFaultOf file refused)
+    pub described : (IsOfMachine fault → ⊥) → (contents : Contents) × IsDescribed file contents
+    -- A line is named where it is the first that is refused.
+    pub line : (n : ℕ) → fault ≡ Line n → IfSome input (λ text.
+        (contents : Contents) × IsDescribed file contents × IsRefused contents.registry (input_lines text) n)
+    -- Only a write that fails leaves anything written: a beginning of what would have been.
+    pub nothing_written : fault ≢ Write → Keeps before after
+    pub beginning_written : fault ≡ Write → IfSome input (λ text.
+        (contents : Contents) × (output : List ℕ) × (count : ℕ) × IsDescribed file contents
+        × IsWanted contents text output × Appends before after (take count output))
