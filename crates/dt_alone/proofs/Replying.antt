@@ -1,14 +1,12 @@
 -- A runner after a command.
 use Rattle.std.proofs.Common.{◌≡◌, ℕ, ◌+◌, ◌-◌, ◌<◌, ◌==◌, ◌&&◌, Bool, true, false, not, cond, List, [], ◌∷◌, ◌++◌}
 use Rattle.std.proofs.Common.{length, map, Option, Some, None, Ok, refl, sym, ap, ◌∙◌, subst, ⊎_elim, arith}
-use Rattle.std.specs.List.{All, find}
+use Rattle.std.specs.List.{All}
 use Rattle.std.specs.Option.{IfSome, MatchOption, is_some, option_and_then, option_map}
 use Rattle.std.proofs.lemmas.Bool.{cases_Bool, ne_eqb}
 use Rattle.std.proofs.lemmas.List.{length-map, map-append}
-use Rattle.std.proofs.lemmas.List.Elements.{recursion_from_All}
 use Rattle.dt_cred.specs.declared.account.Account.{Account}
-use Rattle.dt_cred.specs.declared.probe.Probe.{Probe}
-use Rattle.dt_machine.specs.Registry.{Registry, probe_of}
+use Rattle.dt_machine.specs.Registry.{Registry}
 use Rattle.dt_lang.specs.Program.{ClauseForm, form_of_clause}
 use Rattle.dt_lang.specs.Reads.{Reading, Reads, program, fault, destructive}
 use Rattle.dt_lang.specs.declared.fault.LangFault.{LangFault}
@@ -42,7 +40,7 @@ use Rattle.dt_life.specs.Life.{lines, next_epid, phase, phase_of, set_up, shapes
 use Rattle.dt_life.specs.Life.{with_options, with_program}
 use Rattle.dt_life.specs.Options.{OptionsForm, Setting, is_fill, with_setting}
 use Rattle.dt_life.specs.Refusal.{refused_as}
-use Rattle.dt_life.specs.Reply.{Accepted, known, IsVerdictOnCommand, ecb_of, refusal_of}
+use Rattle.dt_life.specs.Reply.{Accepted, known, IsVerdictOnCommand, refusal_of}
 use Rattle.dt_life.specs.Stores.{given_since}
 use Rattle.dt_life.specs.Takings.{TracingEvent, began, ended, snapped, truncated, faults as failures, taken_since}
 use Rattle.dt_life.specs.declared.phase.End.TheVariants as ends
@@ -58,7 +56,6 @@ use Rattle.dt_life.specs.laws.Placed.{are_both}
 use Rattle.dt_life.specs.laws.Verdicts.{snap_taken, some_trunc, stop_taken, stopped_by, truncated_by, idle_program}
 use Rattle.dt_life.specs.laws.Verdicts.{idle_unset, option_refused, option_taken, program_added, program_verdict}
 use Rattle.dt_life.specs.laws.Verdicts.{set_by}
-use Rattle.dt_life.specs.laws.Lists.{find-map, find_all}
 use Rattle.dt_life.specs.laws.Placed.{are_placed}
 use Rattle.dt_alone.proofs.Running.{Told, has_since, told_read, told_truncated}
 
@@ -485,45 +482,3 @@ module _ (account : Account) (registry : Registry) (life : List Item) (r : Runne
       (refuses (enable (destructive at what)) (refusals.Destructive at what)
       (destructive_refused account registry life at what off) refl))
   text_refused text faults.Memory refusal one reads found e off = cc
-
--- the ECB of a number
-module _ (account : Account) (registry : Registry) (r : Runner) (life : List Item)
-    (k : Has account registry (set_up account registry life) r) (epid : ℕ) where
-  abbrev own : SetUp
-  own = set_up account registry life
-
-  abbrev with_probe : EcbForm → Option (Probe × EcbForm)
-  with_probe ecb = option_map (λ probe. (probe, ecb)) (probe_of registry ecb.probe)
-
-  ecb_found : (o : Option Ecb) → o ≡ find (λ (ecb : Ecb). ecb.epid == epid) r.programs.ecbs.items
-      → ecb_of account registry life epid ≡ option_and_then with_probe (option_map (form_of_ecb own.clauses) o)
-  ecb_found o e =
-      ap (λ es. option_and_then with_probe (find (λ (ecb : EcbForm). ecb.epid == epid) es)) (sym k.ecbs.forms)
-      ∙ ap
-      (option_and_then with_probe)
-      (find-map (form_of_ecb own.clauses) (λ (ecb : EcbForm). ecb.epid == epid) r.programs.ecbs.items
-      ∙ ap (option_map (form_of_ecb own.clauses)) (sym e))
-
-  pub ecb_none : None ≡ find (λ (ecb : Ecb). ecb.epid == epid) r.programs.ecbs.items
-      → ecb_of account registry life epid ≡ None
-  ecb_none e = ecb_found None e
-
-  module _ (ecb : Ecb) (is : Some ecb ≡ find (λ (ecb : Ecb). ecb.epid == epid) r.programs.ecbs.items) where
-    pub probe_none : None ≡ probe_of registry ecb.probe → ecb_of account registry life epid ≡ None
-    probe_none e =
-        ecb_found (Some ecb) is
-        ∙ ap (λ o. option_map (λ (probe : Probe). (probe, form_of_ecb own.clauses ecb)) o) (sym e)
-
-    pub ecb_some : (probe : Probe) → Some probe ≡ probe_of registry ecb.probe
-        → ecb_of account registry life epid ≡ Some (probe, form_of_ecb own.clauses ecb)
-    ecb_some probe e =
-        ecb_found (Some ecb) is
-        ∙ ap (λ o. option_map (λ (probe : Probe). (probe, form_of_ecb own.clauses ecb)) o) (sym e)
-
-    -- its clause is there
-    pub clause_known : ecb.clause < length r.programs.clauses.items
-    clause_known =
-        let there : ecb.clause < length (set_up account registry life).clauses =
-        find_all (λ (e : Ecb). e.clause < length (set_up account registry life).clauses) _ r.programs.ecbs.items
-        ecb (recursion_from_All _ r.programs.ecbs.items k.ecbs.placed) (sym is) in
-        omega (arith, there, ap length k.clauses, length-map r.programs.clauses.items form_of_clause)

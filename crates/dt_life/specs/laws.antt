@@ -20,5 +20,6 @@ pub mod Keeping
 pub mod Phases
 pub mod Counted
 pub mod Scenes
+pub mod Numbered
 pub mod Records
 pub mod Shown

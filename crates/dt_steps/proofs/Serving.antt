@@ -17,7 +17,6 @@ use Rattle.dt_life.specs.Reply.{Replies}
 use Rattle.dt_life.specs.Sees.{Sees}
 use Rattle.dt_consumer.specs.StandsFor.{StandsFor}
 use Rattle.dt_consumer.specs.declared.consumer.Consumer.{Consumer}
-use Rattle.dt_consumer.specs.declared.draft.Draft.{Draft}
 use Rattle.dt_life.specs.declared.phase.Phase.{Phase}
 use Rattle.dt_life.specs.declared.phase.Phase.TheVariants.{Inactive, Active, Stopped}
 use Rattle.dt_life.specs.declared.refusal.Refusal.{Refusal}
@@ -25,7 +24,6 @@ use Rattle.dt_proto.specs.Asked.{form_asked}
 use Rattle.dt_proto.specs.Line.{ask_in}
 use Rattle.dt_proto.specs.Lines.{LineForm}
 use Rattle.dt_proto.specs.Reply.{reply_text}
-use Rattle.dt_proto.specs.declared.asked.Asked.{Asked}
 use Rattle.dt_steps.specs.Ready.{GoIsReady}
 use Rattle.dt_steps.specs.Stands.{IsWaiting, IsPending, IsServed, IsSession, IsAsked, IsFinishing}
 use Rattle.dt_life.specs.Tests.{is_seen}

@@ -4,30 +4,30 @@ use Rattle.dt_lang.specs.Program.{ClauseForm, form_of_clause}
 use Rattle.dt_record.specs.Layout.{layout_of}
 use Rattle.dt_record.specs.Fields.{form_of_layout}
 use Rattle.dt_ecb.specs.Forms.{no_clause}
-use Rattle.dt_alone.proofs.Replying.{clause_known, ecb_none, ecb_some, probe_none}
 use Rattle.dt_life.specs.Answer.{described}
 use Rattle.dt_life.specs.Life.{set_up}
 use Rattle.dt_life.specs.laws.Takings.{clause_found}
 use Rattle.dt_life.specs.laws.Options.{match_none, match_some}
+use Rattle.dt_life.specs.laws.Numbered.{ecb_none, probe_none, ecb_some, clause_known}
 use Rattle.dt_life.specs.laws.Placed.{number_found}
 use Rattle.dt_alone.proofs.runner.Runner.description.Goals as goal
 
 pub returns-in_err-ecb : goal.returns-in_err-ecb
 returns-in_err-ecb c = λ account life h.
     match_none _ _ _
-    (ecb_none account c.args.machine.now.registry c.args.self.now life h c.args.epid c.in_err-ecb.ensures)
+    (ecb_none account c.args.machine.now.registry life c.args.self.now.programs.ecbs.items h.ecbs c.args.epid c.in_err-ecb.ensures)
     c.from_residual.ensures
 
 pub returns-in_err-probe : goal.returns-in_err-probe
 returns-in_err-probe c = λ account life h.
     match_none _ _ _
-    (probe_none account c.args.machine.now.registry c.args.self.now life h c.args.epid c.in_ok-ecb.ecb.now
+    (probe_none account c.args.machine.now.registry life c.args.self.now.programs.ecbs.items h.ecbs c.args.epid c.in_ok-ecb.ecb.now
     c.in_ok-ecb.ensures c.in_err-probe.ensures.value) c.from_residual-in_err-probe.ensures
 
 pub returns-in_err-clause : goal.returns-in_err-clause
 returns-in_err-clause c = λ account life h.
-    let known = clause_known account c.args.machine.now.registry c.args.self.now life h c.args.epid
-    c.in_ok-ecb.ecb.now c.in_ok-ecb.ensures in
+    let known = clause_known account c.args.machine.now.registry life c.args.self.now.programs.ecbs.items h.ecbs c.args.epid
+    c.in_ok-ecb.ecb.now c.in_ok-ecb.ensures c.args.self.now.programs.clauses.items h.clauses in
     absurd (omega (arith, known, ap length c.deref.ensures.value, c.in_err-clause.ensures.lookup))
 
 pub returns : goal.returns
@@ -40,11 +40,12 @@ returns c = λ account life h.
     ≡ layout_of (form_of_clause c.in_ok-clause.clause.now) =
     ap (λ (cs : List ClauseForm). layout_of (get_or cs c.in_ok-ecb.ecb.now.clause no_clause)) (sym h.clauses)
     ∙ ap layout_of (clause_found c.args.self.now.programs.clauses.items ecb.clause clause
-    (clause_known account registry c.args.self.now life h c.args.epid ecb c.in_ok-ecb.ensures)
+    (clause_known account registry life c.args.self.now.programs.ecbs.items h.ecbs c.args.epid ecb c.in_ok-ecb.ensures
+    c.args.self.now.programs.clauses.items h.clauses)
     (c.in_ok-clause.ensures.lookup.3.1 clause
     ∙ ap (λ xs. get_or xs c.in_ok-ecb.ecb.now.clause c.in_ok-clause.clause.now) c.deref.ensures.value)) in
     match_some _ _ _ _
-    (ecb_some account registry c.args.self.now life h c.args.epid ecb
+    (ecb_some account registry life c.args.self.now.programs.ecbs.items h.ecbs c.args.epid ecb
     c.in_ok-ecb.ensures c.in_ok-probe.probe.now c.in_ok-probe.ensures.value) (
       _,
       refl,

@@ -7,27 +7,27 @@ use Rattle.dt_ecb.specs.Forms.{no_clause}
 use Rattle.dt_life.specs.Answer.{described}
 use Rattle.dt_life.specs.Life.{set_up}
 use Rattle.dt_life.specs.laws.Takings.{clause_found}
-use Rattle.dt_consumer.proofs.Telling.{ecb_none, probe_none, ecb_some, clause_known}
 use Rattle.dt_life.specs.laws.Options.{match_none, match_some}
+use Rattle.dt_life.specs.laws.Numbered.{ecb_none, probe_none, ecb_some, clause_known}
 use Rattle.dt_life.specs.laws.Placed.{number_found}
 use Rattle.dt_consumer.proofs.consumer.Consumer.description.Goals as goal
 
 pub returns-in_err-ecb : goal.returns-in_err-ecb
 returns-in_err-ecb c = λ account life s.
     match_none _ _ _
-    (ecb_none account c.args.machine.now.registry c.args.self.now life s.keeps c.args.epid c.in_err-ecb.ensures)
+    (ecb_none account c.args.machine.now.registry life c.args.self.now.programs.ecbs.items s.keeps.ecbs c.args.epid c.in_err-ecb.ensures)
     c.from_residual.ensures
 
 pub returns-in_err-probe : goal.returns-in_err-probe
 returns-in_err-probe c = λ account life s.
     match_none _ _ _
-    (probe_none account c.args.machine.now.registry c.args.self.now life s.keeps c.args.epid c.in_ok-ecb.ecb.now
+    (probe_none account c.args.machine.now.registry life c.args.self.now.programs.ecbs.items s.keeps.ecbs c.args.epid c.in_ok-ecb.ecb.now
     c.in_ok-ecb.ensures c.in_err-probe.ensures.value) c.from_residual-in_err-probe.ensures
 
 pub returns-in_err-clause : goal.returns-in_err-clause
 returns-in_err-clause c = λ account life s.
-    let known = clause_known account c.args.machine.now.registry c.args.self.now life s.keeps c.args.epid
-    c.in_ok-ecb.ecb.now c.in_ok-ecb.ensures in
+    let known = clause_known account c.args.machine.now.registry life c.args.self.now.programs.ecbs.items s.keeps.ecbs c.args.epid
+    c.in_ok-ecb.ecb.now c.in_ok-ecb.ensures c.args.self.now.programs.clauses.items s.keeps.clauses in
     absurd (omega (arith, known, ap length c.clauses.ensures.value, c.in_err-clause.ensures.lookup))
 
 pub returns : goal.returns
@@ -44,7 +44,7 @@ returns c = λ account life s.
     (c.in_ok-clause.ensures.lookup.3.1 clause
     ∙ ap (λ xs. get_or xs c.in_ok-ecb.ecb.now.clause c.in_ok-clause.clause.now) c.clauses.ensures.value)) in
     match_some _ _ _ _
-    (ecb_some account registry c.args.self.now life s.keeps c.args.epid ecb
+    (ecb_some account registry life c.args.self.now.programs.ecbs.items s.keeps.ecbs c.args.epid ecb
     c.in_ok-ecb.ensures c.in_ok-probe.probe.now c.in_ok-probe.ensures.value) (
       _,
       refl,
