@@ -11,3 +11,4 @@ pub mod Registries
 pub mod Searching
 pub mod Soundness
 pub mod Spelling
+pub mod Told

@@ -1,5 +1,5 @@
 //! The machine, and the reading of its file.
-ghost use Rattle.std.specs.Prelude.{◌≡◌, ◌≢◌, IfOk, IfErr, MatchOption};
+ghost use Rattle.std.specs.Prelude.{◌≡◌, ◌≢◌, None, IfOk, IfErr, MatchOption};
 ghost use Rattle.std.specs.Option.{option_copied};
 ghost use Rattle.serde_json.specs.Data.{Data};
 ghost use Rattle.serde_json.specs.View.{view};
@@ -8,6 +8,7 @@ ghost use Rattle.dt_machine.specs.Sections.{NowhereIfMemory};
 
 use crate::belonging::first_foreign;
 use crate::fault::{FaultNumber, MachineFault};
+use crate::found::{Key, Part};
 use crate::keys::list_at;
 use crate::moment::Moment;
 use crate::scripts::read_scripts;
@@ -62,11 +63,18 @@ impl Machine {
         let scripts = read_scripts(alloc, &sections, list_at(&file, "scripts"))?;
         drop(file);
         match first_foreign(&sections, scripts.as_slice()) {
-            Some((cpu, row)) => Err(MachineFault {
-                number: FaultNumber::Foreign,
-                cpu,
-                row,
-            }),
+            Some((cpu, row)) => {
+                let firing = Part::Firing {
+                    cpu: cpu as usize,
+                    row: row as usize,
+                };
+                Err(MachineFault {
+                    number: FaultNumber::Foreign,
+                    cpu,
+                    row,
+                    found: Some(firing.has(Key::Pid)),
+                })
+            }
             None => Ok(Machine::new(sections, scripts)),
         }
     }
@@ -148,7 +156,7 @@ fn parse(alloc: Global, text: &[u8]) -> Result<Value, MachineFault>
     ensures ok { IfOk result (λ value. IsJson text.now (view value)) }
     ensures memory { IfErr result NowhereIfMemory }
     ensures fault { IfErr result (λ fault. fault.number ≢ FaultNumber.Memory
-        → ((d : Data) → IsJson text.now d → ⊥) × (fault ≡ record { number = FaultNumber.Json; cpu = 0; row = 0 })) }
+        → ((d : Data) → IsJson text.now d → ⊥) × (fault ≡ record { number = FaultNumber.Json; cpu = 0; row = 0; found = None })) }
 {
     match Value::from_slice(alloc, text) {
         Ok(value) => Ok(value),
