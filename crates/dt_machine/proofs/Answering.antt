@@ -13,6 +13,13 @@ use Rattle.dt_machine.specs.Reading.{processes_in, scripts_in}
 use Rattle.dt_machine.specs.Registry.{Registry, Contents, Belongs}
 use Rattle.dt_cred.specs.declared.account.Process.{Process as ProcessType}
 use Rattle.dt_machine.specs.declared.found.Found.{Found}
+use Rattle.dt_machine.specs.declared.found.Key.TheVariants as key
+use Rattle.dt_machine.specs.declared.found.Part.TheVariants as part
+use Rattle.dt_machine.specs.Given.{items, items_at, is_text, is_list_of}
+use Rattle.dt_machine.specs.Shape.{is_account, is_process, is_firing}
+use Rattle.dt_machine.specs.Found.{Else, of, IsFirstFound, IsFoundOfList, IsFoundOfShape, IsShapeOfAccount, IsShapeOfProcess}
+use Rattle.dt_machine.specs.Found.{IsShapeOfProbe, IsShapeOfFiring, IsShapeOfScript, IsShapeOfFile}
+use Rattle.std.proofs.Common.{Bool, true, codes}
 use Rattle.dt_machine.specs.Found.{Fails, IsFoundAt, IsFoundIn, IsFoundOfAccount, IsFoundOfProcess, IsFoundOfProbe, IsFoundOfFiring}
 use Rattle.dt_machine.specs.Rows.{AccountRow, ProcessRow, FiringRow, HasRoom, IsRightFiring, process, scripts}
 use Rattle.dt_machine.proofs.Faults.{one_number}
@@ -119,6 +126,13 @@ passes_finds Foreign d c i p f =
 passes_finds Memory d c i p f = f
 
 -- what is wrong first is one
+else_one : {C : Type 0} (Test Here There Now Later : Type 0) → (Here → There → C) → (Now → Later → C)
+    → Else Test Here Now → Else Test There Later → C
+else_one Test Here There Now Later here later (inl f) (inl g) = here f.1 g.1
+else_one Test Here There Now Later here later (inl f) (inr g) = absurd (f.0 g.0)
+else_one Test Here There Now Later here later (inr f) (inl g) = absurd (g.0 f.0)
+else_one Test Here There Now Later here later (inr f) (inr g) = later f.1 g.1
+
 fails_one : (a b this : Found) (Test Now Later : Type 0) → (Now → Later → a ≡ b) → Fails a this Test Now
     → Fails b this Test Later → a ≡ b
 fails_one a b this Test Now Later later (inl f) (inl g) = f.1 ∙ sym g.1
@@ -177,10 +191,64 @@ scripts_told : (cpus : ℕ) (all : List (List FiringRow)) (cpu : ℕ) (x y : Opt
     → IsFoundOfScripts cpus all cpu x → IsFoundOfScripts cpus all cpu y → x ≡ y
 scripts_told cpus all cpu x y f g = both_told _ (λ a b. fails_one a b _ _ _ _ (λ p q. p ∙ sym q)) x y f g
 
+first_of : (p : Data → Bool) (M : ℕ → Data → Found → Type 0) (rows : List Data) (a : Found)
+    (f : IsFirstFound p M rows a) → IsFirstWrong (λ _ d. p d ≡ true) rows f.at
+first_of p M rows a f = record {
+  row = f.row;
+  there = f.there;
+  wrong = λ right. false≢true (sym f.wrong ∙ right);
+  right_before = f.right_before;
+}
+
+list_told : (this : Found) (p : Data → Bool) (M : ℕ → Data → Found → Type 0)
+    → ((at : ℕ) (d : Data) (a b : Found) → M at d a → M at d b → a ≡ b) → (l : Option (List Data)) (a b : Found)
+    → IsFoundOfList this p M l a → IsFoundOfList this p M l b → a ≡ b
+list_told this p M one None a b f g = f ∙ sym g
+list_told this p M one (Some rows) a b f g =
+    let same = first_one (λ _ d. p d ≡ true) rows f.at g.at (first_of p M rows a f) (first_of p M rows b g) in
+    let moved : slice_get rows g.at ≡ Some f.row = ap (slice_get rows) (sym same) ∙ f.there in
+    let row = same_some f.row g.row (sym moved ∙ g.there) in
+    let F : ℕ → Type 0 = λ n. M n f.row a in
+    let G : Data → Type 0 = λ r. M g.at r a in
+    one g.at g.row a b (subst G row (subst F same f.tells)) g.tells
+
+account_shape_told : (at : ℕ) (d : Data) (a b : Found) → IsShapeOfAccount at d a → IsShapeOfAccount at d b → a ≡ b
+account_shape_told at d a b = fails_one a b _ _ _ _ (fails_one a b _ _ _ _ (fails_one a b _ _ _ _ (nothing_later a b)))
+
+process_shape_told : (at : ℕ) (d : Data) (a b : Found) → IsShapeOfProcess at d a → IsShapeOfProcess at d b → a ≡ b
+process_shape_told at d a b = fails_one a b _ _ _ _ (fails_one a b _ _ _ _ (fails_one a b _ _ _ _ (nothing_later a b)))
+
+probe_shape_told : (at : ℕ) (d : Data) (a b : Found) → IsShapeOfProbe at d a → IsShapeOfProbe at d b → a ≡ b
+probe_shape_told at d a b = fails_one a b _ _ _ _ (nothing_later a b)
+
+firing_shape_told : (cpu at : ℕ) (d : Data) (a b : Found) → IsShapeOfFiring cpu at d a → IsShapeOfFiring cpu at d b
+    → a ≡ b
+firing_shape_told cpu at d a b = fails_one a b _ _ _ _ (fails_one a b _ _ _ _ (fails_one a b _ _ _ _
+    (fails_one a b _ _ _ _ (fails_one a b _ _ _ _ (fails_one a b _ _ _ _ (fails_one a b _ _ _ _
+    (fails_one a b _ _ _ _ (nothing_later a b))))))))
+
+script_shape_told : (cpu : ℕ) (d : Data) (a b : Found) → IsShapeOfScript cpu d a → IsShapeOfScript cpu d b → a ≡ b
+script_shape_told cpu d a b = list_told (of (part.Script cpu) key.Scripts) is_firing (IsShapeOfFiring cpu)
+    (firing_shape_told cpu) (items d) a b
+
+file_shape_told : (d : Data) (a b : Found) → IsShapeOfFile d a → IsShapeOfFile d b → a ≡ b
+file_shape_told d a b = fails_one a b _ _ _ _
+    (else_one _ _ _ _ _ (list_told (of part.File key.Accounts) is_account IsShapeOfAccount account_shape_told
+    (items_at (codes "accounts") d) a b)
+    (else_one _ _ _ _ _ (list_told (of part.File key.Processes) is_process IsShapeOfProcess process_shape_told
+    (items_at (codes "processes") d) a b)
+    (else_one _ _ _ _ _ (list_told (of part.File key.Probes) is_text IsShapeOfProbe probe_shape_told
+    (items_at (codes "probes") d) a b)
+    (else_one _ _ _ _ _ (list_told (of part.File key.Scripts) (is_list_of is_firing) IsShapeOfScript script_shape_told
+    (items_at (codes "scripts") d) a b) (nothing_later a b)))))
+
+shape_told : (d : Data) (x y : Option Found) → IsFoundOfShape d x → IsFoundOfShape d y → x ≡ y
+shape_told d x y = else_one _ _ _ _ _ (λ f g. f ∙ sym g) (both_told (IsShapeOfFile d) (file_shape_told d) x y)
+
 told_one : (number : FaultNumber) (d : Data) (cpu row : ℕ) (x y : Option Found) → Tells number d cpu row x
     → Tells number d cpu row y → x ≡ y
 told_one Json d cpu row x y f g = f ∙ sym g
-told_one Shape d cpu row x y f g = f ∙ sym g
+told_one Shape d cpu row x y f g = shape_told d x y f g
 told_one Cpus d cpu row x y f g = f ∙ sym g
 told_one Account d cpu row x y f g = told_at IsFoundOfAccount _ row x y (account_told row) f g
 told_one Process d cpu row x y f g = told_at IsFoundOfProcess _ row x y (process_told row) f g

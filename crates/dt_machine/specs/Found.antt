@@ -1,6 +1,9 @@
 -- What of a row is wrong: the first of its tests that fails tells the key.
 use Rattle.std.specs.Prelude.{◌≡◌, ◌≢◌, ℕ, ◌+◌, ◌<◌, ◌≤◌, ◌^◌, ◌⊎◌, ◌++◌, ◌==◌, List, Option, Some, IsSome, IsSomeAnd, All, find, length, take, slice_get, codes}
+use Rattle.std.specs.Prelude.{Bool, true, false, None, is_some}
 use Rattle.std.specs.Fmt.{decimal}
+use Rattle.serde_json.specs.Data.{Data}
+use Rattle.serde_json.specs.Find.{as_object}
 use Rattle.dt_names.specs.Tuple.{SpellsTuple}
 use Rattle.dt_names.specs.declared.tuple.ProbeTuple.{ProbeTuple}
 use Rattle.dt_cred.specs.Class.{NamesProcess}
@@ -10,6 +13,8 @@ use Rattle.dt_machine.specs.declared.found.Key.{Key}
 use Rattle.dt_machine.specs.declared.found.Key.TheVariants as key
 use Rattle.dt_machine.specs.declared.found.Part.{Part}
 use Rattle.dt_machine.specs.declared.found.Part.TheVariants.{File, Account, Process, Probe, Script, Firing}
+use Rattle.dt_machine.specs.Given.{is_integer, is_text, is_list_of, has_field, may_have, items, items_at}
+use Rattle.dt_machine.specs.Shape.{is_account, is_process, is_numbers, is_firing}
 use Rattle.dt_machine.specs.Registry.{Registry, process_of}
 use Rattle.dt_machine.specs.Rows.{AccountRow, ProcessRow, FiringRow, IsAccountName, IsPriv, IsExecname, IsGivenBelow, IsMode, IsGivenProbe, AreArguments, AreGivenFrames}
 use Rattle.dt_machine.specs.Limits.{accounts_max, processes_max, probes_max, pid_max}
@@ -44,9 +49,13 @@ part_text (Probe row) = codes "probe " ++ decimal row
 part_text (Script cpu) = codes "processor " ++ decimal cpu
 part_text (Firing cpu row) = codes "firing " ++ (decimal row ++ (codes " of processor " ++ decimal cpu))
 
+-- Where the test fails, what stands here, and else what comes later.
+abbrev pub Else : (Test Here Later : Type 0) → Type 0
+Else Test Here Later = ((Test → ⊥) × Here) ⊎ (Test × Later)
+
 -- What is found is this where the test fails, and else what the later tests tell.
 abbrev pub Fails : (found this : Found) → (Test Later : Type 0) → Type 0
-Fails found this Test Later = ((Test → ⊥) × (found ≡ this)) ⊎ (Test × Later)
+Fails found this Test Later = Else Test (found ≡ this) Later
 
 abbrev pub of : Part → Key → Found
 of part key = record { key = key; part = part }
@@ -107,3 +116,67 @@ pub record IsFoundIn {A : Type 0} (IsFoundOf : ℕ → ℕ → List A → A → 
   pub script : List A
   pub there : slice_get scripts cpu ≡ Some script
   pub tells : IsFoundAt (IsFoundOf cpu) script at found
+
+-- The first row of a list that has not its shape, and what is found of it.
+pub record IsFirstFound (has_shape : Data → Bool) (IsFoundOf : ℕ → Data → Found → Type 0) (rows : List Data)
+    (found : Found) : Type 0 where
+  pub at : ℕ
+  pub row : Data
+  pub there : slice_get rows at ≡ Some row
+  pub wrong : has_shape row ≡ false
+  pub tells : IsFoundOf at row found
+  pub right_before : (k : ℕ) (earlier : Data) → k < at → slice_get rows k ≡ Some earlier → has_shape earlier ≡ true
+
+-- There is no list, and this is found; or what is found of its first row that has not its shape.
+abbrev pub IsFoundOfList : Found → (Data → Bool) → (ℕ → Data → Found → Type 0) → Option (List Data) → Found → Type 0
+IsFoundOfList this has_shape IsFoundOf None found = found ≡ this
+IsFoundOfList this has_shape IsFoundOf (Some rows) found = IsFirstFound has_shape IsFoundOf rows found
+
+-- What is found of a row that has not its shape: its first key that is missing or of the wrong kind.
+abbrev pub IsShapeOfAccount : ℕ → Data → Found → Type 0
+IsShapeOfAccount at d found =
+    Fails found (of (Account at) key.Name) (has_field (codes "name") is_text d ≡ true)
+    (Fails found (of (Account at) key.Uid) (has_field (codes "uid") is_integer d ≡ true)
+    (Fails found (of (Account at) key.Privs) (has_field (codes "privs") (is_list_of is_text) d ≡ true) ⊥))
+
+abbrev pub IsShapeOfProcess : ℕ → Data → Found → Type 0
+IsShapeOfProcess at d found =
+    Fails found (of (Process at) key.Pid) (has_field (codes "pid") is_integer d ≡ true)
+    (Fails found (of (Process at) key.Uid) (has_field (codes "uid") is_integer d ≡ true)
+    (Fails found (of (Process at) key.Execname) (has_field (codes "execname") is_text d ≡ true) ⊥))
+
+abbrev pub IsShapeOfProbe : ℕ → Data → Found → Type 0
+IsShapeOfProbe at d found = Fails found (of (Probe at) key.Text) (is_text d ≡ true) ⊥
+
+abbrev pub IsShapeOfFiring : ℕ → ℕ → Data → Found → Type 0
+IsShapeOfFiring cpu at d found =
+    Fails found (of (Firing cpu at) key.Probe) (has_field (codes "probe") is_integer d ≡ true)
+    (Fails found (of (Firing cpu at) key.Pid) (has_field (codes "pid") is_integer d ≡ true)
+    (Fails found (of (Firing cpu at) key.Tid) (may_have (codes "tid") is_integer d ≡ true)
+    (Fails found (of (Firing cpu at) key.Mode) (may_have (codes "mode") is_text d ≡ true)
+    (Fails found (of (Firing cpu at) key.Timestamp) (may_have (codes "timestamp") is_integer d ≡ true)
+    (Fails found (of (Firing cpu at) key.Args) (may_have (codes "args") is_numbers d ≡ true)
+    (Fails found (of (Firing cpu at) key.Kstack) (may_have (codes "kstack") is_numbers d ≡ true)
+    (Fails found (of (Firing cpu at) key.Ustack) (may_have (codes "ustack") is_numbers d ≡ true) ⊥)))))))
+
+abbrev pub IsShapeOfScript : ℕ → Data → Found → Type 0
+IsShapeOfScript cpu d found =
+    IsFoundOfList (of (Script cpu) key.Scripts) is_firing (IsShapeOfFiring cpu) (items d) found
+
+-- the same of the file, in the order of its five keys
+abbrev pub IsShapeOfFile : Data → Found → Type 0
+IsShapeOfFile d found =
+    Fails found (of File key.Cpus) (has_field (codes "cpus") is_integer d ≡ true)
+    (Else (has_field (codes "accounts") (is_list_of is_account) d ≡ true)
+    (IsFoundOfList (of File key.Accounts) is_account IsShapeOfAccount (items_at (codes "accounts") d) found)
+    (Else (has_field (codes "processes") (is_list_of is_process) d ≡ true)
+    (IsFoundOfList (of File key.Processes) is_process IsShapeOfProcess (items_at (codes "processes") d) found)
+    (Else (has_field (codes "probes") (is_list_of is_text) d ≡ true)
+    (IsFoundOfList (of File key.Probes) is_text IsShapeOfProbe (items_at (codes "probes") d) found)
+    (Else (has_field (codes "scripts") (is_list_of (is_list_of is_firing)) d ≡ true)
+    (IsFoundOfList (of File key.Scripts) (is_list_of is_firing) IsShapeOfScript (items_at (codes "scripts") d) found)
+    ⊥))))
+
+-- Nothing is found of a file that is no object.
+abbrev pub IsFoundOfShape : Data → Option Found → Type 0
+IsFoundOfShape d found = Else (is_some (as_object d) ≡ true) (found ≡ None) (IsSomeAnd found (IsShapeOfFile d))

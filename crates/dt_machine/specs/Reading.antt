@@ -12,7 +12,7 @@ use Rattle.dt_machine.specs.Registry.{Registry, Contents, Belongs}
 use Rattle.dt_machine.specs.declared.found.Found.{Found}
 use Rattle.dt_machine.specs.declared.found.Key.TheVariants as key
 use Rattle.dt_machine.specs.declared.found.Part.TheVariants as part
-use Rattle.dt_machine.specs.Found.{Fails, of, IsFoundAt, IsFoundIn, IsFoundOfAccount, IsFoundOfProcess, IsFoundOfProbe, IsFoundOfFiring}
+use Rattle.dt_machine.specs.Found.{Fails, of, IsFoundAt, IsFoundIn, IsFoundOfShape, IsFoundOfAccount, IsFoundOfProcess, IsFoundOfProbe, IsFoundOfFiring}
 use Rattle.dt_machine.specs.Limits.{cpus_max}
 
 -- each row is right, given those before it
@@ -107,7 +107,7 @@ IsFoundOfScripts cpus scripts cpu found = IsSomeAnd found (λ found.
 -- What a fault tells of what its number finds at a processor and a row.
 abbrev pub Tells : FaultNumber → Data → ℕ → ℕ → Option Found → Type 0
 Tells Json d cpu row found = found ≡ None
-Tells Shape d cpu row found = found ≡ None
+Tells Shape d cpu row found = IsFoundOfShape d found
 Tells Cpus d cpu row found = found ≡ Some (of part.File key.Cpus)
 Tells Account d cpu row found = IsFoundAt IsFoundOfAccount (accounts_in d) row found
 Tells Process d cpu row found = IsFoundAt IsFoundOfProcess (processes_in d) row found

@@ -16,7 +16,7 @@ use crate::moment::Moment;
 use crate::probes::read_probes;
 use crate::processes::read_processes;
 use crate::scripts::first_long;
-use crate::shape::is_machine;
+use crate::shape::shape_fault;
 use dt_cred::{Account, Class, Firing, Probe, Process};
 use serde_json::Value;
 use std::alloc::Global;
@@ -43,8 +43,8 @@ impl Sections {
         ensures fault { IfErr result (λ fault. UnlessMemory fault (IsFirstFinding (view file.now) fault)) }
     {
         // in the order of the faults' numbers: the first that is found decides
-        if !is_machine(file) {
-            return Err(FaultNumber::Shape.nowhere());
+        if let Some(fault) = shape_fault(file) {
+            return Err(fault);
         }
         let Some(cpus) = cpus_of(file) else {
             return Err(FaultNumber::Cpus.at_row(0, Part::File.has(Key::Cpus)));
