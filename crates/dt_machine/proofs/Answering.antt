@@ -17,8 +17,8 @@ use Rattle.dt_machine.specs.declared.found.Key.TheVariants as key
 use Rattle.dt_machine.specs.declared.found.Part.TheVariants as part
 use Rattle.dt_machine.specs.Given.{items, items_at, is_text, is_list_of}
 use Rattle.dt_machine.specs.Shape.{is_account, is_process, is_firing}
-use Rattle.dt_machine.specs.Found.{Else, of, IsFirstFound, IsFoundOfList, IsFoundOfShape, IsShapeOfAccount, IsShapeOfProcess}
-use Rattle.dt_machine.specs.Found.{IsShapeOfProbe, IsShapeOfFiring, IsShapeOfScript, IsShapeOfFile}
+use Rattle.dt_machine.specs.Found.{Else, of, IsFirstFound, IsFoundOfList, IsFoundOfShape, IsMisshapenAccount, IsMisshapenProcess}
+use Rattle.dt_machine.specs.Found.{IsMisshapenProbe, IsMisshapenFiring, IsMisshapenScript, IsMisshapenFile}
 use Rattle.std.proofs.Common.{Bool, true, codes}
 use Rattle.dt_machine.specs.Found.{Fails, IsFoundAt, IsFoundIn, IsFoundOfAccount, IsFoundOfProcess, IsFoundOfProbe, IsFoundOfFiring}
 use Rattle.dt_machine.specs.Rows.{AccountRow, ProcessRow, FiringRow, HasRoom, IsRightFiring, process, scripts}
@@ -212,38 +212,38 @@ list_told this p M one (Some rows) a b f g =
     let G : Data → Type 0 = λ r. M g.at r a in
     one g.at g.row a b (subst G row (subst F same f.tells)) g.tells
 
-account_shape_told : (at : ℕ) (d : Data) (a b : Found) → IsShapeOfAccount at d a → IsShapeOfAccount at d b → a ≡ b
+account_shape_told : (at : ℕ) (d : Data) (a b : Found) → IsMisshapenAccount at d a → IsMisshapenAccount at d b → a ≡ b
 account_shape_told at d a b = fails_one a b _ _ _ _ (fails_one a b _ _ _ _ (fails_one a b _ _ _ _ (nothing_later a b)))
 
-process_shape_told : (at : ℕ) (d : Data) (a b : Found) → IsShapeOfProcess at d a → IsShapeOfProcess at d b → a ≡ b
+process_shape_told : (at : ℕ) (d : Data) (a b : Found) → IsMisshapenProcess at d a → IsMisshapenProcess at d b → a ≡ b
 process_shape_told at d a b = fails_one a b _ _ _ _ (fails_one a b _ _ _ _ (fails_one a b _ _ _ _ (nothing_later a b)))
 
-probe_shape_told : (at : ℕ) (d : Data) (a b : Found) → IsShapeOfProbe at d a → IsShapeOfProbe at d b → a ≡ b
+probe_shape_told : (at : ℕ) (d : Data) (a b : Found) → IsMisshapenProbe at d a → IsMisshapenProbe at d b → a ≡ b
 probe_shape_told at d a b = fails_one a b _ _ _ _ (nothing_later a b)
 
-firing_shape_told : (cpu at : ℕ) (d : Data) (a b : Found) → IsShapeOfFiring cpu at d a → IsShapeOfFiring cpu at d b
+firing_shape_told : (cpu at : ℕ) (d : Data) (a b : Found) → IsMisshapenFiring cpu at d a → IsMisshapenFiring cpu at d b
     → a ≡ b
 firing_shape_told cpu at d a b = fails_one a b _ _ _ _ (fails_one a b _ _ _ _ (fails_one a b _ _ _ _
     (fails_one a b _ _ _ _ (fails_one a b _ _ _ _ (fails_one a b _ _ _ _ (fails_one a b _ _ _ _
     (fails_one a b _ _ _ _ (nothing_later a b))))))))
 
-script_shape_told : (cpu : ℕ) (d : Data) (a b : Found) → IsShapeOfScript cpu d a → IsShapeOfScript cpu d b → a ≡ b
-script_shape_told cpu d a b = list_told (of (part.Script cpu) key.Scripts) is_firing (IsShapeOfFiring cpu)
+script_shape_told : (cpu : ℕ) (d : Data) (a b : Found) → IsMisshapenScript cpu d a → IsMisshapenScript cpu d b → a ≡ b
+script_shape_told cpu d a b = list_told (of (part.Script cpu) key.Scripts) is_firing (IsMisshapenFiring cpu)
     (firing_shape_told cpu) (items d) a b
 
-file_shape_told : (d : Data) (a b : Found) → IsShapeOfFile d a → IsShapeOfFile d b → a ≡ b
+file_shape_told : (d : Data) (a b : Found) → IsMisshapenFile d a → IsMisshapenFile d b → a ≡ b
 file_shape_told d a b = fails_one a b _ _ _ _
-    (else_one _ _ _ _ _ (list_told (of part.File key.Accounts) is_account IsShapeOfAccount account_shape_told
+    (else_one _ _ _ _ _ (list_told (of part.File key.Accounts) is_account IsMisshapenAccount account_shape_told
     (items_at (codes "accounts") d) a b)
-    (else_one _ _ _ _ _ (list_told (of part.File key.Processes) is_process IsShapeOfProcess process_shape_told
+    (else_one _ _ _ _ _ (list_told (of part.File key.Processes) is_process IsMisshapenProcess process_shape_told
     (items_at (codes "processes") d) a b)
-    (else_one _ _ _ _ _ (list_told (of part.File key.Probes) is_text IsShapeOfProbe probe_shape_told
+    (else_one _ _ _ _ _ (list_told (of part.File key.Probes) is_text IsMisshapenProbe probe_shape_told
     (items_at (codes "probes") d) a b)
-    (else_one _ _ _ _ _ (list_told (of part.File key.Scripts) (is_list_of is_firing) IsShapeOfScript script_shape_told
+    (else_one _ _ _ _ _ (list_told (of part.File key.Scripts) (is_list_of is_firing) IsMisshapenScript script_shape_told
     (items_at (codes "scripts") d) a b) (nothing_later a b)))))
 
 shape_told : (d : Data) (x y : Option Found) → IsFoundOfShape d x → IsFoundOfShape d y → x ≡ y
-shape_told d x y = else_one _ _ _ _ _ (λ f g. f ∙ sym g) (both_told (IsShapeOfFile d) (file_shape_told d) x y)
+shape_told d x y = else_one _ _ _ _ _ (λ f g. f ∙ sym g) (both_told (IsMisshapenFile d) (file_shape_told d) x y)
 
 told_one : (number : FaultNumber) (d : Data) (cpu row : ℕ) (x y : Option Found) → Tells number d cpu row x
     → Tells number d cpu row y → x ≡ y

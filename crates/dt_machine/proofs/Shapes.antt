@@ -1,5 +1,5 @@
 -- The first row of a list that has not its shape, and what is found of a list.
-use Rattle.std.proofs.Common.{◌≡◌, ◌<◌, ◌≤◌, ◌&&◌, ℕ, zero, suc, Bool, true, false, List, [], ◌∷◌, Option, Some, None, MatchOption}
+use Rattle.std.proofs.Common.{◌≡◌, ◌<◌, ◌≤◌, ℕ, zero, suc, Bool, true, false, List, [], ◌∷◌, Option, Some, None, MatchOption}
 use Rattle.std.proofs.Common.{codes, length, map, slice_get, get_or, option_map, is_some, inl, inr, refl, sym, ap, ◌∙◌, subst, arith}
 use Rattle.std.proofs.lemmas.Bool.{and_parts, and_from, false≢true}
 use Rattle.std.proofs.lemmas.List.{length-map}
@@ -13,7 +13,7 @@ use Rattle.serde_json.specs.declared.value.Value.{Value}
 use Rattle.dt_machine.specs.declared.found.Found.{Found}
 use Rattle.dt_machine.specs.declared.found.Key.TheVariants as key
 use Rattle.dt_machine.specs.declared.found.Part.TheVariants.{File}
-use Rattle.dt_machine.specs.Found.{Else, of, IsFirstFound, IsFoundOfList, IsShapeOfScript, IsShapeOfFile}
+use Rattle.dt_machine.specs.Found.{Else, of, IsFirstFound, IsFoundOfList, IsMisshapenScript, IsMisshapenFile}
 use Rattle.dt_machine.specs.Given.{items, items_at, is_integer, is_text, is_list_of, has_field}
 use Rattle.dt_machine.specs.Shape.{is_account, is_process, is_firing, is_machine}
 use Rattle.dt_machine.proofs.Searching.{RightUpTo, right_all}
@@ -98,7 +98,7 @@ clash : (Test Here Later : Type 0) → Test → (Later → ⊥) → Else Test He
 clash Test Here Later holds later (inl f) = f.0 holds
 clash Test Here Later holds later (inr f) = later f.1
 
-pub file_wrong : (d : Data) (found : Found) → IsShapeOfFile d found → is_machine d ≡ true → ⊥
+pub file_wrong : (d : Data) (found : Found) → IsMisshapenFile d found → is_machine d ≡ true → ⊥
 file_wrong d found told h =
     let a = and_parts _ _ h in
     let b = and_parts _ _ a.0 in
@@ -120,10 +120,10 @@ pub file_answer : (o : Option Found) (d : Data) → has_field (codes "cpus") is_
     → has_field (codes "processes") (is_list_of is_process) d ≡ true
     → has_field (codes "probes") (is_list_of is_text) d ≡ true
     → MatchOption o (has_field (codes "scripts") (is_list_of (is_list_of is_firing)) d ≡ true)
-    (IsFoundOfList (of File key.Scripts) (is_list_of is_firing) IsShapeOfScript (items_at (codes "scripts") d))
-    → MatchOption o (is_machine d ≡ true) (IsShapeOfFile d)
+    (IsFoundOfList (of File key.Scripts) (is_list_of is_firing) IsMisshapenScript (items_at (codes "scripts") d))
+    → MatchOption o (is_machine d ≡ true) (IsMisshapenFile d)
 file_answer None d cpus accounts processes probes m =
     and_from _ _ (and_from _ _ (and_from _ _ (and_from _ _ cpus accounts) processes) probes) m
 file_answer (Some f) d cpus accounts processes probes m =
-    let wrong = field_wrong (of File key.Scripts) (is_list_of is_firing) IsShapeOfScript (get (codes "scripts") d) f m in
+    let wrong = field_wrong (of File key.Scripts) (is_list_of is_firing) IsMisshapenScript (get (codes "scripts") d) f m in
     inr (cpus, inr (accounts, inr (processes, inr (probes, inl (wrong, m)))))

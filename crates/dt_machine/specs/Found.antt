@@ -1,5 +1,5 @@
 -- What of a row is wrong: the first of its tests that fails tells the key.
-use Rattle.std.specs.Prelude.{◌≡◌, ◌≢◌, ℕ, ◌+◌, ◌<◌, ◌≤◌, ◌^◌, ◌⊎◌, ◌++◌, ◌==◌, List, Option, Some, IsSome, IsSomeAnd, All, find, length, take, slice_get, codes}
+use Rattle.std.specs.Prelude.{◌≡◌, ◌≢◌, ℕ, ◌+◌, ◌<◌, ◌^◌, ◌⊎◌, ◌++◌, ◌==◌, List, Option, Some, IsSome, IsSomeAnd, All, find, length, take, slice_get, codes}
 use Rattle.std.specs.Prelude.{Bool, true, false, None, is_some}
 use Rattle.std.specs.Fmt.{decimal}
 use Rattle.serde_json.specs.Data.{Data}
@@ -133,23 +133,23 @@ IsFoundOfList this has_shape IsFoundOf None found = found ≡ this
 IsFoundOfList this has_shape IsFoundOf (Some rows) found = IsFirstFound has_shape IsFoundOf rows found
 
 -- What is found of a row that has not its shape: its first key that is missing or of the wrong kind.
-abbrev pub IsShapeOfAccount : ℕ → Data → Found → Type 0
-IsShapeOfAccount at d found =
+abbrev pub IsMisshapenAccount : ℕ → Data → Found → Type 0
+IsMisshapenAccount at d found =
     Fails found (of (Account at) key.Name) (has_field (codes "name") is_text d ≡ true)
     (Fails found (of (Account at) key.Uid) (has_field (codes "uid") is_integer d ≡ true)
     (Fails found (of (Account at) key.Privs) (has_field (codes "privs") (is_list_of is_text) d ≡ true) ⊥))
 
-abbrev pub IsShapeOfProcess : ℕ → Data → Found → Type 0
-IsShapeOfProcess at d found =
+abbrev pub IsMisshapenProcess : ℕ → Data → Found → Type 0
+IsMisshapenProcess at d found =
     Fails found (of (Process at) key.Pid) (has_field (codes "pid") is_integer d ≡ true)
     (Fails found (of (Process at) key.Uid) (has_field (codes "uid") is_integer d ≡ true)
     (Fails found (of (Process at) key.Execname) (has_field (codes "execname") is_text d ≡ true) ⊥))
 
-abbrev pub IsShapeOfProbe : ℕ → Data → Found → Type 0
-IsShapeOfProbe at d found = Fails found (of (Probe at) key.Text) (is_text d ≡ true) ⊥
+abbrev pub IsMisshapenProbe : ℕ → Data → Found → Type 0
+IsMisshapenProbe at d found = Fails found (of (Probe at) key.Text) (is_text d ≡ true) ⊥
 
-abbrev pub IsShapeOfFiring : ℕ → ℕ → Data → Found → Type 0
-IsShapeOfFiring cpu at d found =
+abbrev pub IsMisshapenFiring : ℕ → ℕ → Data → Found → Type 0
+IsMisshapenFiring cpu at d found =
     Fails found (of (Firing cpu at) key.Probe) (has_field (codes "probe") is_integer d ≡ true)
     (Fails found (of (Firing cpu at) key.Pid) (has_field (codes "pid") is_integer d ≡ true)
     (Fails found (of (Firing cpu at) key.Tid) (may_have (codes "tid") is_integer d ≡ true)
@@ -159,24 +159,24 @@ IsShapeOfFiring cpu at d found =
     (Fails found (of (Firing cpu at) key.Kstack) (may_have (codes "kstack") is_numbers d ≡ true)
     (Fails found (of (Firing cpu at) key.Ustack) (may_have (codes "ustack") is_numbers d ≡ true) ⊥)))))))
 
-abbrev pub IsShapeOfScript : ℕ → Data → Found → Type 0
-IsShapeOfScript cpu d found =
-    IsFoundOfList (of (Script cpu) key.Scripts) is_firing (IsShapeOfFiring cpu) (items d) found
+abbrev pub IsMisshapenScript : ℕ → Data → Found → Type 0
+IsMisshapenScript cpu d found =
+    IsFoundOfList (of (Script cpu) key.Scripts) is_firing (IsMisshapenFiring cpu) (items d) found
 
 -- the same of the file, in the order of its five keys
-abbrev pub IsShapeOfFile : Data → Found → Type 0
-IsShapeOfFile d found =
+abbrev pub IsMisshapenFile : Data → Found → Type 0
+IsMisshapenFile d found =
     Fails found (of File key.Cpus) (has_field (codes "cpus") is_integer d ≡ true)
     (Else (has_field (codes "accounts") (is_list_of is_account) d ≡ true)
-    (IsFoundOfList (of File key.Accounts) is_account IsShapeOfAccount (items_at (codes "accounts") d) found)
+    (IsFoundOfList (of File key.Accounts) is_account IsMisshapenAccount (items_at (codes "accounts") d) found)
     (Else (has_field (codes "processes") (is_list_of is_process) d ≡ true)
-    (IsFoundOfList (of File key.Processes) is_process IsShapeOfProcess (items_at (codes "processes") d) found)
+    (IsFoundOfList (of File key.Processes) is_process IsMisshapenProcess (items_at (codes "processes") d) found)
     (Else (has_field (codes "probes") (is_list_of is_text) d ≡ true)
-    (IsFoundOfList (of File key.Probes) is_text IsShapeOfProbe (items_at (codes "probes") d) found)
+    (IsFoundOfList (of File key.Probes) is_text IsMisshapenProbe (items_at (codes "probes") d) found)
     (Else (has_field (codes "scripts") (is_list_of (is_list_of is_firing)) d ≡ true)
-    (IsFoundOfList (of File key.Scripts) (is_list_of is_firing) IsShapeOfScript (items_at (codes "scripts") d) found)
+    (IsFoundOfList (of File key.Scripts) (is_list_of is_firing) IsMisshapenScript (items_at (codes "scripts") d) found)
     ⊥))))
 
 -- Nothing is found of a file that is no object.
 abbrev pub IsFoundOfShape : Data → Option Found → Type 0
-IsFoundOfShape d found = Else (is_some (as_object d) ≡ true) (found ≡ None) (IsSomeAnd found (IsShapeOfFile d))
+IsFoundOfShape d found = Else (is_some (as_object d) ≡ true) (found ≡ None) (IsSomeAnd found (IsMisshapenFile d))

@@ -49,9 +49,9 @@ impl Machine {
     /// Reads a machine file: a JSON object with the keys `cpus`, `accounts`, `processes`, `probes` and `scripts`.
     ///
     /// The machine is the one that the text describes, and a fault is the first that the text shows: the least
-    /// [`FaultNumber`], at the least processor and there the first row. [`FaultNumber::Memory`] alone may come in
-    /// place of either, where memory is refused. Memory is taken for the JSON value, which is let go before the last
-    /// test, and for the machine, which has each firing once, in 240 bytes.
+    /// [`FaultNumber`], at the least processor and there the first row, with the first key that is wrong there.
+    /// [`FaultNumber::Memory`] alone may come in place of either, where memory is refused. Memory is taken for the JSON
+    /// value, which is let go before the last test, and for the machine, which has each firing once, in 240 bytes.
     pub fn read(alloc: Global, text: &[u8]) -> Result<Machine, MachineFault>
         ensures ok { IfOk result (λ machine. IsDescribed text.now machine) }
         ensures sound { IfOk result (λ machine. IsSound machine) }

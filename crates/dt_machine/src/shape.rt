@@ -3,7 +3,7 @@ ghost use Rattle.std.specs.Prelude.{◌≡◌, true, false, MatchOption, map, co
 ghost use Rattle.std.specs.List.{list_all};
 ghost use Rattle.serde_json.specs.View.{view};
 ghost use Rattle.dt_machine.specs.Given.{is_integer, is_text, is_list_of, has_field, may_have, items_at};
-ghost use Rattle.dt_machine.specs.Found.{of, IsFirstFound, IsFoundOfList, IsFoundOfShape, IsShapeOfAccount, IsShapeOfProcess, IsShapeOfProbe, IsShapeOfFiring, IsShapeOfScript, IsShapeOfFile};
+ghost use Rattle.dt_machine.specs.Found.{of, IsFirstFound, IsFoundOfList, IsFoundOfShape, IsMisshapenAccount, IsMisshapenProcess, IsMisshapenProbe, IsMisshapenFiring, IsMisshapenScript, IsMisshapenFile};
 ghost use Rattle.dt_machine.specs.Reading.{Nowhere};
 ghost use Rattle.dt_machine.specs.Shape.{is_account, is_process, is_numbers, is_firing, is_machine};
 
@@ -29,7 +29,7 @@ pub(crate) fn shape_fault(file: &Value) -> Option<MachineFault>
 
 /// What is wrong first in the shape of a file, key by key.
 fn first_of_file(file: &Value) -> Option<Found>
-    ensures { MatchOption result (is_machine (view file.now) ≡ true) (IsShapeOfFile (view file.now)) }
+    ensures { MatchOption result (is_machine (view file.now) ≡ true) (IsMisshapenFile (view file.now)) }
 {
     if !has_integer(file, "cpus") {
         return Some(Part::File.has(Key::Cpus));
@@ -48,7 +48,7 @@ fn first_of_file(file: &Value) -> Option<Found>
 
 fn first_of_accounts(file: &Value) -> Option<Found>
     ensures { MatchOption result (has_field (codes "accounts") (is_list_of is_account) (view file.now) ≡ true)
-        (IsFoundOfList (of Part.File Key.Accounts) is_account IsShapeOfAccount (items_at (codes "accounts") (view file.now))) }
+        (IsFoundOfList (of Part.File Key.Accounts) is_account IsMisshapenAccount (items_at (codes "accounts") (view file.now))) }
 {
     match items_at(file, "accounts") {
         Some(rows) => first_account(rows),
@@ -58,7 +58,7 @@ fn first_of_accounts(file: &Value) -> Option<Found>
 
 fn first_account(rows: &[Value]) -> Option<Found>
     ensures { MatchOption result (list_all is_account (map view rows.now) ≡ true)
-        (IsFirstFound is_account IsShapeOfAccount (map view rows.now)) }
+        (IsFirstFound is_account IsMisshapenAccount (map view rows.now)) }
 {
     for (at, row) in rows.iter().enumerate() {
         // the first row that hasn't its shape is the one that is told
@@ -71,7 +71,7 @@ fn first_account(rows: &[Value]) -> Option<Found>
 
 fn of_account(at: usize, row: &Value) -> Option<Found>
     ensures { MatchOption result (is_account (view row.now) ≡ true)
-        (λ found. (is_account (view row.now) ≡ false) × IsShapeOfAccount at (view row.now) found) }
+        (λ found. (is_account (view row.now) ≡ false) × IsMisshapenAccount at (view row.now) found) }
 {
     let this = Part::Account(at);
     if !has_text(row, "name") {
@@ -88,7 +88,7 @@ fn of_account(at: usize, row: &Value) -> Option<Found>
 
 fn first_of_processes(file: &Value) -> Option<Found>
     ensures { MatchOption result (has_field (codes "processes") (is_list_of is_process) (view file.now) ≡ true)
-        (IsFoundOfList (of Part.File Key.Processes) is_process IsShapeOfProcess (items_at (codes "processes") (view file.now))) }
+        (IsFoundOfList (of Part.File Key.Processes) is_process IsMisshapenProcess (items_at (codes "processes") (view file.now))) }
 {
     match items_at(file, "processes") {
         Some(rows) => first_process(rows),
@@ -98,7 +98,7 @@ fn first_of_processes(file: &Value) -> Option<Found>
 
 fn first_process(rows: &[Value]) -> Option<Found>
     ensures { MatchOption result (list_all is_process (map view rows.now) ≡ true)
-        (IsFirstFound is_process IsShapeOfProcess (map view rows.now)) }
+        (IsFirstFound is_process IsMisshapenProcess (map view rows.now)) }
 {
     for (at, row) in rows.iter().enumerate() {
         // the first row that hasn't its shape is the one that is told
@@ -111,7 +111,7 @@ fn first_process(rows: &[Value]) -> Option<Found>
 
 fn of_process(at: usize, row: &Value) -> Option<Found>
     ensures { MatchOption result (is_process (view row.now) ≡ true)
-        (λ found. (is_process (view row.now) ≡ false) × IsShapeOfProcess at (view row.now) found) }
+        (λ found. (is_process (view row.now) ≡ false) × IsMisshapenProcess at (view row.now) found) }
 {
     let this = Part::Process(at);
     if !has_integer(row, "pid") {
@@ -128,7 +128,7 @@ fn of_process(at: usize, row: &Value) -> Option<Found>
 
 fn first_of_probes(file: &Value) -> Option<Found>
     ensures { MatchOption result (has_field (codes "probes") (is_list_of is_text) (view file.now) ≡ true)
-        (IsFoundOfList (of Part.File Key.Probes) is_text IsShapeOfProbe (items_at (codes "probes") (view file.now))) }
+        (IsFoundOfList (of Part.File Key.Probes) is_text IsMisshapenProbe (items_at (codes "probes") (view file.now))) }
 {
     match items_at(file, "probes") {
         Some(rows) => first_probe(rows),
@@ -138,7 +138,7 @@ fn first_of_probes(file: &Value) -> Option<Found>
 
 fn first_probe(rows: &[Value]) -> Option<Found>
     ensures { MatchOption result (list_all is_text (map view rows.now) ≡ true)
-        (IsFirstFound is_text IsShapeOfProbe (map view rows.now)) }
+        (IsFirstFound is_text IsMisshapenProbe (map view rows.now)) }
 {
     for (at, row) in rows.iter().enumerate() {
         // the first row that hasn't its shape is the one that is told
@@ -151,7 +151,7 @@ fn first_probe(rows: &[Value]) -> Option<Found>
 
 fn of_probe(at: usize, row: &Value) -> Option<Found>
     ensures { MatchOption result (is_text (view row.now) ≡ true)
-        (λ found. (is_text (view row.now) ≡ false) × IsShapeOfProbe at (view row.now) found) }
+        (λ found. (is_text (view row.now) ≡ false) × IsMisshapenProbe at (view row.now) found) }
 {
     let this = Part::Probe(at);
     if !row.is_string() {
@@ -162,7 +162,7 @@ fn of_probe(at: usize, row: &Value) -> Option<Found>
 
 fn first_of_scripts(file: &Value) -> Option<Found>
     ensures { MatchOption result (has_field (codes "scripts") (is_list_of (is_list_of is_firing)) (view file.now) ≡ true)
-        (IsFoundOfList (of Part.File Key.Scripts) (is_list_of is_firing) IsShapeOfScript (items_at (codes "scripts") (view file.now))) }
+        (IsFoundOfList (of Part.File Key.Scripts) (is_list_of is_firing) IsMisshapenScript (items_at (codes "scripts") (view file.now))) }
 {
     match items_at(file, "scripts") {
         Some(rows) => first_script(rows),
@@ -172,7 +172,7 @@ fn first_of_scripts(file: &Value) -> Option<Found>
 
 fn first_script(rows: &[Value]) -> Option<Found>
     ensures { MatchOption result (list_all (is_list_of is_firing) (map view rows.now) ≡ true)
-        (IsFirstFound (is_list_of is_firing) IsShapeOfScript (map view rows.now)) }
+        (IsFirstFound (is_list_of is_firing) IsMisshapenScript (map view rows.now)) }
 {
     for (at, row) in rows.iter().enumerate() {
         // the first row that hasn't its shape is the one that is told
@@ -185,7 +185,7 @@ fn first_script(rows: &[Value]) -> Option<Found>
 
 fn of_script(cpu: usize, script: &Value) -> Option<Found>
     ensures { MatchOption result (is_list_of is_firing (view script.now) ≡ true)
-        (λ found. (is_list_of is_firing (view script.now) ≡ false) × IsShapeOfScript cpu (view script.now) found) }
+        (λ found. (is_list_of is_firing (view script.now) ≡ false) × IsMisshapenScript cpu (view script.now) found) }
 {
     match items(script) {
         Some(rows) => first_firing(cpu, rows),
@@ -195,7 +195,7 @@ fn of_script(cpu: usize, script: &Value) -> Option<Found>
 
 fn first_firing(cpu: usize, rows: &[Value]) -> Option<Found>
     ensures { MatchOption result (list_all is_firing (map view rows.now) ≡ true)
-        (IsFirstFound is_firing (IsShapeOfFiring cpu) (map view rows.now)) }
+        (IsFirstFound is_firing (IsMisshapenFiring cpu) (map view rows.now)) }
 {
     for (at, row) in rows.iter().enumerate() {
         // the first row that hasn't its shape is the one that is told
@@ -208,7 +208,7 @@ fn first_firing(cpu: usize, rows: &[Value]) -> Option<Found>
 
 fn of_firing(cpu: usize, at: usize, row: &Value) -> Option<Found>
     ensures { MatchOption result (is_firing (view row.now) ≡ true)
-        (λ found. (is_firing (view row.now) ≡ false) × IsShapeOfFiring cpu at (view row.now) found) }
+        (λ found. (is_firing (view row.now) ≡ false) × IsMisshapenFiring cpu at (view row.now) found) }
 {
     let this = Part::Firing { cpu, row: at };
     if !has_integer(row, "probe") {

@@ -168,7 +168,11 @@ fn a_fault_tells_the_first_key_that_is_wrong(rt: HostRuntime) -> Result<(), Fail
         ("\"kernel\"", "\"all\"", "mode of firing 1 of processor 1"),
         ("[7,-8]", "[7,null]", "args of firing 0 of processor 1"),
         ("\"probe\":3", "\"probe\":6", "read"),
-        ("3,\"pid\":100", "6,\"pid\":200", "pid of firing 0 of processor 1"),
+        (
+            "3,\"pid\":100",
+            "6,\"pid\":200",
+            "pid of firing 0 of processor 1",
+        ),
         ("{\"cpus\"", "{", "nothing"),
     ] {
         let (before, after) = MACHINE.split_once(there).ok_or("no such text")?;

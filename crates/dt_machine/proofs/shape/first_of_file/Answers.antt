@@ -4,7 +4,7 @@ use Rattle.serde_json.specs.Find.{get}
 use Rattle.serde_json.specs.View.{view}
 use Rattle.dt_machine.specs.declared.found.Key.TheVariants as key
 use Rattle.dt_machine.specs.declared.found.Part.TheVariants.{File}
-use Rattle.dt_machine.specs.Found.{of, IsShapeOfAccount, IsShapeOfProcess, IsShapeOfProbe}
+use Rattle.dt_machine.specs.Found.{of, IsMisshapenAccount, IsMisshapenProcess, IsMisshapenProbe}
 use Rattle.dt_machine.specs.Given.{is_integer, is_text, has_field}
 use Rattle.dt_machine.specs.Shape.{is_account, is_process}
 use Rattle.dt_machine.proofs.Shapes.{field_wrong, file_answer}
@@ -14,7 +14,7 @@ pub returns-in-Some : goal.returns-in-Some
 returns-in-Some c =
     let d = view c.args.file.now in
     let cpus : has_field (codes "cpus") is_integer d ≡ true = sym c.has_integer.ensures ∙ c.if-not-has_integer.false in
-    let wrong = field_wrong (of File key.Accounts) is_account IsShapeOfAccount (get (codes "accounts") d) c.in-Some.found
+    let wrong = field_wrong (of File key.Accounts) is_account IsMisshapenAccount (get (codes "accounts") d) c.in-Some.found
     c.in-Some.ensures in
     inr (cpus, inl (wrong, c.in-Some.ensures))
 
@@ -23,7 +23,7 @@ returns-in-Some-first_of_processes c =
     let d = view c.args.file.now in
     let cpus : has_field (codes "cpus") is_integer d ≡ true = sym c.has_integer.ensures ∙ c.if-not-has_integer.false in
     let told = c.in-Some-first_of_processes.ensures in
-    let wrong = field_wrong (of File key.Processes) is_process IsShapeOfProcess (get (codes "processes") d)
+    let wrong = field_wrong (of File key.Processes) is_process IsMisshapenProcess (get (codes "processes") d)
     c.in-Some-first_of_processes.found told in
     inr (cpus, inr (c.in_default.ensures, inl (wrong, told)))
 
@@ -32,7 +32,7 @@ returns-in-Some-first_of_probes c =
     let d = view c.args.file.now in
     let cpus : has_field (codes "cpus") is_integer d ≡ true = sym c.has_integer.ensures ∙ c.if-not-has_integer.false in
     let told = c.in-Some-first_of_probes.ensures in
-    let wrong = field_wrong (of File key.Probes) is_text IsShapeOfProbe (get (codes "probes") d)
+    let wrong = field_wrong (of File key.Probes) is_text IsMisshapenProbe (get (codes "probes") d)
     c.in-Some-first_of_probes.found told in
     inr (cpus, inr (c.in_default.ensures, inr (c.in_default-first_of_processes.ensures, inl (wrong, told))))
 

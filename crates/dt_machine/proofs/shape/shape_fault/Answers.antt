@@ -1,10 +1,10 @@
 -- What the proof of `shape_fault` is told at its goals.
-use Rattle.std.proofs.Common.{◌≡◌, ◌∙◌, true, false, Some, None, ap, sym, inl, inr, refl, is_some, subst, Option, IsSomeAnd}
+use Rattle.std.proofs.Common.{◌≡◌, true, ap, sym, inl, inr, is_some, subst, Option}
 use Rattle.serde_json.specs.Find.{as_object}
 use Rattle.serde_json.specs.View.{view}
 use Rattle.dt_machine.specs.declared.fault.MachineFault.{MachineFault}
 use Rattle.dt_machine.specs.declared.found.Found.{Found}
-use Rattle.dt_machine.specs.Found.{IsShapeOfFile, IsFoundOfShape}
+use Rattle.dt_machine.specs.Found.{IsFoundOfShape}
 use Rattle.dt_machine.proofs.Shapes.{no_object, not_true, file_wrong}
 use Rattle.dt_machine.proofs.shape.shape_fault.Goals as goal
 
