@@ -2,7 +2,7 @@
 mod PowerLemmas
 mod RowLemmas
 mod BoundLemmas
-pub mod SameBounds
+pub mod BoundsOf
 mod LevelRowLemmas
 mod CountLemmas
 mod SumLemmas

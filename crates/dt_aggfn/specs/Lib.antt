@@ -5,3 +5,4 @@ pub mod BoundsOf
 pub mod Rows
 pub mod Cells
 pub mod Answers
+pub mod laws

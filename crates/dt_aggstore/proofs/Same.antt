@@ -5,8 +5,7 @@ use Rattle.std.specs.Ordering.{int_eq}
 use Rattle.std.specs.Cmp.Lexicographic.{pointwise_decides, bytes_decides}
 use Rattle.std.proofs.lemmas.Bool.{false≢true}
 use Rattle.std.proofs.lemmas.Bool.Decides.{Decides-eqb, Decides-int_eq}
-use Rattle.std.proofs.Props.{props}
-use Rattle.dt_aggfn.specs.Bounds.{AreBounds}
+use Rattle.dt_aggfn.specs.laws.SameBounds.{same_bounds}
 use Rattle.dt_aggfn.specs.declared.function.AggFn.{AggFn}
 use Rattle.dt_aggfn.specs.declared.function.AggFn.TheVariants.{Count, Sum, Avg, Min, Max, Quantize, Lquantize}
 use Rattle.dt_aggfn.specs.declared.levels.Bounds.{Bounds}
@@ -43,38 +42,11 @@ key_decides = pointwise_decides part_decides
 
 -- ---- aggregations
 
-bounds_prop : (lower upper step : ℤ) (a b : AreBounds lower upper step) → a ≡ b
-bounds_prop lower upper step = hlevel props
-
-abbrev Made : (lower upper step : ℤ) → AreBounds lower upper step → Bounds
-Made lower upper step right = record { lower = lower; upper = upper; step = step; right = right }
-
-same_step : (lower upper step step' : ℤ) (a : AreBounds lower upper step) (b : AreBounds lower upper step') → step
-    ≡ step'
-    → Made lower upper step a ≡ Made lower upper step' b
-same_step lower upper step step' a b e =
-    subst (λ s. (b : AreBounds lower upper s) → Made lower upper step a ≡ Made lower upper s b) e
-    (λ b. ap (Made lower upper step) (bounds_prop lower upper step a b)) b
-
-same_upper : (lower upper upper' step step' : ℤ) (a : AreBounds lower upper step) (b : AreBounds lower upper' step')
-    → upper ≡ upper' → step ≡ step' → Made lower upper step a ≡ Made lower upper' step' b
-same_upper lower upper upper' step step' a b e f =
-    subst (λ s. (b : AreBounds lower s step') → Made lower upper step a ≡ Made lower s step' b) e
-    (λ b. same_step lower upper step step' a b f) b
-
-same_bounds : (lower lower' upper upper' step step' : ℤ) (a : AreBounds lower upper step)
-    (b : AreBounds lower' upper' step') → lower ≡ lower' → upper ≡ upper' → step ≡ step'
-    → Made lower upper step a ≡ Made lower' upper' step' b
-same_bounds lower lower' upper upper' step step' a b e f g =
-    subst (λ s. (b : AreBounds s upper' step') → Made lower upper step a ≡ Made s upper' step' b) e
-    (λ b. same_upper lower upper upper' step step' a b f g) b
-
 are_bounds : (a b : Bounds) → same_function (Lquantize a) (Lquantize b) ≡ true → a ≡ b
 are_bounds a b e =
     let more = both (int_eq a.lower b.lower && int_eq a.upper b.upper) (int_eq a.step b.step) e in
     let two = both (int_eq a.lower b.lower) (int_eq a.upper b.upper) more.0 in
-    same_bounds a.lower b.lower a.upper b.upper a.step b.step a.right b.right
-    ((Decides-int_eq a.lower b.lower).0 two.0)
+    same_bounds a b ((Decides-int_eq a.lower b.lower).0 two.0)
     ((Decides-int_eq a.upper b.upper).0 two.1) ((Decides-int_eq a.step b.step).0 more.1)
 
 function_is : (a b : AggFn) → same_function a b ≡ true → a ≡ b

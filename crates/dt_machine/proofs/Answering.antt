@@ -1,5 +1,5 @@
 -- A text has one answer.
-use Rattle.std.proofs.Common.{◌≡◌, ◌∙◌, ◌<◌, ◌⊎◌, inl, inr, ℕ, List, Some, slice_get, length}
+use Rattle.std.proofs.Common.{◌≡◌, ◌∙◌, ◌<◌, ◌⊎◌, inl, inr, ℕ, List, Option, Some, None, IsSomeAnd, slice_get, length, take, map}
 use Rattle.std.proofs.Common.{sym, ap, subst, arith}
 use Rattle.std.proofs.lemmas.Bool.{false≢true}
 use Rattle.serde_json.specs.Data.{Data}
@@ -8,10 +8,20 @@ use Rattle.dt_machine.specs.declared.fault.FaultNumber.TheVariants.{Json, Shape,
 use Rattle.dt_machine.specs.declared.fault.FaultNumber.TheVariants.{Firing, Foreign, Memory}
 use Rattle.dt_machine.specs.declared.fault.MachineFault.{MachineFault}
 use Rattle.dt_machine.specs.Reading.{AllRight, AllRightIn, IsFirstWrong, IsFirstWrongIn, Passes, Finds, Registers}
-use Rattle.dt_machine.specs.Reading.{IsJson, IsFirstFinding, IsFaultOf, IsDescribed, IsScriptFault, rank_of}
-use Rattle.dt_machine.specs.Reading.{scripts_in}
+use Rattle.dt_machine.specs.Reading.{IsJson, IsFirstFinding, IsFaultOf, IsDescribed, IsScriptFault, rank_of, Tells, IsFoundOfScripts}
+use Rattle.dt_machine.specs.Reading.{processes_in, scripts_in}
 use Rattle.dt_machine.specs.Registry.{Registry, Contents, Belongs}
-use Rattle.dt_machine.specs.Rows.{FiringRow, HasRoom, IsRightFiring, scripts}
+use Rattle.dt_cred.specs.declared.account.Process.{Process as ProcessType}
+use Rattle.dt_machine.specs.declared.found.Found.{Found}
+use Rattle.dt_machine.specs.declared.found.Key.TheVariants as key
+use Rattle.dt_machine.specs.declared.found.Part.TheVariants as part
+use Rattle.dt_machine.specs.Given.{items, items_at, is_text, is_list_of}
+use Rattle.dt_machine.specs.Shape.{is_account, is_process, is_firing}
+use Rattle.dt_machine.specs.Found.{Else, of, IsFirstFound, IsFoundOfList, IsFoundOfShape, IsMisshapenAccount, IsMisshapenProcess}
+use Rattle.dt_machine.specs.Found.{IsMisshapenProbe, IsMisshapenFiring, IsMisshapenScript, IsMisshapenFile}
+use Rattle.std.proofs.Common.{Bool, true, codes}
+use Rattle.dt_machine.specs.Found.{Fails, IsFoundAt, IsFoundIn, IsFoundOfAccount, IsFoundOfProcess, IsFoundOfProbe, IsFoundOfFiring}
+use Rattle.dt_machine.specs.Rows.{AccountRow, ProcessRow, FiringRow, HasRoom, IsRightFiring, process, scripts}
 use Rattle.dt_machine.proofs.Faults.{one_number}
 use Rattle.dt_machine.specs.laws.Scripts.{same_some}
 use Rattle.dt_machine.specs.laws.Soundness.{registry_one}
@@ -115,8 +125,148 @@ passes_finds Foreign d c i p f =
     none_wrong_in (λ _ firing. Belongs f.0 firing) (scripts 0 (scripts_in d)) c i (subst R same p.2) f.2
 passes_finds Memory d c i p f = f
 
-same_fault : (a b : MachineFault) → a.number ≡ b.number → a.cpu ≡ b.cpu → a.row ≡ b.row → a ≡ b
-same_fault a b p q r = λ i. record { number = p i; cpu = q i; row = r i }
+-- what is wrong first is one
+else_one : {C : Type 0} (Test Here There Now Later : Type 0) → (Here → There → C) → (Now → Later → C)
+    → Else Test Here Now → Else Test There Later → C
+else_one Test Here There Now Later here later (inl f) (inl g) = here f.1 g.1
+else_one Test Here There Now Later here later (inl f) (inr g) = absurd (f.0 g.0)
+else_one Test Here There Now Later here later (inr f) (inl g) = absurd (g.0 f.0)
+else_one Test Here There Now Later here later (inr f) (inr g) = later f.1 g.1
+
+fails_one : (a b this : Found) (Test Now Later : Type 0) → (Now → Later → a ≡ b) → Fails a this Test Now
+    → Fails b this Test Later → a ≡ b
+fails_one a b this Test Now Later later (inl f) (inl g) = f.1 ∙ sym g.1
+fails_one a b this Test Now Later later (inl f) (inr g) = absurd (f.0 g.0)
+fails_one a b this Test Now Later later (inr f) (inl g) = absurd (g.0 f.0)
+fails_one a b this Test Now Later later (inr f) (inr g) = later f.1 g.1
+
+nothing_later : (a b : Found) → ⊥ → ⊥ → a ≡ b
+nothing_later a b f g = absurd f
+
+account_told : (at : ℕ) (before : List AccountRow) (row : AccountRow) (a b : Found) → IsFoundOfAccount at before row a
+    → IsFoundOfAccount at before row b → a ≡ b
+account_told at before row a b = fails_one a b _ _ _ _ (fails_one a b _ _ _ _ (fails_one a b _ _ _ _
+    (fails_one a b _ _ _ _ (nothing_later a b))))
+
+process_told : (at : ℕ) (before : List ProcessRow) (row : ProcessRow) (a b : Found) → IsFoundOfProcess at before row a
+    → IsFoundOfProcess at before row b → a ≡ b
+process_told at before row a b = fails_one a b _ _ _ _ (fails_one a b _ _ _ _ (fails_one a b _ _ _ _
+    (fails_one a b _ _ _ _ (nothing_later a b))))
+
+probe_told : (processes : List ProcessType) (at : ℕ) (before : List (List ℕ)) (text : List ℕ) (a b : Found)
+    → IsFoundOfProbe processes at before text a → IsFoundOfProbe processes at before text b → a ≡ b
+probe_told processes at before text a b = fails_one a b _ _ _ _ (fails_one a b _ _ _ _ (fails_one a b _ _ _ _
+    (nothing_later a b)))
+
+firing_told : (registry : Registry) (cpu at : ℕ) (row : FiringRow) (a b : Found) → IsFoundOfFiring registry cpu at row a
+    → IsFoundOfFiring registry cpu at row b → a ≡ b
+firing_told registry cpu at row a b = fails_one a b _ _ _ _ (fails_one a b _ _ _ _ (fails_one a b _ _ _ _
+    (fails_one a b _ _ _ _ (fails_one a b _ _ _ _ (fails_one a b _ _ _ _ (fails_one a b _ _ _ _
+    (fails_one a b _ _ _ _ (nothing_later a b))))))))
+
+both_told : (P : Found → Type 0) → ((a b : Found) → P a → P b → a ≡ b) → (x y : Option Found) → IsSomeAnd x P
+    → IsSomeAnd y P → x ≡ y
+both_told P one None y f g = absurd f
+both_told P one (Some a) None f g = absurd g
+both_told P one (Some a) (Some b) f g = ap Some (one a b f g)
+
+told_at : {A : Type 0} (P : ℕ → List A → A → Found → Type 0) (rows : List A) (at : ℕ) (x y : Option Found)
+    → ((before : List A) (row : A) (a b : Found) → P at before row a → P at before row b → a ≡ b)
+    → IsFoundAt P rows at x → IsFoundAt P rows at y → x ≡ y
+told_at {A} P rows at x y one f g =
+    let same = same_some f.row g.row (sym f.there ∙ g.there) in
+    let F : A → Type 0 = λ row. IsSomeAnd x (P at (take at rows) row) in
+    both_told (P at (take at rows) g.row) (one (take at rows) g.row) x y (subst F same f.tells) g.tells
+
+told_in : (registry : Registry) (all : List (List FiringRow)) (cpu at : ℕ) (x y : Option Found)
+    → IsFoundIn (λ cpu at _. IsFoundOfFiring registry cpu at) all cpu at x
+    → IsFoundIn (λ cpu at _. IsFoundOfFiring registry cpu at) all cpu at y → x ≡ y
+told_in registry all cpu at x y f g =
+    let same = same_some f.script g.script (sym f.there ∙ g.there) in
+    let F : List FiringRow → Type 0 = λ rows. IsFoundAt (λ at _. IsFoundOfFiring registry cpu at) rows at x in
+    told_at (λ at _. IsFoundOfFiring registry cpu at) g.script at x y (λ _ row. firing_told registry cpu at row)
+    (subst F same f.tells) g.tells
+
+scripts_told : (cpus : ℕ) (all : List (List FiringRow)) (cpu : ℕ) (x y : Option Found)
+    → IsFoundOfScripts cpus all cpu x → IsFoundOfScripts cpus all cpu y → x ≡ y
+scripts_told cpus all cpu x y f g = both_told _ (λ a b. fails_one a b _ _ _ _ (λ p q. p ∙ sym q)) x y f g
+
+first_of : (p : Data → Bool) (M : ℕ → Data → Found → Type 0) (rows : List Data) (a : Found)
+    (f : IsFirstFound p M rows a) → IsFirstWrong (λ _ d. p d ≡ true) rows f.at
+first_of p M rows a f = record {
+  row = f.row;
+  there = f.there;
+  wrong = λ right. false≢true (sym f.wrong ∙ right);
+  right_before = f.right_before;
+}
+
+list_told : (this : Found) (p : Data → Bool) (M : ℕ → Data → Found → Type 0)
+    → ((at : ℕ) (d : Data) (a b : Found) → M at d a → M at d b → a ≡ b) → (l : Option (List Data)) (a b : Found)
+    → IsFoundOfList this p M l a → IsFoundOfList this p M l b → a ≡ b
+list_told this p M one None a b f g = f ∙ sym g
+list_told this p M one (Some rows) a b f g =
+    let same = first_one (λ _ d. p d ≡ true) rows f.at g.at (first_of p M rows a f) (first_of p M rows b g) in
+    let moved : slice_get rows g.at ≡ Some f.row = ap (slice_get rows) (sym same) ∙ f.there in
+    let row = same_some f.row g.row (sym moved ∙ g.there) in
+    let F : ℕ → Type 0 = λ n. M n f.row a in
+    let G : Data → Type 0 = λ r. M g.at r a in
+    one g.at g.row a b (subst G row (subst F same f.tells)) g.tells
+
+account_shape_told : (at : ℕ) (d : Data) (a b : Found) → IsMisshapenAccount at d a → IsMisshapenAccount at d b → a ≡ b
+account_shape_told at d a b = fails_one a b _ _ _ _ (fails_one a b _ _ _ _ (fails_one a b _ _ _ _ (nothing_later a b)))
+
+process_shape_told : (at : ℕ) (d : Data) (a b : Found) → IsMisshapenProcess at d a → IsMisshapenProcess at d b → a ≡ b
+process_shape_told at d a b = fails_one a b _ _ _ _ (fails_one a b _ _ _ _ (fails_one a b _ _ _ _ (nothing_later a b)))
+
+probe_shape_told : (at : ℕ) (d : Data) (a b : Found) → IsMisshapenProbe at d a → IsMisshapenProbe at d b → a ≡ b
+probe_shape_told at d a b = fails_one a b _ _ _ _ (nothing_later a b)
+
+firing_shape_told : (cpu at : ℕ) (d : Data) (a b : Found) → IsMisshapenFiring cpu at d a → IsMisshapenFiring cpu at d b
+    → a ≡ b
+firing_shape_told cpu at d a b = fails_one a b _ _ _ _ (fails_one a b _ _ _ _ (fails_one a b _ _ _ _
+    (fails_one a b _ _ _ _ (fails_one a b _ _ _ _ (fails_one a b _ _ _ _ (fails_one a b _ _ _ _
+    (fails_one a b _ _ _ _ (nothing_later a b))))))))
+
+script_shape_told : (cpu : ℕ) (d : Data) (a b : Found) → IsMisshapenScript cpu d a → IsMisshapenScript cpu d b → a ≡ b
+script_shape_told cpu d a b = list_told (of (part.Script cpu) key.Scripts) is_firing (IsMisshapenFiring cpu)
+    (firing_shape_told cpu) (items d) a b
+
+file_shape_told : (d : Data) (a b : Found) → IsMisshapenFile d a → IsMisshapenFile d b → a ≡ b
+file_shape_told d a b = fails_one a b _ _ _ _
+    (else_one _ _ _ _ _ (list_told (of part.File key.Accounts) is_account IsMisshapenAccount account_shape_told
+    (items_at (codes "accounts") d) a b)
+    (else_one _ _ _ _ _ (list_told (of part.File key.Processes) is_process IsMisshapenProcess process_shape_told
+    (items_at (codes "processes") d) a b)
+    (else_one _ _ _ _ _ (list_told (of part.File key.Probes) is_text IsMisshapenProbe probe_shape_told
+    (items_at (codes "probes") d) a b)
+    (else_one _ _ _ _ _ (list_told (of part.File key.Scripts) (is_list_of is_firing) IsMisshapenScript script_shape_told
+    (items_at (codes "scripts") d) a b) (nothing_later a b)))))
+
+shape_told : (d : Data) (x y : Option Found) → IsFoundOfShape d x → IsFoundOfShape d y → x ≡ y
+shape_told d x y = else_one _ _ _ _ _ (λ f g. f ∙ sym g) (both_told (IsMisshapenFile d) (file_shape_told d) x y)
+
+told_one : (number : FaultNumber) (d : Data) (cpu row : ℕ) (x y : Option Found) → Tells number d cpu row x
+    → Tells number d cpu row y → x ≡ y
+told_one Json d cpu row x y f g = f ∙ sym g
+told_one Shape d cpu row x y f g = shape_told d x y f g
+told_one Cpus d cpu row x y f g = f ∙ sym g
+told_one Account d cpu row x y f g = told_at IsFoundOfAccount _ row x y (account_told row) f g
+told_one Process d cpu row x y f g = told_at IsFoundOfProcess _ row x y (process_told row) f g
+told_one Probe d cpu row x y f g =
+    told_at (IsFoundOfProbe (map process (processes_in d))) _ row x y (probe_told (map process (processes_in d)) row) f g
+told_one Script d cpu row x y f g =
+    let same = same_some f.0 g.0 (sym f.1 ∙ g.1) in
+    let S : ℕ → Type 0 = λ n. IsFoundOfScripts n (scripts_in d) cpu x in
+    scripts_told g.0 (scripts_in d) cpu x y (subst S same f.2) g.2
+told_one Firing d cpu row x y f g =
+    let same = registry_one d f.0 g.0 f.1 g.1 in
+    let F : Registry → Type 0 = λ r. IsFoundIn (λ cpu at _. IsFoundOfFiring r cpu at) (scripts_in d) cpu row x in
+    told_in g.0 (scripts_in d) cpu row x y (subst F same f.2) g.2
+told_one Foreign d cpu row x y f g = f ∙ sym g
+told_one Memory d cpu row x y f g = f ∙ sym g
+
+same_fault : (a b : MachineFault) → a.number ≡ b.number → a.cpu ≡ b.cpu → a.row ≡ b.row → a.found ≡ b.found → a ≡ b
+same_fault a b p q r s = λ i. record { number = p i; cpu = q i; row = r i; found = s i }
 
 fault_one : (d : Data) (a b : MachineFault) → IsFirstFinding d a → IsFirstFinding d b → a ≡ b
 fault_one d a b f g = elim (order (rank_of a.number) (rank_of b.number)) [
@@ -126,7 +276,11 @@ fault_one d a b f g = elim (order (rank_of a.number) (rank_of b.number)) [
         (let number = one_number a.number b.number same in
         let F : FaultNumber → Type 0 = λ n. Finds n d a.cpu a.row in
         let place = place_one b.number d a.cpu b.cpu a.row b.row (subst F number f.found) g.found in
-        same_fault a b number place.0 place.1)
+        let N : FaultNumber → Type 0 = λ n. Tells n d a.cpu a.row a.found in
+        let C : ℕ → Type 0 = λ cpu. Tells b.number d cpu a.row a.found in
+        let R : ℕ → Type 0 = λ row. Tells b.number d b.cpu row a.found in
+        let told = subst R place.1 (subst C place.0 (subst N number f.tells)) in
+        same_fault a b number place.0 place.1 (told_one b.number d b.cpu b.row a.found b.found told g.tells))
     | inr more ↦ absurd (passes_finds b.number d b.cpu b.row (f.none_before b.number more) g.found)
   ]
 ]

@@ -9,5 +9,7 @@ pub mod Lists
 pub mod Padding
 pub mod Registries
 pub mod Searching
+pub mod Shapes
 pub mod Soundness
 pub mod Spelling
+pub mod Told

@@ -52,5 +52,9 @@ text_at key other d = option_map_or text_of (get key d) other
 abbrev pub items_of : Data → List Data
 items_of d = unwrap_or (items d) []
 
+-- the items of the list under a key, where there is such a list
+abbrev pub items_at : List ℕ → Data → Option (List Data)
+items_at key d = option_and_then items (get key d)
+
 abbrev pub list_at : List ℕ → Data → List Data
 list_at key d = option_map_or items_of (get key d) []

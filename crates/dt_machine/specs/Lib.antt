@@ -9,6 +9,7 @@ pub mod Inside
 pub mod Given
 pub mod Shape
 pub mod Rows
+pub mod Found
 pub mod ByPid
 pub mod Reading
 pub mod Sections

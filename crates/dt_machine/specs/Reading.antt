@@ -9,6 +9,10 @@ use Rattle.dt_machine.specs.Given.{unsigned_at, text_of, list_at}
 use Rattle.dt_machine.specs.Shape.{is_machine}
 use Rattle.dt_machine.specs.Rows.{AccountRow, ProcessRow, FiringRow, account_row, process_row, script_rows, account, process, scripts, AreProbes, IsRightAccount, IsRightProcess, IsRightProbe, IsRightFiring, HasRoom}
 use Rattle.dt_machine.specs.Registry.{Registry, Contents, Belongs}
+use Rattle.dt_machine.specs.declared.found.Found.{Found}
+use Rattle.dt_machine.specs.declared.found.Key.TheVariants as key
+use Rattle.dt_machine.specs.declared.found.Part.TheVariants as part
+use Rattle.dt_machine.specs.Found.{Fails, of, IsFoundAt, IsFoundIn, IsFoundOfShape, IsFoundOfAccount, IsFoundOfProcess, IsFoundOfProbe, IsFoundOfFiring}
 use Rattle.dt_machine.specs.Limits.{cpus_max}
 
 -- each row is right, given those before it
@@ -95,6 +99,25 @@ Finds Foreign d cpu row = (registry : Registry) × Registers d registry
     × IsFirstWrongIn (λ _ firing. Belongs registry firing) (scripts 0 (scripts_in d)) cpu row
 Finds Memory d cpu row = ⊥
 
+-- what is found of scripts that are not one for each processor, or of the first that is too long
+abbrev pub IsFoundOfScripts : ℕ → List (List FiringRow) → ℕ → Option Found → Type 0
+IsFoundOfScripts cpus scripts cpu found = IsSomeAnd found (λ found.
+    Fails found (of part.File key.Scripts) (cpus ≡ length scripts) (found ≡ of (part.Script cpu) key.Scripts))
+
+-- What a fault tells of what its number finds at a processor and a row.
+abbrev pub Tells : FaultNumber → Data → ℕ → ℕ → Option Found → Type 0
+Tells Json d cpu row found = found ≡ None
+Tells Shape d cpu row found = IsFoundOfShape d found
+Tells Cpus d cpu row found = found ≡ Some (of part.File key.Cpus)
+Tells Account d cpu row found = IsFoundAt IsFoundOfAccount (accounts_in d) row found
+Tells Process d cpu row found = IsFoundAt IsFoundOfProcess (processes_in d) row found
+Tells Probe d cpu row found = IsFoundAt (IsFoundOfProbe (map process (processes_in d))) (probes_in d) row found
+Tells Script d cpu row found = (cpus : ℕ) × (cpus_in d ≡ Some cpus) × IsFoundOfScripts cpus (scripts_in d) cpu found
+Tells Firing d cpu row found = (registry : Registry) × Registers d registry
+    × IsFoundIn (λ cpu at _. IsFoundOfFiring registry cpu at) (scripts_in d) cpu row found
+Tells Foreign d cpu row found = found ≡ Some (of (part.Firing cpu row) key.Pid)
+Tells Memory d cpu row found = found ≡ None
+
 abbrev pub rank_of : FaultNumber → ℕ
 rank_of Json = 1
 rank_of Shape = 2
@@ -113,13 +136,14 @@ pub record IsJson (text : List ℕ) (d : Data) : Type 0 where
   pub value : read text ≡ Some d
 
 -- The first fault of a text: that it is no JSON, or the least number whose tests find something, where they find it
--- first.
+-- first. It tells what is wrong there.
 pub record IsFirstFinding (d : Data) (fault : MachineFault) : Type 0 where
   pub found : Finds fault.number d fault.cpu fault.row
+  pub tells : Tells fault.number d fault.cpu fault.row fault.found
   pub none_before : (earlier : FaultNumber) → rank_of earlier < rank_of fault.number → Passes earlier d
 
 abbrev pub IsFaultOf : List ℕ → MachineFault → Type 0
-IsFaultOf text fault = (((d : Data) → IsJson text d → ⊥) × (fault ≡ record { number = Json; cpu = 0; row = 0 }))
+IsFaultOf text fault = (((d : Data) → IsJson text d → ⊥) × (fault ≡ record { number = Json; cpu = 0; row = 0; found = None }))
     ⊎ ((d : Data) × IsJson text d × IsFirstFinding d fault)
 
 -- The machine that a text describes: the tests of no number find anything, and this is its registry and its scripts.

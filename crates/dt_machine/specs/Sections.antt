@@ -1,5 +1,5 @@
 -- What the reading of one section of the file answers.
-use Rattle.std.specs.Prelude.{◌≡◌, ◌&&◌, Bool, ◌≢◌, ◌^◌, All, length, ◌<◌, ◌≤◌, ℕ, List, map, find, Vec, IsSome, ◌==◌, IfSome, slice_get, option_and_then}
+use Rattle.std.specs.Prelude.{◌≡◌, ◌&&◌, Bool, ◌≢◌, ◌^◌, All, length, ◌<◌, ◌≤◌, ℕ, List, map, find, Vec, None, IsSome, ◌==◌, IfSome, slice_get, option_and_then}
 use Rattle.std.specs.declared.alloc.Global.{Global}
 use Rattle.serde_json.specs.View.{view}
 use Rattle.serde_json.specs.declared.value.Value.{Value}
@@ -7,6 +7,8 @@ use Rattle.dt_cred.specs.declared.account.Process.{Process}
 use Rattle.dt_machine.specs.declared.fault.FaultNumber.{FaultNumber}
 use Rattle.dt_machine.specs.declared.fault.FaultNumber.TheVariants.{Memory}
 use Rattle.dt_machine.specs.declared.fault.MachineFault.{MachineFault}
+use Rattle.dt_machine.specs.declared.found.Found.{Found}
+use Rattle.dt_machine.specs.Found.{IsFoundAt}
 use Rattle.dt_machine.specs.Rows.{AccountRow, ProcessRow, FiringRow, account_row, process_row, firing_row, script_rows}
 use Rattle.std.specs.Str.{bytes_eq}
 use Rattle.dt_names.specs.declared.tuple.ProbeTuple.{ProbeTuple}
@@ -26,16 +28,17 @@ use Rattle.dt_machine.specs.Limits.{probe_id_max}
 abbrev pub UnlessMemory : MachineFault → Type 0 → Type 0
 UnlessMemory fault P = fault.number ≢ Memory → P
 
--- a fault for memory names no processor and no row
+-- a fault for memory names no processor and no row, and tells no key
 abbrev pub NowhereIfMemory : MachineFault → Type 0
-NowhereIfMemory fault = fault.number ≡ Memory → Nowhere fault.cpu fault.row
+NowhereIfMemory fault = fault.number ≡ Memory → Nowhere fault.cpu fault.row × (fault.found ≡ None)
 
--- the fault of a number at the first row that is not right
-pub record IsMiss {A : Type 0} (wanted : FaultNumber) (IsRight : List A → A → Type 0) (rows : List A)
-    (fault : MachineFault) : Type 0 where
+-- the fault of a number at the first row that is not right, which tells what is wrong with it
+pub record IsMiss {A : Type 0} (wanted : FaultNumber) (IsRight : List A → A → Type 0)
+    (IsFoundOf : ℕ → List A → A → Found → Type 0) (rows : List A) (fault : MachineFault) : Type 0 where
   pub number : fault.number ≡ wanted
   pub nowhere : fault.cpu ≡ 0
   pub first : IsFirstWrong IsRight rows fault.row
+  pub tells : IsFoundAt IsFoundOf rows fault.row fault.found
 
 abbrev pub account_rows : List Value → List AccountRow
 account_rows values = map account_row (map view values)

@@ -1,14 +1,16 @@
 //! The accounts of the file.
-ghost use Rattle.std.specs.Prelude.{◌≡◌, ◌≢◌, ◌↔◌, ◌≤◌, ◌<◌, All, List, Some, IsTrue, IsSome, IfOk, IfErr, MatchOption, codes, map, length};
+ghost use Rattle.std.specs.Prelude.{◌≡◌, ◌≢◌, ◌↔◌, ◌≤◌, ◌<◌, All, List, Some, IsTrue, IsSome, IfOk, IfErr, MatchOption, MatchResult, codes, map, length};
 ghost use Rattle.std.specs.List.{list_any};
 ghost use Rattle.std.specs.Str.{bytes_eq};
 ghost use Rattle.serde_json.specs.View.{view};
 ghost use Rattle.dt_machine.specs.Given.{text_of};
 ghost use Rattle.dt_machine.specs.Rows.{AccountRow, account_row, account, privs, lists, IsAccountByte, IsAccountName, IsPriv, IsRightAccount};
+ghost use Rattle.dt_machine.specs.Found.{IsFoundOfAccount};
 ghost use Rattle.dt_machine.specs.Reading.{AllRight};
 ghost use Rattle.dt_machine.specs.Sections.{NowhereIfMemory, UnlessMemory, IsMiss, account_rows, texts};
 
 use crate::fault::{FaultNumber, MachineFault};
+use crate::found::{Found, Key, Part};
 use crate::keys::{list_at, text_at, text_of, u32_of, unsigned_at};
 use crate::limits::ACCOUNTS_MAX;
 use dt_cred::{Account, Privs};
@@ -22,43 +24,38 @@ pub(crate) fn read_accounts(alloc: Global, rows: &[Value]) -> Result<Vec<Account
     ensures accounts { IfOk result (λ accounts. accounts.items ≡ map account (account_rows rows.now)) }
     ensures memory { IfErr result NowhereIfMemory }
     ensures fault { IfErr result (λ fault.
-        UnlessMemory fault (IsMiss FaultNumber.Account IsRightAccount (account_rows rows.now) fault)) }
+        UnlessMemory fault (IsMiss FaultNumber.Account IsRightAccount IsFoundOfAccount (account_rows rows.now) fault)) }
 {
     let mut accounts = Vec::new(alloc);
     for value in rows {
         match account_of(accounts.as_slice(), value) {
-            Some(account) => accounts.push(account)?,
-            None => {
-                // the first row that isn't right decides: no later one is read
-                return Err(MachineFault {
-                    number: FaultNumber::Account,
-                    cpu: 0,
-                    row: accounts.len() as u32,
-                });
-            }
+            Ok(account) => accounts.push(account)?,
+            // the first row that isn't right decides: no later one is read
+            Err(found) => return Err(FaultNumber::Account.at_row(accounts.len() as u32, found)),
         }
     }
     Ok(accounts)
 }
 
-/// The account of a row, if it is right after these accounts.
-fn account_of(before: &[Account], row: &Value) -> Option<Account>
-    ensures { (rows : List AccountRow) → before.now ≡ map account rows
-        → MatchOption result (IsRightAccount rows (account_row (view row.now)) → ⊥)
-        (λ found. IsRightAccount rows (account_row (view row.now)) × (found ≡ account (account_row (view row.now)))) }
+/// The account of a row, if it is right after these accounts, or what is wrong with it.
+fn account_of(before: &[Account], row: &Value) -> Result<Account, Found>
+    ensures { (rows : List AccountRow) → before.now ≡ map account rows → MatchResult result
+        (λ found. IsRightAccount rows (account_row (view row.now)) × (found ≡ account (account_row (view row.now))))
+        (IsFoundOfAccount (length before.now) rows (account_row (view row.now))) }
 {
-    let name = account_name(text_at(row, "name", "").as_bytes())?;
-    let uid = u32_of(unsigned_at(row, "uid", None))?;
-    let privs = privs_of(list_at(row, "privs"))?;
     // one account more than a machine may have isn't right, whatever its row says
     if before.len() >= ACCOUNTS_MAX {
-        return None;
+        return Err(Part::File.has(Key::Accounts));
     }
+    let this = Part::Account(before.len());
+    let name = account_name(text_at(row, "name", "").as_bytes()).ok_or(this.has(Key::Name))?;
     // a session is opened by the name of its account, so no two may have one
     if is_taken(before, name.as_bytes()) {
-        return None;
+        return Err(this.has(Key::Name));
     }
-    Some(Account { name, uid, privs })
+    let uid = u32_of(unsigned_at(row, "uid", None)).ok_or(this.has(Key::Uid))?;
+    let privs = privs_of(list_at(row, "privs")).ok_or(this.has(Key::Privs))?;
+    Ok(Account { name, uid, privs })
 }
 
 fn is_taken(accounts: &[Account], name: &[u8]) -> bool

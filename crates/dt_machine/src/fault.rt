@@ -1,6 +1,7 @@
 //! Why a machine file is refused.
-ghost use Rattle.std.specs.Prelude.{◌≡◌};
+ghost use Rattle.std.specs.Prelude.{◌≡◌, None, Some};
 
+use crate::found::Found;
 use std::alloc::{AllocError, AllocFailed};
 use std::fmt;
 use thiserror::Error;
@@ -53,13 +54,16 @@ pub struct MachineFault {
     pub cpu: u32,
     /// The row of the section or the script, from 0 on, and 0 where none is meant.
     pub row: u32,
+    /// The first key that is wrong there. `None` where no key is at fault: the text is no JSON, the file is no object, or
+    /// memory ran out.
+    pub found: Option<Found>,
 }
 
 impl From<AllocError> for MachineFault {
-    ghost use Rattle.std.specs.Prelude.{◌≡◌};
+    ghost use Rattle.std.specs.Prelude.{◌≡◌, None};
     ghost use Rattle.dt_machine.specs.declared.fault.FaultNumber.TheVariants.{Memory};
 
-    ghost from_gives = { λ _ fault. fault ≡ record { number = Memory; cpu = 0; row = 0 } };
+    ghost from_gives = { λ _ fault. fault ≡ record { number = Memory; cpu = 0; row = 0; found = None } };
 
     fn from(_refused: AllocError) -> MachineFault {
         FaultNumber::Memory.nowhere()
@@ -67,10 +71,10 @@ impl From<AllocError> for MachineFault {
 }
 
 impl<T: Drop> From<AllocFailed<T>> for MachineFault {
-    ghost use Rattle.std.specs.Prelude.{◌≡◌};
+    ghost use Rattle.std.specs.Prelude.{◌≡◌, None};
     ghost use Rattle.dt_machine.specs.declared.fault.FaultNumber.TheVariants.{Memory};
 
-    ghost from_gives = { λ _ fault. fault ≡ record { number = Memory; cpu = 0; row = 0 } };
+    ghost from_gives = { λ _ fault. fault ≡ record { number = Memory; cpu = 0; row = 0; found = None } };
 
     fn from(_refused: AllocFailed<T>) -> MachineFault {
         FaultNumber::Memory.nowhere()
@@ -80,14 +84,27 @@ impl<T: Drop> From<AllocFailed<T>> for MachineFault {
 impl FaultNumber {
     ghost use Rattle.dt_machine.specs.declared.fault.MachineFault.{MachineFault};
 
-    /// The fault of this number where no processor and no row is meant.
+    /// The fault of this number where no processor, no row and no key is meant.
     pub(crate) fn nowhere(self) -> MachineFault
-        ensures { result ≡ record { number = self; cpu = 0; row = 0 } }
+        ensures { result ≡ record { number = self; cpu = 0; row = 0; found = None } }
     {
         MachineFault {
             number: self,
             cpu: 0,
             row: 0,
+            found: None,
+        }
+    }
+
+    /// The fault of this number at a row of a section.
+    pub(crate) fn at_row(self, row: u32, found: Found) -> MachineFault
+        ensures { result ≡ record { number = self; cpu = 0; row = row; found = Some found } }
+    {
+        MachineFault {
+            number: self,
+            cpu: 0,
+            row,
+            found: Some(found),
         }
     }
 }

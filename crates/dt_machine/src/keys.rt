@@ -1,7 +1,7 @@
 //! What a value of the file gives under its keys, as one of another kind gives nothing.
 ghost use Rattle.std.specs.Prelude.{◌≡◌, ◌^◌, ℕ, List, Some, map, option_map, is_some, codes, MatchOption};
 ghost use Rattle.serde_json.specs.View.{view};
-ghost use Rattle.dt_machine.specs.Given.{items, is_integer, is_text, unsigned, signed, unsigned_at, text_of, text_at, items_of, list_at};
+ghost use Rattle.dt_machine.specs.Given.{items, is_integer, is_text, unsigned, signed, unsigned_at, text_of, text_at, items_of, items_at, list_at};
 ghost use Rattle.dt_machine.specs.Rows.{IsGivenBelow, number_in};
 
 use serde_json::Value;
@@ -23,6 +23,16 @@ pub(crate) fn items_of(value: &Value) -> &[Value]
     match items(value) {
         Some(list) => list,
         None => &[],
+    }
+}
+
+/// The items of the list under a key, where there is such a list.
+pub(crate) fn items_at<'v>(value: &'v Value, key: &str) -> Option<&'v [Value]>
+    ensures { option_map (λ list. map view list.now) result ≡ items_at key.now (view value.now) }
+{
+    match value.get(key) {
+        Some(found) => items(found),
+        None => None,
     }
 }
 

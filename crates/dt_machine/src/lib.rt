@@ -1,8 +1,9 @@
 //! The machine: its file read whole, or refused with the first fault, and then found in by number and by name.
 //!
 //! `Machine::read` gives the machine that a text describes. It refuses any other text with the least number of
-//! [`FaultNumber`] that finds something in it, at the least processor and there the first row; `one_answer` says that
-//! a text has one answer. Only a refusal for memory can come in place of either.
+//! [`FaultNumber`] that finds something in it, at the least processor and there the first row, and tells the first key that
+//! is wrong there as [`Found`]; `one_answer` says that a text has one answer. Only a refusal for memory can come in place
+//! of either.
 //!
 //! `Machine`'s readers and [`Interest`] take no memory. Whether a firing belongs to a machine is [`Machine::moment`],
 //! and the reading of the file asks the same code. The limits are the constants of this crate, and contracts and
@@ -15,6 +16,7 @@ mod belonging;
 mod bit_word;
 mod by_pid;
 mod fault;
+mod found;
 mod interest;
 mod keys;
 mod law;
@@ -32,6 +34,7 @@ mod shape;
 pub use bit_word::{BitWord, WORD_BITS};
 pub use dt_cred::{ARGS, FRAMES, Firing};
 pub use fault::{FaultNumber, MachineFault};
+pub use found::{Found, Key, Part};
 pub use interest::{INTEREST_WORDS, Interest};
 pub use law::{described_is_in_bounds, described_is_sound, one_answer};
 pub use limit_laws::limits_agree;

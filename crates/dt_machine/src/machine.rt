@@ -1,5 +1,5 @@
 //! The machine, and the reading of its file.
-ghost use Rattle.std.specs.Prelude.{◌≡◌, ◌≢◌, IfOk, IfErr, MatchOption};
+ghost use Rattle.std.specs.Prelude.{◌≡◌, ◌≢◌, None, IfOk, IfErr, MatchOption};
 ghost use Rattle.std.specs.Option.{option_copied};
 ghost use Rattle.serde_json.specs.Data.{Data};
 ghost use Rattle.serde_json.specs.View.{view};
@@ -8,6 +8,7 @@ ghost use Rattle.dt_machine.specs.Sections.{NowhereIfMemory};
 
 use crate::belonging::first_foreign;
 use crate::fault::{FaultNumber, MachineFault};
+use crate::found::{Key, Part};
 use crate::keys::list_at;
 use crate::moment::Moment;
 use crate::scripts::read_scripts;
@@ -48,9 +49,9 @@ impl Machine {
     /// Reads a machine file: a JSON object with the keys `cpus`, `accounts`, `processes`, `probes` and `scripts`.
     ///
     /// The machine is the one that the text describes, and a fault is the first that the text shows: the least
-    /// [`FaultNumber`], at the least processor and there the first row. [`FaultNumber::Memory`] alone may come in
-    /// place of either, where memory is refused. Memory is taken for the JSON value, which is let go before the last
-    /// test, and for the machine, which has each firing once, in 240 bytes.
+    /// [`FaultNumber`], at the least processor and there the first row, with the first key that is wrong there.
+    /// [`FaultNumber::Memory`] alone may come in place of either, where memory is refused. Memory is taken for the JSON
+    /// value, which is let go before the last test, and for the machine, which has each firing once, in 240 bytes.
     pub fn read(alloc: Global, text: &[u8]) -> Result<Machine, MachineFault>
         ensures ok { IfOk result (λ machine. IsDescribed text.now machine) }
         ensures sound { IfOk result (λ machine. IsSound machine) }
@@ -62,11 +63,18 @@ impl Machine {
         let scripts = read_scripts(alloc, &sections, list_at(&file, "scripts"))?;
         drop(file);
         match first_foreign(&sections, scripts.as_slice()) {
-            Some((cpu, row)) => Err(MachineFault {
-                number: FaultNumber::Foreign,
-                cpu,
-                row,
-            }),
+            Some((cpu, row)) => {
+                let firing = Part::Firing {
+                    cpu: cpu as usize,
+                    row: row as usize,
+                };
+                Err(MachineFault {
+                    number: FaultNumber::Foreign,
+                    cpu,
+                    row,
+                    found: Some(firing.has(Key::Pid)),
+                })
+            }
             None => Ok(Machine::new(sections, scripts)),
         }
     }
@@ -148,7 +156,7 @@ fn parse(alloc: Global, text: &[u8]) -> Result<Value, MachineFault>
     ensures ok { IfOk result (λ value. IsJson text.now (view value)) }
     ensures memory { IfErr result NowhereIfMemory }
     ensures fault { IfErr result (λ fault. fault.number ≢ FaultNumber.Memory
-        → ((d : Data) → IsJson text.now d → ⊥) × (fault ≡ record { number = FaultNumber.Json; cpu = 0; row = 0 })) }
+        → ((d : Data) → IsJson text.now d → ⊥) × (fault ≡ record { number = FaultNumber.Json; cpu = 0; row = 0; found = None })) }
 {
     match Value::from_slice(alloc, text) {
         Ok(value) => Ok(value),

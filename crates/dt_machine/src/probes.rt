@@ -1,15 +1,17 @@
 //! The probes of a machine: `BEGIN`, `END` and those of the file.
-ghost use Rattle.std.specs.Prelude.{◌≡◌, ◌≢◌, ◌↔◌, ◌≤◌, ◌<◌, ◌+◌, [], ◌∷◌, All, List, ℕ, Some, None, IsTrue, IsSome, IfOk, IfErr, MatchOption, MatchBool, codes, map, length, find, slice_get, ◌==◌};
+ghost use Rattle.std.specs.Prelude.{◌≡◌, ◌≢◌, ◌↔◌, ◌≤◌, ◌<◌, ◌+◌, [], ◌∷◌, All, List, ℕ, Some, None, IsTrue, IsSome, IfOk, IfErr, MatchResult, MatchBool, codes, map, length, find, slice_get, ◌==◌};
 ghost use Rattle.std.specs.List.{list_any};
 ghost use Rattle.dt_names.specs.Tuple.{SpellsTuple};
 ghost use Rattle.dt_cred.specs.Class.{IsClassOf};
 ghost use Rattle.dt_cred.specs.declared.probe.Probe.{Probe};
 ghost use Rattle.dt_machine.specs.declared.limits.TheConstants.{FIRST_PROBE_ID};
 ghost use Rattle.dt_machine.specs.Rows.{AreProbes, IsRightProbe};
+ghost use Rattle.dt_machine.specs.Found.{IsFoundOfProbe};
 ghost use Rattle.dt_machine.specs.Reading.{AllRight};
 ghost use Rattle.dt_machine.specs.Sections.{NowhereIfMemory, UnlessMemory, IsMiss, IsTraced, eq_tuples, texts};
 
 use crate::fault::{FaultNumber, MachineFault};
+use crate::found::{Found, Key, Part};
 use crate::keys::text_of;
 use crate::limits::{FIRST_PROBE_ID, PROBES_MAX};
 use dt_cred::{Class, Probe, Process};
@@ -28,7 +30,8 @@ pub(crate) fn read_probes(
         AreProbes 1 (codes "dtrace:::BEGIN" ∷ codes "dtrace:::END" ∷ texts rows.now) probes.items) }
     ensures memory { IfErr result NowhereIfMemory }
     ensures fault { IfErr result (λ fault.
-        UnlessMemory fault (IsMiss FaultNumber.Probe (IsRightProbe processes.now) (texts rows.now) fault)) }
+        UnlessMemory fault
+        (IsMiss FaultNumber.Probe (IsRightProbe processes.now) (IsFoundOfProbe processes.now) (texts rows.now) fault)) }
 {
     let mut probes = own_probes(alloc)?;
     for value in rows {
@@ -37,15 +40,9 @@ pub(crate) fn read_probes(
             processes,
             text_of(value).as_bytes(),
         ) {
-            Some(probe) => probes.push(probe)?,
-            None => {
-                // the first row that isn't right decides; `BEGIN` and `END` are no rows of the file
-                return Err(MachineFault {
-                    number: FaultNumber::Probe,
-                    cpu: 0,
-                    row: probes.len() as u32 - 2,
-                });
-            }
+            Ok(probe) => probes.push(probe)?,
+            // the first row that isn't right decides; `BEGIN` and `END` are no rows of the file
+            Err(found) => return Err(FaultNumber::Probe.at_row(probes.len() as u32 - 2, found)),
         }
     }
     Ok(probes)
@@ -61,30 +58,32 @@ fn own_probes(alloc: Global) -> Result<Vec<Probe>, AllocError>
     Ok(probes)
 }
 
-/// The probe of a row, if it is right after these of the file.
-fn probe_of(before: &[Probe], processes: &[Process], text: &[u8]) -> Option<Probe>
-    // `None` exactly where the row isn't right; else its probe, with the next identifier and its class
+/// The probe of a row, if it is right after these of the file, or what is wrong with it.
+fn probe_of(before: &[Probe], processes: &[Process], text: &[u8]) -> Result<Probe, Found>
+    // the probe of a right row has the next identifier, and its provider's class
     ensures { (rows : List (List ℕ)) → AreProbes FIRST_PROBE_ID rows before.now
-        → MatchOption result (IsRightProbe processes.now rows text.now → ⊥)
+        → MatchResult result
         (λ probe. IsRightProbe processes.now rows text.now
         × (probe.id ≡ length before.now + FIRST_PROBE_ID) × SpellsTuple text.now probe.tuple
-        × IsClassOf probe.tuple.provider probe.class) }
+        × IsClassOf probe.tuple.provider probe.class)
+        (IsFoundOfProbe processes.now (length before.now) rows text.now) }
 {
     // one probe more than a machine may have isn't right, whatever its text says
     if before.len() >= PROBES_MAX {
-        return None;
+        return Err(Part::File.has(Key::Probes));
     }
-    let tuple = ProbeTuple::parse(text)?;
+    let this = Part::Probe(before.len());
+    let tuple = ProbeTuple::parse(text).ok_or(this.has(Key::Text))?;
     // no two probes are alike: a repeated one is told at its later row
     if is_taken(before, &tuple) {
-        return None;
+        return Err(this.has(Key::Text));
     }
     let probe = Probe::new(before.len() as u32 + FIRST_PROBE_ID, tuple);
     // the provider `dtrace` has `BEGIN` and `END` alone, and a `pid` provider needs its process in the file
     if !is_traced(probe.class, processes) {
-        return None;
+        return Err(this.has(Key::Provider));
     }
-    Some(probe)
+    Ok(probe)
 }
 
 fn is_taken(probes: &[Probe], tuple: &ProbeTuple) -> bool

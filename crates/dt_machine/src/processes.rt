@@ -1,12 +1,14 @@
 //! The processes of the file.
-ghost use Rattle.std.specs.Prelude.{◌≡◌, ◌≢◌, ◌^◌, ◌+◌, ◌↔◌, ◌≤◌, ◌<◌, All, List, Some, None, IsTrue, IsSome, IfOk, IfErr, MatchOption, map, length, find, ◌==◌};
+ghost use Rattle.std.specs.Prelude.{◌≡◌, ◌≢◌, ◌^◌, ◌+◌, ◌↔◌, ◌≤◌, ◌<◌, All, List, Some, None, IsTrue, IsSome, IfOk, IfErr, MatchOption, MatchResult, map, length, find, ◌==◌};
 ghost use Rattle.serde_json.specs.View.{view};
 ghost use Rattle.dt_machine.specs.Rows.{ProcessRow, process_row, process, number_in, IsGivenBelow, IsExecname, IsRightProcess};
+ghost use Rattle.dt_machine.specs.Found.{IsFoundOfProcess};
 ghost use Rattle.dt_machine.specs.Reading.{AllRight};
 ghost use Rattle.dt_machine.specs.Sections.{NowhereIfMemory, UnlessMemory, IsMiss, Indexes, process_rows};
 
 use crate::by_pid::ByPid;
 use crate::fault::{FaultNumber, MachineFault};
+use crate::found::{Found, Key, Part};
 use crate::keys::{text_at, u32_of, unsigned_at};
 use crate::limits::{PID_MAX, PROCESSES_MAX};
 use dt_cred::Process;
@@ -25,51 +27,50 @@ pub(crate) fn read_processes(
     ensures by_pid { IfOk result (λ found. Indexes found.1 found.0.items) }
     ensures memory { IfErr result NowhereIfMemory }
     ensures fault { IfErr result (λ fault.
-        UnlessMemory fault (IsMiss FaultNumber.Process IsRightProcess (process_rows rows.now) fault)) }
+        UnlessMemory fault (IsMiss FaultNumber.Process IsRightProcess IsFoundOfProcess (process_rows rows.now) fault)) }
 {
     let mut processes = Vec::new(alloc);
     let mut by_pid = ByPid::new(alloc);
     for value in rows {
         match process_of(processes.len(), &by_pid, value) {
-            Some(process) => {
+            Ok(process) => {
                 by_pid.insert(process.pid, processes.len() as u16)?;
                 processes.push(process)?;
             }
-            None => {
-                // the first row that isn't right decides: no later one is read
-                return Err(MachineFault {
-                    number: FaultNumber::Process,
-                    cpu: 0,
-                    row: processes.len() as u32,
-                });
-            }
+            // the first row that isn't right decides: no later one is read
+            Err(found) => return Err(FaultNumber::Process.at_row(processes.len() as u32, found)),
         }
     }
     Ok((processes, by_pid))
 }
 
-/// The process of a row, if it is right after this many processes, of which the map gives the places.
-fn process_of(before: usize, by_pid: &ByPid, row: &Value) -> Option<Process>
-    // `None` exactly where the row isn't right; else its process, whose number no earlier one has
+/// The process of a row, if it is right after this many processes, of which the map gives the places, or what is wrong
+/// with it.
+fn process_of(before: usize, by_pid: &ByPid, row: &Value) -> Result<Process, Found>
+    // the process of a right row has a number that no earlier one has
     ensures { (rows : List ProcessRow) → before ≡ length rows → All (λ r. IsSome r.pid) rows
         → Indexes by_pid.now (map process rows)
-        → MatchOption result (IsRightProcess rows (process_row (view row.now)) → ⊥)
+        → MatchResult result
         (λ found. IsRightProcess rows (process_row (view row.now))
         × (found ≡ process (process_row (view row.now)))
-        × (find (λ earlier. earlier.pid == found.pid) (map process rows) ≡ None)) }
+        × (find (λ earlier. earlier.pid == found.pid) (map process rows) ≡ None))
+        (IsFoundOfProcess before rows (process_row (view row.now))) }
 {
-    let pid = pid_of(unsigned_at(row, "pid", None))?;
-    let uid = u32_of(unsigned_at(row, "uid", None))?;
-    let execname = execname_of(text_at(row, "execname", "").as_bytes())?;
     // one process more than a machine may have isn't right, whatever its row says
     if before >= PROCESSES_MAX {
-        return None;
+        return Err(Part::File.has(Key::Processes));
     }
+    let this = Part::Process(before);
+    let pid = pid_of(unsigned_at(row, "pid", None)).ok_or(this.has(Key::Pid))?;
     // a firing names its process by the number, so no two may have one
     if by_pid.place_of(pid).is_some() {
-        return None;
+        return Err(this.has(Key::Pid));
     }
-    Some(Process { pid, uid, execname })
+    let uid = u32_of(unsigned_at(row, "uid", None)).ok_or(this.has(Key::Uid))?;
+    let execname = execname_of(text_at(row, "execname", "").as_bytes()).ok_or(this.has(
+        Key::Execname,
+    ))?;
+    Ok(Process { pid, uid, execname })
 }
 
 fn pid_of(number: Option<u64>) -> Option<u32>

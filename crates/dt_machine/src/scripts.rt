@@ -1,13 +1,15 @@
 //! The scripts of the file, each a list of firings.
-ghost use Rattle.std.specs.Prelude.{◌≡◌, ◌≢◌, ◌^◌, ◌↔◌, ◌≤◌, ◌<◌, ℕ, All, List, Some, None, IsTrue, IsSome, IsSomeAnd, IfOk, IfErr, IfSome, MatchOption, map, length, slice_get, pos};
+ghost use Rattle.std.specs.Prelude.{◌≡◌, ◌≢◌, ◌^◌, ◌↔◌, ◌≤◌, ◌<◌, ℕ, All, List, Some, None, IsTrue, IsSome, IsSomeAnd, IfOk, IfErr, IfSome, MatchOption, MatchResult, map, length, slice_get, pos};
 ghost use Rattle.serde_json.specs.View.{view};
 ghost use Rattle.dt_machine.specs.Given.{items_of};
+ghost use Rattle.dt_machine.specs.Found.{IsFoundOfFiring, IsFoundAt, IsFoundIn};
 ghost use Rattle.dt_machine.specs.Registry.{process_of};
 ghost use Rattle.dt_machine.specs.Rows.{FiringRow, firing_row, firing, script, scripts as scripts_of, mode, number_in, IsGivenBelow, IsMode, HasRoom, IsGivenProbe, IsRightFiring};
 ghost use Rattle.dt_machine.specs.Reading.{AllRight, AllRightIn, IsFirstWrong, IsFirstWrongIn};
 ghost use Rattle.dt_machine.specs.Sections.{NowhereIfMemory, UnlessMemory, IsReady, firing_rows, scripts_rows, registry_of};
 
 use crate::fault::{FaultNumber, MachineFault};
+use crate::found::{Found, Key, Part};
 use crate::keys::{items_of, list_at, text_at, u32_of, unsigned_at};
 use crate::limits::{CPUS_MAX, FIRST_PROBE_ID, SCRIPT_MAX};
 use crate::numbers::{arguments_of, frames_of};
@@ -45,7 +47,9 @@ pub(crate) fn read_scripts(
     ensures scripts { IfOk result (λ found. map (λ s. s.items) found.items ≡ scripts_of 0 (scripts_rows scripts.now)) }
     ensures memory { IfErr result NowhereIfMemory }
     ensures fault { IfErr result (λ fault. UnlessMemory fault ((fault.number ≡ FaultNumber.Firing)
-        × IsFirstWrongIn (IsRightFiring (registry_of sections.now)) (scripts_rows scripts.now) fault.cpu fault.row)) }
+        × IsFirstWrongIn (IsRightFiring (registry_of sections.now)) (scripts_rows scripts.now) fault.cpu fault.row
+        × IsFoundIn (λ cpu at _. IsFoundOfFiring (registry_of sections.now) cpu at) (scripts_rows scripts.now) fault.cpu
+        fault.row fault.found)) }
 {
     let mut found = Vec::new(alloc);
     for (cpu, script) in scripts.iter().enumerate() {
@@ -68,18 +72,21 @@ fn read_script(
     ensures script { IfOk result (λ found. found.items ≡ script cpu 0 (firing_rows rows.now)) }
     ensures memory { IfErr result NowhereIfMemory }
     ensures fault { IfErr result (λ fault. UnlessMemory fault ((fault.number ≡ FaultNumber.Firing) × (fault.cpu ≡ cpu)
-        × IsFirstWrong (IsRightFiring (registry_of sections.now)) (firing_rows rows.now) fault.row)) }
+        × IsFirstWrong (IsRightFiring (registry_of sections.now)) (firing_rows rows.now) fault.row
+        × IsFoundAt (λ at _. IsFoundOfFiring (registry_of sections.now) cpu at) (firing_rows rows.now) fault.row
+        fault.found)) }
 {
     let mut found = Vec::with_capacity(alloc, rows.len())?;
     for (place, row) in rows.iter().enumerate() {
         match firing_of(sections, cpu, place as u32, row) {
-            Some(firing) => found.push(firing)?,
-            None => {
+            Ok(firing) => found.push(firing)?,
+            Err(wrong) => {
                 // the first firing that isn't right decides: no later one is read
                 return Err(MachineFault {
                     number: FaultNumber::Firing,
                     cpu,
                     row: place as u32,
+                    found: Some(wrong),
                 });
             }
         }
@@ -87,23 +94,29 @@ fn read_script(
     Ok(found)
 }
 
-/// The firing of a row, if it is right by itself.
-fn firing_of(sections: &Sections, cpu: u32, place: u32, row: &Value) -> Option<Firing>
+/// The firing of a row, if it is right by itself, or what is wrong with it.
+fn firing_of(sections: &Sections, cpu: u32, place: u32, row: &Value) -> Result<Firing, Found>
     requires { IsReady sections.now }
-    ensures { (before : List FiringRow) → MatchOption result
-        (IsRightFiring (registry_of sections.now) before (firing_row (view row.now)) → ⊥)
-        (λ found. IsRightFiring (registry_of sections.now) before (firing_row (view row.now))
-        × (found ≡ firing cpu place (firing_row (view row.now)))) }
+    ensures { MatchResult result
+        (λ found. ((before : List FiringRow) → IsRightFiring (registry_of sections.now) before (firing_row (view row.now)))
+        × (found ≡ firing cpu place (firing_row (view row.now))))
+        (IsFoundOfFiring (registry_of sections.now) cpu place (firing_row (view row.now))) }
 {
-    let probe = probe_of(sections, unsigned_at(row, "probe", None))?;
-    let pid = pid_of(sections, unsigned_at(row, "pid", None))?;
-    let tid = u32_of(unsigned_at(row, "tid", Some(1)))?;
-    let mode = mode_of(text_at(row, "mode", "user"))?;
-    let timestamp = timestamp_of(unsigned_at(row, "timestamp", Some(0)))?;
-    let args = arguments_of(list_at(row, "args"))?;
-    let kstack = frames_of(list_at(row, "kstack"))?;
-    let ustack = frames_of(list_at(row, "ustack"))?;
-    Some(Firing {
+    let this = Part::Firing {
+        cpu: cpu as usize,
+        row: place as usize,
+    };
+    let probe = probe_of(sections, unsigned_at(row, "probe", None)).ok_or(this.has(Key::Probe))?;
+    let pid = pid_of(sections, unsigned_at(row, "pid", None)).ok_or(this.has(Key::Pid))?;
+    let tid = u32_of(unsigned_at(row, "tid", Some(1))).ok_or(this.has(Key::Tid))?;
+    let mode = mode_of(text_at(row, "mode", "user")).ok_or(this.has(Key::Mode))?;
+    let timestamp = timestamp_of(unsigned_at(row, "timestamp", Some(0))).ok_or(this.has(
+        Key::Timestamp,
+    ))?;
+    let args = arguments_of(list_at(row, "args")).ok_or(this.has(Key::Args))?;
+    let kstack = frames_of(list_at(row, "kstack")).ok_or(this.has(Key::Kstack))?;
+    let ustack = frames_of(list_at(row, "ustack")).ok_or(this.has(Key::Ustack))?;
+    Ok(Firing {
         cpu,
         place,
         probe,

@@ -2,20 +2,21 @@
 ghost use Rattle.std.specs.Prelude.{◌≡◌, ◌↔◌, ◌≤◌, ℕ, IsTrue, IfOk, IfErr, Some, MatchOption, map, length, codes};
 ghost use Rattle.std.specs.Option.{option_copied};
 ghost use Rattle.serde_json.specs.View.{view};
-ghost use Rattle.dt_machine.specs.Reading.{cpus_in, Passes, IsFirstFinding, IsScriptFault, AllRightIn};
+ghost use Rattle.dt_machine.specs.Reading.{cpus_in, Passes, IsFirstFinding, IsScriptFault, IsFoundOfScripts, AllRightIn};
 ghost use Rattle.dt_machine.specs.Rows.{HasRoom, script_rows};
 ghost use Rattle.dt_cred.specs.declared.class.Class.TheVariants.{Pid};
 
 use crate::accounts::read_accounts;
 use crate::by_pid::ByPid;
 use crate::fault::{FaultNumber, MachineFault};
+use crate::found::{Key, Part};
 use crate::keys::{list_at, unsigned_at};
 use crate::limits::{CPUS_MAX, FIRST_PROBE_ID, SCRIPT_MAX};
 use crate::moment::Moment;
 use crate::probes::read_probes;
 use crate::processes::read_processes;
 use crate::scripts::first_long;
-use crate::shape::is_machine;
+use crate::shape::shape_fault;
 use dt_cred::{Account, Class, Firing, Probe, Process};
 use serde_json::Value;
 use std::alloc::Global;
@@ -42,11 +43,11 @@ impl Sections {
         ensures fault { IfErr result (λ fault. UnlessMemory fault (IsFirstFinding (view file.now) fault)) }
     {
         // in the order of the faults' numbers: the first that is found decides
-        if !is_machine(file) {
-            return Err(FaultNumber::Shape.nowhere());
+        if let Some(fault) = shape_fault(file) {
+            return Err(fault);
         }
         let Some(cpus) = cpus_of(file) else {
-            return Err(FaultNumber::Cpus.nowhere());
+            return Err(FaultNumber::Cpus.at_row(0, Part::File.has(Key::Cpus)));
         };
         let accounts = read_accounts(alloc, list_at(file, "accounts"))?;
         let (processes, by_pid) = read_processes(alloc, list_at(file, "processes"))?;
@@ -136,17 +137,19 @@ fn script_fault(cpus: u32, scripts: &[Value]) -> Option<MachineFault>
     ensures { MatchOption result
         ((cpus ≡ length scripts.now) × AllRightIn HasRoom (map script_rows (map view scripts.now)))
         (λ fault. (fault.number ≡ FaultNumber.Script)
-        × IsScriptFault cpus (map script_rows (map view scripts.now)) fault.cpu fault.row) }
+        × IsScriptFault cpus (map script_rows (map view scripts.now)) fault.cpu fault.row
+        × IsFoundOfScripts cpus (map script_rows (map view scripts.now)) fault.cpu fault.found) }
 {
     // how many scripts there are goes before how long one is, and names no processor
     if scripts.len() != cpus as usize {
-        return Some(FaultNumber::Script.nowhere());
+        return Some(FaultNumber::Script.at_row(0, Part::File.has(Key::Scripts)));
     }
     match first_long(scripts) {
         Some(cpu) => Some(MachineFault {
             number: FaultNumber::Script,
             cpu,
             row: SCRIPT_MAX as u32,
+            found: Some(Part::Script(cpu as usize).has(Key::Scripts)),
         }),
         None => None,
     }

@@ -1,125 +1,250 @@
-//! Whether each value of the file is of its kind.
-ghost use Rattle.std.specs.Prelude.{◌≡◌};
+//! Whether each value of the file is of its kind, and which is the first that isn't.
+ghost use Rattle.std.specs.Prelude.{◌≡◌, true, false, MatchOption, map, codes};
 ghost use Rattle.std.specs.List.{list_all};
 ghost use Rattle.serde_json.specs.View.{view};
-ghost use Rattle.dt_machine.specs.Given.{is_integer, is_text, is_list_of, has_field, may_have};
-ghost use Rattle.dt_machine.specs.Shape.{is_account, is_process, is_numbers, has_details, has_numbers, is_firing, is_machine};
+ghost use Rattle.dt_machine.specs.Given.{is_integer, is_text, is_list_of, has_field, may_have, items_at};
+ghost use Rattle.dt_machine.specs.Found.{of, IsFirstFound, IsFoundOfList, IsFoundOfShape, IsMisshapenAccount, IsMisshapenProcess, IsMisshapenProbe, IsMisshapenFiring, IsMisshapenScript, IsMisshapenFile};
+ghost use Rattle.dt_machine.specs.Reading.{Nowhere};
+ghost use Rattle.dt_machine.specs.Shape.{is_account, is_process, is_numbers, is_firing, is_machine};
 
-use crate::keys::items;
+use crate::fault::{FaultNumber, MachineFault};
+use crate::found::{Found, Key, Part};
+use crate::keys::{items, items_at};
 use serde_json::Value;
 
-/// Whether the five keys are there, and every value is of its kind.
-pub(crate) fn is_machine(file: &Value) -> bool
-    ensures { result ≡ is_machine (view file.now) }
+/// The fault of a file that is no object, that lacks a key, or of which a value is of the wrong kind.
+pub(crate) fn shape_fault(file: &Value) -> Option<MachineFault>
+    ensures { MatchOption result (is_machine (view file.now) ≡ true)
+        (λ fault. (fault.number ≡ FaultNumber.Shape) × (is_machine (view file.now) ≡ false)
+        × Nowhere fault.cpu fault.row × IsFoundOfShape (view file.now) fault.found) }
 {
-    has_integer(file, "cpus")
-        && file
-            .get("accounts")
-            .is_some_and(|found| are_accounts(found))
-        && file
-            .get("processes")
-            .is_some_and(|found| are_processes(found))
-        && file.get("probes").is_some_and(|found| are_texts(found))
-        && file.get("scripts").is_some_and(|found| are_scripts(found))
-}
-
-fn are_accounts(value: &Value) -> bool
-    ensures { result ≡ is_list_of is_account (view value.now) }
-{
-    match items(value) {
-        Some(list) => all_accounts(list),
-        None => false,
+    if !file.is_object() {
+        return Some(FaultNumber::Shape.nowhere());
+    }
+    match first_of_file(file) {
+        Some(found) => Some(FaultNumber::Shape.at_row(0, found)),
+        None => None,
     }
 }
 
-fn all_accounts(list: &[Value]) -> bool
-    ensures { result ≡ list_all (λ item. is_account (view item)) list.now }
+/// What is wrong first in the shape of a file, key by key.
+fn first_of_file(file: &Value) -> Option<Found>
+    ensures { MatchOption result (is_machine (view file.now) ≡ true) (IsMisshapenFile (view file.now)) }
 {
-    list.iter().all(|item| is_account(item))
+    if !has_integer(file, "cpus") {
+        return Some(Part::File.has(Key::Cpus));
+    }
+    if let Some(found) = first_of_accounts(file) {
+        return Some(found);
+    }
+    if let Some(found) = first_of_processes(file) {
+        return Some(found);
+    }
+    if let Some(found) = first_of_probes(file) {
+        return Some(found);
+    }
+    first_of_scripts(file)
 }
 
-fn is_account(value: &Value) -> bool
-    ensures { result ≡ is_account (view value.now) }
+fn first_of_accounts(file: &Value) -> Option<Found>
+    ensures { MatchOption result (has_field (codes "accounts") (is_list_of is_account) (view file.now) ≡ true)
+        (IsFoundOfList (of Part.File Key.Accounts) is_account IsMisshapenAccount (items_at (codes "accounts") (view file.now))) }
 {
-    has_text(value, "name")
-        && has_integer(value, "uid")
-        && value.get("privs").is_some_and(|found| are_texts(found))
-}
-
-fn are_processes(value: &Value) -> bool
-    ensures { result ≡ is_list_of is_process (view value.now) }
-{
-    match items(value) {
-        Some(list) => all_processes(list),
-        None => false,
+    match items_at(file, "accounts") {
+        Some(rows) => first_account(rows),
+        None => Some(Part::File.has(Key::Accounts)),
     }
 }
 
-fn all_processes(list: &[Value]) -> bool
-    ensures { result ≡ list_all (λ item. is_process (view item)) list.now }
+fn first_account(rows: &[Value]) -> Option<Found>
+    ensures { MatchOption result (list_all is_account (map view rows.now) ≡ true)
+        (IsFirstFound is_account IsMisshapenAccount (map view rows.now)) }
 {
-    list.iter().all(|item| is_process(item))
+    for (at, row) in rows.iter().enumerate() {
+        // the first row that hasn't its shape is the one that is told
+        if let Some(found) = of_account(at, row) {
+            return Some(found);
+        }
+    }
+    None
 }
 
-fn is_process(value: &Value) -> bool
-    ensures { result ≡ is_process (view value.now) }
+fn of_account(at: usize, row: &Value) -> Option<Found>
+    ensures { MatchOption result (is_account (view row.now) ≡ true)
+        (λ found. (is_account (view row.now) ≡ false) × IsMisshapenAccount at (view row.now) found) }
 {
-    has_integer(value, "pid") && has_integer(value, "uid") && has_text(value, "execname")
+    let this = Part::Account(at);
+    if !has_text(row, "name") {
+        return Some(this.has(Key::Name));
+    }
+    if !has_integer(row, "uid") {
+        return Some(this.has(Key::Uid));
+    }
+    if !has_texts(row, "privs") {
+        return Some(this.has(Key::Privs));
+    }
+    None
 }
 
-fn are_scripts(value: &Value) -> bool
-    ensures { result ≡ is_list_of (is_list_of is_firing) (view value.now) }
+fn first_of_processes(file: &Value) -> Option<Found>
+    ensures { MatchOption result (has_field (codes "processes") (is_list_of is_process) (view file.now) ≡ true)
+        (IsFoundOfList (of Part.File Key.Processes) is_process IsMisshapenProcess (items_at (codes "processes") (view file.now))) }
 {
-    match items(value) {
-        Some(list) => all_scripts(list),
-        None => false,
+    match items_at(file, "processes") {
+        Some(rows) => first_process(rows),
+        None => Some(Part::File.has(Key::Processes)),
     }
 }
 
-fn all_scripts(list: &[Value]) -> bool
-    ensures { result ≡ list_all (λ item. is_list_of is_firing (view item)) list.now }
+fn first_process(rows: &[Value]) -> Option<Found>
+    ensures { MatchOption result (list_all is_process (map view rows.now) ≡ true)
+        (IsFirstFound is_process IsMisshapenProcess (map view rows.now)) }
 {
-    list.iter().all(|item| are_firings(item))
+    for (at, row) in rows.iter().enumerate() {
+        // the first row that hasn't its shape is the one that is told
+        if let Some(found) = of_process(at, row) {
+            return Some(found);
+        }
+    }
+    None
 }
 
-fn are_firings(value: &Value) -> bool
-    ensures { result ≡ is_list_of is_firing (view value.now) }
+fn of_process(at: usize, row: &Value) -> Option<Found>
+    ensures { MatchOption result (is_process (view row.now) ≡ true)
+        (λ found. (is_process (view row.now) ≡ false) × IsMisshapenProcess at (view row.now) found) }
 {
-    match items(value) {
-        Some(list) => all_firings(list),
-        None => false,
+    let this = Part::Process(at);
+    if !has_integer(row, "pid") {
+        return Some(this.has(Key::Pid));
+    }
+    if !has_integer(row, "uid") {
+        return Some(this.has(Key::Uid));
+    }
+    if !has_text(row, "execname") {
+        return Some(this.has(Key::Execname));
+    }
+    None
+}
+
+fn first_of_probes(file: &Value) -> Option<Found>
+    ensures { MatchOption result (has_field (codes "probes") (is_list_of is_text) (view file.now) ≡ true)
+        (IsFoundOfList (of Part.File Key.Probes) is_text IsMisshapenProbe (items_at (codes "probes") (view file.now))) }
+{
+    match items_at(file, "probes") {
+        Some(rows) => first_probe(rows),
+        None => Some(Part::File.has(Key::Probes)),
     }
 }
 
-fn all_firings(list: &[Value]) -> bool
-    ensures { result ≡ list_all (λ item. is_firing (view item)) list.now }
+fn first_probe(rows: &[Value]) -> Option<Found>
+    ensures { MatchOption result (list_all is_text (map view rows.now) ≡ true)
+        (IsFirstFound is_text IsMisshapenProbe (map view rows.now)) }
 {
-    list.iter().all(|item| is_firing(item))
+    for (at, row) in rows.iter().enumerate() {
+        // the first row that hasn't its shape is the one that is told
+        if let Some(found) = of_probe(at, row) {
+            return Some(found);
+        }
+    }
+    None
 }
 
-fn is_firing(value: &Value) -> bool
-    ensures { result ≡ is_firing (view value.now) }
+fn of_probe(at: usize, row: &Value) -> Option<Found>
+    ensures { MatchOption result (is_text (view row.now) ≡ true)
+        (λ found. (is_text (view row.now) ≡ false) × IsMisshapenProbe at (view row.now) found) }
 {
-    has_integer(value, "probe")
-        && has_integer(value, "pid")
-        && has_details(value)
-        && has_numbers(value)
+    let this = Part::Probe(at);
+    if !row.is_string() {
+        return Some(this.has(Key::Text));
+    }
+    None
 }
 
-fn has_details(value: &Value) -> bool
-    ensures { result ≡ has_details (view value.now) }
+fn first_of_scripts(file: &Value) -> Option<Found>
+    ensures { MatchOption result (has_field (codes "scripts") (is_list_of (is_list_of is_firing)) (view file.now) ≡ true)
+        (IsFoundOfList (of Part.File Key.Scripts) (is_list_of is_firing) IsMisshapenScript (items_at (codes "scripts") (view file.now))) }
 {
-    may_have_integer(value, "tid")
-        && may_have_text(value, "mode")
-        && may_have_integer(value, "timestamp")
+    match items_at(file, "scripts") {
+        Some(rows) => first_script(rows),
+        None => Some(Part::File.has(Key::Scripts)),
+    }
 }
 
-fn has_numbers(value: &Value) -> bool
-    ensures { result ≡ has_numbers (view value.now) }
+fn first_script(rows: &[Value]) -> Option<Found>
+    ensures { MatchOption result (list_all (is_list_of is_firing) (map view rows.now) ≡ true)
+        (IsFirstFound (is_list_of is_firing) IsMisshapenScript (map view rows.now)) }
 {
-    may_have_numbers(value, "args")
-        && may_have_numbers(value, "kstack")
-        && may_have_numbers(value, "ustack")
+    for (at, row) in rows.iter().enumerate() {
+        // the first row that hasn't its shape is the one that is told
+        if let Some(found) = of_script(at, row) {
+            return Some(found);
+        }
+    }
+    None
+}
+
+fn of_script(cpu: usize, script: &Value) -> Option<Found>
+    ensures { MatchOption result (is_list_of is_firing (view script.now) ≡ true)
+        (λ found. (is_list_of is_firing (view script.now) ≡ false) × IsMisshapenScript cpu (view script.now) found) }
+{
+    match items(script) {
+        Some(rows) => first_firing(cpu, rows),
+        None => Some(Part::Script(cpu).has(Key::Scripts)),
+    }
+}
+
+fn first_firing(cpu: usize, rows: &[Value]) -> Option<Found>
+    ensures { MatchOption result (list_all is_firing (map view rows.now) ≡ true)
+        (IsFirstFound is_firing (IsMisshapenFiring cpu) (map view rows.now)) }
+{
+    for (at, row) in rows.iter().enumerate() {
+        // the first row that hasn't its shape is the one that is told
+        if let Some(found) = of_firing(cpu, at, row) {
+            return Some(found);
+        }
+    }
+    None
+}
+
+fn of_firing(cpu: usize, at: usize, row: &Value) -> Option<Found>
+    ensures { MatchOption result (is_firing (view row.now) ≡ true)
+        (λ found. (is_firing (view row.now) ≡ false) × IsMisshapenFiring cpu at (view row.now) found) }
+{
+    let this = Part::Firing { cpu, row: at };
+    if !has_integer(row, "probe") {
+        return Some(this.has(Key::Probe));
+    }
+    if !has_integer(row, "pid") {
+        return Some(this.has(Key::Pid));
+    }
+    if !may_have_integer(row, "tid") {
+        return Some(this.has(Key::Tid));
+    }
+    if !may_have_text(row, "mode") {
+        return Some(this.has(Key::Mode));
+    }
+    if !may_have_integer(row, "timestamp") {
+        return Some(this.has(Key::Timestamp));
+    }
+    if !may_have_numbers(row, "args") {
+        return Some(this.has(Key::Args));
+    }
+    if !may_have_numbers(row, "kstack") {
+        return Some(this.has(Key::Kstack));
+    }
+    if !may_have_numbers(row, "ustack") {
+        return Some(this.has(Key::Ustack));
+    }
+    None
+}
+
+fn has_texts(value: &Value, key: &str) -> bool
+    ensures { result ≡ has_field key.now (is_list_of is_text) (view value.now) }
+{
+    match value.get(key) {
+        Some(found) => are_texts(found),
+        None => false,
+    }
 }
 
 fn has_integer(value: &Value, key: &str) -> bool

@@ -1,4 +1,5 @@
-//! What is found in a machine file that is read. What each is refused with, the built program shows.
+//! What is found in a machine file that is read. What each is refused with, the built program shows; here, what
+//! of it a fault tells.
 use dt_machine::{Firing, Interest, Machine, PROBE_ID_MAX};
 use std::alloc::Global;
 use std::test::Fail;
@@ -56,6 +57,18 @@ fn would_belong(machine: &Machine, cpu: u32, probe: u32, pid: u32) -> Option<boo
         ..firing
     };
     Some(machine.moment(&other).is_some())
+}
+
+/// What is told to be wrong in a file: a key and the part that has it, `nothing` where no key is told, and `read` where the
+/// file is read.
+fn wrong_in(alloc: Global, text: &str) -> Result<String, Fail> {
+    match Machine::read(alloc, text.as_bytes()) {
+        Ok(_) => Ok(String::from_str(alloc, "read")?),
+        Err(fault) => match fault.found {
+            Some(found) => Ok(format!(in alloc; "{found}")?),
+            None => Ok(String::from_str(alloc, "nothing")?),
+        },
+    }
 }
 
 /// The machine of the text.
@@ -135,4 +148,39 @@ fn a_set_has_what_was_taken_in(rt: HostRuntime) {
     ] {
         assert_eq!(rt; set.contains(id), want);
     }
+}
+
+#[test]
+fn a_fault_tells_the_first_key_that_is_wrong(rt: HostRuntime) -> Result<(), Fail> {
+    for (there, other, want) in [
+        ("\"cpus\":2", "\"cpus\":0", "cpus of the file"),
+        ("\"cpus\"", "\"cpu\"", "cpus of the file"),
+        ("\"ann\"", "\"root\"", "name of account 1"),
+        ("501,\"privs\"", "-1,\"privs\"", "uid of account 1"),
+        (",\"privs\"", ",\"priv\"", "privs of account 0"),
+        ("dtrace_user", "dtrace_all", "privs of account 1"),
+        ("200,\"uid\"", "100,\"uid\"", "pid of process 1"),
+        ("\"sh\"", "7", "execname of process 0"),
+        ("\"syscall:", "\"", "text of probe 0"),
+        ("\"pid100:", "\"pid300:", "provider of probe 3"),
+        ("[[],", "[", "scripts of the file"),
+        ("[[],", "[7,", "scripts of processor 0"),
+        ("\"kernel\"", "\"all\"", "mode of firing 1 of processor 1"),
+        ("[7,-8]", "[7,null]", "args of firing 0 of processor 1"),
+        ("\"probe\":3", "\"probe\":6", "read"),
+        (
+            "3,\"pid\":100",
+            "6,\"pid\":200",
+            "pid of firing 0 of processor 1",
+        ),
+        ("{\"cpus\"", "{", "nothing"),
+    ] {
+        let (before, after) = MACHINE.split_once(there).ok_or("no such text")?;
+        let text = format!(in rt.alloc(); "{before}{other}{after}")?;
+        let found = wrong_in(rt.alloc(), text.as_str())?;
+        assert_eq!(rt; found.as_str(), want);
+    }
+    let found = wrong_in(rt.alloc(), "[]")?;
+    assert_eq!(rt; found.as_str(), "nothing");
+    Ok(())
 }

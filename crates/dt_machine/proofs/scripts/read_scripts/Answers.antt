@@ -2,6 +2,7 @@
 use Rattle.std.proofs.Common.{◌≡◌, ◌∙◌, ap, sym, map, length, subst, List, ℕ, Vec, Global, arith, [], ◌∷◌, ◌++◌}
 use Rattle.std.proofs.lemmas.List.{map_push}
 use Rattle.serde_json.specs.View.{view}
+use Rattle.dt_machine.specs.Found.{IsFoundAt, IsFoundIn, IsFoundOfFiring}
 use Rattle.dt_machine.specs.Reading.{AllRight, IsFirstWrong, IsFirstWrongIn}
 use Rattle.dt_machine.specs.Rows.{FiringRow, firing_row, script_rows, script, IsRightFiring}
 use Rattle.dt_machine.specs.Sections.{UnlessMemory, firing_rows, scripts_rows, registry_of}
@@ -37,8 +38,14 @@ returns-in_err-firings-clause-fault c =
     let same : firing_rows c.items_of.result.now ≡ rows = ap (map firing_row) c.items_of.ensures in
     let F : List FiringRow → Type 0 = λ rs. IsFirstWrong (IsRightFiring (registry_of c.args.sections.now)) rs e.row in
     let I : ℕ → Type 0 = λ k. IsFirstWrongIn (IsRightFiring (registry_of c.args.sections.now)) all k e.row in
+    let T : List FiringRow → Type 0 = λ rs. IsFoundAt (λ at _. IsFoundOfFiring (registry_of c.args.sections.now)
+    c.loop-cpu.cpu at) rs e.row e.found in
+    let J : ℕ → Type 0 = λ k. IsFoundIn (λ cpu at _. IsFoundOfFiring (registry_of c.args.sections.now) cpu at) all k
+    e.row e.found in
     passed_on (λ fault. UnlessMemory fault ((fault.number ≡ FiringNumber)
-    × IsFirstWrongIn (IsRightFiring (registry_of c.args.sections.now)) all fault.cpu fault.row))
+    × IsFirstWrongIn (IsRightFiring (registry_of c.args.sections.now)) all fault.cpu fault.row
+    × IsFoundIn (λ cpu at _. IsFoundOfFiring (registry_of c.args.sections.now) cpu at) all fault.cpu fault.row
+    fault.found))
     c.from_residual.result e c.from_residual.ensures.1
     (λ other.
     let f = c.in_err-firings.ensures.fault other in (
@@ -50,6 +57,7 @@ returns-in_err-firings-clause-fault c =
         right_before =
             c.loop-cpu.invariant.right;
       }),
+      subst J (sym f.1) (record { script = rows; there = there; tells = subst T same f.3 }),
     ))
 
 pub loop-cpu-preserved : goal.loop-cpu-preserved

@@ -1,9 +1,10 @@
 -- What the proof of `Machine::read` is told at its goals.
-use Rattle.std.proofs.Common.{◌≡◌, ◌∙◌, ◌<◌, List, Vec, Global, map, length, ap, sym, refl, subst, inr, arith}
+use Rattle.std.proofs.Common.{◌≡◌, ◌∙◌, ◌<◌, List, Some, Vec, Global, map, length, ap, sym, refl, subst, inr, arith}
 use Rattle.std.proofs.lemmas.List.{length-map}
 use Rattle.serde_json.specs.View.{view}
 use Rattle.dt_machine.specs.declared.fault.FaultNumber.TheVariants.{Firing, Foreign}
 use Rattle.dt_cred.specs.declared.firing.Firing.{Firing as FiringType}
+use Rattle.dt_machine.specs.Found.{IsFoundIn, IsFoundOfFiring}
 use Rattle.dt_machine.specs.Reading.{AllRightIn, IsFaultOf, IsFirstWrongIn, IsDescribed, scripts_in}
 use Rattle.dt_machine.specs.Registry.{Belongs, Contents, IsSound}
 use Rattle.dt_machine.specs.Rows.{FiringRow, HasRoom, IsRightFiring, script_rows, scripts}
@@ -51,6 +52,8 @@ returns-in_err-scripts-clause-fault c =
     let same : scripts_rows c.list_at.result.now ≡ scripts_in d = ap (map script_rows) c.list_at.ensures in
     let W : List (List FiringRow) → Type 0 = λ rows. IsFirstWrongIn
     (IsRightFiring (registry_of c.in_ok-sections.sections)) rows e.cpu e.row in
+    let T : List (List FiringRow) → Type 0 = λ rows. IsFoundIn
+    (λ cpu at _. IsFoundOfFiring (registry_of c.in_ok-sections.sections) cpu at) rows e.cpu e.row e.found in
     passed_on (λ fault. UnlessMemory fault (IsFaultOf c.args.text.now fault)) c.from_residual-in_err-scripts.result
     e c.from_residual-in_err-scripts.ensures.1
     (λ other.
@@ -59,7 +62,7 @@ returns-in_err-scripts-clause-fault c =
       d,
       c.in_ok-file.ensures.ok,
       first_fault d e Firing f.0 (registry_of s, a.registers, subst W same f.1)
-          a.passed,
+          (registry_of s, a.registers, subst T same f.2) a.passed,
     ))
 
 pub first_foreign-requires-clause-few : goal.first_foreign-requires-clause-few
@@ -107,7 +110,7 @@ returns-in-Some-clause-fault c other =
       d,
       c.in_ok-file.ensures.ok,
       first_fault d _ Foreign refl
-          (registry_of s, a.registers, subst W all c.in-Some.ensures) before,
+          (registry_of s, a.registers, subst W all c.in-Some.ensures) (ap Some c.has.ensures) before,
     )
 
 pub new-requires-clause-sound : goal.new-requires-clause-sound

@@ -1,0 +1,2 @@
+-- What holds of the definitions, for those who prove that a program meets them.
+pub mod SameBounds

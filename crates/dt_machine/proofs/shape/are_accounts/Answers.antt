@@ -1,7 +1,0 @@
--- What the proof of `are_accounts` is told at its goals.
-use Rattle.dt_machine.specs.Shape.{is_account}
-use Rattle.dt_machine.proofs.Lists.{all_items}
-use Rattle.dt_machine.proofs.shape.are_accounts.Goals as goal
-
-pub returns-in-Some : goal.returns-in-Some
-returns-in-Some c = all_items is_account _ c.in-Some.list.now _ c.in-Some.ensures c.all_accounts.ensures
