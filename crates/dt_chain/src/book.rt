@@ -1,5 +1,5 @@
 //! The list of all writes, which exists in proofs alone: one book for all that share the chains.
-ghost use Rattle.std.specs.Prelude.{◌≡◌, ◌<◌, ◌^◌, ◌++◌, ◌∷◌, [], length, MatchBool};
+ghost use Rattle.std.specs.Prelude.{◌≡◌, ◌↔◌, ◌<◌, ◌≤◌, ◌^◌, ◌++◌, ◌∷◌, [], length, IsTrue, MatchBool};
 ghost use mathlib.Core.List.{IsPrefix};
 
 use crate::write::Write;
@@ -104,7 +104,8 @@ impl Mark {
     /// Whether the other goes as far, and so begins with this one.
     pub(crate) fn begins(&self, other: &Mark) -> bool
         requires { self.now.book ≡ other.now.book }
-        ensures { MatchBool result (IsPrefix self.now.log other.now.log) (IsPrefix other.now.log self.now.log) }
+        ensures order { MatchBool result (IsPrefix self.now.log other.now.log) (IsPrefix other.now.log self.now.log) }
+        ensures when { IsTrue result ↔ (length self.now.log ≤ length other.now.log) }
     {
         // for the proof: both are beginnings of what the two have seen
         let mut both = self.seen.again();

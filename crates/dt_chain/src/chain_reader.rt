@@ -1,10 +1,11 @@
 //! A processor's end of the chains.
-ghost use Rattle.std.specs.Prelude.{◌≡◌, ℕ, [], None, IfNone, IfOk, IfSome, IfErr, OnOk, OnErr};
+ghost use Rattle.std.specs.Prelude.{◌≡◌, ◌<◌, ℕ, [], length, None, IfNone, IfOk, IfSome, IfErr, OnOk, OnErr};
 ghost use mathlib.Core.List.{IsPrefix};
 ghost use Rattle.left_right.specs.Sides.{view};
 ghost use Rattle.dt_chain.specs.Chains.{IsMaskAfter};
 ghost use Rattle.dt_chain.specs.Seats.{life_at};
 ghost use Rattle.dt_machine.specs.Moment.{IsMoment};
+ghost use Rattle.dt_chain.specs.declared.chain_reader.Missed.TheVariants as missed;
 
 use crate::book::Site;
 use crate::chain_rule::{InnerReader, Sees};
@@ -41,6 +42,14 @@ impl<J: Site> Model for ChainReader<J> {
 
     ghost invariant = { λ reader. IsSome reader.inner
         × IfSome reader.inner (λ inner. IsPrefix reader.seen (reached inner.place)) };
+}
+
+/// Why an entry finds nothing.
+enum Missed {
+    /// The chains have ended.
+    Ended,
+    /// What was told is longer than what is published.
+    ToldMore,
 }
 
 /// What one entry finds: the list that is published, and what the firing names where the mask names a seat.
@@ -94,11 +103,11 @@ impl<J: Site> ChainReader<J> {
         );
         self.inner = Some(inner);
         match found {
-            Some(Found { front, moment }) => {
+            Ok(Found { front, moment }) => {
                 self.seen = front;
                 Ok(moment)
             }
-            None => Err(Refused),
+            Err(Missed::Ended | Missed::ToldMore) => Err(Refused),
         }
     }
 
@@ -143,15 +152,16 @@ fn enter<'a, J: Site>(
     machine: &'a Machine,
     firing: &'a Firing,
     mask: &mut SeatMask,
-) -> (InnerReader<J>, Option<Found<'a, J>>)
+) -> (InnerReader<J>, Result<Found<'a, J>, Missed>)
     ensures grows { IsPrefix (view inner.place) (view result.0.place) }
-    ensures front { IfSome result.1 (λ found. found.front ≡ view result.0.place) }
-    ensures told { IfSome result.1 (λ found. IsPrefix told.now found.front) }
-    ensures mask { IfSome result.1 (λ found. IsMaskAfter machine.now.registry found.front firing.now mask.new) }
-    ensures moment { IfSome result.1 (λ found. IfSome found.moment (λ moment.
+    ensures front { IfOk result.1 (λ found. found.front ≡ view result.0.place) }
+    ensures told { IfOk result.1 (λ found. IsPrefix told.now found.front) }
+    ensures mask { IfOk result.1 (λ found. IsMaskAfter machine.now.registry found.front firing.now mask.new) }
+    ensures moment { IfOk result.1 (λ found. IfSome found.moment (λ moment.
         IsMoment machine.now.registry moment × (moment.firing.now ≡ firing.now))) }
-    ensures none { IfSome result.1 (λ found. IfNone found.moment ((seat : ℕ) → life_at mask.new seat ≡ None)) }
-    ensures nobody { IfNone result.1 ((seat : ℕ) → life_at mask.new seat ≡ None) }
+    ensures none { IfOk result.1 (λ found. IfNone found.moment ((seat : ℕ) → life_at mask.new seat ≡ None)) }
+    ensures nobody { OnErr result.1 ((seat : ℕ) → life_at mask.new seat ≡ None) }
+    ensures told_more { IfErr result.1 (λ why. why ≡ missed.ToldMore → length (view result.0.place) < length told.now) }
 {
     mask.clear();
     match inner.enter_as::<Sees<J>>() {
@@ -160,11 +170,11 @@ fn enter<'a, J: Site>(
             let front = Front::of(copy.mark());
             // no rule spans the book and the copies: what is told was published before, and so it is never longer
             if !told.begins(&front) {
-                return (reading.leave(), None);
+                return (reading.leave(), Err(Missed::ToldMore));
             }
             let moment = copy.look_into(machine, firing, mask);
-            (reading.leave(), Some(Found { front, moment }))
+            (reading.leave(), Ok(Found { front, moment }))
         }
-        Err(inner) => (inner, None),
+        Err(inner) => (inner, Err(Missed::Ended)),
     }
 }

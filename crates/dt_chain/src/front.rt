@@ -1,5 +1,5 @@
 //! A beginning of the list of all writes, as a token.
-ghost use Rattle.std.specs.Prelude.{◌≡◌, ◌⊎◌, length, MatchBool};
+ghost use Rattle.std.specs.Prelude.{◌≡◌, ◌⊎◌, ◌↔◌, ◌≤◌, length, IsTrue, MatchBool};
 ghost use mathlib.Core.List.{IsPrefix};
 
 use crate::book::{Mark, Site};
@@ -65,7 +65,8 @@ impl<J: Site> Front<J> {
 
     /// Whether the other has no fewer writes, and so begins with these. If not, these begin with the other's.
     pub fn begins(&self, other: &Front<J>) -> bool
-        ensures { MatchBool result (IsPrefix self.now other.now) (IsPrefix other.now self.now) }
+        ensures order { MatchBool result (IsPrefix self.now other.now) (IsPrefix other.now self.now) }
+        ensures when { IsTrue result ↔ (length self.now ≤ length other.now) }
     {
         self.mark.begins(&other.mark)
     }

@@ -8,7 +8,7 @@ use Rattle.dt_chain.specs.Writes.{Write}
 use Rattle.dt_facts.specs.declared.fact.Fact.{Fact}
 use Rattle.dt_facts.specs.declared.rule.View.{View}
 use Rattle.dt_facts.specs.Facts.{writes_in}
-use Rattle.dt_facts.specs.Rule.{Roll, share, book, both, joined, beginning, opened, maker, nobody, FitsRoll, EachFitsRoll}
+use Rattle.dt_facts.specs.Rule.{Roll, share, book, both, joined, beginning, informed, opened, maker, nobody, FitsRoll, EachFitsRoll}
 use Rattle.dt_facts.proofs.Lists.{at_snoc_at}
 
 off : false ≡ true → ⊥
@@ -37,28 +37,31 @@ module _ (w : Roll) where
   IsBegunAt n ws = IsPrefix ws (writes_in (w.held n)) × (n < w.made)
 
   pub fits_nobody : (by : ℕ) → FitsRoll w by nobody
-  fits_nobody by = record { share = λ c. absurd (off c); book = λ c. absurd (off c); met = λ c. absurd (off c); begins = λ c. absurd (off c); makes = λ c. absurd (off c) }
+  fits_nobody by = record { share = λ c. absurd (off c); book = λ c. absurd (off c); met = λ c. absurd (off c); begins = λ c. absurd (off c); told = λ c. absurd (off c); makes = λ c. absurd (off c) }
 
   pub fits_maker : (by : ℕ) → w.maker_at ≡ by → FitsRoll w by (maker w.made)
-  fits_maker by e = record { share = λ c. absurd (off c); book = λ c. absurd (off c); met = λ c. absurd (off c); begins = λ c. absurd (off c); makes = λ _. (e, refl) }
+  fits_maker by e = record { share = λ c. absurd (off c); book = λ c. absurd (off c); met = λ c. absurd (off c); begins = λ c. absurd (off c); told = λ c. absurd (off c); makes = λ _. (e, refl) }
 
   pub fits_share : (by n : ℕ) (x : Fact) → IsShareAt by n x → FitsRoll w by (share n x)
-  fits_share by n x s = record { share = λ _. s; book = λ c. absurd (off c); met = λ c. absurd (off c); begins = λ c. absurd (off c); makes = λ c. absurd (off c) }
+  fits_share by n x s = record { share = λ _. s; book = λ c. absurd (off c); met = λ c. absurd (off c); begins = λ c. absurd (off c); told = λ c. absurd (off c); makes = λ c. absurd (off c) }
 
   pub fits_book : (by n : ℕ) (x : Fact) → IsBookAt by n x → FitsRoll w by (book n x)
-  fits_book by n x b = record { share = λ c. absurd (off c); book = λ _. b; met = λ c. absurd (off c); begins = λ c. absurd (off c); makes = λ c. absurd (off c) }
+  fits_book by n x b = record { share = λ c. absurd (off c); book = λ _. b; met = λ c. absurd (off c); begins = λ c. absurd (off c); told = λ c. absurd (off c); makes = λ c. absurd (off c) }
 
   pub fits_both : (by n : ℕ) (x : Fact) → IsShareAt by n x → IsBookAt by n x → FitsRoll w by (both n x)
-  fits_both by n x s b = record { share = λ _. s; book = λ _. b; met = λ c. absurd (off c); begins = λ c. absurd (off c); makes = λ c. absurd (off c) }
+  fits_both by n x s b = record { share = λ _. s; book = λ _. b; met = λ c. absurd (off c); begins = λ c. absurd (off c); told = λ c. absurd (off c); makes = λ c. absurd (off c) }
 
   pub fits_joined : (by n : ℕ) (x y : Fact) → IsShareAt by n x → IsBookAt by n x → y ≡ w.held n → FitsRoll w by (joined n x y)
-  fits_joined by n x y s b h = record { share = λ _. s; book = λ _. b; met = λ _. (refl, h); begins = λ c. absurd (off c); makes = λ c. absurd (off c) }
+  fits_joined by n x y s b h = record { share = λ _. s; book = λ _. b; met = λ _. (refl, h); begins = λ c. absurd (off c); told = λ c. absurd (off c); makes = λ c. absurd (off c) }
 
   pub fits_beginning : (by n : ℕ) (ws : List Write) → IsBegunAt n ws → FitsRoll w by (beginning n ws)
-  fits_beginning by n ws h = record { share = λ c. absurd (off c); book = λ c. absurd (off c); met = λ c. absurd (off c); begins = λ _. h; makes = λ c. absurd (off c) }
+  fits_beginning by n ws h = record { share = λ c. absurd (off c); book = λ c. absurd (off c); met = λ c. absurd (off c); begins = λ _. h; told = λ _. (writes_in (w.held n), refl); makes = λ c. absurd (off c) }
+
+  pub fits_informed : (by n : ℕ) (ws us : List Write) → IsBegunAt n ws → IsPrefix us (writes_in (w.held n)) → FitsRoll w by (informed n ws us)
+  fits_informed by n ws us h t = record { share = λ c. absurd (off c); book = λ c. absurd (off c); met = λ c. absurd (off c); begins = λ _. h; told = λ _. t; makes = λ c. absurd (off c) }
 
   pub fits_opened : (by n : ℕ) (x : Fact) (ws : List Write) → IsBookAt by n x → IsBegunAt n ws → FitsRoll w by (opened n x ws)
-  fits_opened by n x ws b h = record { share = λ c. absurd (off c); book = λ _. b; met = λ c. absurd (off c); begins = λ _. h; makes = λ c. absurd (off c) }
+  fits_opened by n x ws b h = record { share = λ c. absurd (off c); book = λ _. b; met = λ c. absurd (off c); begins = λ _. h; told = λ _. (writes_in (w.held n), refl); makes = λ c. absurd (off c) }
 
   -- one view is changed, and the others still fit
   pub fits_set : (views : List View) (id : ℕ) (v : View)

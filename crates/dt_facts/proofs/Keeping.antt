@@ -39,6 +39,7 @@ makes id m s h at =
             book = λ c. let a = g.book c in (moved_off w.book_at m u.name seat (λ z. omega (arith, a.2, f.1, z)) ∙ a.0, a.1, omega (arith, a.2, f.1));
             met = g.met;
             begins = λ c. let a = g.begins c in (a.0, omega (arith, a.1, f.1));
+            told = g.told;
             makes = λ c. absurd (apart (sym (g.makes c).0 ∙ f.0));
           })
           (fits_maker next id f.0)
@@ -60,6 +61,7 @@ joins id n x other y s h at apart there =
             book = g.book;
             met = g.met;
             begins = g.begins;
+            told = g.told;
             makes = g.makes;
           })
           (fits_joined next id n x y (moved_on w.share_at n id, f.1, f.2) f p.1);
@@ -100,6 +102,7 @@ goes_on slots id n x z c follows s h _ at _ =
               book = λ c. let a = g.book c in (a.0, a.1 ∙ sym (moved_off w.held n u.name z (off_book j u apart e c)), a.2);
               met = λ c. let a = g.met c in (a.0, a.1 ∙ sym (moved_off w.held n u.name z (off_share j u apart e a.0)));
               begins = λ c. let a = g.begins c in (begun_still w.held u.name (ℕ_discrete u.name n) u.knows fs.1 a.0, a.1);
+              told = λ c. begun_still w.held u.name (ℕ_discrete u.name n) (writes_in u.had) fs.1 (g.told c);
               makes = g.makes;
             })
             (fits_both next id n z (fs.0, sym (moved_on w.held n z), fs.2) (fb.0, sym (moved_on w.held n z), fb.2));
@@ -130,6 +133,7 @@ cuts id n x s h at =
             book = g.book;
             met = g.met;
             begins = g.begins;
+            told = g.told;
             makes = g.makes;
           })
           (fits_book next id n x (f.book refl))

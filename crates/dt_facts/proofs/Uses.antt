@@ -6,9 +6,9 @@ use Rattle.dt_chain.specs.Writes.{Write}
 use Rattle.dt_facts.specs.declared.fact.Fact.{Fact}
 use Rattle.dt_facts.specs.declared.rule.View.{View}
 use Rattle.dt_facts.specs.Facts.{Follows}
-use Rattle.dt_facts.specs.Rule.{Mine, share, book, both, joined, beginning, opened, maker, nobody, next_maker, made, with_share, without_share, share_alone, beginning_of, longer_of, with_beginning, AllAgree, HasAgreed, HasGoneOn, HasBegun}
+use Rattle.dt_facts.specs.Rule.{Mine, share, book, both, joined, beginning, informed, opened, maker, nobody, next_maker, made, with_share, without_share, share_alone, beginning_of, with_told, with_beginning, AllAgree, HasAgreed, HasGoneOn, HasBegun, HasLearnt}
 use Rattle.dt_facts.proofs.Keeping.{makes, joins, agrees, goes_on, cuts}
-use Rattle.dt_facts.proofs.Growing.{begins, learns, opens, compares}
+use Rattle.dt_facts.proofs.Growing.{begins, tells, learns, opens, compares}
 
 pub makes_as : (id : ℕ) (v : View) (m : ℕ) → v ≡ maker m → Splits AllAgree id v (next_maker v) (made v)
 makes_as id v m e = subst (λ (u : View). Splits AllAgree id u (next_maker u) (made u)) (sym e) (makes id m)
@@ -28,8 +28,11 @@ cuts_as id v n x e = subst (λ (u : View). Splits AllAgree id u (without_share u
 pub begins_as : (id : ℕ) (v : View) (n : ℕ) (x : Fact) → v ≡ book n x → Splits AllAgree id v v (beginning_of v)
 begins_as id v n x e = subst (λ (u : View). Splits AllAgree id u u (beginning_of u)) (sym e) (begins id n x)
 
-pub learns_as : (id : ℕ) (v : View) (n : ℕ) (xs : List Write) (other : ℕ) (w : View) (ys : List Write) → v ≡ beginning n xs → w ≡ beginning n ys → Joins AllAgree id v other w (longer_of v w) nobody
-learns_as id v n xs other w ys e e' = subst (λ (p : View × View). Joins AllAgree id p.0 other p.1 (longer_of p.0 p.1) nobody) (λ i. (sym e i, sym e' i)) (learns id n xs other ys)
+pub tells_as : (id : ℕ) (v : View) (n : ℕ) (xs : List Write) (other : ℕ) (w : View) (ys : List Write) → v ≡ beginning n xs → w ≡ beginning n ys → Joins AllAgree id v other w (with_told v w) nobody
+tells_as id v n xs other w ys e e' = subst (λ (p : View × View). Joins AllAgree id p.0 other p.1 (with_told p.0 p.1) nobody) (λ i. (sym e i, sym e' i)) (tells id n xs other ys)
+
+pub learns_as : (slots id : ℕ) (me : Mine) (n : ℕ) (xs ys : List Write) → me.0 ≡ informed n xs ys → Allows AllAgree slots id me 0 (λ n. n) (HasLearnt (step slots 0 0 0 none) me)
+learns_as slots id me n xs ys e = subst (λ (v : View). Allows AllAgree slots id (v, me.1) 0 (λ n. n) (HasLearnt (step slots 0 0 0 none) (v, me.1))) (sym e) (learns slots id n xs ys me.1)
 
 pub opens_as : (id : ℕ) (v : View) (n : ℕ) (x : Fact) (other : ℕ) (w : View) (ys : List Write) → v ≡ book n x → w ≡ beginning n ys → Joins AllAgree id v other w (with_beginning v w) nobody
 opens_as id v n x other w ys e e' = subst (λ (p : View × View). Joins AllAgree id p.0 other p.1 (with_beginning p.0 p.1) nobody) (λ i. (sym e i, sym e' i)) (opens id n x other ys)

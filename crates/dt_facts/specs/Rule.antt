@@ -7,7 +7,7 @@ use Rattle.atomic_table.specs.Table.{State, Step, Me}
 use Rattle.dt_chain.specs.Writes.{Write}
 use Rattle.dt_facts.specs.declared.fact.Fact.{Fact}
 use Rattle.dt_facts.specs.declared.rule.View.{View}
-use Rattle.dt_facts.specs.Facts.{nothing, writes_in, longer}
+use Rattle.dt_facts.specs.Facts.{nothing, writes_fact, writes_in, longer}
 
 abbrev pub NoSlot : Type 0
 NoSlot = Unit {0}
@@ -25,12 +25,13 @@ abbrev pub roll_of : (ℕ → Fact) → (ℕ → ℕ) → (ℕ → ℕ) → ℕ 
 roll_of held share_at book_at maker_at made = record { held = held; share_at = share_at; book_at = book_at; maker_at = maker_at; made = made }
 
 -- A seat's view fits. A name's share is at one seat and its book at one; both hold the name's fact, what a share held as it met its book is
--- that fact, and a beginning is one of the fact's writes
+-- that fact, and a beginning is one of the fact's writes, as is one that it was told
 pub record FitsRoll (w : Roll) (by : ℕ) (v : View) : Type 0 where
   pub share : v.share ≡ true → (w.share_at v.name ≡ by) × (v.fact ≡ w.held v.name) × (v.name < w.made)
   pub book : v.book ≡ true → (w.book_at v.name ≡ by) × (v.fact ≡ w.held v.name) × (v.name < w.made)
   pub met : v.met ≡ true → (v.share ≡ true) × (v.had ≡ w.held v.name)
   pub begins : v.begins ≡ true → IsPrefix v.knows (writes_in (w.held v.name)) × (v.name < w.made)
+  pub told : v.begins ≡ true → IsPrefix (writes_in v.had) (writes_in (w.held v.name))
   pub makes : v.makes ≡ true → (w.maker_at ≡ by) × (w.made ≡ v.name)
 
 abbrev pub EachFitsRoll : Roll → List View → Type 0
@@ -62,6 +63,10 @@ joined n x y = viewed n true true true false false x y []
 abbrev pub beginning : ℕ → List Write → View
 beginning n ws = viewed n false false false true false nothing nothing ws
 
+-- a beginning, with another that it was told
+abbrev pub informed : ℕ → List Write → List Write → View
+informed n ws us = viewed n false false false true false nothing (writes_fact us) ws
+
 -- a book with a beginning
 abbrev pub opened : ℕ → Fact → List Write → View
 opened n x ws = viewed n false true false true false x nothing ws
@@ -90,8 +95,8 @@ share_alone v = share v.name v.fact
 abbrev pub beginning_of : View → View
 beginning_of v = beginning v.name (writes_in v.fact)
 
-abbrev pub longer_of : View → View → View
-longer_of v w = beginning v.name (longer v.knows w.knows)
+abbrev pub with_told : View → View → View
+with_told v w = informed v.name v.knows w.knows
 
 abbrev pub with_beginning : View → View → View
 with_beginning v w = opened v.name v.fact w.knows
@@ -109,3 +114,11 @@ HasGoneOn x s v found w = (w.1 ≡ v.1) × (w.0 ≡ both v.0.name x)
 -- the book's writes begin with the beginning
 abbrev pub HasBegun : Step NoSlot → Mine → ℕ → Mine → Type 0
 HasBegun s v found w = (w.1 ≡ v.1) × (w.0 ≡ book v.0.name v.0.fact) × IsPrefix v.0.knows (writes_in v.0.fact)
+
+-- the longer of the two begins with both
+abbrev pub HasLearnt : Step NoSlot → Mine → ℕ → Mine → Type 0
+HasLearnt s v found w =
+    (w.1 ≡ v.1)
+    × (w.0 ≡ beginning v.0.name (longer v.0.knows (writes_in v.0.had)))
+    × IsPrefix v.0.knows (longer v.0.knows (writes_in v.0.had))
+    × IsPrefix (writes_in v.0.had) (longer v.0.knows (writes_in v.0.had))

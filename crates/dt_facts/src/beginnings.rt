@@ -5,7 +5,6 @@ ghost use Rattle.dt_facts.specs.Facts.{writes_in, longer};
 ghost use Rattle.dt_facts.specs.Handles.{begun};
 
 use crate::handles::{Beginning, Book};
-use crate::rule::Begins;
 use crate::word::Facts;
 use std::mem;
 
@@ -20,14 +19,15 @@ impl Facts {
         Beginning { seat }
     }
 
-    /// The longer of two beginnings of one name's writes.
+    /// Goes on to the longer of two beginnings of one name's writes, which begins with both.
     pub fn learn(&self, one: &mut Beginning, other: Beginning)
         requires one { one.old.word ≡ self.now }
         requires other { (other.word ≡ self.now) × (other.name ≡ one.old.name) }
-        ensures { one.new ≡ begun self.now one.old.name (longer one.old.writes other.writes) }
+        ensures longer { one.new ≡ begun self.now one.old.name (longer one.old.writes other.writes) }
+        ensures begins { IsPrefix one.old.writes one.new.writes × IsPrefix other.writes one.new.writes }
     {
         let Beginning { seat } = other;
-        self.table.shared.join_seat::<Begins>(&mut one.seat, seat);
+        self.take_in(&mut one.seat, seat);
     }
 
     /// The book's writes begin with those of the beginning, which is spent. The book doesn't change.

@@ -8,7 +8,8 @@ use std::collections::LinkedList;
 use std::marker::{Brand, PhantomData};
 
 // What a seat has of a name: its share, its book, both at once, or a beginning of its writes. One that has just become both
-// remembers what the share held, until the two are compared. The maker's has the next name. No value of it is made.
+// remembers what the share held, until the two are compared, and a beginning that was told another remembers that, until it has
+// learnt it. The maker's has the next name. No value of it is made.
 pub struct View {
     pub name: u64,
     pub share: bool,
@@ -100,7 +101,7 @@ impl<G: Given> Play<(), View> for GoesOn<G> {
     ghost then = { HasGoneOn G.fact };
 }
 
-// A beginning is cut from a book, and two are put together.
+// A beginning is cut from a book, and is told to another, which learns it.
 pub struct Begins;
 
 impl Split<View> for Begins {
@@ -112,11 +113,17 @@ impl Split<View> for Begins {
 }
 
 impl Join<View> for Begins {
-    ghost use Rattle.dt_facts.specs.Rule.{longer_of, nobody};
+    ghost use Rattle.dt_facts.specs.Rule.{with_told, nobody};
 
-    ghost both = { longer_of };
+    ghost both = { with_told };
 
     ghost spent = { nobody };
+}
+
+impl Play<(), View> for Begins {
+    ghost use Rattle.dt_facts.specs.Rule.{HasLearnt};
+
+    ghost then = { HasLearnt };
 }
 
 // A beginning goes into its book, and is found to be one.

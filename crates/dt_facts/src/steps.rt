@@ -3,7 +3,7 @@ ghost use Rattle.std.specs.Prelude.{◌≡◌};
 ghost use mathlib.Core.List.{IsPrefix};
 ghost use Rattle.dt_facts.specs.Rule.{both, book, share, beginning};
 ghost use Rattle.dt_facts.specs.Handles.{IsOf, IsShare, IsBook, IsBoth, IsBeginning};
-ghost use Rattle.dt_facts.specs.Facts.{Follows, writes_in};
+ghost use Rattle.dt_facts.specs.Facts.{Follows, writes_in, longer};
 
 use crate::rule::{Agrees, Begins, Compares, Given, GoesOn, Place, Shares};
 use crate::word::Facts;
@@ -46,6 +46,17 @@ impl Facts {
         ensures beginning { IsOf self.now (beginning seat.old.me.0.name (writes_in seat.old.me.0.fact)) result }
     {
         self.table.shared.split_seat::<Begins>(seat)
+    }
+
+    // A beginning is told another, and goes on to the longer of the two.
+    pub(crate) fn take_in(&self, seat: &mut Place, other: Place)
+        requires seat { IsBeginning seat.old × (seat.old.table_id ≡ self.now) }
+        requires other { IsBeginning other × (other.table_id ≡ self.now) × (other.me.0.name ≡ seat.old.me.0.name) }
+        ensures longer { IsOf self.now (beginning seat.old.me.0.name (longer seat.old.me.0.knows other.me.0.knows)) seat.new }
+        ensures begins { IsPrefix seat.old.me.0.knows (longer seat.old.me.0.knows other.me.0.knows) × IsPrefix other.me.0.knows (longer seat.old.me.0.knows other.me.0.knows) }
+    {
+        self.table.shared.join_seat::<Begins>(seat, other);
+        self.table.shared.load::<Begins>(seat, 0);
     }
 
     // A beginning goes into its book, and is found to be one.

@@ -12,3 +12,5 @@ mod calls;
 mod many_looks;
 #[cfg(test)]
 mod readers;
+#[cfg(test)]
+mod refused;

@@ -1,10 +1,12 @@
 -- Lists of items, beginnings of them, and the words that show them.
-use Rattle.std.proofs.Common.{◌≡◌, ◌≢◌, ◌⊎◌, ℕ, zero, suc, ◌<◌, ◌≤◌, List, [], ◌∷◌, ◌++◌, length, Bool, cond, eqb, refl, sym, ap, ◌∙◌, inl, inr, ⊎_elim, arith, append_assoc, length-append, eq-eqb, ne_eqb, append-nil}
+use Rattle.std.proofs.Common.{◌≡◌, ◌≢◌, ◌⊎◌, ℕ, zero, suc, ◌<◌, ◌≤◌, List, [], ◌∷◌, ◌++◌, length, Bool, true, false, cond, eqb, ltb, subst, refl, sym, ap, ◌∙◌, inl, inr, ⊎_elim, arith, append_assoc, length-append, eq-eqb, ne_eqb, append-nil}
 use Rattle.std.proofs.lemmas.List.{append_cancel_left}
 use Rattle.std.proofs.lemmas.List.Elements.{filter-append}
+use Rattle.std.proofs.lemmas.Bool.{ltb-true}
+use Rattle.std.proofs.lemmas.Bool.Decides.{nat_tests}
 use mathlib.Core.Option.{some, some-ne-none, some-injective}
 use lib.ListN.{get_elem?}
-use Rattle.dt_trail.specs.Items.{TrailItem, line, long_line, fired, whose, code, IsReal, AllReal, own, code_at, StartsWith}
+use Rattle.dt_trail.specs.Items.{TrailItem, line, long_line, fired, whose, code, IsReal, AllReal, own, code_at, StartsWith, longer}
 
 pub starts_self : (xs : List TrailItem) → StartsWith xs xs
 starts_self xs = ([], sym (append-nil xs))
@@ -32,6 +34,20 @@ starts_whole [] (x ∷ xs) a le = absurd (cc (a.1))
 starts_whole (z ∷ row) (x ∷ xs) a le =
     let heads : z ≡ x = cc (a.1) in
     let r = starts_whole row xs (a.0, cc (a.1)) (omega arith) in cc (heads, r)
+
+-- the longer of two beginnings of one list is one, and begins with both
+pub starts_longer : (row xs ys : List TrailItem) → StartsWith row xs → StartsWith row ys
+    → StartsWith row (longer xs ys) × StartsWith (longer xs ys) xs × StartsWith (longer xs ys) ys
+starts_longer row xs ys a b = by_case (ltb (length xs) (length ys)) refl
+  where
+    P : Bool → Type 0
+    P c = StartsWith row (cond c ys xs) × StartsWith (cond c ys xs) xs × StartsWith (cond c ys xs) ys
+
+    by_case : (c : Bool) → ltb (length xs) (length ys) ≡ c → P (ltb (length xs) (length ys))
+    by_case true e = let lt : length xs < length ys = ltb-true (length xs) (length ys) e in
+        subst P (sym e) (b, starts_shorter row xs ys a b (omega arith), starts_self ys)
+    by_case false e = let ge : length ys ≤ length xs = grind (arith, nat_tests, e) in
+        subst P (sym e) (a, starts_self xs, starts_shorter row ys xs b a ge)
 
 nothing_more : (xs ys : List TrailItem) → xs ++ ys ≡ xs → ys ≡ []
 nothing_more xs ys e = append_cancel_left xs ys [] (e ∙ sym (append-nil xs))

@@ -8,9 +8,9 @@ use Rattle.atomic_blocks.proofs.After.{cell_again, count_stays, place_stays}
 use Rattle.atomic_table.proofs.Lists.{at_set}
 use Rattle.dt_trail.specs.declared.door.Door.{Door}
 use Rattle.dt_trail.specs.declared.rule.View.{View}
-use Rattle.dt_trail.specs.Items.{TrailItem, code_at}
+use Rattle.dt_trail.specs.Items.{TrailItem, code_at, StartsWith}
 use Rattle.dt_trail.specs.Blocks.{flat, before, Laid, LiesAt}
-use Rattle.dt_trail.specs.Rule.{NoSlot, RowWorld, FitsRow, FitsEach, Kept, Turn, nobody}
+use Rattle.dt_trail.specs.Rule.{NoSlot, RowWorld, FitsRow, FitsEach, Kept, Turn, nobody, IsBegun}
 use Rattle.dt_trail.proofs.Begins.{at_snoc_at}
 use Rattle.dt_trail.proofs.Flats.{flat_at, flat_long, before_set}
 
@@ -42,7 +42,8 @@ fits_nobody w by = record {
   live = λ c. absurd (off c);
   owns = λ c. absurd (off c);
   makes = λ c. absurd (off c);
-  had = λ c _. absurd (off c);
+  had = (w.items, refl);
+  had_own = λ c _. absurd (off c);
   stands = λ h. absurd (omega arith);
   site = λ c. absurd (off c);
   plan = λ c _. absurd (off c);
@@ -118,6 +119,10 @@ module _ {K : Type 0} (lawful : K → List TrailItem → Type 0) (root : Ptr) (a
       → Goes H s (with_link s.rows k i (link_of s.rows k i)) id m then
   quiet_link s h k i id m v then fits told = subst (λ (rs : List (Row NoSlot)). Goes H s rs id m then) (sym (cell_again s.rows k i))
       (v, keeps, tt, record { world = h.world; keyed = h.keyed; is = h.is; laid = h.laid; shows = h.shows; each = fits }, told)
+
+  -- a beginning of the row begins a lawful one
+  pub legal_begun : (s : State NoSlot (View K)) (h : H s) (id : ℕ) (v : View K) (ks : List TrailItem) → FitsRow h.world id v → StartsWith h.world.items ks → IsBegun lawful v.account ks
+  legal_begun s h id v ks f a x e = (a.0, subst (λ z. lawful z (ks ++ a.0)) (sym (f.account x e ∙ h.keyed)) (subst (lawful acct) a.1 h.shows.legal))
 
   pub fits_again : (s : State NoSlot (View K)) (h : H s) (id : ℕ) (v : View K) → FitsRow h.world id v → FitsEach h.world (set s.views id v)
   fits_again s h id v f = fits_set h.world s.views id v (λ j u _ e. h.each j u e) f

@@ -25,7 +25,7 @@ module _ {K : Type 0} (lawful : K → List TrailItem → Type 0) (root : Ptr) (a
       → Allows H id (me (appender a n had ks d t) hand spare) (suc d.block) d.link.ptr i (λ _. code x) (λ _. IsSet x (step (suc d.block) d.link.ptr i (code x) 0) (me (appender a n had ks d t) hand spare) (code x))
   sets id a n had ks d t hand spare i x pos here near mine real ok s h at = (
     in_block lawful root acct s h d i st near,
-    λ _. (w, keeps, tt, kept, (refl, (let a = f.had refl refl in (subst (λ l. StartsWith l had) whole.1 a.0, ap (own n) (sym whole.1) ∙ a.1)))),
+    λ _. (w, keeps, tt, kept, (refl, (subst (λ l. StartsWith l had) whole.1 f.had, ap (own n) (sym whole.1) ∙ f.had_own refl refl))),
   )
     where
       v : View K
@@ -95,7 +95,8 @@ module _ {K : Type 0} (lawful : K → List TrailItem → Type 0) (root : Ptr) (a
                 (a.0, a.1, own_pushed_else u.note ks x (λ same. other (sym same ∙ mine)) ∙ (ap (own u.note) (sym whole.1) ∙ a.2)));
             owns = (λ o. absurd (apart (sym (g.owns o).0 ∙ whole.0)));
             makes = (λ o. absurd (apart (sym (g.owns (g.makes o).0).0 ∙ whole.0)));
-            had = (λ o _. absurd (apart (sym (g.owns o).0 ∙ whole.0)));
+            had = starts_trans items u.had ks (x ∷ [], refl) (subst (λ l. StartsWith l u.had) whole.1 g.had);
+            had_own = (λ o _. absurd (apart (sym (g.owns o).0 ∙ whole.0)));
             stands = (λ p. stands_alike bs new u.door alike (g.stands p));
             site = (λ o. absurd (apart (sym (g.owns o).0 ∙ whole.0)));
             plan = (λ o _. absurd (apart (sym (g.owns o).0 ∙ whole.0)));
@@ -108,7 +109,8 @@ module _ {K : Type 0} (lawful : K → List TrailItem → Type 0) (root : Ptr) (a
         live = (λ _. (live.0, live.1, refl));
         owns = (λ _. (whole.0, refl));
         makes = (λ o. absurd (off o));
-        had = (λ _ _. (starts_self items, refl));
+        had = starts_self items;
+        had_own = (λ _ _. refl);
         stands = (λ _. stands_alike bs new d alike st);
         site = (λ _. ((f.site refl).0 ∙ sym alike.count, (f.site refl).1 ∙ sym alike.long));
         plan = f.plan;

@@ -73,7 +73,8 @@ begins {K = K} lawful key p q cs ds ep eq rooted long blank pos small placed ok 
       live = (λ c. absurd (off c));
       owns = (λ _. (refl, refl));
       makes = (λ _. (refl, refl));
-      had = (λ _ l. absurd (off l));
+      had = ([], refl);
+      had_own = (λ _ l. absurd (off l));
       stands = (λ _. record { near = omega arith; from = refl; len = sym long; at = eq });
       site = (λ _. (refl, sym flat_long));
       plan = (λ _ c. absurd (off c));

@@ -1,5 +1,5 @@
 -- Seats are made, and the owner's right goes into a note and out again.
-use Rattle.std.proofs.Common.{◌≡◌, ◌≢◌, ℕ, ◌+◌, ◌<◌, List, [], length, set, Bool, true, false, cond, eqb, ltb, refl, sym, ap, ◌∙◌, subst, ⊎_elim, arith, eq-eqb, ne_eqb}
+use Rattle.std.proofs.Common.{◌≡◌, ◌≢◌, ℕ, ◌+◌, ◌<◌, List, [], length, set, Bool, true, false, cond, eqb, refl, sym, ap, ◌∙◌, subst, ⊎_elim, arith, eq-eqb, ne_eqb}
 use Rattle.std.specs.Prelude.{Option}
 use mathlib.Core.Option.{some}
 use lib.ListN.{get_elem?}
@@ -11,9 +11,7 @@ use Rattle.dt_trail.specs.declared.rule.Site.{Site}
 use Rattle.dt_trail.specs.declared.rule.View.{View}
 use Rattle.dt_trail.specs.Items.{TrailItem, own, StartsWith}
 use Rattle.dt_trail.specs.Blocks.{LiesAt}
-use Rattle.dt_trail.proofs.Begins.{starts_shorter, starts_length, own_longer}
-use Rattle.std.proofs.lemmas.Bool.{ltb-true}
-use Rattle.dt_trail.specs.Rule.{NoSlot, RowWorld, FitsRow, Kept, note, appender, owner, maker, nobody, viewed, claim, claim_of, informed}
+use Rattle.dt_trail.specs.Rule.{NoSlot, RowWorld, FitsRow, Kept, note, appender, owner, maker, nobody, claim, claim_of, is_longer, informed}
 use Rattle.dt_trail.proofs.Fitting.{off, fits_set, fits_split, fits_nobody, in_root}
 
 module _ {K : Type 0} (lawful : K → List TrailItem → Type 0) (root : Ptr) (acct : K) where
@@ -44,18 +42,20 @@ module _ {K : Type 0} (lawful : K → List TrailItem → Type 0) (root : Ptr) (a
                 owns = g.owns;
                 makes = (λ c. absurd (apart (sym (g.owns (g.makes c).0).0 ∙ all.0)));
                 had = g.had;
+                had_own = g.had_own;
                 stands = g.stands;
                 site = g.site;
                 plan = g.plan;
               })
-              record { account = f.account; begins = f.begins; live = (λ c. absurd (off c)); owns = f.owns; makes = (λ _. (refl, refl)); had = (λ _ l. absurd (off l)); stands = f.stands; site = f.site; plan = f.plan }
+              record { account = f.account; begins = f.begins; live = (λ c. absurd (off c)); owns = f.owns; makes = (λ _. (refl, refl)); had = f.had; had_own = (λ _ l. absurd (off l)); stands = f.stands; site = f.site; plan = f.plan }
               record {
                 account = f.account;
                 begins = (h.world.items, refl);
                 live = (λ _. (ap (λ b. cond b seat (h.world.place n)) (eq-eqb n n refl), omega arith, ap (own n) all.1));
                 owns = (λ c. absurd (off c));
                 makes = (λ c. absurd (off c));
-                had = (λ c _. absurd (off c));
+                had = (h.world.items, refl);
+                had_own = (λ c _. absurd (off c));
                 stands = f.stands;
                 site = (λ c. absurd (off c));
                 plan = (λ c _. absurd (off c));
@@ -85,12 +85,13 @@ module _ {K : Type 0} (lawful : K → List TrailItem → Type 0) (root : Ptr) (a
                 owns = (λ c. absurd (apart (sym (g.owns c).0 ∙ all.0)));
                 makes = g.makes;
                 had = g.had;
+                had_own = g.had_own;
                 stands = g.stands;
                 site = g.site;
                 plan = g.plan;
               })
               (fits_nobody world id)
-              record { account = f.account; begins = f.begins; live = (λ c. absurd (off c)); owns = (λ _. (refl, all.1)); makes = (λ c. absurd (off c)); had = (λ _ l. absurd (off l)); stands = f.stands; site = f.site; plan = f.plan };
+              record { account = f.account; begins = f.begins; live = (λ c. absurd (off c)); owns = (λ _. (refl, all.1)); makes = (λ c. absurd (off c)); had = f.had; had_own = (λ _ l. absurd (off l)); stands = f.stands; site = f.site; plan = f.plan };
         },
       )
 
@@ -130,7 +131,8 @@ module _ {K : Type 0} (lawful : K → List TrailItem → Type 0) (root : Ptr) (a
                   live = (λ _. (live.0, live.1, ap (own n) whole.1));
                   owns = (λ _. (refl, whole.1));
                   makes = (λ c. absurd (off c));
-                  had = (λ _ _. (f.begins, live.2));
+                  had = f.begins;
+                  had_own = (λ _ _. live.2);
                   stands = g.stands;
                   site = g.site;
                   plan = g.plan;
@@ -142,6 +144,7 @@ module _ {K : Type 0} (lawful : K → List TrailItem → Type 0) (root : Ptr) (a
                   owns = (λ c. absurd (ne (sym (k.owns c).0 ∙ whole.0)));
                   makes = k.makes;
                   had = k.had;
+                  had_own = k.had_own;
                   stands = k.stands;
                   site = k.site;
                   plan = k.plan;
@@ -172,12 +175,13 @@ module _ {K : Type 0} (lawful : K → List TrailItem → Type 0) (root : Ptr) (a
                 owns = (λ c. absurd (apart (sym (g.owns c).0 ∙ whole.0)));
                 makes = g.makes;
                 had = g.had;
+                had_own = g.had_own;
                 stands = g.stands;
                 site = g.site;
                 plan = g.plan;
               })
-              record { account = f.account; begins = f.begins; live = f.live; owns = (λ c. absurd (off c)); makes = (λ c. absurd (off c)); had = (λ c _. absurd (off c)); stands = f.stands; site = (λ c. absurd (off c)); plan = (λ c _. absurd (off c)) }
-              record { account = f.account; begins = f.begins; live = (λ c. absurd (off c)); owns = (λ _. (refl, whole.1)); makes = (λ c. absurd (off c)); had = (λ _ l. absurd (off l)); stands = f.stands; site = f.site; plan = f.plan };
+              record { account = f.account; begins = f.begins; live = f.live; owns = (λ c. absurd (off c)); makes = (λ c. absurd (off c)); had = (h.world.items, refl); had_own = (λ c _. absurd (off c)); stands = f.stands; site = (λ c. absurd (off c)); plan = (λ c _. absurd (off c)) }
+              record { account = f.account; begins = f.begins; live = (λ c. absurd (off c)); owns = (λ _. (refl, whole.1)); makes = (λ c. absurd (off c)); had = (h.world.items, refl); had_own = (λ _ l. absurd (off l)); stands = f.stands; site = f.site; plan = f.plan };
         },
       )
 
@@ -188,7 +192,8 @@ module _ {K : Type 0} (lawful : K → List TrailItem → Type 0) (root : Ptr) (a
     live = (λ c. absurd (off c));
     owns = (λ c. absurd (off c));
     makes = (λ c. absurd (off c));
-    had = (λ c _. absurd (off c));
+    had = (w.items, refl);
+    had_own = (λ c _. absurd (off c));
     stands = f.stands;
     site = (λ c. absurd (off c));
     plan = (λ c _. absurd (off c));
@@ -209,32 +214,30 @@ module _ {K : Type 0} (lawful : K → List TrailItem → Type 0) (root : Ptr) (a
         },
       )
 
-  pub fits_longer : (w : RowWorld K) (by : ℕ) (v u : View K) → FitsRow w by v → StartsWith w.items u.knows → (0 < u.door.len → LiesAt w.blocks u.door) → FitsRow w by (informed v u)
-  fits_longer w by v u f begins stands = by_case (ltb (length v.knows) (length u.knows)) refl
+  fits_informed : (w : RowWorld K) (by : ℕ) (v u : View K) → v.owns ≡ false → FitsRow w by v → StartsWith w.items u.knows → (0 < u.door.len → LiesAt w.blocks u.door) → FitsRow w by (informed v u)
+  fits_informed w by v u other f begins stands = record {
+    account = f.account;
+    begins = f.begins;
+    live = f.live;
+    owns = not_mine;
+    makes = (λ k. not_mine (f.makes k).0);
+    had = begins;
+    had_own = (λ o _. not_mine o);
+    stands = by_door (is_longer v u);
+    site = not_mine;
+    plan = (λ o _. not_mine o);
+  }
     where
-      P : Bool → Type 0
-      P b = FitsRow w by (viewed v.account v.live v.owns v.makes v.note (cond b u.knows v.knows) v.had (cond b u.door v.door) v.site)
+      not_mine : {A : Type 0} → v.owns ≡ true → A
+      not_mine o = absurd (off (sym other ∙ o))
 
-      by_case : (b : Bool) → ltb (length v.knows) (length u.knows) ≡ b → FitsRow w by (informed v u)
-      by_case false e = subst P (sym e) f
-      by_case true e =
-          let lt : length v.knows < length u.knows = ltb-true (length v.knows) (length u.knows) e in
-          let mid : StartsWith u.knows v.knows = starts_shorter w.items v.knows u.knows f.begins begins (omega arith) in
-          subst P (sym e) record {
-            account = f.account;
-            begins = begins;
-            live = (λ c. let g = f.live c in (g.0, g.1, own_longer v.note w.items v.knows u.knows begins mid g.2));
-            owns = (λ c. absurd (omega (arith, ap length (f.owns c).1, starts_length w.items u.knows begins)));
-            makes = f.makes;
-            had = f.had;
-            stands = stands;
-            site = f.site;
-            plan = f.plan;
-          }
+      by_door : (b : Bool) → 0 < (cond b u.door v.door).len → LiesAt w.blocks (cond b u.door v.door)
+      by_door true = stands
+      by_door false = f.stands
 
   -- a claim is taken in
-  pub learns : (id : ℕ) (v : View K) (other : ℕ) (a : Option K) (ks : List TrailItem) (d : Door) → Joins H 0 root id v other (claim a ks d) (informed v (claim a ks d)) nobody
-  learns id v other a ks d s h = (in_root lawful root acct s h 0 (omega arith), kept)
+  pub told : (id : ℕ) (v : View K) (other : ℕ) (a : Option K) (ks : List TrailItem) (d : Door) → v.owns ≡ false → Joins H 0 root id v other (claim a ks d) (informed v (claim a ks d)) nobody
+  told id v other a ks d not_mine s h = (in_root lawful root acct s h 0 (omega arith), kept)
     where
       u : View K
       u = claim a ks d
@@ -251,6 +254,6 @@ module _ {K : Type 0} (lawful : K → List TrailItem → Type 0) (root : Ptr) (a
             laid = h.laid;
             shows = h.shows;
             each = fits_set h.world (set s.views id w) other nobody
-                (λ j y _ e. fits_set h.world s.views id w (λ i z _ e'. h.each i z e') (fits_longer h.world id v u f g.begins g.stands) j y e)
+                (λ j y _ e. fits_set h.world s.views id w (λ i z _ e'. h.each i z e') (fits_informed h.world id v u not_mine f g.begins g.stands) j y e)
                 (fits_nobody h.world other);
           }

@@ -1,6 +1,6 @@
 -- Each step on a word keeps the rule.
-use Rattle.std.proofs.Common.{◌≡◌, ◌≢◌, ℕ, suc, ◌+◌, ◌<◌, ◌≤◌, ◌^◌, List, [], ◌∷◌, ◌++◌, length, true, refl, sym, ap, ◌∙◌, subst, arith, append_assoc, length-append, eq-eqb, ne_eqb}
-use Rattle.std.specs.Prelude.{Option, Some, MatchBool}
+use Rattle.std.proofs.Common.{◌≡◌, ◌≢◌, ℕ, suc, ◌+◌, ◌<◌, ◌≤◌, ◌^◌, List, [], ◌∷◌, ◌++◌, length, true, false, refl, sym, ap, ◌∙◌, subst, arith, append_assoc, length-append, eq-eqb, ne_eqb}
+use Rattle.std.specs.Prelude.{Option, MatchBool}
 use native.Mathlib.Decide.{dec_le}
 use lib.ListN.{get_elem?}
 use denote.RawPtr.{Ptr, InBlock}
@@ -8,12 +8,12 @@ use Rattle.atomic_blocks.specs.Cells.{Row, State, Step, step, no_row, row, cell_
 use Rattle.dt_trail.specs.declared.door.Door.{Door}
 use Rattle.dt_trail.specs.declared.rule.Site.{Site}
 use Rattle.dt_trail.specs.declared.rule.View.{View}
-use Rattle.dt_trail.specs.Items.{TrailItem, code, IsReal, AllReal, own, code_at, StartsWith}
+use Rattle.dt_trail.specs.Items.{TrailItem, code, IsReal, AllReal, own, code_at, StartsWith, longer}
 use Rattle.dt_trail.specs.Blocks.{before, LiesAt}
-use Rattle.dt_trail.specs.Rule.{NoSlot, FitsRow, Kept, Turn, appender, through, door_at, pushed, reviewed, FindsItem, HasCompared, HasRead, IsTurned, IsSeen}
-use Rattle.dt_trail.proofs.Begins.{own_rest, own_longer, not_own, All-at, code_some, code_behind}
+use Rattle.dt_trail.specs.Rule.{NoSlot, FitsRow, Kept, Turn, appender, through, door_at, pushed, reviewed, FindsItem, HasCompared, HasRead, HasLearnt, learnt, IsTurned, IsSeen}
+use Rattle.dt_trail.proofs.Begins.{starts_longer, own_rest, own_longer, not_own, All-at, code_some, code_behind}
 use Rattle.dt_trail.proofs.Flats.{before_next, before_all, before_le}
-use Rattle.dt_trail.proofs.Fitting.{root_is, in_root, in_block, word_is, quiet, quiet_link, fits_again}
+use Rattle.dt_trail.proofs.Fitting.{off, root_is, in_root, in_block, word_is, quiet, quiet_link, fits_again, legal_begun}
 
 module _ {K : Type 0} (lawful : K → List TrailItem → Type 0) (root : Ptr) (acct : K) where
   abbrev H : State NoSlot (View K) → Type 0
@@ -55,7 +55,7 @@ module _ {K : Type 0} (lawful : K → List TrailItem → Type 0) (root : Ptr) (a
       by_rest [] e =
           let none : found ≡ 0 = found_is ∙ (ap (λ l. code_at l (length v.knows)) e ∙ code_behind v.knows []) in
           quiet lawful root acct s h k i id m v (HasRead lawful st0 m found) (fits_again lawful root acct s h id v f)
-          ((λ y ey. ([], subst (λ z. lawful z (v.knows ++ [])) (sym (f.account y ey ∙ h.keyed)) (subst (lawful acct) e h.shows.legal))), subst (λ b. MatchBool b (m ≡ m) (FindsItem m found m)) (sym (eq-eqb found 0 none)) refl)
+          (legal_begun lawful root acct s h id v v.knows f ([], e), subst (λ b. MatchBool b (m ≡ m) (FindsItem m found m)) (sym (eq-eqb found 0 none)) refl)
       by_rest (x ∷ xs) e =
           let is : found ≡ code x = found_is ∙ (ap (λ l. code_at l (length v.knows)) e ∙ code_behind v.knows (x ∷ xs)) in
           let real : IsReal x = All-at v.knows x xs (subst AllReal e h.shows.real) in
@@ -71,11 +71,12 @@ module _ {K : Type 0} (lawful : K → List TrailItem → Type 0) (root : Ptr) (a
             owns = (λ o. absurd (omega (arith, ap length (sym (f.owns o).1 ∙ e), length-append v.knows (x ∷ xs))));
             makes = f.makes;
             had = f.had;
+            had_own = f.had_own;
             stands = f.stands;
             site = f.site;
             plan = f.plan;
           }) (
-            (λ y ey. (next.0, subst (λ z. lawful z (w.knows ++ next.0)) (sym (f.account y ey ∙ h.keyed)) (subst (lawful acct) next.1 h.shows.legal))),
+            legal_begun lawful root acct s h id v w.knows f next,
             subst (λ b. MatchBool b (reviewed m w ≡ m) (FindsItem m found (reviewed m w))) (sym (ne_eqb found 0 some))
                 record { item = x; shown = is; real = real; other = (λ l. not_own v.note x xs (own_rest v.note items v.knows (x ∷ xs, e) (f.live l).2)); next = refl },
           )
@@ -112,9 +113,6 @@ module _ {K : Type 0} (lawful : K → List TrailItem → Type 0) (root : Ptr) (a
       from_is : before bs i ≡ d.from + d.len
       from_is = ap (before bs) ei ∙ (before_next bs d.block ∙ (λ t. sym st.from t + sym st.len t))
 
-      legal : (x : K) → v.account ≡ Some x → (rest : List TrailItem) × lawful x (v.knows ++ rest)
-      legal x e = (f.begins.0, subst (λ z. lawful z (v.knows ++ f.begins.0)) (sym (f.account x e ∙ h.keyed)) (subst (lawful acct) f.begins.1 h.shows.legal))
-
       Next : View K → Type 0
       Next u = (p : Ptr) × InBlock p × (found < 2 ^ 40) × (d.from + d.len + found < 2 ^ 60) × (i < 32) × (reviewed m u ≡ reviewed m (through v (door_at i (d.from + d.len) found p)))
 
@@ -133,11 +131,12 @@ module _ {K : Type 0} (lawful : K → List TrailItem → Type 0) (root : Ptr) (a
             owns = f.owns;
             makes = f.makes;
             had = f.had;
+            had_own = f.had_own;
             stands = (λ _. record { near = omega arith; from = sym from_is; len = found_is; at = refl });
             site = f.site;
             plan = f.plan;
           }) (
-            legal,
+            legal_begun lawful root acct s h id v v.knows f f.begins,
             subst (λ b. MatchBool b ((reviewed m w ≡ m) × (v.owns ≡ true → v.site.cells ≡ d.from + d.len)) (Next w)) (sym (ne_eqb found 0 some))
                 (p, pl.1, subst (λ (n : ℕ). n < 2 ^ 40) (sym found_is) pl.3, (let a = before_le bs i in let b = h.laid.wide in let e = from_is in let g = found_is in omega arith), omega arith, refl),
           )
@@ -145,7 +144,7 @@ module _ {K : Type 0} (lawful : K → List TrailItem → Type 0) (root : Ptr) (a
           let gone : row bs i ≡ no_row = lib.ListN.get_or-eq_default bs no_row (omega arith) in
           let empty : found ≡ 0 = found_is ∙ ap (λ (r : Row NoSlot). length r.cells) gone in
           quiet lawful root acct s h 0 i id m v (IsTurned lawful st0 m found) (fits_again lawful root acct s h id v f) (
-            legal,
+            legal_begun lawful root acct s h id v v.knows f f.begins,
             subst (λ b. MatchBool b ((m ≡ m) × (v.owns ≡ true → v.site.cells ≡ d.from + d.len)) (Next v)) (sym (eq-eqb found 0 empty))
                 (refl, λ o. (f.site o).1 ∙ (sym (before_all bs i (omega arith)) ∙ from_is)),
           )
@@ -167,9 +166,52 @@ module _ {K : Type 0} (lawful : K → List TrailItem → Type 0) (root : Ptr) (a
   pub compares : (id : ℕ) (a : Option K) (n : ℕ) (had ks : List TrailItem) (d : Door) (t : Site) (m : Turn K) → m.view ≡ appender a n had ks d t → Allows H id m 0 root 0 (λ x. x) (HasCompared (step 0 root 0 0 0) m)
   compares id a n had ks d t m e s h at =
       let f = h.each id m.view at in
-      let a = f.had (ap (λ (v : View K). v.owns) e) (ap (λ (v : View K). v.live) e) in
+      let own_is = f.had_own (ap (λ (v : View K). v.owns) e) (ap (λ (v : View K). v.live) e) in
       let whole = (f.owns (ap (λ (v : View K). v.owns) e)).1 in (
         in_root lawful root acct s h 0 (omega arith),
         λ _. quiet lawful root acct s h 0 0 id m m.view (HasCompared (step 0 root 0 0 0) m (word_of s.rows 0 0)) (fits_again lawful root acct s h id m.view f)
-            (refl, (subst (λ l. StartsWith l m.view.had) whole a.0, ap (own m.view.note) (sym whole) ∙ a.1)),
+            (refl, (subst (λ l. StartsWith l m.view.had) whole f.had, ap (own m.view.note) (sym whole) ∙ own_is)),
       )
+
+  -- a note learns what it was told
+  pub learns : (id : ℕ) (m : Turn K) → m.view.owns ≡ false → Allows H id m 0 root 0 (λ x. x) (HasLearnt lawful (step 0 root 0 0 0) m)
+  learns id m other s h at = (in_root lawful root acct s h 0 (omega arith), λ _. told)
+    where
+      v : View K
+      v = m.view
+
+      w : View K
+      w = learnt m.view
+
+      items : List TrailItem
+      items = h.world.items
+
+      f : FitsRow h.world id m.view
+      f = h.each id m.view at
+
+      all : StartsWith h.world.items (longer m.view.knows m.view.had) × StartsWith (longer m.view.knows m.view.had) m.view.knows × StartsWith (longer m.view.knows m.view.had) m.view.had
+      all = starts_longer items v.knows v.had f.begins f.had
+
+      not_mine : {A : Type 0} → m.view.owns ≡ true → A
+      not_mine o = absurd (off (sym other ∙ o))
+
+      told : Goes H s (with_word s.rows 0 0 (word_of s.rows 0 0)) id m (HasLearnt lawful (step 0 root 0 0 0) m (word_of s.rows 0 0))
+      told = quiet lawful root acct s h 0 0 id m w (HasLearnt lawful (step 0 root 0 0 0) m (word_of s.rows 0 0))
+          (fits_again lawful root acct s h id w record {
+            account = f.account;
+            begins = all.0;
+            live = (λ l. let g = f.live l in (g.0, g.1, own_longer v.note items v.knows w.knows all.0 all.1 g.2));
+            owns = not_mine;
+            makes = (λ k. not_mine (f.makes k).0);
+            had = (items, refl);
+            had_own = (λ o _. not_mine o);
+            stands = f.stands;
+            site = not_mine;
+            plan = (λ o _. not_mine o);
+          }) (
+            legal_begun lawful root acct s h id v w.knows f all.0,
+            refl,
+            all.1,
+            all.2,
+            (λ l. let g = f.live l in sym (own_longer v.note items v.knows w.knows all.0 all.1 g.2) ∙ g.2),
+          )

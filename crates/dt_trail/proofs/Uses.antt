@@ -1,5 +1,5 @@
 -- The steps at views that are known.
-use Rattle.std.proofs.Common.{◌≡◌, ◌≢◌, ℕ, suc, ◌+◌, ◌-◌, ◌<◌, ◌≤◌, ◌^◌, List, [], ◌∷◌, ◌++◌, length, true, sym, ap, ◌∙◌, subst, arith, ne_eqb}
+use Rattle.std.proofs.Common.{◌≡◌, ◌≢◌, ℕ, suc, ◌+◌, ◌-◌, ◌<◌, ◌≤◌, ◌^◌, List, [], ◌∷◌, ◌++◌, length, true, false, sym, ap, ◌∙◌, subst, arith, ne_eqb}
 use Rattle.std.specs.Prelude.{Option, Some, MatchBool}
 use denote.RawPtr.{Ptr, InBlock}
 use Rattle.atomic_blocks.specs.Cells.{Cell, Row, Me, Step, me, step, row_at, cell_in, Allows, AllowsLink, Splits, Joins}
@@ -9,7 +9,7 @@ use Rattle.dt_trail.specs.declared.rule.Site.{Site}
 use Rattle.dt_trail.specs.declared.rule.View.{View}
 use Rattle.dt_trail.specs.Items.{TrailItem, whose, code, IsReal}
 use Rattle.dt_trail.specs.Insides.{IsDoor}
-use Rattle.dt_trail.specs.Rule.{NoSlot, Kept, Turn, note, appender, owner, maker, nobody, site_of, with_right, without_right, right_of, maker_after, made, ended, IsSet, HasCompared, HasRead, IsTurned, IsSeen, IsPlanned, IsLaid, reviewed, through, door_at, claim, claim_of, informed}
+use Rattle.dt_trail.specs.Rule.{NoSlot, Kept, Turn, note, appender, owner, maker, nobody, site_of, with_right, without_right, right_of, maker_after, made, ended, IsSet, HasCompared, HasRead, HasLearnt, IsTurned, IsSeen, IsPlanned, IsLaid, reviewed, through, door_at, claim, claim_of, informed}
 use Rattle.dt_trail.proofs.Steps as steps
 use Rattle.dt_trail.proofs.Grows as grows
 use Rattle.dt_trail.proofs.Widens as widens
@@ -73,8 +73,11 @@ module _ {K : Type 0} (lawful : K → List TrailItem → Type 0) (key about : Ab
   pub tells_as : (id : ℕ) (v : View K) → Splits H 0 about.root.ptr id v v (claim_of v)
   tells_as id v = subst (λ (p : Ptr). Splits H 0 p id v v (claim_of v)) root_is (seats.tells lawful key.root.ptr key.account id v)
 
-  pub learns_as : (id : ℕ) (v : View K) (other : ℕ) (w : View K) → w ≡ claim w.account w.knows w.door → Joins H 0 about.root.ptr id v other w (informed v w) nobody
-  learns_as id v other w e = subst (λ (p : Ptr × View K). Joins H 0 p.0 id v other p.1 (informed v p.1) nobody) (λ i. (root_is i, sym e i)) (seats.learns lawful key.root.ptr key.account id v other w.account w.knows w.door)
+  pub told_as : (id : ℕ) (v : View K) (other : ℕ) (w : View K) → w ≡ claim w.account w.knows w.door → v.owns ≡ false → Joins H 0 about.root.ptr id v other w (informed v w) nobody
+  told_as id v other w e not_mine = subst (λ (p : Ptr × View K). Joins H 0 p.0 id v other p.1 (informed v p.1) nobody) (λ i. (root_is i, sym e i)) (seats.told lawful key.root.ptr key.account id v other w.account w.knows w.door not_mine)
+
+  pub learns_as : (id : ℕ) (m : Turn K) → m.view.owns ≡ false → Allows H id m 0 about.root.ptr 0 (λ x. x) (HasLearnt lawful (step 0 about.root.ptr 0 0 0) m)
+  learns_as id m not_mine = subst (λ (p : Ptr). Allows H id m 0 p 0 (λ x. x) (HasLearnt lawful (step 0 p 0 0 0) m)) root_is (steps.learns lawful key.root.ptr key.account id m not_mine)
 
 -- what the root told, where there is a block
 pub turned : {K : Type 0} (lawful : K → List TrailItem → Type 0) (st : Step) (m : Turn K) (found : ℕ) (n : Turn K) → found ≢ 0 → IsTurned lawful st m found n

@@ -79,6 +79,7 @@ module _ {K : Type 0} (lawful : K → List TrailItem → Type 0) (root : Ptr) (a
         owns = g.owns;
         makes = g.makes;
         had = g.had;
+        had_own = g.had_own;
         stands = g.stands;
         site = g.site;
         plan = (λ o _. absurd (apart (sym (g.owns o).0 ∙ (f.owns owns).0)));
@@ -98,6 +99,7 @@ module _ {K : Type 0} (lawful : K → List TrailItem → Type 0) (root : Ptr) (a
           owns = f.owns;
           makes = f.makes;
           had = f.had;
+          had_own = f.had_own;
           stands = f.stands;
           site = f.site;
           plan = (λ _ _. ap (λ (z : ℕ). (cell_in base.cells z).link) (sym ei) ∙ ap (λ (y : Cell NoSlot). y.link) (get_or-set_same h.world.base.cells i c cell_none near));
@@ -189,7 +191,7 @@ module _ {K : Type 0} (lawful : K → List TrailItem → Type 0) (root : Ptr) (a
       }
 
       had : m.view.live ≡ true → HadAll m.view
-      had l = let a = f.had owns l in let whole = (f.owns owns).1 in (subst (λ z. StartsWith z m.view.had) whole a.0, ap (own m.view.note) (sym whole) ∙ a.1)
+      had l = let whole = (f.owns owns).1 in (subst (λ z. StartsWith z m.view.had) whole f.had, ap (own m.view.note) (sym whole) ∙ f.had_own owns l)
 
       stands_more : (d' : Door) → LiesAt bs d' → LiesAt new d'
       stands_more d' st = let lt : d'.block < i = (let y = count_is in let z = st.near in omega arith) in record {
@@ -207,6 +209,7 @@ module _ {K : Type 0} (lawful : K → List TrailItem → Type 0) (root : Ptr) (a
         owns = g.owns;
         makes = g.makes;
         had = g.had;
+        had_own = g.had_own;
         stands = (λ p. stands_more u.door (g.stands p));
         site = (λ o. absurd (apart (sym (g.owns o).0 ∙ (f.owns owns).0)));
         plan = (λ o _. absurd (apart (sym (g.owns o).0 ∙ (f.owns owns).0)));
@@ -231,6 +234,7 @@ module _ {K : Type 0} (lawful : K → List TrailItem → Type 0) (root : Ptr) (a
           owns = f.owns;
           makes = f.makes;
           had = f.had;
+          had_own = f.had_own;
           stands = (λ p. stands_more m.view.door (f.stands p));
           site = (λ o. let g = f.site owns in ((let a = g.0 in let b = count_new in let c' = count_is in omega arith), (let a = g.1 in let b = long_new in omega arith)));
           plan = (λ _ c'. absurd (off c'));

@@ -7,7 +7,7 @@ use Rattle.std.specs.declared.alloc.Global.{Global}
 use Rattle.dt_trail.specs.declared.door.Door.{Door}
 use Rattle.dt_trail.specs.declared.rule.View.{View}
 use Rattle.dt_trail.specs.declared.inner.Inner.{Inner}
-use Rattle.dt_trail.specs.Rule.{NoSlot, note, owner, claim, site_of, Turn}
+use Rattle.dt_trail.specs.Rule.{NoSlot, note, appender, owner, claim, site_of, Turn}
 use Rattle.dt_trail.specs.declared.law.Named.{Named}
 use Rattle.dt_trail.specs.Limits.{block_bound, widenings}
 use Rattle.dt_trail.specs.Items.{TrailItem}
@@ -38,9 +38,12 @@ module _ {K A : Type 0} where
   abbrev pub SameSeat : RowSeat K A → RowSeat K A → Type 0
   SameSeat old new = (new.rows ≡ old.rows) × (new.heap ≡ old.heap) × (new.id ≡ old.id)
 
-  -- a note's seat, and the owner's
+  -- a note's seat, one that has the owner's right too, one of what was told, and the owner's
   abbrev pub Note : RowSeat K A → Type 0
   Note s = s.me ≡ me (note s.me.view.account s.me.view.note s.me.view.knows s.me.view.door) None None
+
+  abbrev pub Appender : RowSeat K A → Type 0
+  Appender s = s.me ≡ me (appender s.me.view.account s.me.view.note s.me.view.had s.me.view.knows s.me.view.door s.me.view.site) None None
 
   abbrev pub Claim : RowSeat K A → Type 0
   Claim s = s.me ≡ me (claim s.me.view.account s.me.view.knows s.me.view.door) None None

@@ -1,5 +1,5 @@
 -- Items as lists: what an item is, whose it is, and the word that stands for it.
-use Rattle.std.specs.Prelude.{◌≡◌, ◌<◌, ◌^◌, ℕ, zero, suc, ◌+◌, ◌*◌, ◌==◌, List, [], ◌∷◌, ◌++◌, filter}
+use Rattle.std.specs.Prelude.{◌≡◌, ◌<◌, ◌^◌, ℕ, zero, suc, ◌+◌, ◌*◌, ◌==◌, List, [], ◌∷◌, ◌++◌, length, filter, cond, nat_lt}
 use Rattle.dt_trail.specs.Limits.{cpu_count}
 
 -- a line of the session, of these bytes or too long, or a firing by its processor and its place in that processor's script
@@ -43,3 +43,7 @@ code_at (x ∷ xs) (suc k) = code_at xs k
 -- the list begins with what was seen
 abbrev pub StartsWith : List TrailItem → List TrailItem → Type 0
 StartsWith row seen = (rest : List TrailItem) × (row ≡ seen ++ rest)
+
+-- the longer of two lists
+abbrev pub longer : List TrailItem → List TrailItem → List TrailItem
+longer xs ys = cond (nat_lt (length xs) (length ys)) ys xs

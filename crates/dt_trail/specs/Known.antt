@@ -1,5 +1,5 @@
 -- What contracts see of an owner, a note and what was told.
-use Rattle.std.specs.Prelude.{◌≡◌, ◌≢◌, ◌<◌, ℕ, List, [], ◌∷◌, ◌++◌, length, slice_get, Some, cond, nat_lt}
+use Rattle.std.specs.Prelude.{◌≡◌, ◌≢◌, ◌<◌, ℕ, List, [], ◌∷◌, ◌++◌, length, slice_get, Some}
 use Rattle.atomic_blocks.specs.Lent.{RowsId}
 use Rattle.dt_trail.specs.declared.law.Named.{Named}
 use Rattle.dt_trail.specs.declared.seen.Seen.{Seen}
@@ -56,7 +56,3 @@ module _ {K : Type 0} where
   -- notes that know nothing, numbered from 0
   abbrev pub AreNew : Named K → ℕ → List (Noted K) → Type 0
   AreNew row count notes = (length notes ≡ count) × ((k : ℕ) → k < count → slice_get notes k ≡ Some (noted row k []))
-
--- the longer of two lists
-abbrev pub longer : List TrailItem → List TrailItem → List TrailItem
-longer xs ys = cond (nat_lt (length xs) (length ys)) ys xs

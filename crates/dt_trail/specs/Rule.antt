@@ -8,7 +8,7 @@ use Rattle.atomic_blocks.specs.declared.rows.loose.Link.{Link}
 use Rattle.dt_trail.specs.declared.door.Door.{Door}
 use Rattle.dt_trail.specs.declared.rule.Site.{Site}
 use Rattle.dt_trail.specs.declared.rule.View.{View}
-use Rattle.dt_trail.specs.Items.{TrailItem, whose, code, IsReal, AllReal, own, code_at, StartsWith}
+use Rattle.dt_trail.specs.Items.{TrailItem, whose, code, IsReal, AllReal, own, code_at, StartsWith, longer}
 use Rattle.dt_trail.specs.Blocks.{flat, Laid, LiesAt}
 
 abbrev pub NoSlot : Type 0
@@ -106,7 +106,8 @@ module _ {K : Type 0} where
     pub live : v.live ≡ true → (w.place v.note ≡ by) × (v.note < w.made) × (own v.note w.items ≡ own v.note v.knows)
     pub owns : v.owns ≡ true → (w.keeper ≡ by) × (w.items ≡ v.knows)
     pub makes : v.makes ≡ true → (v.owns ≡ true) × (w.made ≡ v.note)
-    pub had : v.owns ≡ true → v.live ≡ true → StartsWith w.items v.had × (own v.note w.items ≡ own v.note v.had)
+    pub had : StartsWith w.items v.had
+    pub had_own : v.owns ≡ true → v.live ≡ true → own v.note w.items ≡ own v.note v.had
     pub stands : 0 < v.door.len → LiesAt w.blocks v.door
     pub site : v.owns ≡ true → (v.site.blocks ≡ length w.blocks) × (v.site.cells ≡ length (flat w.blocks))
     pub plan : v.owns ≡ true → v.site.planned ≡ true → (cell_in w.base.cells v.site.blocks).link ≡ v.site.plan.ptr
@@ -153,16 +154,20 @@ module _ {K : Type 0} where
     pub other : m.view.live ≡ true → whose item ≢ m.view.note
     pub next : n ≡ reviewed m (pushed m.view item)
 
+  -- the account may have a row that begins so
+  abbrev pub IsBegun : (K → List TrailItem → Type 0) → Option K → List TrailItem → Type 0
+  IsBegun lawful a knows = (x : K) → a ≡ Some x → (rest : List TrailItem) × lawful x (knows ++ rest)
+
   -- an empty cell was found, or the next item, which is not the note's own
   abbrev pub HasRead : (K → List TrailItem → Type 0) → Step → Turn K → ℕ → Turn K → Type 0
   HasRead lawful st m found n =
-      ((x : K) → m.view.account ≡ Some x → (rest : List TrailItem) × lawful x (n.view.knows ++ rest))
+      IsBegun lawful m.view.account n.view.knows
       × MatchBool (found == 0) (n ≡ m) (FindsItem m found n)
 
   -- there is no further block yet, or it has so many cells, and lies somewhere
   abbrev pub IsTurned : (K → List TrailItem → Type 0) → Step → Turn K → ℕ → Turn K → Type 0
   IsTurned lawful st m found n =
-      ((x : K) → m.view.account ≡ Some x → (rest : List TrailItem) × lawful x (n.view.knows ++ rest))
+      IsBegun lawful m.view.account n.view.knows
       × MatchBool (found == 0)
       ((n ≡ m) × (m.view.owns ≡ true → m.view.site.cells ≡ m.view.door.from + m.view.door.len))
       ((p : Ptr) × InBlock p × (found < 2 ^ 40) × (m.view.door.from + m.view.door.len + found < 2 ^ 60) × (st.index < 32) × (n ≡ reviewed m (through m.view (door_at st.index (m.view.door.from + m.view.door.len) found p))))
@@ -192,5 +197,19 @@ module _ {K : Type 0} where
   abbrev pub is_longer : View K → View K → Bool
   is_longer v w = nat_lt (length v.knows) (length w.knows)
 
+  -- the view, with what was told beside what it knows, and with the door of the longer of the two
   abbrev pub informed : View K → View K → View K
-  informed v w = viewed v.account v.live v.owns v.makes v.note (cond (is_longer v w) w.knows v.knows) v.had (cond (is_longer v w) w.door v.door) v.site
+  informed v w = viewed v.account v.live v.owns v.makes v.note v.knows w.knows (cond (is_longer v w) w.door v.door) v.site
+
+  -- the view, once it knows the longer of the two
+  abbrev pub learnt : View K → View K
+  learnt v = viewed v.account v.live v.owns v.makes v.note (longer v.knows v.had) [] v.door v.site
+
+  -- the longer of the two begins with both, and has no more items of the note's own
+  abbrev pub HasLearnt : (K → List TrailItem → Type 0) → Step → Turn K → ℕ → Turn K → Type 0
+  HasLearnt lawful st m found n =
+      IsBegun lawful m.view.account n.view.knows
+      × (n ≡ reviewed m (learnt m.view))
+      × StartsWith n.view.knows m.view.knows
+      × StartsWith n.view.knows m.view.had
+      × (m.view.live ≡ true → own m.view.note n.view.knows ≡ own m.view.note m.view.knows)

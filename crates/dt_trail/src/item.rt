@@ -6,7 +6,7 @@ use std::marker::Model;
 
 /// An item of a trail: a line of its session, or a firing by its processor and its place in that processor's script.
 ///
-/// Contracts see it as an `Item` of `specs/Items.antt`.
+/// Contracts see it as a `TrailItem` of `specs/Items.antt`.
 #[derive(Drop)]
 pub struct Item {
     kind: Kind,

@@ -5,14 +5,14 @@ ghost use Rattle.atomic_blocks.specs.Cells.{me, AllHome};
 ghost use Rattle.dt_trail.specs.Blocks.{Blank};
 ghost use Rattle.dt_trail.specs.Limits.{block_bound};
 ghost use Rattle.dt_trail.specs.Items.{whose, own, StartsWith};
-ghost use Rattle.dt_trail.specs.Rule.{note, owner, FindsItem, site_of, through, reviewed, claim_of, informed, wider, HadAll};
-ghost use Rattle.dt_trail.specs.Insides.{OfRow, SameSeat, IsDoor, IsDoorAt, Owner, Note, Claim};
+ghost use Rattle.dt_trail.specs.Rule.{note, owner, appender, FindsItem, site_of, through, reviewed, claim_of, learnt, informed, wider, HadAll};
+ghost use Rattle.dt_trail.specs.Insides.{OfRow, SameSeat, IsDoor, IsDoorAt, Owner, Note, Appender, Claim};
 
 use crate::door::Door;
 use crate::inner::{Inner, ROOT, RowSeat};
 use crate::item::Item;
 use crate::law::Law;
-use crate::rule::{Compares, Lays, Lends, Picked, Plans, Reads, Sees, Sets, Tells, Turns};
+use crate::rule::{Compares, Lays, Learns, Lends, Picked, Plans, Reads, Sees, Sets, Tells, Turns};
 use atomic_blocks::rows::{Link, Loose};
 use std::alloc::Global;
 
@@ -56,6 +56,27 @@ pub fn look<K, L: Law<K>>(inner: &Inner<K, L>, seat: &mut RowSeat<K>, door: Door
         .load::<Reads<L>>(seat, door.block + 1, door.link, next)
 }
 
+// The owner's right goes into a note's seat.
+fn lend<K, L: Law<K>>(inner: &Inner<K, L>, seat: &mut RowSeat<K>, right: RowSeat<K>)
+    requires seat { OfRow inner.now seat.old × Note seat.old }
+    requires right { OfRow inner.now right × Owner right × (right.me.view.account ≡ seat.old.me.view.account) }
+    ensures same { SameSeat seat.old seat.new }
+    ensures seat { seat.new.me ≡ me (appender seat.old.me.view.account seat.old.me.view.note seat.old.me.view.knows right.me.view.knows right.me.view.door right.me.view.site) None None }
+{
+    let root = inner.about.root;
+    inner.rows.join_seat::<Lends>(seat, right, ROOT, root);
+}
+
+// And comes out again.
+fn hand_back<K, L: Law<K>>(inner: &Inner<K, L>, seat: &mut RowSeat<K>) -> RowSeat<K>
+    requires { OfRow inner.now seat.old × Appender seat.old }
+    ensures seat { SameSeat seat.old seat.new × (seat.new.me ≡ me (note seat.old.me.view.account seat.old.me.view.note seat.old.me.view.knows seat.old.me.view.door) None None) }
+    ensures right { (result.rows ≡ seat.old.rows) × (result.heap ≡ seat.old.heap) × (result.me ≡ me (owner seat.old.me.view.account seat.old.me.view.knows seat.old.me.view.door seat.old.me.view.site) None None) }
+{
+    let root = inner.about.root;
+    inner.rows.split_seat::<Lends>(seat, ROOT, root)
+}
+
 /// Sets the first empty cell, in the note's seat. The owner's right goes in, and comes out again.
 pub fn set_next<P: Picked, K, L: Law<K>>(
     inner: &Inner<K, L>,
@@ -76,14 +97,13 @@ pub fn set_next<P: Picked, K, L: Law<K>>(
     ensures right { (result.rows ≡ seat.old.rows) × (result.heap ≡ seat.old.heap) × (result.me ≡ me (owner seat.old.me.view.account (right.me.view.knows ++ item.now ∷ []) door right.me.view.site) None None) }
     ensures met { StartsWith right.me.view.knows seat.old.me.view.knows × (own seat.old.me.view.note right.me.view.knows ≡ own seat.old.me.view.note seat.old.me.view.knows) }
 {
-    let root = inner.about.root;
-    inner.rows.join_seat::<Lends>(seat, right, ROOT, root);
+    lend(inner, seat, right);
     let empty = (count - door.from) as usize;
     let word = item.code();
     inner
         .rows
         .store::<Sets<P>>(seat, door.block + 1, door.link, empty, word);
-    inner.rows.split_seat::<Lends>(seat, ROOT, root)
+    hand_back(inner, seat)
 }
 
 /// The note's seat then knows the whole row.
@@ -98,10 +118,9 @@ pub fn show_all<K, L: Law<K>>(
     ensures right { (result.rows ≡ seat.old.rows) × (result.heap ≡ seat.old.heap) × (result.me ≡ me (owner seat.old.me.view.account right.me.view.knows right.me.view.door right.me.view.site) None None) }
     ensures met { StartsWith right.me.view.knows seat.old.me.view.knows × (own seat.old.me.view.note right.me.view.knows ≡ own seat.old.me.view.note seat.old.me.view.knows) }
 {
-    let root = inner.about.root;
-    inner.rows.join_seat::<Lends>(seat, right, ROOT, root);
-    inner.rows.load::<Compares>(seat, ROOT, root, 0);
-    inner.rows.split_seat::<Lends>(seat, ROOT, root)
+    lend(inner, seat, right);
+    inner.rows.load::<Compares>(seat, ROOT, inner.about.root, 0);
+    hand_back(inner, seat)
 }
 
 /// Moves the owner's door to the block of the first empty cell.
@@ -175,10 +194,9 @@ pub fn lay_in<K, L: Law<K>>(
     ensures right { (result.rows ≡ seat.old.rows) × (result.heap ≡ seat.old.heap) × (result.me ≡ me (owner seat.old.me.view.account right.me.view.knows right.me.view.door (site_of (blocks + 1) (right.me.view.site.cells + cells) false null_ptr)) None None) }
     ensures met { StartsWith right.me.view.knows seat.old.me.view.knows × (own seat.old.me.view.note right.me.view.knows ≡ own seat.old.me.view.note seat.old.me.view.knows) }
 {
-    let root = inner.about.root;
-    inner.rows.join_seat::<Lends>(seat, right, ROOT, root);
+    lend(inner, seat, right);
     lay(inner, seat, blocks, cells, link, block);
-    inner.rows.split_seat::<Lends>(seat, ROOT, root)
+    hand_back(inner, seat)
 }
 
 /// What the seat knows, for another.
@@ -191,12 +209,17 @@ pub fn tell<K, L: Law<K>>(inner: &Inner<K, L>, seat: &mut RowSeat<K>) -> RowSeat
     inner.rows.split_seat::<Tells>(seat, ROOT, root)
 }
 
-/// Takes in what was told.
+/// Takes in what was told: the seat then knows the longer of the two lists.
 pub fn take_in<K, L: Law<K>>(inner: &Inner<K, L>, seat: &mut RowSeat<K>, told: RowSeat<K>)
-    requires seat { OfRow inner.now seat.old }
+    requires seat { OfRow inner.now seat.old × (seat.old.me.view.account ≡ Some inner.now.about.account) × (seat.old.me.view.owns ≡ false) }
     requires told { OfRow inner.now told × Claim told }
-    ensures { SameSeat seat.old seat.new × (seat.new.me ≡ reviewed seat.old.me (informed seat.old.me.view told.me.view)) }
+    ensures same { SameSeat seat.old seat.new }
+    ensures view { seat.new.me ≡ reviewed seat.old.me (learnt (informed seat.old.me.view told.me.view)) }
+    ensures begins { StartsWith seat.new.me.view.knows seat.old.me.view.knows × StartsWith seat.new.me.view.knows told.me.view.knows }
+    ensures mine { seat.old.me.view.live ≡ true → own seat.old.me.view.note seat.new.me.view.knows ≡ own seat.old.me.view.note seat.old.me.view.knows }
+    ensures lawful { L.lawful inner.now.about.account seat.new.me.view.knows }
 {
     let root = inner.about.root;
     inner.rows.join_seat::<Tells>(seat, told, ROOT, root);
+    inner.rows.load::<Learns<L>>(seat, ROOT, root, 0);
 }

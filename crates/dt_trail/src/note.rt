@@ -53,7 +53,8 @@ impl<K: Drop, L: Law<K>> Drop for TrailNote<K, L> {
 }
 
 impl<K, L: Law<K>> TrailNote<K, L> {
-    ghost use Rattle.dt_trail.specs.Known.{noted, KnowsNext, Grows, longer};
+    ghost use Rattle.dt_trail.specs.Known.{noted, KnowsNext, Grows};
+    ghost use Rattle.dt_trail.specs.Items.{StartsWith, longer};
 
     pub(crate) fn of(
         cells: Arc<Inner<K, L>, Global>,
@@ -126,10 +127,14 @@ impl<K, L: Law<K>> TrailNote<K, L> {
         }
     }
 
-    /// Takes in what was told: the note then knows the longer of the two beginnings.
+    /// Takes in what was told. The note then knows the longer of the two beginnings, which begins with both. It waits for
+    /// nobody and takes no memory.
     pub fn learn(&mut self, told: Told<K>)
         requires { told.row ≡ self.old.row.id }
-        ensures { self.new ≡ noted self.old.row self.old.number (longer self.old.knows told.knows) }
+        ensures longer { self.new ≡ noted self.old.row self.old.number (longer self.old.knows told.knows) }
+        ensures grows { Grows self.old self.new }
+        ensures told { StartsWith self.new.knows told.knows }
+        ensures lawful { L.lawful self.new.row.account self.new.knows }
     {
         let (seat, door, count) = told.parts();
         let inner: &Inner<K, L> = &self.cells;

@@ -18,7 +18,7 @@ pub struct Site {
 
 // What a seat knows. A live seat is a note's, with its number. The owner's knows the whole row, and the
 // maker's is the owner's while notes are made, with the number of the next. A note that has the owner's right
-// remembers what it had known. All but a spent seat know the account. No value of it is made.
+// remembers what it had known, and one that was told something remembers that, until it has learnt it. All but a spent seat know the account. No value of it is made.
 pub struct View<K> {
     pub account: Option<K>,
     pub live: bool,
@@ -93,6 +93,17 @@ impl<K> Play<(), View<K>> for Compares {
     ghost use Rattle.dt_trail.specs.Rule.{HasCompared};
 
     ghost then = { HasCompared };
+}
+
+// A note learns what it was told.
+pub struct Learns<L> {
+    of: PhantomData<L>,
+}
+
+impl<K, L: Law<K>> Play<(), View<K>> for Learns<L> {
+    ghost use Rattle.dt_trail.specs.Rule.{HasLearnt};
+
+    ghost then = { HasLearnt L.lawful };
 }
 
 // The root says how many cells the next block has.

@@ -5,7 +5,7 @@ use crate::door::Door;
 use crate::inner::RowSeat;
 use std::marker::Model;
 
-/// A beginning of a row, told by a note. It has no cell, and can be handed to another thread.
+/// A beginning of a row, told by a note or by the owner. It has no cell, and can be handed to another thread.
 ///
 /// Contracts see it as a `Heard` of `specs/Known.antt`: which row it is, and the items.
 pub struct Told<K> {

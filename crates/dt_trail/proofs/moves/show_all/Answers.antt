@@ -1,37 +1,8 @@
-use Rattle.std.proofs.Common.{ap, ◌∙◌, arith, ◌≡◌}
-use Rattle.dt_trail.specs.Rule.{with_right, appender}
-use Rattle.dt_trail.specs.declared.rule.View.{View}
-use Rattle.dt_trail.proofs.Uses.{lends_as, compares_as, returns_right_as}
+use Rattle.std.proofs.Common.{ap, ◌∙◌, arith}
+use Rattle.dt_trail.proofs.Uses.{compares_as}
 use Rattle.dt_trail.proofs.moves.show_all.Goals as goal
-
-pub join_seat-requires : goal.join_seat-requires
-join_seat-requires g c =
-    let r = c.requires in let k = c.args.inner.now in (
-      r.seat.0.0,
-      r.seat.0.1,
-      r.right.0.0,
-      r.right.0.1,
-      ap (λ m. m.hand) r.right.1,
-      ap (λ m. m.spare) r.right.1,
-      k.placed,
-      lends_as g.L.Law.lawful k.rows.key k.about k.keyed.0 _ _ _ _ (ap (λ m. m.view) r.seat.1) (ap (λ m. m.view) r.right.1) r.right.2,
-    )
 
 pub load-requires : goal.load-requires
 load-requires g c =
-    let r = c.requires in let k = c.args.inner.now in let j = c.join_seat.ensures in
-    let v : View g.row.K.Denot = c.args.seat.now.me.view in
-    let w : View g.row.K.Denot = c.args.right.me.view in
-    let is : c.join_seat.new.seat.me.view ≡ appender v.account v.note v.knows w.knows w.door w.site =
-    ap (λ m. m.view) j.3 ∙ ap (λ (p : View g.row.K.Denot × (View g.row.K.Denot)). with_right p.0 p.1) (λ i. ((ap (λ m. m.view) r.seat.1) i, (ap (λ m. m.view) r.right.1) i)) in
-    (j.0 ∙ r.seat.0.0, j.1 ∙ r.seat.0.1, k.placed, omega arith, compares_as g.L.Law.lawful k.rows.key k.about k.keyed.0 _ _ _ _ _ _ _ _ is)
-
-pub split_seat-requires : goal.split_seat-requires
-split_seat-requires g c =
-    let r = c.requires in let k = c.args.inner.now in let j = c.join_seat.ensures in let x = c.load.ensures in
-    let v : View g.row.K.Denot = c.args.seat.now.me.view in
-    let w : View g.row.K.Denot = c.args.right.me.view in
-    let is : c.join_seat.new.seat.me.view ≡ appender v.account v.note v.knows w.knows w.door w.site =
-    ap (λ m. m.view) j.3 ∙ ap (λ (p : View g.row.K.Denot × (View g.row.K.Denot)). with_right p.0 p.1) (λ i. ((ap (λ m. m.view) r.seat.1) i, (ap (λ m. m.view) r.right.1) i)) in
-    let after = ap (λ m. m.view) x.3.0 ∙ is in
-    (x.0 ∙ (j.0 ∙ r.seat.0.0), x.1 ∙ (j.1 ∙ r.seat.0.1), k.placed, returns_right_as g.L.Law.lawful k.rows.key k.about k.keyed.0 _ _ _ _ _ _ _ _ after)
+    let r = c.requires in let k = c.args.inner.now in let j = c.lend.ensures in
+    (j.same.0 ∙ r.seat.0.0, j.same.1 ∙ r.seat.0.1, k.placed, omega arith, compares_as g.L.Law.lawful k.rows.key k.about k.keyed.0 _ _ _ _ _ _ _ _ (ap (λ m. m.view) j.seat))
