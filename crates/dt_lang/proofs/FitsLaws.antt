@@ -1,7 +1,7 @@
 -- What isn't refused leaves the lists of a state within the limits.
-use Rattle.std.proofs.Common.{◌≡◌, ◌⊎◌, inl, inr, ℕ, ℤ, ◌+◌, ◌<◌, ◌≤◌, leb, Bool, true, false, ◌&&◌, ◌||◌, List, []}
+use Rattle.std.proofs.Common.{◌≡◌, ◌⊎◌, inl, inr, ℕ, ℤ, ◌+◌, ◌<◌, ◌≤◌, leb, Bool, true, false, ◌&&◌, ◌||◌, List, [], Ok}
 use Rattle.std.proofs.Common.{◌∷◌, ◌++◌, length, Option, Some, None, is_some, refl, sym, ap, ◌∙◌, subst, length-append}
-use Rattle.std.proofs.Common.{arith, leb-false, if◌then◌else◌, pos}
+use Rattle.std.proofs.Common.{arith, leb-false, cond, if◌then◌else◌, pos}
 use Rattle.std.specs.Prelude.{option_and_then}
 use Rattle.dt_expr.specs.Form.{Form}
 use Rattle.dt_program.specs.declared.clause.TheConstants.{DESCRIPTIONS_MAX, STATEMENTS_MAX, KEYS_MAX, FRAMES_MAX}
@@ -14,20 +14,22 @@ use Rattle.dt_lang.specs.declared.word.Action.TheVariants as action
 use Rattle.dt_lang.specs.declared.word.Function.{Function}
 use Rattle.dt_lang.specs.declared.word.Function.TheVariants as function
 use Rattle.dt_lang.specs.declared.word.Word.TheVariants as word
-use Rattle.dt_lang.specs.ExpressionState as expression
-use Rattle.dt_lang.specs.Grammar.{call_of, begins, ends}
+use Rattle.dt_lang.specs.machine.ExpressionState as expression
+use Rattle.dt_lang.specs.Grammar.{call_of, before_statement, after_statement}
 use Rattle.dt_program.specs.Clause.{ArgForm, number, CallForm, StatementForm, aggregate, ClauseForm}
 use Rattle.dt_lang.specs.Stand.{Slot, predicate, traced, exited, key, value}
-use Rattle.dt_lang.specs.ClauseState.{BoundForm, at_lower, at_upper, at_step, PlaceForm, outside, described, listed}
-use Rattle.dt_lang.specs.ClauseState.{guarded, body, called, framed, closing, named, keyed, assigned, applied, within}
-use Rattle.dt_lang.specs.ClauseState.{bounding, negating, bounded, ProgramState, program_at, ended, entered}
-use Rattle.dt_lang.specs.ClauseState.{from_outside, from_described, from_listed, from_guarded, from_begins, from_ends}
-use Rattle.dt_lang.specs.ClauseState.{opened, from_called, stack_of, from_framed, from_closing, from_named, from_keyed}
-use Rattle.dt_lang.specs.ClauseState.{from_assigned, function_given, from_applied, shut_predicate, shut_traced}
-use Rattle.dt_lang.specs.ClauseState.{shut_exited, shut_key, shut_levels, shut_value, shut, go_on, from_within}
-use Rattle.dt_lang.specs.ClauseState.{from_bounding, from_negating, from_bounded, program_step_from, step}
-use Rattle.dt_lang.specs.Cause.{takes_token, full, too_long_at}
-use Rattle.dt_lang.specs.Fits.{FitsClause, FitsStatement, FitsTarget, FitsKey, FitsSlot, FitsWithin, FitsAt, Fits}
+use Rattle.dt_lang.specs.machine.ClauseState.{BoundForm, at_lower, at_upper, at_step, PlaceForm, outside, described, listed}
+use Rattle.dt_lang.specs.machine.ClauseState.{guarded, body, called, stack_opened, closing, named, keyed, assigned, applied, within}
+use Rattle.dt_lang.specs.machine.ClauseState.{bounding, negating, bounded, ProgramState, program_at, ended, entered}
+use Rattle.dt_lang.specs.machine.ClauseState.{from_outside, from_described, from_listed, from_guarded, from_before_statement, from_after_statement}
+use Rattle.dt_lang.specs.machine.ClauseState.{after_call, from_called, stack_of, from_stack_opened, from_closing, from_named, from_keyed}
+use Rattle.dt_lang.specs.machine.ClauseState.{from_assigned, function_given, from_applied, shut_predicate, shut_traced}
+use Rattle.dt_lang.specs.machine.ClauseState.{shut_exited, shut_key, shut_levels, shut_value, shut, go_on, from_within}
+use Rattle.dt_lang.specs.machine.ClauseState.{from_bounding, from_negating, from_bounded, program_step_from, step}
+use Rattle.dt_lang.specs.declared.fault.Limit.{Limit}
+use Rattle.dt_lang.specs.declared.fault.Limit.TheVariants as limits
+use Rattle.dt_lang.specs.machine.Cause.{is_one_more, limit_within, too_long_at}
+use Rattle.dt_lang.specs.machine.Fits.{FitsClause, FitsStatement, FitsTarget, FitsKey, FitsSlot, FitsWithin, FitsAt, Fits}
 use Rattle.dt_lang.specs.laws.ClauseSound.{none_some, same_some}
 use Rattle.dt_lang.specs.laws.TakesLaws.{or_left}
 
@@ -44,11 +46,22 @@ left_false : (a : Bool) → a && true ≡ false → a ≡ false
 left_false true e = e
 left_false false e = refl
 
+-- a limit that isn't passed
+unmet : (b : Bool) (limit : Limit) → cond b (Some limit) None ≡ None → b ≡ false
+unmet true limit e = cc
+unmet false limit e = refl
+
+within_unmet : (tokens keys : Bool) → cond tokens (Some limits.Tokens) (cond keys (Some limits.Keys) None) ≡ None
+    → (tokens ≡ false) × (keys ≡ false)
+within_unmet true keys e = cc
+within_unmet false true e = cc
+within_unmet false false e = (refl, refl)
+
 module _ (cs : List ClauseForm) where
-  fits_outside : (t : Token) (next : ProgramState) (c : ClauseForm) → too_long_at cs c outside t ≡ false
+  fits_outside : (t : Token) (next : ProgramState) (c : ClauseForm) → too_long_at cs c outside t ≡ None
       → from_outside cs t ≡ Some next → Fits next
-  fits_outside (token.Description (Some d)) next c l e = landed _ _ e (record {
-    room = leb-false CLAUSES_MAX (length cs) l;
+  fits_outside (token.Description (Ok d)) next c l e = landed _ _ e (record {
+    room = leb-false CLAUSES_MAX (length cs) (unmet _ _ l);
     described = omega arith;
     few_descriptions = omega arith;
     few = omega arith;
@@ -62,12 +75,13 @@ module _ (cs : List ClauseForm) (c : ClauseForm) where
   fits_described (token.Sign sign.OpenBrace) next h e = landed _ _ e h
   fits_described _ next h e = absurd (none_some e)
 
-  fits_listed : (t : Token) (next : ProgramState) → FitsClause cs c → too_long_at cs c listed t ≡ false
+  fits_listed : (t : Token) (next : ProgramState) → FitsClause cs c → too_long_at cs c listed t ≡ None
       → from_listed cs c t ≡ Some next → Fits next
-  fits_listed (token.Description (Some d)) next h l e = landed _ _ e (record {
+  fits_listed (token.Description (Ok d)) next h l e = landed _ _ e (record {
     room = h.room;
     described = some_more c.descriptions _;
-    few_descriptions = longer c.descriptions _ DESCRIPTIONS_MAX (leb-false DESCRIPTIONS_MAX (length c.descriptions) l);
+    few_descriptions = longer c.descriptions _ DESCRIPTIONS_MAX
+        (leb-false DESCRIPTIONS_MAX (length c.descriptions) (unmet _ _ l));
     few = h.few;
   })
   fits_listed _ next h l e = absurd (none_some e)
@@ -76,20 +90,20 @@ module _ (cs : List ClauseForm) (c : ClauseForm) where
   fits_guarded (token.Sign sign.OpenBrace) next h e = landed _ _ e h
   fits_guarded _ next h e = absurd (none_some e)
 
-  fits_begins : (t : Token) (next : ProgramState) → FitsClause cs c → too_long_at cs c (body begins) t ≡ false
-      → from_begins cs c t ≡ Some next → Fits next
-  fits_begins (token.Sign sign.Semicolon) next h l e = landed _ _ e h
-  fits_begins (token.Sign sign.CloseBrace) next h l e = landed _ _ e (longer cs c CLAUSES_MAX h.room)
-  fits_begins (token.Word (word.Action a)) next h l e =
-      landed _ _ e (record { clause = h; room = leb-false STATEMENTS_MAX (length c.statements) (left_false _ l) })
-  fits_begins (token.Aggregation name) next h l e =
-      landed _ _ e (record { clause = h; room = leb-false STATEMENTS_MAX (length c.statements) (left_false _ l) })
-  fits_begins _ next h l e = absurd (none_some e)
+  fits_before_statement : (t : Token) (next : ProgramState) → FitsClause cs c → too_long_at cs c (body before_statement) t ≡ None
+      → from_before_statement cs c t ≡ Some next → Fits next
+  fits_before_statement (token.Sign sign.Semicolon) next h l e = landed _ _ e h
+  fits_before_statement (token.Sign sign.CloseBrace) next h l e = landed _ _ e (longer cs c CLAUSES_MAX h.room)
+  fits_before_statement (token.Word (word.Action a)) next h l e =
+      landed _ _ e (record { clause = h; room = leb-false STATEMENTS_MAX (length c.statements) (left_false _ (unmet _ _ l)) })
+  fits_before_statement (token.Aggregation name) next h l e =
+      landed _ _ e (record { clause = h; room = leb-false STATEMENTS_MAX (length c.statements) (left_false _ (unmet _ _ l)) })
+  fits_before_statement _ next h l e = absurd (none_some e)
 
-  fits_ends : (t : Token) (next : ProgramState) → FitsClause cs c → from_ends cs c t ≡ Some next → Fits next
-  fits_ends (token.Sign sign.Semicolon) next h e = landed _ _ e h
-  fits_ends (token.Sign sign.CloseBrace) next h e = landed _ _ e (longer cs c CLAUSES_MAX h.room)
-  fits_ends _ next h e = absurd (none_some e)
+  fits_after_statement : (t : Token) (next : ProgramState) → FitsClause cs c → from_after_statement cs c t ≡ Some next → Fits next
+  fits_after_statement (token.Sign sign.Semicolon) next h e = landed _ _ e h
+  fits_after_statement (token.Sign sign.CloseBrace) next h e = landed _ _ e (longer cs c CLAUSES_MAX h.room)
+  fits_after_statement _ next h e = absurd (none_some e)
 
   fits_ended : (s : StatementForm) → FitsStatement cs c → Fits (ended cs c s)
   fits_ended s h = record {
@@ -99,15 +113,15 @@ module _ (cs : List ClauseForm) (c : ClauseForm) where
     few = longer c.statements s STATEMENTS_MAX h.room;
   }
 
-  fits_opened : (a : Action) → FitsStatement cs c → Fits (opened a cs c)
-  fits_opened action.Trace h = record { fits = h; few = omega arith }
-  fits_opened action.Exit h = record { fits = h; few = omega arith }
-  fits_opened action.Stack h = h
-  fits_opened action.Ustack h = h
+  fits_after_call : (a : Action) → FitsStatement cs c → Fits (after_call a cs c)
+  fits_after_call action.Trace h = record { fits = h; few = omega arith }
+  fits_after_call action.Exit h = record { fits = h; few = omega arith }
+  fits_after_call action.Stack h = h
+  fits_after_call action.Ustack h = h
 
   fits_called : (a : Action) (t : Token) (next : ProgramState) → FitsStatement cs c → from_called cs c a t ≡ Some next
       → Fits next
-  fits_called a (token.Sign sign.OpenParen) next h e = landed _ _ e (fits_opened a h)
+  fits_called a (token.Sign sign.OpenParen) next h e = landed _ _ e (fits_after_call a h)
   fits_called a _ next h e = absurd (none_some e)
 
   fits_frames : (process : Bool) (n : ℕ) (few : Bool) (next : ProgramState) → FitsStatement cs c
@@ -115,10 +129,10 @@ module _ (cs : List ClauseForm) (c : ClauseForm) where
   fits_frames process n true next h e = landed _ _ e h
   fits_frames process n false next h e = absurd (none_some e)
 
-  fits_framed : (process : Bool) (t : Token) (next : ProgramState) → FitsStatement cs c
-      → from_framed cs c process t ≡ Some next → Fits next
-  fits_framed process (token.Number (pos n)) next h e = fits_frames process n (leb 1 n && leb n FRAMES_MAX) next h e
-  fits_framed process _ next h e = absurd (none_some e)
+  fits_stack_opened : (process : Bool) (t : Token) (next : ProgramState) → FitsStatement cs c
+      → from_stack_opened cs c process t ≡ Some next → Fits next
+  fits_stack_opened process (token.Number (pos n)) next h e = fits_frames process n (leb 1 n && leb n FRAMES_MAX) next h e
+  fits_stack_opened process _ next h e = absurd (none_some e)
 
   fits_closing : (s : StatementForm) (t : Token) (next : ProgramState) → FitsStatement cs c
       → from_closing cs c s t ≡ Some next → Fits next
@@ -231,15 +245,17 @@ module _ (cs : List ClauseForm) (c : ClauseForm) where
   fits_done slot n x t next None d h e = absurd (none_some e)
 
   key_room : (name : List ℕ) (keys : List ArgForm) (n : ℕ) (x : expression.State) → FitsKey cs c keys n x
-      → full (key name keys) n ≡ false → length keys < KEYS_MAX
+      → limit_within (key name keys) n ≡ None → length keys < KEYS_MAX
   key_room name keys n x h l = go h.room
     where
       go : (length keys < KEYS_MAX) ⊎ ((n ≡ 0) × (expression.done x ≡ None)) → length keys < KEYS_MAX
       go (inl r) = r
       go (inr r) =
-          let i : full (key name keys) 0 ≡ false = rw r.0 at l in leb-false KEYS_MAX (length keys) i
+          let i : limit_within (key name keys) 0 ≡ None = rw r.0 at l in
+          leb-false KEYS_MAX (length keys) (within_unmet false _ i).1
 
-  fits_more_of : (slot : Slot) (n : ℕ) (x next : expression.State) → FitsSlot cs c slot n x → full slot n ≡ false
+  fits_more_of : (slot : Slot) (n : ℕ) (x next : expression.State) → FitsSlot cs c slot n x
+      → limit_within slot n ≡ None
       → FitsSlot cs c slot (n + 1) next
   fits_more_of predicate n x next h l = h
   fits_more_of traced n x next h l = h
@@ -247,25 +263,21 @@ module _ (cs : List ClauseForm) (c : ClauseForm) where
   fits_more_of (key name keys) n x next h l = record { target = h.target; room = inl (key_room name keys n x h l) }
   fits_more_of (value name keys fn) n x next h l = h
 
-  few_more : (slot : Slot) (n : ℕ) → full slot n ≡ false → n + 1 ≤ TOKENS_MAX
-  few_more slot n l = let i = leb-false TOKENS_MAX n (or_false (leb TOKENS_MAX n) _ l) in omega arith
-    where
-      or_false : (a b : Bool) → a || b ≡ false → a ≡ false
-      or_false true b e = e
-      or_false false b e = refl
+  few_more : (slot : Slot) (n : ℕ) → limit_within slot n ≡ None → n + 1 ≤ TOKENS_MAX
+  few_more slot n l = let i = leb-false TOKENS_MAX n (within_unmet (leb TOKENS_MAX n) _ l).0 in omega arith
 
   fits_go_on : (slot : Slot) (n : ℕ) (x : expression.State) (t : Token) (next : ProgramState)
       (o : Option expression.State) → expression.step x t ≡ o → FitsWithin cs c slot n x
-      → full slot n && takes_token x t ≡ false → go_on cs c slot n x t o ≡ Some next → Fits next
+      → too_long_at cs c (within slot n x) t ≡ None → go_on cs c slot n x t o ≡ Some next → Fits next
   fits_go_on slot n x t next (Some m) k h l e =
-      let i : takes_token x t ≡ true = or_left (is_some (expression.step x t)) _ (ap is_some k) in
-      let j : full slot n ≡ false = left_false (full slot n) (rw i at l) in
+      let i : is_one_more x t ≡ true = or_left (is_some (expression.step x t)) _ (ap is_some k) in
+      let j : limit_within slot n ≡ None = rw i at l in
       landed _ _ e (record { fits = fits_more_of slot n x m h.fits j; few = few_more slot n j })
   fits_go_on slot n x t next None k h l e = fits_done slot n x t next (expression.done x) refl h.fits e
 
   fits_within : (slot : Slot) (n : ℕ) (x : expression.State) (t : Token) (next : ProgramState)
-      → FitsWithin cs c slot n x → full slot n && takes_token x t ≡ false → from_within cs c slot n x t
-      ≡ Some next → Fits next
+      → FitsWithin cs c slot n x → too_long_at cs c (within slot n x) t ≡ None
+      → from_within cs c slot n x t ≡ Some next → Fits next
   fits_within slot n x t next h l e = fits_go_on slot n x t next (expression.step x t) refl h l e
 
   module _ (name : List ℕ) (keys : List ArgForm) (f : Form) (h : FitsTarget cs c keys) where
@@ -288,16 +300,16 @@ module _ (cs : List ClauseForm) (c : ClauseForm) where
     fits_bounded (at_step lower upper) z (token.Sign sign.CloseParen) next e = landed _ _ e (fits_ended _ h.statement)
     fits_bounded _ z _ next e = absurd (none_some e)
 
-  fits_from : (p : PlaceForm) (t : Token) (next : ProgramState) → FitsAt cs c p → too_long_at cs c p t ≡ false
+  fits_from : (p : PlaceForm) (t : Token) (next : ProgramState) → FitsAt cs c p → too_long_at cs c p t ≡ None
       → program_step_from cs c p t ≡ Some next → Fits next
   fits_from outside t next h l e = fits_outside cs t next c l e
   fits_from described t next h l e = fits_described t next h e
   fits_from listed t next h l e = fits_listed t next h l e
   fits_from guarded t next h l e = fits_guarded t next h e
-  fits_from (body begins) t next h l e = fits_begins t next h l e
-  fits_from (body ends) t next h l e = fits_ends t next h e
+  fits_from (body before_statement) t next h l e = fits_before_statement t next h l e
+  fits_from (body after_statement) t next h l e = fits_after_statement t next h e
   fits_from (called a) t next h l e = fits_called a t next h e
-  fits_from (framed process) t next h l e = fits_framed process t next h e
+  fits_from (stack_opened process) t next h l e = fits_stack_opened process t next h e
   fits_from (closing s) t next h l e = fits_closing s t next h e
   fits_from (named name) t next h l e = fits_named name t next h e
   fits_from (keyed name keys) t next h l e = fits_keyed name keys t next h e
@@ -309,7 +321,7 @@ module _ (cs : List ClauseForm) (c : ClauseForm) where
   fits_from (bounded name keys f b z) t next h l e = fits_bounded name keys f h b z t next e
 
 -- What isn't one too many leaves the lists of the state within the limits.
-pub fits_step : (s next : ProgramState) (t : Token) → Fits s → too_long_at s.clauses s.clause s.place t ≡ false
+pub fits_step : (s next : ProgramState) (t : Token) → Fits s → too_long_at s.clauses s.clause s.place t ≡ None
     → step s t ≡ Some next → Fits next
 unfolding step
 fits_step s next t h l e = fits_from s.clauses s.clause s.place t next h l e

@@ -1,8 +1,8 @@
 -- The lemmas of this crate's proofs.
 
 pub mod FitsLaws
-pub mod EarlyLaws
+pub mod ShownLaws
 pub mod ParseLemmas
-pub mod FrameLemmas
+pub mod PendingLemmas
 pub mod Digits
 pub mod Pieces

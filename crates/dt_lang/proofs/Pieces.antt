@@ -1,40 +1,38 @@
 -- What stands at the front of a text.
-use Rattle.std.proofs.Common.{◌≡◌, ◌≢◌, ℕ, ◌⊎◌, inl, inr, List, [], ◌∷◌, Option, Some, None, IfSome, IfNone, length}
+use Rattle.std.proofs.Common.{◌≡◌, ◌≢◌, ℕ, ◌⊎◌, inl, inr, List, [], ◌∷◌, Result, Ok, Err, IfOk, IfErr, length}
 use Rattle.std.proofs.Common.{eqb, true, false, refl, subst, sym}
 use Rattle.std.proofs.lemmas.Bool.{false≢true}
 use Rattle.std.specs.List.{take_while}
-use Rattle.std.specs.Option.{option_map}
-use Rattle.dt_program.specs.Description.{DescForm, form_of_description, DescribesPatterns, ReadsDescription}
+use Rattle.dt_program.specs.Description.{form_of_description, DescribesPatterns, IsDescriptionFault}
 use Rattle.dt_program.specs.declared.description.Description.{Description}
+use Rattle.dt_program.specs.declared.description.DescriptionFault.{DescriptionFault}
+use Rattle.dt_lang.specs.Lexeme.{IsDescriptionToken}
 use Rattle.dt_lang.specs.Class.{is_description_byte}
-use Rattle.dt_lang.specs.Piece.{FindsRun, FindsInHead, FindsInBody, FindsInMode, FindsUncommented, opens_comment}
-use Rattle.dt_lang.specs.Piece.{FindsPiece}
+use Rattle.dt_lang.specs.machine.Piece.{FindsRun, FindsInHead, FindsInBody, FindsInMode, FindsUncommented, opens_comment}
+use Rattle.dt_lang.specs.machine.Piece.{FindsPiece}
 use Rattle.dt_lang.specs.declared.mode.Mode.{Mode}
 use Rattle.dt_lang.specs.declared.mode.Mode.TheVariants as mode
 use Rattle.dt_lang.specs.declared.piece.Piece.{Piece}
 use Rattle.dt_lang.specs.declared.piece.Piece.TheVariants as piece
 use Rattle.dt_lang.specs.declared.token.Token.TheVariants as token
 
-reads : (run : List ℕ) (d : Option Description)
-    → IfSome d (λ x. DescribesPatterns run (form_of_description x))
-    → IfNone d ((form : DescForm) → DescribesPatterns run form → ⊥)
-    → ReadsDescription run (option_map form_of_description d)
-reads run (Some x) found none = found
-reads run None found none = none
+reads : (run : List ℕ) (d : Result Description DescriptionFault)
+    → IfOk d (λ x. DescribesPatterns run (form_of_description x)) → IfErr d (IsDescriptionFault run)
+    → IsDescriptionToken run d
+reads run (Ok x) found fault = found
+reads run (Err x) found fault = fault
 
-stands_run : (run text : List ℕ) (d : Option Description) → run ≢ []
-    → ReadsDescription run (option_map form_of_description d)
+stands_run : (run text : List ℕ) (d : Result Description DescriptionFault) → run ≢ [] → IsDescriptionToken run d
     → FindsRun run text (piece.Token (token.Description d) (length run))
 stands_run [] text d some r = absurd (some refl)
 stands_run (byte ∷ run) text d some r = (d, r, refl)
 
-pub described : (text run : List ℕ) (d : Option Description) → run ≡ take_while is_description_byte text → run ≢ []
-    → IfSome d (λ x. DescribesPatterns run (form_of_description x))
-    → IfNone d ((form : DescForm) → DescribesPatterns run form → ⊥)
+pub described : (text run : List ℕ) (d : Result Description DescriptionFault) → run ≡ take_while is_description_byte text → run ≢ []
+    → IfOk d (λ x. DescribesPatterns run (form_of_description x)) → IfErr d (IsDescriptionFault run)
     → FindsInHead text (piece.Token (token.Description d) (length run))
-described text run d is some found none =
+described text run d is some found fault =
     subst (λ (r : List ℕ). FindsRun r text (piece.Token (token.Description d) (length run))) is
-    (stands_run run text d some (reads run d found none))
+    (stands_run run text d some (reads run d found fault))
 
 -- what stands where there is more, and no comment begins
 pub finds : (m : Mode) (text : List ℕ) (found : Piece) → eqb (length text) 0 ≡ false → opens_comment text ≡ false

@@ -2,15 +2,15 @@
 use Rattle.std.specs.Prelude.{ℕ, Bool, not, ◌==◌, ◌&&◌, ◌||◌, nat_le}
 use Rattle.std.specs.Char.{is_ascii_alphanumeric}
 use Rattle.dt_lang.specs.declared.class.Class.{Class}
-use Rattle.dt_lang.specs.declared.class.Class.TheVariants.{Word, Text, Description}
+use Rattle.dt_lang.specs.declared.class.Class.TheVariants.{Word, String, Description}
 
 -- letters, digits and `_`
 abbrev pub is_word_byte : ℕ → Bool
 is_word_byte byte = is_ascii_alphanumeric byte || byte == 95
 
--- visible ASCII and the space, but neither `"` nor `\`
-abbrev pub is_text_byte : ℕ → Bool
-is_text_byte byte = nat_le 32 byte && nat_le byte 126 && not (byte == 34 || byte == 92)
+-- what a string has: visible ASCII and the space, but neither `"` nor `\`
+abbrev pub is_string_byte : ℕ → Bool
+is_string_byte byte = nat_le 32 byte && nat_le byte 126 && not (byte == 34 || byte == 92)
 
 -- a byte of a description: visible ASCII, but none of `,` `/` `{` `}` and the double quote
 abbrev pub is_description_byte : ℕ → Bool
@@ -19,5 +19,5 @@ is_description_byte byte = nat_le 33 byte && nat_le byte 126
 
 abbrev pub members : Class → ℕ → Bool
 members Word = is_word_byte
-members Text = is_text_byte
+members String = is_string_byte
 members Description = is_description_byte

@@ -86,7 +86,7 @@ EQUALITY = 6
 
 -- the text that a token is
 abbrev pub text_token : Token → Option Text
-text_token (token.Text bytes) = Some (operand.Literal bytes)
+text_token (token.String bytes) = Some (operand.Literal bytes)
 text_token (token.Word (word.Text variable)) = Some (operand.Variable variable)
 text_token _ = None
 

@@ -1,9 +1,7 @@
--- How a cause is written, and a refusal as a fault.
+-- What is wrong with a token as a cause, and how a cause is written.
 use Rattle.std.specs.Prelude.{ℕ, List, codes}
-use Rattle.dt_lang.specs.declared.fault.LangFault.{LangFault}
-use Rattle.dt_lang.specs.declared.fault.LangFault.TheVariants as fault
-use Rattle.dt_lang.specs.declared.fault.Refusal.{Refusal}
-use Rattle.dt_lang.specs.declared.fault.Refusal.TheVariants as refusal
+use Rattle.dt_lang.specs.declared.fault.Flaw.{Flaw}
+use Rattle.dt_lang.specs.declared.fault.Flaw.TheVariants as flaw
 use Rattle.dt_lang.specs.declared.fault.Why.{Why}
 use Rattle.dt_lang.specs.declared.fault.Why.TheVariants.{Syntax, Probe, Action, Variable, TooLong, Range}
 
@@ -16,7 +14,11 @@ why_word Variable = codes "Variable"
 why_word TooLong = codes "TooLong"
 why_word Range = codes "Range"
 
--- the fault of a token at this offset that is refused so
-abbrev pub fault_at : ℕ → Refusal → LangFault
-fault_at at (refusal.Why why) = fault.Program at why
-fault_at at (refusal.Destructive what) = fault.Destructive at what
+-- the cause, without what was found
+abbrev pub why_of : Flaw → Why
+why_of flaw.Syntax = Syntax
+why_of (flaw.Probe fault) = Probe
+why_of flaw.Action = Action
+why_of flaw.Variable = Variable
+why_of (flaw.TooLong limit) = TooLong
+why_of (flaw.Range fault) = Range

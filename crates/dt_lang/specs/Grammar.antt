@@ -1,6 +1,6 @@
 -- Which tokens are a program, without regard to the limits on how many there may be of a thing.
 -- Guide, Program Structure; Actions and Subroutines; Aggregations.
-use Rattle.std.specs.Prelude.{◌≡◌, ◌≢◌, ℕ, ◌≤◌, true, false, List, [], ◌∷◌, ◌++◌, Option, Some, None, ℤ, pos, neg_ℤ}
+use Rattle.std.specs.Prelude.{◌≡◌, ◌≢◌, ℕ, ◌≤◌, true, false, List, [], ◌∷◌, ◌++◌, Option, Some, None, ℤ, pos, neg_ℤ, Ok}
 use Rattle.dt_expr.specs.Form.{Form}
 use Rattle.dt_program.specs.declared.description.Description.{Description}
 use Rattle.dt_program.specs.Description.{DescForm, form_of_description}
@@ -18,9 +18,9 @@ use Rattle.dt_lang.specs.Expression.{ReadsExpr, ReadsArgument}
 -- The tokens are a head: descriptions with `,` between them.
 pub data ReadsHead : List Token → List DescForm → Type 0 where
   a_description : (d : Description)
-      → ReadsHead (token.Description (Some d) ∷ []) (form_of_description d ∷ [])
+      → ReadsHead (token.Description (Ok d) ∷ []) (form_of_description d ∷ [])
   another : (ts : List Token) (ds : List DescForm) (d : Description) → ReadsHead ts ds
-      → ReadsHead (ts ++ (token.Sign sign.Comma ∷ token.Description (Some d) ∷ [])) (ds ++ (form_of_description d ∷ []))
+      → ReadsHead (ts ++ (token.Sign sign.Comma ∷ token.Description (Ok d) ∷ [])) (ds ++ (form_of_description d ∷ []))
 
 -- The tokens are a head, a predicate where there is one, and `{`.
 pub data ReadsOpening : List Token → List DescForm → Option Form → Type 0 where
@@ -109,17 +109,17 @@ pub data ReadsStatement : List Token → StatementForm → Type 0 where
 
 -- where in a body the tokens end: where a statement may begin, or right after one
 pub data Spot : Type 0 where
-  begins : Spot
-  ends : Spot
+  before_statement : Spot
+  after_statement : Spot
 
 -- The tokens are what stands behind `{`, up to such a spot, with these statements. A statement begins behind `{` or `;`,
 -- and none need stand there.
 pub data ReadsBody : Spot → List Token → List StatementForm → Type 0 where
-  nothing : ReadsBody begins [] []
-  stated : (ts us : List Token) (ss : List StatementForm) (s : StatementForm) → ReadsBody begins ts ss
-      → ReadsStatement us s → ReadsBody ends (ts ++ us) (ss ++ (s ∷ []))
+  nothing : ReadsBody before_statement [] []
+  stated : (ts us : List Token) (ss : List StatementForm) (s : StatementForm) → ReadsBody before_statement ts ss
+      → ReadsStatement us s → ReadsBody after_statement (ts ++ us) (ss ++ (s ∷ []))
   separated : (spot : Spot) (ts : List Token) (ss : List StatementForm) → ReadsBody spot ts ss
-      → ReadsBody begins (ts ++ (token.Sign sign.Semicolon ∷ [])) ss
+      → ReadsBody before_statement (ts ++ (token.Sign sign.Semicolon ∷ [])) ss
 
 -- The tokens are a clause.
 pub data ReadsClause : List Token → ClauseForm → Type 0 where

@@ -1,10 +1,13 @@
 -- What is read next of a text. Guide, Program Structure, and Types, Operators and Expressions.
-use Rattle.std.specs.Prelude.{◌≡◌, ◌≢◌, ℕ, ◌+◌, ◌-◌, ◌<◌, ◌≤◌, ◌⊎◌, true, false, List, [], ◌∷◌, ◌++◌, length, drop, slice_index, pos}
+use Rattle.std.specs.Prelude.{◌≡◌, ◌≢◌, ℕ, ◌+◌, ◌-◌, ◌<◌, ◌≤◌, ◌⊎◌, true, false, Result, Ok, Err, List, [], ◌∷◌, ◌++◌, length, drop, slice_index, pos}
 use Rattle.std.specs.Char.{is_ascii_digit}
 use Rattle.std.specs.List.{All, AllPass}
-use Rattle.std.specs.Option.{option_map}
 use Rattle.dt_expr.specs.Operators.{wrapped}
 use Rattle.dt_program.specs.Description.{form_of_description, ReadsDescription}
+use Rattle.dt_program.specs.declared.description.Description.{Description}
+use Rattle.dt_program.specs.declared.description.DescriptionFault.{DescriptionFault}
+use Rattle.dt_lang.specs.declared.fault.Limit.{Limit}
+use Rattle.dt_lang.specs.declared.fault.Limit.TheVariants.{StringBytes, NameBytes}
 use Rattle.dt_names.specs.Name.{IsNameByte}
 use Rattle.dt_names.specs.Limits.{short_text_max}
 use Rattle.dt_lang.specs.declared.lexer.Lexeme.{Lexeme}
@@ -18,7 +21,7 @@ use Rattle.dt_lang.specs.declared.token.Sign.TheVariants as sign
 use Rattle.dt_lang.specs.declared.token.Token.{Token}
 use Rattle.dt_lang.specs.declared.token.Token.TheVariants as token
 use Rattle.dt_lang.specs.Blanks.{SkipsBlanks}
-use Rattle.dt_lang.specs.Class.{is_word_byte, is_text_byte}
+use Rattle.dt_lang.specs.Class.{is_word_byte, is_string_byte}
 use Rattle.dt_lang.specs.Number.{IsNumber}
 use Rattle.dt_lang.specs.Spelling.{spelling}
 use Rattle.dt_lang.specs.Word.{IsWord}
@@ -43,16 +46,22 @@ IsAggregationName name = (name ≡ []) ⊎ IsIdentifier name
 abbrev pub IsBodyToken : List ℕ → Token → Type 0
 IsBodyToken bytes (token.Word w) = IsIdentifier bytes × IsWord bytes w
 IsBodyToken bytes (token.Number z) = (n : ℕ) × IsNumber bytes n × (z ≡ wrapped (pos n))
-IsBodyToken bytes (token.Text t) = (bytes ≡ 34 ∷ (t ++ (34 ∷ []))) × AllPass is_text_byte t
+IsBodyToken bytes (token.String t) = (bytes ≡ 34 ∷ (t ++ (34 ∷ []))) × AllPass is_string_byte t
     × (length t ≤ short_text_max)
 IsBodyToken bytes (token.Aggregation name) = (bytes ≡ 64 ∷ name) × IsAggregationName name × (length name ≤ short_text_max)
 IsBodyToken bytes (token.Sign s) = bytes ≡ spelling s
 IsBodyToken bytes (token.Description d) = ⊥
 
--- a `"` and bytes of a text, or a `@` and an identifier, too many of them for a token
-pub record IsOverlong (bytes : List ℕ) : Type 0 where
+-- a `"` and bytes of a string, or a `@` and an identifier
+abbrev pub BeginsLong : List ℕ → (inside : List ℕ) → Limit → Type 0
+BeginsLong bytes inside StringBytes = (bytes ≡ 34 ∷ inside) × AllPass is_string_byte inside
+BeginsLong bytes inside NameBytes = (bytes ≡ 64 ∷ inside) × IsIdentifier inside
+BeginsLong bytes inside _ = ⊥
+
+-- too many of these bytes for a token
+pub record IsOverlong (bytes : List ℕ) (limit : Limit) : Type 0 where
   pub inside : List ℕ
-  pub begins : ((bytes ≡ 34 ∷ inside) × AllPass is_text_byte inside) ⊎ ((bytes ≡ 64 ∷ inside) × IsIdentifier inside)
+  pub begins : BeginsLong bytes inside limit
   pub long : short_text_max < length inside
 
 -- a comment's beginning, which where no blanks stand is one of a comment that isn't closed
@@ -62,7 +71,7 @@ OPENING = 47 ∷ 42 ∷ []
 -- What the bytes are in a predicate or a body. What begins with a digit is a number, or no token as a whole.
 abbrev pub IsBodyPiece : List ℕ → Piece → Type 0
 IsBodyPiece bytes (piece.Token t size) = IsBodyToken bytes t × (size ≡ length bytes)
-IsBodyPiece bytes piece.Overlong = IsOverlong bytes
+IsBodyPiece bytes (piece.Overlong limit size) = IsOverlong bytes limit × (size ≡ length bytes)
 IsBodyPiece bytes piece.Stray = (bytes ≡ OPENING) ⊎ (IsDigitRun bytes × ((n : ℕ) → IsNumber bytes n → ⊥))
 IsBodyPiece bytes piece.End = ⊥
 
@@ -77,10 +86,15 @@ IsHeadSign _ = ⊥
 abbrev pub IsDescriptionByte : ℕ → Type 0
 IsDescriptionByte byte = IsNameByte byte ⊎ (byte ≡ 58)
 
--- The bytes are this token of a head: a description is read as it is, or as none.
+-- how the bytes are read as a description
+abbrev pub IsDescriptionToken : List ℕ → Result Description DescriptionFault → Type 0
+IsDescriptionToken bytes (Ok d) = ReadsDescription bytes (Ok (form_of_description d))
+IsDescriptionToken bytes (Err fault) = ReadsDescription bytes (Err fault)
+
+-- The bytes are this token of a head: a description is read as it is, or as none for its first fault.
 abbrev pub IsHeadToken : List ℕ → Token → Type 0
 IsHeadToken bytes (token.Description d) = (bytes ≢ []) × All IsDescriptionByte bytes
-    × ReadsDescription bytes (option_map form_of_description d)
+    × IsDescriptionToken bytes d
 IsHeadToken bytes (token.Sign s) = (bytes ≡ spelling s) × IsHeadSign s
 IsHeadToken bytes _ = ⊥
 
@@ -119,7 +133,7 @@ Stands mode (byte ∷ rest) found =
 -- a piece, as it stands at this place
 abbrev pub placed : ℕ → Piece → Lexeme
 placed at (piece.Token token size) = lexeme.Token at token (at + size)
-placed at piece.Overlong = lexeme.Overlong at
+placed at (piece.Overlong limit size) = lexeme.Overlong at limit (at + size)
 placed at piece.Stray = lexeme.Stray at
 placed at piece.End = lexeme.End at
 
@@ -131,9 +145,9 @@ pub record Lexes (text : List ℕ) (mode : Mode) (from : ℕ) (lexeme : Lexeme) 
   pub stands : Stands mode rest found
   pub lexeme_is : lexeme ≡ placed (length text - length rest) found
 
--- the lexeme lies between these places, and a token has a byte at least
+-- the lexeme lies between these places, and what has an end has a byte at least
 abbrev pub LiesWithin : ℕ → Lexeme → ℕ → Type 0
 LiesWithin from (lexeme.Token at token end) to = (from ≤ at) × (at < end) × (end ≤ to)
-LiesWithin from (lexeme.Overlong at) to = (from ≤ at) × (at ≤ to)
+LiesWithin from (lexeme.Overlong at limit end) to = (from ≤ at) × (at < end) × (end ≤ to)
 LiesWithin from (lexeme.Stray at) to = (from ≤ at) × (at ≤ to)
 LiesWithin from (lexeme.End at) to = (from ≤ at) × (at ≤ to)

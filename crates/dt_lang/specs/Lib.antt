@@ -1,27 +1,24 @@
 -- Tokens, programs, the grammar between them, and for what tokens are refused.
-pub mod Blanks
-pub use Rattle.dt_program.specs.Bounds
-pub mod Class
-pub mod Expression
-pub mod ExpressionState
-pub mod Grammar
-pub mod Stand
-pub mod Fault
-pub mod Refused
+
+-- What is promised, from how a text is read down to the bytes of tokens.
 pub mod Reads
-pub mod ClauseState
-pub mod Cause
-pub mod Fits
-pub mod EarlyCause
-pub mod ExpressionView
+pub mod Refused
+pub mod Stand
+pub mod Grammar
+pub mod Expression
+pub mod Fault
 pub mod Lexeme
 pub mod Mode
-pub mod Number
-pub mod Piece
-pub mod ReaderView
-pub mod PlaceView
-pub use Rattle.dt_program.specs.Program
-pub mod Spelling
 pub mod Word
+pub mod Number
+pub mod Spelling
+pub mod Class
+pub mod Blanks
+-- Of dt_program, as this crate's own.
+pub use Rattle.dt_program.specs.Program
+pub use Rattle.dt_program.specs.Bounds
 pub use Rattle.dt_program.specs.Description
+-- Private to the proofs: the states of the readers. No promise names them.
+pub mod machine
+-- The laws of the grammar.
 pub mod laws

@@ -1,5 +1,5 @@
 -- Where in a program a token stands. Guide, Program Structure.
-use Rattle.std.specs.Prelude.{ℕ, ◌+◌, ◌-◌, ◌^◌, ◌==◌, min, if◌then◌else◌}
+use Rattle.std.specs.Prelude.{ℕ, ◌+◌, ◌-◌, ◌==◌, if◌then◌else◌}
 use Rattle.dt_lang.specs.declared.mode.Mode.{Mode}
 use Rattle.dt_lang.specs.declared.mode.Mode.TheVariants.{Head, Predicate, Tail, Body}
 use Rattle.dt_lang.specs.declared.token.Sign.TheVariants as sign
@@ -12,9 +12,9 @@ after_in_head (token.Sign sign.Slash) = Predicate 0
 after_in_head (token.Sign sign.OpenBrace) = Body
 after_in_head _ = Head
 
--- A `/` outside parentheses ends the predicate. They are counted up to 2^64 - 1, and no text has so many bytes.
+-- A `/` outside parentheses ends the predicate.
 abbrev pub after_in_predicate : ℕ → Token → Mode
-after_in_predicate depth (token.Sign sign.OpenParen) = Predicate (min (depth + 1) (2 ^ 64 - 1))
+after_in_predicate depth (token.Sign sign.OpenParen) = Predicate (depth + 1)
 after_in_predicate depth (token.Sign sign.CloseParen) = Predicate (depth - 1)
 after_in_predicate depth (token.Sign sign.Slash) = if depth == 0 then Tail else Predicate depth
 after_in_predicate depth _ = Predicate depth
@@ -34,3 +34,8 @@ mode_after Head t = after_in_head t
 mode_after (Predicate depth) t = after_in_predicate depth t
 mode_after Tail t = after_in_tail t
 mode_after Body t = after_in_body t
+
+-- how many parentheses are open in a mode
+abbrev pub depth_of : Mode → ℕ
+depth_of (Predicate depth) = depth
+depth_of _ = 0

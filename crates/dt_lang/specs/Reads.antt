@@ -1,10 +1,10 @@
 -- How a text is read: as a program, or as none, with the place at which that shows and the cause.
-use Rattle.std.specs.Prelude.{ℕ, List, [], ◌∷◌, ◌++◌, Result, Ok, Err}
-use Rattle.dt_lang.specs.declared.fault.LangFault.{LangFault}
-use Rattle.dt_lang.specs.declared.fault.LangFault.TheVariants as lang
-use Rattle.dt_program.specs.declared.program.Program.{Program}
+use Rattle.std.specs.Prelude.{◌≡◌, ℕ, List, [], ◌∷◌, ◌++◌}
 use Rattle.dt_lang.specs.declared.fault.Why.{Why}
-use Rattle.dt_lang.specs.declared.fault.Why.TheVariants.{Syntax, TooLong}
+use Rattle.dt_lang.specs.declared.fault.Flaw.{Flaw}
+use Rattle.dt_lang.specs.declared.fault.Flaw.TheVariants.{Syntax, TooLong}
+use Rattle.dt_lang.specs.declared.fault.Limit.{Limit}
+use Rattle.dt_lang.specs.Fault.{why_of}
 use Rattle.dt_lang.specs.declared.lexer.Lexeme.TheVariants as lexeme
 use Rattle.dt_lang.specs.declared.mode.Mode.{Mode}
 use Rattle.dt_lang.specs.declared.mode.Mode.TheVariants.{Head}
@@ -14,7 +14,6 @@ use Rattle.dt_lang.specs.Grammar.{ReadsProgram}
 use Rattle.dt_lang.specs.Lexeme.{Lexes}
 use Rattle.dt_lang.specs.Mode.{mode_after}
 use Rattle.dt_program.specs.Clause.{ClauseForm}
-use Rattle.dt_program.specs.Program.{form_of_program}
 use Rattle.dt_lang.specs.Refused.{Cause, because, destroys, Refused, NoneRefused}
 
 -- The tokens stand at the front of the text, up to this byte, each the lexeme behind the one before it, in the mode
@@ -24,21 +23,23 @@ pub data TokensTo (text : List ℕ) : Mode → List Token → ℕ → Type 0 whe
   another : (mode : Mode) (ts : List Token) (t : Token) (from at to : ℕ) → TokensTo text mode ts from
       → Lexes text mode from (lexeme.Token at t to) → TokensTo text (mode_after mode t) (ts ++ (t ∷ [])) to
 
--- Where the text is no program, at which byte that shows, and the cause.
-pub data IsRefusedProgram (text : List ℕ) : (at : ℕ) → Cause → Type 0 where
+-- Where the text is no program: at which byte that shows, where the token ends that begins there, and the cause. Where no
+-- token begins, `end` is `at`.
+pub data IsRefusedProgram (text : List ℕ) : (at end : ℕ) → Cause → Type 0 where
   -- a token that is refused after those before it
   a_token : (mode : Mode) (ts : List Token) (t : Token) (from at to : ℕ) (cause : Cause) → TokensTo text mode ts from
-      → NoneRefused ts → Lexes text mode from (lexeme.Token at t to) → Refused ts t cause → IsRefusedProgram text at cause
-  -- a text or an aggregation's name with too many bytes
-  overlong : (mode : Mode) (ts : List Token) (from at : ℕ) → TokensTo text mode ts from → NoneRefused ts
-      → Lexes text mode from (lexeme.Overlong at) → IsRefusedProgram text at (because TooLong)
+      → NoneRefused ts → Lexes text mode from (lexeme.Token at t to) → Refused ts t cause → IsRefusedProgram text at to cause
+  -- a string or an aggregation's name with too many bytes
+  overlong : (mode : Mode) (ts : List Token) (from at to : ℕ) (limit : Limit) → TokensTo text mode ts from
+      → NoneRefused ts → Lexes text mode from (lexeme.Overlong at limit to)
+      → IsRefusedProgram text at to (because (TooLong limit))
   -- bytes that are no token
   stray : (mode : Mode) (ts : List Token) (from at : ℕ) → TokensTo text mode ts from → NoneRefused ts
-      → Lexes text mode from (lexeme.Stray at) → IsRefusedProgram text at (because Syntax)
+      → Lexes text mode from (lexeme.Stray at) → IsRefusedProgram text at at (because Syntax)
   -- the end of what only begins a program
   unfinished : (mode : Mode) (ts : List Token) (from at : ℕ) → TokensTo text mode ts from → NoneRefused ts
       → Lexes text mode from (lexeme.End at) → ((cs : List ClauseForm) → ReadsProgram ts cs → ⊥)
-      → IsRefusedProgram text at (because Syntax)
+      → IsRefusedProgram text at at (because Syntax)
 
 -- The text is tokens to its end, none of them is refused, and they are this program.
 pub record IsProgram (text : List ℕ) (cs : List ClauseForm) : Type 0 where
@@ -51,7 +52,7 @@ pub record IsProgram (text : List ℕ) (cs : List ClauseForm) : Type 0 where
   pub end : Lexes text mode from (lexeme.End at)
   pub reads : ReadsProgram tokens cs
 
--- how a text is read
+-- how a text is read, without what was found where it is refused
 pub data Reading : Type 0 where
   program : List ClauseForm → Reading
   fault : (at : ℕ) → Why → Reading
@@ -60,12 +61,5 @@ pub data Reading : Type 0 where
 -- A text is read as the program that it is, or as refused at the first token for which a cause holds.
 abbrev pub Reads : List ℕ → Reading → Type 0
 Reads text (program cs) = IsProgram text cs
-Reads text (fault at why) = IsRefusedProgram text at (because why)
-Reads text (destructive at what) = IsRefusedProgram text at (destroys what)
-
--- what a reader of texts answers: the program or the fault as which the text is read, or that memory ran out
-abbrev pub Answered : List ℕ → Result Program LangFault → Type 0
-Answered text (Ok p) = Reads text (program (form_of_program p))
-Answered text (Err (lang.Program at why)) = Reads text (fault at why)
-Answered text (Err (lang.Destructive at what)) = Reads text (destructive at what)
-Answered text (Err lang.Memory) = Unit {0}
+Reads text (fault at why) = (end : ℕ) × (flaw : Flaw) × (why ≡ why_of flaw) × IsRefusedProgram text at end (because flaw)
+Reads text (destructive at what) = (end : ℕ) × IsRefusedProgram text at end (destroys what)

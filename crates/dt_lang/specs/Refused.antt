@@ -1,13 +1,17 @@
 -- For what cause a token is refused after the tokens before it.
-use Rattle.std.specs.Prelude.{◌≡◌, ℕ, ◌<◌, ◌≤◌, Bool, true, List, [], ◌∷◌, ◌++◌, length, Option, None, ℤ}
+use Rattle.std.specs.Prelude.{◌≡◌, ℕ, ◌<◌, ◌≤◌, Bool, true, List, [], ◌∷◌, ◌++◌, length, Option, Some, Result, Err, ℤ}
 use Rattle.dt_expr.specs.Form.{Form}
 use Rattle.dt_expr.specs.declared.scene.NumberVariable.TheVariants as variable
 use Rattle.dt_expr.specs.declared.scene.TextVariable.TheVariants as text_variable
 use Rattle.dt_program.specs.Description.{DescForm}
 use Rattle.dt_program.specs.declared.description.Description.{Description}
-use Rattle.dt_program.specs.Bounds.{AreBounds}
-use Rattle.dt_lang.specs.declared.fault.Why.{Why}
-use Rattle.dt_lang.specs.declared.fault.Why.TheVariants.{Syntax, Probe, Action, Variable, TooLong, Range}
+use Rattle.dt_program.specs.declared.description.DescriptionFault.{DescriptionFault}
+use Rattle.dt_program.specs.declared.clause.BoundsFault.{BoundsFault}
+use Rattle.dt_program.specs.Bounds.{bounds_fault}
+use Rattle.dt_lang.specs.declared.fault.Flaw.{Flaw}
+use Rattle.dt_lang.specs.declared.fault.Flaw.TheVariants.{Syntax, Probe, Action, Variable, TooLong, Range}
+use Rattle.dt_lang.specs.declared.fault.Limit.{Limit}
+use Rattle.dt_lang.specs.declared.fault.Limit.TheVariants as limit
 use Rattle.dt_program.specs.Limits.{descriptions_max, statements_max, keys_max}
 use Rattle.dt_program.specs.Limits.{clauses_max, tokens_max}
 use Rattle.dt_lang.specs.declared.token.Sign.TheVariants as sign
@@ -19,23 +23,23 @@ use Rattle.dt_lang.specs.declared.word.Function.TheVariants as function
 use Rattle.dt_lang.specs.declared.word.Word.{Word}
 use Rattle.dt_lang.specs.declared.word.Word.TheVariants as word
 use Rattle.dt_lang.specs.Expression.{ReadsExpr, BeginsExpr}
-use Rattle.dt_lang.specs.Grammar.{ReadsBounds, begins, ReadsClauses, Begins}
+use Rattle.dt_lang.specs.Grammar.{ReadsBounds, before_statement, ReadsClauses, Begins}
 use Rattle.dt_program.specs.Clause.{ArgForm, ClauseForm}
 use Rattle.dt_lang.specs.Stand.{HeadStands, BodyStands, KeysStand, Slot, value, divides_in, SlotOpens}
 
--- why a token is refused: for a cause, or as the name of a destructive action
+-- why a token is refused: for what is wrong with it, or as the name of a destructive action
 pub data Cause : Type 0 where
-  because : Why → Cause
+  because : Flaw → Cause
   destroys : Destructive → Cause
 
 -- the order in which causes go, where several hold of one token
 abbrev pub rank : Cause → ℕ
-rank (because TooLong) = 0
+rank (because (TooLong limit)) = 0
 rank (destroys what) = 1
-rank (because Probe) = 2
+rank (because (Probe fault)) = 2
 rank (because Action) = 3
 rank (because Variable) = 4
-rank (because Range) = 5
+rank (because (Range fault)) = 5
 rank (because Syntax) = 6
 
 -- A number or a text stands next in the expression that these tokens begin.
@@ -43,11 +47,11 @@ pub data OperandStands (divides : Bool) (ts : List Token) : Type 0 where
   a_number : BeginsExpr divides (ts ++ (token.Word (word.Number variable.Pid) ∷ [])) → OperandStands divides ts
   a_text : BeginsExpr divides (ts ++ (token.Word (word.Text text_variable.Execname) ∷ [])) → OperandStands divides ts
 
--- an identifier, a number or a text
+-- an identifier, a number or a string
 abbrev pub IsOperand : Token → Type 0
 IsOperand (token.Word w) = Unit {0}
 IsOperand (token.Number z) = Unit {0}
-IsOperand (token.Text bytes) = Unit {0}
+IsOperand (token.String bytes) = Unit {0}
 IsOperand _ = ⊥
 
 -- The token is one more of the expression that these tokens begin: it goes on with it, or is taken for its operand.
@@ -63,19 +67,20 @@ IsForStatement _ = ⊥
 
 -- The token is the first of one thing more than there may be: of a clause, a description, a statement or a key, or it is
 -- one more of the tokens of a predicate, an argument, a key or a value.
-pub data IsTooLong : List Token → Token → Type 0 where
-  a_clause : (ts : List Token) (cs : List ClauseForm) (d : Option Description) → ReadsClauses ts cs
-      → clauses_max ≤ length cs → IsTooLong ts (token.Description d)
-  a_description : (ts : List Token) (cs : List ClauseForm) (ds : List DescForm) (d : Option Description)
-      → HeadStands ts cs ds → descriptions_max ≤ length ds
-      → IsTooLong (ts ++ (token.Sign sign.Comma ∷ [])) (token.Description d)
-  a_statement : (ts : List Token) (cs : List ClauseForm) (c : ClauseForm) (t : Token) → BodyStands begins ts cs c
-      → statements_max ≤ length c.statements → IsForStatement t → IsTooLong ts t
+pub data IsTooLong : List Token → Token → Limit → Type 0 where
+  a_clause : (ts : List Token) (cs : List ClauseForm) (d : Result Description DescriptionFault) → ReadsClauses ts cs
+      → clauses_max ≤ length cs → IsTooLong ts (token.Description d) limit.Clauses
+  a_description : (ts : List Token) (cs : List ClauseForm) (ds : List DescForm)
+      (d : Result Description DescriptionFault) → HeadStands ts cs ds → descriptions_max ≤ length ds
+      → IsTooLong (ts ++ (token.Sign sign.Comma ∷ [])) (token.Description d) limit.Descriptions
+  a_statement : (ts : List Token) (cs : List ClauseForm) (c : ClauseForm) (t : Token) → BodyStands before_statement ts cs c
+      → statements_max ≤ length c.statements → IsForStatement t → IsTooLong ts t limit.Statements
   a_key : (ts : List Token) (cs : List ClauseForm) (c : ClauseForm) (name : List ℕ) (keys : List ArgForm) (t : Token)
       → KeysStand ts cs c name keys → keys_max ≤ length keys → GoesOn true [] t
-      → IsTooLong (ts ++ (token.Sign sign.Comma ∷ [])) t
+      → IsTooLong (ts ++ (token.Sign sign.Comma ∷ [])) t limit.Keys
   a_token : (slot : Slot) (ts us : List Token) (cs : List ClauseForm) (c : ClauseForm) (t : Token)
-      → SlotOpens slot ts cs c → tokens_max ≤ length us → GoesOn (divides_in slot) us t → IsTooLong (ts ++ us) t
+      → SlotOpens slot ts cs c → tokens_max ≤ length us → GoesOn (divides_in slot) us t
+      → IsTooLong (ts ++ us) t limit.Tokens
 
 -- A statement may begin behind these tokens.
 abbrev pub StatementBegins : List Token → Type 0
@@ -115,8 +120,8 @@ pub record IsNoVariable (ts : List Token) (t : Token) : Type 0 where
   pub unknown : NamesNoVariable t
   pub stands : VariableStands ts
 
--- The token is the `)` that ends an `lquantize` whose bounds make no levels, or too many.
-pub record IsOutOfRange (ts : List Token) (t : Token) : Type 0 where
+-- The token is the `)` that ends an `lquantize` whose bounds make no levels, or too many, with the first rule they break.
+pub record IsOutOfRange (ts : List Token) (t : Token) (fault : BoundsFault) : Type 0 where
   pub front : List Token
   pub expression : List Token
   pub bounds : List Token
@@ -133,16 +138,16 @@ pub record IsOutOfRange (ts : List Token) (t : Token) : Type 0 where
   pub upper : ℤ
   pub step : ℤ
   pub reads_bounds : ReadsBounds bounds lower upper step
-  pub wrong : AreBounds lower upper step → ⊥
+  pub wrong : bounds_fault lower upper step ≡ Some fault
 
 -- This cause holds of the token after those before it.
 abbrev pub CauseHolds : List Token → Token → Cause → Type 0
-CauseHolds ts t (because TooLong) = IsTooLong ts t
+CauseHolds ts t (because (TooLong limit)) = IsTooLong ts t limit
 CauseHolds ts t (destroys what) = IsDestructive ts t what
-CauseHolds ts t (because Probe) = t ≡ token.Description None
+CauseHolds ts t (because (Probe fault)) = t ≡ token.Description (Err fault)
 CauseHolds ts t (because Action) = IsNoAction ts t
 CauseHolds ts t (because Variable) = IsNoVariable ts t
-CauseHolds ts t (because Range) = IsOutOfRange ts t
+CauseHolds ts t (because (Range fault)) = IsOutOfRange ts t fault
 CauseHolds ts t (because Syntax) = Begins (ts ++ (t ∷ [])) → ⊥
 
 -- The token is refused for this cause: it is the first that holds.

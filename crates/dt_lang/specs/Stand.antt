@@ -9,7 +9,7 @@ use Rattle.dt_lang.specs.declared.word.Function.{Function}
 use Rattle.dt_lang.specs.declared.word.Function.TheVariants as function
 use Rattle.dt_lang.specs.declared.word.Word.TheVariants as word
 use Rattle.dt_program.specs.Clause.{ArgForm, ClauseForm}
-use Rattle.dt_lang.specs.Grammar.{ReadsHead, ReadsOpening, ReadsKeys, ReadsTarget, Spot, begins, ReadsBody, ReadsClauses}
+use Rattle.dt_lang.specs.Grammar.{ReadsHead, ReadsOpening, ReadsKeys, ReadsTarget, Spot, before_statement, ReadsBody, ReadsClauses}
 
 -- The tokens are whole clauses and a head.
 pub record HeadStands (ts : List Token) (cs : List ClauseForm) (ds : List DescForm) : Type 0 where
@@ -26,7 +26,7 @@ pub record BodyStands (spot : Spot) (ts : List Token) (cs : List ClauseForm) (c 
   pub body : List Token
   pub split : ts ≡ clauses ++ (opening ++ body)
   pub before : ReadsClauses clauses cs
-  pub opened : ReadsOpening opening c.descriptions c.predicate
+  pub reads_opening : ReadsOpening opening c.descriptions c.predicate
   pub reads : ReadsBody spot body c.statements
 
 -- The tokens end with an aggregation's name, `[`, and these keys.
@@ -35,7 +35,7 @@ pub record KeysStand (ts : List Token) (cs : List ClauseForm) (c : ClauseForm) (
   pub front : List Token
   pub back : List Token
   pub split : ts ≡ front ++ (token.Aggregation name ∷ token.Sign sign.OpenBracket ∷ back)
-  pub stands : BodyStands begins front cs c
+  pub stands : BodyStands before_statement front cs c
   pub reads : ReadsKeys back keys
 
 -- The tokens end with an aggregation's name and all its keys.
@@ -44,7 +44,7 @@ pub record TargetStands (ts : List Token) (cs : List ClauseForm) (c : ClauseForm
   pub front : List Token
   pub back : List Token
   pub split : ts ≡ front ++ back
-  pub stands : BodyStands begins front cs c
+  pub stands : BodyStands before_statement front cs c
   pub reads : ReadsTarget back name keys
 
 -- what an expression or a text is read for
@@ -65,11 +65,11 @@ pub data SlotOpens : Slot → List Token → List ClauseForm → ClauseForm → 
   a_predicate : (ts : List Token) (cs : List ClauseForm) (ds : List DescForm) → HeadStands ts cs ds
       → SlotOpens predicate (ts ++ (token.Sign sign.Slash ∷ [])) cs
       (record { descriptions = ds; predicate = None; statements = [] })
-  an_argument : (ts : List Token) (cs : List ClauseForm) (c : ClauseForm) → BodyStands begins ts cs c
+  an_argument : (ts : List Token) (cs : List ClauseForm) (c : ClauseForm) → BodyStands before_statement ts cs c
       → SlotOpens traced (ts ++ (token.Word (word.Action action.Trace) ∷ token.Sign sign.OpenParen ∷ [])) cs c
-  a_status : (ts : List Token) (cs : List ClauseForm) (c : ClauseForm) → BodyStands begins ts cs c
+  a_status : (ts : List Token) (cs : List ClauseForm) (c : ClauseForm) → BodyStands before_statement ts cs c
       → SlotOpens exited (ts ++ (token.Word (word.Action action.Exit) ∷ token.Sign sign.OpenParen ∷ [])) cs c
-  first_key : (ts : List Token) (cs : List ClauseForm) (c : ClauseForm) (name : List ℕ) → BodyStands begins ts cs c
+  first_key : (ts : List Token) (cs : List ClauseForm) (c : ClauseForm) (name : List ℕ) → BodyStands before_statement ts cs c
       → SlotOpens (key name []) (ts ++ (token.Aggregation name ∷ token.Sign sign.OpenBracket ∷ [])) cs c
   a_key : (ts : List Token) (cs : List ClauseForm) (c : ClauseForm) (name : List ℕ) (keys : List ArgForm)
       → KeysStand ts cs c name keys → SlotOpens (key name keys) (ts ++ (token.Sign sign.Comma ∷ [])) cs c

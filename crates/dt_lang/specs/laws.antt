@@ -24,10 +24,10 @@ pub mod ClauseSound
 pub mod ClauseComplete
 pub mod ClauseViable
 pub mod ClauseLaws
-pub mod CauseOrder
 pub mod TakesLaws
 pub mod TooLongLaws
 pub mod RangeLaws
+pub mod CauseOrder
 pub mod CauseLaws
 pub mod TextLaws
 pub mod SomeReading

@@ -10,8 +10,8 @@ use dt_names::is_name_byte;
 pub(crate) enum Class {
     /// Letters, digits and `_`: identifiers and numbers.
     Word,
-    /// What a text has between its `"`.
-    Text,
+    /// What a string has between its `"`.
+    String,
     /// Name bytes and `:`: descriptions.
     Description,
 }
@@ -23,7 +23,7 @@ impl Class {
     {
         match self {
             Class::Word => byte.is_ascii_alphanumeric() || byte == b'_',
-            Class::Text => byte >= b' ' && byte <= b'~' && byte != b'"' && byte != b'\\',
+            Class::String => byte >= b' ' && byte <= b'~' && byte != b'"' && byte != b'\\',
             Class::Description => is_name_byte(byte) || byte == b':',
         }
     }

@@ -2,11 +2,11 @@
 ghost use Rattle.std.specs.Prelude.{◌≡◌, IfOk, option_map, true};
 ghost use Rattle.dt_expr.specs.Form.{form_of};
 ghost use Rattle.dt_lang.specs.Expression.{prefix_of, comparison_of, text_token};
-ghost use Rattle.dt_lang.specs.ExpressionState.{nothing, whole, lone, compares, state, operator_in, begin_sign, begin_text, begin, leave, follow_sign, follow, compare, compare_with, close, start, step, done, wants, Goes};
-ghost use Rattle.dt_lang.specs.ExpressionView.{frames_of, hand_of, state_of};
+ghost use Rattle.dt_lang.specs.machine.ExpressionState.{nothing, whole, lone, compares, state, operator_in, begin_sign, begin_text, begin, leave, follow_sign, follow, compare, compare_with, close, start, step, done, wants, Goes};
+ghost use Rattle.dt_lang.specs.machine.ExpressionView.{pending_forms, hand_of, state_of};
 ghost use Rattle.dt_program.specs.Clause.{form_of_argument};
 
-use crate::frames::{EQUALITY, Frame, FrameStack, OPERAND, binding_of};
+use crate::pending::{EQUALITY, OPERAND, Pending, PendingStack, binding_of};
 use crate::token::{Sign, Token};
 use crate::word::Word;
 use dt_expr::{BinaryOp, Expr, Text, TextOp, UnaryOp};
@@ -14,7 +14,7 @@ use dt_program::Argument;
 use std::alloc::{AllocError, Global};
 use std::mem;
 
-/// What is at hand after the frames.
+/// What is at hand after what is pending.
 #[derive(Drop)]
 pub(crate) enum Hand {
     /// Nothing yet: an operand stands next.
@@ -34,7 +34,7 @@ pub(crate) enum Hand {
 #[derive(Drop)]
 pub(crate) struct ExpressionReader {
     divides: bool,
-    frames: FrameStack,
+    pending: PendingStack,
     hand: Hand,
 }
 
@@ -101,7 +101,7 @@ fn text_of(token: &Token) -> Option<Text>
     ensures { result ≡ text_token token.now }
 {
     match token {
-        Token::Text(text) => Some(Text::Literal(*text)),
+        Token::String(text) => Some(Text::Literal(*text)),
         Token::Word(Word::Text(variable)) => Some(Text::Variable(*variable)),
         _ => None,
     }
@@ -114,7 +114,7 @@ impl ExpressionReader {
     {
         ExpressionReader {
             divides: true,
-            frames: FrameStack::new(alloc),
+            pending: PendingStack::new(alloc),
             hand: Hand::Nothing,
         }
     }
@@ -124,7 +124,7 @@ impl ExpressionReader {
         ensures { state_of self.new ≡ start divides }
     {
         self.divides = divides;
-        self.frames.clear();
+        self.pending.clear();
         self.hand = Hand::Nothing;
     }
 
@@ -136,7 +136,7 @@ impl ExpressionReader {
     }
 
     /// Reads a token and says so, or that it doesn't go on with what was read: then nothing is changed.
-    #[tactic(auto, unfolding(crate::specs::ExpressionState::step))]
+    #[tactic(auto, unfolding(crate::specs::machine::ExpressionState::step))]
     pub(crate) fn push(&mut self, alloc: Global, token: &Token) -> Result<bool, AllocError>
         ensures { IfOk result (λ on. Goes (state_of self.old) (step (state_of self.old) token.now) on
             (state_of self.new)) }
@@ -155,15 +155,15 @@ impl ExpressionReader {
     {
         match mem::replace(&mut self.hand, Hand::Nothing) {
             Hand::Whole(_, form) => {
-                let form = self.frames.close(alloc, 0, form)?;
-                if self.frames.is_empty() {
+                let form = self.pending.close(alloc, 0, form)?;
+                if self.pending.is_empty() {
                     Ok(Some(Argument::Number(form)))
                 } else {
                     Ok(None)
                 }
             }
             Hand::Lone(text) => {
-                if self.frames.is_empty() {
+                if self.pending.is_empty() {
                     Ok(Some(Argument::Text(text)))
                 } else {
                     Ok(None)
@@ -177,7 +177,7 @@ impl ExpressionReader {
     fn begin_operand(&mut self, token: &Token) -> Result<bool, AllocError>
         requires { hand_of self.old.hand ≡ nothing }
         ensures { IfOk result (λ on. Goes (state_of self.old)
-            (begin self.old.divides (frames_of self.old.frames) token.now) on (state_of self.new)) }
+            (begin self.old.divides (pending_forms self.old.pending) token.now) on (state_of self.new)) }
     {
         match token {
             Token::Number(number) => {
@@ -189,7 +189,7 @@ impl ExpressionReader {
                 Ok(true)
             }
             Token::Word(Word::Text(variable)) => Ok(self.begin_text(Text::Variable(*variable))),
-            Token::Text(text) => Ok(self.begin_text(Text::Literal(*text))),
+            Token::String(text) => Ok(self.begin_text(Text::Literal(*text))),
             Token::Sign(sign) => self.begin_sign(*sign),
             _ => Ok(false),
         }
@@ -198,10 +198,10 @@ impl ExpressionReader {
     /// Reads a text where a comparison of texts may stand.
     fn begin_text(&mut self, text: Text) -> bool
         requires { hand_of self.old.hand ≡ nothing }
-        ensures { Goes (state_of self.old) (begin_text self.old.divides (frames_of self.old.frames) text) result
+        ensures { Goes (state_of self.old) (begin_text self.old.divides (pending_forms self.old.pending) text) result
             (state_of self.new) }
     {
-        if self.frames.level_next() <= EQUALITY {
+        if self.pending.level_next() <= EQUALITY {
             self.hand = Hand::Lone(text);
             true
         } else {
@@ -213,17 +213,17 @@ impl ExpressionReader {
     fn begin_sign(&mut self, sign: Sign) -> Result<bool, AllocError>
         requires { hand_of self.old.hand ≡ nothing }
         ensures { IfOk result (λ on. Goes (state_of self.old)
-            (begin_sign self.old.divides (frames_of self.old.frames) sign) on (state_of self.new)) }
+            (begin_sign self.old.divides (pending_forms self.old.pending) sign) on (state_of self.new)) }
     {
         // it is no operator: it waits for its `)`, and up to there a `/` divides in a predicate too
         if sign == Sign::OpenParen {
-            self.frames.push(Frame::Opened(self.divides))?;
+            self.pending.push(Pending::Opened(self.divides))?;
             self.divides = true;
             return Ok(true);
         }
         match prefix_of(sign) {
             Some(op) => {
-                self.frames.push(Frame::Before(op))?;
+                self.pending.push(Pending::Before(op))?;
                 Ok(true)
             }
             None => Ok(false),
@@ -239,8 +239,8 @@ impl ExpressionReader {
         token: &Token,
     ) -> Result<bool, AllocError>
         ensures { IfOk result (λ on.
-            Goes (state self.old.divides (frames_of self.old.frames) (whole level (form_of form)))
-            (follow self.old.divides (frames_of self.old.frames) level (form_of form) token.now) on
+            Goes (state self.old.divides (pending_forms self.old.pending) (whole level (form_of form)))
+            (follow self.old.divides (pending_forms self.old.pending) level (form_of form) token.now) on
             (state_of self.new)) }
     {
         match token {
@@ -261,8 +261,8 @@ impl ExpressionReader {
         sign: Sign,
     ) -> Result<bool, AllocError>
         ensures { IfOk result (λ on.
-            Goes (state self.old.divides (frames_of self.old.frames) (whole level (form_of form)))
-            (follow_sign self.old.divides (frames_of self.old.frames) level (form_of form) sign) on
+            Goes (state self.old.divides (pending_forms self.old.pending) (whole level (form_of form)))
+            (follow_sign self.old.divides (pending_forms self.old.pending) level (form_of form) sign) on
             (state_of self.new)) }
     {
         // it is no operator: it ends parentheses, or what the expression is read for
@@ -271,8 +271,9 @@ impl ExpressionReader {
         }
         match operator_in(self.divides, sign) {
             Some(op) if binding_of(op) <= level => {
-                let left = self.frames.close(alloc, binding_of(op), form)?;
-                self.frames.push(Frame::After(Box::new(alloc, left)?, op))?;
+                let left = self.pending.close(alloc, binding_of(op), form)?;
+                self.pending
+                    .push(Pending::After(Box::new(alloc, left)?, op))?;
                 self.hand = Hand::Nothing;
                 Ok(true)
             }
@@ -286,25 +287,25 @@ impl ExpressionReader {
     /// Reads a closing parenthesis after an expression that binds at least so tightly.
     fn leave(&mut self, alloc: Global, level: u8, form: Expr) -> Result<bool, AllocError>
         ensures { IfOk result (λ on.
-            Goes (state self.old.divides (frames_of self.old.frames) (whole level (form_of form)))
-            (let closed = close 0 (frames_of self.old.frames) (form_of form) in leave closed.frames closed.form) on
+            Goes (state self.old.divides (pending_forms self.old.pending) (whole level (form_of form)))
+            (let closed = close 0 (pending_forms self.old.pending) (form_of form) in leave closed.pending closed.form) on
             (state_of self.new)) }
     {
         // no `(` of the expression is open: this `)` ends what it is read for, as in `trace(1)`
-        if !self.frames.has_opened() {
+        if !self.pending.has_opened() {
             self.hand = Hand::Whole(level, form);
             return Ok(false);
         }
-        let form = self.frames.close(alloc, 0, form)?;
-        self.divides = self.frames.pop_opened();
+        let form = self.pending.close(alloc, 0, form)?;
+        self.divides = self.pending.pop_opened();
         self.hand = Hand::Whole(OPERAND, form);
         Ok(true)
     }
 
     /// Reads a token after a text.
     fn compare(&mut self, text: Text, token: &Token) -> bool
-        ensures { Goes (state self.old.divides (frames_of self.old.frames) (lone text))
-            (compare self.old.divides (frames_of self.old.frames) text token.now) result (state_of self.new) }
+        ensures { Goes (state self.old.divides (pending_forms self.old.pending) (lone text))
+            (compare self.old.divides (pending_forms self.old.pending) text token.now) result (state_of self.new) }
     {
         let comparison = match token {
             Token::Sign(sign) => comparison_of(*sign),
@@ -324,8 +325,8 @@ impl ExpressionReader {
 
     /// Reads a token after a text and its comparison.
     fn compare_with(&mut self, op: TextOp, left: Text, token: &Token) -> bool
-        ensures { Goes (state self.old.divides (frames_of self.old.frames) (compares op left))
-            (compare_with self.old.divides (frames_of self.old.frames) op left token.now) result (state_of self.new) }
+        ensures { Goes (state self.old.divides (pending_forms self.old.pending) (compares op left))
+            (compare_with self.old.divides (pending_forms self.old.pending) op left token.now) result (state_of self.new) }
     {
         match text_of(token) {
             Some(right) => {

@@ -3,7 +3,7 @@ ghost use Rattle.std.specs.Prelude.{◌≡◌, Bool, true, List, Some};
 ghost use Rattle.dt_expr.specs.Form.{Form};
 ghost use Rattle.dt_lang.specs.declared.token.Token.{Token};
 ghost use Rattle.dt_lang.specs.Expression.{BeginsExpr, ReadsArgument, ReadsExpr};
-ghost use Rattle.dt_lang.specs.ExpressionState.{State, IsRead, done, run, start};
+ghost use Rattle.dt_lang.specs.machine.ExpressionState.{State, IsRead, done, run, start};
 ghost use Rattle.dt_program.specs.Clause.{ArgForm, number};
 
 /// Tokens are one expression at the most.

@@ -5,6 +5,7 @@ ghost use Rattle.dt_lang.specs.declared.lexer.Lexeme.{Lexeme};
 ghost use Rattle.dt_lang.specs.declared.mode.Mode.{Mode};
 
 use crate::blanks::skip_blanks;
+use crate::fault::Limit;
 use crate::mode::Mode;
 use crate::piece::Piece;
 use crate::token::Token;
@@ -14,8 +15,8 @@ use crate::token::Token;
 pub(crate) enum Lexeme {
     /// A token, and the offset behind it.
     Token { at: usize, token: Token, end: usize },
-    /// A text or an aggregation's name that is too long.
-    Overlong { at: usize },
+    /// A string or an aggregation's name that is too long, and the offset behind it.
+    Overlong { at: usize, limit: Limit, end: usize },
     /// Bytes that are no token, or a text or a comment that isn't closed.
     Stray { at: usize },
     /// Nothing but blanks.
@@ -36,7 +37,11 @@ pub(crate) fn next(text: &[u8], mode: Mode, from: usize) -> Lexeme
             token,
             end: at + size,
         },
-        Piece::Overlong => Lexeme::Overlong { at },
+        Piece::Overlong { limit, size } => Lexeme::Overlong {
+            at,
+            limit,
+            end: at + size,
+        },
         Piece::Stray => Lexeme::Stray { at },
         Piece::End => Lexeme::End { at },
     }

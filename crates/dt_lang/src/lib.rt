@@ -7,29 +7,29 @@
 
 mod blanks;
 mod class;
-mod early_cause;
 mod expression;
 mod expression_laws;
 mod fault;
-mod frames;
 mod lexer;
 mod mode;
 mod number;
 mod parse;
+mod pending;
 mod piece;
 mod place;
 mod reader;
+mod shown_cause;
 mod sign;
 mod token;
 mod word;
 
 pub use dt_program::{
-    Aggregation, Argument, Bounds, CLAUSES_MAX, Call, Clause, DESCRIPTIONS_MAX, Description,
-    FRAMES_MAX, Frames, KEYS_MAX, LEVELS_MAX, Program, STATEMENTS_MAX, Statement, TOKENS_MAX,
-    one_description, some_description,
+    Aggregation, Argument, Bounds, BoundsFault, CLAUSES_MAX, Call, Clause, DESCRIPTIONS_MAX,
+    Description, DescriptionFault, FRAMES_MAX, Frames, KEYS_MAX, LEVELS_MAX, Program,
+    STATEMENTS_MAX, Statement, TOKENS_MAX, one_description, some_description,
 };
 pub use expression_laws::{one_argument, one_expression};
-pub use fault::{LangFault, Why};
-pub use parse::{ParseProgram, one_reading, read_is_in_bounds, some_reading};
+pub use fault::{Flaw, LangFault, Limit, Why};
+pub use parse::{ParseProgram, one_reading, one_refusal, read_is_in_bounds, some_reading};
 pub use token::{Sign, Token};
 pub use word::{Action, Destructive, Function, Word, one_word};

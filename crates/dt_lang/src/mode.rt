@@ -1,6 +1,6 @@
 //! Where in a program a token stands, which says what tokens there are.
-ghost use Rattle.std.specs.Prelude.{◌≡◌};
-ghost use Rattle.dt_lang.specs.Mode.{mode_after};
+ghost use Rattle.std.specs.Prelude.{◌≡◌, ◌+◌, ◌<◌, ◌^◌};
+ghost use Rattle.dt_lang.specs.Mode.{depth_of, mode_after};
 
 use crate::token::{Sign, Token};
 
@@ -20,13 +20,14 @@ pub(crate) enum Mode {
 impl Mode {
     /// The mode behind this token.
     pub(crate) fn after(self, token: &Token) -> Mode
+        requires { depth_of self + 1 < 2 ^ 64 }
         ensures { result ≡ mode_after self token.now }
     {
         match (self, token) {
             (Mode::Head, Token::Sign(Sign::Slash)) => Mode::Predicate { depth: 0 },
             (Mode::Head | Mode::Tail, Token::Sign(Sign::OpenBrace)) => Mode::Body,
             (Mode::Predicate { depth }, Token::Sign(Sign::OpenParen)) => Mode::Predicate {
-                depth: depth.saturating_add(1),
+                depth: depth + 1,
             },
             (Mode::Predicate { depth }, Token::Sign(Sign::CloseParen)) => Mode::Predicate {
                 depth: depth.saturating_sub(1),

@@ -1,14 +1,15 @@
 //! A text is read as a program, or refused with the place and the cause.
 ghost use Rattle.std.specs.Prelude.{◌≡◌, ℕ, Err, IfOk, List};
-ghost use Rattle.dt_lang.specs.ClauseState.{program_start};
+ghost use Rattle.dt_lang.specs.machine.ClauseState.{program_start};
 ghost use Rattle.dt_program.specs.Program.{ClauseForm, form_of_program};
 ghost use Rattle.dt_program.specs.Written.{IsWrittenProgram};
-ghost use Rattle.dt_lang.specs.ReaderView.{program_state_of};
-ghost use Rattle.dt_lang.specs.Reads.{Answered, Reading, Reads, destructive, fault, program};
-ghost use Rattle.dt_lang.specs.declared.fault.Why.{Why};
+ghost use Rattle.dt_lang.specs.machine.ReaderView.{Answered, program_state_of};
+ghost use Rattle.dt_lang.specs.Reads.{IsRefusedProgram, Reading, Reads, program};
+ghost use Rattle.dt_lang.specs.Refused.{Cause, because, destroys};
+ghost use Rattle.dt_lang.specs.declared.fault.Flaw.{Flaw};
 ghost use Rattle.dt_lang.specs.declared.word.Destructive.{Destructive};
 
-use crate::fault::{LangFault, Why};
+use crate::fault::{Flaw, LangFault};
 use crate::lexer::{Lexeme, next, one_lexeme, some_lexeme};
 use crate::mode::Mode;
 use crate::reader::ProgramReader;
@@ -26,10 +27,10 @@ pub trait ParseProgram: Sized {
 impl ParseProgram for Program {
     fn parse(alloc: Global, text: &[u8]) -> Result<Self, LangFault>
         ensures read { IfOk result (λ parsed. Reads text.now (program (form_of_program parsed))) }
-        ensures fault { (at : ℕ) (why : Why) → result ≡ Err (LangFault.Program at why)
-            → Reads text.now (fault at why) }
-        ensures destructive { (at : ℕ) (what : Destructive) → result ≡ Err (LangFault.Destructive at what)
-            → Reads text.now (destructive at what) }
+        ensures fault { (at end : ℕ) (flaw : Flaw) → result ≡ Err (LangFault.Program at end flaw)
+            → IsRefusedProgram text.now at end (because flaw) }
+        ensures destructive { (at end : ℕ) (what : Destructive) → result ≡ Err (LangFault.Destructive at end what)
+            → IsRefusedProgram text.now at end (destroys what) }
     {
         let mut reader = ProgramReader::new(alloc);
         read(alloc, &mut reader, text)
@@ -49,34 +50,46 @@ fn read(alloc: Global, reader: &mut ProgramReader, text: &[u8]) -> Result<Progra
                 let after = mode.after(&token);
                 // the first token for which a cause holds decides: nothing after it is read
                 if let Some(refusal) = reader.push(alloc, token)? {
-                    return Err(refusal.fault(at));
+                    return Err(refusal.fault(at, end));
                 }
                 mode = after;
                 from = end;
             }
-            Lexeme::Overlong { at } => {
-                // a text or a name that is too long is refused for its length, and not for its syntax
+            Lexeme::Overlong { at, limit, end } => {
+                // a string or a name that is too long is refused for its length, and not for its syntax
                 return Err(LangFault::Program {
                     at,
-                    why: Why::TooLong,
+                    end,
+                    flaw: Flaw::TooLong(limit),
                 });
             }
             Lexeme::Stray { at } => {
                 // no program goes on with bytes that are no token
                 return Err(LangFault::Program {
                     at,
-                    why: Why::Syntax,
+                    end: at,
+                    flaw: Flaw::Syntax,
                 });
             }
             Lexeme::End { at } => {
                 // a text that only begins a program is refused at its end
                 return reader.finish(alloc).ok_or(LangFault::Program {
                     at,
-                    why: Why::Syntax,
+                    end: at,
+                    flaw: Flaw::Syntax,
                 });
             }
         }
     }
+}
+
+/// Law: a text is refused at one place at most, with one end and for one cause.
+pub fn one_refusal()
+    ensures { (text : List ℕ) (at end at2 end2 : ℕ) (cause cause2 : Cause) → IsRefusedProgram text at end cause
+        → IsRefusedProgram text at2 end2 cause2 → (at ≡ at2) × (end ≡ end2) × (cause ≡ cause2) }
+{
+    one_lexeme();
+    some_lexeme();
 }
 
 /// Law: a text has at most one reading.

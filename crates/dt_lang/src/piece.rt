@@ -1,11 +1,12 @@
 //! What stands at the front of a text at which no blanks stand.
 ghost use Rattle.std.specs.Prelude.{◌≡◌, ℕ, ◌<◌, List, length};
 ghost use Rattle.std.specs.List.{take_while};
-ghost use Rattle.dt_lang.specs.Class.{is_text_byte};
+ghost use Rattle.dt_lang.specs.Class.{is_string_byte};
 ghost use Rattle.dt_lang.specs.Lexeme.{Stands};
-ghost use Rattle.dt_lang.specs.Piece.{start_of, identifier_at, FindsWord, NumberOf, text_piece, aggregation_read, FindsSign, FindsInBody, FindsInHead, opens_comment};
+ghost use Rattle.dt_lang.specs.machine.Piece.{start_of, identifier_at, FindsWord, NumberOf, string_piece, aggregation_read, FindsSign, FindsInBody, FindsInHead, opens_comment};
 
 use crate::class::Class;
+use crate::fault::Limit;
 use crate::mode::Mode;
 use crate::number::value_of;
 use crate::sign::{sign_at, spelling};
@@ -19,8 +20,8 @@ use dt_program::Description;
 pub(crate) enum Piece {
     /// A token of so many bytes.
     Token { token: Token, size: usize },
-    /// A text or an aggregation's name that is too long.
-    Overlong,
+    /// A string or an aggregation's name that is too long, of so many bytes.
+    Overlong { limit: Limit, size: usize },
     /// Bytes that are no token.
     Stray,
     /// Nothing more.
@@ -98,7 +99,7 @@ fn in_body(text: &[u8]) -> Piece
     match Start::of(text[0]) {
         Start::Letter => identifier(text),
         Start::Digit => number(Class::Word.run(text)),
-        Start::Quote => short_text(&text[1..]),
+        Start::Quote => string(&text[1..]),
         Start::At => aggregation(&text[1..]),
         Start::Other => sign(text),
     }
@@ -146,15 +147,18 @@ fn number(run: &[u8]) -> Piece
     }
 }
 
-/// A text, behind its opening `"`.
-fn short_text(rest: &[u8]) -> Piece
-    ensures { result ≡ text_piece (take_while is_text_byte rest.now) rest.now }
+/// A string, behind its opening `"`.
+fn string(rest: &[u8]) -> Piece
+    ensures { result ≡ string_piece (take_while is_string_byte rest.now) rest.now }
 {
-    let bytes = Class::Text.run(rest);
+    let bytes = Class::String.run(rest);
     match ShortText::new(bytes) {
-        None => Piece::Overlong,
+        None => Piece::Overlong {
+            limit: Limit::StringBytes,
+            size: bytes.len() + 1,
+        },
         Some(text) if rest.get(bytes.len()) == Some(&b'"') => Piece::Token {
-            token: Token::Text(text),
+            token: Token::String(text),
             size: bytes.len() + 2,
         },
         Some(_) => Piece::Stray,
@@ -167,7 +171,10 @@ fn aggregation(rest: &[u8]) -> Piece
 {
     let name = identifier_at(rest);
     match ShortText::new(name) {
-        None => Piece::Overlong,
+        None => Piece::Overlong {
+            limit: Limit::NameBytes,
+            size: name.len() + 1,
+        },
         Some(text) => Piece::Token {
             token: Token::Aggregation(text),
             size: name.len() + 1,

@@ -1,12 +1,13 @@
 //! Where in a program the last token that was read stands, and what of a statement was read up to there.
 ghost use Rattle.std.specs.Prelude.{◌≡◌, ◌≤◌, option_map, vec_len};
 ghost use Rattle.dt_expr.specs.Form.{form_of};
-ghost use Rattle.dt_lang.specs.Cause.{full, keys_full};
+ghost use Rattle.dt_lang.specs.machine.Cause.{keys_full, limit_within};
 ghost use Rattle.dt_lang.specs.Grammar.{call_of};
-ghost use Rattle.dt_lang.specs.PlaceView.{key_forms, slot_form};
+ghost use Rattle.dt_lang.specs.machine.PlaceView.{key_forms, slot_form};
 ghost use Rattle.dt_program.specs.Clause.{aggregate, form_of_call, form_of_statement};
 ghost use Rattle.dt_lang.specs.Stand.{divides_in};
 
+use crate::fault::Limit;
 use crate::word::{Action, Function};
 use dt_expr::Expr;
 use dt_names::ShortText;
@@ -56,11 +57,17 @@ impl Slot {
         !matches!(self, Slot::Predicate)
     }
 
-    /// Whether a further token would be one too many, or the first of one key too many.
-    pub(crate) fn is_full(&self, count: usize) -> bool
-        ensures { result ≡ full (slot_form self.now) count }
+    /// The limit that a further token would pass: it is one too many, or the first of one key too many.
+    pub(crate) fn limit_within(&self, count: usize) -> Option<Limit>
+        ensures { result ≡ limit_within (slot_form self.now) count }
     {
-        count >= TOKENS_MAX || (count == 0 && self.keys_are_full())
+        if count >= TOKENS_MAX {
+            Some(Limit::Tokens)
+        } else if count == 0 && self.keys_are_full() {
+            Some(Limit::Keys)
+        } else {
+            None
+        }
     }
 
     /// Whether a further key would be one too many.
@@ -102,13 +109,13 @@ pub(crate) enum Place {
     /// The `/` that ends the predicate.
     Guarded,
     /// The `{` or a `;`: a statement may begin.
-    Begins,
+    BeforeStatement,
     /// The end of a statement.
-    Ends,
+    AfterStatement,
     /// An action's name.
     Called(Action),
     /// The `(` of `stack`, or of `ustack`, which records frames of the process.
-    Framed { process: bool },
+    StackOpened { process: bool },
     /// All of a statement but its `)`.
     Closing(Statement),
     /// An aggregation's name.

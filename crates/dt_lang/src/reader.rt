@@ -1,21 +1,22 @@
 //! The reader of programs: a token at a time.
 ghost use Rattle.std.specs.Prelude.{◌≡◌, ◌≤◌, ◌<◌, IfOk, None, Some, false, if◌then◌else◌, not, option_map, length, List, [], ◌∷◌, ◌++◌, vec_len};
 ghost use Rattle.dt_expr.specs.Form.{form_of};
-ghost use Rattle.dt_lang.specs.ClauseState.{ProgramState, step, body, bounded, bounding, from_bounded, ended, entered, finished, from_applied, from_assigned, from_begins, from_bounding, from_called, from_closing, from_described, from_ends, from_framed, from_guarded, from_keyed, from_listed, from_named, from_negating, from_outside, function_given, headed, opened, outside, shut, shut_key, shut_predicate, shut_value, program_at, program_start, from_within};
-ghost use Rattle.dt_lang.specs.Cause.{are_bounds, out_of_range_at, takes_token, too_long_at};
-ghost use Rattle.dt_lang.specs.EarlyCause.{AnswersToken, Outcome, cause_of_refusal, early_at};
-ghost use Rattle.dt_lang.specs.Fits.{Fits, FitsClause, FitsWithin, SlotHasRoom};
-ghost use Rattle.dt_lang.specs.ExpressionView.{state_of};
-ghost use Rattle.dt_lang.specs.PlaceView.{bound_of, key_forms, place_form, slot_form};
+ghost use Rattle.dt_lang.specs.machine.ClauseState.{ProgramState, step, body, bounded, bounding, from_bounded, ended, entered, finished, from_applied, from_assigned, from_before_statement, from_bounding, from_called, from_closing, from_described, from_after_statement, from_stack_opened, from_guarded, from_keyed, from_listed, from_named, from_negating, from_outside, function_given, headed, after_call, outside, shut, shut_key, shut_predicate, shut_value, program_at, program_start, from_within};
+ghost use Rattle.dt_lang.specs.machine.Cause.{out_of_range_at, is_one_more, too_long_at};
+ghost use Rattle.dt_lang.specs.machine.ShownCause.{AnswersToken, Outcome, cause_of_refusal, shown_at};
+ghost use Rattle.dt_lang.specs.machine.Fits.{Fits, FitsClause, FitsWithin, SlotHasRoom};
+ghost use Rattle.dt_lang.specs.machine.ExpressionView.{state_of};
+ghost use Rattle.dt_lang.specs.machine.PlaceView.{bound_of, key_forms, place_form, slot_form};
 ghost use Rattle.dt_program.specs.Clause.{aggregate, form_of_argument, lquantize, form_of_clause, form_of_statement, number};
 ghost use Rattle.dt_program.specs.Program.{form_of_program};
-ghost use Rattle.dt_lang.specs.ReaderView.{Leads, clause_of, clauses_of, program_state_of};
+ghost use Rattle.dt_lang.specs.machine.ReaderView.{Leads, clause_of, clauses_of, program_state_of};
+ghost use Rattle.dt_program.specs.Bounds.{bounds_fault};
 ghost use Rattle.dt_program.specs.declared.clause.TheConstants.{DESCRIPTIONS_MAX, KEYS_MAX, STATEMENTS_MAX};
 
-use crate::early_cause::{early_assigned, early_begins, early_elsewhere, early_operand};
 use crate::expression::ExpressionReader;
-use crate::fault::{Refusal, Why};
+use crate::fault::{Flaw, Limit, Refusal};
 use crate::place::{Bound, Levels, Place, Slot, Target, call_of};
+use crate::shown_cause::{shown_assigned, shown_before_statement, shown_elsewhere, shown_operand};
 use crate::token::{Sign, Token};
 use crate::word::{Action, Function, Word};
 use dt_expr::Expr;
@@ -66,21 +67,21 @@ impl ProgramReader {
             (program_state_of self.new)) }
     {
         // of the causes of one token TooLong goes before all others
-        if self.exceeds(alloc, &token)? {
-            return Ok(Some(Refusal::Why(Why::TooLong)));
+        if let Some(limit) = self.exceeds(alloc, &token)? {
+            return Ok(Some(Refusal::Flaw(Flaw::TooLong(limit))));
         }
         // next come the causes that the token shows at its place: they go before Range and Syntax
-        if let Some(refusal) = self.early(&token) {
+        if let Some(refusal) = self.shown(&token) {
             return Ok(Some(refusal));
         }
         match self.step(alloc, token)? {
-            Some(why) => Ok(Some(Refusal::Why(why))),
+            Some(flaw) => Ok(Some(Refusal::Flaw(flaw))),
             None => Ok(None),
         }
     }
 
     /// The program that was read, where it is whole.
-    #[tactic(auto, unfolding(crate::specs::ClauseState::finished))]
+    #[tactic(auto, unfolding(crate::specs::machine::ClauseState::finished))]
     pub(crate) fn finish(&mut self, alloc: Global) -> Option<Program>
         requires { Fits (program_state_of self.old) }
         ensures { option_map form_of_program result ≡ finished (program_state_of self.old) }
@@ -107,7 +108,7 @@ impl ProgramReader {
             ≡ ended (clauses_of self.old) (clause_of self.old) (form_of_statement statement)) }
     {
         self.statements.push(statement)?;
-        self.place = Place::Ends;
+        self.place = Place::AfterStatement;
         Ok(())
     }
 
@@ -132,7 +133,7 @@ impl ProgramReader {
         ensures { IfOk result (λ on. Leads (from_outside (clauses_of self.old) token) on (program_state_of self.new)) }
     {
         match token {
-            Token::Description(Some(description)) => {
+            Token::Description(Ok(description)) => {
                 let mut descriptions = Vec::new(alloc);
                 descriptions.push(description)?;
                 self.descriptions = descriptions;
@@ -160,7 +161,7 @@ impl ProgramReader {
                 true
             }
             Token::Sign(Sign::OpenBrace) => {
-                self.place = Place::Begins;
+                self.place = Place::BeforeStatement;
                 true
             }
             _ => false,
@@ -173,7 +174,7 @@ impl ProgramReader {
             (program_state_of self.new)) }
     {
         match token {
-            Token::Description(Some(description)) => {
+            Token::Description(Ok(description)) => {
                 self.descriptions.push(description)?;
                 self.place = Place::Described;
                 Ok(true)
@@ -189,7 +190,7 @@ impl ProgramReader {
     {
         match token {
             Token::Sign(Sign::OpenBrace) => {
-                self.place = Place::Begins;
+                self.place = Place::BeforeStatement;
                 true
             }
             _ => false,
@@ -197,13 +198,13 @@ impl ProgramReader {
     }
 
     /// Reads a token where a statement may begin.
-    fn from_begins(&mut self, alloc: Global, token: &Token) -> Result<bool, AllocError>
+    fn from_before_statement(&mut self, alloc: Global, token: &Token) -> Result<bool, AllocError>
         requires { FitsClause (clauses_of self.old) (clause_of self.old) }
-        ensures { IfOk result (λ on. Leads (from_begins (clauses_of self.old) (clause_of self.old) token.now) on
+        ensures { IfOk result (λ on. Leads (from_before_statement (clauses_of self.old) (clause_of self.old) token.now) on
             (program_state_of self.new)) }
     {
         match token {
-            Token::Sign(Sign::Semicolon) => self.place = Place::Begins,
+            Token::Sign(Sign::Semicolon) => self.place = Place::BeforeStatement,
             Token::Sign(Sign::CloseBrace) => self.end_clause(alloc)?,
             Token::Word(Word::Action(action)) => self.place = Place::Called(*action),
             Token::Aggregation(name) => self.place = Place::Named(*name),
@@ -214,13 +215,13 @@ impl ProgramReader {
     }
 
     /// Reads a token behind a statement.
-    fn from_ends(&mut self, alloc: Global, token: &Token) -> Result<bool, AllocError>
+    fn from_after_statement(&mut self, alloc: Global, token: &Token) -> Result<bool, AllocError>
         requires { FitsClause (clauses_of self.old) (clause_of self.old) }
-        ensures { IfOk result (λ on. Leads (from_ends (clauses_of self.old) (clause_of self.old) token.now) on
+        ensures { IfOk result (λ on. Leads (from_after_statement (clauses_of self.old) (clause_of self.old) token.now) on
             (program_state_of self.new)) }
     {
         match token {
-            Token::Sign(Sign::Semicolon) => self.place = Place::Begins,
+            Token::Sign(Sign::Semicolon) => self.place = Place::BeforeStatement,
             Token::Sign(Sign::CloseBrace) => self.end_clause(alloc)?,
             // after a statement stands a `;` or the clause's end
             _ => return Ok(false),
@@ -238,8 +239,8 @@ impl ProgramReader {
                 match action {
                     Action::Trace => self.enter(Slot::Traced),
                     Action::Exit => self.enter(Slot::Exited),
-                    Action::Stack => self.place = Place::Framed { process: false },
-                    Action::Ustack => self.place = Place::Framed { process: true },
+                    Action::Stack => self.place = Place::StackOpened { process: false },
+                    Action::Ustack => self.place = Place::StackOpened { process: true },
                 }
                 true
             }
@@ -248,8 +249,8 @@ impl ProgramReader {
     }
 
     /// Reads a token behind the `(` of an action that records frames of a stack.
-    fn from_framed(&mut self, process: bool, token: &Token) -> bool
-        ensures { Leads (from_framed (clauses_of self.old) (clause_of self.old) process token.now) result
+    fn from_stack_opened(&mut self, process: bool, token: &Token) -> bool
+        ensures { Leads (from_stack_opened (clauses_of self.old) (clause_of self.old) process token.now) result
             (program_state_of self.new) }
     {
         // how many frames is written as a number, and is no expression
@@ -513,14 +514,14 @@ impl ProgramReader {
         levels: Levels,
         last: i64,
         token: &Token,
-    ) -> Result<Option<Why>, AllocError>
+    ) -> Result<Option<Flaw>, AllocError>
         requires { vec_len levels.target.keys ≤ KEYS_MAX }
         // goes on, or is refused: for Range where bounds of an `lquantize` make no levels, else Syntax
-        ensures { IfOk result (λ why. Outcome
+        ensures { IfOk result (λ flaw. Outcome
             (from_bounded (clauses_of self.old) (clause_of self.old) levels.target.name (key_forms levels.target)
             (form_of levels.value) (bound_of levels.bound) last token.now)
             (out_of_range_at (bounded levels.target.name (key_forms levels.target) (form_of levels.value)
-            (bound_of levels.bound) last) token.now) why (program_state_of self.new)) }
+            (bound_of levels.bound) last) token.now) flaw (program_state_of self.new)) }
     {
         let Levels {
             target,
@@ -542,7 +543,7 @@ impl ProgramReader {
             (Bound::Step { lower, upper }, Token::Sign(Sign::CloseParen)) => {
                 self.end_levels(target, value, lower, upper, last)
             }
-            _ => Ok(Some(Why::Syntax)),
+            _ => Ok(Some(Flaw::Syntax)),
         }
     }
 
@@ -566,47 +567,57 @@ impl ProgramReader {
         lower: i64,
         upper: i64,
         step: i64,
-    ) -> Result<Option<Why>, AllocError>
+    ) -> Result<Option<Flaw>, AllocError>
         requires { vec_len target.keys ≤ KEYS_MAX }
-        ensures { IfOk result (λ why. Outcome
+        ensures { IfOk result (λ flaw. Outcome
             (Some (ended (clauses_of self.old) (clause_of self.old)
             (aggregate target.name (key_forms target) (lquantize (form_of value) lower upper step))))
-            (not (are_bounds lower upper step)) why (program_state_of self.new)) }
+            (bounds_fault lower upper step) flaw (program_state_of self.new)) }
     {
         match Bounds::new(lower, upper, step) {
-            Some(bounds) => {
+            Ok(bounds) => {
                 self.end_statement(target.aggregate(Call::Lquantize(value, bounds)))?;
                 Ok(None)
             }
-            None => Ok(Some(Why::Range)),
+            Err(fault) => Ok(Some(Flaw::Range(fault))),
         }
     }
 
-    /// Whether a token is the first of one thing more than there may be, or one token too many. If it isn't, nothing is
-    /// changed.
-    fn exceeds(&mut self, alloc: Global, token: &Token) -> Result<bool, AllocError>
+    /// The limit that a token passes, as the first of one thing more than there may be, or as one token too many. If it
+    /// passes none, nothing is changed.
+    fn exceeds(&mut self, alloc: Global, token: &Token) -> Result<Option<Limit>, AllocError>
         ensures told { IfOk result (λ over.
             too_long_at (clauses_of self.old) (clause_of self.old)
             (place_form (state_of self.old.expression) self.old.place) token.now ≡ over) }
-        ensures kept { IfOk result (λ over. over ≡ false
+        ensures kept { IfOk result (λ over. over ≡ None
             → program_state_of self.new ≡ program_state_of self.old) }
     {
         match &self.place {
-            Place::Outside => Ok(token.is_description() && self.clauses.len() >= CLAUSES_MAX),
-            Place::Listed => {
-                Ok(token.is_description() && self.descriptions.len() >= DESCRIPTIONS_MAX)
+            Place::Outside if token.is_description() && self.clauses.len() >= CLAUSES_MAX => {
+                Ok(Some(Limit::Clauses))
             }
-            Place::Begins => {
-                Ok(self.statements.len() >= STATEMENTS_MAX && token.is_for_statement())
+            Place::Listed
+                if token.is_description() && self.descriptions.len() >= DESCRIPTIONS_MAX => {
+                Ok(Some(Limit::Descriptions))
             }
-            Place::Within { slot, count } if slot.is_full(*count) => self.takes(alloc, token),
-            _ => Ok(false),
+            Place::BeforeStatement
+                if self.statements.len() >= STATEMENTS_MAX && token.is_for_statement() => {
+                Ok(Some(Limit::Statements))
+            }
+            Place::Within { slot, count } => match slot.limit_within(*count) {
+                Some(limit) => {
+                    let over = self.is_one_more(alloc, token)?;
+                    Ok(if over { Some(limit) } else { None })
+                }
+                None => Ok(None),
+            },
+            _ => Ok(None),
         }
     }
 
     /// Whether a token is one more of what is read for a slot. If it isn't, nothing is changed.
-    fn takes(&mut self, alloc: Global, token: &Token) -> Result<bool, AllocError>
-        ensures told { IfOk result (λ on. takes_token (state_of self.old.expression) token.now ≡ on) }
+    fn is_one_more(&mut self, alloc: Global, token: &Token) -> Result<bool, AllocError>
+        ensures told { IfOk result (λ on. is_one_more (state_of self.old.expression) token.now ≡ on) }
         ensures kept { IfOk result (λ on. on ≡ false → program_state_of self.new ≡ program_state_of self.old) }
     {
         let wants = self.expression.wants_operand();
@@ -615,24 +626,24 @@ impl ProgramReader {
     }
 
     /// The cause that a token shows at its place, before it is known whether it goes on.
-    fn early(&self, token: &Token) -> Option<Refusal>
+    fn shown(&self, token: &Token) -> Option<Refusal>
         ensures { option_map cause_of_refusal result
-            ≡ early_at (place_form (state_of self.now.expression) self.now.place) token.now }
+            ≡ shown_at (place_form (state_of self.now.expression) self.now.place) token.now }
     {
         match &self.place {
-            Place::Begins => early_begins(token),
-            Place::Assigned(_) => early_assigned(token),
-            Place::Within { .. } if self.expression.wants_operand() => early_operand(token),
-            _ => early_elsewhere(token),
+            Place::BeforeStatement => shown_before_statement(token),
+            Place::Assigned(_) => shown_assigned(token),
+            Place::Within { .. } if self.expression.wants_operand() => shown_operand(token),
+            _ => shown_elsewhere(token),
         }
     }
 
     /// Reads a token that is not one too many and shows no cause at its place; or says why it is refused.
-    #[tactic(auto, unfolding(crate::specs::ClauseState::step))]
-    fn step(&mut self, alloc: Global, token: Token) -> Result<Option<Why>, AllocError>
+    #[tactic(auto, unfolding(crate::specs::machine::ClauseState::step))]
+    fn step(&mut self, alloc: Global, token: Token) -> Result<Option<Flaw>, AllocError>
         requires { Fits (program_state_of self.old) }
-        ensures { IfOk result (λ why. Outcome (step (program_state_of self.old) token)
-            (out_of_range_at (place_form (state_of self.old.expression) self.old.place) token) why
+        ensures { IfOk result (λ flaw. Outcome (step (program_state_of self.old) token)
+            (out_of_range_at (place_form (state_of self.old.expression) self.old.place) token) flaw
             (program_state_of self.new)) }
     {
         match mem::replace(&mut self.place, Place::Outside) {
@@ -640,10 +651,12 @@ impl ProgramReader {
             Place::Described => Ok(stuck_unless(self.from_described(&token))),
             Place::Listed => Ok(stuck_unless(self.from_listed(token)?)),
             Place::Guarded => Ok(stuck_unless(self.from_guarded(&token))),
-            Place::Begins => Ok(stuck_unless(self.from_begins(alloc, &token)?)),
-            Place::Ends => Ok(stuck_unless(self.from_ends(alloc, &token)?)),
+            Place::BeforeStatement => Ok(stuck_unless(self.from_before_statement(alloc, &token)?)),
+            Place::AfterStatement => Ok(stuck_unless(self.from_after_statement(alloc, &token)?)),
             Place::Called(action) => Ok(stuck_unless(self.from_called(action, &token))),
-            Place::Framed { process } => Ok(stuck_unless(self.from_framed(process, &token))),
+            Place::StackOpened { process } => Ok(stuck_unless(self.from_stack_opened(
+                process, &token,
+            ))),
             Place::Closing(statement) => Ok(stuck_unless(self.from_closing(statement, &token)?)),
             Place::Named(name) => Ok(stuck_unless(self.from_named(alloc, name, &token))),
             Place::Keyed(target) => Ok(stuck_unless(self.from_keyed(target, &token))),
@@ -662,8 +675,8 @@ impl ProgramReader {
 }
 
 /// The cause for which a token is refused that doesn't go on.
-fn stuck_unless(on: bool) -> Option<Why>
-    ensures { result ≡ (if on then None else Some Why.Syntax) }
+fn stuck_unless(on: bool) -> Option<Flaw>
+    ensures { result ≡ (if on then None else Some Flaw.Syntax) }
 {
-    if on { None } else { Some(Why::Syntax) }
+    if on { None } else { Some(Flaw::Syntax) }
 }

@@ -1,7 +1,7 @@
 //! How signs are written.
 ghost use Rattle.std.specs.Prelude.{◌≡◌, ℕ, IfSome, IfNone};
 ghost use Rattle.std.specs.List.{All, Contains};
-ghost use Rattle.dt_lang.specs.Piece.{IsSignAt, BeginsWith};
+ghost use Rattle.dt_lang.specs.machine.Piece.{IsSignAt, BeginsWith};
 ghost use Rattle.dt_lang.specs.Spelling.{spelling};
 ghost use Rattle.dt_lang.specs.declared.token.Sign.{Sign};
 

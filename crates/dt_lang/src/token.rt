@@ -1,11 +1,11 @@
 //! The tokens of the clause language.
 ghost use Rattle.std.specs.Prelude.{◌≡◌};
-ghost use Rattle.dt_lang.specs.Cause.{is_description, is_for_statement};
-ghost use Rattle.dt_lang.specs.ExpressionState.{is_operand};
+ghost use Rattle.dt_lang.specs.machine.Cause.{is_description, is_for_statement};
+ghost use Rattle.dt_lang.specs.machine.ExpressionState.{is_operand};
 
 use crate::word::Word;
 use dt_names::ShortText;
-use dt_program::Description;
+use dt_program::{Description, DescriptionFault};
 
 /// A sign of the language. (illumos Dynamic Tracing Guide, "Types, Operators and Expressions" and "Program Structure".)
 #[derive(Clone, Copy, Debug, PartialEq, Eq)]
@@ -75,14 +75,14 @@ pub enum Sign {
 /// A token of the language.
 #[derive(Drop)]
 pub enum Token {
-    /// A run of name bytes and colons in a head: the description that it is read as, or `None` where it is none.
-    Description(Option<Description>),
+    /// A run of name bytes and colons in a head: the description that it is read as, or why it is none.
+    Description(Result<Description, DescriptionFault>),
     /// An identifier.
     Word(Word),
     /// A number: the signed representative of 64 bits of what is written.
     Number(i64),
-    /// A text of at most 31 bytes.
-    Text(ShortText),
+    /// A string of at most 31 bytes.
+    String(ShortText),
     /// `@` and an aggregation's name of at most 31 bytes, which may be empty.
     Aggregation(ShortText),
     /// A sign.
@@ -104,10 +104,10 @@ impl Token {
         matches!(self, Token::Word(_) | Token::Aggregation(_))
     }
 
-    /// Whether this is an identifier, a number or a text: what is taken for an operand.
+    /// Whether this is an identifier, a number or a string: what is taken for an operand.
     pub(crate) fn is_operand(&self) -> bool
         ensures { result ≡ is_operand self.now }
     {
-        matches!(self, Token::Word(_) | Token::Number(_) | Token::Text(_))
+        matches!(self, Token::Word(_) | Token::Number(_) | Token::String(_))
     }
 }

@@ -2,9 +2,13 @@
 use mir.Syntax.{w128}
 use mir.Val.{SFits}
 use Rattle.std.proofs.Common.{◌≡◌, ℕ, ◌<◌, ◌^◌, ◌/◌, negsuc, div-le_self, true, false, ℤ, pos, to_z, of_z, int_lt}
-use Rattle.std.proofs.Common.{int_le, int_div, int_rem, sym, ap, ◌∙◌, arith}
+use Rattle.std.proofs.Common.{int_le, int_div, int_rem, ◌-ℤ◌, Bool, Some, refl, sym, ap, ◌∙◌, arith}
+use Rattle.std.specs.Ordering.{int_eq}
+use Rattle.std.proofs.lemmas.Bool.Decides.{Decides-int_eq}
 use Rattle.std.proofs.lemmas.Int.{ints, to_z-of_z}
 use Rattle.std.specs.Int.Signed.{mag, mag_rem, rem_z, quot_z}
+use Rattle.dt_program.specs.Bounds.{bounds_fault}
+use Rattle.dt_program.specs.declared.clause.BoundsFault.TheVariants.{Uneven, TooMany}
 
 pub no_rest : (width by : ℤ) → mag width < 2 ^ 127 → of_z w128 (rem_z width by) ≡ 0 → int_rem width by ≡ pos 0
 no_rest width by h e =
@@ -31,3 +35,26 @@ same_quotient (negsuc a) by p q h = absurd (grind (arith, ints))
 
 pub not_above : (z : ℤ) → int_lt (pos 512) z ≡ false → int_le z (pos 512) ≡ true
 not_above z h = grind (arith, ints)
+
+pub above : (z : ℤ) → int_lt (pos 512) z ≡ true → int_le z (pos 512) ≡ false
+above z h = grind (arith, ints)
+
+false_where_not : (b : Bool) → (b ≡ true → ⊥) → b ≡ false
+false_where_not true n = absurd (n refl)
+false_where_not false n = refl
+
+-- the rule that bounds break which rise by a step
+module _ (lower upper step : ℤ) (rising : int_lt lower upper ≡ true) (forward : int_lt (pos 0) step ≡ true) where
+  pub are_uneven : (of_z w128 (rem_z (upper -ℤ lower) step) ≡ 0 → ⊥) → bounds_fault lower upper step ≡ Some Uneven
+  are_uneven rest =
+      let test = Decides-int_eq (int_rem (upper -ℤ lower) step) (pos 0) in
+      let uneven : int_eq (int_rem (upper -ℤ lower) step) (pos 0) ≡ false =
+      false_where_not _ (λ e. rest (some_rest (upper -ℤ lower) step (test.0 e))) in
+      rw (rising, forward, uneven) refl
+
+  pub are_too_many : int_rem (upper -ℤ lower) step ≡ pos 0
+      → int_le (int_div (upper -ℤ lower) step) (pos 512) ≡ false → bounds_fault lower upper step ≡ Some TooMany
+  are_too_many even many =
+      let test : int_eq (int_rem (upper -ℤ lower) step) (pos 0) ≡ true =
+      (Decides-int_eq (int_rem (upper -ℤ lower) step) (pos 0)).1 even in
+      rw (rising, forward, test, many) refl

@@ -1,11 +1,12 @@
 //! What a program is made of: clauses with their descriptions, predicate and statements.
-ghost use Rattle.std.specs.Prelude.{◌≡◌, ◌≤◌, ℕ, IfNone, IfSome, pos, vec_len};
-ghost use Rattle.dt_program.specs.Bounds.{AreBounds};
+ghost use Rattle.std.specs.Prelude.{◌≡◌, ◌≤◌, ℕ, IfErr, IfNone, IfOk, IfSome, None, OnOk, Some, pos, vec_len};
+ghost use Rattle.dt_program.specs.Bounds.{AreBounds, bounds_fault};
 ghost use Rattle.dt_program.specs.declared.clause.TheConstants.{DESCRIPTIONS_MAX, STATEMENTS_MAX, KEYS_MAX, FRAMES_MAX};
 
 use crate::description::Description;
 use dt_expr::{Expr, Text};
 use dt_names::ShortText;
+use thiserror::Error;
 
 /// The most descriptions of a clause.
 pub const DESCRIPTIONS_MAX: usize = 16;
@@ -47,28 +48,48 @@ pub struct Bounds {
     pub ghost right: { AreBounds lower upper step },
 }
 
+/// Why numbers are no bounds of levels: the first rule that they break.
+#[derive(Clone, Copy, Debug, PartialEq, Eq, Error)]
+pub enum BoundsFault {
+    /// The lower bound isn't below the upper one.
+    #[error("the lower bound is not below the upper one")]
+    NotRising,
+    /// The step is 0 or negative.
+    #[error("the step is not above 0")]
+    NoStep,
+    /// The last level would not end at the upper bound.
+    #[error("the step does not divide the range")]
+    Uneven,
+    /// There would be more than [`LEVELS_MAX`] levels.
+    #[error("more than 512 levels")]
+    TooMany,
+}
+
 impl Bounds {
-    /// The levels with these bounds, where there are some and not too many.
-    pub fn new(lower: i64, upper: i64, step: i64) -> Option<Self>
-        ensures found { IfSome result (λ bounds. (bounds.lower ≡ lower) × (bounds.upper ≡ upper)
+    /// The levels with these bounds, where there are some and not too many; else the first rule that they break.
+    pub fn new(lower: i64, upper: i64, step: i64) -> Result<Self, BoundsFault>
+        ensures found { IfOk result (λ bounds. (bounds.lower ≡ lower) × (bounds.upper ≡ upper)
             × (bounds.step ≡ step)) }
-        ensures none { IfNone result (AreBounds lower upper step → ⊥) }
+        ensures right { OnOk result (bounds_fault lower upper step ≡ None) }
+        ensures fault { IfErr result (λ fault. bounds_fault lower upper step ≡ Some fault) }
     {
-        // no level rises from the lower bound to the upper one
-        if lower >= upper || step <= 0 {
-            return None;
+        if lower >= upper {
+            return Err(BoundsFault::NotRising);
+        }
+        if step <= 0 {
+            return Err(BoundsFault::NoStep);
         }
         let width = i128::from(upper) - i128::from(lower);
         let each = i128::from(step);
         // the levels must end exactly at the upper bound
         if width % each != 0 {
-            return None;
+            return Err(BoundsFault::Uneven);
         }
         // each level is a word of every entry, so there may not be too many
         if width / each > i128::from(LEVELS_MAX) {
-            return None;
+            return Err(BoundsFault::TooMany);
         }
-        Some(Bounds { lower, upper, step })
+        Ok(Bounds { lower, upper, step })
     }
 }
 

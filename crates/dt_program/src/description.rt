@@ -1,11 +1,12 @@
 //! Descriptions whose fields are patterns.
-ghost use Rattle.std.specs.Prelude.{◌≡◌, ℕ, ◌≤◌, List, Option, length, IfSome, IfNone};
-ghost use Rattle.dt_glob.specs.PatternItem.{PatternItem};
+ghost use Rattle.std.specs.Prelude.{◌≡◌, ℕ, ◌≤◌, List, Result, length, IfErr, IfOk};
 ghost use Rattle.dt_glob.specs.Spells.{Spells};
-ghost use Rattle.dt_program.specs.Description.{DescForm, form_of_description, DescribesPatterns, ReadsDescription};
+ghost use Rattle.dt_program.specs.Description.{DescForm, form_of_description, DescribesPatterns, IsDescriptionFault, IsPatternFault, ReadsDescription};
+ghost use Rattle.dt_program.specs.declared.description.DescriptionFault.{DescriptionFault};
 
-use dt_glob::{PATTERN_MAX, Pattern};
-use dt_names::ProbeDesc;
+use dt_glob::{GlobFault, PATTERN_MAX, Pattern};
+use dt_names::{NameFault, ProbeDesc};
+use thiserror::Error;
 
 /// Which probes are meant: the patterns of four fields. The pattern of an empty field asks for nothing. (illumos Dynamic
 /// Tracing Guide, "Program Structure".)
@@ -17,23 +18,34 @@ pub struct Description {
     pub name: Pattern,
 }
 
+/// Why a text is no description of patterns.
+#[derive(Clone, Copy, Debug, PartialEq, Eq, Error)]
+pub enum DescriptionFault {
+    /// It isn't one to four fields of name bytes: its first fault.
+    #[error("{0}")]
+    Fields(NameFault),
+    /// A field is no pattern: the fault of the first such field from the left.
+    #[error("{0}")]
+    Pattern(GlobFault),
+}
+
 impl Description {
     /// Reads a description: one to four fields with `:` between them, aligned from the right, each of them a pattern. Any
-    /// other text gives `None`. It takes no memory.
-    pub fn parse(text: &[u8]) -> Option<Self>
-        ensures found { IfSome result (λ description. DescribesPatterns text.now (form_of_description description)) }
-        ensures none { IfNone result ((form : DescForm) → DescribesPatterns text.now form → ⊥) }
+    /// other text is refused for its first fault: of its fields, or of the first field that is no pattern. It takes no
+    /// memory.
+    pub fn parse(text: &[u8]) -> Result<Self, DescriptionFault>
+        ensures found { IfOk result (λ description. DescribesPatterns text.now (form_of_description description)) }
+        ensures fault { IfErr result (IsDescriptionFault text.now) }
     {
-        dt_names::one_answer();
-        // which fault it is isn't told: a text that is no description is refused as Probe
-        let Ok(fields) = ProbeDesc::parse(text) else {
-            return None;
+        let fields = match ProbeDesc::parse(text) {
+            Ok(fields) => fields,
+            Err(fault) => return Err(DescriptionFault::Fields(fault)),
         };
         let provider = pattern_of(fields.provider)?;
         let module = pattern_of(fields.module)?;
         let function = pattern_of(fields.function)?;
         let name = pattern_of(fields.name)?;
-        Some(Description {
+        Ok(Description {
             provider,
             module,
             function,
@@ -42,28 +54,25 @@ impl Description {
     }
 }
 
-/// The pattern of a field, where it is one.
-fn pattern_of(field: &[u8]) -> Option<Pattern>
+/// The pattern of a field, or why it is none.
+fn pattern_of(field: &[u8]) -> Result<Pattern, DescriptionFault>
     requires { length field.now ≤ PATTERN_MAX }
-    ensures found { IfSome result (Spells field.now) }
-    ensures none { IfNone result ((items : List PatternItem) → Spells field.now items → ⊥) }
+    ensures found { IfOk result (Spells field.now) }
+    ensures fault { IfErr result (IsPatternFault field.now) }
 {
-    dt_glob::one_answer();
     match Pattern::parse(field) {
-        Ok(pattern) => Some(pattern),
-        Err(_) => None,
+        Ok(pattern) => Ok(pattern),
+        Err(fault) => Err(DescriptionFault::Pattern(fault)),
     }
 }
 
-/// Law: a text is read as a description in one way at most.
+/// Law: a text is read as a description in one way at most, and has one first fault at most, never both.
 pub fn one_description()
-    ensures { (text : List ℕ) (a b : Option DescForm) → ReadsDescription text a → ReadsDescription text b → a ≡ b }
-{
-    dt_names::one_answer();
-    dt_glob::one_answer();
-}
+    ensures { (text : List ℕ) (a b : Result DescForm DescriptionFault) → ReadsDescription text a
+        → ReadsDescription text b → a ≡ b }
+{}
 
-/// Law: each text is read as a description or as none.
+/// Law: each text is read as a description, or refused for its first fault.
 pub fn some_description()
-    ensures { (text : List ℕ) → (reading : Option DescForm) × ReadsDescription text reading }
+    ensures { (text : List ℕ) → (reading : Result DescForm DescriptionFault) × ReadsDescription text reading }
 {}

@@ -11,9 +11,9 @@ mod limit_laws;
 mod program;
 
 pub use clause::{
-    Aggregation, Argument, Bounds, Call, Clause, DESCRIPTIONS_MAX, FRAMES_MAX, Frames, KEYS_MAX,
-    LEVELS_MAX, STATEMENTS_MAX, Statement,
+    Aggregation, Argument, Bounds, BoundsFault, Call, Clause, DESCRIPTIONS_MAX, FRAMES_MAX, Frames,
+    KEYS_MAX, LEVELS_MAX, STATEMENTS_MAX, Statement,
 };
-pub use description::{Description, one_description, some_description};
+pub use description::{Description, DescriptionFault, one_description, some_description};
 pub use limit_laws::limits_agree;
 pub use program::{CLAUSES_MAX, Program, TOKENS_MAX};

@@ -8,11 +8,12 @@ use Rattle.std.proofs.lemmas.List.Folds.{length-prefix_len}
 use Rattle.std.specs.Char.{is_ascii_digit}
 use Rattle.std.specs.List.{take_while, prefix_len, AllPass}
 use Rattle.dt_names.specs.declared.short_text.TheConstants.{SHORT_TEXT_MAX}
-use Rattle.dt_lang.specs.Class.{is_word_byte, is_text_byte}
+use Rattle.dt_lang.specs.Class.{is_word_byte, is_string_byte}
 use Rattle.dt_lang.specs.Lexeme.{IsIdentifier, IsAggregationName, IsBodyToken, OPENING, IsBodyPiece}
-use Rattle.dt_lang.specs.Piece.{start_of, identifier_at, FindsWord, NumberOf, text_piece, aggregation_read, FindsSign}
-use Rattle.dt_lang.specs.Piece.{FindsAs, FindsInBody, opens_comment}
+use Rattle.dt_lang.specs.machine.Piece.{start_of, identifier_at, FindsWord, NumberOf, string_piece, aggregation_read, FindsSign}
+use Rattle.dt_lang.specs.machine.Piece.{FindsAs, FindsInBody, opens_comment}
 use Rattle.dt_lang.specs.Spelling.{spelling}
+use Rattle.dt_lang.specs.declared.fault.Limit.TheVariants.{StringBytes}
 use Rattle.dt_lang.specs.declared.piece.Piece.{Piece}
 use Rattle.dt_lang.specs.declared.piece.Piece.TheVariants as piece
 use Rattle.dt_lang.specs.declared.piece.Start.{Start}
@@ -79,7 +80,7 @@ number_piece : (run : List ℕ) (found : Piece) → run ≢ [] → is_ascii_digi
 number_piece run (piece.Token t size) some digit all (n, num, et, es) =
     (subst (IsBodyToken run) (sym et) (n, num, refl), es)
 number_piece run piece.Stray some digit all none = inr (record { some = some; begins = digit; all = all }, none)
-number_piece run piece.Overlong some digit all h = absurd h
+number_piece run (piece.Overlong limit size) some digit all h = absurd h
 number_piece run piece.End some digit all h = absurd h
 
 digit_top : (text : List ℕ) (found : Piece) → 0 < length text → Starts (get_or text 0 0) start.Digit
@@ -130,37 +131,41 @@ open_length front inside x e = let f = ap (λ (s : List ℕ). length s) e in ome
 -- the run behind a quote, and what the fronts with a text are to it
 module _ (text rest : List ℕ) (quote : text ≡ 34 ∷ rest) (fronts : FrontsFit start.Quote text) where
   quoted_run : List ℕ
-  quoted_run = take_while is_text_byte rest
+  quoted_run = take_while is_string_byte rest
 
-  closed_same : (inside behind front : List ℕ) (other : Piece) → AllPass is_text_byte inside
+  closed_same : (inside behind front : List ℕ) (other : Piece) → AllPass is_string_byte inside
       → text ≡ front ++ behind → Closed front inside other
       → (length quoted_run ≡ length inside) × (get_or rest (length quoted_run) 0 ≡ 34)
   unfolding quoted_run
   closed_same inside behind front other all cut c =
       let e = closed_behind rest inside behind text front quote cut c.cut in
-      let same = run_exactly is_text_byte rest inside 34 behind e all refl in (
+      let same = run_exactly is_string_byte rest inside 34 behind e all refl in (
         same,
         ap (λ n. get_or rest n 0) same ∙ ap (λ (t : List ℕ). get_or t (length inside) 0) e
             ∙ last_of inside 34 behind,
       )
 
-  open_least : (inside behind front : List ℕ) (other : Piece) → AllPass is_text_byte inside
+  open_least : (inside behind front : List ℕ) (other : Piece) → AllPass is_string_byte inside
       → text ≡ front ++ behind → Open front inside other → length inside ≤ length quoted_run
   unfolding quoted_run
   open_least inside behind front other all cut o =
-      run_at_least is_text_byte rest inside behind (open_behind rest inside behind text front quote cut o.cut) all
+      run_at_least is_string_byte rest inside behind (open_behind rest inside behind text front quote cut o.cut) all
 
-  overlong_top : SHORT_TEXT_MAX < length quoted_run → Top IsBodyPiece text piece.Overlong
+  overlong_top : SHORT_TEXT_MAX < length quoted_run
+      → Top IsBodyPiece text (piece.Overlong StringBytes (length quoted_run + 1))
   unfolding quoted_run
   overlong_top long = record {
-    bytes = 34 ∷ take_while is_text_byte rest;
-    rest = behind_run is_text_byte rest;
-    cut = quote ∙ ap (λ (r : List ℕ). 34 ∷ r) (run_cut is_text_byte rest);
-    is = record {
-      inside = take_while is_text_byte rest;
-      begins = inl (refl, run_passes is_text_byte rest);
-      long = long;
-    };
+    bytes = 34 ∷ take_while is_string_byte rest;
+    rest = behind_run is_string_byte rest;
+    cut = quote ∙ ap (λ (r : List ℕ). 34 ∷ r) (run_cut is_string_byte rest);
+    is = (
+      record {
+        inside = take_while is_string_byte rest;
+        begins = (refl, run_passes is_string_byte rest);
+        long = long;
+      },
+      omega arith,
+    );
     longest = λ front behind other cut p.
         let f = fronts front behind other cut p in
         elim f.2 [
@@ -176,24 +181,24 @@ module _ (text rest : List ℕ) (quote : text ≡ 34 ∷ rest) (fronts : FrontsF
   closing : get_or rest (length quoted_run) 0 ≡ 34 → (more : List ℕ) × (rest ≡ quoted_run ++ (34 ∷ more))
   unfolding quoted_run
   closing h =
-      let n = prefix_len is_text_byte rest in
-      let at : length (take_while is_text_byte rest) ≡ n = length-prefix_len is_text_byte rest in
+      let n = prefix_len is_string_byte rest in
+      let at : length (take_while is_string_byte rest) ≡ n = length-prefix_len is_string_byte rest in
       let byte : get_or rest n 0 ≡ 34 = ap (λ k. get_or rest k 0) (sym at) ∙ h in
       let more = begins_at rest n byte in
-      (more.0, run_cut is_text_byte rest ∙ ap (λ (t : List ℕ). take_while is_text_byte rest ++ t) more.1)
+      (more.0, run_cut is_string_byte rest ∙ ap (λ (t : List ℕ). take_while is_string_byte rest ++ t) more.1)
 
-  text_top : length quoted_run ≤ SHORT_TEXT_MAX → get_or rest (length quoted_run) 0 ≡ 34
-      → Top IsBodyPiece text (piece.Token (token.Text quoted_run) (length quoted_run + 2))
+  string_top : length quoted_run ≤ SHORT_TEXT_MAX → get_or rest (length quoted_run) 0 ≡ 34
+      → Top IsBodyPiece text (piece.Token (token.String quoted_run) (length quoted_run + 2))
   unfolding quoted_run
-  text_top short stop =
+  string_top short stop =
       let c = closing stop in
-      let inside = take_while is_text_byte rest in
+      let inside = take_while is_string_byte rest in
       record {
         bytes = 34 ∷ (inside ++ (34 ∷ []));
         rest = c.0;
         cut = quote ∙ ap (λ (r : List ℕ). 34 ∷ r) (c.1 ∙ sym (append_assoc inside (34 ∷ []) c.0));
         is = (
-          (refl, run_passes is_text_byte rest, short),
+          (refl, run_passes is_string_byte rest, short),
           sym (closed_length (34 ∷ (inside ++ (34 ∷ []))) inside refl),
         );
         longest = λ front behind other cut p.
@@ -209,9 +214,9 @@ module _ (text rest : List ℕ) (quote : text ≡ 34 ∷ rest) (fronts : FrontsF
             ];
       }
 
-  no_text : length quoted_run ≤ SHORT_TEXT_MAX → get_or rest (length quoted_run) 0 ≢ 34 → NoTop IsBodyPiece text
+  no_string : length quoted_run ≤ SHORT_TEXT_MAX → get_or rest (length quoted_run) 0 ≢ 34 → NoTop IsBodyPiece text
   unfolding quoted_run
-  no_text short stop front behind other cut p =
+  no_string short stop front behind other cut p =
       let f = fronts front behind other cut p in
       elim f.2 [
         | inl k ↦ stop (closed_same f.0 behind front other f.1 cut k).1
@@ -222,23 +227,23 @@ module _ (text rest : List ℕ) (quote : text ≡ 34 ∷ rest) (fronts : FrontsF
 
   quote_by : (long closed : Bool) → long ≡ ltb SHORT_TEXT_MAX (length quoted_run)
       → closed ≡ eqb (get_or rest (length quoted_run) 0) 34 → (found : Piece)
-      → found ≡ cond long piece.Overlong
-      (cond closed (piece.Token (token.Text quoted_run) (length quoted_run + 2)) piece.Stray)
+      → found ≡ cond long (piece.Overlong StringBytes (length quoted_run + 1))
+      (cond closed (piece.Token (token.String quoted_run) (length quoted_run + 2)) piece.Stray)
       → Tops IsBodyPiece text found
   quote_by true closed l c found e =
       inl (subst (Top IsBodyPiece text) (sym e) (overlong_top (ltb-true SHORT_TEXT_MAX (length quoted_run) (sym l))))
   quote_by false true l c found e =
       inl (subst (Top IsBodyPiece text) (sym e)
-      (text_top (not_above SHORT_TEXT_MAX (length quoted_run) (sym l))
+      (string_top (not_above SHORT_TEXT_MAX (length quoted_run) (sym l))
       (eqb-true (get_or rest (length quoted_run) 0) 34 (sym c))))
   quote_by false false l c found e =
       inr (
         e,
-        no_text (not_above SHORT_TEXT_MAX (length quoted_run) (sym l))
+        no_string (not_above SHORT_TEXT_MAX (length quoted_run) (sym l))
             (λ k. false≢true (c ∙ eq-eqb (get_or rest (length quoted_run) 0) 34 k)),
       )
 
-  pub quote_top : (found : Piece) → found ≡ text_piece (take_while is_text_byte rest) rest
+  pub quote_top : (found : Piece) → found ≡ string_piece (take_while is_string_byte rest) rest
       → Tops IsBodyPiece text found
   unfolding quoted_run
   quote_top found e =
@@ -284,7 +289,7 @@ long_name name long (inr i) = i
 aggregation_piece : (name : List ℕ) → IsAggregationName name → IsBodyPiece (64 ∷ name) (aggregation_read name)
 aggregation_piece name n = elim (cases_lt SHORT_TEXT_MAX (length name)) [
   | inl long ↦ subst (IsBodyPiece (64 ∷ name)) (sym (long_aggregation name long))
-      (record { inside = name; begins = inr (refl, long_name name long n); long = long })
+      (record { inside = name; begins = (refl, long_name name long n); long = long }, omega arith)
   | inr short ↦ subst (IsBodyPiece (64 ∷ name)) (sym (short_aggregation name short)) ((refl, n, short), omega arith)
 ]
 
@@ -333,7 +338,7 @@ sign_top text piece.Stray shut fronts none =
         | inr k ↦ not_opening text behind front shut cut k.0
       ],
     )
-sign_top text piece.Overlong shut fronts h = absurd h
+sign_top text (piece.Overlong limit size) shut fronts h = absurd h
 sign_top text piece.End shut fronts h = absurd h
 
 as_top : (s : Start) (text : List ℕ) (found : Piece) → 0 < length text → opens_comment text ≡ false

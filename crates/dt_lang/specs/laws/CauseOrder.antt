@@ -1,184 +1,122 @@
 -- Of the causes that hold, the first is that for which a token is refused: so there is one, where the tests of all
--- causes
--- are at hand.
-use Rattle.std.proofs.Common.{◌≡◌, ◌≢◌, ℕ, ◌<◌, Bool, true, false, List, [], ◌∷◌, ◌++◌, Option, Some, None, refl, sym}
-use Rattle.std.proofs.Common.{◌∙◌, arith, Decides}
-use Rattle.dt_lang.specs.declared.fault.Why.{Why}
-use Rattle.dt_lang.specs.declared.fault.Why.TheVariants.{Syntax, Probe, Action, Variable, TooLong, Range}
+-- causes are at hand.
+use Rattle.std.proofs.Common.{◌≡◌, ◌≢◌, ◌⊎◌, inl, inr, ℕ, zero, suc, ◌+◌, ◌<◌, List, [], ◌∷◌, Option, Some, None}
+use Rattle.std.proofs.Common.{refl, sym, ap, ◌∙◌, subst, arith}
+use Rattle.dt_program.specs.declared.description.DescriptionFault.{DescriptionFault}
+use Rattle.dt_lang.specs.declared.fault.Flaw.{Flaw}
+use Rattle.dt_lang.specs.declared.fault.Flaw.TheVariants.{Syntax, Probe, Action, Variable, TooLong, Range}
 use Rattle.dt_lang.specs.declared.token.Token.{Token}
 use Rattle.dt_lang.specs.declared.token.Token.TheVariants as token
-use Rattle.dt_lang.specs.declared.word.Destructive.{Destructive}
-use Rattle.dt_lang.specs.Grammar.{Begins}
-use Rattle.dt_lang.specs.Refused.{Cause, because, destroys, rank, IsTooLong, IsDestructive, IsNoAction, IsNoVariable}
-use Rattle.dt_lang.specs.Refused.{IsOutOfRange, CauseHolds, Refused}
-use Rattle.dt_lang.specs.Cause.{first_cause}
+use Rattle.dt_lang.specs.Refused.{Cause, because, destroys, rank, CauseHolds, Refused}
+use Rattle.dt_lang.specs.machine.Cause.{first_of}
 use Rattle.dt_lang.specs.laws.ClauseSound.{none_some, same_some}
+use Rattle.dt_lang.specs.laws.TooLongLaws.{one_limit}
+use Rattle.dt_lang.specs.laws.RangeLaws.{one_range}
 
--- what tests tell of the causes
-pub record Tests (ts : List Token) (t : Token) (too_long : Bool) (destructive : Option Destructive)
-    (probe action variable range syntax : Bool) : Type 0 where
-  pub too_long_is : Decides too_long (IsTooLong ts t)
-  pub destructive_is : (what : Destructive) → destructive ≡ Some what → IsDestructive ts t what
-  pub is_destructive : (what : Destructive) → IsDestructive ts t what → destructive ≡ Some what
-  pub probe_is : Decides probe (t ≡ token.Description None)
-  pub action_is : Decides action (IsNoAction ts t)
-  pub variable_is : Decides variable (IsNoVariable ts t)
-  pub range_is : Decides range (IsOutOfRange ts t)
-  pub syntax_is : Decides syntax (Begins (ts ++ (t ∷ [])) → ⊥)
+-- how many ranks of causes there are
+abbrev pub RANKS : ℕ
+RANKS = 7
 
--- none of the causes of a lower rank holds
-abbrev NoneBelow : List Token → Token → ℕ → Type 0
-NoneBelow ts t n = (other : Cause) → rank other < n → CauseHolds ts t other → ⊥
+rank_below : (cause : Cause) → rank cause < RANKS
+rank_below (because (TooLong limit)) = omega arith
+rank_below (destroys what) = omega arith
+rank_below (because (Probe fault)) = omega arith
+rank_below (because Action) = omega arith
+rank_below (because Variable) = omega arith
+rank_below (because (Range fault)) = omega arith
+rank_below (because Syntax) = omega arith
 
-false_not : (P : Type 0) → Decides false P → P → ⊥
-false_not P d h = let k : false ≡ true = d.1 h in cc
+-- What the test of a rank tells: the cause of that rank that holds, if one does.
+pub record Tells (ts : List Token) (t : Token) (n : ℕ) (found : Option Cause) : Type 0 where
+  pub ranked : (cause : Cause) → found ≡ Some cause → rank cause ≡ n
+  pub holds : (cause : Cause) → found ≡ Some cause → CauseHolds ts t cause
+  pub tells : (cause : Cause) → rank cause ≡ n → CauseHolds ts t cause → found ≡ Some cause
 
-none_not : (ts : List Token) (t : Token) → ((what : Destructive) → IsDestructive ts t what → None ≡ Some what)
-    → (what : Destructive) → IsDestructive ts t what → ⊥
-none_not ts t d what h = none_some (d what h)
+-- the tests of all ranks from this one on, in order
+pub data Tests (ts : List Token) (t : Token) : ℕ → List (Option Cause) → Type 0 where
+  done : Tests ts t RANKS []
+  test : (n : ℕ) (found : Option Cause) (rest : List (Option Cause)) → Tells ts t n found
+      → Tests ts t (suc n) rest → Tests ts t n (found ∷ rest)
 
 module _ (ts : List Token) (t : Token) where
-  below_0 : NoneBelow ts t 0
-  below_0 other r h = absurd (omega arith)
+  -- none of the causes of a lower rank holds
+  abbrev NoneBelow : ℕ → Type 0
+  NoneBelow n = (other : Cause) → rank other < n → CauseHolds ts t other → ⊥
 
-  below_1 : (IsTooLong ts t → ⊥) → NoneBelow ts t 1
-  below_1 n (because TooLong) r h = n h
-  below_1 n (destroys what) r h = absurd (omega arith)
-  below_1 n (because Probe) r h = absurd (omega arith)
-  below_1 n (because Action) r h = absurd (omega arith)
-  below_1 n (because Variable) r h = absurd (omega arith)
-  below_1 n (because Range) r h = absurd (omega arith)
-  below_1 n (because Syntax) r h = absurd (omega arith)
+  none_below_more : (n : ℕ) → Tells ts t n None → NoneBelow n → NoneBelow (suc n)
+  none_below_more n told below other r h = elim (less_or_same (rank other) n r) [
+    | inl less ↦ below other less h
+    | inr same ↦ none_some (told.tells other same h)
+  ]
+    where
+      less_or_same : (m n : ℕ) → m < suc n → (m < n) ⊎ (m ≡ n)
+      less_or_same zero zero r = inr refl
+      less_or_same zero (suc n) r = inl (omega arith)
+      less_or_same (suc m) zero r = absurd (omega arith)
+      less_or_same (suc m) (suc n) r = elim (less_or_same m n (omega arith)) [
+        | inl less ↦ inl (omega arith)
+        | inr same ↦ inr (ap suc same)
+      ]
 
-  below_2 : NoneBelow ts t 1 → ((what : Destructive) → IsDestructive ts t what → ⊥) → NoneBelow ts t 2
-  below_2 b n (destroys what) r h = n what h
-  below_2 b n (because TooLong) r h = b (because TooLong) (omega arith) h
-  below_2 b n (because Probe) r h = absurd (omega arith)
-  below_2 b n (because Action) r h = absurd (omega arith)
-  below_2 b n (because Variable) r h = absurd (omega arith)
-  below_2 b n (because Range) r h = absurd (omega arith)
-  below_2 b n (because Syntax) r h = absurd (omega arith)
+  refused_from : (n : ℕ) (found : List (Option Cause)) (cause : Cause) → Tests ts t n found → NoneBelow n
+      → first_of found ≡ Some cause → Refused ts t cause
+  refused_from _ _ cause done below e = absurd (none_some e)
+  refused_from _ _ cause (test n (Some first) rest told more) below e =
+      let same : first ≡ cause = same_some e in
+      let at : Some first ≡ Some cause = e in
+      record {
+        holds = told.holds cause at;
+        first = λ other r h. below other (subst (λ (k : ℕ). rank other < k) (told.ranked cause at) r) h;
+      }
+  refused_from _ _ cause (test n None rest told more) below e =
+      refused_from (suc n) rest cause more (none_below_more n told below) e
 
-  below_3 : NoneBelow ts t 2 → (t ≡ token.Description None → ⊥) → NoneBelow ts t 3
-  below_3 b n (because TooLong) r h = b (because TooLong) (omega arith) h
-  below_3 b n (destroys what) r h = b (destroys what) (omega arith) h
-  below_3 b n (because Probe) r h = n h
-  below_3 b n (because Action) r h = absurd (omega arith)
-  below_3 b n (because Variable) r h = absurd (omega arith)
-  below_3 b n (because Range) r h = absurd (omega arith)
-  below_3 b n (because Syntax) r h = absurd (omega arith)
+  unrefused_from : (n : ℕ) (found : List (Option Cause)) → Tests ts t n found → NoneBelow n
+      → first_of found ≡ None → (cause : Cause) → CauseHolds ts t cause → ⊥
+  unrefused_from _ _ done below e cause h = below cause (rank_below cause) h
+  unrefused_from _ _ (test n (Some first) rest told more) below e cause h = cc
+  unrefused_from _ _ (test n None rest told more) below e cause h =
+      unrefused_from (suc n) rest more (none_below_more n told below) e cause h
 
-  below_4 : NoneBelow ts t 3 → (IsNoAction ts t → ⊥) → NoneBelow ts t 4
-  below_4 b n (because TooLong) r h = b (because TooLong) (omega arith) h
-  below_4 b n (destroys what) r h = b (destroys what) (omega arith) h
-  below_4 b n (because Probe) r h = b (because Probe) (omega arith) h
-  below_4 b n (because Action) r h = n h
-  below_4 b n (because Variable) r h = absurd (omega arith)
-  below_4 b n (because Range) r h = absurd (omega arith)
-  below_4 b n (because Syntax) r h = absurd (omega arith)
-
-  below_5 : NoneBelow ts t 4 → (IsNoVariable ts t → ⊥) → NoneBelow ts t 5
-  below_5 b n (because TooLong) r h = b (because TooLong) (omega arith) h
-  below_5 b n (destroys what) r h = b (destroys what) (omega arith) h
-  below_5 b n (because Probe) r h = b (because Probe) (omega arith) h
-  below_5 b n (because Action) r h = b (because Action) (omega arith) h
-  below_5 b n (because Variable) r h = n h
-  below_5 b n (because Range) r h = absurd (omega arith)
-  below_5 b n (because Syntax) r h = absurd (omega arith)
-
-  below_6 : NoneBelow ts t 5 → (IsOutOfRange ts t → ⊥) → NoneBelow ts t 6
-  below_6 b n (because TooLong) r h = b (because TooLong) (omega arith) h
-  below_6 b n (destroys what) r h = b (destroys what) (omega arith) h
-  below_6 b n (because Probe) r h = b (because Probe) (omega arith) h
-  below_6 b n (because Action) r h = b (because Action) (omega arith) h
-  below_6 b n (because Variable) r h = b (because Variable) (omega arith) h
-  below_6 b n (because Range) r h = n h
-  below_6 b n (because Syntax) r h = absurd (omega arith)
-
-  none_holds : NoneBelow ts t 6 → ((Begins (ts ++ (t ∷ [])) → ⊥) → ⊥) → (cause : Cause) → CauseHolds ts t cause → ⊥
-  none_holds b n (because TooLong) h = b (because TooLong) (omega arith) h
-  none_holds b n (destroys what) h = b (destroys what) (omega arith) h
-  none_holds b n (because Probe) h = b (because Probe) (omega arith) h
-  none_holds b n (because Action) h = b (because Action) (omega arith) h
-  none_holds b n (because Variable) h = b (because Variable) (omega arith) h
-  none_holds b n (because Range) h = b (because Range) (omega arith) h
-  none_holds b n (because Syntax) h = n h
-
-  landed : (cause other : Cause) → Some cause ≡ Some other → Refused ts t cause → Refused ts t other
-  landed cause other e h = rw (same_some e) at h
+  none_first : NoneBelow 0
+  none_first other r h = absurd (omega arith)
 
   -- the first cause whose test is met is that for which the token is refused
-  pub refused_by : (too_long : Bool) (destructive : Option Destructive) (probe action variable range syntax : Bool)
-      (cause : Cause) → Tests ts t too_long destructive probe action variable range syntax
-      → first_cause too_long destructive probe action variable range syntax ≡ Some cause → Refused ts t cause
-  refused_by true d p a v r s cause h e = landed _ _ e (record { holds = h.too_long_is.0 refl; first = below_0 })
-  refused_by false (Some what) p a v r s cause h e =
-      landed _ _ e
-      (record { holds = h.destructive_is what refl; first = below_1 (false_not _ h.too_long_is) })
-  refused_by false None true a v r s cause h e =
-      let b = below_2 (below_1 (false_not _ h.too_long_is)) (none_not ts t h.is_destructive) in
-      landed _ _ e (record { holds = h.probe_is.0 refl; first = b })
-  refused_by false None false true v r s cause h e =
-      let b = below_3 (below_2 (below_1 (false_not _ h.too_long_is)) (none_not ts t h.is_destructive))
-      (false_not _ h.probe_is) in
-      landed _ _ e (record { holds = h.action_is.0 refl; first = b })
-  refused_by false None false false true r s cause h e =
-      let b = below_4 (below_3 (below_2 (below_1 (false_not _ h.too_long_is)) (none_not ts t h.is_destructive))
-      (false_not _ h.probe_is)) (false_not _ h.action_is) in
-      landed _ _ e (record { holds = h.variable_is.0 refl; first = b })
-  refused_by false None false false false true s cause h e =
-      let b = below_5 (below_4 (below_3
-      (below_2 (below_1 (false_not _ h.too_long_is)) (none_not ts t h.is_destructive))
-      (false_not _ h.probe_is)) (false_not _ h.action_is)) (false_not _ h.variable_is) in
-      landed _ _ e (record { holds = h.range_is.0 refl; first = b })
-  refused_by false None false false false false true cause h e =
-      let b = below_6 (below_5 (below_4 (below_3 (below_2 (below_1 (false_not _ h.too_long_is))
-      (none_not ts t h.is_destructive)) (false_not _ h.probe_is)) (false_not _ h.action_is))
-      (false_not _ h.variable_is))
-      (false_not _ h.range_is) in
-      landed _ _ e (record { holds = h.syntax_is.0 refl; first = b })
-  refused_by false None false false false false false cause h e = absurd (none_some e)
+  pub refused_by : (found : List (Option Cause)) (cause : Cause) → Tests ts t 0 found → first_of found ≡ Some cause
+      → Refused ts t cause
+  refused_by found cause tests e = refused_from 0 found cause tests none_first e
 
-  pub unrefused_by : (too_long : Bool) (destructive : Option Destructive) (probe action variable range syntax : Bool)
-      → Tests ts t too_long destructive probe action variable range syntax
-      → first_cause too_long destructive probe action variable range syntax ≡ None
+  pub unrefused_by : (found : List (Option Cause)) → Tests ts t 0 found → first_of found ≡ None
       → (cause : Cause) → CauseHolds ts t cause → ⊥
-  unrefused_by false None false false false false false h e =
-      none_holds (below_6 (below_5 (below_4 (below_3 (below_2 (below_1 (false_not _ h.too_long_is))
-      (none_not ts t h.is_destructive)) (false_not _ h.probe_is)) (false_not _ h.action_is))
-      (false_not _ h.variable_is))
-      (false_not _ h.range_is)) (false_not _ h.syntax_is)
-  unrefused_by false None false false false false true h e = cc
-  unrefused_by false None false false false true s h e = cc
-  unrefused_by false None false false true r s h e = cc
-  unrefused_by false None false true v r s h e = cc
-  unrefused_by false None true a v r s h e = cc
-  unrefused_by false (Some what) p a v r s h e = cc
-  unrefused_by true d p a v r s h e = cc
+  unrefused_by found tests e cause h = unrefused_from 0 found tests none_first e cause h
 
-same_why : (c d : Why) → rank (because c) ≡ rank (because d) → because c ≡ because d
-same_why TooLong TooLong r = refl
-same_why Probe Probe r = refl
-same_why Action Action r = refl
-same_why Variable Variable r = refl
-same_why Range Range r = refl
-same_why Syntax Syntax r = refl
-same_why _ _ r = absurd (omega arith)
+one_description_fault : (t : Token) (a b : DescriptionFault) → CauseHolds [] t (because (Probe a))
+    → CauseHolds [] t (because (Probe b)) → a ≡ b
+one_description_fault t a b h k = let e = sym h ∙ k in cc
 
-not_destructive : (why : Why) → rank (because why) ≢ 1
-not_destructive TooLong r = omega arith
-not_destructive Probe r = omega arith
+pub not_destructive : (flaw : Flaw) → rank (because flaw) ≢ 1
+not_destructive (TooLong limit) r = omega arith
+not_destructive (Probe fault) r = omega arith
 not_destructive Action r = omega arith
 not_destructive Variable r = omega arith
-not_destructive Range r = omega arith
+not_destructive (Range fault) r = omega arith
 not_destructive Syntax r = omega arith
 
 same_rank : (ts : List Token) (t : Token) (c d : Cause) → rank c ≡ rank d → CauseHolds ts t c
     → CauseHolds ts t d → c ≡ d
-same_rank ts t (because c) (because d) r h k = same_why c d r
+same_rank ts t (because (TooLong a)) (because (TooLong b)) r h k =
+    ap (λ limit. because (TooLong limit)) (one_limit ts t a b h k)
 same_rank ts t (destroys what) (destroys other) r h k = let e = sym h.names ∙ k.names in cc
-same_rank ts t (because c) (destroys other) r h k = absurd (not_destructive c r)
-same_rank ts t (destroys what) (because d) r h k = absurd (not_destructive d (sym r))
+same_rank ts t (because (Probe a)) (because (Probe b)) r h k =
+    ap (λ fault. because (Probe fault)) (one_description_fault t a b h k)
+same_rank ts t (because Action) (because Action) r h k = refl
+same_rank ts t (because Variable) (because Variable) r h k = refl
+same_rank ts t (because (Range a)) (because (Range b)) r h k =
+    ap (λ fault. because (Range fault)) (one_range ts t a b h k)
+same_rank ts t (because Syntax) (because Syntax) r h k = refl
+same_rank ts t (because flaw) (destroys what) r h k = absurd (not_destructive flaw r)
+same_rank ts t (destroys what) (because flaw) r h k = absurd (not_destructive flaw (sym r))
+same_rank ts t (because _) (because _) r h k = absurd (omega arith)
 
 -- A token is refused for one cause.
 pub one_cause : (ts : List Token) (t : Token) (c d : Cause) → Refused ts t c → Refused ts t d → c ≡ d

@@ -10,21 +10,21 @@ use Rattle.dt_lang.specs.declared.token.Token.{Token}
 use Rattle.dt_lang.specs.declared.token.Token.TheVariants as token
 use Rattle.dt_lang.specs.declared.word.Function.{Function}
 use Rattle.dt_lang.specs.declared.word.Function.TheVariants as function
-use Rattle.dt_lang.specs.ExpressionState as expression
-use Rattle.dt_lang.specs.ExpressionState.{IsRead, ends_argument}
+use Rattle.dt_lang.specs.machine.ExpressionState as expression
+use Rattle.dt_lang.specs.machine.ExpressionState.{IsRead, ends_argument}
 use Rattle.dt_lang.specs.Grammar.{ReadsHead, a_description, another, ReadsOpening, always, ReadsKeys, a_key}
 use Rattle.dt_lang.specs.Grammar.{ReadsTarget, bare, ReadsConstant, plain, negative, ReadsBounds, by_one, stepped}
 use Rattle.dt_lang.specs.Grammar.{call_of, ReadsCall, counting, of_one, in_levels, IsFrameCount, ReadsStatement}
-use Rattle.dt_lang.specs.Grammar.{tracing, of_stack, of_ustack, exiting, aggregating, Spot, begins, ends, ReadsBody}
+use Rattle.dt_lang.specs.Grammar.{tracing, of_stack, of_ustack, exiting, aggregating, Spot, before_statement, after_statement, ReadsBody}
 use Rattle.dt_lang.specs.Grammar.{nothing, stated, separated, ReadsClause, a_clause, ReadsClauses, ReadsProgram}
 use Rattle.dt_lang.specs.Grammar as grammar
 use Rattle.dt_program.specs.Clause.{ArgForm, number, CallForm, lquantize, StatementForm, aggregate, ClauseForm}
 use Rattle.dt_lang.specs.Stand.{HeadStands, BodyStands, KeysStand, TargetStands, Slot, predicate, traced, exited, key}
 use Rattle.dt_lang.specs.Stand.{value, divides_in, SlotOpens}
 use Rattle.dt_lang.specs.Stand as stand
-use Rattle.dt_lang.specs.ClauseState.{BoundForm, at_lower, at_upper, at_step, outside, described, body, keyed, assigned}
-use Rattle.dt_lang.specs.ClauseState.{within, bounding, bounded, ProgramState, program_at, headed, ended, entered}
-use Rattle.dt_lang.specs.ClauseState.{function_given, shut, step, run, program_start, whole, finished}
+use Rattle.dt_lang.specs.machine.ClauseState.{BoundForm, at_lower, at_upper, at_step, outside, described, body, keyed, assigned}
+use Rattle.dt_lang.specs.machine.ClauseState.{within, bounding, bounded, ProgramState, program_at, headed, ended, entered}
+use Rattle.dt_lang.specs.machine.ClauseState.{function_given, shut, step, run, program_start, whole, finished}
 use Rattle.dt_lang.specs.laws.ExpressionLaws.{complete, complete_argument}
 use Rattle.dt_lang.specs.laws.ExpressionLaws as laws
 use Rattle.dt_lang.specs.laws.Reading.{split_last, split_two}
@@ -214,7 +214,7 @@ keys_lead cs c name _ _ (grammar.another ts us keys a h k) =
 -- an aggregation with its keys, and `=`
 target_over : (cs : List ClauseForm) (c : ClauseForm) (name : List ℕ) (keys : List ArgForm) (ts us : List Token)
     → ReadsTarget ts name keys
-    → run (program_at cs c (body begins)) (ts ++ (token.Sign sign.Equal ∷ us))
+    → run (program_at cs c (body before_statement)) (ts ++ (token.Sign sign.Equal ∷ us))
     ≡ run (program_at cs c (assigned name keys)) us
 unfolding run step
 target_over cs c _ _ _ us (bare name) = refl
@@ -227,7 +227,7 @@ target_over cs c _ _ _ us (grammar.keyed name ts keys h) =
     (ap (λ (x : List ArgForm). Some (program_at cs c (keyed name x))) (sym l.keys_are)))
 
 statement_leads : (cs : List ClauseForm) (c : ClauseForm) (ts : List Token) (s : StatementForm) → ReadsStatement ts s
-    → run (program_at cs c (body begins)) ts ≡ Some (ended cs c s)
+    → run (program_at cs c (body before_statement)) ts ≡ Some (ended cs c s)
 unfolding run step
 statement_leads cs c _ _ (tracing ts a h) =
     slot_over cs c traced ts [] a (token.Sign sign.CloseParen) _ (complete_argument ts a h) refl refl
@@ -240,17 +240,17 @@ statement_leads cs c _ _ (aggregating ts us name keys call h k) =
 
 -- bodies
 separated_step : (cs : List ClauseForm) (c : ClauseForm) (spot : Spot)
-    → step (program_at cs c (body spot)) (token.Sign sign.Semicolon) ≡ Some (program_at cs c (body begins))
+    → step (program_at cs c (body spot)) (token.Sign sign.Semicolon) ≡ Some (program_at cs c (body before_statement))
 unfolding step
-separated_step cs c begins = refl
-separated_step cs c ends = refl
+separated_step cs c before_statement = refl
+separated_step cs c after_statement = refl
 
 closed_step : (cs : List ClauseForm) (c : ClauseForm) (spot : Spot)
     → step (program_at cs c (body spot)) (token.Sign sign.CloseBrace)
     ≡ Some (program_at (cs ++ (c ∷ [])) (headed []) outside)
 unfolding step
-closed_step cs c begins = refl
-closed_step cs c ends = refl
+closed_step cs c before_statement = refl
+closed_step cs c after_statement = refl
 
 -- a clause up to here
 abbrev clause_of : List DescForm → Option Form → List StatementForm → ClauseForm
@@ -258,11 +258,11 @@ clause_of ds p ss = record { descriptions = ds; predicate = p; statements = ss }
 
 body_leads : (cs : List ClauseForm) (ds : List DescForm) (p : Option Form) (spot : Spot) (ts : List Token)
     (ss : List StatementForm) → ReadsBody spot ts ss
-    → run (program_at cs (clause_of ds p []) (body begins)) ts ≡ Some (program_at cs (clause_of ds p ss) (body spot))
+    → run (program_at cs (clause_of ds p []) (body before_statement)) ts ≡ Some (program_at cs (clause_of ds p ss) (body spot))
 unfolding run
 body_leads cs ds p _ _ _ nothing = refl
 body_leads cs ds p _ _ _ (stated ts us ss s h k) =
-    run_on _ _ _ ts us (body_leads cs ds p begins ts ss h) (statement_leads cs (clause_of ds p ss) us s k)
+    run_on _ _ _ ts us (body_leads cs ds p before_statement ts ss h) (statement_leads cs (clause_of ds p ss) us s k)
 body_leads cs ds p _ _ _ (separated spot ts ss h) =
     run_step _ _ _ ts _ (body_leads cs ds p spot ts ss h) (separated_step cs (clause_of ds p ss) spot)
 
@@ -274,7 +274,7 @@ head_leads cs c _ _ (a_description d) = refl
 head_leads cs c _ _ (another ts ds d h) = run_on _ _ _ ts _ (head_leads cs c ts ds h) refl
 
 opening_leads : (cs : List ClauseForm) (c : ClauseForm) (ts : List Token) (ds : List DescForm) (p : Option Form)
-    → ReadsOpening ts ds p → run (program_at cs c outside) ts ≡ Some (program_at cs (clause_of ds p []) (body begins))
+    → ReadsOpening ts ds p → run (program_at cs c outside) ts ≡ Some (program_at cs (clause_of ds p []) (body before_statement))
 unfolding run step
 opening_leads cs c _ _ _ (always ts ds h) = run_over _ _ ts _ (head_leads cs c ts ds h)
 opening_leads cs c _ _ _ (grammar.guarded ts us ds f h k) =
@@ -327,7 +327,7 @@ pub body_stands_lead : (spot : Spot) (ts : List Token) (cs : List ClauseForm) (c
 body_stands_lead spot ts cs c h =
     rw h.split
     (run_on _ _ _ h.clauses (h.opening ++ h.body) (clauses_lead h.clauses cs h.before)
-    (run_on _ _ _ h.opening h.body (opening_leads cs (headed []) h.opening c.descriptions c.predicate h.opened)
+    (run_on _ _ _ h.opening h.body (opening_leads cs (headed []) h.opening c.descriptions c.predicate h.reads_opening)
     (body_leads cs c.descriptions c.predicate spot h.body c.statements h.reads)))
 
 -- where a program's beginning with an aggregation's keys leads
@@ -345,7 +345,7 @@ keys_stand_lead ts cs c name keys h = record {
   back = h.back;
   keys_lead = keys_lead cs c name h.back keys h.reads;
   runs = λ t next k. rw (split_last ts h.front _ t h.split)
-      (run_over _ _ h.front _ (body_stands_lead begins h.front cs c h.stands) ∙ k);
+      (run_over _ _ h.front _ (body_stands_lead before_statement h.front cs c h.stands) ∙ k);
 }
 
 pub target_stands_lead : (ts us : List Token) (cs : List ClauseForm) (c : ClauseForm) (name : List ℕ)
@@ -353,7 +353,7 @@ pub target_stands_lead : (ts us : List Token) (cs : List ClauseForm) (c : Clause
     → run program_start (ts ++ (token.Sign sign.Equal ∷ us)) ≡ run (program_at cs c (assigned name keys)) us
 target_stands_lead ts us cs c name keys h =
     rw (split_two ts h.front h.back (token.Sign sign.Equal ∷ us) h.split)
-    (run_over _ _ h.front _ (body_stands_lead begins h.front cs c h.stands)
+    (run_over _ _ h.front _ (body_stands_lead before_statement h.front cs c h.stands)
     ∙ target_over cs c name keys h.back us h.reads)
 
 given_other : (cs : List ClauseForm) (c : ClauseForm) (name : List ℕ) (keys : List ArgForm) (fn : Function)
@@ -370,9 +370,9 @@ pub slot_leads : (slot : Slot) (ts : List Token) (cs : List ClauseForm) (c : Cla
     → run program_start ts ≡ Some (entered cs c slot)
 unfolding run step
 slot_leads _ _ _ _ (stand.a_predicate ts cs ds h) = run_over _ _ ts _ (head_stands_lead ts cs ds h)
-slot_leads _ _ _ _ (stand.an_argument ts cs c h) = run_over _ _ ts _ (body_stands_lead begins ts cs c h)
-slot_leads _ _ _ _ (stand.a_status ts cs c h) = run_over _ _ ts _ (body_stands_lead begins ts cs c h)
-slot_leads _ _ _ _ (stand.first_key ts cs c name h) = run_over _ _ ts _ (body_stands_lead begins ts cs c h)
+slot_leads _ _ _ _ (stand.an_argument ts cs c h) = run_over _ _ ts _ (body_stands_lead before_statement ts cs c h)
+slot_leads _ _ _ _ (stand.a_status ts cs c h) = run_over _ _ ts _ (body_stands_lead before_statement ts cs c h)
+slot_leads _ _ _ _ (stand.first_key ts cs c name h) = run_over _ _ ts _ (body_stands_lead before_statement ts cs c h)
 slot_leads _ _ _ _ (stand.a_key ts cs c name keys h) =
     let k = keys_stand_lead ts cs c name keys h in
     k.runs _ _ (key_ends cs c name k.back keys (token.Sign sign.Comma) _ k.keys_lead refl

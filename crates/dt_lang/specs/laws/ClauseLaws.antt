@@ -15,8 +15,8 @@ use Rattle.std.specs.Prelude.{option_and_then}
 use Rattle.dt_lang.specs.declared.token.Token.{Token}
 use Rattle.dt_program.specs.Clause.{ClauseForm}
 use Rattle.dt_lang.specs.Grammar.{ReadsClauses, ReadsProgram, Begins}
-use Rattle.dt_lang.specs.ClauseState.{PlaceForm, outside, ProgramState, whole, finished_at, step, run, program_start}
-use Rattle.dt_lang.specs.ClauseState.{finished}
+use Rattle.dt_lang.specs.machine.ClauseState.{PlaceForm, outside, ProgramState, whole, finished_at, step, run, program_start}
+use Rattle.dt_lang.specs.machine.ClauseState.{finished}
 use Rattle.dt_lang.specs.laws.Reading.{ReadAt, Read}
 use Rattle.dt_lang.specs.laws.ClauseSound.{none_some, same_some, sound_run, starts}
 use Rattle.dt_lang.specs.laws.ClauseComplete.{run-append, run_on, program_leads}

@@ -1,5 +1,5 @@
 -- What a step of the reading of programs says of the tokens that were read.
-use Rattle.std.proofs.Common.{◌≡◌, ◌≢◌, ℕ, ◌+◌, leb, Bool, true, false, ◌&&◌, List, [], ◌∷◌, ◌++◌, Option, Some, None}
+use Rattle.std.proofs.Common.{◌≡◌, ◌≢◌, ℕ, ◌+◌, leb, Bool, true, false, ◌&&◌, List, [], ◌∷◌, ◌++◌, Option, Some, None, Ok}
 use Rattle.std.proofs.Common.{refl, sym, ap, ◌∙◌, subst, append_assoc, append-nil, length-append, ℤ, pos, leb-true}
 use Rattle.std.proofs.Common.{if◌then◌else◌}
 use Rattle.std.specs.Prelude.{option_and_then}
@@ -14,25 +14,25 @@ use Rattle.dt_lang.specs.declared.word.Function.{Function}
 use Rattle.dt_lang.specs.declared.word.Function.TheVariants as function
 use Rattle.dt_lang.specs.declared.word.Word.TheVariants as word
 use Rattle.dt_lang.specs.Expression.{ReadsExpr, ReadsArgument}
-use Rattle.dt_lang.specs.ExpressionState as expression
+use Rattle.dt_lang.specs.machine.ExpressionState as expression
 use Rattle.dt_lang.specs.Grammar.{ReadsBounds, by_one, stepped, call_of, ReadsCall, counting, of_one, in_levels}
 use Rattle.dt_lang.specs.Grammar.{IsFrameCount, ReadsStatement, tracing, of_stack, of_ustack, exiting, aggregating}
-use Rattle.dt_lang.specs.Grammar.{begins, ends, ReadsClauses}
+use Rattle.dt_lang.specs.Grammar.{before_statement, after_statement, ReadsClauses}
 use Rattle.dt_lang.specs.Grammar as grammar
 use Rattle.dt_program.specs.Clause.{ArgForm, number, CallForm, count, lquantize, StatementForm, trace, exit, aggregate}
 use Rattle.dt_program.specs.Clause.{ClauseForm}
 use Rattle.dt_lang.specs.Stand.{HeadStands, BodyStands, KeysStand, TargetStands, Slot, predicate, traced, exited, key}
 use Rattle.dt_lang.specs.Stand.{value, divides_in, SlotOpens, a_predicate, an_argument, a_status, first_key, a_key}
 use Rattle.dt_lang.specs.Stand.{a_value}
-use Rattle.dt_lang.specs.ClauseState.{BoundForm, at_lower, at_upper, at_step, PlaceForm, outside, described, listed}
-use Rattle.dt_lang.specs.ClauseState.{guarded, body, called, framed, closing, named, keyed, assigned, applied, within}
-use Rattle.dt_lang.specs.ClauseState.{bounding, negating, bounded, ProgramState, program_at, headed, with_statement}
-use Rattle.dt_lang.specs.ClauseState.{ended, entered, from_outside, from_described, from_listed, from_guarded}
-use Rattle.dt_lang.specs.ClauseState.{from_begins, from_ends, opened, from_called, stack_of, from_framed, from_closing}
-use Rattle.dt_lang.specs.ClauseState.{from_named, from_keyed, from_assigned, function_given, from_applied}
-use Rattle.dt_lang.specs.ClauseState.{shut_predicate, shut_traced, shut_exited, shut_key, shut_levels, shut_value, shut}
-use Rattle.dt_lang.specs.ClauseState.{go_on, from_within, from_bounding, from_negating, from_bounded, program_step_from}
-use Rattle.dt_lang.specs.ClauseState.{step, run, program_start}
+use Rattle.dt_lang.specs.machine.ClauseState.{BoundForm, at_lower, at_upper, at_step, PlaceForm, outside, described, listed}
+use Rattle.dt_lang.specs.machine.ClauseState.{guarded, body, called, stack_opened, closing, named, keyed, assigned, applied, within}
+use Rattle.dt_lang.specs.machine.ClauseState.{bounding, negating, bounded, ProgramState, program_at, headed, with_statement}
+use Rattle.dt_lang.specs.machine.ClauseState.{ended, entered, from_outside, from_described, from_listed, from_guarded}
+use Rattle.dt_lang.specs.machine.ClauseState.{from_before_statement, from_after_statement, after_call, from_called, stack_of, from_stack_opened, from_closing}
+use Rattle.dt_lang.specs.machine.ClauseState.{from_named, from_keyed, from_assigned, function_given, from_applied}
+use Rattle.dt_lang.specs.machine.ClauseState.{shut_predicate, shut_traced, shut_exited, shut_key, shut_levels, shut_value, shut}
+use Rattle.dt_lang.specs.machine.ClauseState.{go_on, from_within, from_bounding, from_negating, from_bounded, program_step_from}
+use Rattle.dt_lang.specs.machine.ClauseState.{step, run, program_start}
 use Rattle.dt_lang.specs.laws.ExpressionLaws.{sound, sound_argument, run-append}
 use Rattle.dt_lang.specs.laws.Reading.{HeadRead, ListRead, GuardRead, Follows, FollowsTarget, Closing, Within, BoundsBegin}
 use Rattle.dt_lang.specs.laws.Reading.{Levels, Bounded, stack_action, ReadAt, Read, split_last, split_three, split_four}
@@ -51,7 +51,7 @@ landed ts s next e h = subst (λ (x : ProgramState). Read x ts) (same_some e) h
 -- heads
 sound_outside : (cs : List ClauseForm) (ts : List Token) (t : Token) (next : ProgramState) → ReadsClauses ts cs
     → from_outside cs t ≡ Some next → Read next (ts ++ (t ∷ []))
-sound_outside cs ts (token.Description (Some d)) next h e = landed _ _ _ e (head_begins ts cs d h)
+sound_outside cs ts (token.Description (Ok d)) next h e = landed _ _ _ e (head_begins ts cs d h)
 sound_outside cs ts t next h e = absurd (none_some e)
 
 -- a slot's beginning, with nothing read for it yet
@@ -84,7 +84,7 @@ sound_described cs c ts t next h e = absurd (none_some e)
 
 sound_listed : (cs : List ClauseForm) (c : ClauseForm) (ts : List Token) (t : Token) (next : ProgramState)
     → ListRead ts cs c → from_listed cs c t ≡ Some next → Read next (ts ++ (t ∷ []))
-sound_listed cs c ts (token.Description (Some d)) next h e = landed _ _ _ e (head_goes_on ts cs c d h)
+sound_listed cs c ts (token.Description (Ok d)) next h e = landed _ _ _ e (head_goes_on ts cs c d h)
 sound_listed cs c ts t next h e = absurd (none_some e)
 
 sound_guarded : (cs : List ClauseForm) (c : ClauseForm) (ts : List Token) (t : Token) (next : ProgramState)
@@ -93,21 +93,21 @@ sound_guarded cs c ts (token.Sign sign.OpenBrace) next h e = landed _ _ _ e (gua
 sound_guarded cs c ts t next h e = absurd (none_some e)
 
 -- bodies
-sound_begins : (cs : List ClauseForm) (c : ClauseForm) (ts : List Token) (t : Token) (next : ProgramState)
-    → BodyStands begins ts cs c → from_begins cs c t ≡ Some next → Read next (ts ++ (t ∷ []))
-sound_begins cs c ts (token.Sign sign.Semicolon) next h e = landed _ _ _ e (body_separated begins ts cs c h)
-sound_begins cs c ts (token.Sign sign.CloseBrace) next h e = landed _ _ _ e (body_closed begins ts cs c h)
-sound_begins cs c ts (token.Word (word.Action a)) next h e =
+sound_before_statement : (cs : List ClauseForm) (c : ClauseForm) (ts : List Token) (t : Token) (next : ProgramState)
+    → BodyStands before_statement ts cs c → from_before_statement cs c t ≡ Some next → Read next (ts ++ (t ∷ []))
+sound_before_statement cs c ts (token.Sign sign.Semicolon) next h e = landed _ _ _ e (body_separated before_statement ts cs c h)
+sound_before_statement cs c ts (token.Sign sign.CloseBrace) next h e = landed _ _ _ e (body_closed before_statement ts cs c h)
+sound_before_statement cs c ts (token.Word (word.Action a)) next h e =
     landed _ _ _ e (record { front = ts; split = refl; stands = h })
-sound_begins cs c ts (token.Aggregation name) next h e =
+sound_before_statement cs c ts (token.Aggregation name) next h e =
     landed _ _ _ e (record { front = ts; split = refl; stands = h })
-sound_begins cs c ts t next h e = absurd (none_some e)
+sound_before_statement cs c ts t next h e = absurd (none_some e)
 
-sound_ends : (cs : List ClauseForm) (c : ClauseForm) (ts : List Token) (t : Token) (next : ProgramState)
-    → BodyStands ends ts cs c → from_ends cs c t ≡ Some next → Read next (ts ++ (t ∷ []))
-sound_ends cs c ts (token.Sign sign.Semicolon) next h e = landed _ _ _ e (body_separated ends ts cs c h)
-sound_ends cs c ts (token.Sign sign.CloseBrace) next h e = landed _ _ _ e (body_closed ends ts cs c h)
-sound_ends cs c ts t next h e = absurd (none_some e)
+sound_after_statement : (cs : List ClauseForm) (c : ClauseForm) (ts : List Token) (t : Token) (next : ProgramState)
+    → BodyStands after_statement ts cs c → from_after_statement cs c t ≡ Some next → Read next (ts ++ (t ∷ []))
+sound_after_statement cs c ts (token.Sign sign.Semicolon) next h e = landed _ _ _ e (body_separated after_statement ts cs c h)
+sound_after_statement cs c ts (token.Sign sign.CloseBrace) next h e = landed _ _ _ e (body_closed after_statement ts cs c h)
+sound_after_statement cs c ts t next h e = absurd (none_some e)
 
 -- statements
 follows_one : (tail ts : List Token) (t : Token) (cs : List ClauseForm) (c : ClauseForm) → Follows tail ts cs c
@@ -120,7 +120,7 @@ opens_in : (slot : Slot) (tail ts : List Token) (cs : List ClauseForm) (c : Clau
 opens_in slot tail ts cs c h k = subst (λ (x : List Token). SlotOpens slot x cs c) (sym h.split) k
 
 read_opened : (cs : List ClauseForm) (c : ClauseForm) (ts : List Token) (a : Action)
-    → Follows (token.Word (word.Action a) ∷ token.Sign sign.OpenParen ∷ []) ts cs c → Read (opened a cs c) ts
+    → Follows (token.Word (word.Action a) ∷ token.Sign sign.OpenParen ∷ []) ts cs c → Read (after_call a cs c) ts
 read_opened cs c ts action.Trace h =
     enters _ _ _ traced (opens_in traced _ ts cs c h (an_argument h.front cs c h.stands))
 read_opened cs c ts action.Exit h =
@@ -142,10 +142,10 @@ reads_stack : (process : Bool) (n : ℕ) → IsFrameCount n
 reads_stack true n h = of_ustack n h
 reads_stack false n h = of_stack n h
 
-framed_closes : (cs : List ClauseForm) (c : ClauseForm) (process : Bool) (ts : List Token) (n : ℕ) → IsFrameCount n
+stack_opened_closes : (cs : List ClauseForm) (c : ClauseForm) (process : Bool) (ts : List Token) (n : ℕ) → IsFrameCount n
     → Follows (token.Word (word.Action (stack_action process)) ∷ token.Sign sign.OpenParen ∷ []) ts cs c
     → Closing (ts ++ (token.Number (pos n) ∷ [])) cs c (stack_of process n)
-framed_closes cs c process ts n k h = record {
+stack_opened_closes cs c process ts n k h = record {
   front = h.front;
   back = token.Word (word.Action (stack_action process)) ∷ token.Sign sign.OpenParen ∷ token.Number (pos n) ∷ [];
   split = split_last ts h.front _ _ h.split;
@@ -170,15 +170,15 @@ sound_frames : (cs : List ClauseForm) (c : ClauseForm) (process : Bool) (ts : Li
     → Follows (token.Word (word.Action (stack_action process)) ∷ token.Sign sign.OpenParen ∷ []) ts cs c
     → (if few then Some (program_at cs c (closing (stack_of process n))) else None) ≡ Some next
     → Read next (ts ++ (token.Number (pos n) ∷ []))
-sound_frames cs c process ts n next true k h e = landed _ _ _ e (framed_closes cs c process ts n (are_frames n k) h)
+sound_frames cs c process ts n next true k h e = landed _ _ _ e (stack_opened_closes cs c process ts n (are_frames n k) h)
 sound_frames cs c process ts n next false k h e = absurd (none_some e)
 
-sound_framed : (cs : List ClauseForm) (c : ClauseForm) (process : Bool) (ts : List Token) (t : Token)
+sound_stack_opened : (cs : List ClauseForm) (c : ClauseForm) (process : Bool) (ts : List Token) (t : Token)
     (next : ProgramState)
     → Follows (token.Word (word.Action (stack_action process)) ∷ token.Sign sign.OpenParen ∷ []) ts cs c
-    → from_framed cs c process t ≡ Some next → Read next (ts ++ (t ∷ []))
-sound_framed cs c process ts (token.Number (pos n)) next h e = sound_frames cs c process ts n next _ refl h e
-sound_framed cs c process ts t next h e = absurd (none_some e)
+    → from_stack_opened cs c process t ≡ Some next → Read next (ts ++ (t ∷ []))
+sound_stack_opened cs c process ts (token.Number (pos n)) next h e = sound_frames cs c process ts n next _ refl h e
+sound_stack_opened cs c process ts t next h e = absurd (none_some e)
 
 sound_closing : (cs : List ClauseForm) (c : ClauseForm) (s : StatementForm) (ts : List Token) (t : Token)
     (next : ProgramState) → Closing ts cs c s → from_closing cs c s t ≡ Some next → Read next (ts ++ (t ∷ []))
@@ -225,7 +225,7 @@ sound_assigned cs c name keys ts t next h e = absurd (none_some e)
 -- an aggregation with what it is given is a statement
 aggregated : (ts front us : List Token) (cs : List ClauseForm) (c : ClauseForm) (name : List ℕ) (keys : List ArgForm)
     (call : CallForm) → TargetStands front cs c name keys → ReadsCall us call
-    → ts ≡ front ++ (token.Sign sign.Equal ∷ us) → BodyStands ends ts cs (with_statement c (aggregate name keys call))
+    → ts ≡ front ++ (token.Sign sign.Equal ∷ us) → BodyStands after_statement ts cs (with_statement c (aggregate name keys call))
 aggregated ts front us cs c name keys call h k e =
     body_stated ts h.front (h.back ++ (token.Sign sign.Equal ∷ us)) cs c _
     (rw (e, h.split) (simp append_assoc)) h.stands
@@ -533,7 +533,7 @@ bound_begins ts tail cs c name keys f b next h k = record {
 levels_end : (ts tail : List Token) (cs : List ClauseForm) (c : ClauseForm) (name : List ℕ) (keys : List ArgForm)
     (f : Form) (b : BoundForm) (lower upper by : ℤ) (h : Levels tail ts cs c name keys f b)
     → ReadsBounds (h.back ++ tail) lower upper by
-    → BodyStands ends (ts ++ (token.Sign sign.CloseParen ∷ [])) cs
+    → BodyStands after_statement (ts ++ (token.Sign sign.CloseParen ∷ [])) cs
     (with_statement c (aggregate name keys (lquantize f lower upper by)))
 levels_end ts tail cs c name keys f b lower upper by h k =
     let o = opens_value h.opens in
@@ -599,10 +599,10 @@ sound_from cs c outside ts t next h k = sound_outside cs ts t next h k
 sound_from cs c described ts t next h k = sound_described cs c ts t next h k
 sound_from cs c listed ts t next h k = sound_listed cs c ts t next h k
 sound_from cs c guarded ts t next h k = sound_guarded cs c ts t next h k
-sound_from cs c (body begins) ts t next h k = sound_begins cs c ts t next h k
-sound_from cs c (body ends) ts t next h k = sound_ends cs c ts t next h k
+sound_from cs c (body before_statement) ts t next h k = sound_before_statement cs c ts t next h k
+sound_from cs c (body after_statement) ts t next h k = sound_after_statement cs c ts t next h k
 sound_from cs c (called a) ts t next h k = sound_called cs c a ts t next h k
-sound_from cs c (framed process) ts t next h k = sound_framed cs c process ts t next h k
+sound_from cs c (stack_opened process) ts t next h k = sound_stack_opened cs c process ts t next h k
 sound_from cs c (closing s) ts t next h k = sound_closing cs c s ts t next h k
 sound_from cs c (named name) ts t next h k = sound_named cs c name ts t next h k
 sound_from cs c (keyed name keys) ts t next h k = sound_keyed cs c name keys ts t next h k

@@ -1,5 +1,5 @@
 -- Whatever was read of a program goes on to a whole one.
-use Rattle.std.proofs.Common.{◌≡◌, ◌≢◌, ℕ, ◌+◌, Bool, true, false, List, [], ◌∷◌, ◌++◌, length, Some, refl, sym, ◌∙◌, ℤ}
+use Rattle.std.proofs.Common.{◌≡◌, ◌≢◌, ℕ, ◌+◌, Bool, true, false, List, [], ◌∷◌, ◌++◌, length, Some, refl, sym, ◌∙◌, ℤ, Ok}
 use Rattle.std.proofs.Common.{pos}
 use Rattle.dt_expr.specs.Form.{Form}
 use Rattle.dt_program.specs.declared.description.Description.{Description}
@@ -11,15 +11,15 @@ use Rattle.dt_lang.specs.declared.word.Action.TheVariants as action
 use Rattle.dt_lang.specs.declared.word.Function.{Function}
 use Rattle.dt_lang.specs.declared.word.Function.TheVariants as function
 use Rattle.dt_lang.specs.declared.word.Word.TheVariants as word
-use Rattle.dt_lang.specs.ExpressionState as expression
-use Rattle.dt_lang.specs.ExpressionState.{ends_argument}
-use Rattle.dt_lang.specs.Grammar.{Spot, begins, ends}
+use Rattle.dt_lang.specs.machine.ExpressionState as expression
+use Rattle.dt_lang.specs.machine.ExpressionState.{ends_argument}
+use Rattle.dt_lang.specs.Grammar.{Spot, before_statement, after_statement}
 use Rattle.dt_program.specs.Clause.{ArgForm, number, StatementForm, ClauseForm}
 use Rattle.dt_lang.specs.Stand.{Slot, predicate, traced, exited, key, value, divides_in, SlotOpens, a_value}
-use Rattle.dt_lang.specs.ClauseState.{BoundForm, at_lower, at_upper, at_step, PlaceForm, outside, described, listed}
-use Rattle.dt_lang.specs.ClauseState.{guarded, body, called, framed, closing, named, keyed, assigned, applied, within}
-use Rattle.dt_lang.specs.ClauseState.{bounding, negating, bounded, ProgramState, program_at, entered, function_given}
-use Rattle.dt_lang.specs.ClauseState.{shut, step, run}
+use Rattle.dt_lang.specs.machine.ClauseState.{BoundForm, at_lower, at_upper, at_step, PlaceForm, outside, described, listed}
+use Rattle.dt_lang.specs.machine.ClauseState.{guarded, body, called, stack_opened, closing, named, keyed, assigned, applied, within}
+use Rattle.dt_lang.specs.machine.ClauseState.{bounding, negating, bounded, ProgramState, program_at, entered, function_given}
+use Rattle.dt_lang.specs.machine.ClauseState.{shut, step, run}
 use Rattle.dt_lang.specs.laws.ExpressionLaws.{complete, run_beginning}
 use Rattle.dt_lang.specs.laws.ExpressionLaws as laws
 use Rattle.dt_lang.specs.laws.Reading.{Within, ReadAt, Read}
@@ -62,21 +62,21 @@ module _ (cs : List ClauseForm) (c : ClauseForm) where
 
   body_completes : (spot : Spot) → Completes (program_at cs c (body spot))
   unfolding step
-  body_completes begins = back _ _ (token.Sign sign.CloseBrace) refl (whole_clause _)
-  body_completes ends = back _ _ (token.Sign sign.CloseBrace) refl (whole_clause _)
+  body_completes before_statement = back _ _ (token.Sign sign.CloseBrace) refl (whole_clause _)
+  body_completes after_statement = back _ _ (token.Sign sign.CloseBrace) refl (whole_clause _)
 
 closing_completes : (cs : List ClauseForm) (c : ClauseForm) (s : StatementForm)
     → Completes (program_at cs c (closing s))
 unfolding step
-closing_completes cs c s = back _ _ (token.Sign sign.CloseParen) refl (body_completes cs _ ends)
+closing_completes cs c s = back _ _ (token.Sign sign.CloseParen) refl (body_completes cs _ after_statement)
 
 guarded_completes : (cs : List ClauseForm) (c : ClauseForm) → Completes (program_at cs c guarded)
 unfolding step
-guarded_completes cs c = back _ _ (token.Sign sign.OpenBrace) refl (body_completes cs c begins)
+guarded_completes cs c = back _ _ (token.Sign sign.OpenBrace) refl (body_completes cs c before_statement)
 
 described_completes : (cs : List ClauseForm) (c : ClauseForm) → Completes (program_at cs c described)
 unfolding step
-described_completes cs c = back _ _ (token.Sign sign.OpenBrace) refl (body_completes cs c begins)
+described_completes cs c = back _ _ (token.Sign sign.OpenBrace) refl (body_completes cs c before_statement)
 
 -- the description that asks for nothing
 all_probes : Description
@@ -84,16 +84,16 @@ all_probes = record { provider = []; «module» = []; function = []; name = [] }
 
 listed_completes : (cs : List ClauseForm) (c : ClauseForm) → Completes (program_at cs c listed)
 unfolding step
-listed_completes cs c = back _ _ (token.Description (Some all_probes)) refl (described_completes cs _)
+listed_completes cs c = back _ _ (token.Description (Ok all_probes)) refl (described_completes cs _)
 
 outside_completes : (cs : List ClauseForm) (c : ClauseForm) → Completes (program_at cs c outside)
 unfolding step
-outside_completes cs c = back _ _ (token.Description (Some all_probes)) refl (described_completes cs _)
+outside_completes cs c = back _ _ (token.Description (Ok all_probes)) refl (described_completes cs _)
 
-framed_completes : (cs : List ClauseForm) (c : ClauseForm) (process : Bool)
-    → Completes (program_at cs c (framed process))
+stack_opened_completes : (cs : List ClauseForm) (c : ClauseForm) (process : Bool)
+    → Completes (program_at cs c (stack_opened process))
 unfolding step
-framed_completes cs c process = back _ _ (token.Number (pos 1)) refl (closing_completes cs c _)
+stack_opened_completes cs c process = back _ _ (token.Number (pos 1)) refl (closing_completes cs c _)
 
 -- aggregations
 applied_completes : (cs : List ClauseForm) (c : ClauseForm) (name : List ℕ) (keys : List ArgForm)
@@ -120,7 +120,7 @@ named_completes cs c name = back _ _ (token.Sign sign.Equal) refl (assigned_comp
 module _ (cs : List ClauseForm) (c : ClauseForm) (name : List ℕ) (keys : List ArgForm) (f : Form) where
   upper_completes : (lower z : ℤ) → Completes (program_at cs c (bounded name keys f (at_upper lower) z))
   unfolding step
-  upper_completes lower z = back _ _ (token.Sign sign.CloseParen) refl (body_completes cs _ ends)
+  upper_completes lower z = back _ _ (token.Sign sign.CloseParen) refl (body_completes cs _ after_statement)
 
   next_completes : (lower : ℤ) → Completes (program_at cs c (bounding name keys f (at_upper lower)))
   unfolding step
@@ -130,7 +130,7 @@ module _ (cs : List ClauseForm) (c : ClauseForm) (name : List ℕ) (keys : List 
   unfolding step
   bounded_completes at_lower z = back _ _ (token.Sign sign.Comma) refl (next_completes z)
   bounded_completes (at_upper lower) z = upper_completes lower z
-  bounded_completes (at_step lower upper) z = back _ _ (token.Sign sign.CloseParen) refl (body_completes cs _ ends)
+  bounded_completes (at_step lower upper) z = back _ _ (token.Sign sign.CloseParen) refl (body_completes cs _ after_statement)
 
   bounding_completes : (b : BoundForm) → Completes (program_at cs c (bounding name keys f b))
   unfolding step
@@ -163,7 +163,7 @@ value_shuts cs c name keys fn f n = record {
   next = _;
   ends_it = refl;
   leads = refl;
-  completes = body_completes cs _ ends;
+  completes = body_completes cs _ after_statement;
 }
 
 slot_shuts : (ts : List Token) (cs : List ClauseForm) (c : ClauseForm) (slot : Slot) (f : Form)
@@ -180,14 +180,14 @@ slot_shuts ts cs c traced f h = record {
   next = _;
   ends_it = refl;
   leads = refl;
-  completes = body_completes cs _ ends;
+  completes = body_completes cs _ after_statement;
 }
 slot_shuts ts cs c exited f h = record {
   end = token.Sign sign.CloseParen;
   next = _;
   ends_it = refl;
   leads = refl;
-  completes = body_completes cs _ ends;
+  completes = body_completes cs _ after_statement;
 }
 slot_shuts ts cs c (key name keys) f h = record {
   end = token.Sign sign.CloseBracket;
@@ -236,8 +236,8 @@ called_completes cs c action.Exit ts h =
     let r = sound_step (program_at cs c (called action.Exit)) (entered cs c exited) ts (token.Sign sign.OpenParen)
     h refl in
     back _ _ (token.Sign sign.OpenParen) refl (within_completes cs c exited 0 _ _ r)
-called_completes cs c action.Stack ts h = back _ _ (token.Sign sign.OpenParen) refl (framed_completes cs c false)
-called_completes cs c action.Ustack ts h = back _ _ (token.Sign sign.OpenParen) refl (framed_completes cs c true)
+called_completes cs c action.Stack ts h = back _ _ (token.Sign sign.OpenParen) refl (stack_opened_completes cs c false)
+called_completes cs c action.Ustack ts h = back _ _ (token.Sign sign.OpenParen) refl (stack_opened_completes cs c true)
 
 given_completes : (cs : List ClauseForm) (c : ClauseForm) (name : List ℕ) (keys : List ArgForm) (fn : Function)
     (ts : List Token) → Read (function_given cs c name keys fn) ts → Completes (function_given cs c name keys fn)
@@ -266,7 +266,7 @@ place_completes cs c listed ts h = listed_completes cs c
 place_completes cs c guarded ts h = guarded_completes cs c
 place_completes cs c (body spot) ts h = body_completes cs c spot
 place_completes cs c (called a) ts h = called_completes cs c a ts h
-place_completes cs c (framed process) ts h = framed_completes cs c process
+place_completes cs c (stack_opened process) ts h = stack_opened_completes cs c process
 place_completes cs c (closing s) ts h = closing_completes cs c s
 place_completes cs c (named name) ts h = named_completes cs c name
 place_completes cs c (keyed name keys) ts h = keyed_completes cs c name keys

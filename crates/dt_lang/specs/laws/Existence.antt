@@ -1,19 +1,21 @@
 -- In each text something stands.
 use Rattle.std.proofs.Common.{◌≡◌, ◌≢◌, ℕ, zero, suc, ◌^◌, ◌⊎◌, inl, inr, Bool, true, false, List, [], ◌∷◌, ◌++◌}
-use Rattle.std.proofs.Common.{Option, Some, None, length, get_or, drop, refl, sym, ap, ◌∙◌, subst, arith, pos}
+use Rattle.std.proofs.Common.{Option, Some, None, Result, Ok, Err, length, get_or, drop, refl, sym, ap, ◌∙◌, subst, arith, pos}
 use Rattle.std.proofs.lemmas.Bool.{cases_eq, cases_lt}
 use Rattle.std.specs.Char.{digit_value}
 use Rattle.std.specs.List.{take_while, All, Contains}
 use Rattle.std.specs.Option.{option_map}
 use Rattle.std.specs.Str.Parse.{digits_value, AllDigits}
 use Rattle.dt_expr.specs.Operators.{wrapped}
-use Rattle.dt_program.specs.Description.{DescForm, form_of_description, ReadsDescription}
+use Rattle.dt_program.specs.Description.{DescForm, ReadsDescription}
+use Rattle.dt_program.specs.declared.description.DescriptionFault.{DescriptionFault}
 use Rattle.dt_program.specs.declared.description.Description.{Description}
-use Rattle.dt_lang.specs.Class.{is_word_byte, is_text_byte, is_description_byte}
+use Rattle.dt_lang.specs.Class.{is_word_byte, is_string_byte, is_description_byte}
+use Rattle.dt_lang.specs.Lexeme.{IsDescriptionToken}
 use Rattle.dt_lang.specs.Number.{IsNumber, IsDecimal, IsOctal, IsHexadecimal}
-use Rattle.dt_lang.specs.Piece.{start_of, identifier_at, NumberOf, text_piece, aggregation_read, BeginsWith, FindsSign}
-use Rattle.dt_lang.specs.Piece.{FindsAs, FindsInBody, head_sign, FindsRun, FindsInHead, FindsInMode, FindsUncommented}
-use Rattle.dt_lang.specs.Piece.{FindsPiece, opens_comment}
+use Rattle.dt_lang.specs.machine.Piece.{start_of, identifier_at, NumberOf, string_piece, aggregation_read, BeginsWith, FindsSign}
+use Rattle.dt_lang.specs.machine.Piece.{FindsAs, FindsInBody, head_sign, FindsRun, FindsInHead, FindsInMode, FindsUncommented}
+use Rattle.dt_lang.specs.machine.Piece.{FindsPiece, opens_comment}
 use Rattle.dt_lang.specs.Spelling.{spelling}
 use Rattle.dt_lang.specs.Word.{name_of_word, IsWord}
 use Rattle.dt_lang.specs.declared.mode.Mode.{Mode}
@@ -219,7 +221,7 @@ some_as start.Letter text =
     let word = some_word (identifier_at text) in
     (piece.Token (token.Word word.0) (length (identifier_at text)), (word.0, word.1, refl))
 some_as start.Digit text = number_found (take_while is_word_byte text) (some_number (take_while is_word_byte text))
-some_as start.Quote text = (text_piece (take_while is_text_byte (drop 1 text)) (drop 1 text), refl)
+some_as start.Quote text = (string_piece (take_while is_string_byte (drop 1 text)) (drop 1 text), refl)
 some_as start.At text = (aggregation_read (identifier_at (drop 1 text)), refl)
 some_as start.Other text = some_sign text
 
@@ -230,19 +232,20 @@ some_in_body text = some_as (start_of (get_or text 0 0)) text
 abbrev description_of : DescForm → Description
 description_of f = record { provider = f.provider; «module» = f.module; function = f.function; name = f.name }
 
-module _ (some_description : (text : List ℕ) → (reading : Option DescForm) × ReadsDescription text reading) where
-  some_option : (run : List ℕ) → (d : Option Description) × ReadsDescription run (option_map form_of_description d)
-  some_option run = of_reading (some_description run).0 (some_description run).1
+module _ (some_description : (text : List ℕ)
+    → (reading : Result DescForm DescriptionFault) × ReadsDescription text reading) where
+  some_token : (run : List ℕ) → (d : Result Description DescriptionFault) × IsDescriptionToken run d
+  some_token run = of_reading (some_description run).0 (some_description run).1
     where
-      of_reading : (reading : Option DescForm) → ReadsDescription run reading
-          → (d : Option Description) × ReadsDescription run (option_map form_of_description d)
-      of_reading (Some form) h = (Some (description_of form), h)
-      of_reading None h = (None, h)
+      of_reading : (reading : Result DescForm DescriptionFault) → ReadsDescription run reading
+          → (d : Result Description DescriptionFault) × IsDescriptionToken run d
+      of_reading (Ok form) h = (Ok (description_of form), h)
+      of_reading (Err fault) h = (Err fault, h)
 
   some_run : (run text : List ℕ) → (found : Piece) × FindsRun run text found
   some_run [] text = (head_sign (get_or text 0 0), refl)
   some_run (byte ∷ run) text =
-      let d = some_option (byte ∷ run) in
+      let d = some_token (byte ∷ run) in
       (piece.Token (token.Description d.0) (length (byte ∷ run)), (d.0, d.1, refl))
 
   some_in_head : (text : List ℕ) → (found : Piece) × FindsInHead text found

@@ -43,12 +43,12 @@ use Rattle.dt_lang.specs.declared.token.Token.TheVariants as token
 use Rattle.dt_lang.specs.declared.word.Word.TheVariants as word
 use Rattle.dt_lang.specs.Expression.{BeginsExpr, OPERAND, EQUALITY, text_token, comparison_of, ReadsExpr, ReadsArgument}
 use Rattle.dt_lang.specs.Expression.{a_text, an_expression}
-use Rattle.dt_lang.specs.ExpressionState.{IsRead, IsReadBy, IsOneText, RunsBy, is_operand, FrameForm, opened, before}
-use Rattle.dt_lang.specs.ExpressionState.{after, HandForm, nothing, whole, lone, compares, State, level_next, Closed}
-use Rattle.dt_lang.specs.ExpressionState.{close, state, start, operator_in, join, leave, follow_sign, follow, compare}
-use Rattle.dt_lang.specs.ExpressionState.{begin_sign, begin, is_foreign_sign, is_foreign, is_number, ends_argument}
-use Rattle.dt_lang.specs.ExpressionState.{step, run, number_alone, done_from, done, wants, wants_at, takes_number}
-use Rattle.dt_lang.specs.ExpressionState.{takes_number_at, takes_text, takes_text_at, step_from}
+use Rattle.dt_lang.specs.machine.ExpressionState.{IsRead, IsReadBy, IsOneText, RunsBy, is_operand, PendingForm, opened, before}
+use Rattle.dt_lang.specs.machine.ExpressionState.{after, HandForm, nothing, whole, lone, compares, State, level_next, Closed}
+use Rattle.dt_lang.specs.machine.ExpressionState.{close, state, start, operator_in, join, leave, follow_sign, follow, compare}
+use Rattle.dt_lang.specs.machine.ExpressionState.{begin_sign, begin, is_foreign_sign, is_foreign, is_number, ends_argument}
+use Rattle.dt_lang.specs.machine.ExpressionState.{step, run, number_alone, done_from, done, wants, wants_at, takes_number}
+use Rattle.dt_lang.specs.machine.ExpressionState.{takes_number_at, takes_text, takes_text_at, step_from}
 use Rattle.dt_program.specs.Clause.{ArgForm, number, text}
 use Rattle.dt_lang.specs.laws.ExpressionSteps.{begins_text, leaves, close_ends}
 pub use Rattle.dt_lang.specs.laws.ExpressionSteps.{run-append, run_more, run_step, run_one}
@@ -62,7 +62,7 @@ complete divides ts f r =
     record {
       at = state divides a.waiting (whole a.bound a.form);
       runs = a.runs;
-      is_done = ap (λ (c : Closed). number_alone c.frames c.form) (a.same 0 (omega arith));
+      is_done = ap (λ (c : Closed). number_alone c.pending c.form) (a.same 0 (omega arith));
     }
 
 pub complete_argument : (ts : List Token) (a : ArgForm) → ReadsArgument ts a → IsRead true ts a
@@ -79,35 +79,35 @@ Shows : (divides : Bool) → List Token → ArgForm → Type 0
 Shows divides ts (number f) = ReadsExpr divides 0 ts f
 Shows divides ts (text a) = IsOneText ts a
 
-whole_shows : (outer divides : Bool) (frames : List FrameForm) (ts front us : List Token) (f : Form) (a : ArgForm)
-    → Waits outer divides frames front → ReadsExpr divides 0 us f → ts ≡ front ++ us
-    → number_alone frames f ≡ Some a → Shows outer ts a
+whole_shows : (outer divides : Bool) (pending : List PendingForm) (ts front us : List Token) (f : Form) (a : ArgForm)
+    → Waits outer divides pending front → ReadsExpr divides 0 us f → ts ≡ front ++ us
+    → number_alone pending f ≡ Some a → Shows outer ts a
 unfolding Shows
 whole_shows outer divides [] ts front us f a (d, e) r q h =
     let same : number f ≡ a = cc in
     subst (Shows outer ts) same
     (subst (λ (x : List Token). ReadsExpr outer 0 x f) (sym (q ∙ ap (λ (x : List Token). x ++ us) e))
     (subst (λ (x : Bool). ReadsExpr x 0 us f) d r))
-whole_shows outer divides (_ ∷ frames) ts front us f a w r q h = cc
+whole_shows outer divides (_ ∷ pending) ts front us f a w r q h = cc
 
-shows_from : (outer divides : Bool) (frames : List FrameForm) (hand : HandForm) (ts : List Token) (a : ArgForm)
-    → Holds outer divides frames hand ts → done_from frames hand ≡ Some a → Shows outer ts a
+shows_from : (outer divides : Bool) (pending : List PendingForm) (hand : HandForm) (ts : List Token) (a : ArgForm)
+    → Holds outer divides pending hand ts → done_from pending hand ≡ Some a → Shows outer ts a
 unfolding Shows
-shows_from outer divides frames (whole level f) ts a h e =
-    let c = close_reads outer divides 0 level frames f h.front h.us h.waits h.loose (omega arith) h.bound h.reads in
-    whole_shows outer divides (close 0 frames f).frames ts c.front c.us (close 0 frames f).form a c.waits c.reads
+shows_from outer divides pending (whole level f) ts a h e =
+    let c = close_reads outer divides 0 level pending f h.front h.us h.waits h.loose (omega arith) h.bound h.reads in
+    whole_shows outer divides (close 0 pending f).pending ts c.front c.us (close 0 pending f).form a c.waits c.reads
     (h.tokens ∙ c.tokens) e
 shows_from outer divides [] (lone b) ts a h e =
     let same : text b ≡ a = cc in
     subst (Shows outer ts) same
     (record { t = h.t; is_text = h.is_text; alone = h.tokens ∙ ap (λ (x : List Token). x ++ (h.t ∷ [])) h.waits.1 })
-shows_from outer divides (_ ∷ frames) (lone b) ts a h e = cc
-shows_from outer divides frames _ ts a h e = cc
+shows_from outer divides (_ ∷ pending) (lone b) ts a h e = cc
+shows_from outer divides pending _ ts a h e = cc
 
 shows : (divides : Bool) (ts : List Token) (s : State) (a : ArgForm) → run (start divides) ts ≡ Some s
     → done s ≡ Some a → Shows divides ts a
 unfolding done
-shows divides ts s a h e = shows_from divides s.divides s.frames s.hand ts a (run_reaches divides s ts h) e
+shows divides ts s a h e = shows_from divides s.divides s.pending s.hand ts a (run_reaches divides s ts h) e
 
 pub sound : (divides : Bool) (ts : List Token) (s : State) (f : Form) → run (start divides) ts ≡ Some s
     → done s ≡ Some (number f) → ReadsExpr divides 0 ts f
@@ -133,36 +133,36 @@ record Finishes (s : State) (more : List Token) : Type 0 where
   runs : run s more ≡ Some at
   is_done : done at ≡ Some (number form)
 
--- the closing parentheses that frames want
-closing : List FrameForm → List Token
+-- the closing parentheses that are pending
+closing : List PendingForm → List Token
 closing [] = []
-closing (opened divides ∷ frames) = token.Sign sign.CloseParen ∷ closing frames
-closing (_ ∷ frames) = closing frames
+closing (opened divides ∷ pending) = token.Sign sign.CloseParen ∷ closing pending
+closing (_ ∷ pending) = closing pending
 
-finishes : (frames : List FrameForm) (f : Form) (divides : Bool) (waiting : List FrameForm) (level : ℕ) (g : Form)
-    → close 0 waiting g ≡ close 0 frames f → Finishes (state divides waiting (whole level g)) (closing frames)
+finishes : (pending : List PendingForm) (f : Form) (divides : Bool) (waiting : List PendingForm) (level : ℕ) (g : Form)
+    → close 0 waiting g ≡ close 0 pending f → Finishes (state divides waiting (whole level g)) (closing pending)
 unfolding close closing done run
 finishes [] f divides waiting level g e = record {
   at = state divides waiting (whole level g);
   form = f;
   runs = refl;
-  is_done = ap (λ (c : Closed). number_alone c.frames c.form) e;
+  is_done = ap (λ (c : Closed). number_alone c.pending c.form) e;
 }
-finishes (opened outside ∷ frames) f divides waiting level g e =
-    let next = state outside frames (whole OPERAND f) in
-    let rest = finishes frames f outside frames OPERAND f refl in
+finishes (opened outside ∷ pending) f divides waiting level g e =
+    let next = state outside pending (whole OPERAND f) in
+    let rest = finishes pending f outside pending OPERAND f refl in
     record {
       at = rest.at;
       form = rest.form;
-      runs = run_step (state divides waiting (whole level g)) next (token.Sign sign.CloseParen) (closing frames)
-          (leaves divides waiting level g ∙ ap (λ (c : Closed). leave c.frames c.form) e) ∙ rest.runs;
+      runs = run_step (state divides waiting (whole level g)) next (token.Sign sign.CloseParen) (closing pending)
+          (leaves divides waiting level g ∙ ap (λ (c : Closed). leave c.pending c.form) e) ∙ rest.runs;
       is_done = rest.is_done;
     }
-finishes (before op ∷ frames) f divides waiting level g e =
-    finishes frames (Prefixed op f) divides waiting level g (e ∙ close_ends 0 (before op) frames f refl)
-finishes (after left op ∷ frames) f divides waiting level g e =
-    finishes frames (Joined op left f) divides waiting level g
-    (e ∙ close_ends 0 (after left op) frames f (leb-zero _))
+finishes (before op ∷ pending) f divides waiting level g e =
+    finishes pending (Prefixed op f) divides waiting level g (e ∙ close_ends 0 (before op) pending f refl)
+finishes (after left op ∷ pending) f divides waiting level g e =
+    finishes pending (Joined op left f) divides waiting level g
+    (e ∙ close_ends 0 (after left op) pending f (leb-zero _))
 
 finishes_first : (s next : State) (t : Token) (more : List Token) → step s t ≡ Some next → Finishes next more
     → Finishes s (t ∷ more)
@@ -172,34 +172,34 @@ finishes_first s next t more h rest =
 a_text_token : Token
 a_text_token = token.Word (word.Text variable.Execname)
 
-compares_finishes : (divides : Bool) (frames : List FrameForm) (op : TextOp) (a : Text)
-    → Finishes (state divides frames (compares op a)) (a_text_token ∷ closing frames)
+compares_finishes : (divides : Bool) (pending : List PendingForm) (op : TextOp) (a : Text)
+    → Finishes (state divides pending (compares op a)) (a_text_token ∷ closing pending)
 unfolding step a_text_token
-compares_finishes divides frames op a =
+compares_finishes divides pending op a =
     let form = Compared op a (operand.Variable variable.Execname) in
-    finishes_first (state divides frames (compares op a)) (state divides frames (whole EQUALITY form)) _ _ refl
-    (finishes frames form divides frames EQUALITY form refl)
+    finishes_first (state divides pending (compares op a)) (state divides pending (whole EQUALITY form)) _ _ refl
+    (finishes pending form divides pending EQUALITY form refl)
 
 -- each state goes on to a whole expression
-some_finish : (divides : Bool) (frames : List FrameForm) (hand : HandForm)
-    → (more : List Token) × Finishes (state divides frames hand) more
+some_finish : (divides : Bool) (pending : List PendingForm) (hand : HandForm)
+    → (more : List Token) × Finishes (state divides pending hand) more
 unfolding step
-some_finish divides frames nothing = (
-  token.Number (pos 0) ∷ closing frames,
-  finishes_first (state divides frames nothing) (state divides frames (whole OPERAND (Num (pos 0)))) _ _ refl
-      (finishes frames (Num (pos 0)) divides frames OPERAND (Num (pos 0)) refl),
+some_finish divides pending nothing = (
+  token.Number (pos 0) ∷ closing pending,
+  finishes_first (state divides pending nothing) (state divides pending (whole OPERAND (Num (pos 0)))) _ _ refl
+      (finishes pending (Num (pos 0)) divides pending OPERAND (Num (pos 0)) refl),
 )
-some_finish divides frames (whole level f) = (closing frames, finishes frames f divides frames level f refl)
-some_finish divides frames (compares op a) = (a_text_token ∷ closing frames, compares_finishes divides frames op a)
-some_finish divides frames (lone a) = (
-  token.Sign sign.EqualEqual ∷ a_text_token ∷ closing frames,
-  finishes_first (state divides frames (lone a)) (state divides frames (compares comparison.Equal a)) _ _ refl
-      (compares_finishes divides frames comparison.Equal a),
+some_finish divides pending (whole level f) = (closing pending, finishes pending f divides pending level f refl)
+some_finish divides pending (compares op a) = (a_text_token ∷ closing pending, compares_finishes divides pending op a)
+some_finish divides pending (lone a) = (
+  token.Sign sign.EqualEqual ∷ a_text_token ∷ closing pending,
+  finishes_first (state divides pending (lone a)) (state divides pending (compares comparison.Equal a)) _ _ refl
+      (compares_finishes divides pending comparison.Equal a),
 )
 
 pub viable : (divides : Bool) (ts : List Token) (s : State) → run (start divides) ts ≡ Some s → BeginsExpr divides ts
 viable divides ts s h =
-    let end = some_finish s.divides s.frames s.hand in
+    let end = some_finish s.divides s.pending s.hand in
     record {
       more = end.0;
       form = end.1.form;
@@ -208,9 +208,9 @@ viable divides ts s h =
     }
 
 -- nothing but an operator goes on with what is whole
-alone_is : (frames : List FrameForm) (f : Form) (a : ArgForm) → number_alone frames f ≡ Some a → frames ≡ []
+alone_is : (pending : List PendingForm) (f : Form) (a : ArgForm) → number_alone pending f ≡ Some a → pending ≡ []
 alone_is [] f a h = refl
-alone_is (_ ∷ frames) f a h = cc
+alone_is (_ ∷ pending) f a h = cc
 
 is_none_means : {A : Type 0} → (o : Option A) → is_none o ≡ true → o ≡ None
 is_none_means None h = refl
@@ -221,73 +221,73 @@ no_comparison divides sign.EqualEqual h = cc
 no_comparison divides sign.BangEqual h = cc
 no_comparison divides _ h = refl
 
-ends_sign : (divides : Bool) (frames : List FrameForm) (level : ℕ) (f : Form) (s : Sign)
-    → (close 0 frames f).frames ≡ [] → is_none (operator_in divides s) ≡ true
-    → follow_sign divides frames level f s ≡ None
-ends_sign divides frames level f sign.CloseParen e h =
-    ap (λ (x : List FrameForm). leave x (close 0 frames f).form) e
-ends_sign divides frames level f s e h =
-    ap (option_and_then (join divides frames level f)) (is_none_means (operator_in divides s) h)
+ends_sign : (divides : Bool) (pending : List PendingForm) (level : ℕ) (f : Form) (s : Sign)
+    → (close 0 pending f).pending ≡ [] → is_none (operator_in divides s) ≡ true
+    → follow_sign divides pending level f s ≡ None
+ends_sign divides pending level f sign.CloseParen e h =
+    ap (λ (x : List PendingForm). leave x (close 0 pending f).form) e
+ends_sign divides pending level f s e h =
+    ap (option_and_then (join divides pending level f)) (is_none_means (operator_in divides s) h)
 
-ends_whole : (outer divides : Bool) (frames : List FrameForm) (level : ℕ) (f : Form) (ts : List Token) (t : Token)
-    → HoldsWhole outer divides frames level f ts → (close 0 frames f).frames ≡ [] → ends_argument outer t ≡ true
-    → follow divides frames level f t ≡ None
-ends_whole outer divides frames level f ts (token.Sign s) h e k =
-    let c = close_reads outer divides 0 level frames f h.front h.us h.waits h.loose (omega arith) h.bound h.reads in
-    let same : divides ≡ outer = (subst (λ (x : List FrameForm). Waits outer divides x c.front) e c.waits).0 in
-    ends_sign divides frames level f s e (subst (λ (x : Bool). is_none (operator_in x s) ≡ true) (sym same) k)
-ends_whole outer divides frames level f ts _ h e k = refl
+ends_whole : (outer divides : Bool) (pending : List PendingForm) (level : ℕ) (f : Form) (ts : List Token) (t : Token)
+    → HoldsWhole outer divides pending level f ts → (close 0 pending f).pending ≡ [] → ends_argument outer t ≡ true
+    → follow divides pending level f t ≡ None
+ends_whole outer divides pending level f ts (token.Sign s) h e k =
+    let c = close_reads outer divides 0 level pending f h.front h.us h.waits h.loose (omega arith) h.bound h.reads in
+    let same : divides ≡ outer = (subst (λ (x : List PendingForm). Waits outer divides x c.front) e c.waits).0 in
+    ends_sign divides pending level f s e (subst (λ (x : Bool). is_none (operator_in x s) ≡ true) (sym same) k)
+ends_whole outer divides pending level f ts _ h e k = refl
 
-ends_text : (outer divides : Bool) (frames : List FrameForm) (a : Text) (t : Token) → ends_argument outer t ≡ true
-    → compare divides frames a t ≡ None
-ends_text outer divides frames a (token.Sign s) k =
-    ap (option_map (λ (op : TextOp). state divides frames (compares op a))) (no_comparison outer s k)
-ends_text outer divides frames a _ k = refl
+ends_text : (outer divides : Bool) (pending : List PendingForm) (a : Text) (t : Token) → ends_argument outer t ≡ true
+    → compare divides pending a t ≡ None
+ends_text outer divides pending a (token.Sign s) k =
+    ap (option_map (λ (op : TextOp). state divides pending (compares op a))) (no_comparison outer s k)
+ends_text outer divides pending a _ k = refl
 
-ends_from : (outer divides : Bool) (frames : List FrameForm) (hand : HandForm) (ts : List Token) (a : ArgForm)
-    (t : Token) → Holds outer divides frames hand ts → done_from frames hand ≡ Some a → ends_argument outer t ≡ true
-    → step_from divides frames hand t ≡ None
-ends_from outer divides frames (whole level f) ts a t h e k =
-    ends_whole outer divides frames level f ts t h (alone_is (close 0 frames f).frames (close 0 frames f).form a e) k
-ends_from outer divides frames (lone b) ts a t h e k = ends_text outer divides frames b t k
-ends_from outer divides frames _ ts a t h e k = cc
+ends_from : (outer divides : Bool) (pending : List PendingForm) (hand : HandForm) (ts : List Token) (a : ArgForm)
+    (t : Token) → Holds outer divides pending hand ts → done_from pending hand ≡ Some a → ends_argument outer t ≡ true
+    → step_from divides pending hand t ≡ None
+ends_from outer divides pending (whole level f) ts a t h e k =
+    ends_whole outer divides pending level f ts t h (alone_is (close 0 pending f).pending (close 0 pending f).form a e) k
+ends_from outer divides pending (lone b) ts a t h e k = ends_text outer divides pending b t k
+ends_from outer divides pending _ ts a t h e k = cc
 
 pub ends : (divides : Bool) (ts : List Token) (s : State) (a : ArgForm) (t : Token) → run (start divides) ts ≡ Some s
     → done s ≡ Some a → ends_argument divides t ≡ true → step s t ≡ None
 unfolding done step
 ends divides ts s a t h e k =
-    ends_from divides s.divides s.frames s.hand ts a t (run_reaches divides s ts h) e k
+    ends_from divides s.divides s.pending s.hand ts a t (run_reaches divides s ts h) e k
 
-begin_foreign_sign : (divides : Bool) (frames : List FrameForm) (s : Sign) → is_foreign_sign s ≡ true
-    → begin_sign divides frames s ≡ None
-begin_foreign_sign divides frames sign.OpenBracket h = refl
-begin_foreign_sign divides frames sign.CloseBracket h = refl
-begin_foreign_sign divides frames sign.OpenBrace h = refl
-begin_foreign_sign divides frames sign.CloseBrace h = refl
-begin_foreign_sign divides frames sign.Comma h = refl
-begin_foreign_sign divides frames sign.Semicolon h = refl
-begin_foreign_sign divides frames sign.Equal h = refl
-begin_foreign_sign divides frames _ h = cc
+begin_foreign_sign : (divides : Bool) (pending : List PendingForm) (s : Sign) → is_foreign_sign s ≡ true
+    → begin_sign divides pending s ≡ None
+begin_foreign_sign divides pending sign.OpenBracket h = refl
+begin_foreign_sign divides pending sign.CloseBracket h = refl
+begin_foreign_sign divides pending sign.OpenBrace h = refl
+begin_foreign_sign divides pending sign.CloseBrace h = refl
+begin_foreign_sign divides pending sign.Comma h = refl
+begin_foreign_sign divides pending sign.Semicolon h = refl
+begin_foreign_sign divides pending sign.Equal h = refl
+begin_foreign_sign divides pending _ h = cc
 
-follow_foreign_sign : (divides : Bool) (frames : List FrameForm) (level : ℕ) (f : Form) (s : Sign)
-    → is_foreign_sign s ≡ true → follow_sign divides frames level f s ≡ None
-follow_foreign_sign divides frames level f sign.OpenBracket h = refl
-follow_foreign_sign divides frames level f sign.CloseBracket h = refl
-follow_foreign_sign divides frames level f sign.OpenBrace h = refl
-follow_foreign_sign divides frames level f sign.CloseBrace h = refl
-follow_foreign_sign divides frames level f sign.Comma h = refl
-follow_foreign_sign divides frames level f sign.Semicolon h = refl
-follow_foreign_sign divides frames level f sign.Equal h = refl
-follow_foreign_sign divides frames level f _ h = cc
+follow_foreign_sign : (divides : Bool) (pending : List PendingForm) (level : ℕ) (f : Form) (s : Sign)
+    → is_foreign_sign s ≡ true → follow_sign divides pending level f s ≡ None
+follow_foreign_sign divides pending level f sign.OpenBracket h = refl
+follow_foreign_sign divides pending level f sign.CloseBracket h = refl
+follow_foreign_sign divides pending level f sign.OpenBrace h = refl
+follow_foreign_sign divides pending level f sign.CloseBrace h = refl
+follow_foreign_sign divides pending level f sign.Comma h = refl
+follow_foreign_sign divides pending level f sign.Semicolon h = refl
+follow_foreign_sign divides pending level f sign.Equal h = refl
+follow_foreign_sign divides pending level f _ h = cc
 
-begin_foreign : (divides : Bool) (frames : List FrameForm) (t : Token) → is_foreign t ≡ true
-    → begin divides frames t ≡ None
-begin_foreign divides frames (token.Sign s) h = begin_foreign_sign divides frames s h
-begin_foreign divides frames (token.Number z) h = cc
-begin_foreign divides frames (token.Text bytes) h = cc
-begin_foreign divides frames (token.Word (word.Number v)) h = cc
-begin_foreign divides frames (token.Word (word.Text v)) h = cc
-begin_foreign divides frames _ h = refl
+begin_foreign : (divides : Bool) (pending : List PendingForm) (t : Token) → is_foreign t ≡ true
+    → begin divides pending t ≡ None
+begin_foreign divides pending (token.Sign s) h = begin_foreign_sign divides pending s h
+begin_foreign divides pending (token.Number z) h = cc
+begin_foreign divides pending (token.String bytes) h = cc
+begin_foreign divides pending (token.Word (word.Number v)) h = cc
+begin_foreign divides pending (token.Word (word.Text v)) h = cc
+begin_foreign divides pending _ h = refl
 
 no_foreign_comparison : (s : Sign) → is_foreign_sign s ≡ true → comparison_of s ≡ None
 no_foreign_comparison sign.EqualEqual h = cc
@@ -295,78 +295,78 @@ no_foreign_comparison sign.BangEqual h = cc
 no_foreign_comparison _ h = refl
 
 no_foreign_text : (t : Token) → is_foreign t ≡ true → text_token t ≡ None
-no_foreign_text (token.Text bytes) h = cc
+no_foreign_text (token.String bytes) h = cc
 no_foreign_text (token.Word (word.Text v)) h = cc
 no_foreign_text _ h = refl
 
-foreign_from : (divides : Bool) (frames : List FrameForm) (hand : HandForm) (t : Token) → is_foreign t ≡ true
-    → step_from divides frames hand t ≡ None
-foreign_from divides frames nothing t h = begin_foreign divides frames t h
-foreign_from divides frames (whole level f) (token.Sign s) h = follow_foreign_sign divides frames level f s h
-foreign_from divides frames (whole level f) _ h = refl
-foreign_from divides frames (lone a) (token.Sign s) h =
-    ap (option_map (λ (op : TextOp). state divides frames (compares op a))) (no_foreign_comparison s h)
-foreign_from divides frames (lone a) _ h = refl
-foreign_from divides frames (compares op a) t h =
-    ap (option_map (λ (b : Text). state divides frames (whole EQUALITY (Compared op a b)))) (no_foreign_text t h)
+foreign_from : (divides : Bool) (pending : List PendingForm) (hand : HandForm) (t : Token) → is_foreign t ≡ true
+    → step_from divides pending hand t ≡ None
+foreign_from divides pending nothing t h = begin_foreign divides pending t h
+foreign_from divides pending (whole level f) (token.Sign s) h = follow_foreign_sign divides pending level f s h
+foreign_from divides pending (whole level f) _ h = refl
+foreign_from divides pending (lone a) (token.Sign s) h =
+    ap (option_map (λ (op : TextOp). state divides pending (compares op a))) (no_foreign_comparison s h)
+foreign_from divides pending (lone a) _ h = refl
+foreign_from divides pending (compares op a) t h =
+    ap (option_map (λ (b : Text). state divides pending (whole EQUALITY (Compared op a b)))) (no_foreign_text t h)
 
 pub foreign : (s : State) (t : Token) → is_foreign t ≡ true → step s t ≡ None
 unfolding step
-foreign s t h = foreign_from s.divides s.frames s.hand t h
+foreign s t h = foreign_from s.divides s.pending s.hand t h
 
-number_from : (divides : Bool) (frames : List FrameForm) (hand : HandForm) (t : Token) → is_number t ≡ true
-    → is_some (step_from divides frames hand t) ≡ takes_number_at hand
-number_from divides frames nothing (token.Number z) h = refl
-number_from divides frames nothing (token.Word (word.Number v)) h = refl
-number_from divides frames (whole level f) (token.Number z) h = refl
-number_from divides frames (whole level f) (token.Word (word.Number v)) h = refl
-number_from divides frames (lone a) (token.Number z) h = refl
-number_from divides frames (lone a) (token.Word (word.Number v)) h = refl
-number_from divides frames (compares op a) (token.Number z) h = refl
-number_from divides frames (compares op a) (token.Word (word.Number v)) h = refl
-number_from divides frames _ _ h = cc
+number_from : (divides : Bool) (pending : List PendingForm) (hand : HandForm) (t : Token) → is_number t ≡ true
+    → is_some (step_from divides pending hand t) ≡ takes_number_at hand
+number_from divides pending nothing (token.Number z) h = refl
+number_from divides pending nothing (token.Word (word.Number v)) h = refl
+number_from divides pending (whole level f) (token.Number z) h = refl
+number_from divides pending (whole level f) (token.Word (word.Number v)) h = refl
+number_from divides pending (lone a) (token.Number z) h = refl
+number_from divides pending (lone a) (token.Word (word.Number v)) h = refl
+number_from divides pending (compares op a) (token.Number z) h = refl
+number_from divides pending (compares op a) (token.Word (word.Number v)) h = refl
+number_from divides pending _ _ h = cc
 
 pub number_goes_on : (s : State) (t : Token) → is_number t ≡ true → is_some (step s t) ≡ takes_number s
 unfolding step
-number_goes_on s t h = number_from s.divides s.frames s.hand t h
+number_goes_on s t h = number_from s.divides s.pending s.hand t h
 
 is_some_if : (b : Bool) (s : State) → is_some (if b then Some s else None) ≡ b
 is_some_if true s = refl
 is_some_if false s = refl
 
-text_from : (divides : Bool) (frames : List FrameForm) (hand : HandForm) (t : Token) (a : Text) → text_token t ≡ Some a
-    → is_some (step_from divides frames hand t) ≡ takes_text_at frames hand
-text_from divides frames nothing (token.Text bytes) a h = is_some_if (leb (level_next frames) EQUALITY) _
-text_from divides frames nothing (token.Word (word.Text v)) a h = is_some_if (leb (level_next frames) EQUALITY) _
-text_from divides frames (compares op b) (token.Text bytes) a h = refl
-text_from divides frames (compares op b) (token.Word (word.Text v)) a h = refl
-text_from divides frames (whole level f) (token.Text bytes) a h = refl
-text_from divides frames (whole level f) (token.Word (word.Text v)) a h = refl
-text_from divides frames (lone b) (token.Text bytes) a h = refl
-text_from divides frames (lone b) (token.Word (word.Text v)) a h = refl
-text_from divides frames _ _ a h = cc
+text_from : (divides : Bool) (pending : List PendingForm) (hand : HandForm) (t : Token) (a : Text) → text_token t ≡ Some a
+    → is_some (step_from divides pending hand t) ≡ takes_text_at pending hand
+text_from divides pending nothing (token.String bytes) a h = is_some_if (leb (level_next pending) EQUALITY) _
+text_from divides pending nothing (token.Word (word.Text v)) a h = is_some_if (leb (level_next pending) EQUALITY) _
+text_from divides pending (compares op b) (token.String bytes) a h = refl
+text_from divides pending (compares op b) (token.Word (word.Text v)) a h = refl
+text_from divides pending (whole level f) (token.String bytes) a h = refl
+text_from divides pending (whole level f) (token.Word (word.Text v)) a h = refl
+text_from divides pending (lone b) (token.String bytes) a h = refl
+text_from divides pending (lone b) (token.Word (word.Text v)) a h = refl
+text_from divides pending _ _ a h = cc
 
 pub text_goes_on : (s : State) (t : Token) (a : Text) → text_token t ≡ Some a → is_some (step s t) ≡ takes_text s
 unfolding step
-text_goes_on s t a h = text_from s.divides s.frames s.hand t a h
+text_goes_on s t a h = text_from s.divides s.pending s.hand t a h
 
-wants_from : (frames : List FrameForm) (hand : HandForm)
-    → (takes_number_at hand || takes_text_at frames hand) ≡ wants_at hand
-wants_from frames nothing = refl
-wants_from frames _ = refl
+wants_from : (pending : List PendingForm) (hand : HandForm)
+    → (takes_number_at hand || takes_text_at pending hand) ≡ wants_at hand
+wants_from pending nothing = refl
+wants_from pending _ = refl
 
 pub wants_operand : (s : State) → (takes_number s || takes_text s) ≡ wants s
-wants_operand s = wants_from s.frames s.hand
+wants_operand s = wants_from s.pending s.hand
 
-done_from_wants : (frames : List FrameForm) (hand : HandForm) (a : ArgForm) → done_from frames hand ≡ Some a
+done_from_wants : (pending : List PendingForm) (hand : HandForm) (a : ArgForm) → done_from pending hand ≡ Some a
     → wants_at hand ≡ false
-done_from_wants frames (whole level f) a h = refl
-done_from_wants frames (lone b) a h = refl
-done_from_wants frames _ a h = cc
+done_from_wants pending (whole level f) a h = refl
+done_from_wants pending (lone b) a h = refl
+done_from_wants pending _ a h = cc
 
 pub done_wants_none : (s : State) (a : ArgForm) → done s ≡ Some a → wants s ≡ false
 unfolding done
-done_wants_none s a h = done_from_wants s.frames s.hand a h
+done_wants_none s a h = done_from_wants s.pending s.hand a h
 
 -- what is read is read once
 one_read : (divides : Bool) (ts : List Token) (a b : ArgForm) → IsRead divides ts a → IsRead divides ts b → a ≡ b
@@ -405,14 +405,14 @@ complete_by divides ts us f h = read_by divides ts us (number f) (complete divid
 pub complete_argument_by : (ts us : List Token) (a : ArgForm) → ReadsArgument (ts ++ us) a → IsReadBy true ts us a
 complete_argument_by ts us a h = read_by true ts us a (complete_argument (ts ++ us) a h)
 
-operand_from : (divides : Bool) (frames : List FrameForm) (hand : HandForm) (t : Token) → wants_at hand ≡ false
-    → is_operand t ≡ true → step_from divides frames hand t ≡ None
-operand_from divides frames (whole level f) (token.Sign s) h k = cc
-operand_from divides frames (whole level f) _ h k = refl
-operand_from divides frames (lone a) (token.Sign s) h k = cc
-operand_from divides frames (lone a) _ h k = refl
-operand_from divides frames _ t h k = cc
+operand_from : (divides : Bool) (pending : List PendingForm) (hand : HandForm) (t : Token) → wants_at hand ≡ false
+    → is_operand t ≡ true → step_from divides pending hand t ≡ None
+operand_from divides pending (whole level f) (token.Sign s) h k = cc
+operand_from divides pending (whole level f) _ h k = refl
+operand_from divides pending (lone a) (token.Sign s) h k = cc
+operand_from divides pending (lone a) _ h k = refl
+operand_from divides pending _ t h k = cc
 
 pub no_operand : (s : State) (t : Token) → wants s ≡ false → is_operand t ≡ true → step s t ≡ None
 unfolding step
-no_operand s t h k = operand_from s.divides s.frames s.hand t h k
+no_operand s t h k = operand_from s.divides s.pending s.hand t h k

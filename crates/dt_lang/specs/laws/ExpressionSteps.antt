@@ -13,8 +13,8 @@ use Rattle.dt_lang.specs.declared.token.Token.{Token}
 use Rattle.dt_lang.specs.declared.token.Token.TheVariants as token
 use Rattle.dt_lang.specs.declared.word.Word.TheVariants as word
 use Rattle.dt_lang.specs.Expression.{prefix_of, binding, OPERAND, text_token, IsOperator}
-use Rattle.dt_lang.specs.ExpressionState.{FrameForm, opened, before, after, nothing, whole, State, level_next, binds}
-use Rattle.dt_lang.specs.ExpressionState.{around, close, state, begin_text, operator_in, wait, join, leave, step, run}
+use Rattle.dt_lang.specs.machine.ExpressionState.{PendingForm, opened, before, after, nothing, whole, State, level_next, binds}
+use Rattle.dt_lang.specs.machine.ExpressionState.{around, close, state, begin_text, operator_in, wait, join, leave, step, run}
 
 -- going on is going on
 pub run-append : (s : State) (ts us : List Token) → run s (ts ++ us)
@@ -51,37 +51,37 @@ pub binding-lt : (op : BinaryOp) → binding op < OPERAND
 binding-lt binary.Or = omega arith
 binding-lt _ = omega arith
 
--- frames that bind looser stay
-pub close_stays : (level : ℕ) (frames : List FrameForm) (f : Form) → level_next frames ≤ level → level < OPERAND
-    → close level frames f ≡ record { frames = frames; form = f }
+-- what binds looser stays pending
+pub close_stays : (level : ℕ) (pending : List PendingForm) (f : Form) → level_next pending ≤ level → level < OPERAND
+    → close level pending f ≡ record { pending = pending; form = f }
 unfolding close
 close_stays level [] f h k = refl
-close_stays level (opened divides ∷ frames) f h k = refl
-close_stays level (before op ∷ frames) f h k = absurd (omega arith)
-close_stays level (after left op ∷ frames) f h k =
+close_stays level (opened divides ∷ pending) f h k = refl
+close_stays level (before op ∷ pending) f h k = absurd (omega arith)
+close_stays level (after left op ∷ pending) f h k =
     let loose : leb level (binding op) ≡ false = lt-leb level (binding op) (omega arith) in
-    ap (λ (b : Bool). if b then close level frames (Joined op left f)
-    else record { frames = after left op ∷ frames; form = f }) loose
+    ap (λ (b : Bool). if b then close level pending (Joined op left f)
+    else record { pending = after left op ∷ pending; form = f }) loose
 
--- a frame that binds so tightly is ended
-pub close_ends : (level : ℕ) (frame : FrameForm) (frames : List FrameForm) (f : Form) → binds level frame ≡ true
-    → close level (frame ∷ frames) f ≡ close level frames (around frame f)
+-- what binds so tightly is ended
+pub close_ends : (level : ℕ) (top : PendingForm) (pending : List PendingForm) (f : Form) → binds level top ≡ true
+    → close level (top ∷ pending) f ≡ close level pending (around top f)
 unfolding close
-close_ends level frame frames f h = ap (λ (b : Bool). if b then close level frames (around frame f)
-    else record { frames = frame ∷ frames; form = f }) h
+close_ends level top pending f h = ap (λ (b : Bool). if b then close level pending (around top f)
+    else record { pending = top ∷ pending; form = f }) h
 
-pub begins_sign : (divides : Bool) (frames : List FrameForm) (s : Sign) (op : UnaryOp) → prefix_of s ≡ Some op
-    → step (state divides frames nothing) (token.Sign s) ≡ Some (state divides (before op ∷ frames) nothing)
+pub begins_sign : (divides : Bool) (pending : List PendingForm) (s : Sign) (op : UnaryOp) → prefix_of s ≡ Some op
+    → step (state divides pending nothing) (token.Sign s) ≡ Some (state divides (before op ∷ pending) nothing)
 unfolding step
-begins_sign divides frames sign.OpenParen op h = cc
-begins_sign divides frames s op h = ap (option_map (λ (o : UnaryOp). state divides (before o ∷ frames) nothing)) h
+begins_sign divides pending sign.OpenParen op h = cc
+begins_sign divides pending s op h = ap (option_map (λ (o : UnaryOp). state divides (before o ∷ pending) nothing)) h
 
-pub begins_text : (divides : Bool) (frames : List FrameForm) (t : Token) (a : Text) → text_token t ≡ Some a
-    → step (state divides frames nothing) t ≡ begin_text divides frames a
+pub begins_text : (divides : Bool) (pending : List PendingForm) (t : Token) (a : Text) → text_token t ≡ Some a
+    → step (state divides pending nothing) t ≡ begin_text divides pending a
 unfolding step
-begins_text divides frames (token.Text bytes) a h = ap (begin_text divides frames) (cc)
-begins_text divides frames (token.Word (word.Text v)) a h = ap (begin_text divides frames) (cc)
-begins_text divides frames _ a h = cc
+begins_text divides pending (token.String bytes) a h = ap (begin_text divides pending) (cc)
+begins_text divides pending (token.Word (word.Text v)) a h = ap (begin_text divides pending) (cc)
+begins_text divides pending _ a h = cc
 
 pub operator_here : (divides : Bool) (s : Sign) (op : BinaryOp) → IsOperator divides s op
     → operator_in divides s ≡ Some op
@@ -96,24 +96,24 @@ operator_is false sign.Slash op h = cc
 operator_is divides s op h = record { names = h; allowed = λ e. cc }
 
 -- an operator goes on with what binds tightly enough
-pub joins : (divides : Bool) (frames : List FrameForm) (level : ℕ) (f : Form) (s : Sign) (op : BinaryOp)
+pub joins : (divides : Bool) (pending : List PendingForm) (level : ℕ) (f : Form) (s : Sign) (op : BinaryOp)
     → operator_in divides s ≡ Some op
-    → step (state divides frames (whole level f)) (token.Sign s) ≡ join divides frames level f op
+    → step (state divides pending (whole level f)) (token.Sign s) ≡ join divides pending level f op
 unfolding step
-joins divides frames level f sign.CloseParen op h = cc
-joins divides frames level f s op h = ap (option_and_then (join divides frames level f)) h
+joins divides pending level f sign.CloseParen op h = cc
+joins divides pending level f s op h = ap (option_and_then (join divides pending level f)) h
 
-pub follows : (divides : Bool) (frames : List FrameForm) (level : ℕ) (f : Form) (s : Sign) (op : BinaryOp)
+pub follows : (divides : Bool) (pending : List PendingForm) (level : ℕ) (f : Form) (s : Sign) (op : BinaryOp)
     → IsOperator divides s op → binding op ≤ level
-    → step (state divides frames (whole level f)) (token.Sign s)
-    ≡ Some (wait divides (close (binding op) frames f) op)
-follows divides frames level f s op h k =
-    joins divides frames level f s op (operator_here divides s op h)
-    ∙ ap (λ (b : Bool). if b then Some (wait divides (close (binding op) frames f) op) else None)
+    → step (state divides pending (whole level f)) (token.Sign s)
+    ≡ Some (wait divides (close (binding op) pending f) op)
+follows divides pending level f s op h k =
+    joins divides pending level f s op (operator_here divides s op h)
+    ∙ ap (λ (b : Bool). if b then Some (wait divides (close (binding op) pending f) op) else None)
     (le-leb (binding op) level k)
 
-pub leaves : (divides : Bool) (frames : List FrameForm) (level : ℕ) (f : Form)
-    → step (state divides frames (whole level f)) (token.Sign sign.CloseParen)
-    ≡ leave (close 0 frames f).frames (close 0 frames f).form
+pub leaves : (divides : Bool) (pending : List PendingForm) (level : ℕ) (f : Form)
+    → step (state divides pending (whole level f)) (token.Sign sign.CloseParen)
+    ≡ leave (close 0 pending f).pending (close 0 pending f).form
 unfolding step
-leaves divides frames level f = refl
+leaves divides pending level f = refl

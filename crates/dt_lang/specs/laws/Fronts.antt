@@ -6,10 +6,10 @@ use Rattle.std.specs.Char.{is_ascii_digit}
 use Rattle.std.specs.List.{AllPass}
 use Rattle.std.specs.Str.Parse.{AllDigits}
 use Rattle.dt_names.specs.declared.short_text.TheConstants.{SHORT_TEXT_MAX}
-use Rattle.dt_lang.specs.Class.{is_word_byte, is_text_byte}
+use Rattle.dt_lang.specs.Class.{is_word_byte, is_string_byte}
 use Rattle.dt_lang.specs.Lexeme.{IsIdentifier, IsAggregationName, OPENING, IsBodyPiece}
 use Rattle.dt_lang.specs.Number.{IsNumber, IsDecimal, IsOctal}
-use Rattle.dt_lang.specs.Piece.{start_of, NumberOf, aggregation_read}
+use Rattle.dt_lang.specs.machine.Piece.{start_of, NumberOf, aggregation_read}
 use Rattle.dt_lang.specs.Spelling.{spelling}
 use Rattle.dt_lang.specs.Word.{IsWord}
 use Rattle.dt_lang.specs.declared.piece.Piece.{Piece}
@@ -17,6 +17,7 @@ use Rattle.dt_lang.specs.declared.piece.Piece.TheVariants as piece
 use Rattle.dt_lang.specs.declared.piece.Start.{Start}
 use Rattle.dt_lang.specs.declared.piece.Start.TheVariants as start
 use Rattle.dt_lang.specs.declared.token.Sign.{Sign}
+use Rattle.dt_lang.specs.declared.fault.Limit.TheVariants.{StringBytes, NameBytes}
 use Rattle.dt_lang.specs.declared.token.Sign.TheVariants as sign
 use Rattle.dt_lang.specs.declared.token.Token.TheVariants as token
 use Rattle.dt_lang.specs.declared.word.Word.{Word}
@@ -29,12 +30,12 @@ use Rattle.dt_lang.specs.laws.Starts.{letter, digit, decimal_digit, word_of_valu
 pub record Closed (bytes inside : List ℕ) (found : Piece) : Type 0 where
   pub cut : bytes ≡ 34 ∷ (inside ++ (34 ∷ []))
   pub short : length inside ≤ SHORT_TEXT_MAX
-  pub is : found ≡ piece.Token (token.Text inside) (length bytes)
+  pub is : found ≡ piece.Token (token.String inside) (length bytes)
 
 pub record Open (bytes inside : List ℕ) (found : Piece) : Type 0 where
   pub cut : bytes ≡ 34 ∷ inside
   pub long : SHORT_TEXT_MAX < length inside
-  pub is : found ≡ piece.Overlong
+  pub is : found ≡ piece.Overlong StringBytes (length bytes)
 
 -- what is known of a piece that begins so
 abbrev pub Fits : Start → List ℕ → Piece → Type 0
@@ -42,7 +43,7 @@ Fits start.Letter bytes found = AllPass is_word_byte bytes
     × ((w : Word) × IsWord bytes w × (found ≡ piece.Token (token.Word w) (length bytes)))
 Fits start.Digit bytes found = AllPass is_word_byte bytes × NumberOf bytes found
 Fits start.Quote bytes found =
-    (inside : List ℕ) × AllPass is_text_byte inside × (Closed bytes inside found ⊎ Open bytes inside found)
+    (inside : List ℕ) × AllPass is_string_byte inside × (Closed bytes inside found ⊎ Open bytes inside found)
 Fits start.At bytes found =
     (name : List ℕ) × (bytes ≡ 64 ∷ name) × IsAggregationName name × (found ≡ aggregation_read name)
 Fits start.Other bytes found =
@@ -142,12 +143,13 @@ is_long n m h = grind (arith, nat_tests)
 pub short_aggregation : (name : List ℕ) → length name ≤ SHORT_TEXT_MAX
     → aggregation_read name ≡ piece.Token (token.Aggregation name) (length name + 1)
 short_aggregation name h =
-    ap (λ b. cond b piece.Overlong (piece.Token (token.Aggregation name) (length name + 1)))
+    ap (λ b. cond b (piece.Overlong NameBytes (length name + 1)) (piece.Token (token.Aggregation name) (length name + 1)))
     (not_long (length name) SHORT_TEXT_MAX h)
 
-pub long_aggregation : (name : List ℕ) → SHORT_TEXT_MAX < length name → aggregation_read name ≡ piece.Overlong
+pub long_aggregation : (name : List ℕ) → SHORT_TEXT_MAX < length name
+    → aggregation_read name ≡ piece.Overlong NameBytes (length name + 1)
 long_aggregation name h =
-    ap (λ b. cond b piece.Overlong (piece.Token (token.Aggregation name) (length name + 1)))
+    ap (λ b. cond b (piece.Overlong NameBytes (length name + 1)) (piece.Token (token.Aggregation name) (length name + 1)))
     (is_long (length name) SHORT_TEXT_MAX h)
 
 word_front : (bytes : List ℕ) (w : Word) (size : ℕ) → IsIdentifier bytes → IsWord bytes w → size ≡ length bytes
@@ -164,9 +166,9 @@ pub front_of : (bytes : List ℕ) (found : Piece) → IsBodyPiece bytes found �
 front_of bytes (piece.Token (token.Word w) size) (t, e) = word_front bytes w size t.0 t.1 e
 front_of bytes (piece.Token (token.Number z) size) (t, e) =
     number_front bytes _ (number_run bytes t.0 t.1) (t.0, t.1, ap token.Number t.2, e)
-front_of bytes (piece.Token (token.Text inside) size) (t, e) =
+front_of bytes (piece.Token (token.String inside) size) (t, e) =
     front start.Quote bytes _ (cons_some bytes 34 _ t.0) (start_at bytes 34 _ t.0)
-    (inside, t.1, inl (record { cut = t.0; short = t.2; is = ap (λ n. piece.Token (token.Text inside) n) e }))
+    (inside, t.1, inl (record { cut = t.0; short = t.2; is = ap (λ n. piece.Token (token.String inside) n) e }))
 front_of bytes (piece.Token (token.Aggregation name) size) (t, e) =
     let len : size ≡ length name + 1 = e ∙ ap (λ (s : List ℕ). length s) t.0 ∙ (omega arith) in
     front start.At bytes _ (cons_some bytes 64 name t.0) (start_at bytes 64 name t.0)
@@ -176,12 +178,14 @@ front_of bytes (piece.Token (token.Sign s) size) (t, e) =
     (ap (λ (b : List ℕ). start_of (get_or b 0 0)) t ∙ sign_starts s)
     (inl (s, t, ap (λ n. piece.Token (token.Sign s) n) e))
 front_of bytes (piece.Token (token.Description d) size) (t, e) = absurd t
-front_of bytes piece.Overlong h = elim h.begins [
-  | inl q ↦ front start.Quote bytes piece.Overlong (cons_some bytes 34 h.inside q.0) (start_at bytes 34 h.inside q.0)
-      (h.inside, q.1, inr (record { cut = q.0; long = h.long; is = refl }))
-  | inr a ↦ front start.At bytes piece.Overlong (cons_some bytes 64 h.inside a.0) (start_at bytes 64 h.inside a.0)
-      (h.inside, a.0, inr a.1, sym (long_aggregation h.inside h.long))
-]
+front_of bytes (piece.Overlong StringBytes size) (h, e) =
+    front start.Quote bytes _ (cons_some bytes 34 h.inside h.begins.0) (start_at bytes 34 h.inside h.begins.0)
+    (h.inside, h.begins.1, inr (record { cut = h.begins.0; long = h.long; is = ap (piece.Overlong StringBytes) e }))
+front_of bytes (piece.Overlong NameBytes size) (h, e) =
+    let len : size ≡ length h.inside + 1 = e ∙ ap (λ (s : List ℕ). length s) h.begins.0 ∙ (omega arith) in
+    front start.At bytes _ (cons_some bytes 64 h.inside h.begins.0) (start_at bytes 64 h.inside h.begins.0)
+    (h.inside, h.begins.0, inr h.begins.1, ap (piece.Overlong NameBytes) len ∙ sym (long_aggregation h.inside h.long))
+front_of bytes (piece.Overlong _ size) (h, e) = absurd h.begins
 front_of bytes piece.Stray (inl e) =
     front start.Other bytes piece.Stray (cons_some bytes 47 (42 ∷ []) e) (start_at bytes 47 (42 ∷ []) e)
     (inr (e, refl))

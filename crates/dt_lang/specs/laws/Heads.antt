@@ -1,14 +1,13 @@
 -- What is found in a head is the longest piece.
 use Rattle.std.proofs.Common.{◌≡◌, ◌≢◌, ℕ, ◌<◌, ◌⊎◌, inl, inr, Bool, true, false, cond, eqb, List, [], ◌∷◌, ◌++◌}
-use Rattle.std.proofs.Common.{Option, length, drop, get_or, refl, sym, ap, ◌∙◌, subst, arith}
+use Rattle.std.proofs.Common.{Result, length, drop, get_or, refl, sym, ap, ◌∙◌, subst, arith}
 use Rattle.std.proofs.lemmas.Bool.{false≢true, eqb-true}
 use Rattle.std.specs.List.{take_while, AllPass}
-use Rattle.std.specs.Option.{option_map}
-use Rattle.dt_program.specs.Description.{form_of_description, ReadsDescription}
 use Rattle.dt_program.specs.declared.description.Description.{Description}
+use Rattle.dt_program.specs.declared.description.DescriptionFault.{DescriptionFault}
 use Rattle.dt_lang.specs.Class.{is_description_byte}
-use Rattle.dt_lang.specs.Lexeme.{IsHeadSign, OPENING, IsHeadPiece}
-use Rattle.dt_lang.specs.Piece.{head_sign, FindsDescription, FindsRun, FindsInHead, opens_comment}
+use Rattle.dt_lang.specs.Lexeme.{IsHeadSign, OPENING, IsDescriptionToken, IsHeadPiece}
+use Rattle.dt_lang.specs.machine.Piece.{head_sign, FindsDescription, FindsRun, FindsInHead, opens_comment}
 use Rattle.dt_lang.specs.Spelling.{spelling}
 use Rattle.dt_lang.specs.declared.piece.Piece.{Piece}
 use Rattle.dt_lang.specs.declared.piece.Piece.TheVariants as piece
@@ -21,10 +20,10 @@ use Rattle.dt_lang.specs.laws.Runs.{truth_of, run_at_least, run_passes, run_cut,
 use Rattle.dt_lang.specs.laws.Starts.{described_byte, byte_described}
 
 pub record Described (bytes : List ℕ) (found : Piece) : Type 0 where
-  pub description : Option Description
+  pub description : Result Description DescriptionFault
   pub some : bytes ≢ []
   pub all : AllPass is_description_byte bytes
-  pub reads : ReadsDescription bytes (option_map form_of_description description)
+  pub reads : IsDescriptionToken bytes description
   pub is : found ≡ piece.Token (token.Description description) (length bytes)
 
 pub record Signed (bytes : List ℕ) (found : Piece) : Type 0 where
@@ -53,7 +52,7 @@ head_fits bytes (piece.Token (token.Sign s) size) (t, e) =
     inr (inl (record { s = s; cut = t.0; heads = t.1; is = ap (λ n. piece.Token (token.Sign s) n) e }))
 head_fits bytes (piece.Token _ size) (t, e) = absurd t
 head_fits bytes piece.Stray e = inr (inr (record { cut = e; is = refl }))
-head_fits bytes piece.Overlong h = absurd h
+head_fits bytes (piece.Overlong limit size) h = absurd h
 head_fits bytes piece.End h = absurd h
 
 pub one_byte_sign : (s : Sign) → IsHeadSign s → length (spelling s) ≡ 1

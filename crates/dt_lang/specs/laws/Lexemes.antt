@@ -1,7 +1,8 @@
 -- Laws of lexemes: there is one, and only one, and it lies where it should.
-use Rattle.std.proofs.Common.{◌≡◌, ℕ, ◌-◌, ◌≤◌, List, Option, length, drop, refl, sym, ap, ◌∙◌, subst, arith}
+use Rattle.std.proofs.Common.{◌≡◌, ℕ, ◌-◌, ◌≤◌, List, Result, length, drop, refl, sym, ap, ◌∙◌, subst, arith}
 use Rattle.std.proofs.Common.{length-drop}
 use Rattle.dt_program.specs.Description.{DescForm, ReadsDescription}
+use Rattle.dt_program.specs.declared.description.DescriptionFault.{DescriptionFault}
 use Rattle.dt_lang.specs.Lexeme.{placed, Lexes, LiesWithin, Stands}
 use Rattle.dt_lang.specs.declared.lexer.Lexeme.{Lexeme}
 use Rattle.dt_lang.specs.declared.mode.Mode.{Mode}
@@ -9,11 +10,11 @@ use Rattle.dt_lang.specs.declared.piece.Piece.{Piece}
 use Rattle.dt_lang.specs.declared.piece.Piece.TheVariants as piece
 use Rattle.dt_lang.specs.laws.BlankLaws.{one_rest, some_rest, rest_less}
 use Rattle.dt_lang.specs.laws.Existence.{some_piece}
-use Rattle.dt_lang.specs.laws.Progress.{token_within}
+use Rattle.dt_lang.specs.laws.Progress.{token_within, overlong_within}
 use Rattle.dt_lang.specs.laws.Sameness.{one_piece}
 use Rattle.dt_lang.specs.laws.Standing.{stands_found}
 
-pub some_lexed : ((text : List ℕ) → (reading : Option DescForm) × ReadsDescription text reading)
+pub some_lexed : ((text : List ℕ) → (reading : Result DescForm DescriptionFault) × ReadsDescription text reading)
     → (text : List ℕ) (m : Mode) (from : ℕ) → (lexeme : Lexeme) × Lexes text m from lexeme
 some_lexed some text m from =
     let r = some_rest (drop from text) in
@@ -28,7 +29,8 @@ some_lexed some text m from =
       },
     )
 
-pub one_lexed : ((text : List ℕ) (a b : Option DescForm) → ReadsDescription text a → ReadsDescription text b → a ≡ b)
+pub one_lexed : ((text : List ℕ) (a b : Result DescForm DescriptionFault) → ReadsDescription text a
+    → ReadsDescription text b → a ≡ b)
     → (text : List ℕ) (m : Mode) (from : ℕ) (a b : Lexeme) → Lexes text m from a → Lexes text m from b → a ≡ b
 one_lexed one text m from a b h k =
     let rest = one_rest (drop from text) h.rest k.rest h.skipped k.skipped in
@@ -46,8 +48,12 @@ placed_within text rest m from (piece.Token t size) fits less h =
     let most = within.fits in
     let behind = length-drop from text in
     (omega arith, omega arith, omega arith)
-placed_within text rest m from piece.Overlong fits less h =
-    let behind = length-drop from text in (omega arith, omega arith)
+placed_within text rest m from (piece.Overlong limit size) fits less h =
+    let within = overlong_within m rest limit size h in
+    let one = within.some in
+    let most = within.fits in
+    let behind = length-drop from text in
+    (omega arith, omega arith, omega arith)
 placed_within text rest m from piece.Stray fits less h =
     let behind = length-drop from text in (omega arith, omega arith)
 placed_within text rest m from piece.End fits less h =

@@ -1,6 +1,7 @@
 -- A token takes a byte at least, and no more than there are.
 use Rattle.std.proofs.Common.{◌≡◌, ℕ, ◌≤◌, inl, inr, List, [], ◌∷◌, length, ap, arith, length-append}
 use Rattle.dt_lang.specs.Lexeme.{IsBodyPiece, IsHeadPiece, IsPiece, Stands}
+use Rattle.dt_lang.specs.declared.fault.Limit.{Limit}
 use Rattle.dt_lang.specs.declared.mode.Mode.{Mode}
 use Rattle.dt_lang.specs.declared.mode.Mode.TheVariants as mode
 use Rattle.dt_lang.specs.declared.piece.Piece.{Piece}
@@ -30,6 +31,13 @@ piece_some mode.Tail bytes found h = head_some bytes found h
 piece_some (mode.Predicate depth) bytes found h = body_some bytes found h
 piece_some mode.Body bytes found h = body_some bytes found h
 
+overlong_size : (m : Mode) (bytes : List ℕ) (limit : Limit) (size : ℕ) → IsPiece m bytes (piece.Overlong limit size)
+    → size ≡ length bytes
+overlong_size mode.Head bytes limit size h = absurd h
+overlong_size mode.Tail bytes limit size h = absurd h
+overlong_size (mode.Predicate depth) bytes limit size h = h.1
+overlong_size mode.Body bytes limit size h = h.1
+
 token_size : (m : Mode) (bytes : List ℕ) (t : Token) (size : ℕ) → IsPiece m bytes (piece.Token t size)
     → size ≡ length bytes
 token_size mode.Head bytes t size h = h.1
@@ -51,3 +59,14 @@ token_within m (byte ∷ rest) t size (inl l) =
     let len = length-append l.bytes l.rest in
     record { some = omega arith; fits = omega arith }
 token_within m (byte ∷ rest) t size (inr n) = let bad = n.0 in cc
+
+pub overlong_within : (m : Mode) (text : List ℕ) (limit : Limit) (size : ℕ) → Stands m text (piece.Overlong limit size)
+    → Within text size
+overlong_within m [] limit size e = cc
+overlong_within m (byte ∷ rest) limit size (inl l) =
+    let same = overlong_size m l.bytes limit size l.is in
+    let one = piece_some m l.bytes (piece.Overlong limit size) l.is in
+    let cut = ap (λ (s : List ℕ). length s) l.cut in
+    let len = length-append l.bytes l.rest in
+    record { some = omega arith; fits = omega arith }
+overlong_within m (byte ∷ rest) limit size (inr n) = let bad = n.0 in cc

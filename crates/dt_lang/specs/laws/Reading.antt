@@ -1,5 +1,5 @@
 -- What a state of the reading of programs says of the tokens that were read.
-use Rattle.std.proofs.Common.{◌≡◌, ℕ, Bool, true, false, List, [], ◌∷◌, ◌++◌, length, Some, None, refl, ap}
+use Rattle.std.proofs.Common.{◌≡◌, ℕ, Bool, true, false, List, [], ◌∷◌, ◌++◌, length, Some, None, refl, ap, Ok}
 use Rattle.std.proofs.Common.{append_assoc, append-nil, ℤ}
 use Rattle.dt_expr.specs.Form.{Form}
 use Rattle.dt_program.specs.Description.{form_of_description}
@@ -12,15 +12,15 @@ use Rattle.dt_lang.specs.declared.word.Action.TheVariants as action
 use Rattle.dt_lang.specs.declared.word.Function.TheVariants as function
 use Rattle.dt_lang.specs.declared.word.Word.TheVariants as word
 use Rattle.dt_lang.specs.Expression.{ReadsExpr}
-use Rattle.dt_lang.specs.ExpressionState as expression
+use Rattle.dt_lang.specs.machine.ExpressionState as expression
 use Rattle.dt_lang.specs.Grammar.{a_description, another, always, guarded, keyed, ReadsConstant, ReadsStatement, Spot}
-use Rattle.dt_lang.specs.Grammar.{begins, ends, nothing, stated, separated, a_clause, ReadsClauses}
+use Rattle.dt_lang.specs.Grammar.{before_statement, after_statement, nothing, stated, separated, a_clause, ReadsClauses}
 use Rattle.dt_lang.specs.Grammar as grammar
 use Rattle.dt_program.specs.Clause.{ArgForm, StatementForm, ClauseForm}
 use Rattle.dt_lang.specs.Stand.{HeadStands, BodyStands, TargetStands, Slot, value, divides_in, SlotOpens}
-use Rattle.dt_lang.specs.ClauseState.{BoundForm, at_lower, at_upper, at_step, PlaceForm, headed, with_description}
-use Rattle.dt_lang.specs.ClauseState.{with_statement}
-use Rattle.dt_lang.specs.ClauseState as place
+use Rattle.dt_lang.specs.machine.ClauseState.{BoundForm, at_lower, at_upper, at_step, PlaceForm, headed, with_description}
+use Rattle.dt_lang.specs.machine.ClauseState.{with_statement}
+use Rattle.dt_lang.specs.machine.ClauseState as place
 
 -- a head, of which nothing else is known
 pub record HeadRead (ts : List Token) (cs : List ClauseForm) (c : ClauseForm) : Type 0 where
@@ -47,7 +47,7 @@ pub record GuardRead (ts : List Token) (cs : List ClauseForm) (c : ClauseForm) :
 pub record Follows (tail ts : List Token) (cs : List ClauseForm) (c : ClauseForm) : Type 0 where
   pub front : List Token
   pub split : ts ≡ front ++ tail
-  pub stands : BodyStands begins front cs c
+  pub stands : BodyStands before_statement front cs c
 
 -- these tokens behind an aggregation with its keys
 pub record FollowsTarget (tail ts : List Token) (cs : List ClauseForm) (c : ClauseForm) (name : List ℕ)
@@ -61,7 +61,7 @@ pub record Closing (ts : List Token) (cs : List ClauseForm) (c : ClauseForm) (s 
   pub front : List Token
   pub back : List Token
   pub split : ts ≡ front ++ back
-  pub stands : BodyStands begins front cs c
+  pub stands : BodyStands before_statement front cs c
   pub reads : ReadsStatement (back ++ (token.Sign sign.CloseParen ∷ [])) s
 
 -- what was read for a slot
@@ -114,7 +114,7 @@ ReadAt cs c place.listed ts = ListRead ts cs c
 ReadAt cs c place.guarded ts = GuardRead ts cs c
 ReadAt cs c (place.body spot) ts = BodyStands spot ts cs c
 ReadAt cs c (place.called a) ts = Follows (token.Word (word.Action a) ∷ []) ts cs c
-ReadAt cs c (place.framed process) ts =
+ReadAt cs c (place.stack_opened process) ts =
     Follows (token.Word (word.Action (stack_action process)) ∷ token.Sign sign.OpenParen ∷ []) ts cs c
 ReadAt cs c (place.closing s) ts = Closing ts cs c s
 ReadAt cs c (place.named name) ts = Follows (token.Aggregation name ∷ []) ts cs c
@@ -152,11 +152,11 @@ split_levels ts front mid back tail first us vs e f = rw (e, f) (simp append_ass
 
 -- heads
 pub head_begins : (ts : List Token) (cs : List ClauseForm) (d : Description) → ReadsClauses ts cs
-    → HeadRead (ts ++ (token.Description (Some d) ∷ [])) cs (headed (form_of_description d ∷ []))
+    → HeadRead (ts ++ (token.Description (Ok d) ∷ [])) cs (headed (form_of_description d ∷ []))
 head_begins ts cs d h = record {
   stands = record {
     clauses = ts;
-    head = token.Description (Some d) ∷ [];
+    head = token.Description (Ok d) ∷ [];
     split = refl;
     before = h;
     reads = a_description d;
@@ -165,7 +165,7 @@ head_begins ts cs d h = record {
 }
 
 pub head_goes_on : (ts : List Token) (cs : List ClauseForm) (c : ClauseForm) (d : Description) → ListRead ts cs c
-    → HeadRead (ts ++ (token.Description (Some d) ∷ [])) cs (with_description c (form_of_description d))
+    → HeadRead (ts ++ (token.Description (Ok d) ∷ [])) cs (with_description c (form_of_description d))
 head_goes_on ts cs c d h =
     let s = h.head.stands in
     let p : c.predicate ≡ None = ap (λ (x : ClauseForm). x.predicate) h.head.fresh in
@@ -173,7 +173,7 @@ head_goes_on ts cs c d h =
     record {
       stands = record {
         clauses = s.clauses;
-        head = s.head ++ (token.Sign sign.Comma ∷ token.Description (Some d) ∷ []);
+        head = s.head ++ (token.Sign sign.Comma ∷ token.Description (Ok d) ∷ []);
         split = rw (h.split, s.split) (simp append_assoc);
         before = s.before;
         reads = another s.head c.descriptions d s.reads;
@@ -183,7 +183,7 @@ head_goes_on ts cs c d h =
 
 -- bodies
 pub body_begins : (ts : List Token) (cs : List ClauseForm) (c : ClauseForm) → HeadRead ts cs c
-    → BodyStands begins (ts ++ (token.Sign sign.OpenBrace ∷ [])) cs c
+    → BodyStands before_statement (ts ++ (token.Sign sign.OpenBrace ∷ [])) cs c
 body_begins ts cs c h =
     let s = h.stands in
     let p : c.predicate ≡ None = ap (λ (x : ClauseForm). x.predicate) h.fresh in
@@ -194,12 +194,12 @@ body_begins ts cs c h =
       body = [];
       split = rw s.split (simp (append_assoc, append-nil));
       before = s.before;
-      opened = rw p (always s.head c.descriptions s.reads);
+      reads_opening = rw p (always s.head c.descriptions s.reads);
       reads = rw q nothing;
     }
 
 pub guarded_body_begins : (ts : List Token) (cs : List ClauseForm) (c : ClauseForm) → GuardRead ts cs c
-    → BodyStands begins (ts ++ (token.Sign sign.OpenBrace ∷ [])) cs c
+    → BodyStands before_statement (ts ++ (token.Sign sign.OpenBrace ∷ [])) cs c
 guarded_body_begins ts cs c h =
     let s = h.stands in
     let p : c.predicate ≡ Some h.form = ap (λ (x : ClauseForm). x.predicate) h.fresh in
@@ -211,39 +211,39 @@ guarded_body_begins ts cs c h =
       body = [];
       split = rw (h.split, s.split) (simp (append_assoc, append-nil));
       before = s.before;
-      opened = rw p (guarded s.head h.back c.descriptions h.form s.reads h.reads);
+      reads_opening = rw p (guarded s.head h.back c.descriptions h.form s.reads h.reads);
       reads = rw q nothing;
     }
 
 pub body_separated : (spot : Spot) (ts : List Token) (cs : List ClauseForm) (c : ClauseForm)
-    → BodyStands spot ts cs c → BodyStands begins (ts ++ (token.Sign sign.Semicolon ∷ [])) cs c
+    → BodyStands spot ts cs c → BodyStands before_statement (ts ++ (token.Sign sign.Semicolon ∷ [])) cs c
 body_separated spot ts cs c h = record {
   clauses = h.clauses;
   opening = h.opening;
   body = h.body ++ (token.Sign sign.Semicolon ∷ []);
   split = rw h.split (simp append_assoc);
   before = h.before;
-  opened = h.opened;
+  reads_opening = h.reads_opening;
   reads = separated spot h.body c.statements h.reads;
 }
 
 pub body_stated : (ts front us : List Token) (cs : List ClauseForm) (c : ClauseForm) (s : StatementForm)
-    → ts ≡ front ++ us → BodyStands begins front cs c → ReadsStatement us s
-    → BodyStands ends ts cs (with_statement c s)
+    → ts ≡ front ++ us → BodyStands before_statement front cs c → ReadsStatement us s
+    → BodyStands after_statement ts cs (with_statement c s)
 body_stated ts front us cs c s e h k = record {
   clauses = h.clauses;
   opening = h.opening;
   body = h.body ++ us;
   split = rw (e, h.split) (simp append_assoc);
   before = h.before;
-  opened = h.opened;
+  reads_opening = h.reads_opening;
   reads = stated h.body us c.statements s h.reads k;
 }
 
 pub body_closed : (spot : Spot) (ts : List Token) (cs : List ClauseForm) (c : ClauseForm) → BodyStands spot ts cs c
     → ReadsClauses (ts ++ (token.Sign sign.CloseBrace ∷ [])) (cs ++ (c ∷ []))
 body_closed spot ts cs c h =
-    let k = a_clause spot h.opening h.body c.descriptions c.predicate c.statements h.opened h.reads in
+    let k = a_clause spot h.opening h.body c.descriptions c.predicate c.statements h.reads_opening h.reads in
     let all : ReadsClauses (h.clauses ++ (h.opening ++ (h.body ++ (token.Sign sign.CloseBrace ∷ [])))) (cs ++ (c ∷ []))
     = grammar.another h.clauses (h.opening ++ (h.body ++ (token.Sign sign.CloseBrace ∷ []))) cs c h.before k in
     let e : ts ++ (token.Sign sign.CloseBrace ∷ []) ≡ h.clauses

@@ -1,5 +1,5 @@
 -- Bytes are one piece at most.
-use Rattle.std.proofs.Common.{◌≡◌, ℕ, ◌⊎◌, inl, inr, List, [], ◌∷◌, ◌++◌, Option, Some, None, length, get_or, refl, sym}
+use Rattle.std.proofs.Common.{◌≡◌, ℕ, ◌⊎◌, inl, inr, List, [], ◌∷◌, ◌++◌, Result, Ok, Err, Option, Some, None, length, get_or, refl, sym}
 use Rattle.std.proofs.Common.{ap, ◌∙◌, subst, arith, pos, length-append}
 use Rattle.std.proofs.lemmas.Bool.{false≢true}
 use Rattle.std.specs.List.{AllPass}
@@ -9,10 +9,11 @@ use Rattle.std.specs.Str.Parse.{digits_value, AllDigits}
 use Rattle.dt_expr.specs.Operators.{wrapped}
 use Rattle.dt_program.specs.Description.{DescForm, form_of_description, ReadsDescription}
 use Rattle.dt_program.specs.declared.description.Description.{Description}
-use Rattle.dt_lang.specs.Class.{is_text_byte, is_description_byte}
-use Rattle.dt_lang.specs.Lexeme.{IsBodyPiece, IsHeadPiece, IsPiece, Stands}
+use Rattle.dt_program.specs.declared.description.DescriptionFault.{DescriptionFault}
+use Rattle.dt_lang.specs.Class.{is_string_byte, is_description_byte}
+use Rattle.dt_lang.specs.Lexeme.{IsBodyPiece, IsDescriptionToken, IsHeadPiece, IsPiece, Stands}
 use Rattle.dt_lang.specs.Number.{IsNumber, IsDecimal, IsOctal, IsHexadecimal}
-use Rattle.dt_lang.specs.Piece.{start_of, NumberOf, aggregation_read}
+use Rattle.dt_lang.specs.machine.Piece.{start_of, NumberOf, aggregation_read}
 use Rattle.dt_lang.specs.declared.mode.Mode.{Mode}
 use Rattle.dt_lang.specs.declared.mode.Mode.TheVariants as mode
 use Rattle.dt_lang.specs.declared.piece.Piece.{Piece}
@@ -95,11 +96,11 @@ same_number run (piece.Token t a) (piece.Token u b) (n, h, et, ea) (m, k, eu, eb
 same_number run (piece.Token t a) piece.Stray (n, h, et, ea) none = absurd (none n h)
 same_number run piece.Stray (piece.Token u b) none (m, k, eu, eb) = absurd (none m k)
 same_number run piece.Stray piece.Stray h k = refl
-same_number run piece.Overlong g h k = absurd h
+same_number run (piece.Overlong limit size) g h k = absurd h
 same_number run piece.End g h k = absurd h
-same_number run (piece.Token t a) piece.Overlong h k = absurd k
+same_number run (piece.Token t a) (piece.Overlong limit size) h k = absurd k
 same_number run (piece.Token t a) piece.End h k = absurd k
-same_number run piece.Stray piece.Overlong h k = absurd k
+same_number run piece.Stray (piece.Overlong limit size) h k = absurd k
 same_number run piece.Stray piece.End h k = absurd k
 
 -- texts
@@ -114,20 +115,20 @@ same_inside (y ∷ ys) (z ∷ zs) x e =
     ap (λ v. v ∷ ys) t.0 ∙ ap (λ (r : List ℕ). z ∷ r) (same_inside ys zs x t.1)
 
 -- a text that is too long has no quote in it
-closed_or_open : (bytes a b : List ℕ) (f g : Piece) → AllPass is_text_byte b → Closed bytes a f → Open bytes b g → ⊥
+closed_or_open : (bytes a b : List ℕ) (f g : Piece) → AllPass is_string_byte b → Closed bytes a f → Open bytes b g → ⊥
 closed_or_open bytes a b f g all c o =
     let inside = (tails 34 34 _ _ (sym c.cut ∙ o.cut)).1 in
     let len = ap (λ (s : List ℕ). length s) inside in
     let more = length-append a (34 ∷ []) in
     let quote : get_or b (length a) 0 ≡ 34 =
     ap (λ (s : List ℕ). get_or s (length a) 0) (sym inside) ∙ last_of a 34 [] in
-    false≢true (ap is_text_byte (sym quote) ∙ all (length a) 0 (omega arith))
+    false≢true (ap is_string_byte (sym quote) ∙ all (length a) 0 (omega arith))
 
-same_text : (bytes a b : List ℕ) (f g : Piece) → AllPass is_text_byte a → AllPass is_text_byte b
+same_text : (bytes a b : List ℕ) (f g : Piece) → AllPass is_string_byte a → AllPass is_string_byte b
     → Closed bytes a f ⊎ Open bytes a f → Closed bytes b g ⊎ Open bytes b g → f ≡ g
 same_text bytes a b f g p q (inl c) (inl d) =
     let same = same_inside a b 34 (tails 34 34 _ _ (sym c.cut ∙ d.cut)).1 in
-    c.is ∙ ap (λ (t : List ℕ). piece.Token (token.Text t) (length bytes)) same ∙ sym d.is
+    c.is ∙ ap (λ (t : List ℕ). piece.Token (token.String t) (length bytes)) same ∙ sym d.is
 same_text bytes a b f g p q (inl c) (inr o) = absurd (closed_or_open bytes a b f g q c o)
 same_text bytes a b f g p q (inr o) (inl c) = absurd (closed_or_open bytes b a g f p c o)
 same_text bytes a b f g p q (inr c) (inr d) = c.is ∙ sym d.is
@@ -155,12 +156,6 @@ same_description d e h =
     ap (λ (f : DescForm).
     record { provider = f.provider; «module» = f.module; function = f.function; name = f.name }) h
 
-same_option : (a b : Option Description) → option_map form_of_description a ≡ option_map form_of_description b → a ≡ b
-same_option None None e = refl
-same_option None (Some y) e = cc
-same_option (Some x) None e = cc
-same_option (Some x) (Some y) e = ap Some (same_description x y (cc))
-
 described_or_signed : (bytes : List ℕ) (f g : Piece) → Described bytes f → Signed bytes g → ⊥
 described_or_signed bytes f g d s =
     false≢true (sym (sign_byte s.s s.heads).1 ∙ ap (λ (b : List ℕ). is_description_byte (get_or b 0 0)) (sym s.cut)
@@ -171,15 +166,26 @@ described_or_opening bytes f g d o =
     false≢true (ap (λ (b : List ℕ). is_description_byte (get_or b 0 0)) (sym o.cut)
     ∙ first_described bytes d.some d.all)
 
-module _ (one_description : (text : List ℕ) (a b : Option DescForm) → ReadsDescription text a
+module _ (one_description : (text : List ℕ) (a b : Result DescForm DescriptionFault) → ReadsDescription text a
     → ReadsDescription text b → a ≡ b) where
+  same_token : (bytes : List ℕ) (a b : Result Description DescriptionFault) → IsDescriptionToken bytes a
+      → IsDescriptionToken bytes b → a ≡ b
+  same_token bytes (Ok a) (Ok b) h k =
+      let same = one_description bytes (Ok (form_of_description a)) (Ok (form_of_description b)) h k in
+      ap Ok (same_description a b (cc))
+  same_token bytes (Ok a) (Err b) h k =
+      let same = one_description bytes (Ok (form_of_description a)) (Err b) h k in cc
+  same_token bytes (Err a) (Ok b) h k =
+      let same = one_description bytes (Err a) (Ok (form_of_description b)) h k in cc
+  same_token bytes (Err a) (Err b) h k =
+      let same = one_description bytes (Err a) (Err b) h k in ap Err (cc)
+
   same_in_head : (bytes : List ℕ) (f g : Piece) → IsHeadPiece bytes f → IsHeadPiece bytes g → f ≡ g
   same_in_head bytes f g h k = elim (head_fits bytes f h) [
     | inl a ↦ elim (head_fits bytes g k) [
       | inl b ↦
-          let same = one_description bytes _ _ a.reads b.reads in
           a.is ∙ ap (λ x. piece.Token (token.Description x) (length bytes))
-          (same_option a.description b.description same) ∙ sym b.is
+          (same_token bytes a.description b.description a.reads b.reads) ∙ sym b.is
       | inr x ↦ elim x [
         | inl b ↦ absurd (described_or_signed bytes f g a b)
         | inr b ↦ absurd (described_or_opening bytes f g a b)

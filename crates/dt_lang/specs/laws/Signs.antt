@@ -5,7 +5,7 @@ use Rattle.std.specs.List.{All, list_all, Contains}
 use Rattle.std.proofs.lemmas.Bool.{eqb-true}
 use Rattle.std.proofs.lemmas.List.Elements.{All-contains}
 use Rattle.std.proofs.lemmas.List.Sums.{AllPass-from_list_all}
-use Rattle.dt_lang.specs.Piece.{BeginsWith, IsSignAt}
+use Rattle.dt_lang.specs.machine.Piece.{BeginsWith, IsSignAt}
 use Rattle.dt_lang.specs.Spelling.{spelling}
 use Rattle.dt_lang.specs.declared.sign.TheConstants.{PAIRS, SINGLES}
 use Rattle.dt_lang.specs.declared.token.Sign.{Sign}

@@ -3,7 +3,7 @@ use Rattle.std.proofs.Common.{◌≡◌, ℕ, inl, inr, Bool, true, false, eqb, 
 use Rattle.std.proofs.Common.{arith}
 use Rattle.std.proofs.lemmas.Bool.{false≢true, eqb-true}
 use Rattle.dt_lang.specs.Lexeme.{IsPiece, OPENING, IsLongest, Stands}
-use Rattle.dt_lang.specs.Piece.{FindsInMode, FindsUncommented, FindsPiece, opens_comment}
+use Rattle.dt_lang.specs.machine.Piece.{FindsInMode, FindsUncommented, FindsPiece, opens_comment}
 use Rattle.dt_lang.specs.declared.mode.Mode.{Mode}
 use Rattle.dt_lang.specs.declared.mode.Mode.TheVariants as mode
 use Rattle.dt_lang.specs.declared.piece.Piece.{Piece}

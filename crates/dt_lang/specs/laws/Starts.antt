@@ -7,7 +7,7 @@ use Rattle.std.specs.Char.{is_ascii_digit, digit_value}
 use Rattle.dt_names.specs.Name.{IsNameByte}
 use Rattle.dt_lang.specs.Class.{is_word_byte, is_description_byte}
 use Rattle.dt_lang.specs.Lexeme.{IsDescriptionByte}
-use Rattle.dt_lang.specs.Piece.{start_of}
+use Rattle.dt_lang.specs.machine.Piece.{start_of}
 use Rattle.dt_lang.specs.declared.piece.Start.{Start}
 use Rattle.dt_lang.specs.declared.piece.Start.TheVariants as start
 

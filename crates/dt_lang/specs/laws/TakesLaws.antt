@@ -8,9 +8,9 @@ use Rattle.dt_lang.specs.declared.token.Token.{Token}
 use Rattle.dt_lang.specs.declared.token.Token.TheVariants as token
 use Rattle.dt_lang.specs.declared.word.Word.TheVariants as word
 use Rattle.dt_lang.specs.Expression.{BeginsExpr}
-use Rattle.dt_lang.specs.ExpressionState.{State, is_operand, start, step, run, wants, takes_number, takes_text}
+use Rattle.dt_lang.specs.machine.ExpressionState.{State, is_operand, start, step, run, wants, takes_number, takes_text}
 use Rattle.dt_lang.specs.Refused.{OperandStands, a_number, a_text, IsOperand, GoesOn, fits, taken}
-use Rattle.dt_lang.specs.Cause.{takes_token}
+use Rattle.dt_lang.specs.machine.Cause.{is_one_more}
 use Rattle.dt_lang.specs.laws.ExpressionLaws.{complete, viable, number_goes_on, text_goes_on, wants_operand, run_beginning}
 use Rattle.dt_lang.specs.laws.ClauseSound.{none_some, run_last}
 
@@ -91,20 +91,20 @@ operand_goes_on s h = elim (one_of (takes_number s) (takes_text s) (wants_operan
 is_operand_true : (t : Token) → IsOperand t → is_operand t ≡ true
 is_operand_true (token.Word w) h = refl
 is_operand_true (token.Number z) h = refl
-is_operand_true (token.Text bytes) h = refl
+is_operand_true (token.String bytes) h = refl
 is_operand_true _ h = absurd h
 
 is_operand_is : (t : Token) → is_operand t ≡ true → IsOperand t
 is_operand_is (token.Word w) h = tt
 is_operand_is (token.Number z) h = tt
-is_operand_is (token.Text bytes) h = tt
+is_operand_is (token.String bytes) h = tt
 is_operand_is _ h = cc
 
 -- the state that an expression's beginning leads to, and what it takes
 pub record TakesThere (divides : Bool) (ts : List Token) (t : Token) : Type 0 where
   pub at : State
   pub runs : run (start divides) ts ≡ Some at
-  pub takes_it : takes_token at t ≡ true
+  pub takes_it : is_one_more at t ≡ true
 
 pub goes_on_takes : (divides : Bool) (ts : List Token) (t : Token) → GoesOn divides ts t → TakesThere divides ts t
 goes_on_takes divides ts t (fits b) =
@@ -143,7 +143,7 @@ both_right true b e = e
 both_right false b e = cc
 
 pub takes_goes_on : (divides : Bool) (ts : List Token) (s : State) (t : Token) → run (start divides) ts ≡ Some s
-    → takes_token s t ≡ true → GoesOn divides ts t
+    → is_one_more s t ≡ true → GoesOn divides ts t
 takes_goes_on divides ts s t h k = elim (one_of (is_some (step s t)) (is_operand t && wants s) k) [
   | inl i ↦ let n = some_state State (step s t) i in
       fits (viable divides _ n.0 (run_last s (start divides) n.0 ts t h n.1))

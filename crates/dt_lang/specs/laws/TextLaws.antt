@@ -2,7 +2,9 @@
 use native.Mathlib.Decide.{dec_le}
 use Rattle.std.proofs.Common.{◌≡◌, ◌≢◌, ◌⊎◌, inl, inr, ℕ, zero, suc, ◌+◌, ◌≤◌, List, [], ◌∷◌, ◌++◌, length, Option}
 use Rattle.std.proofs.Common.{Some, None, refl, sym, ap, ◌∙◌, subst, append_assoc, length-append, arith}
-use Rattle.dt_lang.specs.declared.fault.Why.TheVariants.{Syntax, TooLong}
+use Rattle.dt_lang.specs.declared.fault.Flaw.TheVariants.{Syntax, TooLong}
+use Rattle.dt_lang.specs.declared.fault.Limit.{Limit}
+use Rattle.dt_lang.specs.Fault.{why_of}
 use Rattle.dt_lang.specs.declared.lexer.Lexeme.{Lexeme}
 use Rattle.dt_lang.specs.declared.lexer.Lexeme.TheVariants as lexeme
 use Rattle.dt_lang.specs.declared.mode.Mode.{Mode}
@@ -15,8 +17,8 @@ use Rattle.dt_lang.specs.Grammar.{ReadsProgram}
 use Rattle.dt_lang.specs.Refused.{Cause, because, destroys, CauseHolds, Refused, NoneRefused}
 use Rattle.dt_lang.specs.Reads.{TokensTo, none, another, IsRefusedProgram, a_token, overlong, stray, unfinished}
 use Rattle.dt_lang.specs.Reads.{IsProgram, Reading, program, fault, destructive, Reads}
-use Rattle.dt_lang.specs.ClauseState.{ProgramState, step, run, program_start, finished}
-use Rattle.dt_lang.specs.Cause.{cause_of}
+use Rattle.dt_lang.specs.machine.ClauseState.{ProgramState, step, run, program_start, finished}
+use Rattle.dt_lang.specs.machine.Cause.{cause_of}
 use Rattle.dt_lang.specs.laws.ClauseSound.{none_some, same_some}
 use Rattle.dt_lang.specs.laws.ClauseComplete.{run_step, program_leads}
 use Rattle.dt_lang.specs.laws.ClauseLaws.{sound_program, one_program}
@@ -29,33 +31,35 @@ pub record LexemeLaws (text : List ℕ) : Type 0 where
   pub within : (mode : Mode) (from : ℕ) (l : Lexeme) → from ≤ length text → Lexes text mode from l
       → LiesWithin from l (length text)
 
--- a refusal as a reading
-abbrev pub refusal : ℕ → Cause → Reading
-refusal at (because why) = fault at why
-refusal at (destroys what) = destructive at what
+-- how the reading of a text stops: with a program, or refused between these places
+pub data Stop : Type 0 where
+  whole : List ClauseForm → Stop
+  refused_there : (at end : ℕ) → Cause → Stop
 
 -- Behind these tokens the reading of a text stops so.
-pub data Stops (text : List ℕ) (mode : Mode) (ts : List Token) (from : ℕ) : Reading → Type 0 where
+pub data Stops (text : List ℕ) (mode : Mode) (ts : List Token) (from : ℕ) : Stop → Type 0 where
   at_token : (t : Token) (at to : ℕ) (cause : Cause) → Lexes text mode from (lexeme.Token at t to)
-      → Refused ts t cause → Stops text mode ts from (refusal at cause)
-  at_overlong : (at : ℕ) → Lexes text mode from (lexeme.Overlong at) → Stops text mode ts from (fault at TooLong)
-  at_stray : (at : ℕ) → Lexes text mode from (lexeme.Stray at) → Stops text mode ts from (fault at Syntax)
+      → Refused ts t cause → Stops text mode ts from (refused_there at to cause)
+  at_overlong : (at to : ℕ) (limit : Limit) → Lexes text mode from (lexeme.Overlong at limit to)
+      → Stops text mode ts from (refused_there at to (because (TooLong limit)))
+  at_stray : (at : ℕ) → Lexes text mode from (lexeme.Stray at)
+      → Stops text mode ts from (refused_there at at (because Syntax))
   at_end : (at : ℕ) → Lexes text mode from (lexeme.End at) → ((cs : List ClauseForm) → ReadsProgram ts cs → ⊥)
-      → Stops text mode ts from (fault at Syntax)
-  whole : (at : ℕ) (cs : List ClauseForm) → Lexes text mode from (lexeme.End at) → ReadsProgram ts cs
-      → Stops text mode ts from (program cs)
+      → Stops text mode ts from (refused_there at at (because Syntax))
+  at_whole : (at : ℕ) (cs : List ClauseForm) → Lexes text mode from (lexeme.End at) → ReadsProgram ts cs
+      → Stops text mode ts from (whole cs)
 
 -- the tokens that are read of a text, and how the reading stops
-pub record Stopped (text : List ℕ) (reading : Reading) : Type 0 where
+pub record Stopped (text : List ℕ) (stop : Stop) : Type 0 where
   pub mode : Mode
   pub tokens : List Token
   pub from : ℕ
   pub stand : TokensTo text mode tokens from
   pub unrefused : NoneRefused tokens
-  pub stops : Stops text mode tokens from reading
+  pub stops : Stops text mode tokens from stop
 
-stopped_refusal : {text : List ℕ} {at : ℕ} {cause : Cause} → IsRefusedProgram text at cause
-    → Stopped text (refusal at cause)
+stopped_refusal : {text : List ℕ} {at end : ℕ} {cause : Cause} → IsRefusedProgram text at end cause
+    → Stopped text (refused_there at end cause)
 stopped_refusal (a_token mode ts t from at to cause k n l r) = record {
   mode = mode;
   tokens = ts;
@@ -64,24 +68,22 @@ stopped_refusal (a_token mode ts t from at to cause k n l r) = record {
   unrefused = n;
   stops = at_token t at to cause l r;
 }
-stopped_refusal (overlong mode ts from at k n l) =
-    record { mode = mode; tokens = ts; from = from; stand = k; unrefused = n; stops = at_overlong at l }
+stopped_refusal (overlong mode ts from at to limit k n l) =
+    record { mode = mode; tokens = ts; from = from; stand = k; unrefused = n; stops = at_overlong at to limit l }
 stopped_refusal (stray mode ts from at k n l) =
     record { mode = mode; tokens = ts; from = from; stand = k; unrefused = n; stops = at_stray at l }
 stopped_refusal (unfinished mode ts from at k n l e) =
     record { mode = mode; tokens = ts; from = from; stand = k; unrefused = n; stops = at_end at l e }
 
-stopped : (text : List ℕ) (r : Reading) → Reads text r → Stopped text r
-stopped text (program cs) h = record {
+stopped_whole : {text : List ℕ} {cs : List ClauseForm} → IsProgram text cs → Stopped text (whole cs)
+stopped_whole {cs = cs} h = record {
   mode = h.mode;
   tokens = h.tokens;
   from = h.from;
   stand = h.stand;
   unrefused = h.unrefused;
-  stops = whole h.at cs h.end h.reads;
+  stops = at_whole h.at cs h.end h.reads;
 }
-stopped text (fault at why) h = stopped_refusal h
-stopped text (destructive at what) h = stopped_refusal h
 
 -- where other tokens of the text end, seen from where these do
 data Ahead (text : List ℕ) (mode : Mode) (ts : List Token) (from : ℕ) : Mode → List Token → ℕ → Type 0 where
@@ -145,70 +147,106 @@ module _ (text : List ℕ) (laws : LexemeLaws text) where
       same_ahead s = rw (s.modes, s.tokens, s.ends) here
 
   -- where the reading stops, no unrefused token stands
-  none_beyond : (mode : Mode) (ts : List Token) (from : ℕ) (t : Token) (at to : ℕ) (rest : List Token) (a : Reading)
+  none_beyond : (mode : Mode) (ts : List Token) (from : ℕ) (t : Token) (at to : ℕ) (rest : List Token) (a : Stop)
       → Lexes text mode from (lexeme.Token at t to) → NoneRefused (ts ++ (t ∷ rest)) → Stops text mode ts from a → ⊥
   none_beyond mode ts from t at to rest _ l n (at_token u b c cause k r) =
       let e = laws.one mode from _ _ k l in
       let i : u ≡ t = cc in
       n ts rest t cause refl (rw i at r.holds)
-  none_beyond mode ts from t at to rest _ l n (at_overlong b k) = let e = laws.one mode from _ _ k l in cc
+  none_beyond mode ts from t at to rest _ l n (at_overlong b c limit k) = let e = laws.one mode from _ _ k l in cc
   none_beyond mode ts from t at to rest _ l n (at_stray b k) = let e = laws.one mode from _ _ k l in cc
   none_beyond mode ts from t at to rest _ l n (at_end b k r) = let e = laws.one mode from _ _ k l in cc
-  none_beyond mode ts from t at to rest _ l n (whole b cs k r) = let e = laws.one mode from _ _ k l in cc
+  none_beyond mode ts from t at to rest _ l n (at_whole b cs k r) = let e = laws.one mode from _ _ k l in cc
 
   same_refusal : (ts : List Token) (t u : Token) (at a to b : ℕ) (c d : Cause)
-      → lexeme.Token at t to ≡ lexeme.Token a u b → Refused ts t c → Refused ts u d → refusal at c ≡ refusal a d
+      → lexeme.Token at t to ≡ lexeme.Token a u b → Refused ts t c → Refused ts u d
+      → refused_there at to c ≡ refused_there a b d
   same_refusal ts t u at a to b c d e r q =
       let i : u ≡ t = cc in
       let j : at ≡ a = cc in
+      let to_same : to ≡ b = cc in
       let k = one_cause ts t c d r (rw i at q) in
-      rw (j, k) refl
+      rw (j, to_same, k) refl
 
-  same_stop : (mode : Mode) (ts : List Token) (from : ℕ) (a b : Reading) → Stops text mode ts from a
+  same_stop : (mode : Mode) (ts : List Token) (from : ℕ) (a b : Stop) → Stops text mode ts from a
       → Stops text mode ts from b → a ≡ b
   same_stop mode ts from _ _ (at_token t at to c l r) (at_token u b n d k q) =
       same_refusal ts t u at b to n c d (laws.one mode from _ _ l k) r q
-  same_stop mode ts from _ _ (at_token t at to c l r) (at_overlong b k) = let e = laws.one mode from _ _ l k in cc
+  same_stop mode ts from _ _ (at_token t at to c l r) (at_overlong b n limit2 k) = let e = laws.one mode from _ _ l k in cc
   same_stop mode ts from _ _ (at_token t at to c l r) (at_stray b k) = let e = laws.one mode from _ _ l k in cc
   same_stop mode ts from _ _ (at_token t at to c l r) (at_end b k q) = let e = laws.one mode from _ _ l k in cc
-  same_stop mode ts from _ _ (at_token t at to c l r) (whole b cs k q) = let e = laws.one mode from _ _ l k in cc
-  same_stop mode ts from _ _ (at_overlong at l) (at_token u b n d k q) = let e = laws.one mode from _ _ l k in cc
-  same_stop mode ts from _ _ (at_overlong at l) (at_overlong b k) = let e = laws.one mode from _ _ l k in cc
-  same_stop mode ts from _ _ (at_overlong at l) (at_stray b k) = let e = laws.one mode from _ _ l k in cc
-  same_stop mode ts from _ _ (at_overlong at l) (at_end b k q) = let e = laws.one mode from _ _ l k in cc
-  same_stop mode ts from _ _ (at_overlong at l) (whole b cs k q) = let e = laws.one mode from _ _ l k in cc
+  same_stop mode ts from _ _ (at_token t at to c l r) (at_whole b ds k q) = let e = laws.one mode from _ _ l k in cc
+  same_stop mode ts from _ _ (at_overlong at to limit l) (at_token u b n d k q) = let e = laws.one mode from _ _ l k in cc
+  same_stop mode ts from _ _ (at_overlong at to limit l) (at_overlong b n limit2 k) = let e = laws.one mode from _ _ l k in cc
+  same_stop mode ts from _ _ (at_overlong at to limit l) (at_stray b k) = let e = laws.one mode from _ _ l k in cc
+  same_stop mode ts from _ _ (at_overlong at to limit l) (at_end b k q) = let e = laws.one mode from _ _ l k in cc
+  same_stop mode ts from _ _ (at_overlong at to limit l) (at_whole b ds k q) = let e = laws.one mode from _ _ l k in cc
   same_stop mode ts from _ _ (at_stray at l) (at_token u b n d k q) = let e = laws.one mode from _ _ l k in cc
-  same_stop mode ts from _ _ (at_stray at l) (at_overlong b k) = let e = laws.one mode from _ _ l k in cc
+  same_stop mode ts from _ _ (at_stray at l) (at_overlong b n limit2 k) = let e = laws.one mode from _ _ l k in cc
   same_stop mode ts from _ _ (at_stray at l) (at_stray b k) = let e = laws.one mode from _ _ l k in cc
   same_stop mode ts from _ _ (at_stray at l) (at_end b k q) = let e = laws.one mode from _ _ l k in cc
-  same_stop mode ts from _ _ (at_stray at l) (whole b cs k q) = let e = laws.one mode from _ _ l k in cc
+  same_stop mode ts from _ _ (at_stray at l) (at_whole b ds k q) = let e = laws.one mode from _ _ l k in cc
   same_stop mode ts from _ _ (at_end at l r) (at_token u b n d k q) = let e = laws.one mode from _ _ l k in cc
-  same_stop mode ts from _ _ (at_end at l r) (at_overlong b k) = let e = laws.one mode from _ _ l k in cc
+  same_stop mode ts from _ _ (at_end at l r) (at_overlong b n limit2 k) = let e = laws.one mode from _ _ l k in cc
   same_stop mode ts from _ _ (at_end at l r) (at_stray b k) = let e = laws.one mode from _ _ l k in cc
   same_stop mode ts from _ _ (at_end at l r) (at_end b k q) = let e = laws.one mode from _ _ l k in cc
-  same_stop mode ts from _ _ (at_end at l r) (whole b cs k q) = absurd (r cs q)
-  same_stop mode ts from _ _ (whole at cs l r) (at_token u b n d k q) = let e = laws.one mode from _ _ l k in cc
-  same_stop mode ts from _ _ (whole at cs l r) (at_overlong b k) = let e = laws.one mode from _ _ l k in cc
-  same_stop mode ts from _ _ (whole at cs l r) (at_stray b k) = let e = laws.one mode from _ _ l k in cc
-  same_stop mode ts from _ _ (whole at cs l r) (at_end b k q) = absurd (q cs r)
-  same_stop mode ts from _ _ (whole at cs l r) (whole b ds k q) = ap program (one_program ts cs ds r q)
+  same_stop mode ts from _ _ (at_end at l r) (at_whole b ds k q) = absurd (r ds q)
+  same_stop mode ts from _ _ (at_whole at cs l r) (at_token u b n d k q) = let e = laws.one mode from _ _ l k in cc
+  same_stop mode ts from _ _ (at_whole at cs l r) (at_overlong b n limit2 k) = let e = laws.one mode from _ _ l k in cc
+  same_stop mode ts from _ _ (at_whole at cs l r) (at_stray b k) = let e = laws.one mode from _ _ l k in cc
+  same_stop mode ts from _ _ (at_whole at cs l r) (at_end b k q) = absurd (q cs r)
+  same_stop mode ts from _ _ (at_whole at cs l r) (at_whole b ds k q) = ap whole (one_program ts cs ds r q)
 
-  meet : (mode other : Mode) (ts us : List Token) (from n : ℕ) (a b : Reading) → Ahead text mode ts from other us n
+  meet : (mode other : Mode) (ts us : List Token) (from n : ℕ) (a b : Stop) → Ahead text mode ts from other us n
       → NoneRefused us → Stops text mode ts from a → Stops text other us n b → a ≡ b
   meet mode _ ts _ from _ a b here r s q = same_stop mode ts from a b s q
   meet mode _ ts _ from _ a b (there t at to rest other n l) r s q =
       absurd (none_beyond mode ts from t at to rest a l r s)
 
-  one_stopped : (a b : Reading) → Stopped text a → Stopped text b → a ≡ b
+  one_stopped : (a b : Stop) → Stopped text a → Stopped text b → a ≡ b
   one_stopped a b h k = elim (dec_le (length h.tokens) (length k.tokens)) [
     | yes i ↦ meet _ _ _ _ _ _ a b (ahead _ _ _ _ _ _ h.stand k.stand i) k.unrefused h.stops k.stops
     | no i ↦ sym (meet _ _ _ _ _ _ b a (ahead _ _ _ _ _ _ k.stand h.stand (omega (arith, i))) h.unrefused
         k.stops h.stops)
   ]
 
+  -- A text is refused at one place at most, and for one cause.
+  pub one_refusal : (at end at2 end2 : ℕ) (cause cause2 : Cause) → IsRefusedProgram text at end cause
+      → IsRefusedProgram text at2 end2 cause2 → (at ≡ at2) × (end ≡ end2) × (cause ≡ cause2)
+  one_refusal at end at2 end2 cause cause2 h k =
+      let same = one_stopped _ _ (stopped_refusal h) (stopped_refusal k) in
+      (cc, cc, cc)
+
+  never_both : (cs : List ClauseForm) (at end : ℕ) (cause : Cause) → IsProgram text cs
+      → IsRefusedProgram text at end cause → ⊥
+  never_both cs at end cause h k = let same = one_stopped _ _ (stopped_whole h) (stopped_refusal k) in cc
+
   -- A text has at most one reading.
   pub one_reading : (a b : Reading) → Reads text a → Reads text b → a ≡ b
-  one_reading a b h k = one_stopped a b (stopped text a h) (stopped text b k)
+  one_reading (program cs) (program ds) h k =
+      let same = one_stopped _ _ (stopped_whole h) (stopped_whole k) in
+      ap program (cc)
+  one_reading (program cs) (fault at why) h k = absurd (never_both cs at k.0 _ h k.3)
+  one_reading (program cs) (destructive at what) h k = absurd (never_both cs at k.0 _ h k.1)
+  one_reading (fault at why) (program ds) h k = absurd (never_both ds at h.0 _ k h.3)
+  one_reading (fault at why) (fault at2 why2) h k =
+      let same = one_refusal at h.0 at2 k.0 _ _ h.3 k.3 in
+      let place = same.0 in
+      let flaw : h.1 ≡ k.1 = cc in
+      let its : why ≡ why2 = h.2 ∙ ap why_of flaw ∙ sym k.2 in
+      rw (place, its) refl
+  one_reading (fault at why) (destructive at2 what) h k =
+      let same = one_refusal at h.0 at2 k.0 _ _ h.3 k.1 in
+      let other = same.2 in cc
+  one_reading (destructive at what) (program ds) h k = absurd (never_both ds at h.0 _ k h.1)
+  one_reading (destructive at what) (fault at2 why) h k =
+      let same = one_refusal at h.0 at2 k.0 _ _ h.1 k.3 in
+      let other = same.2 in cc
+  one_reading (destructive at what) (destructive at2 what2) h k =
+      let same = one_refusal at h.0 at2 k.0 _ _ h.1 k.1 in
+      let place = same.0 in
+      let its : what ≡ what2 = cc in
+      rw (place, its) refl
 
 -- What was read of a text so far: tokens of which none is refused, and the state that they lead to.
 pub record Going (text : List ℕ) (mode : Mode) (ts : List Token) (from : ℕ) (s : ProgramState) : Type 0 where
@@ -268,14 +306,15 @@ module _ (text : List ℕ) where
 
     -- a token that is refused
     pub refused_at : (t : Token) (at to : ℕ) (cause : Cause) → Lexes text mode from (lexeme.Token at t to)
-        → cause_of s t ≡ Some cause → IsRefusedProgram text at cause
+        → cause_of s t ≡ Some cause → IsRefusedProgram text at to cause
     refused_at t at to cause l e =
         a_token mode ts t from at to cause g.stand g.unrefused l (refused ts t s g.runs cause e)
 
-    pub overlong_at : (at : ℕ) → Lexes text mode from (lexeme.Overlong at) → IsRefusedProgram text at (because TooLong)
-    overlong_at at l = overlong mode ts from at g.stand g.unrefused l
+    pub overlong_at : (at to : ℕ) (limit : Limit) → Lexes text mode from (lexeme.Overlong at limit to)
+        → IsRefusedProgram text at to (because (TooLong limit))
+    overlong_at at to limit l = overlong mode ts from at to limit g.stand g.unrefused l
 
-    pub stray_at : (at : ℕ) → Lexes text mode from (lexeme.Stray at) → IsRefusedProgram text at (because Syntax)
+    pub stray_at : (at : ℕ) → Lexes text mode from (lexeme.Stray at) → IsRefusedProgram text at at (because Syntax)
     stray_at at l = stray mode ts from at g.stand g.unrefused l
 
     -- the text's end
@@ -293,7 +332,7 @@ module _ (text : List ℕ) where
     }
 
     pub ended_early : (at : ℕ) → Lexes text mode from (lexeme.End at) → finished s ≡ None
-        → IsRefusedProgram text at (because Syntax)
+        → IsRefusedProgram text at at (because Syntax)
     ended_early at l e = unfinished mode ts from at g.stand g.unrefused l none_read
       where
         none_read : (cs : List ClauseForm) → ReadsProgram ts cs → ⊥
@@ -306,10 +345,10 @@ module _ (text : List ℕ) where
 SomeReading : List ℕ → Type 0
 SomeReading text = (r : Reading) × Reads text r
 
-reads_refusal : (text : List ℕ) (at : ℕ) (cause : Cause) → IsRefusedProgram text at cause → SomeReading text
+reads_refusal : (text : List ℕ) (at end : ℕ) (cause : Cause) → IsRefusedProgram text at end cause → SomeReading text
 unfolding SomeReading
-reads_refusal text at (because why) h = (fault at why, h)
-reads_refusal text at (destroys what) h = (destructive at what, h)
+reads_refusal text at end (because flaw) h = (fault at (why_of flaw), (end, flaw, refl, h))
+reads_refusal text at end (destroys what) h = (destructive at what, (end, h))
 
 reads_program : (text : List ℕ) (cs : List ClauseForm) → IsProgram text cs → SomeReading text
 unfolding SomeReading
@@ -324,19 +363,19 @@ module _ (text : List ℕ) (laws : LexemeLaws text) where
   read_lexeme mode ts from s (lexeme.Token at t to) g l again = go (cause_of s t) refl
     where
       go : (o : Option Cause) → cause_of s t ≡ o → SomeReading text
-      go (Some cause) e = reads_refusal text at cause (refused_at text mode ts from s g t at to cause l e)
+      go (Some cause) e = reads_refusal text at to cause (refused_at text mode ts from s g t at to cause l e)
       go None e =
           let k = unrefused_steps ts t s g.runs e in
           again t at to k.next l (going_on text mode ts from s g t at to k.next l e k.steps)
-  read_lexeme mode ts from s (lexeme.Overlong at) g l again =
-      reads_refusal text at _ (overlong_at text mode ts from s g at l)
+  read_lexeme mode ts from s (lexeme.Overlong at limit to) g l again =
+      reads_refusal text at to _ (overlong_at text mode ts from s g at to limit l)
   read_lexeme mode ts from s (lexeme.Stray at) g l again =
-      reads_refusal text at _ (stray_at text mode ts from s g at l)
+      reads_refusal text at at _ (stray_at text mode ts from s g at l)
   read_lexeme mode ts from s (lexeme.End at) g l again = go (finished s) refl
     where
       go : (o : Option (List ClauseForm)) → finished s ≡ o → SomeReading text
       go (Some cs) e = reads_program text cs (ended_whole text mode ts from s g at cs l e)
-      go None e = reads_refusal text at _ (ended_early text mode ts from s g at l e)
+      go None e = reads_refusal text at at _ (ended_early text mode ts from s g at l e)
 
   read_rest : (left : ℕ) (mode : Mode) (ts : List Token) (from : ℕ) (s : ProgramState) → from ≤ length text
       → length text ≤ from + left → Going text mode ts from s → SomeReading text

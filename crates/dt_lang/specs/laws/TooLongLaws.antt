@@ -1,28 +1,31 @@
--- A token is one too many exactly where the state of the reading says so.
-use Rattle.std.proofs.Common.{◌≡◌, inl, inr, ℕ, ◌+◌, ◌≤◌, leb, eqb, true, ◌&&◌, List, [], ◌∷◌, ◌++◌, length, Some, refl}
-use Rattle.std.proofs.Common.{sym, ◌∙◌, subst, arith, leb-true, le-leb, eqb-true, append-nil, Decides}
+-- A token passes a limit exactly where the state of the reading says so.
+use Rattle.std.proofs.Common.{◌≡◌, ◌⊎◌, inl, inr, ℕ, ◌+◌, ◌≤◌, leb, eqb, Bool, true, false, cond, ◌&&◌, List, [], ◌∷◌, ◌++◌}
+use Rattle.std.proofs.Common.{length, Option, Some, None, refl, sym, ◌∙◌, subst, arith, leb-true, le-leb, eqb-true}
+use Rattle.std.proofs.Common.{append-nil}
 use Rattle.dt_program.specs.declared.clause.TheConstants.{DESCRIPTIONS_MAX, STATEMENTS_MAX, KEYS_MAX}
 use Rattle.dt_program.specs.declared.program.TheConstants.{CLAUSES_MAX, TOKENS_MAX}
 use Rattle.dt_lang.specs.declared.token.Sign.TheVariants as sign
 use Rattle.dt_lang.specs.declared.token.Token.{Token}
 use Rattle.dt_lang.specs.declared.token.Token.TheVariants as token
-use Rattle.dt_lang.specs.ExpressionState as expression
-use Rattle.dt_lang.specs.Grammar.{begins, ends, ReadsClauses}
+use Rattle.dt_lang.specs.machine.ExpressionState as expression
+use Rattle.dt_lang.specs.Grammar.{before_statement, after_statement, ReadsClauses}
 use Rattle.dt_program.specs.Clause.{ArgForm, ClauseForm}
 use Rattle.dt_lang.specs.Stand.{BodyStands, Slot, predicate, traced, exited, key, value, divides_in, SlotOpens}
 use Rattle.dt_lang.specs.Stand.{first_key, a_key}
 use Rattle.dt_lang.specs.Refused.{GoesOn, IsForStatement, IsTooLong, a_clause, a_description, a_statement, a_token}
 use Rattle.dt_lang.specs.Refused as refused
-use Rattle.dt_lang.specs.ClauseState.{PlaceForm, outside, described, listed, guarded, body, called, framed, closing}
-use Rattle.dt_lang.specs.ClauseState.{named, keyed, assigned, applied, within, bounding, negating, bounded}
-use Rattle.dt_lang.specs.ClauseState.{ProgramState, program_at, headed, step, run, program_start}
-use Rattle.dt_lang.specs.Cause.{is_for_statement, takes_token, keys_full, full, too_long_at}
+use Rattle.dt_lang.specs.machine.ClauseState.{PlaceForm, outside, described, listed, guarded, body, called, stack_opened, closing}
+use Rattle.dt_lang.specs.machine.ClauseState.{named, keyed, assigned, applied, within, bounding, negating, bounded}
+use Rattle.dt_lang.specs.machine.ClauseState.{ProgramState, program_at, headed, step, run, program_start}
+use Rattle.dt_lang.specs.declared.fault.Limit.{Limit}
+use Rattle.dt_lang.specs.declared.fault.Limit.TheVariants as limits
+use Rattle.dt_lang.specs.machine.Cause.{is_for_statement, is_one_more, keys_full, limit_within, too_long_at}
 use Rattle.dt_lang.specs.laws.Reading.{ListRead, Within, ReadAt}
-use Rattle.dt_lang.specs.laws.ClauseSound.{same_some}
+use Rattle.dt_lang.specs.laws.ClauseSound.{none_some, same_some}
 use Rattle.dt_lang.specs.laws.ClauseComplete.{run_on, run_step, run_within, clauses_lead, head_stands_lead}
 use Rattle.dt_lang.specs.laws.ClauseComplete.{body_stands_lead, slot_leads}
 use Rattle.dt_lang.specs.laws.ClauseLaws.{read}
-use Rattle.dt_lang.specs.laws.TakesLaws.{one_of, both_left, both_right, goes_on_takes, takes_goes_on}
+use Rattle.dt_lang.specs.laws.TakesLaws.{both_left, both_right, goes_on_takes, takes_goes_on}
 
 is_for_statement_is : (t : Token) → is_for_statement t ≡ true → IsForStatement t
 is_for_statement_is (token.Word w) h = tt
@@ -34,29 +37,40 @@ is_for_statement_true (token.Word w) h = refl
 is_for_statement_true (token.Aggregation name) h = refl
 is_for_statement_true _ h = absurd h
 
+-- a limit that is passed where a test is met
+met : (b : Bool) (its limit : Limit) → cond b (Some its) None ≡ Some limit → (b ≡ true) × (its ≡ limit)
+met true its limit e = (refl, same_some e)
+met false its limit e = absurd (none_some e)
+
 -- what the state says holds
-outside_too_long : (ts : List Token) (cs : List ClauseForm) (c : ClauseForm) (t : Token) → ReadsClauses ts cs
-    → too_long_at cs c outside t ≡ true → IsTooLong ts t
-outside_too_long ts cs c (token.Description d) h e = a_clause ts cs d h (leb-true CLAUSES_MAX (length cs) e)
-outside_too_long ts cs c t h e = cc
+outside_too_long : (ts : List Token) (cs : List ClauseForm) (c : ClauseForm) (t : Token) (limit : Limit)
+    → ReadsClauses ts cs → too_long_at cs c outside t ≡ Some limit → IsTooLong ts t limit
+outside_too_long ts cs c (token.Description d) limit h e =
+    let m = met (leb CLAUSES_MAX (length cs)) limits.Clauses limit e in
+    subst (IsTooLong ts (token.Description d)) m.1 (a_clause ts cs d h (leb-true CLAUSES_MAX (length cs) m.0))
+outside_too_long ts cs c t limit h e = absurd (none_some e)
 
-listed_too_long : (ts : List Token) (cs : List ClauseForm) (c : ClauseForm) (t : Token) → ListRead ts cs c
-    → too_long_at cs c listed t ≡ true → IsTooLong ts t
-listed_too_long ts cs c (token.Description d) h e =
-    rw h.split
-    (a_description h.front cs c.descriptions d h.head.stands (leb-true DESCRIPTIONS_MAX (length c.descriptions) e))
-listed_too_long ts cs c t h e = cc
+listed_too_long : (ts : List Token) (cs : List ClauseForm) (c : ClauseForm) (t : Token) (limit : Limit)
+    → ListRead ts cs c → too_long_at cs c listed t ≡ Some limit → IsTooLong ts t limit
+listed_too_long ts cs c (token.Description d) limit h e =
+    let m = met (leb DESCRIPTIONS_MAX (length c.descriptions)) limits.Descriptions limit e in
+    subst (IsTooLong ts (token.Description d)) m.1
+    (rw h.split
+    (a_description h.front cs c.descriptions d h.head.stands (leb-true DESCRIPTIONS_MAX (length c.descriptions) m.0)))
+listed_too_long ts cs c t limit h e = absurd (none_some e)
 
-begins_too_long : (ts : List Token) (cs : List ClauseForm) (c : ClauseForm) (t : Token) → BodyStands begins ts cs c
-    → too_long_at cs c (body begins) t ≡ true → IsTooLong ts t
-begins_too_long ts cs c t h e =
-    a_statement ts cs c t h (leb-true STATEMENTS_MAX (length c.statements) (both_left _ _ e))
-    (is_for_statement_is t (both_right (leb STATEMENTS_MAX (length c.statements)) _ e))
+before_statement_too_long : (ts : List Token) (cs : List ClauseForm) (c : ClauseForm) (t : Token) (limit : Limit)
+    → BodyStands before_statement ts cs c → too_long_at cs c (body before_statement) t ≡ Some limit → IsTooLong ts t limit
+before_statement_too_long ts cs c t limit h e =
+    let m = met (leb STATEMENTS_MAX (length c.statements) && is_for_statement t) limits.Statements limit e in
+    subst (IsTooLong ts t) m.1
+    (a_statement ts cs c t h (leb-true STATEMENTS_MAX (length c.statements) (both_left _ _ m.0))
+    (is_for_statement_is t (both_right (leb STATEMENTS_MAX (length c.statements)) _ m.0)))
 
 -- a slot for a further key of too many
 key_too_long : {ts : List Token} {cs : List ClauseForm} {c : ClauseForm} {name : List ℕ} {keys : List ArgForm}
     (t : Token) → SlotOpens (key name keys) ts cs c → leb KEYS_MAX (length keys) ≡ true → GoesOn true [] t
-    → IsTooLong ts t
+    → IsTooLong ts t limits.Keys
 key_too_long t (first_key ts cs c name h) e g = cc
 key_too_long t (a_key ts cs c name keys h) e g =
     refused.a_key ts cs c name keys t h (leb-true KEYS_MAX (length keys) e) g
@@ -67,7 +81,7 @@ no_tokens (t ∷ ts) n c e = let k = eqb-true n 0 e in absurd (omega arith)
 
 slot_too_long : (ts back : List Token) (cs : List ClauseForm) (c : ClauseForm) (slot : Slot) (t : Token)
     → SlotOpens slot ts cs c → back ≡ [] → keys_full slot ≡ true → GoesOn (divides_in slot) back t
-    → IsTooLong (ts ++ back) t
+    → IsTooLong (ts ++ back) t limits.Keys
 slot_too_long ts back cs c (key name keys) t h e k g =
     rw (e, append-nil ts) (key_too_long t h k (rw e at g))
 slot_too_long ts back cs c predicate t h e k g = cc
@@ -75,44 +89,47 @@ slot_too_long ts back cs c traced t h e k g = cc
 slot_too_long ts back cs c exited t h e k g = cc
 slot_too_long ts back cs c (value name keys fn) t h e k g = cc
 
+-- the limit that is passed within a slot: of tokens, or of keys
+which_limit : (tokens keys : Bool) (limit : Limit)
+    → cond tokens (Some limits.Tokens) (cond keys (Some limits.Keys) None) ≡ Some limit
+    → ((tokens ≡ true) × (limits.Tokens ≡ limit)) ⊎ ((keys ≡ true) × (limits.Keys ≡ limit))
+which_limit true keys limit e = inl (refl, same_some e)
+which_limit false true limit e = inr (refl, same_some e)
+which_limit false false limit e = absurd (none_some e)
+
+taken_limit : (b : Bool) (o : Option Limit) (limit : Limit) → cond b o None ≡ Some limit
+    → (b ≡ true) × (o ≡ Some limit)
+taken_limit true o limit e = (refl, e)
+taken_limit false o limit e = absurd (none_some e)
+
 within_too_long : (ts : List Token) (cs : List ClauseForm) (c : ClauseForm) (slot : Slot) (n : ℕ)
-    (e : expression.State) (t : Token) → Within ts cs c slot n e → full slot n && takes_token e t ≡ true
-    → IsTooLong ts t
-within_too_long ts cs c slot n e t h k =
-    let g = takes_goes_on (divides_in slot) h.back e t h.runs (both_right (full slot n) _ k) in
-    elim (one_of (leb TOKENS_MAX n) (eqb n 0 && keys_full slot) (both_left _ _ k)) [
-      | inl i ↦ let m : TOKENS_MAX ≤ length h.back = rw h.counts at (leb-true TOKENS_MAX n i) in
-          rw h.split (a_token slot h.front h.back cs c t h.opens m g)
-      | inr i ↦ let z = no_tokens h.back n h.counts (both_left _ _ i) in
-          rw h.split (slot_too_long h.front h.back cs c slot t h.opens z (both_right (eqb n 0) _ i) g)
+    (e : expression.State) (t : Token) (limit : Limit) → Within ts cs c slot n e
+    → too_long_at cs c (within slot n e) t ≡ Some limit → IsTooLong ts t limit
+within_too_long ts cs c slot n e t limit h k =
+    let m = taken_limit (is_one_more e t) (limit_within slot n) limit k in
+    let g = takes_goes_on (divides_in slot) h.back e t h.runs m.0 in
+    elim (which_limit (leb TOKENS_MAX n) (eqb n 0 && keys_full slot) limit m.1) [
+      | inl i ↦ let most : TOKENS_MAX ≤ length h.back = rw h.counts at (leb-true TOKENS_MAX n i.0) in
+          subst (IsTooLong ts t) i.1 (rw h.split (a_token slot h.front h.back cs c t h.opens most g))
+      | inr i ↦ let z = no_tokens h.back n h.counts (both_left _ _ i.0) in
+          subst (IsTooLong ts t) i.1
+          (rw h.split (slot_too_long h.front h.back cs c slot t h.opens z (both_right (eqb n 0) _ i.0) g))
     ]
 
-too_long_is : (ts : List Token) (cs : List ClauseForm) (c : ClauseForm) (p : PlaceForm) (t : Token) → ReadAt cs c p ts
-    → too_long_at cs c p t ≡ true → IsTooLong ts t
-too_long_is ts cs c outside t h e = outside_too_long ts cs c t h e
-too_long_is ts cs c listed t h e = listed_too_long ts cs c t h e
-too_long_is ts cs c (body begins) t h e = begins_too_long ts cs c t h e
-too_long_is ts cs c (within slot n x) t h e = within_too_long ts cs c slot n x t h e
-too_long_is ts cs c described t h e = cc
-too_long_is ts cs c guarded t h e = cc
-too_long_is ts cs c (body ends) t h e = cc
-too_long_is ts cs c (called a) t h e = cc
-too_long_is ts cs c (framed process) t h e = cc
-too_long_is ts cs c (closing s) t h e = cc
-too_long_is ts cs c (named name) t h e = cc
-too_long_is ts cs c (keyed name keys) t h e = cc
-too_long_is ts cs c (assigned name keys) t h e = cc
-too_long_is ts cs c (applied name keys fn) t h e = cc
-too_long_is ts cs c (bounding name keys f b) t h e = cc
-too_long_is ts cs c (negating name keys f b) t h e = cc
-too_long_is ts cs c (bounded name keys f b z) t h e = cc
+read_too_long : (ts : List Token) (cs : List ClauseForm) (c : ClauseForm) (p : PlaceForm) (t : Token) (limit : Limit)
+    → ReadAt cs c p ts → too_long_at cs c p t ≡ Some limit → IsTooLong ts t limit
+read_too_long ts cs c outside t limit h e = outside_too_long ts cs c t limit h e
+read_too_long ts cs c listed t limit h e = listed_too_long ts cs c t limit h e
+read_too_long ts cs c (body before_statement) t limit h e = before_statement_too_long ts cs c t limit h e
+read_too_long ts cs c (within slot n x) t limit h e = within_too_long ts cs c slot n x t limit h e
+read_too_long ts cs c (body after_statement) t limit h e = absurd (none_some e)
+read_too_long ts cs c _ t limit h e = absurd (none_some e)
 
--- what holds the state says: the state that was reached is the one that these tokens lead to
-there : (ts : List Token) (t : Token) (s at : ProgramState) → run program_start ts ≡ Some s → run program_start ts
-    ≡ Some at
-    → too_long_at at.clauses at.clause at.place t ≡ true → too_long_at s.clauses s.clause s.place t ≡ true
-there ts t s at h k e =
-    subst (λ (x : ProgramState). too_long_at x.clauses x.clause x.place t ≡ true) (same_some (sym k ∙ h)) e
+-- the state that the tokens lead to, and the limit that the token passes there
+pub record TooLongThere (ts : List Token) (t : Token) (limit : Limit) : Type 0 where
+  pub at : ProgramState
+  pub runs : run program_start ts ≡ Some at
+  pub says : too_long_at at.clauses at.clause at.place t ≡ Some limit
 
 listed_step : (cs : List ClauseForm) (c : ClauseForm)
     → step (program_at cs c described) (token.Sign sign.Comma) ≡ Some (program_at cs c listed)
@@ -120,34 +137,50 @@ unfolding step
 listed_step cs c = refl
 
 -- what is taken before anything was read
-takes_first : (t : Token) → GoesOn true [] t → takes_token (expression.start true) t ≡ true
+takes_first : (t : Token) → GoesOn true [] t → is_one_more (expression.start true) t ≡ true
 unfolding expression.run
 takes_first t g =
     let k = goes_on_takes true [] t g in
     let same : expression.start true ≡ k.at = same_some k.runs in
     rw (sym same) at k.takes_it
 
-too_long_true : (ts : List Token) (t : Token) (s : ProgramState) → run program_start ts ≡ Some s → IsTooLong ts t
-    → too_long_at s.clauses s.clause s.place t ≡ true
+too_long_there : (ts : List Token) (t : Token) (limit : Limit) → IsTooLong ts t limit → TooLongThere ts t limit
 unfolding run
-too_long_true _ _ s h (a_clause ts cs d r n) =
-    there ts _ s _ h (clauses_lead ts cs r) (le-leb CLAUSES_MAX (length cs) n)
-too_long_true _ _ s h (a_description ts cs ds d r n) =
-    there _ _ s _ h (run_step _ _ _ ts _ (head_stands_lead ts cs ds r) (listed_step cs (headed ds)))
-    (le-leb DESCRIPTIONS_MAX (length ds) n)
-too_long_true _ _ s h (a_statement ts cs c t r n k) =
-    there ts t s _ h (body_stands_lead begins ts cs c r)
-    (rw (le-leb STATEMENTS_MAX (length c.statements) n, is_for_statement_true t k) refl)
-too_long_true _ _ s h (refused.a_key ts cs c name keys t r n g) =
-    there _ t s _ h (slot_leads (key name keys) _ cs c (a_key ts cs c name keys r))
-    (rw (le-leb KEYS_MAX (length keys) n, takes_first t g) refl)
-too_long_true _ _ s h (a_token slot ts us cs c t r n g) =
+too_long_there _ _ _ (a_clause ts cs d r n) =
+    record { at = _; runs = clauses_lead ts cs r; says = rw (le-leb CLAUSES_MAX (length cs) n) refl }
+too_long_there _ _ _ (a_description ts cs ds d r n) = record {
+  at = _;
+  runs = run_step _ _ _ ts _ (head_stands_lead ts cs ds r) (listed_step cs (headed ds));
+  says = rw (le-leb DESCRIPTIONS_MAX (length ds) n) refl;
+}
+too_long_there _ _ _ (a_statement ts cs c t r n k) = record {
+  at = _;
+  runs = body_stands_lead before_statement ts cs c r;
+  says = rw (le-leb STATEMENTS_MAX (length c.statements) n, is_for_statement_true t k) refl;
+}
+too_long_there _ _ _ (refused.a_key ts cs c name keys t r n g) = record {
+  at = _;
+  runs = slot_leads (key name keys) _ cs c (a_key ts cs c name keys r);
+  says = rw (takes_first t g, le-leb KEYS_MAX (length keys) n) refl;
+}
+too_long_there _ _ _ (a_token slot ts us cs c t r n g) =
     let k = goes_on_takes (divides_in slot) us t g in
     let w = run_within cs c slot us 0 (expression.start (divides_in slot)) k.at k.runs in
     let m : leb TOKENS_MAX (0 + length us) ≡ true = le-leb TOKENS_MAX (0 + length us) (omega arith) in
-    there _ t s _ h (run_on _ _ _ ts us (slot_leads slot ts cs c r) w) (rw (m, k.takes_it) refl)
+    record { at = _; runs = run_on _ _ _ ts us (slot_leads slot ts cs c r) w; says = rw (k.takes_it, m) refl }
 
-pub too_long_decides : (ts : List Token) (t : Token) (s : ProgramState) → run program_start ts ≡ Some s
-    → Decides (too_long_at s.clauses s.clause s.place t) (IsTooLong ts t)
-too_long_decides ts t s h =
-    (λ e. too_long_is ts s.clauses s.clause s.place t (read ts s h) e, λ k. too_long_true ts t s h k)
+module _ (ts : List Token) (t : Token) (s : ProgramState) (h : run program_start ts ≡ Some s) where
+  pub too_long_is : (limit : Limit) → too_long_at s.clauses s.clause s.place t ≡ Some limit → IsTooLong ts t limit
+  too_long_is limit e = read_too_long ts s.clauses s.clause s.place t limit (read ts s h) e
+
+  pub too_long_true : (limit : Limit) → IsTooLong ts t limit → too_long_at s.clauses s.clause s.place t ≡ Some limit
+  too_long_true limit k =
+      let there = too_long_there ts t limit k in
+      subst (λ (x : ProgramState). too_long_at x.clauses x.clause x.place t ≡ Some limit)
+      (same_some (sym there.runs ∙ h)) there.says
+
+-- A token passes one limit at most.
+pub one_limit : (ts : List Token) (t : Token) (a b : Limit) → IsTooLong ts t a → IsTooLong ts t b → a ≡ b
+one_limit ts t a b h k =
+    let there = too_long_there ts t a h in
+    same_some (sym there.says ∙ too_long_true ts t there.at there.runs b k)

@@ -1,5 +1,5 @@
 -- A program that was read lies within the bounds of what can be written.
-use Rattle.std.proofs.Common.{◌≡◌, ◌≢◌, ℕ, zero, suc, ◌<◌, ◌≤◌, Bool, true, false, List, [], ◌∷◌, ◌++◌, length}
+use Rattle.std.proofs.Common.{◌≡◌, ◌≢◌, ℕ, zero, suc, ◌<◌, ◌≤◌, Bool, true, false, List, [], ◌∷◌, ◌++◌, length, Result, Ok}
 use Rattle.std.proofs.Common.{Option, Some, None, IfSome, ℤ, refl, sym, ap, ◌∙◌, subst, ⊎_elim, ◌⊎◌, inl, inr, arith, lit<}
 use Rattle.std.proofs.Common.{length-append, append_assoc, append-nil}
 use Rattle.std.specs.List.{AllByRecursion}
@@ -14,7 +14,8 @@ use Rattle.dt_program.specs.Description.{DescForm, form_of_description}
 use Rattle.dt_program.specs.Limits.{descriptions_max, statements_max, keys_max, clauses_max, tokens_max}
 use Rattle.dt_program.specs.Written.{IsWrittenExpression, IsWrittenArgument, AreWrittenBounds, IsWrittenCall}
 use Rattle.dt_program.specs.Written.{IsWrittenStatement, IsWrittenClause, IsWrittenProgram}
-use Rattle.dt_lang.specs.declared.fault.Why.TheVariants.{TooLong, Range}
+use Rattle.dt_lang.specs.declared.fault.Flaw.TheVariants.{TooLong, Range}
+use Rattle.dt_lang.specs.declared.fault.Limit.{Limit}
 use Rattle.dt_lang.specs.declared.token.Sign.TheVariants as sign
 use Rattle.dt_lang.specs.declared.token.Token.{Token}
 use Rattle.dt_lang.specs.declared.token.Token.TheVariants as token
@@ -22,11 +23,14 @@ use Rattle.dt_lang.specs.declared.word.Action.TheVariants as action
 use Rattle.dt_lang.specs.declared.word.Function.{Function}
 use Rattle.dt_lang.specs.declared.word.Function.TheVariants as function
 use Rattle.dt_lang.specs.declared.word.Word.TheVariants as word
-use Rattle.dt_lang.specs.Cause.{are_bounds}
+use Rattle.dt_program.specs.Bounds.{bounds_fault}
+use Rattle.dt_program.specs.laws.BoundsLaws.{faultless_bounds}
+use Rattle.dt_program.specs.declared.clause.BoundsFault.{BoundsFault}
+use Rattle.dt_program.specs.declared.description.DescriptionFault.{DescriptionFault}
 use Rattle.dt_lang.specs.Expression.{ReadsExpr, a_variable, ReadsArgument, a_text, an_expression, OPERAND, text_token}
 use Rattle.dt_lang.specs.Grammar.{ReadsHead, ReadsOpening, always, ReadsKeys, ReadsTarget, bare, keyed, ReadsBounds}
 use Rattle.dt_lang.specs.Grammar.{by_one, stepped, call_of, ReadsCall, counting, of_one, in_levels, ReadsStatement, tracing}
-use Rattle.dt_lang.specs.Grammar.{of_stack, of_ustack, exiting, aggregating, Spot, begins, ReadsBody, stated, separated}
+use Rattle.dt_lang.specs.Grammar.{of_stack, of_ustack, exiting, aggregating, Spot, before_statement, ReadsBody, stated, separated}
 use Rattle.dt_lang.specs.Grammar.{ReadsClause, ReadsClauses}
 use Rattle.dt_lang.specs.Grammar as grammar
 use Rattle.dt_lang.specs.Reads.{IsProgram}
@@ -37,7 +41,6 @@ use Rattle.dt_lang.specs.Stand.{HeadStands, BodyStands, KeysStand, TargetStands,
 use Rattle.dt_lang.specs.Stand.{divides_in, SlotOpens, a_predicate, an_argument, a_status, first_key, a_value}
 use Rattle.dt_lang.specs.Stand as stand
 use Rattle.dt_lang.specs.laws.ExpressionSound.{loosen}
-use Rattle.dt_lang.specs.laws.RangeLaws.{are_bounds_is, are_bounds_true}
 use Rattle.dt_lang.specs.laws.WrittenTokens.{IsWrittenToken, AreWritten, front_all, back_all, joined_all, tokens_written}
 use Rattle.dt_lang.specs.laws.WrittenTokens.{text_written, parts_written, parts_few, expression_begins, constant_written}
 
@@ -96,8 +99,8 @@ module _ (tokens : List Token) (unrefused : NoneRefused tokens) (each : AreWritt
       (back_all IsWrittenToken front (us ++ h.back) (subst AreWritten h.cut each))
 
   -- the first of them is not one too many
-  short_at : (front us : List Token) (t : Token) → At tokens front (t ∷ us) → IsTooLong front t → ⊥
-  short_at front us t h = unrefused front (us ++ h.back) t (because TooLong) h.cut
+  short_at : (front us : List Token) (t : Token) {limit : Limit} → At tokens front (t ∷ us) → IsTooLong front t limit → ⊥
+  short_at front us t {limit = limit} h = unrefused front (us ++ h.back) t (because (TooLong limit)) h.cut
 
   -- expressions
   few_at : (slot : Slot) (front us : List Token) (cs : List ClauseForm) (c : ClauseForm) (f : Form)
@@ -134,7 +137,7 @@ module _ (tokens : List Token) (unrefused : NoneRefused tokens) (each : AreWritt
 
   -- keys
   operand_text : (t : Token) (a : Text) → text_token t ≡ Some a → IsOperand t
-  operand_text (token.Text bytes) a e = tt
+  operand_text (token.String bytes) a e = tt
   operand_text (token.Word w) a e = tt
   operand_text _ a e = cc
 
@@ -159,7 +162,7 @@ module _ (tokens : List Token) (unrefused : NoneRefused tokens) (each : AreWritt
   abbrev AreWrittenKeys : List ArgForm → Type 0
   AreWrittenKeys keys = (length keys ≤ keys_max) × AllByRecursion IsWrittenArgument keys
 
-  module _ (cs : List ClauseForm) (c : ClauseForm) (front : List Token) (name : List ℕ) (stands : BodyStands begins front cs c)
+  module _ (cs : List ClauseForm) (c : ClauseForm) (front : List Token) (name : List ℕ) (stands : BodyStands before_statement front cs c)
     where
       abbrev opening : List Token
       opening = token.Aggregation name ∷ token.Sign sign.OpenBracket ∷ []
@@ -196,7 +199,7 @@ module _ (tokens : List Token) (unrefused : NoneRefused tokens) (each : AreWritt
           )
 
   target_at : (cs : List ClauseForm) (c : ClauseForm) (front ts : List Token) (name : List ℕ) (keys : List ArgForm)
-      → BodyStands begins front cs c → At tokens front ts → ReadsTarget ts name keys
+      → BodyStands before_statement front cs c → At tokens front ts → ReadsTarget ts name keys
       → (length name ≤ short_text_max) × AreWrittenKeys keys
   target_at cs c front _ _ _ stands h (bare name) =
       ((written_at front (token.Aggregation name ∷ []) h).0, (omega arith, tt))
@@ -250,7 +253,7 @@ module _ (tokens : List Token) (unrefused : NoneRefused tokens) (each : AreWritt
         → ReadsBounds us lower upper step
         → At tokens (front ++ function_opening function.Lquantize) (ts ++ (us ++ (token.Sign sign.CloseParen ∷ [])))
         → AreBounds lower upper step
-    levels_at ts us f lower upper step reads bounds h = by_test (are_bounds lower upper step) refl
+    levels_at ts us f lower upper step reads bounds h = by_test (bounds_fault lower upper step) refl
       where
         start : List Token
         start = front ++ function_opening function.Lquantize
@@ -259,9 +262,10 @@ module _ (tokens : List Token) (unrefused : NoneRefused tokens) (each : AreWritt
         at = second start (ts ++ us) (token.Sign sign.CloseParen ∷ [])
             (subst (At tokens start) (sym (append_assoc ts us (token.Sign sign.CloseParen ∷ []))) h)
 
-        by_test : (b : Bool) → are_bounds lower upper step ≡ b → AreBounds lower upper step
-        by_test true e = are_bounds_is lower upper step e
-        by_test false e = absurd (unrefused (start ++ (ts ++ us)) at.back (token.Sign sign.CloseParen) (because Range) at.cut
+        by_test : (fault : Option BoundsFault) → bounds_fault lower upper step ≡ fault → AreBounds lower upper step
+        by_test None e = faultless_bounds lower upper step e
+        by_test (Some fault) e = absurd (unrefused (start ++ (ts ++ us)) at.back (token.Sign sign.CloseParen)
+            (because (Range fault)) at.cut
             (record {
               front = start;
               expression = ts;
@@ -279,7 +283,7 @@ module _ (tokens : List Token) (unrefused : NoneRefused tokens) (each : AreWritt
               upper = upper;
               step = step;
               reads_bounds = bounds;
-              wrong = λ are. let bad : true ≡ false = sym (are_bounds_true lower upper step are) ∙ e in cc;
+              wrong = e;
             }))
 
     call_at : (us : List Token) (call : CallForm) → At tokens front (token.Sign sign.Equal ∷ us) → ReadsCall us call
@@ -306,7 +310,7 @@ module _ (tokens : List Token) (unrefused : NoneRefused tokens) (each : AreWritt
 
   -- statements
   statement_at : (cs : List ClauseForm) (c : ClauseForm) (front us : List Token) (s : StatementForm)
-      → BodyStands begins front cs c → At tokens front us → ReadsStatement us s → IsWrittenStatement s
+      → BodyStands before_statement front cs c → At tokens front us → ReadsStatement us s → IsWrittenStatement s
   statement_at cs c front _ _ stands h (tracing ts a reads) =
       let lead = token.Word (word.Action action.Trace) ∷ token.Sign sign.OpenParen ∷ [] in
       argument_at traced (front ++ lead) ts cs c a refl (an_argument front cs c stands)
@@ -354,17 +358,17 @@ module _ (tokens : List Token) (unrefused : NoneRefused tokens) (each : AreWritt
     body_at : (ds : List DescForm) (p : Option Form) (opening : List Token) → ReadsOpening opening ds p
         → (spot : Spot) (us : List Token) (ss : List StatementForm) → At tokens (clauses ++ opening) us
         → ReadsBody spot us ss → (length ss ≤ statements_max) × AllByRecursion IsWrittenStatement ss
-    body_at ds p opening opened _ _ _ h grammar.nothing = (omega arith, tt)
-    body_at ds p opening opened _ _ _ h (stated ts us ss s more reads) =
-        let earlier = body_at ds p opening opened begins ts ss (first (clauses ++ opening) ts us h) more in
+    body_at ds p opening reads_opening _ _ _ h grammar.nothing = (omega arith, tt)
+    body_at ds p opening reads_opening _ _ _ h (stated ts us ss s more reads) =
+        let earlier = body_at ds p opening reads_opening before_statement ts ss (first (clauses ++ opening) ts us h) more in
         let here = second (clauses ++ opening) ts us h in
-        let stands : BodyStands begins ((clauses ++ opening) ++ ts) cs (clause_of ds p ss) = record {
+        let stands : BodyStands before_statement ((clauses ++ opening) ++ ts) cs (clause_of ds p ss) = record {
           clauses = clauses;
           opening = opening;
           body = ts;
           split = append_assoc clauses opening ts;
           before = before;
-          opened = opened;
+          reads_opening = reads_opening;
           reads = more;
         } in
         let begun = statement_begins us s reads in
@@ -377,19 +381,19 @@ module _ (tokens : List Token) (unrefused : NoneRefused tokens) (each : AreWritt
           joined_all IsWrittenStatement ss (s ∷ []) earlier.1
               (statement_at cs (clause_of ds p ss) ((clauses ++ opening) ++ ts) us s stands here reads, tt),
         )
-    body_at ds p opening opened _ _ _ h (separated spot ts ss more) =
-        body_at ds p opening opened spot ts ss (first (clauses ++ opening) ts (token.Sign sign.Semicolon ∷ []) h) more
+    body_at ds p opening reads_opening _ _ _ h (separated spot ts ss more) =
+        body_at ds p opening reads_opening spot ts ss (first (clauses ++ opening) ts (token.Sign sign.Semicolon ∷ []) h) more
 
     head_at : (ts : List Token) (ds : List DescForm) → At tokens clauses ts → ReadsHead ts ds
         → (1 ≤ length ds) × (length ds ≤ descriptions_max)
     head_at _ _ h (grammar.a_description d) = (omega arith, omega arith)
     head_at _ _ h (grammar.another ts ds d more) =
-        let last = token.Description (Some d) in
+        let last = token.Description (Ok d) in
         let here = second (clauses ++ ts) (token.Sign sign.Comma ∷ []) (last ∷ [])
         (second clauses ts (token.Sign sign.Comma ∷ last ∷ []) h) in
         let room : length ds < descriptions_max = ⊎_elim (λ less. less)
         (λ full. absurd (short_at ((clauses ++ ts) ++ (token.Sign sign.Comma ∷ [])) [] last here
-        (refused.a_description (clauses ++ ts) cs ds (Some d)
+        (refused.a_description (clauses ++ ts) cs ds (Ok d)
         (record { clauses = clauses; head = ts; split = refl; before = before; reads = more }) full)))
         (below_or (length ds) descriptions_max) in
         (some_more ds (form_of_description d), one_more ds (form_of_description d) descriptions_max room)
@@ -420,10 +424,10 @@ module _ (tokens : List Token) (unrefused : NoneRefused tokens) (each : AreWritt
         }
 
     clause_at : (us : List Token) (c : ClauseForm) → At tokens clauses us → ReadsClause us c → IsWrittenClause c
-    clause_at _ _ h (grammar.a_clause spot ts us ds p ss opened body) =
+    clause_at _ _ h (grammar.a_clause spot ts us ds p ss reads_opening body) =
         let end = token.Sign sign.CloseBrace ∷ [] in
-        let head = opening_at ts ds p (first clauses ts (us ++ end) h) opened in
-        let inside = body_at ds p ts opened spot us ss (first (clauses ++ ts) us end (second clauses ts (us ++ end) h)) body in
+        let head = opening_at ts ds p (first clauses ts (us ++ end) h) reads_opening in
+        let inside = body_at ds p ts reads_opening spot us ss (first (clauses ++ ts) us end (second clauses ts (us ++ end) h)) body in
         record {
           described = head.described;
           few_descriptions = head.few;
@@ -434,13 +438,13 @@ module _ (tokens : List Token) (unrefused : NoneRefused tokens) (each : AreWritt
 
   -- a clause begins with a description
   abbrev BeginsDescribed : List Token → Type 0
-  BeginsDescribed ts = (d : Option Description) × (rest : List Token) × (ts ≡ token.Description d ∷ rest)
+  BeginsDescribed ts = (d : Result Description DescriptionFault) × (rest : List Token) × (ts ≡ token.Description d ∷ rest)
 
   more_described : (ts us : List Token) → BeginsDescribed ts → BeginsDescribed (ts ++ us)
   more_described ts us begun = (begun.0, begun.1 ++ us, ap (λ xs. xs ++ us) begun.2)
 
   head_begins : (ts : List Token) (ds : List DescForm) → ReadsHead ts ds → BeginsDescribed ts
-  head_begins _ _ (grammar.a_description d) = (Some d, [], refl)
+  head_begins _ _ (grammar.a_description d) = (Ok d, [], refl)
   head_begins _ _ (grammar.another ts ds d more) = more_described ts _ (head_begins ts ds more)
 
   opening_begins : (ts : List Token) (ds : List DescForm) (p : Option Form) → ReadsOpening ts ds p → BeginsDescribed ts
@@ -448,8 +452,8 @@ module _ (tokens : List Token) (unrefused : NoneRefused tokens) (each : AreWritt
   opening_begins _ _ _ (grammar.guarded ts us ds f reads guards) = more_described ts _ (head_begins ts ds reads)
 
   clause_begins : (ts : List Token) (c : ClauseForm) → ReadsClause ts c → BeginsDescribed ts
-  clause_begins _ _ (grammar.a_clause spot ts us ds p ss opened body) =
-      more_described ts _ (opening_begins ts ds p opened)
+  clause_begins _ _ (grammar.a_clause spot ts us ds p ss reads_opening body) =
+      more_described ts _ (opening_begins ts ds p reads_opening)
 
   clauses_at : (ts : List Token) (cs : List ClauseForm) → At tokens [] ts → ReadsClauses ts cs
       → (length cs ≤ clauses_max) × AllByRecursion IsWrittenClause cs

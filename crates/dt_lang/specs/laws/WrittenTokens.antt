@@ -27,7 +27,7 @@ use Rattle.dt_lang.specs.Reads.{TokensTo, none, another}
 -- a number of a token has 64 bits with a sign, and its bytes are few
 abbrev pub IsWrittenToken : Token → Type 0
 IsWrittenToken (token.Number z) = FitsSigned w64 z
-IsWrittenToken (token.Text bytes) = length bytes ≤ short_text_max
+IsWrittenToken (token.String bytes) = length bytes ≤ short_text_max
 IsWrittenToken (token.Aggregation name) = length name ≤ short_text_max
 IsWrittenToken _ = Unit {0}
 
@@ -52,7 +52,7 @@ joined_all P (x ∷ xs) ys h k = (h.0, joined_all P xs ys h.1 k)
 body_token : (bytes : List ℕ) (t : Token) → IsBodyToken bytes t → IsWrittenToken t
 body_token bytes (token.Word w) h = tt
 body_token bytes (token.Number z) h = subst (λ x. FitsSigned w64 x) (sym h.2) (SFits-int_wrap w64 (pos h.0))
-body_token bytes (token.Text t) h = h.2
+body_token bytes (token.String t) h = h.2
 body_token bytes (token.Aggregation name) h = h.2
 body_token bytes (token.Sign s) h = tt
 body_token bytes (token.Description d) h = tt
@@ -62,7 +62,7 @@ head_token bytes (token.Description d) h = tt
 head_token bytes (token.Sign s) h = tt
 head_token bytes (token.Word w) h = tt
 head_token bytes (token.Number z) h = absurd h
-head_token bytes (token.Text t) h = absurd h
+head_token bytes (token.String t) h = absurd h
 head_token bytes (token.Aggregation name) h = absurd h
 
 piece_token : (mode : Mode) (bytes : List ℕ) (t : Token) (size : ℕ) → IsPiece mode bytes (piece.Token t size)
@@ -82,7 +82,7 @@ lexed_token : (mode : Mode) (rest : List ℕ) (found : Piece) (place at to : ℕ
     → lexeme.Token at t to ≡ placed place found → IsWrittenToken t
 lexed_token mode rest (piece.Token u size) place at to t h e =
     let same : u ≡ t = cc in subst IsWrittenToken same (standing_token mode rest u size h)
-lexed_token mode rest piece.Overlong place at to t h e = cc
+lexed_token mode rest (piece.Overlong limit size) place at to t h e = cc
 lexed_token mode rest piece.Stray place at to t h e = cc
 lexed_token mode rest piece.End place at to t h e = cc
 
@@ -96,7 +96,7 @@ tokens_written {text = text} (another mode ts t from at to h lexes) =
 
 -- a text
 pub text_written : (t : Token) (a : Text) → text_token t ≡ Some a → IsWrittenToken t → IsWrittenText a
-text_written (token.Text bytes) a e h = let same : operand.Literal bytes ≡ a = cc in subst IsWrittenText same h
+text_written (token.String bytes) a e h = let same : operand.Literal bytes ≡ a = cc in subst IsWrittenText same h
 text_written (token.Word (word.Text variable)) a e h =
     let same : operand.Variable variable ≡ a = cc in subst IsWrittenText same tt
 text_written _ a e h = cc

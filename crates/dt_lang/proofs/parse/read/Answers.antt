@@ -4,9 +4,8 @@ use Rattle.dt_lang.specs.declared.fault.LangFault.{LangFault}
 use Rattle.dt_lang.specs.declared.mode.Mode.{Mode}
 use Rattle.dt_lang.specs.declared.mode.Mode.TheVariants.{Head}
 use Rattle.dt_program.specs.declared.program.Program.{Program}
-use Rattle.dt_lang.specs.ClauseState.{ProgramState}
-use Rattle.dt_lang.specs.Reads.{Answered}
-use Rattle.dt_lang.specs.ReaderView.{program_state_of}
+use Rattle.dt_lang.specs.machine.ClauseState.{ProgramState}
+use Rattle.dt_lang.specs.machine.ReaderView.{Answered, program_state_of}
 use Rattle.dt_lang.proofs.ParseLemmas.{SoFar, so_far_first, so_far_on, so_far_refused, so_far_overlong, so_far_stray}
 use Rattle.dt_lang.proofs.ParseLemmas.{so_far_end, answers_is}
 use Rattle.dt_lang.proofs.parse.read.Goals as goal
@@ -36,7 +35,7 @@ tokens-preserved c =
 pub returns-in-Overlong : goal.returns-in-Overlong
 returns-in-Overlong c =
     so_far_overlong c.args.text.now c.tokens.mode c.tokens.from (program_state_of c.tokens.reader) c.tokens.invariant
-    c.in-Overlong.at c.in-Overlong.ensures.lexes
+    c.in-Overlong.at c.in-Overlong.end c.in-Overlong.limit c.in-Overlong.ensures.lexes
 
 pub returns-in-Stray : goal.returns-in-Stray
 returns-in-Stray c =

@@ -1,6 +1,6 @@
 -- What was read up to where the next token stands.
 use Rattle.std.proofs.Common.{◌-◌, length}
-use Rattle.dt_lang.specs.ReaderView.{program_state_of}
+use Rattle.dt_lang.specs.machine.ReaderView.{program_state_of}
 use Rattle.dt_lang.proofs.ParseLemmas.{SoFar}
 use Rattle.dt_lang.proofs.parse.read.Given as goal
 

@@ -1,0 +1,10 @@
+-- Private to the proofs: what the readers of tokens, expressions and programs know after each step. No promise names these.
+pub mod Piece
+pub mod ExpressionState
+pub mod ExpressionView
+pub mod ClauseState
+pub mod PlaceView
+pub mod ReaderView
+pub mod Cause
+pub mod ShownCause
+pub mod Fits

@@ -1,0 +1,77 @@
+-- Private to the proofs.
+-- The causes that a token shows at its place, before it is known whether it goes on; and the answer to it.
+use Rattle.std.specs.Prelude.{◌≡◌, ℕ, Bool, true, false, Option, Some, None, Err}
+use Rattle.dt_lang.specs.declared.fault.LangFault.{LangFault}
+use Rattle.dt_lang.specs.declared.fault.LangFault.TheVariants as fault
+use Rattle.dt_lang.specs.declared.fault.Refusal.{Refusal}
+use Rattle.dt_lang.specs.declared.fault.Refusal.TheVariants as refusal
+use Rattle.dt_program.specs.declared.clause.BoundsFault.{BoundsFault}
+use Rattle.dt_lang.specs.declared.fault.Flaw.{Flaw}
+use Rattle.dt_lang.specs.declared.fault.Flaw.TheVariants as flaw
+use Rattle.dt_lang.specs.declared.token.Token.{Token}
+use Rattle.dt_lang.specs.declared.token.Token.TheVariants as token
+use Rattle.dt_lang.specs.declared.word.Word.TheVariants as word
+use Rattle.dt_lang.specs.machine.ExpressionState as expression
+use Rattle.dt_lang.specs.Grammar.{before_statement}
+use Rattle.dt_lang.specs.machine.Cause.{cause_of}
+use Rattle.dt_lang.specs.machine.ClauseState.{PlaceForm, body, assigned, within, ProgramState, step}
+use Rattle.dt_lang.specs.machine.Fits.{Fits}
+use Rattle.dt_lang.specs.Refused.{Cause, because, destroys}
+
+abbrev pub cause_of_refusal : Refusal → Cause
+cause_of_refusal (refusal.Flaw flaw) = because flaw
+cause_of_refusal (refusal.Destructive what) = destroys what
+
+-- where no name and no operand stands
+abbrev pub shown_elsewhere : Token → Option Cause
+shown_elsewhere (token.Description (Err fault)) = Some (because (flaw.Probe fault))
+shown_elsewhere _ = None
+
+-- where a statement may begin
+abbrev pub shown_before_statement : Token → Option Cause
+shown_before_statement (token.Word (word.Destructive what)) = Some (destroys what)
+shown_before_statement (token.Word (word.Action a)) = None
+shown_before_statement (token.Word w) = Some (because flaw.Action)
+shown_before_statement t = shown_elsewhere t
+
+-- where an aggregating function's name stands
+abbrev pub shown_assigned : Token → Option Cause
+shown_assigned (token.Word (word.Function fn)) = None
+shown_assigned (token.Word w) = Some (because flaw.Action)
+shown_assigned t = shown_elsewhere t
+
+-- where an operand stands
+abbrev pub shown_operand : Token → Option Cause
+shown_operand (token.Word (word.Number v)) = None
+shown_operand (token.Word (word.Text v)) = None
+shown_operand (token.Word w) = Some (because flaw.Variable)
+shown_operand t = shown_elsewhere t
+
+-- in what is read for a slot, where an operand stands or not
+abbrev pub shown_within : (wants : Bool) → Token → Option Cause
+shown_within true t = shown_operand t
+shown_within false t = shown_elsewhere t
+
+abbrev pub shown_at : PlaceForm → Token → Option Cause
+shown_at (body before_statement) t = shown_before_statement t
+shown_at (assigned name keys) t = shown_assigned t
+shown_at (within slot n e) t = shown_within (expression.wants e) t
+shown_at _ t = shown_elsewhere t
+
+-- What came of a token that shows none of those causes: `next` is what it leads to, and `range` the fault of the bounds
+-- where it ends an `lquantize` with wrong ones.
+abbrev pub Outcome : (next : Option ProgramState) → (range : Option BoundsFault) → Option Flaw → ProgramState → Type 0
+Outcome next range None new = (next ≡ Some new) × (range ≡ None)
+Outcome next range (Some flaw.Syntax) new = (next ≡ None) × (range ≡ None)
+Outcome next range (Some (flaw.Range fault)) new = range ≡ Some fault
+Outcome next range (Some _) new = ⊥
+
+-- What came of a token: it is refused, or it leads to this state.
+abbrev pub AnswersToken : (old : ProgramState) → Token → Option Refusal → (new : ProgramState) → Type 0
+AnswersToken old t (Some refusal) new = cause_of old t ≡ Some (cause_of_refusal refusal)
+AnswersToken old t None new = (cause_of old t ≡ None) × (step old t ≡ Some new) × Fits new
+
+-- the fault of a token between these offsets that is refused so
+abbrev pub fault_at : (at end : ℕ) → Refusal → LangFault
+fault_at at end (refusal.Flaw flaw) = fault.Program at end flaw
+fault_at at end (refusal.Destructive what) = fault.Destructive at end what
