@@ -13,7 +13,7 @@ use Rattle.dt_aggfn.specs.declared.function.AggFn.TheVariants.{Count, Sum, Avg, 
 use Rattle.dt_aggfn.specs.declared.levels.Bounds.{Bounds}
 use Rattle.dt_aggfn.specs.declared.answer.CountedRow.{CountedRow}
 use Rattle.dt_aggfn.specs.Rows.{Row, zero_row, quantize_rows, lquantize_rows, name_at, counts_of, counted_words}
-use Rattle.dt_aggfn.specs.Answers.{number, rows as row_form, answer_of, form_of_counted_row, counted_rows}
+use Rattle.dt_aggfn.specs.Answers.{number, rows as row_form, answer_of_bag, form_of_counted_row, counted_rows}
 use Rattle.dt_aggfn.specs.Cells.{rows_of, cell_of, sum_of, least_of, greatest_of, IsBag}
 use Rattle.dt_aggfn.proofs.RowLemmas.{named}
 use Rattle.dt_aggfn.proofs.SumLemmas.{sum_fits}
@@ -95,8 +95,8 @@ some_length (z ∷ bag) n = omega arith
 pub answer_avg : (cell : List ℕ) (bag : List ℤ) (s r : ℤ) → IsBag bag → cell ≡ cell_of Avg bag
     → s ≡ cast_signed w64 (get_or cell 1 0)
     → (0 < get_or cell 0 0 → get_or cell 0 0 < 2 ^ 63 → r ≡ int_div s (pos (get_or cell 0 0)))
-    → number r ≡ answer_of Avg bag
-unfolding cell_of answer_of
+    → number r ≡ answer_of_bag Avg bag
+unfolding cell_of answer_of_bag
 answer_avg cell bag s r is h sum quotient =
     let some = some_length bag is.some in
     let few = is.few in
@@ -108,8 +108,8 @@ answer_avg cell bag s r is h sum quotient =
 
 pub answer_word : (f : AggFn) (cell : List ℕ) (bag : List ℤ) (r : ℤ) → (f ≡ Avg → ⊥) → (f ≡ Quantize → ⊥)
     → ((bounds : Bounds) → f ≡ Lquantize bounds → ⊥) → IsBag bag → cell ≡ cell_of f bag
-    → r ≡ cast_signed w64 (get_or cell 0 0) → number r ≡ answer_of f bag
-unfolding cell_of answer_of
+    → r ≡ cast_signed w64 (get_or cell 0 0) → number r ≡ answer_of_bag f bag
+unfolding cell_of answer_of_bag
 answer_word Count cell bag r a b c is h e =
     let few = is.few in
     ap number (e ∙ ap (λ (l : List ℕ). cast_signed w64 (get_or l 0 0)) h ∙ to_z_pos w64 (length bag) (omega arith))
@@ -136,8 +136,8 @@ told_rows : (all : List Row) (cell : List ℕ) (bag : List ℤ) (told : List (Op
 told_rows all cell bag told h e = ap row_form (e ∙ ap (counted_words all) h ∙ counted_of_bag all bag)
 
 pub answer_rows : (f : AggFn) (cell : List ℕ) (bag : List ℤ) (told : List (Option ℤ × ℕ)) → HasRows f
-    → cell ≡ cell_of f bag → told ≡ counted_words (rows_of f) cell → row_form told ≡ answer_of f bag
-unfolding cell_of answer_of
+    → cell ≡ cell_of f bag → told ≡ counted_words (rows_of f) cell → row_form told ≡ answer_of_bag f bag
+unfolding cell_of answer_of_bag
 answer_rows Count cell bag told has h e = absurd has
 answer_rows Sum cell bag told has h e = absurd has
 answer_rows Avg cell bag told has h e = absurd has

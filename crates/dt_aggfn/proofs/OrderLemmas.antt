@@ -16,7 +16,7 @@ use Rattle.dt_aggfn.specs.declared.function.AggFn.{AggFn}
 use Rattle.dt_aggfn.specs.declared.function.AggFn.TheVariants.{Count, Sum, Avg, Min, Max, Quantize, Lquantize}
 use Rattle.dt_aggfn.specs.Rows.{Row, quantize_rows, lquantize_rows, counts_of, counted_words}
 use Rattle.dt_aggfn.specs.Cells.{cell_of, word_of, sum_of, least_of, greatest_of}
-use Rattle.dt_aggfn.specs.Answers.{number, rows as row_form, counted_rows, answer_of}
+use Rattle.dt_aggfn.specs.Answers.{number, rows as row_form, counted_rows, answer_of_bag}
 use Rattle.dt_aggfn.proofs.SumLemmas.{sum_from}
 use Rattle.dt_aggfn.proofs.AnswerLemmas.{counted_of_bag}
 
@@ -127,8 +127,8 @@ same_cell Max a b p = ap (λ z. word_of z ∷ []) (same_greatest a b p)
 same_cell Quantize a b p = same_counts quantize_rows a b p
 same_cell (Lquantize bounds) a b p = same_counts (lquantize_rows bounds) a b p
 
-pub same_answer : (f : AggFn) (a b : List ℤ) → IsPermutation a b → answer_of f a ≡ answer_of f b
-unfolding answer_of
+pub same_answer : (f : AggFn) (a b : List ℤ) → IsPermutation a b → answer_of_bag f a ≡ answer_of_bag f b
+unfolding answer_of_bag
 same_answer Count a b p = ap (λ n. number (pos n)) (same_length a b p)
 same_answer Sum a b p = ap number (same_sum a b p)
 same_answer Avg a b p =

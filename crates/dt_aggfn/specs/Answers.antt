@@ -18,14 +18,14 @@ abbrev pub counted_rows : List Row → List ℤ → List (Option ℤ × ℕ)
 counted_rows all bag = filter (λ counted. nat_lt 0 counted.1) (map (λ row. (row.name, count_by row.counts bag)) all)
 
 -- What the cell of a bag answers. An average is the wrapped sum divided by the count, cut toward zero.
-unfoldable pub answer_of : AggFn → List ℤ → AnswerForm
-answer_of Count bag = number (pos (length bag))
-answer_of Sum bag = number (sum_of bag)
-answer_of Avg bag = number (int_div (sum_of bag) (pos (length bag)))
-answer_of Min bag = number (least_of bag)
-answer_of Max bag = number (greatest_of bag)
-answer_of Quantize bag = rows (counted_rows quantize_rows bag)
-answer_of (Lquantize bounds) bag = rows (counted_rows (lquantize_rows bounds) bag)
+unfoldable pub answer_of_bag : AggFn → List ℤ → AnswerForm
+answer_of_bag Count bag = number (pos (length bag))
+answer_of_bag Sum bag = number (sum_of bag)
+answer_of_bag Avg bag = number (int_div (sum_of bag) (pos (length bag)))
+answer_of_bag Min bag = number (least_of bag)
+answer_of_bag Max bag = number (greatest_of bag)
+answer_of_bag Quantize bag = rows (counted_rows quantize_rows bag)
+answer_of_bag (Lquantize bounds) bag = rows (counted_rows (lquantize_rows bounds) bag)
 
 -- the name and the count of a row
 abbrev pub form_of_counted_row : CountedRow → Option ℤ × ℕ

@@ -31,7 +31,7 @@ pub enum AggFn {
 impl AggFn {
     ghost use Rattle.dt_aggfn.specs.Rows.{name_at, counted_words};
     ghost use Rattle.dt_aggfn.specs.Cells.{cell_words, rows_of, cell_of, IsBag};
-    ghost use Rattle.dt_aggfn.specs.Answers.{answer_of, form_of_counted_row, form_of_answer};
+    ghost use Rattle.dt_aggfn.specs.Answers.{answer_of_bag, form_of_counted_row, form_of_answer};
 
     /// How many words a cell has: at most [`CELL_WORDS_MAX`].
     pub fn cell_words(self) -> usize
@@ -116,7 +116,7 @@ impl AggFn {
     pub fn answer(self, alloc: Global, cell: &[u64]) -> Result<Answer, AllocError>
         requires { length cell.now ≡ cell_words self }
         ensures { (bag : List ℤ) → IsBag bag → cell.now ≡ cell_of self bag
-            → IfOk result (λ answer. form_of_answer answer ≡ answer_of self bag) }
+            → IfOk result (λ answer. form_of_answer answer ≡ answer_of_bag self bag) }
     {
         match self {
             AggFn::Avg => Ok(Answer::Number(average(cell[0], cell[1].cast_signed()))),

@@ -5,12 +5,12 @@ ghost use Rattle.dt_aggfn.specs.declared.limits.TheConstants.{CELL_WORDS_MAX};
 ghost use Rattle.dt_aggfn.specs.declared.levels.Bounds.{Bounds};
 ghost use Rattle.dt_aggfn.specs.Rows.{quantize_rows, lquantize_rows, IsRowOf};
 ghost use Rattle.dt_aggfn.specs.Cells.{cell_words, cell_of, least_of, greatest_of};
-ghost use Rattle.dt_aggfn.specs.Answers.{answer_of};
+ghost use Rattle.dt_aggfn.specs.Answers.{answer_of_bag};
 
 /// The order of a bag's values doesn't matter, to its cell and to what is answered.
 pub fn any_order()
     ensures cell { (f : AggFn) (a b : List ℤ) → IsPermutation a b → cell_of f a ≡ cell_of f b }
-    ensures answer { (f : AggFn) (a b : List ℤ) → IsPermutation a b → answer_of f a ≡ answer_of f b }
+    ensures answer { (f : AggFn) (a b : List ℤ) → IsPermutation a b → answer_of_bag f a ≡ answer_of_bag f b }
 {}
 
 /// The cell of each bag has the function's words, and these are some and not too many.

@@ -7,7 +7,7 @@ use Rattle.std.specs.BTreeSet.{insert_key}
 use Rattle.std.proofs.lemmas.List.Elements.{Contains-append_left, Contains-append_right, Contains-append_cases}
 use Rattle.std.specs.Ordering.{ordering_reverse, match_ordering}
 use Rattle.std.specs.declared.cmp.Ordering.TheVariants.{Equal, Greater}
-use Rattle.dt_aggfn.specs.Answers.{answer_of}
+use Rattle.dt_aggfn.specs.Answers.{answer_of_bag}
 use Rattle.dt_aggstore.specs.Keys.{Entry, key_cmp, same_aggregation, IsBelow}
 use Rattle.dt_aggstore.specs.History.{Past}
 use Rattle.dt_aggstore.specs.Held.{entry_of, held}
@@ -219,14 +219,14 @@ are_choices (past ∷ pasts) = (is_choice past, are_choices pasts)
 
 module _ (pasts : List Past) (aggregation : Aggregation) (choices : List (List Bool)) where
   abbrev row_of : Key → RowForm
-  row_of key = record { key = key; value = answer_of aggregation.function (joined_bag aggregation key pasts choices) }
+  row_of key = record { key = key; value = answer_of_bag aggregation.function (joined_bag aggregation key pasts choices) }
 
   keys_are : (keys : List Key) → map (λ (row : RowForm). row.key) (map row_of keys) ≡ keys
   keys_are [] = refl
   keys_are (key ∷ keys) = ap (λ xs. key ∷ xs) (keys_are keys)
 
   answers_are : (keys : List Key) → AllByRecursion
-      (λ row. row.value ≡ answer_of aggregation.function (joined_bag aggregation row.key pasts choices))
+      (λ row. row.value ≡ answer_of_bag aggregation.function (joined_bag aggregation row.key pasts choices))
       (map row_of keys)
   answers_are [] = tt
   answers_are (key ∷ keys) = (refl, answers_are keys)

@@ -5,7 +5,7 @@ use Rattle.std.specs.Prelude.{map, Contains}
 use Rattle.std.specs.List.{AllByRecursion, AllZip}
 use Rattle.std.proofs.lemmas.List.{append-nil, append_assoc, length-append, take_all}
 use Rattle.dt_aggfn.specs.declared.function.AggFn.{AggFn}
-use Rattle.dt_aggfn.specs.Answers.{AnswerForm, answer_of}
+use Rattle.dt_aggfn.specs.Answers.{AnswerForm, answer_of_bag}
 use Rattle.dt_aggstore.specs.Keys.{IsBelow}
 use Rattle.dt_aggstore.specs.History.{Past}
 use Rattle.dt_aggstore.specs.Held.{entry_of, counted, held, bag}
@@ -171,12 +171,12 @@ made_keys function bags (r ∷ rows) (f ∷ forms) m =
 
 made_answers : (function : AggFn) (bags : Key → List ℤ) (rows : List Joined) (forms : List RowForm)
     → MakesRows function bags rows forms
-    → AllByRecursion (λ row. row.value ≡ answer_of function (bags row.key)) forms
+    → AllByRecursion (λ row. row.value ≡ answer_of_bag function (bags row.key)) forms
 made_answers function bags [] [] m = tt
 made_answers function bags [] (f ∷ forms) m = absurd m
 made_answers function bags (r ∷ rows) [] m = absurd m
 made_answers function bags (r ∷ rows) (f ∷ forms) m =
-    (m.0.1 ∙ ap (λ k. answer_of function (bags k)) (sym m.0.0), made_answers function bags rows forms m.1)
+    (m.0.1 ∙ ap (λ k. answer_of_bag function (bags k)) (sym m.0.0), made_answers function bags rows forms m.1)
 
 pub table_is : (aggregation : Aggregation) (pasts : List Past) (choices : List (List Bool)) (rows : List Joined)
     (forms : List RowForm) → AllZip IsChoice pasts choices
@@ -256,9 +256,9 @@ pub one_table : (pasts : List Past) (aggregation : Aggregation) (rows other : Li
     → IsTable pasts aggregation rows → IsTable pasts aggregation other → rows ≡ other
 one_table pasts aggregation rows other t u =
     let same = one_list pasts u.choices t.choices u.choice t.choice in
-    let answer = λ (key : Key). answer_of aggregation.function (joined_bag aggregation key pasts t.choices) in
+    let answer = λ (key : Key). answer_of_bag aggregation.function (joined_bag aggregation key pasts t.choices) in
     let answers = subst (λ c. AllByRecursion (λ row. row.value
-    ≡ answer_of aggregation.function (joined_bag aggregation row.key pasts c)) other) same u.answers in
+    ≡ answer_of_bag aggregation.function (joined_bag aggregation row.key pasts c)) other) same u.answers in
     let keys = same_keys (map (λ row. row.key) rows) (map (λ row. row.key) other) t.rising u.rising
     (λ k a. (u.held k).1 (subst (HeldInSome aggregation k pasts) (sym same) ((t.held k).0 a)))
     (λ k a. (t.held k).1 (subst (HeldInSome aggregation k pasts) same ((u.held k).0 a))) in

@@ -3,7 +3,7 @@ use Rattle.std.specs.Prelude.{◌≡◌, ◌≢◌, ◌↔◌, ℤ, cond, List, 
 use Rattle.std.specs.Int.{w64}
 use Rattle.std.specs.List.{AllByRecursion, AllZip, flat_map}
 use Rattle.dt_aggfn.specs.declared.function.AggFn.{AggFn}
-use Rattle.dt_aggfn.specs.Answers.{answer_of}
+use Rattle.dt_aggfn.specs.Answers.{answer_of_bag}
 use Rattle.dt_aggfn.specs.Cells.{cell_of, IsBag}
 use Rattle.dt_aggstore.specs.Keys.{same_key, IsBelow}
 use Rattle.dt_aggstore.specs.Table.{IsRising, RowForm}
@@ -50,4 +50,4 @@ AreShares function bags shares =
 -- Rows of a table are made of joined ones: each has its key, and the answer of its bag.
 abbrev pub MakesRows : AggFn → (List KeyPart → List ℤ) → List Joined → List RowForm → Type 0
 MakesRows function bags joined rows =
-    AllZip (λ row form. (form.key ≡ key_of row) × (form.value ≡ answer_of function (bags (key_of row)))) joined rows
+    AllZip (λ row form. (form.key ≡ key_of row) × (form.value ≡ answer_of_bag function (bags (key_of row)))) joined rows

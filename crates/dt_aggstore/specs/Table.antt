@@ -1,7 +1,7 @@
 -- The table of an aggregation over the stores of all processors. Guide, Aggregations (printa).
 use Rattle.std.specs.Prelude.{◌≡◌, ◌⊎◌, ◌↔◌, ℤ, Bool, List, [], ◌∷◌, ◌++◌, map, Contains}
 use Rattle.std.specs.List.{AllZip, AllByRecursion}
-use Rattle.dt_aggfn.specs.Answers.{AnswerForm, answer_of}
+use Rattle.dt_aggfn.specs.Answers.{AnswerForm, answer_of_bag}
 use Rattle.dt_aggstore.specs.History.{Past}
 use Rattle.dt_aggstore.specs.Keys.{IsBelow}
 use Rattle.dt_aggstore.specs.Held.{entry_of, held, bag}
@@ -42,4 +42,4 @@ pub record IsTable (pasts : List Past) (aggregation : Aggregation) (rows : List 
   pub held : (key : List KeyPart) →
       Contains (map (λ row. row.key) rows) key ↔ HeldInSome aggregation key pasts choices
   pub answers : AllByRecursion
-      (λ row. row.value ≡ answer_of aggregation.function (joined_bag aggregation row.key pasts choices)) rows
+      (λ row. row.value ≡ answer_of_bag aggregation.function (joined_bag aggregation row.key pasts choices)) rows

@@ -2,7 +2,7 @@
 use Rattle.std.specs.Prelude.{List, [], map, filter}
 use Rattle.std.specs.List.{fold, flat_map}
 use Rattle.std.specs.BTreeSet.{insert_key}
-use Rattle.dt_aggfn.specs.Answers.{answer_of}
+use Rattle.dt_aggfn.specs.Answers.{answer_of_bag}
 use Rattle.dt_aggstore.specs.Keys.{Entry, key_cmp, same_aggregation}
 use Rattle.dt_aggstore.specs.History.{Past}
 use Rattle.dt_aggstore.specs.Held.{held}
@@ -23,6 +23,6 @@ table_of pasts aggregation =
     map
     (λ key. record {
       key = key;
-      value = answer_of aggregation.function (joined_bag aggregation key pasts (map choice_of pasts));
+      value = answer_of_bag aggregation.function (joined_bag aggregation key pasts (map choice_of pasts));
     })
     (rising_keys aggregation (flat_map (λ past. held past.events (choice_of past)) pasts))

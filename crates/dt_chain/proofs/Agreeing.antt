@@ -5,7 +5,7 @@ use Rattle.std.proofs.lemmas.Option.{slice_get-get_or}
 use Rattle.std.specs.Option.{option_map_or}
 use Rattle.dt_machine.specs.Interest.{has_probe}
 use Rattle.dt_machine.specs.declared.interest.Interest.{Interest}
-use Rattle.dt_chain.specs.Listed.{is_listed, is_interested}
+use Rattle.dt_chain.specs.Listed.{is_listed_for, is_interested}
 use Rattle.dt_chain.specs.declared.seat_set.SeatSet.{SeatSet}
 use Rattle.dt_chain.proofs.Listing.{flag_at-set_same, flag_at-set_other}
 
@@ -18,14 +18,14 @@ interest_at interests seat probe interest within is =
 
 pub agree_after : (lists new : List SeatSet) (interests : List Interest) (at : ℕ) (interest : Interest)
     → at < length interests
-    → ((probe : ℕ) → is_listed new probe at ≡ has_probe interest probe)
-    → ((probe other : ℕ) → other ≢ at → is_listed new probe other ≡ is_listed lists probe other)
-    → ((probe seat : ℕ) → is_listed lists probe seat ≡ is_interested interests seat probe)
-    → (probe seat : ℕ) → is_listed new probe seat ≡ is_interested (set interests at interest) seat probe
+    → ((probe : ℕ) → is_listed_for new probe at ≡ has_probe interest probe)
+    → ((probe other : ℕ) → other ≢ at → is_listed_for new probe other ≡ is_listed_for lists probe other)
+    → ((probe seat : ℕ) → is_listed_for lists probe seat ≡ is_interested interests seat probe)
+    → (probe seat : ℕ) → is_listed_for new probe seat ≡ is_interested (set interests at interest) seat probe
 agree_after lists new interests at interest within own others agree probe seat =
     ⊎_elim
     (λ (e : seat ≡ at).
-    let P : ℕ → Type 0 = λ s. is_listed new probe s ≡ is_interested (set interests at interest) s probe in
+    let P : ℕ → Type 0 = λ s. is_listed_for new probe s ≡ is_interested (set interests at interest) s probe in
     subst P (sym e) (own probe ∙ sym (flag_at-set_same (λ one. has_probe one probe) interests at interest within)))
     (λ (ne : seat ≢ at).
     others probe seat ne ∙ agree probe seat

@@ -8,7 +8,7 @@ use Rattle.std.proofs.lemmas.Option.{gets, slice_get-get_or, slice_get_past}
 use Rattle.std.specs.List.{slice_get}
 use Rattle.std.specs.Option.{option_map_or}
 use Rattle.dt_chain.specs.declared.seat_set.SeatSet.{SeatSet}
-use Rattle.dt_chain.specs.Listed.{is_listed}
+use Rattle.dt_chain.specs.Listed.{is_listed_for}
 use Rattle.dt_chain.specs.Seats.{has}
 
 get-set_same : {A : Type 0} (xs : List A) (i : ℕ) (v : A) → i < length xs → slice_get (set xs i v) i ≡ Some v
@@ -23,9 +23,9 @@ along test other P e h = (λ t. h.0 (sym e ∙ t), λ p. e ∙ h.1 p)
 
 -- the list of one probe has or lacks one seat as the flag says, and all else is as it was
 pub record Changed (old new : List SeatSet) (probe seat : ℕ) (flag : Bool) : Type 0 where
-  pub own : is_listed new probe seat ≡ flag
-  pub elsewhere : (at other : ℕ) → at ≢ probe → is_listed new at other ≡ is_listed old at other
-  pub others : (at other : ℕ) → other ≢ seat → is_listed new at other ≡ is_listed old at other
+  pub own : is_listed_for new probe seat ≡ flag
+  pub elsewhere : (at other : ℕ) → at ≢ probe → is_listed_for new at other ≡ is_listed_for old at other
+  pub others : (at other : ℕ) → other ≢ seat → is_listed_for new at other ≡ is_listed_for old at other
 
 pub changed_one : (lists : List SeatSet) (probe seat : ℕ) (flag : Bool) (seats empty : SeatSet) → probe < length lists
     → ((other : ℕ) → has seats other
@@ -36,14 +36,14 @@ changed_one lists probe seat flag seats empty within changes =
     let was : slice_get lists probe ≡ Some (get_or lists probe empty) =
     slice_get-get_or lists probe empty within in
     let same : (other : ℕ) → other ≢ seat
-    → is_listed (set lists probe seats) probe other ≡ is_listed lists probe other =
+    → is_listed_for (set lists probe seats) probe other ≡ is_listed_for lists probe other =
     λ other ne.
     ap (λ o. option_map_or (λ s. has s other) o false) here
     ∙ changes other
     ∙ ap (λ b. cond b flag (has (get_or lists probe empty) other)) (ne_eqb other seat ne)
     ∙ sym (ap (λ o. option_map_or (λ s. has s other) o false) was) in
     let elsewhere : (at other : ℕ) → at ≢ probe
-    → is_listed (set lists probe seats) at other ≡ is_listed lists at other =
+    → is_listed_for (set lists probe seats) at other ≡ is_listed_for lists at other =
     λ at other ne. ap (λ o. option_map_or (λ s. has s other) o false) (get-set_other lists probe at seats ne) in
     record {
       own =
@@ -54,7 +54,7 @@ changed_one lists probe seat flag seats empty within changes =
       others = λ at other ne.
           ⊎_elim
           (λ (e : at ≡ probe).
-          let P : ℕ → Type 0 = λ p. is_listed (set lists probe seats) p other ≡ is_listed lists p other in
+          let P : ℕ → Type 0 = λ p. is_listed_for (set lists probe seats) p other ≡ is_listed_for lists p other in
           subst P (sym e) (same other ne))
           (λ (away : at ≢ probe). elsewhere at other away)
           (cases_eq at probe);

@@ -6,7 +6,7 @@ use Rattle.left_right.specs.Register.{TurnsAt}
 use Rattle.dt_chain.specs.Writes.{Write}
 use Rattle.dt_chain.specs.Copies.{Copied}
 use Rattle.dt_chain.specs.declared.chain_copy.Addition.{Addition}
-use Rattle.dt_chain.specs.Chains.{IsPress, IsChain, Shows, added_to, copy_of}
+use Rattle.dt_chain.specs.Chains.{IsPress, IsChain, EndShows, added_to, copy_of}
 use Rattle.dt_chain.proofs.Fronts.{prefix_self}
 use Rattle.dt_chain.proofs.Rises.{rises}
 
@@ -21,7 +21,7 @@ all_pending book shown pending (Some s) writes i none = absurd cc
 pub shows_all : (book : Book) (shown : Copied) (pending : List Addition) (waiting : Option Addition)
     (writes : List Write) → IsPress book shown pending waiting writes → is_some waiting ≡ false
     → (seat : ℕ) (v : List Write) (next : Copied) → next ≡ fold added_to shown pending
-    → TurnsAt (IsChain book) seat v shown next (Shows book)
+    → TurnsAt (IsChain book) seat v shown next (EndShows book)
 shows_all book shown pending waiting writes i none seat v next is =
     let e : next ≡ copy_of book writes = is ∙ all_pending book shown pending waiting writes i none in
     let log : next.mark.log ≡ writes = ap (λ (c : Copied). c.mark.log) e in

@@ -8,7 +8,7 @@ use Rattle.left_right.specs.Register.{Admits, TurnsAt}
 use Rattle.atomic_table.proofs.Lists.{at_set, at_snoc}
 use Rattle.dt_chain.specs.Writes.{Write}
 use Rattle.dt_chain.specs.Copies.{Copied}
-use Rattle.dt_chain.specs.Chains.{AreBelow, IsChain, Shows, copy_of}
+use Rattle.dt_chain.specs.Chains.{AreBelow, IsChain, EndShows, copy_of}
 use Rattle.dt_chain.proofs.Fronts.{prefix_self, prefix_trans}
 
 -- A new end has seen nothing.
@@ -30,7 +30,7 @@ below_set log new views seat h up j u e =
 
 -- a step to a longer list, of which the copy has the writes
 pub rises : (book : Book) (seat : ℕ) (v : List Write) (x y : Copied) → y ≡ copy_of book y.mark.log
-    → IsPrefix x.mark.log y.mark.log → TurnsAt (IsChain book) seat v x y (Shows book)
+    → IsPrefix x.mark.log y.mark.log → TurnsAt (IsChain book) seat v x y (EndShows book)
 rises book seat v x y is up views h at = (
   y.mark.log,
   (is, below_set x.mark.log y.mark.log views seat h.1 up),
@@ -38,5 +38,5 @@ rises book seat v x y is up views h at = (
 )
 
 -- a reader's step
-pub enters : (book : Book) (seat : ℕ) (v : List Write) (x : Copied) → TurnsAt (IsChain book) seat v x x (Shows book)
+pub enters : (book : Book) (seat : ℕ) (v : List Write) (x : Copied) → TurnsAt (IsChain book) seat v x x (EndShows book)
 enters book seat v x views h at = rises book seat v x x h.0 (prefix_self x.mark.log) views h at

@@ -4,8 +4,8 @@ use Rattle.logbook.specs.Pages.{Cell, Step, View, Book, Named}
 use Rattle.dt_chain.specs.Writes.{Write}
 
 -- The first word is the length of the list. A book has two words, of which this one leaves the second at 0.
-abbrev pub IsKept : List Cell → List Write → Type 0
-IsKept cells log = cells ≡ (length log, true) ∷ (0, true) ∷ []
+abbrev pub IsBookOf : List Cell → List Write → Type 0
+IsBookOf cells log = cells ≡ (length log, true) ∷ (0, true) ∷ []
 
 -- the word that has the length of a book's list
 abbrev pub head_of : Book → Named

@@ -40,8 +40,8 @@ abbrev pub IsChain : Book → Copied → List (List Write) → Type 0
 IsChain book copy views = (copy ≡ copy_of book copy.mark.log) × AreBelow copy.mark.log views
 
 -- An end has then seen the list that is published, which begins with what it had seen.
-abbrev pub Shows : Book → List Write → Copied → Copied → List Write → Type 0
-Shows book seen before after now = IsPrefix seen now × (after ≡ copy_of book now)
+abbrev pub EndShows : Book → List Write → Copied → Copied → List Write → Type 0
+EndShows book seen before after now = IsPrefix seen now × (after ≡ copy_of book now)
 
 -- a reader: the list of its last look, and what it was told
 pub record Watched : Type 0 where

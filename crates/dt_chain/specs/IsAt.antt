@@ -3,7 +3,7 @@ use Rattle.std.specs.Prelude.{◌≡◌, ◌↔◌, ℕ, List, None, IsTrue, IsS
 use Rattle.std.specs.Option.{option_map}
 use Rattle.dt_machine.specs.Interest as interest
 use Rattle.dt_chain.specs.Kept.{slot_of}
-use Rattle.dt_chain.specs.Lists.{is_seat_listed, HasRoom}
+use Rattle.dt_chain.specs.Lists.{is_seat_listed, ListsHaveRoom}
 use Rattle.dt_chain.specs.Writes.{Write, published_on}
 use Rattle.dt_chain.specs.declared.entries.Entries.{Entries}
 
@@ -16,4 +16,4 @@ pub record EntriesAreAt (writes : List Write) (entries : Entries) : Type 0 where
 
 -- Entries have the room for all that may be published.
 abbrev pub HasListRoom : Entries → Type 0
-HasListRoom entries = HasRoom entries.lists
+HasListRoom entries = ListsHaveRoom entries.lists

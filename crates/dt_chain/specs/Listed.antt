@@ -7,8 +7,8 @@ use Rattle.dt_chain.specs.Seats.{has}
 use Rattle.dt_chain.specs.declared.seat_set.SeatSet.{SeatSet}
 
 -- whether a seat is among those that are listed for a probe
-abbrev pub is_listed : List SeatSet → (probe seat : ℕ) → Bool
-is_listed lists probe seat = option_map_or (λ seats. has seats seat) (slice_get lists probe) false
+abbrev pub is_listed_for : List SeatSet → (probe seat : ℕ) → Bool
+is_listed_for lists probe seat = option_map_or (λ seats. has seats seat) (slice_get lists probe) false
 
 -- whether a seat is interested in a probe
 abbrev pub is_interested : List Interest → (seat probe : ℕ) → Bool

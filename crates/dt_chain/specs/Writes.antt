@@ -27,9 +27,9 @@ seat_of (published seat life account probes) = seat
 seat_of (withdrawn seat) = seat
 
 -- the entry that a write leaves to its seat
-abbrev pub entry_of : Write → Option Published
-entry_of (published seat life account probes) = Some (record { life = life; account = account; probes = probes })
-entry_of (withdrawn seat) = None
+abbrev pub published_by : Write → Option Published
+published_by (published seat life account probes) = Some (record { life = life; account = account; probes = probes })
+published_by (withdrawn seat) = None
 
 -- the writes of one seat
 abbrev pub writes_of : List Write → ℕ → List Write

@@ -12,9 +12,9 @@ pub(crate) struct Law;
 impl Rule<Write, u64> for Law {
     ghost use Rattle.std.specs.Prelude.{[]};
     ghost use base.Fml.{ftrue};
-    ghost use Rattle.dt_chain.specs.Books.{IsKept};
+    ghost use Rattle.dt_chain.specs.Books.{IsBookOf};
 
-    ghost holds = { IsKept };
+    ghost holds = { IsBookOf };
 
     ghost first = { [] };
 

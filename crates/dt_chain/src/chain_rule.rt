@@ -29,9 +29,9 @@ pub(crate) struct Sees<J> {
 }
 
 impl<J: Site> Outcome<ChainCopy, LinkedList<Write>> for Sees<J> {
-    ghost use Rattle.dt_chain.specs.Chains.{Shows};
+    ghost use Rattle.dt_chain.specs.Chains.{EndShows};
 
-    ghost then = { Shows J.book };
+    ghost then = { EndShows J.book };
 }
 
 pub(crate) type InnerReader<J> = Reader<ChainCopy, LinkedList<Write>, Grows<J>>;

@@ -28,7 +28,7 @@ pub(crate) struct Slot {
 }
 
 impl Entries {
-    ghost use Rattle.dt_chain.specs.Writes.{Write, published, withdrawn, entry_of};
+    ghost use Rattle.dt_chain.specs.Writes.{Write, published, withdrawn, published_by};
     ghost use Rattle.dt_chain.specs.Look.{IsLook};
     ghost use Rattle.dt_chain.specs.Seats.{has, life_at};
     ghost use Rattle.dt_chain.specs.Kept.{life_shown};
@@ -105,10 +105,10 @@ impl Entries {
             → EntriesAreAt (write.now ∷ writes) self.new) }
         ensures err { OnErr result ((writes : List Write) → EntriesAreAt writes self.old
             → EntriesAreAt writes self.new) }
-        ensures room { OnOk result (IsSome (entry_of write.now) → HasListRoom self.new) }
+        ensures room { OnOk result (IsSome (published_by write.now) → HasListRoom self.new) }
         ensures room_stays { HasListRoom self.old → HasListRoom self.new }
         ensures succeeds { HasListRoom self.old → IsOk result }
-        ensures withdraws { IsNone (entry_of write.now) → IsOk result }
+        ensures withdraws { IsNone (published_by write.now) → IsOk result }
     {
         match &write.kind {
             Kind::Publication(it) => self.publish(it.seat, it.life, &it.account, &it.interest),

@@ -5,7 +5,7 @@ ghost use Rattle.dt_cred.specs.declared.firing.Firing.{Firing};
 ghost use Rattle.dt_chain.specs.IsAt.{EntriesAreAt};
 ghost use Rattle.dt_chain.specs.Look.{IsLook};
 ghost use Rattle.dt_chain.specs.Tests.{mask_of};
-ghost use Rattle.dt_chain.specs.Writes.{Write, published_on, seat_of, entry_of, writes_of, last_write_of, SameLastWrites};
+ghost use Rattle.dt_chain.specs.Writes.{Write, published_on, seat_of, published_by, writes_of, last_write_of, SameLastWrites};
 ghost use Rattle.dt_chain.specs.declared.entries.Entries.{Entries};
 
 /// Two looks at one firing after the same writes name the same seats, each with the same life.
@@ -21,7 +21,7 @@ pub fn last_write_tells()
     ensures newest { (write : Write) (writes : List Write)
         → last_write_of (write ∷ writes) (seat_of write) ≡ Some write }
     ensures entry { (writes : List Write) (seat : ℕ)
-        → published_on writes seat ≡ option_and_then entry_of (last_write_of writes seat) }
+        → published_on writes seat ≡ option_and_then published_by (last_write_of writes seat) }
 {}
 
 /// Writes of other seats don't matter: a seat has the last write, and the entry, that it has by its own writes alone.

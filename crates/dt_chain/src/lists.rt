@@ -1,6 +1,6 @@
 //! For each probe the seats that are interested in it.
 ghost use Rattle.std.specs.Prelude.{◌≡◌, ◌≢◌, ◌<◌, ◌≤◌, ℕ, false, IsOk, IsTrue, OnOk, length, vec_len, if◌then◌else◌};
-ghost use Rattle.dt_chain.specs.Listed.{is_listed, is_interested};
+ghost use Rattle.dt_chain.specs.Listed.{is_listed_for, is_interested};
 ghost use Rattle.dt_chain.specs.declared.lists.TheConstants.{LISTS};
 ghost use Rattle.dt_chain.specs.declared.seat.TheConstants.{SEATS};
 ghost use Rattle.dt_machine.specs.BitWord.{is_in_word};
@@ -25,11 +25,11 @@ pub(crate) struct Lists {
     pub(crate) by_seat: Vec<Interest>,
     ghost few: { vec_len by_probe ≤ LISTS },
     ghost seats: { vec_len by_seat ≤ SEATS },
-    ghost agree: { (probe seat : ℕ) → is_listed by_probe.items probe seat ≡ is_interested by_seat.items seat probe },
+    ghost agree: { (probe seat : ℕ) → is_listed_for by_probe.items probe seat ≡ is_interested by_seat.items seat probe },
 }
 
 impl Lists {
-    ghost use Rattle.dt_chain.specs.Lists.{is_seat_listed, HasRoom, IsFull};
+    ghost use Rattle.dt_chain.specs.Lists.{is_seat_listed, ListsHaveRoom, IsFull};
     ghost use Rattle.dt_chain.specs.Seats.{has};
 
     /// Nobody is interested in anything. It takes no memory yet.
@@ -47,9 +47,9 @@ impl Lists {
     /// `Err`: there was no memory. Who is listed is the same, in both cases.
     pub(crate) fn reserve(&mut self) -> Result<(), AllocError>
         ensures full { OnOk result (IsFull self.new) }
-        ensures room { OnOk result (HasRoom self.new) }
-        ensures succeeds { HasRoom self.old → IsOk result }
-        ensures room_stays { HasRoom self.old → HasRoom self.new }
+        ensures room { OnOk result (ListsHaveRoom self.new) }
+        ensures succeeds { ListsHaveRoom self.old → IsOk result }
+        ensures room_stays { ListsHaveRoom self.old → ListsHaveRoom self.new }
         ensures same { (probe seat : ℕ) → is_seat_listed self.new probe seat ≡ is_seat_listed self.old probe seat }
     {
         // what is there stays: only empty ones are added
@@ -64,7 +64,7 @@ impl Lists {
         ensures own { (probe : ℕ) → is_seat_listed self.new probe seat ≡ has_probe interest.now probe }
         ensures others { (probe other : ℕ) → other ≢ seat
             → is_seat_listed self.new probe other ≡ is_seat_listed self.old probe other }
-        ensures room_stays { HasRoom self.old → HasRoom self.new }
+        ensures room_stays { ListsHaveRoom self.old → ListsHaveRoom self.new }
     {
         self.clear(seat);
         mark(self.by_probe.as_mut_slice(), seat, interest, true);
@@ -77,7 +77,7 @@ impl Lists {
         ensures others { (probe other : ℕ) → other ≢ seat
             → is_seat_listed self.new probe other ≡ is_seat_listed self.old probe other }
         ensures full_stays { IsFull self.old → IsFull self.new }
-        ensures room_stays { HasRoom self.old → HasRoom self.new }
+        ensures room_stays { ListsHaveRoom self.old → ListsHaveRoom self.new }
     {
         let at = seat.number() as usize;
         // before there is room for interests no seat is listed
@@ -104,10 +104,10 @@ impl Lists {
 /// Puts a seat into the lists of the probes of an interest, or takes it out of these.
 fn mark(lists: &mut [SeatSet], seat: Seat, interest: &Interest, is_in: bool)
     requires { (probe : ℕ) → IsTrue (has_probe interest.now probe) → probe < length lists.old }
-    ensures own { (probe : ℕ) → is_listed lists.new probe seat
-        ≡ (if has_probe interest.now probe then is_in else is_listed lists.old probe seat) }
+    ensures own { (probe : ℕ) → is_listed_for lists.new probe seat
+        ≡ (if has_probe interest.now probe then is_in else is_listed_for lists.old probe seat) }
     ensures others { (probe other : ℕ) → other ≢ seat
-        → is_listed lists.new probe other ≡ is_listed lists.old probe other }
+        → is_listed_for lists.new probe other ≡ is_listed_for lists.old probe other }
 {
     for at in 0..INTEREST_WORDS {
         mark_word(lists, seat, at, interest.word(at), is_in);
@@ -118,10 +118,10 @@ fn mark(lists: &mut [SeatSet], seat: Seat, interest: &Interest, is_in: bool)
 fn mark_word(lists: &mut [SeatSet], seat: Seat, at: usize, word: BitWord, is_in: bool)
     requires near { at < INTEREST_WORDS }
     requires within { (probe : ℕ) → IsTrue (is_in_word at word probe) → probe < length lists.old }
-    ensures own { (probe : ℕ) → is_listed lists.new probe seat
-        ≡ (if is_in_word at word probe then is_in else is_listed lists.old probe seat) }
+    ensures own { (probe : ℕ) → is_listed_for lists.new probe seat
+        ≡ (if is_in_word at word probe then is_in else is_listed_for lists.old probe seat) }
     ensures others { (probe other : ℕ) → other ≢ seat
-        → is_listed lists.new probe other ≡ is_listed lists.old probe other }
+        → is_listed_for lists.new probe other ≡ is_listed_for lists.old probe other }
 {
     let mut left = word;
     while let Some(number) = left.pop_first() {

@@ -8,7 +8,7 @@ use Rattle.dt_chain.specs.Writes.{Write}
 use Rattle.dt_facts.specs.declared.fact.Fact.{Fact}
 use Rattle.dt_facts.specs.declared.rule.View.{View}
 use Rattle.dt_facts.specs.Facts.{writes_in}
-use Rattle.dt_facts.specs.Rule.{Roll, share, book, both, joined, beginning, informed, opened, maker, nobody, FitsRoll, EachFitsRoll}
+use Rattle.dt_facts.specs.Rule.{Roll, share, book, both, both_unchecked, writes_begun, writes_told, book_begun, maker_view, no_view, FitsRoll, EachFitsRoll}
 use Rattle.dt_facts.proofs.Lists.{at_snoc_at}
 
 off : false ≡ true → ⊥
@@ -36,10 +36,10 @@ module _ (w : Roll) where
   abbrev pub IsBegunAt : ℕ → List Write → Type 0
   IsBegunAt n ws = IsPrefix ws (writes_in (w.held n)) × (n < w.made)
 
-  pub fits_nobody : (by : ℕ) → FitsRoll w by nobody
+  pub fits_nobody : (by : ℕ) → FitsRoll w by no_view
   fits_nobody by = record { share = λ c. absurd (off c); book = λ c. absurd (off c); met = λ c. absurd (off c); begins = λ c. absurd (off c); told = λ c. absurd (off c); makes = λ c. absurd (off c) }
 
-  pub fits_maker : (by : ℕ) → w.maker_at ≡ by → FitsRoll w by (maker w.made)
+  pub fits_maker : (by : ℕ) → w.maker_at ≡ by → FitsRoll w by (maker_view w.made)
   fits_maker by e = record { share = λ c. absurd (off c); book = λ c. absurd (off c); met = λ c. absurd (off c); begins = λ c. absurd (off c); told = λ c. absurd (off c); makes = λ _. (e, refl) }
 
   pub fits_share : (by n : ℕ) (x : Fact) → IsShareAt by n x → FitsRoll w by (share n x)
@@ -51,16 +51,16 @@ module _ (w : Roll) where
   pub fits_both : (by n : ℕ) (x : Fact) → IsShareAt by n x → IsBookAt by n x → FitsRoll w by (both n x)
   fits_both by n x s b = record { share = λ _. s; book = λ _. b; met = λ c. absurd (off c); begins = λ c. absurd (off c); told = λ c. absurd (off c); makes = λ c. absurd (off c) }
 
-  pub fits_joined : (by n : ℕ) (x y : Fact) → IsShareAt by n x → IsBookAt by n x → y ≡ w.held n → FitsRoll w by (joined n x y)
+  pub fits_joined : (by n : ℕ) (x y : Fact) → IsShareAt by n x → IsBookAt by n x → y ≡ w.held n → FitsRoll w by (both_unchecked n x y)
   fits_joined by n x y s b h = record { share = λ _. s; book = λ _. b; met = λ _. (refl, h); begins = λ c. absurd (off c); told = λ c. absurd (off c); makes = λ c. absurd (off c) }
 
-  pub fits_beginning : (by n : ℕ) (ws : List Write) → IsBegunAt n ws → FitsRoll w by (beginning n ws)
+  pub fits_beginning : (by n : ℕ) (ws : List Write) → IsBegunAt n ws → FitsRoll w by (writes_begun n ws)
   fits_beginning by n ws h = record { share = λ c. absurd (off c); book = λ c. absurd (off c); met = λ c. absurd (off c); begins = λ _. h; told = λ _. (writes_in (w.held n), refl); makes = λ c. absurd (off c) }
 
-  pub fits_informed : (by n : ℕ) (ws us : List Write) → IsBegunAt n ws → IsPrefix us (writes_in (w.held n)) → FitsRoll w by (informed n ws us)
+  pub fits_informed : (by n : ℕ) (ws us : List Write) → IsBegunAt n ws → IsPrefix us (writes_in (w.held n)) → FitsRoll w by (writes_told n ws us)
   fits_informed by n ws us h t = record { share = λ c. absurd (off c); book = λ c. absurd (off c); met = λ c. absurd (off c); begins = λ _. h; told = λ _. t; makes = λ c. absurd (off c) }
 
-  pub fits_opened : (by n : ℕ) (x : Fact) (ws : List Write) → IsBookAt by n x → IsBegunAt n ws → FitsRoll w by (opened n x ws)
+  pub fits_opened : (by n : ℕ) (x : Fact) (ws : List Write) → IsBookAt by n x → IsBegunAt n ws → FitsRoll w by (book_begun n x ws)
   fits_opened by n x ws b h = record { share = λ c. absurd (off c); book = λ _. b; met = λ c. absurd (off c); begins = λ _. h; told = λ _. (writes_in (w.held n), refl); makes = λ c. absurd (off c) }
 
   -- one view is changed, and the others still fit
@@ -86,13 +86,13 @@ module _ (w : Roll) where
   -- one view is changed and one is spent
   pub fits_join : (views : List View) (id other : ℕ) (v : View)
       → ((j : ℕ) (u : View) → j ≢ id → j ≢ other → get_elem? views j ≡ some u → FitsRoll w j u) → FitsRoll w id v
-      → EachFitsRoll w (set (set views id v) other nobody)
+      → EachFitsRoll w (set (set views id v) other no_view)
   fits_join views id other v others mine j u e =
       ⊎_elim
-      (λ (x : (j ≡ other) × (nobody ≡ u)). subst (λ (y : View). FitsRoll w j y) x.1 (fits_nobody j))
+      (λ (x : (j ≡ other) × (no_view ≡ u)). subst (λ (y : View). FitsRoll w j y) x.1 (fits_nobody j))
       (λ (x : (j ≢ other) × (get_elem? (set views id v) j ≡ some u)).
       ⊎_elim
       (λ (y : (j ≡ id) × (v ≡ u)). subst (λ (z : ℕ × View). FitsRoll w z.0 z.1) (λ i. (sym y.0 i, y.1 i)) mine)
       (λ (y : (j ≢ id) × (get_elem? views j ≡ some u)). others j u y.0 x.0 y.1)
       (at_set views id j v u x.1))
-      (at_set (set views id v) other j nobody u e)
+      (at_set (set views id v) other j no_view u e)

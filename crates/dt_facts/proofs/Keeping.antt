@@ -9,31 +9,31 @@ use Rattle.dt_chain.specs.Writes.{Write}
 use Rattle.dt_facts.specs.declared.fact.Fact.{Fact}
 use Rattle.dt_facts.specs.declared.rule.View.{View}
 use Rattle.dt_facts.specs.Facts.{nothing, writes_in, Follows}
-use Rattle.dt_facts.specs.Rule.{NoSlot, Roll, roll_of, share, book, both, joined, maker, nobody, FitsRoll, AllAgree, HasAgreed, HasGoneOn}
+use Rattle.dt_facts.specs.Rule.{NoFactSlot, Roll, roll_of, share, book, both, both_unchecked, maker_view, no_view, FitsRoll, AllAgree, HasAgreed, HasGoneOn}
 use Rattle.dt_facts.proofs.Lists.{prefix_trans}
 use Rattle.dt_facts.proofs.Fitting.{moved_off, moved_on, there_before, fits_maker, fits_share, fits_book, fits_both, fits_joined, fits_set, fits_split, fits_join}
 
 abbrev no_names : Roll
 no_names = roll_of (λ _. nothing) (λ k. k) (λ k. k) 0 0
 
-pub starts : (words : List ℕ) → AllAgree (opening words [] (maker 0))
+pub starts : (words : List ℕ) → AllAgree (opening words [] (maker_view 0))
 starts words = record { roll = no_names; unmade = λ n _. refl; each = one }
   where
-    one : (by : ℕ) (v : View) → get_elem? (maker 0 ∷ []) by ≡ some v → FitsRoll no_names by v
+    one : (by : ℕ) (v : View) → get_elem? (maker_view 0 ∷ []) by ≡ some v → FitsRoll no_names by v
     one zero v e = subst (FitsRoll no_names 0) (some-injective _ _ e) (fits_maker no_names 0 refl)
     one (suc by) v e = absurd (some-ne-none v (sym e))
 
-pub makes : (id m : ℕ) → Splits AllAgree id (maker m) (maker (m + 1)) (both m nothing)
+pub makes : (id m : ℕ) → Splits AllAgree id (maker_view m) (maker_view (m + 1)) (both m nothing)
 makes id m s h at =
     let w = h.roll in
-    let f = (h.each id (maker m) at).makes refl in
+    let f = (h.each id (maker_view m) at).makes refl in
     let seat : ℕ = length s.views in
     let next : Roll = roll_of w.held (λ k. cond (eqb k m) seat (w.share_at k)) (λ k. cond (eqb k m) seat (w.book_at k)) w.maker_at (m + 1) in
     let blank : nothing ≡ w.held m = sym (h.unmade m (omega (arith, f.1))) in
     record {
       roll = next;
       unmade = λ n le. h.unmade n (omega (arith, f.1));
-      each = fits_split next s.views id (maker (m + 1)) (both m nothing)
+      each = fits_split next s.views id (maker_view (m + 1)) (both m nothing)
           (λ j u apart e. let g = h.each j u e in record {
             share = λ c. let a = g.share c in (moved_off w.share_at m u.name seat (λ z. omega (arith, a.2, f.1, z)) ∙ a.0, a.1, omega (arith, a.2, f.1));
             book = λ c. let a = g.book c in (moved_off w.book_at m u.name seat (λ z. omega (arith, a.2, f.1, z)) ∙ a.0, a.1, omega (arith, a.2, f.1));
@@ -46,16 +46,16 @@ makes id m s h at =
           (fits_both next seat m nothing (moved_on w.share_at m seat, blank, omega arith) (moved_on w.book_at m seat, blank, omega arith));
     }
 
-pub joins : (id n : ℕ) (x : Fact) (other : ℕ) (y : Fact) → Joins AllAgree id (book n x) other (share n y) (joined n x y) nobody
+pub joins : (id n : ℕ) (x : Fact) (other : ℕ) (y : Fact) → Joins AllAgree id (book n x) other (share n y) (both_unchecked n x y) no_view
 joins id n x other y s h at apart there =
     let w = h.roll in
     let f = (h.each id (book n x) at).book refl in
-    let p = (h.each other (share n y) (there_before s.views id other (joined n x y) (share n y) apart there)).share refl in
+    let p = (h.each other (share n y) (there_before s.views id other (both_unchecked n x y) (share n y) apart there)).share refl in
     let next : Roll = roll_of w.held (λ k. cond (eqb k n) id (w.share_at k)) w.book_at w.maker_at w.made in
     record {
       roll = next;
       unmade = h.unmade;
-      each = fits_join next s.views id other (joined n x y)
+      each = fits_join next s.views id other (both_unchecked n x y)
           (λ j u off_id off_other e. let g = h.each j u e in record {
             share = λ c. let a = g.share c in (moved_off w.share_at n u.name id (λ z. off_other (sym a.0 ∙ ap w.share_at z ∙ p.0)) ∙ a.0, a.1, a.2);
             book = g.book;
@@ -67,9 +67,9 @@ joins id n x other y s h at apart there =
           (fits_joined next id n x y (moved_on w.share_at n id, f.1, f.2) f p.1);
     }
 
-pub agrees : (slots id n : ℕ) (x y : Fact) (c : List (ℕ × NoSlot)) → Allows AllAgree slots id (joined n x y, c) 0 (λ n. n) (HasAgreed (step slots 0 0 0 none) (joined n x y, c))
+pub agrees : (slots id n : ℕ) (x y : Fact) (c : List (ℕ × NoFactSlot)) → Allows AllAgree slots id (both_unchecked n x y, c) 0 (λ n. n) (HasAgreed (step slots 0 0 0 none) (both_unchecked n x y, c))
 agrees slots id n x y c s h _ at _ =
-    let f = h.each id (joined n x y) at in (
+    let f = h.each id (both_unchecked n x y) at in (
       both n x,
       keeps,
       tt,
@@ -81,7 +81,7 @@ agrees slots id n x y c s h _ at _ =
       (refl, refl, (f.share refl).1 ∙ sym (f.met refl).1),
     )
 
-pub goes_on : (slots id n : ℕ) (x z : Fact) (c : List (ℕ × NoSlot)) → Follows x z → Allows AllAgree slots id (both n x, c) 0 (λ n. n) (HasGoneOn z (step slots 0 0 0 none) (both n x, c))
+pub goes_on : (slots id n : ℕ) (x z : Fact) (c : List (ℕ × NoFactSlot)) → Follows x z → Allows AllAgree slots id (both n x, c) 0 (λ n. n) (HasGoneOn z (step slots 0 0 0 none) (both n x, c))
 goes_on slots id n x z c follows s h _ at _ =
     let w = h.roll in
     let f = h.each id (both n x) at in

@@ -6,7 +6,7 @@ use mathlib.Core.List.{IsPrefix}
 use mathlib.Core.Option.{some, some-ne-none, some-injective}
 use lib.ListN.{get_elem?}
 use Rattle.dt_chain.specs.Writes.{Write}
-use Rattle.dt_facts.specs.Facts.{longer}
+use Rattle.dt_facts.specs.Facts.{longer_writes}
 
 pub prefix_self : (xs : List Write) → IsPrefix xs xs
 prefix_self xs = ([], append-nil xs)
@@ -26,7 +26,7 @@ prefix_shorter (x ∷ xs) (y ∷ ys) (z ∷ all) p q le =
 
 -- the longer of the two is a beginning, and begins with both
 pub prefix_longer : (xs ys all : List Write) → IsPrefix xs all → IsPrefix ys all
-    → IsPrefix (longer xs ys) all × IsPrefix xs (longer xs ys) × IsPrefix ys (longer xs ys)
+    → IsPrefix (longer_writes xs ys) all × IsPrefix xs (longer_writes xs ys) × IsPrefix ys (longer_writes xs ys)
 prefix_longer xs ys all a b = by_case (ltb (length xs) (length ys)) refl
   where
     P : Bool → Type 0

@@ -44,8 +44,8 @@ writes_in (kinds.Log log) = []
 writes_in (kinds.Writes writes) = writes
 
 -- the longer of two lists
-abbrev pub longer : List Write → List Write → List Write
-longer xs ys = cond (nat_lt (length xs) (length ys)) ys xs
+abbrev pub longer_writes : List Write → List Write → List Write
+longer_writes xs ys = cond (nat_lt (length xs) (length ys)) ys xs
 
 -- a fact may follow another: no write is lost, and none but the last are new
 abbrev pub Follows : Fact → Fact → Type 0

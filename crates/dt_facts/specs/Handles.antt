@@ -5,7 +5,7 @@ use Rattle.atomic_table.specs.declared.shared.Seat.{Seat}
 use Rattle.dt_chain.specs.Writes.{Write}
 use Rattle.dt_facts.specs.declared.fact.Fact.{Fact}
 use Rattle.dt_facts.specs.declared.rule.View.{View}
-use Rattle.dt_facts.specs.Rule.{NoSlot, share, book, both, beginning, maker}
+use Rattle.dt_facts.specs.Rule.{NoFactSlot, share, book, both, writes_begun, maker_view}
 
 -- a share, a book or both: the word that it is of, its name, and its fact
 pub record HeldFact : Type 0 where
@@ -34,7 +34,7 @@ abbrev pub making : TableId → ℕ → NextName
 making word name = record { word = word; name = name }
 
 abbrev pub FactSeat : Type 0
-FactSeat = Seat NoSlot View
+FactSeat = Seat NoFactSlot View
 
 abbrev pub held_seen : FactSeat → HeldFact
 held_seen s = holding s.table_id s.me.0.name s.me.0.fact
@@ -55,10 +55,10 @@ abbrev pub IsBoth : FactSeat → Type 0
 IsBoth s = s.me ≡ (both s.me.0.name s.me.0.fact, [])
 
 abbrev pub IsBeginning : FactSeat → Type 0
-IsBeginning s = s.me ≡ (beginning s.me.0.name s.me.0.knows, [])
+IsBeginning s = s.me ≡ (writes_begun s.me.0.name s.me.0.knows, [])
 
 abbrev pub IsMaker : FactSeat → Type 0
-IsMaker s = s.me ≡ (maker s.me.0.name, [])
+IsMaker s = s.me ≡ (maker_view s.me.0.name, [])
 
 -- a seat of the word, with this view
 abbrev pub IsOf : TableId → View → FactSeat → Type 0

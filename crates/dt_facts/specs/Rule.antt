@@ -7,10 +7,10 @@ use Rattle.atomic_table.specs.Table.{State, Step, Me}
 use Rattle.dt_chain.specs.Writes.{Write}
 use Rattle.dt_facts.specs.declared.fact.Fact.{Fact}
 use Rattle.dt_facts.specs.declared.rule.View.{View}
-use Rattle.dt_facts.specs.Facts.{nothing, writes_fact, writes_in, longer}
+use Rattle.dt_facts.specs.Facts.{nothing, writes_fact, writes_in, longer_writes}
 
-abbrev pub NoSlot : Type 0
-NoSlot = Unit {0}
+abbrev pub NoFactSlot : Type 0
+NoFactSlot = Unit {0}
 
 -- what the rule speaks of: what each name holds, at which seat its share is and at which its book, the seat of the maker, and how many names
 -- were made
@@ -38,53 +38,53 @@ abbrev pub EachFitsRoll : Roll → List View → Type 0
 EachFitsRoll w views = (by : ℕ) (v : View) → get_elem? views by ≡ some v → FitsRoll w by v
 
 -- the rule: each view fits, and a name that wasn't made yet holds nothing
-pub record AllAgree (s : State NoSlot View) : Type 0 where
+pub record AllAgree (s : State NoFactSlot View) : Type 0 where
   pub roll : Roll
   pub unmade : (n : ℕ) → roll.made ≤ n → roll.held n ≡ nothing
   pub each : EachFitsRoll roll s.views
 
-abbrev pub viewed : ℕ → Bool → Bool → Bool → Bool → Bool → Fact → Fact → List Write → View
-viewed n share book met begins makes fact had knows =
+abbrev pub seat_view : ℕ → Bool → Bool → Bool → Bool → Bool → Fact → Fact → List Write → View
+seat_view n share book met begins makes fact had knows =
     record { name = n; share = share; book = book; met = met; begins = begins; makes = makes; fact = fact; had = had; knows = knows }
 
 abbrev pub share : ℕ → Fact → View
-share n x = viewed n true false false false false x nothing []
+share n x = seat_view n true false false false false x nothing []
 
 abbrev pub book : ℕ → Fact → View
-book n x = viewed n false true false false false x nothing []
+book n x = seat_view n false true false false false x nothing []
 
 abbrev pub both : ℕ → Fact → View
-both n x = viewed n true true false false false x nothing []
+both n x = seat_view n true true false false false x nothing []
 
 -- both, with what the share had held
-abbrev pub joined : ℕ → Fact → Fact → View
-joined n x y = viewed n true true true false false x y []
+abbrev pub both_unchecked : ℕ → Fact → Fact → View
+both_unchecked n x y = seat_view n true true true false false x y []
 
-abbrev pub beginning : ℕ → List Write → View
-beginning n ws = viewed n false false false true false nothing nothing ws
+abbrev pub writes_begun : ℕ → List Write → View
+writes_begun n ws = seat_view n false false false true false nothing nothing ws
 
 -- a beginning, with another that it was told
-abbrev pub informed : ℕ → List Write → List Write → View
-informed n ws us = viewed n false false false true false nothing (writes_fact us) ws
+abbrev pub writes_told : ℕ → List Write → List Write → View
+writes_told n ws us = seat_view n false false false true false nothing (writes_fact us) ws
 
 -- a book with a beginning
-abbrev pub opened : ℕ → Fact → List Write → View
-opened n x ws = viewed n false true false true false x nothing ws
+abbrev pub book_begun : ℕ → Fact → List Write → View
+book_begun n x ws = seat_view n false true false true false x nothing ws
 
-abbrev pub maker : ℕ → View
-maker n = viewed n false false false false true nothing nothing []
+abbrev pub maker_view : ℕ → View
+maker_view n = seat_view n false false false false true nothing nothing []
 
-abbrev pub nobody : View
-nobody = viewed 0 false false false false false nothing nothing []
+abbrev pub no_view : View
+no_view = seat_view 0 false false false false false nothing nothing []
 
 abbrev pub next_maker : View → View
-next_maker v = maker (v.name + 1)
+next_maker v = maker_view (v.name + 1)
 
-abbrev pub made : View → View
-made v = both v.name nothing
+abbrev pub made_view : View → View
+made_view v = both v.name nothing
 
 abbrev pub with_share : View → View → View
-with_share v w = joined v.name v.fact w.fact
+with_share v w = both_unchecked v.name v.fact w.fact
 
 abbrev pub without_share : View → View
 without_share v = book v.name v.fact
@@ -93,32 +93,32 @@ abbrev pub share_alone : View → View
 share_alone v = share v.name v.fact
 
 abbrev pub beginning_of : View → View
-beginning_of v = beginning v.name (writes_in v.fact)
+beginning_of v = writes_begun v.name (writes_in v.fact)
 
 abbrev pub with_told : View → View → View
-with_told v w = informed v.name v.knows w.knows
+with_told v w = writes_told v.name v.knows w.knows
 
 abbrev pub with_beginning : View → View → View
-with_beginning v w = opened v.name v.fact w.knows
+with_beginning v w = book_begun v.name v.fact w.knows
 
 abbrev pub Mine : Type 0
-Mine = Me NoSlot View
+Mine = Me NoFactSlot View
 
 -- what the share had held is what the book holds
-abbrev pub HasAgreed : Step NoSlot → Mine → ℕ → Mine → Type 0
+abbrev pub HasAgreed : Step NoFactSlot → Mine → ℕ → Mine → Type 0
 HasAgreed s v found w = (w.1 ≡ v.1) × (w.0 ≡ both v.0.name v.0.fact) × (v.0.fact ≡ v.0.had)
 
-abbrev pub HasGoneOn : Fact → Step NoSlot → Mine → ℕ → Mine → Type 0
+abbrev pub HasGoneOn : Fact → Step NoFactSlot → Mine → ℕ → Mine → Type 0
 HasGoneOn x s v found w = (w.1 ≡ v.1) × (w.0 ≡ both v.0.name x)
 
 -- the book's writes begin with the beginning
-abbrev pub HasBegun : Step NoSlot → Mine → ℕ → Mine → Type 0
+abbrev pub HasBegun : Step NoFactSlot → Mine → ℕ → Mine → Type 0
 HasBegun s v found w = (w.1 ≡ v.1) × (w.0 ≡ book v.0.name v.0.fact) × IsPrefix v.0.knows (writes_in v.0.fact)
 
 -- the longer of the two begins with both
-abbrev pub HasLearnt : Step NoSlot → Mine → ℕ → Mine → Type 0
-HasLearnt s v found w =
+abbrev pub HasLearntWrites : Step NoFactSlot → Mine → ℕ → Mine → Type 0
+HasLearntWrites s v found w =
     (w.1 ≡ v.1)
-    × (w.0 ≡ beginning v.0.name (longer v.0.knows (writes_in v.0.had)))
-    × IsPrefix v.0.knows (longer v.0.knows (writes_in v.0.had))
-    × IsPrefix (writes_in v.0.had) (longer v.0.knows (writes_in v.0.had))
+    × (w.0 ≡ writes_begun v.0.name (longer_writes v.0.knows (writes_in v.0.had)))
+    × IsPrefix v.0.knows (longer_writes v.0.knows (writes_in v.0.had))
+    × IsPrefix (writes_in v.0.had) (longer_writes v.0.knows (writes_in v.0.had))

@@ -1,7 +1,7 @@
 //! The calls on beginnings of a list of writes.
 ghost use Rattle.std.specs.Prelude.{◌≡◌};
 ghost use mathlib.Core.List.{IsPrefix};
-ghost use Rattle.dt_facts.specs.Facts.{writes_in, longer};
+ghost use Rattle.dt_facts.specs.Facts.{writes_in, longer_writes};
 ghost use Rattle.dt_facts.specs.Handles.{begun};
 
 use crate::handles::{Beginning, Book};
@@ -23,7 +23,7 @@ impl Facts {
     pub fn learn(&self, one: &mut Beginning, other: Beginning)
         requires one { one.old.word ≡ self.now }
         requires other { (other.word ≡ self.now) × (other.name ≡ one.old.name) }
-        ensures longer { one.new ≡ begun self.now one.old.name (longer one.old.writes other.writes) }
+        ensures longer { one.new ≡ begun self.now one.old.name (longer_writes one.old.writes other.writes) }
         ensures begins { IsPrefix one.old.writes one.new.writes × IsPrefix other.writes one.new.writes }
     {
         let Beginning { seat } = other;

@@ -26,11 +26,11 @@ pub struct View {
 pub struct Agreement;
 
 impl TableRule<(), View, ()> for Agreement {
-    ghost use Rattle.dt_facts.specs.Rule.{AllAgree, maker};
+    ghost use Rattle.dt_facts.specs.Rule.{AllAgree, maker_view};
 
     ghost holds = { λ _. AllAgree };
 
-    ghost first = { λ _. maker 0 };
+    ghost first = { λ _. maker_view 0 };
 }
 
 pub type Cells = Table<(), View, (), Agreement, Global>;
@@ -42,22 +42,22 @@ pub type Place = Seat<(), View>;
 pub struct Makes;
 
 impl Split<View> for Makes {
-    ghost use Rattle.dt_facts.specs.Rule.{next_maker, made};
+    ghost use Rattle.dt_facts.specs.Rule.{next_maker, made_view};
 
     ghost left = { next_maker };
 
-    ghost right = { made };
+    ghost right = { made_view };
 }
 
 // A share goes into its book, and out again.
 pub struct Shares;
 
 impl Join<View> for Shares {
-    ghost use Rattle.dt_facts.specs.Rule.{with_share, nobody};
+    ghost use Rattle.dt_facts.specs.Rule.{with_share, no_view};
 
     ghost both = { with_share };
 
-    ghost spent = { nobody };
+    ghost spent = { no_view };
 }
 
 impl Split<View> for Shares {
@@ -113,28 +113,28 @@ impl Split<View> for Begins {
 }
 
 impl Join<View> for Begins {
-    ghost use Rattle.dt_facts.specs.Rule.{with_told, nobody};
+    ghost use Rattle.dt_facts.specs.Rule.{with_told, no_view};
 
     ghost both = { with_told };
 
-    ghost spent = { nobody };
+    ghost spent = { no_view };
 }
 
 impl Play<(), View> for Begins {
-    ghost use Rattle.dt_facts.specs.Rule.{HasLearnt};
+    ghost use Rattle.dt_facts.specs.Rule.{HasLearntWrites};
 
-    ghost then = { HasLearnt };
+    ghost then = { HasLearntWrites };
 }
 
 // A beginning goes into its book, and is found to be one.
 pub struct Compares;
 
 impl Join<View> for Compares {
-    ghost use Rattle.dt_facts.specs.Rule.{with_beginning, nobody};
+    ghost use Rattle.dt_facts.specs.Rule.{with_beginning, no_view};
 
     ghost both = { with_beginning };
 
-    ghost spent = { nobody };
+    ghost spent = { no_view };
 }
 
 impl Play<(), View> for Compares {

@@ -8,7 +8,7 @@ use Rattle.dt_machine.specs.declared.fault.FaultNumber.TheVariants.{Json, Shape,
 use Rattle.dt_machine.specs.declared.fault.FaultNumber.TheVariants.{Firing, Foreign, Memory}
 use Rattle.dt_machine.specs.declared.fault.MachineFault.{MachineFault}
 use Rattle.dt_machine.specs.Reading.{AllRight, AllRightIn, IsFirstWrong, IsFirstWrongIn, Passes, Finds, Registers}
-use Rattle.dt_machine.specs.Reading.{IsJson, IsFirstFinding, IsFaultOf, IsDescribed, IsScriptFault, rank_of, Tells, IsFoundOfScripts}
+use Rattle.dt_machine.specs.Reading.{IsJson, IsFirstFinding, IsFaultOf, IsDescribed, IsScriptFault, rank_of, FaultTells, IsFoundOfScripts}
 use Rattle.dt_machine.specs.Reading.{processes_in, scripts_in}
 use Rattle.dt_machine.specs.Registry.{Registry, Contents, Belongs}
 use Rattle.dt_cred.specs.declared.account.Process.{Process as ProcessType}
@@ -245,8 +245,8 @@ file_shape_told d a b = fails_one a b _ _ _ _
 shape_told : (d : Data) (x y : Option Found) → IsFoundOfShape d x → IsFoundOfShape d y → x ≡ y
 shape_told d x y = else_one _ _ _ _ _ (λ f g. f ∙ sym g) (both_told (IsMisshapenFile d) (file_shape_told d) x y)
 
-told_one : (number : FaultNumber) (d : Data) (cpu row : ℕ) (x y : Option Found) → Tells number d cpu row x
-    → Tells number d cpu row y → x ≡ y
+told_one : (number : FaultNumber) (d : Data) (cpu row : ℕ) (x y : Option Found) → FaultTells number d cpu row x
+    → FaultTells number d cpu row y → x ≡ y
 told_one Json d cpu row x y f g = f ∙ sym g
 told_one Shape d cpu row x y f g = shape_told d x y f g
 told_one Cpus d cpu row x y f g = f ∙ sym g
@@ -276,9 +276,9 @@ fault_one d a b f g = elim (order (rank_of a.number) (rank_of b.number)) [
         (let number = one_number a.number b.number same in
         let F : FaultNumber → Type 0 = λ n. Finds n d a.cpu a.row in
         let place = place_one b.number d a.cpu b.cpu a.row b.row (subst F number f.found) g.found in
-        let N : FaultNumber → Type 0 = λ n. Tells n d a.cpu a.row a.found in
-        let C : ℕ → Type 0 = λ cpu. Tells b.number d cpu a.row a.found in
-        let R : ℕ → Type 0 = λ row. Tells b.number d b.cpu row a.found in
+        let N : FaultNumber → Type 0 = λ n. FaultTells n d a.cpu a.row a.found in
+        let C : ℕ → Type 0 = λ cpu. FaultTells b.number d cpu a.row a.found in
+        let R : ℕ → Type 0 = λ row. FaultTells b.number d b.cpu row a.found in
         let told = subst R place.1 (subst C place.0 (subst N number f.tells)) in
         same_fault a b number place.0 place.1 (told_one b.number d b.cpu b.row a.found b.found told g.tells))
     | inr more ↦ absurd (passes_finds b.number d b.cpu b.row (f.none_before b.number more) g.found)

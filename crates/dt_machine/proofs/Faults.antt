@@ -5,7 +5,7 @@ use Rattle.dt_machine.specs.declared.fault.FaultNumber.{FaultNumber}
 use Rattle.dt_machine.specs.declared.fault.FaultNumber.TheVariants.{Json, Shape, Cpus, Account, Process, Probe, Script}
 use Rattle.dt_machine.specs.declared.fault.FaultNumber.TheVariants.{Firing, Foreign, Memory}
 use Rattle.dt_machine.specs.declared.fault.MachineFault.{MachineFault}
-use Rattle.dt_machine.specs.Reading.{Passes, Finds, Tells, rank_of, IsFirstFinding}
+use Rattle.dt_machine.specs.Reading.{Passes, Finds, FaultTells, rank_of, IsFirstFinding}
 use Rattle.dt_machine.specs.Sections.{PassesBefore}
 
 abbrev number_at : ℕ → FaultNumber
@@ -60,11 +60,11 @@ one_more d number before passes earlier below = elim (at_or_below (rank_of earli
 ]
 
 pub first_fault : (d : Data) (fault : MachineFault) (number : FaultNumber) → fault.number ≡ number
-    → Finds number d fault.cpu fault.row → Tells number d fault.cpu fault.row fault.found
+    → Finds number d fault.cpu fault.row → FaultTells number d fault.cpu fault.row fault.found
     → PassesBefore (rank_of number) d → IsFirstFinding d fault
 first_fault d fault number is found tells before =
     let F : FaultNumber → Type 0 = λ n. Finds n d fault.cpu fault.row in
-    let T : FaultNumber → Type 0 = λ n. Tells n d fault.cpu fault.row fault.found in
+    let T : FaultNumber → Type 0 = λ n. FaultTells n d fault.cpu fault.row fault.found in
     let B : FaultNumber → Type 0 = λ n. PassesBefore (rank_of n) d in
     record { found = subst F (sym is) found; tells = subst T (sym is) tells; none_before = subst B (sym is) before }
 

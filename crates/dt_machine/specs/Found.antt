@@ -41,13 +41,13 @@ key_word key.Args = codes "args"
 key_word key.Kstack = codes "kstack"
 key_word key.Ustack = codes "ustack"
 
-abbrev pub part_text : Part → List ℕ
-part_text File = codes "the file"
-part_text (Account row) = codes "account " ++ decimal row
-part_text (Process row) = codes "process " ++ decimal row
-part_text (Probe row) = codes "probe " ++ decimal row
-part_text (Script cpu) = codes "processor " ++ decimal cpu
-part_text (Firing cpu row) = codes "firing " ++ (decimal row ++ (codes " of processor " ++ decimal cpu))
+abbrev pub words_of_part : Part → List ℕ
+words_of_part File = codes "the file"
+words_of_part (Account row) = codes "account " ++ decimal row
+words_of_part (Process row) = codes "process " ++ decimal row
+words_of_part (Probe row) = codes "probe " ++ decimal row
+words_of_part (Script cpu) = codes "processor " ++ decimal cpu
+words_of_part (Firing cpu row) = codes "firing " ++ (decimal row ++ (codes " of processor " ++ decimal cpu))
 
 -- Where the test fails, what stands here, and else what comes later.
 abbrev pub Else : (Test Here Later : Type 0) → Type 0

@@ -19,5 +19,5 @@ abbrev pub Names : List Bool → ℕ → Type 0
 Names flags id = slice_get flags id ≡ Some true
 
 -- the word of a set in which 64 identifiers lie
-abbrev pub word_of : Interest → ℕ → BitWord
-word_of interest at = slice_index_or interest.words at (record { bits = 0 })
+abbrev pub word_of_set : Interest → ℕ → BitWord
+word_of_set interest at = slice_index_or interest.words at (record { bits = 0 })

@@ -105,18 +105,18 @@ IsFoundOfScripts cpus scripts cpu found = IsSomeAnd found (λ found.
     Fails found (of part.File key.Scripts) (cpus ≡ length scripts) (found ≡ of (part.Script cpu) key.Scripts))
 
 -- What a fault tells of what its number finds at a processor and a row.
-abbrev pub Tells : FaultNumber → Data → ℕ → ℕ → Option Found → Type 0
-Tells Json d cpu row found = found ≡ None
-Tells Shape d cpu row found = IsFoundOfShape d found
-Tells Cpus d cpu row found = found ≡ Some (of part.File key.Cpus)
-Tells Account d cpu row found = IsFoundAt IsFoundOfAccount (accounts_in d) row found
-Tells Process d cpu row found = IsFoundAt IsFoundOfProcess (processes_in d) row found
-Tells Probe d cpu row found = IsFoundAt (IsFoundOfProbe (map process (processes_in d))) (probes_in d) row found
-Tells Script d cpu row found = (cpus : ℕ) × (cpus_in d ≡ Some cpus) × IsFoundOfScripts cpus (scripts_in d) cpu found
-Tells Firing d cpu row found = (registry : Registry) × Registers d registry
+abbrev pub FaultTells : FaultNumber → Data → ℕ → ℕ → Option Found → Type 0
+FaultTells Json d cpu row found = found ≡ None
+FaultTells Shape d cpu row found = IsFoundOfShape d found
+FaultTells Cpus d cpu row found = found ≡ Some (of part.File key.Cpus)
+FaultTells Account d cpu row found = IsFoundAt IsFoundOfAccount (accounts_in d) row found
+FaultTells Process d cpu row found = IsFoundAt IsFoundOfProcess (processes_in d) row found
+FaultTells Probe d cpu row found = IsFoundAt (IsFoundOfProbe (map process (processes_in d))) (probes_in d) row found
+FaultTells Script d cpu row found = (cpus : ℕ) × (cpus_in d ≡ Some cpus) × IsFoundOfScripts cpus (scripts_in d) cpu found
+FaultTells Firing d cpu row found = (registry : Registry) × Registers d registry
     × IsFoundIn (λ cpu at _. IsFoundOfFiring registry cpu at) (scripts_in d) cpu row found
-Tells Foreign d cpu row found = found ≡ Some (of (part.Firing cpu row) key.Pid)
-Tells Memory d cpu row found = found ≡ None
+FaultTells Foreign d cpu row found = found ≡ Some (of (part.Firing cpu row) key.Pid)
+FaultTells Memory d cpu row found = found ≡ None
 
 abbrev pub rank_of : FaultNumber → ℕ
 rank_of Json = 1
@@ -139,7 +139,7 @@ pub record IsJson (text : List ℕ) (d : Data) : Type 0 where
 -- first. It tells what is wrong there.
 pub record IsFirstFinding (d : Data) (fault : MachineFault) : Type 0 where
   pub found : Finds fault.number d fault.cpu fault.row
-  pub tells : Tells fault.number d fault.cpu fault.row fault.found
+  pub tells : FaultTells fault.number d fault.cpu fault.row fault.found
   pub none_before : (earlier : FaultNumber) → rank_of earlier < rank_of fault.number → Passes earlier d
 
 abbrev pub IsFaultOf : List ℕ → MachineFault → Type 0

@@ -58,7 +58,7 @@ pub record IsNumbered (id : ℕ) (probe : Probe) : Type 0 where
   pub class : IsClassOf probe.tuple.provider probe.class
 
 -- a firing of a script knows its processor and its place, and belongs to the machine
-pub record IsPlaced (registry : Registry) (cpu place : ℕ) (firing : Firing) : Type 0 where
+pub record IsInScript (registry : Registry) (cpu place : ℕ) (firing : Firing) : Type 0 where
   pub processor : firing.cpu ≡ cpu
   pub row : firing.place ≡ place
   pub belongs : Belongs registry firing
@@ -78,4 +78,4 @@ pub record IsSound (contents : Contents) : Type 0 where
   pub numbered : (id : ℕ) → IfSome (probe_of contents.registry id) (IsNumbered id)
   pub scripts : length contents.scripts ≡ contents.registry.cpus
   pub short : (cpu : ℕ) → IfSome (slice_get contents.scripts cpu) (λ script. length script ≤ script_max)
-  pub placed : (cpu place : ℕ) → IfSome (firing_at contents.scripts cpu place) (IsPlaced contents.registry cpu place)
+  pub placed : (cpu place : ℕ) → IfSome (firing_at contents.scripts cpu place) (IsInScript contents.registry cpu place)

@@ -118,9 +118,9 @@ impl Part {
 
 impl fmt::Display for Part {
     ghost use Rattle.std.specs.Prelude.{Some};
-    ghost use Rattle.dt_machine.specs.Found.{part_text};
+    ghost use Rattle.dt_machine.specs.Found.{words_of_part};
 
-    ghost output = { λ part. Some (part_text part) };
+    ghost output = { λ part. Some (words_of_part part) };
 
     fn fmt<W: fmt::Write>(&self, f: &mut fmt::Formatter<W>) -> fmt::Result {
         match self {
@@ -145,9 +145,9 @@ pub struct Found {
 
 impl fmt::Display for Found {
     ghost use Rattle.std.specs.Prelude.{Some, ◌++◌, codes};
-    ghost use Rattle.dt_machine.specs.Found.{key_word, part_text};
+    ghost use Rattle.dt_machine.specs.Found.{key_word, words_of_part};
 
-    ghost output = { λ found. Some (key_word found.key ++ (codes " of " ++ part_text found.part)) };
+    ghost output = { λ found. Some (key_word found.key ++ (codes " of " ++ words_of_part found.part)) };
 
     fn fmt<W: fmt::Write>(&self, f: &mut fmt::Formatter<W>) -> fmt::Result {
         write!(f, "{} of {}", self.key, self.part)

@@ -22,7 +22,7 @@ pub struct Interest {
 }
 
 impl Interest {
-    ghost use Rattle.dt_machine.specs.Interest.{has_probe, word_of};
+    ghost use Rattle.dt_machine.specs.Interest.{has_probe, word_of_set};
 
     /// The empty set.
     pub fn new() -> Self
@@ -55,7 +55,7 @@ impl Interest {
     /// The 64 identifiers from `64 * at` on, as the numbers from 0 on: so a set is gone through word by word.
     pub fn word(&self, at: usize) -> BitWord
         requires { at < INTEREST_WORDS }
-        ensures value { result ≡ word_of self.now at }
+        ensures value { result ≡ word_of_set self.now at }
         ensures bounded { (id : ℕ) → PROBE_ID_MAX < id → has_probe self.now id ≡ false }
     {
         self.words[at]

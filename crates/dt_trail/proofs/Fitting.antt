@@ -9,7 +9,7 @@ use Rattle.atomic_table.proofs.Lists.{at_set}
 use Rattle.dt_trail.specs.declared.door.Door.{Door}
 use Rattle.dt_trail.specs.declared.rule.View.{View}
 use Rattle.dt_trail.specs.Items.{TrailItem, code_at, StartsWith}
-use Rattle.dt_trail.specs.Blocks.{flat, before, Laid, LiesAt}
+use Rattle.dt_trail.specs.Blocks.{flat, before, Laid, BlockLiesAt}
 use Rattle.dt_trail.specs.Rule.{NoSlot, RowWorld, FitsRow, FitsEach, Kept, Turn, nobody, IsBegun}
 use Rattle.dt_trail.proofs.Begins.{at_snoc_at}
 use Rattle.dt_trail.proofs.Flats.{flat_at, flat_long, before_set}
@@ -64,7 +64,7 @@ alike_set bs b i c near = record {
   long = flat_long bs b i c near;
 }
 
-pub stands_alike : (old new : List (Row NoSlot)) (d : Door) → Alike old new → LiesAt old d → LiesAt new d
+pub stands_alike : (old new : List (Row NoSlot)) (d : Door) → Alike old new → BlockLiesAt old d → BlockLiesAt new d
 stands_alike old new d a s = record {
   near = subst (λ (n : ℕ). d.block < n) (sym a.count) s.near;
   from = s.from ∙ sym (a.before_is d.block);
@@ -97,11 +97,11 @@ module _ {K : Type 0} (lawful : K → List TrailItem → Type 0) (root : Ptr) (a
   pub in_root : (s : State NoSlot (View K)) (h : H s) (i : ℕ) → i < 33 → Lies s.rows 0 root i
   in_root s h i near = subst (λ (r : Row NoSlot). (r.at ≡ root) × (i < length r.cells)) (sym (root_is s h)) (h.laid.at, subst (λ (n : ℕ). i < n) (sym h.laid.long) near)
 
-  pub in_block : (s : State NoSlot (View K)) (h : H s) (d : Door) (i : ℕ) → LiesAt h.world.blocks d → i < d.len → Lies s.rows (suc d.block) d.link.ptr i
+  pub in_block : (s : State NoSlot (View K)) (h : H s) (d : Door) (i : ℕ) → BlockLiesAt h.world.blocks d → i < d.len → Lies s.rows (suc d.block) d.link.ptr i
   in_block s h d i st near = subst (λ (r : Row NoSlot). (r.at ≡ d.link.ptr) × (i < length r.cells)) (sym (block_is s h d.block)) (st.at, subst (λ (n : ℕ). i < n) st.len near)
 
   -- the word of a cell of a block
-  pub word_is : (s : State NoSlot (View K)) (h : H s) (d : Door) (i : ℕ) → LiesAt h.world.blocks d → i < d.len → word_of s.rows (suc d.block) i ≡ code_at h.world.items (d.from + i)
+  pub word_is : (s : State NoSlot (View K)) (h : H s) (d : Door) (i : ℕ) → BlockLiesAt h.world.blocks d → i < d.len → word_of s.rows (suc d.block) i ≡ code_at h.world.items (d.from + i)
   word_is s h d i st near =
       let bs = h.world.blocks in
       let near' : i < length (row bs d.block).cells = subst (λ (n : ℕ). i < n) st.len near in

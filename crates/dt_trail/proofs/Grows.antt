@@ -9,7 +9,7 @@ use Rattle.dt_trail.specs.declared.door.Door.{Door}
 use Rattle.dt_trail.specs.declared.rule.Site.{Site}
 use Rattle.dt_trail.specs.declared.rule.View.{View}
 use Rattle.dt_trail.specs.Items.{TrailItem, whose, code, IsReal, AllReal, own, code_at, StartsWith}
-use Rattle.dt_trail.specs.Blocks.{flat, before, LiesAt}
+use Rattle.dt_trail.specs.Blocks.{flat, before, BlockLiesAt}
 use Rattle.dt_trail.specs.Rule.{NoSlot, RowWorld, FitsRow, ShowsRow, Kept, Turn, appender, IsSet}
 use Rattle.dt_trail.proofs.Begins.{starts_self, starts_trans, own_pushed_else, All-push}
 use Rattle.dt_trail.proofs.Flats.{flat_at, flat_set, flat_push, before_push, before_next, before_all, words_push, words_more, past}
@@ -40,7 +40,7 @@ module _ {K : Type 0} (lawful : K → List TrailItem → Type 0) (root : Ptr) (a
       f : FitsRow h.world id (appender a n had ks d t)
       f = h.each id (appender a n had ks d t) at
 
-      st : LiesAt h.world.blocks d
+      st : BlockLiesAt h.world.blocks d
       st = f.stands pos
 
       whole : (h.world.keeper ≡ id) × (h.world.items ≡ ks)

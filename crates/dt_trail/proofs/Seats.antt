@@ -10,7 +10,7 @@ use Rattle.dt_trail.specs.declared.door.Door.{Door}
 use Rattle.dt_trail.specs.declared.rule.Site.{Site}
 use Rattle.dt_trail.specs.declared.rule.View.{View}
 use Rattle.dt_trail.specs.Items.{TrailItem, own, StartsWith}
-use Rattle.dt_trail.specs.Blocks.{LiesAt}
+use Rattle.dt_trail.specs.Blocks.{BlockLiesAt}
 use Rattle.dt_trail.specs.Rule.{NoSlot, RowWorld, FitsRow, Kept, note, appender, owner, maker, nobody, claim, claim_of, is_longer, informed}
 use Rattle.dt_trail.proofs.Fitting.{off, fits_set, fits_split, fits_nobody, in_root}
 
@@ -214,7 +214,7 @@ module _ {K : Type 0} (lawful : K → List TrailItem → Type 0) (root : Ptr) (a
         },
       )
 
-  fits_informed : (w : RowWorld K) (by : ℕ) (v u : View K) → v.owns ≡ false → FitsRow w by v → StartsWith w.items u.knows → (0 < u.door.len → LiesAt w.blocks u.door) → FitsRow w by (informed v u)
+  fits_informed : (w : RowWorld K) (by : ℕ) (v u : View K) → v.owns ≡ false → FitsRow w by v → StartsWith w.items u.knows → (0 < u.door.len → BlockLiesAt w.blocks u.door) → FitsRow w by (informed v u)
   fits_informed w by v u other f begins stands = record {
     account = f.account;
     begins = f.begins;
@@ -231,7 +231,7 @@ module _ {K : Type 0} (lawful : K → List TrailItem → Type 0) (root : Ptr) (a
       not_mine : {A : Type 0} → v.owns ≡ true → A
       not_mine o = absurd (off (sym other ∙ o))
 
-      by_door : (b : Bool) → 0 < (cond b u.door v.door).len → LiesAt w.blocks (cond b u.door v.door)
+      by_door : (b : Bool) → 0 < (cond b u.door v.door).len → BlockLiesAt w.blocks (cond b u.door v.door)
       by_door true = stands
       by_door false = f.stands
 

@@ -9,8 +9,8 @@ use Rattle.dt_trail.specs.declared.door.Door.{Door}
 use Rattle.dt_trail.specs.declared.rule.Site.{Site}
 use Rattle.dt_trail.specs.declared.rule.View.{View}
 use Rattle.dt_trail.specs.Items.{TrailItem, code, IsReal, AllReal, own, code_at, StartsWith, longer}
-use Rattle.dt_trail.specs.Blocks.{before, LiesAt}
-use Rattle.dt_trail.specs.Rule.{NoSlot, FitsRow, Kept, Turn, appender, through, door_at, pushed, reviewed, FindsItem, HasCompared, HasRead, HasLearnt, learnt, IsTurned, IsSeen}
+use Rattle.dt_trail.specs.Blocks.{before, BlockLiesAt}
+use Rattle.dt_trail.specs.Rule.{NoSlot, FitsRow, Kept, Turn, appender, through, door_at, pushed, reviewed, FindsItem, HasCompared, TurnReads, HasLearnt, learnt, IsTurned, IsSeen}
 use Rattle.dt_trail.proofs.Begins.{starts_longer, own_rest, own_longer, not_own, All-at, code_some, code_behind}
 use Rattle.dt_trail.proofs.Flats.{before_next, before_all, before_le}
 use Rattle.dt_trail.proofs.Fitting.{off, root_is, in_root, in_block, word_is, quiet, quiet_link, fits_again, legal_begun}
@@ -21,7 +21,7 @@ module _ {K : Type 0} (lawful : K → List TrailItem → Type 0) (root : Ptr) (a
 
   -- a read of the first cell that the seat doesn't know
   pub reads : (id : ℕ) (m : Turn K) (i : ℕ) → 0 < m.view.door.len → m.view.door.from + i ≡ length m.view.knows → i < m.view.door.len
-      → Allows H id m (suc m.view.door.block) m.view.door.link.ptr i (λ n. n) (HasRead lawful (step (suc m.view.door.block) m.view.door.link.ptr i 0 0) m)
+      → Allows H id m (suc m.view.door.block) m.view.door.link.ptr i (λ n. n) (TurnReads lawful (step (suc m.view.door.block) m.view.door.link.ptr i 0 0) m)
   reads id m i pos here near s h at = (in_block lawful root acct s h d i st near, λ _. by_rest f.begins.0 f.begins.1)
     where
       v : View K
@@ -33,7 +33,7 @@ module _ {K : Type 0} (lawful : K → List TrailItem → Type 0) (root : Ptr) (a
       f : FitsRow h.world id m.view
       f = h.each id m.view at
 
-      st : LiesAt h.world.blocks m.view.door
+      st : BlockLiesAt h.world.blocks m.view.door
       st = f.stands pos
 
       k : ℕ
@@ -51,10 +51,10 @@ module _ {K : Type 0} (lawful : K → List TrailItem → Type 0) (root : Ptr) (a
       found_is : found ≡ code_at items (length m.view.knows)
       found_is = word_is lawful root acct s h d i st near ∙ ap (code_at items) here
 
-      by_rest : (rest : List TrailItem) → items ≡ v.knows ++ rest → Goes H s (with_word s.rows k i found) id m (HasRead lawful st0 m found)
+      by_rest : (rest : List TrailItem) → items ≡ v.knows ++ rest → Goes H s (with_word s.rows k i found) id m (TurnReads lawful st0 m found)
       by_rest [] e =
           let none : found ≡ 0 = found_is ∙ (ap (λ l. code_at l (length v.knows)) e ∙ code_behind v.knows []) in
-          quiet lawful root acct s h k i id m v (HasRead lawful st0 m found) (fits_again lawful root acct s h id v f)
+          quiet lawful root acct s h k i id m v (TurnReads lawful st0 m found) (fits_again lawful root acct s h id v f)
           (legal_begun lawful root acct s h id v v.knows f ([], e), subst (λ b. MatchBool b (m ≡ m) (FindsItem m found m)) (sym (eq-eqb found 0 none)) refl)
       by_rest (x ∷ xs) e =
           let is : found ≡ code x = found_is ∙ (ap (λ l. code_at l (length v.knows)) e ∙ code_behind v.knows (x ∷ xs)) in
@@ -63,7 +63,7 @@ module _ {K : Type 0} (lawful : K → List TrailItem → Type 0) (root : Ptr) (a
           let w : View K = pushed v x in
           let next : StartsWith items w.knows = (xs, e ∙ sym (append_assoc v.knows (x ∷ []) xs)) in
           let begin : StartsWith w.knows v.knows = (x ∷ [], refl) in
-          quiet lawful root acct s h k i id m w (HasRead lawful st0 m found)
+          quiet lawful root acct s h k i id m w (TurnReads lawful st0 m found)
           (fits_again lawful root acct s h id w record {
             account = f.account;
             begins = next;
@@ -95,7 +95,7 @@ module _ {K : Type 0} (lawful : K → List TrailItem → Type 0) (root : Ptr) (a
       f : FitsRow h.world id m.view
       f = h.each id m.view at
 
-      st : LiesAt h.world.blocks m.view.door
+      st : BlockLiesAt h.world.blocks m.view.door
       st = f.stands pos
 
       bs : List (Row NoSlot)

@@ -9,7 +9,7 @@ use Rattle.dt_trail.specs.declared.rule.Site.{Site}
 use Rattle.dt_trail.specs.declared.rule.View.{View}
 use Rattle.dt_trail.specs.Items.{TrailItem, whose, code, IsReal}
 use Rattle.dt_trail.specs.Insides.{IsDoor}
-use Rattle.dt_trail.specs.Rule.{NoSlot, Kept, Turn, note, appender, owner, maker, nobody, site_of, with_right, without_right, right_of, maker_after, made, ended, IsSet, HasCompared, HasRead, HasLearnt, IsTurned, IsSeen, IsPlanned, IsLaid, reviewed, through, door_at, claim, claim_of, informed}
+use Rattle.dt_trail.specs.Rule.{NoSlot, Kept, Turn, note, appender, owner, maker, nobody, site_of, with_right, without_right, right_of, maker_after, made, row_ended, IsSet, HasCompared, TurnReads, HasLearnt, IsTurned, IsSeen, IsPlanned, IsLaid, reviewed, through, door_at, claim, claim_of, informed}
 use Rattle.dt_trail.proofs.Steps as steps
 use Rattle.dt_trail.proofs.Grows as grows
 use Rattle.dt_trail.proofs.Widens as widens
@@ -23,10 +23,10 @@ module _ {K : Type 0} (lawful : K → List TrailItem → Type 0) (key about : Ab
   root_is = ap (λ (k : About K). k.root.ptr) keyed
 
   pub reads_as : (id : ℕ) (m : Turn K) (d : Door) (count : ℕ) → m.view.door ≡ d → IsDoor d → count ≡ length m.view.knows → d.from ≤ count → count < d.from + d.len
-      → Allows H id m (d.block + 1) d.link.ptr (count - d.from) (λ n. n) (HasRead lawful (step (d.block + 1) d.link.ptr (count - d.from) 0 0) m)
+      → Allows H id m (d.block + 1) d.link.ptr (count - d.from) (λ n. n) (TurnReads lawful (step (d.block + 1) d.link.ptr (count - d.from) 0 0) m)
   reads_as id m d count e is at low high = subst (λ (z : Door). IsDoor z → z.from ≤ count → count < z.from + z.len
-      → Allows H id m (z.block + 1) z.link.ptr (count - z.from) (λ n. n) (HasRead lawful (step (z.block + 1) z.link.ptr (count - z.from) 0 0) m)) e
-      (λ i l h. subst (λ (b : ℕ). Allows H id m b m.view.door.link.ptr (count - m.view.door.from) (λ n. n) (HasRead lawful (step b m.view.door.link.ptr (count - m.view.door.from) 0 0) m)) (let o : suc m.view.door.block ≡ m.view.door.block + 1 = omega arith in o)
+      → Allows H id m (z.block + 1) z.link.ptr (count - z.from) (λ n. n) (TurnReads lawful (step (z.block + 1) z.link.ptr (count - z.from) 0 0) m)) e
+      (λ i l h. subst (λ (b : ℕ). Allows H id m b m.view.door.link.ptr (count - m.view.door.from) (λ n. n) (TurnReads lawful (step b m.view.door.link.ptr (count - m.view.door.from) 0 0) m)) (let o : suc m.view.door.block ≡ m.view.door.block + 1 = omega arith in o)
       (steps.reads lawful key.root.ptr key.account id m (count - m.view.door.from) i.some (let x = at in omega arith) (omega arith))) is low high
 
   pub turns_as : (id : ℕ) (m : Turn K) (d : Door) → m.view.door ≡ d → IsDoor d → Allows H id m 0 about.root.ptr (d.block + 1) (λ n. n) (IsTurned lawful (step 0 about.root.ptr (d.block + 1) 0 0) m)
@@ -58,8 +58,8 @@ module _ {K : Type 0} (lawful : K → List TrailItem → Type 0) (key about : Ab
   pub makes_as : (id : ℕ) (v : View K) (a : Option K) (n : ℕ) (d : Door) (t : Site) → v ≡ maker a n d t → Splits H 0 about.root.ptr id v (maker_after v) (made v)
   makes_as id v a n d t e = subst (λ (p : Ptr × View K). Splits H 0 p.0 id p.1 (maker_after p.1) (made p.1)) (λ i. (root_is i, sym e i)) (seats.makes lawful key.root.ptr key.account id a n d t)
 
-  pub opens_as : (id : ℕ) (v : View K) (a : Option K) (n : ℕ) (d : Door) (t : Site) → v ≡ maker a n d t → Splits H 0 about.root.ptr id v (ended v) (right_of v)
-  opens_as id v a n d t e = subst (λ (p : Ptr × View K). Splits H 0 p.0 id p.1 (ended p.1) (right_of p.1)) (λ i. (root_is i, sym e i)) (seats.opens lawful key.root.ptr key.account id a n d t)
+  pub opens_as : (id : ℕ) (v : View K) (a : Option K) (n : ℕ) (d : Door) (t : Site) → v ≡ maker a n d t → Splits H 0 about.root.ptr id v (row_ended v) (right_of v)
+  opens_as id v a n d t e = subst (λ (p : Ptr × View K). Splits H 0 p.0 id p.1 (row_ended p.1) (right_of p.1)) (λ i. (root_is i, sym e i)) (seats.opens lawful key.root.ptr key.account id a n d t)
 
   pub plans_as : (id : ℕ) (m : Turn K) (i : ℕ) (q : Ptr) → m.view.owns ≡ true → i ≡ m.view.site.blocks → i < 32 → AllowsLink H id m 0 about.root.ptr i (λ _. q) (λ _. IsPlanned 0 i m q)
   plans_as id m i q owns ei few = subst (λ (p : Ptr). AllowsLink H id m 0 p i (λ _. q) (λ _. IsPlanned 0 i m q)) root_is (widens.plans lawful key.root.ptr key.account id m i q owns ei few)

@@ -12,7 +12,7 @@ use Rattle.dt_trail.specs.declared.door.Door.{Door}
 use Rattle.dt_trail.specs.declared.rule.Site.{Site}
 use Rattle.dt_trail.specs.declared.rule.View.{View}
 use Rattle.dt_trail.specs.Items.{TrailItem, own, StartsWith}
-use Rattle.dt_trail.specs.Blocks.{flat, Laid, LiesAt}
+use Rattle.dt_trail.specs.Blocks.{flat, Laid, BlockLiesAt}
 use Rattle.dt_trail.specs.Rule.{NoSlot, RowWorld, FitsRow, Kept, Turn, site_of, wider, planned_at, HadAll, IsPlanned, IsLaid}
 use Rattle.dt_trail.proofs.Flats.{flat_push, before_push, words_more}
 use Rattle.dt_trail.proofs.Fitting.{off, fits_set, root_is, in_root}
@@ -193,7 +193,7 @@ module _ {K : Type 0} (lawful : K → List TrailItem → Type 0) (root : Ptr) (a
       had : m.view.live ≡ true → HadAll m.view
       had l = let whole = (f.owns owns).1 in (subst (λ z. StartsWith z m.view.had) whole f.had, ap (own m.view.note) (sym whole) ∙ f.had_own owns l)
 
-      stands_more : (d' : Door) → LiesAt bs d' → LiesAt new d'
+      stands_more : (d' : Door) → BlockLiesAt bs d' → BlockLiesAt new d'
       stands_more d' st = let lt : d'.block < i = (let y = count_is in let z = st.near in omega arith) in record {
         near = (let y = count_new in omega arith);
         from = st.from ∙ sym (before_push bs x d'.block (let z = st.near in omega arith));

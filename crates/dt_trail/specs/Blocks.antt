@@ -27,7 +27,7 @@ module _ {S : Type 0} where
     pub places : (j : ℕ) → j < length blocks → ((cell_in base.cells j).link ≡ (row blocks j).at) × InBlock (row blocks j).at × (0 < length (row blocks j).cells) × (length (row blocks j).cells < 2 ^ 40)
 
   -- the block lies there
-  pub record LiesAt (blocks : List (Row S)) (d : Door) : Type 0 where
+  pub record BlockLiesAt (blocks : List (Row S)) (d : Door) : Type 0 where
     pub near : d.block < length blocks
     pub from : d.from ≡ before blocks d.block
     pub len : d.len ≡ length (row blocks d.block).cells

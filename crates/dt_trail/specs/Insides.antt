@@ -11,7 +11,7 @@ use Rattle.dt_trail.specs.Rule.{NoSlot, note, appender, owner, claim, site_of, T
 use Rattle.dt_trail.specs.declared.law.Named.{Named}
 use Rattle.dt_trail.specs.Limits.{block_bound, widenings}
 use Rattle.dt_trail.specs.Items.{TrailItem}
-use Rattle.dt_trail.specs.Known.{Known, Noted, Heard, named, known, noted}
+use Rattle.dt_trail.specs.Known.{Known, Noted, Heard, named_row, known_row, noted}
 
 abbrev pub RowSeat : Type 0 → Type 0 → Type 0
 RowSeat K A = Seat NoSlot (View K) A
@@ -65,14 +65,14 @@ module _ {K L : Type 0} where
   sat i n m = record { marker = record {}; rows = i.rows.id; heap = i.rows.heap; id = n; me = m }
 
   abbrev pub row_of : Inner K L → Named K
-  row_of i = named i.rows.id i.about.account
+  row_of i = named_row i.rows.id i.about.account
 
   -- the owner's right, when the row was widened so often
   abbrev pub right : Inner K L → List TrailItem → Door → ℕ → ℕ → Turn K
   right i knows d widened cells = me (owner (Some i.about.account) knows d (site_of (widened + 1) cells false null_ptr)) None None
 
   abbrev pub owner_known : Inner K L → Option (RowSeat K Global) → ℕ → ℕ → Known K
-  owner_known i s cells widened = known (row_of i) (knows_of s) cells widened
+  owner_known i s cells widened = known_row (row_of i) (knows_of s) cells widened
 
   pub record IsOwner (i : Inner K L) (s : Option (RowSeat K Global)) (d : Door) (count widened cells : ℕ) : Type 0 where
     pub seat : s ≡ Some (sat i (id_of s) (right i (knows_of s) d widened cells))

@@ -25,11 +25,11 @@ pub record Heard : Type 0 where
   pub knows : List TrailItem
 
 module _ {K : Type 0} where
-  abbrev pub named : RowsId → K → Named K
-  named id account = record { id = id; account = account }
+  abbrev pub named_row : RowsId → K → Named K
+  named_row id account = record { id = id; account = account }
 
-  abbrev pub known : Named K → List TrailItem → ℕ → ℕ → Known K
-  known row knows cells widened = record { row = row; knows = knows; cells = cells; widened = widened }
+  abbrev pub known_row : Named K → List TrailItem → ℕ → ℕ → Known K
+  known_row row knows cells widened = record { row = row; knows = knows; cells = cells; widened = widened }
 
   abbrev pub noted : Named K → ℕ → List TrailItem → Noted K
   noted row number knows = record { row = row; number = number; knows = knows }

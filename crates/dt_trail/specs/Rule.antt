@@ -9,7 +9,7 @@ use Rattle.dt_trail.specs.declared.door.Door.{Door}
 use Rattle.dt_trail.specs.declared.rule.Site.{Site}
 use Rattle.dt_trail.specs.declared.rule.View.{View}
 use Rattle.dt_trail.specs.Items.{TrailItem, whose, code, IsReal, AllReal, own, code_at, StartsWith, longer}
-use Rattle.dt_trail.specs.Blocks.{flat, Laid, LiesAt}
+use Rattle.dt_trail.specs.Blocks.{flat, Laid, BlockLiesAt}
 
 abbrev pub NoSlot : Type 0
 NoSlot = Unit {0}
@@ -92,8 +92,8 @@ module _ {K : Type 0} where
   abbrev pub right_of : View K → View K
   right_of v = owner v.account v.knows v.door v.site
 
-  abbrev pub ended : View K → View K
-  ended v = nobody
+  abbrev pub row_ended : View K → View K
+  row_ended v = nobody
 
   -- the view, with another door
   abbrev pub through : View K → Door → View K
@@ -108,7 +108,7 @@ module _ {K : Type 0} where
     pub makes : v.makes ≡ true → (v.owns ≡ true) × (w.made ≡ v.note)
     pub had : StartsWith w.items v.had
     pub had_own : v.owns ≡ true → v.live ≡ true → own v.note w.items ≡ own v.note v.had
-    pub stands : 0 < v.door.len → LiesAt w.blocks v.door
+    pub stands : 0 < v.door.len → BlockLiesAt w.blocks v.door
     pub site : v.owns ≡ true → (v.site.blocks ≡ length w.blocks) × (v.site.cells ≡ length (flat w.blocks))
     pub plan : v.owns ≡ true → v.site.planned ≡ true → (cell_in w.base.cells v.site.blocks).link ≡ v.site.plan.ptr
 
@@ -159,8 +159,8 @@ module _ {K : Type 0} where
   IsBegun lawful a knows = (x : K) → a ≡ Some x → (rest : List TrailItem) × lawful x (knows ++ rest)
 
   -- an empty cell was found, or the next item, which is not the note's own
-  abbrev pub HasRead : (K → List TrailItem → Type 0) → Step → Turn K → ℕ → Turn K → Type 0
-  HasRead lawful st m found n =
+  abbrev pub TurnReads : (K → List TrailItem → Type 0) → Step → Turn K → ℕ → Turn K → Type 0
+  TurnReads lawful st m found n =
       IsBegun lawful m.view.account n.view.knows
       × MatchBool (found == 0) (n ≡ m) (FindsItem m found n)
 

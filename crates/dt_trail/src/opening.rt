@@ -22,7 +22,7 @@ use std::sync::Arc;
 pub struct Trail;
 
 impl Trail {
-    ghost use Rattle.dt_trail.specs.Known.{known, AreNew};
+    ghost use Rattle.dt_trail.specs.Known.{known_row, AreNew};
 
     /// A row of empty cells for an account, with its owner and its notes, which are numbered from 0: the session's, and then those of
     /// the processors. The empty row has to be lawful for the account. It takes 16 bytes a cell, and some for each note.
@@ -36,7 +36,7 @@ impl Trail {
     ) -> Result<(TrailOwner<K, L>, Vec<TrailNote<K, L>>), AllocError>
         requires wide { (0 < cells) × (cells < block_bound) }
         requires lawful { L.lawful account [] }
-        ensures { IfOk result (λ t. (t.0.row.account ≡ account) × (t.0 ≡ known t.0.row [] cells 0) × AreNew t.0.row notes t.1.items) }
+        ensures { IfOk result (λ t. (t.0.row.account ≡ account) × (t.0 ≡ known_row t.0.row [] cells 0) × AreNew t.0.row notes t.1.items) }
     {
         let (inner, mut maker, door) = row_of::<K, L>(alloc, account, cells)?;
         let mut made = Vec::with_capacity(alloc, notes as usize)?;

@@ -61,7 +61,7 @@ impl<K: Drop, L: Law<K>> Drop for TrailOwner<K, L> {
 
 impl<K, L: Law<K>> TrailOwner<K, L> {
     ghost use Rattle.dt_trail.specs.Items.{whose};
-    ghost use Rattle.dt_trail.specs.Known.{known, noted, Meets};
+    ghost use Rattle.dt_trail.specs.Known.{known_row, noted, Meets};
 
     pub(crate) fn of(
         cells: Arc<Inner<K, L>, Global>,
@@ -72,7 +72,7 @@ impl<K, L: Law<K>> TrailOwner<K, L> {
         requires row { OfRow (arc_value cells) right }
         requires view { right.me ≡ me (owner (Some (arc_value cells).about.account) [] door (first_site width)) None None }
         requires door { IsDoor door × (door.from ≡ 0) × (width < block_bound) }
-        ensures { result ≡ known (row_of (arc_value cells)) [] width 0 }
+        ensures { result ≡ known_row (row_of (arc_value cells)) [] width 0 }
     {
         TrailOwner {
             cells,
@@ -113,7 +113,7 @@ impl<K, L: Law<K>> TrailOwner<K, L> {
         requires room { length self.old.knows < self.old.cells }
         requires mine { whose item.now ≡ note.old.number }
         requires lawful { L.lawful self.old.row.account (self.old.knows ++ item.now ∷ []) }
-        ensures owner { self.new ≡ known self.old.row (self.old.knows ++ item.now ∷ []) self.old.cells self.old.widened }
+        ensures owner { self.new ≡ known_row self.old.row (self.old.knows ++ item.now ∷ []) self.old.cells self.old.widened }
         ensures note { note.new ≡ noted note.old.row note.old.number (self.old.knows ++ item.now ∷ []) }
         ensures met { Meets self.old.knows note.old }
     {
@@ -174,7 +174,7 @@ impl<K, L: Law<K>> TrailOwner<K, L> {
         requires row { self.old.row ≡ note.old.row }
         requires wide { (0 < cells) × (cells < block_bound) }
         requires few { self.old.widened < widenings }
-        ensures wider { OnOk result (self.new ≡ known self.old.row self.old.knows (self.old.cells + cells) (self.old.widened + 1)) }
+        ensures wider { OnOk result (self.new ≡ known_row self.old.row self.old.knows (self.old.cells + cells) (self.old.widened + 1)) }
         ensures note { OnOk result (note.new ≡ noted note.old.row note.old.number self.old.knows) }
         ensures met { OnOk result (Meets self.old.knows note.old) }
         ensures same { OnErr result ((self.new ≡ self.old) × (note.new ≡ note.old)) }

@@ -82,9 +82,9 @@ pub struct Reads<L> {
 }
 
 impl<K, L: Law<K>> Play<(), View<K>> for Reads<L> {
-    ghost use Rattle.dt_trail.specs.Rule.{HasRead};
+    ghost use Rattle.dt_trail.specs.Rule.{TurnReads};
 
-    ghost then = { HasRead L.lawful };
+    ghost then = { TurnReads L.lawful };
 }
 
 pub struct Compares;
@@ -159,9 +159,9 @@ impl<K> Split<View<K>> for Makes {
 pub struct Opens;
 
 impl<K> Split<View<K>> for Opens {
-    ghost use Rattle.dt_trail.specs.Rule.{ended, right_of};
+    ghost use Rattle.dt_trail.specs.Rule.{row_ended, right_of};
 
-    ghost left = { ended };
+    ghost left = { row_ended };
 
     ghost right = { right_of };
 }

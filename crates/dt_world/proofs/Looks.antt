@@ -9,7 +9,7 @@ use Rattle.std.proofs.lemmas.List.{get_or-set_other}
 use Rattle.std.proofs.lemmas.Grind.{get_or-set_at}
 use Rattle.std.proofs.lemmas.Option.{slice_get_within}
 use Rattle.dt_chain.specs.declared.seat_set.SeatSet.{SeatSet}
-use Rattle.dt_machine.specs.Registry.{Registry, Contents, IsSound, IsPlaced, firing_at}
+use Rattle.dt_machine.specs.Registry.{Registry, Contents, IsSound, IsInScript, firing_at}
 use Rattle.dt_machine.specs.declared.limits.TheConstants.{SCRIPT_MAX}
 use Rattle.dt_cred.specs.declared.firing.Firing.{Firing}
 use Rattle.dt_world.specs.Replay.{Replayed, after_step_line, next_of}
@@ -83,8 +83,8 @@ module _ (contents : Contents) (sound : IsSound contents) (cpu place : ℕ) (fir
     (is : firing_at contents.scripts cpu place ≡ Some firing) where
   pub own_firing : firing.cpu ≡ cpu
   own_firing =
-      let placed : IsPlaced contents.registry cpu place firing =
-      subst (λ o. IfSome o (IsPlaced contents.registry cpu place)) is (sound.placed cpu place) in
+      let placed : IsInScript contents.registry cpu place firing =
+      subst (λ o. IfSome o (IsInScript contents.registry cpu place)) is (sound.placed cpu place) in
       placed.processor
 
   short_at : (script : Option (List Firing)) → slice_get contents.scripts cpu ≡ script

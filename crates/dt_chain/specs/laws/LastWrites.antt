@@ -12,18 +12,18 @@ use Rattle.dt_chain.specs.Kept.{slot_of}
 use Rattle.dt_chain.specs.Lists.{is_seat_listed}
 use Rattle.dt_chain.specs.Look.{IsLook, NamesFiring}
 use Rattle.dt_chain.specs.Writes.{Write, Published, published, withdrawn, published_on}
-use Rattle.dt_chain.specs.Writes.{seat_of, entry_of, writes_of, last_write_of, SameLastWrites}
+use Rattle.dt_chain.specs.Writes.{seat_of, published_by, writes_of, last_write_of, SameLastWrites}
 use Rattle.dt_chain.specs.declared.entries.Entries.{Entries}
 
 entry_after : (own : Bool) (write : Write) (earlier : Option Write)
-    → option_and_then entry_of (cond own (Some write) earlier)
-    ≡ cond own (entry_of write) (option_and_then entry_of earlier)
+    → option_and_then published_by (cond own (Some write) earlier)
+    ≡ cond own (published_by write) (option_and_then published_by earlier)
 entry_after true write earlier = refl
 entry_after false write earlier = refl
 
 -- The entry of a seat is what its last write leaves.
 pub published_on-last : (writes : List Write) (seat : ℕ)
-    → published_on writes seat ≡ option_and_then entry_of (last_write_of writes seat)
+    → published_on writes seat ≡ option_and_then published_by (last_write_of writes seat)
 published_on-last [] seat = refl
 published_on-last (published at life account probes ∷ earlier) seat =
     rw (published_on-last earlier seat)
@@ -60,7 +60,7 @@ pub published_on-writes_of : (writes : List Write) (seat : ℕ)
     → published_on (writes_of writes seat) seat ≡ published_on writes seat
 published_on-writes_of writes seat =
     published_on-last (writes_of writes seat) seat
-    ∙ ap (option_and_then entry_of) (last_write_of-writes_of writes seat)
+    ∙ ap (option_and_then published_by) (last_write_of-writes_of writes seat)
     ∙ sym (published_on-last writes seat)
 
 -- Where each seat has the same last write, it has the same entry.
@@ -68,7 +68,7 @@ pub same_published : (writes others : List Write) → SameLastWrites writes othe
     → (seat : ℕ) → published_on writes seat ≡ published_on others seat
 same_published writes others same seat =
     published_on-last writes seat
-    ∙ ap (option_and_then entry_of) (same.each seat)
+    ∙ ap (option_and_then published_by) (same.each seat)
     ∙ sym (published_on-last others seat)
 
 -- Entries at the end of one such history are at the end of the other.

@@ -6,7 +6,7 @@ use Rattle.std.proofs.lemmas.List.{length-take-le}
 use Rattle.std.proofs.lemmas.Option.{slice_get_within}
 use Rattle.dt_cred.specs.declared.firing.Firing.{Firing as FiringType}
 use Rattle.dt_machine.specs.Reading.{AllRight, AllRightIn}
-use Rattle.dt_machine.specs.Registry.{Registry, Belongs, IsPlaced, firing_at}
+use Rattle.dt_machine.specs.Registry.{Registry, Belongs, IsInScript, firing_at}
 use Rattle.dt_machine.specs.Rows.{FiringRow, HasRoom, firing, script, scripts}
 
 pub length-front : {A : Type 0} (rows : List A) (i : ℕ) (row : A) → slice_get rows i ≡ Some row
@@ -95,11 +95,11 @@ length-script_at all k room = step (slice_get (scripts 0 all) k) refl
 
 pub placed_at : (registry : Registry) (all : List (List FiringRow)) (cpu place : ℕ)
     → AllRightIn (λ _ found. Belongs registry found) (scripts 0 all)
-    → IfSome (firing_at (scripts 0 all) cpu place) (IsPlaced registry cpu place)
+    → IfSome (firing_at (scripts 0 all) cpu place) (IsInScript registry cpu place)
 placed_at registry all cpu place belong = outer (slice_get (scripts 0 all) cpu) refl
   where
     inner : (found : List FiringType) → slice_get (scripts 0 all) cpu ≡ Some found → (o : Option FiringType)
-        → slice_get found place ≡ o → IfSome o (IsPlaced registry cpu place)
+        → slice_get found place ≡ o → IfSome o (IsInScript registry cpu place)
     inner found there None at_place = tt
     inner found there (Some fired) at_place =
         let at = scripts_at 0 all cpu found there in
@@ -112,6 +112,6 @@ placed_at registry all cpu place belong = outer (slice_get (scripts 0 all) cpu) 
         }
 
     outer : (o : Option (List FiringType)) → slice_get (scripts 0 all) cpu ≡ o
-        → IfSome (option_and_then (λ script. slice_get script place) o) (IsPlaced registry cpu place)
+        → IfSome (option_and_then (λ script. slice_get script place) o) (IsInScript registry cpu place)
     outer None there = tt
     outer (Some found) there = inner found there (slice_get found place) refl

@@ -39,11 +39,11 @@ changed_word words number at place flag new empty its_word its_place within chan
 pub has_at : (words : List BitWord) (at place : ℕ) → place < 64
     → has_in words (at * 64 + place) ≡ has_bit (get_or words at (record { bits = 0 })) place
 has_at words at place low =
-    ap (λ w. has_bit (get_or words w (record { bits = 0 })) ((at * 64 + place) % 64)) (word_of at place low)
+    ap (λ w. has_bit (get_or words w (record { bits = 0 })) ((at * 64 + place) % 64)) (word_of_set at place low)
     ∙ ap (has_bit (get_or words at (record { bits = 0 }))) (place_of at place low)
   where
-    word_of : (at place : ℕ) → place < 64 → (at * 64 + place) / 64 ≡ at
-    word_of at place low = omega (arith, low)
+    word_of_set : (at place : ℕ) → place < 64 → (at * 64 + place) / 64 ≡ at
+    word_of_set at place low = omega (arith, low)
 
     place_of : (at place : ℕ) → place < 64 → (at * 64 + place) % 64 ≡ place
     place_of at place low = omega (arith, low)

@@ -10,7 +10,7 @@ use Rattle.dt_life.specs.Answer.{Answer}
 use Rattle.dt_life.specs.Life.{Item, is_over}
 use Rattle.dt_life.specs.Reply.{Replies}
 use Rattle.dt_machine.specs.Limits.{script_max}
-use Rattle.dt_machine.specs.Registry.{Contents, IsSound, IsPlaced, firing_at}
+use Rattle.dt_machine.specs.Registry.{Contents, IsSound, IsInScript, firing_at}
 use Rattle.dt_proto.specs.Alone.{Reached, own_line, firing_made}
 use Rattle.dt_proto.specs.Brought.{IsBrought, IsOneLine, HasOnlyLines}
 use Rattle.dt_proto.specs.Line.{ask_in}
@@ -55,7 +55,7 @@ module _ (contents : Contents) (sound : IsSound contents) where
   firing_writable : (firing : Firing) → firing_at contents.scripts firing.cpu firing.place ≡ Some firing
       → IsWritable (fired_at firing.cpu firing.place)
   firing_writable firing there =
-      let placed : IsPlaced contents.registry firing.cpu firing.place firing =
+      let placed : IsInScript contents.registry firing.cpu firing.place firing =
       rw there at (sound.placed firing.cpu firing.place) in
       let cpu = placed.belongs.cpu in
       let few = sound.few_cpus in

@@ -7,7 +7,7 @@ use Rattle.std.proofs.lemmas.List.Elements.{All-drop}
 use Rattle.std.specs.List.{AllByRecursion}
 use Rattle.std.specs.Option.{option_map_or}
 use Rattle.dt_cred.specs.declared.firing.Firing.{Firing}
-use Rattle.dt_machine.specs.Registry.{Registry, Contents, IsSound, IsPlaced, firing_at}
+use Rattle.dt_machine.specs.Registry.{Registry, Contents, IsSound, IsInScript, firing_at}
 use Rattle.dt_proto.specs.Brought.{IsBrought, IsInForm, IsOneLine}
 use Rattle.dt_proto.specs.Limits.{line_max}
 use Rattle.dt_proto.specs.Lines.{LineForm, short_line, long_line, line_form}
@@ -64,7 +64,7 @@ module _ (contents : Contents) (sound : IsSound contents) where
     by_done false e = cc
 
   placed_firing : (cpu place : ℕ) (firing : Firing) → firing_at contents.scripts cpu place ≡ Some firing
-      → IsPlaced contents.registry cpu place firing
+      → IsInScript contents.registry cpu place firing
   placed_firing cpu place firing is = rw is at (sound.placed cpu place)
 
   looked : (now : Replayed) (cpu : ℕ) (firing : Firing) → next_of contents now cpu ≡ Some firing → IsInOrder now

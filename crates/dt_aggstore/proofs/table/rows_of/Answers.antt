@@ -5,7 +5,7 @@ use Rattle.std.specs.Prelude.{map}
 use Rattle.std.specs.List.{AllZip}
 use Rattle.std.proofs.lemmas.List.{map-append, take_more}
 use Rattle.dt_aggfn.specs.declared.function.AggFn.{AggFn}
-use Rattle.dt_aggfn.specs.Answers.{answer_of}
+use Rattle.dt_aggfn.specs.Answers.{answer_of_bag}
 use Rattle.dt_aggstore.specs.Entries.{form_of_row}
 use Rattle.dt_aggstore.specs.Joining.{key_of, MakesRows}
 use Rattle.dt_aggstore.specs.declared.joining.Joined.{Joined}
@@ -25,7 +25,7 @@ zip_push R (z ∷ xs) (w ∷ ys) x y a r = (a.0, zip_push R xs ys x y a.1 r)
 one_more : (function : AggFn) (bags : Key → List ℤ) (rows items : List Joined) (i : ℕ) (x : Joined) (done : List Row)
     (row : Row)
     → items ≡ rows → i < length items → x ≡ get_or items i x → form_of_row row
-    ≡ record { key = key_of x; value = answer_of function (bags (key_of x)) }
+    ≡ record { key = key_of x; value = answer_of_bag function (bags (key_of x)) }
     → MakesRows function bags (take i rows) (map form_of_row done)
     → MakesRows function bags (take (i + 1) rows) (map form_of_row (done ++ row ∷ []))
 one_more function bags rows items i x done row same lt is form so_far =

@@ -2,7 +2,7 @@
 use Rattle.std.proofs.Common.{◌≡◌, ◌*◌, ◌+◌, ◌%◌, ◌&&◌, not, set, cond, arith, sym, ◌∙◌, ⊎_elim, ◌≢◌, subst, ℕ}
 use Rattle.std.proofs.lemmas.Bool.{cases_eq}
 use Rattle.dt_machine.specs.BitWord.{has_bit, is_in_word}
-use Rattle.dt_chain.specs.Listed.{is_listed}
+use Rattle.dt_chain.specs.Listed.{is_listed_for}
 use Rattle.dt_chain.proofs.Listing.{changed_one}
 use Rattle.dt_chain.proofs.Marking.{in_its_word, marked_here, marked_before, was_left}
 use Rattle.dt_chain.proofs.lists.mark_word.Goals as goal
@@ -28,9 +28,9 @@ loop-number-preserved c =
       own = λ other.
           ⊎_elim
           (λ (e : other ≡ probe).
-          let P : ℕ → Type 0 = λ p. is_listed (set step.lists probe c.set.new.self) p c.args.seat
+          let P : ℕ → Type 0 = λ p. is_listed_for (set step.lists probe c.set.new.self) p c.args.seat
           ≡ cond (is_in_word c.args.at c.args.word p && not (has_bit c.pop_first.new.self (p % 64))) c.args.is_in
-          (is_listed c.args.lists.now p c.args.seat) in
+          (is_listed_for c.args.lists.now p c.args.seat) in
           subst P (sym e) (changed.own
           ∙ marked_here c.args.at number c.args.word step.left c.pop_first.new.self c.args.is_in _ first.3 first.0 up))
           (λ (ne : other ≢ probe).

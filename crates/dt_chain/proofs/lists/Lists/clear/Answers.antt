@@ -4,7 +4,7 @@ use Rattle.std.proofs.lemmas.Bool.{cases_lt, false≢true}
 use Rattle.std.proofs.lemmas.List.{with_items_is}
 use Rattle.std.specs.Vec.{with_items}
 use Rattle.dt_machine.specs.Interest.{has_probe}
-use Rattle.dt_chain.specs.Listed.{is_listed, is_interested}
+use Rattle.dt_chain.specs.Listed.{is_listed_for, is_interested}
 use Rattle.dt_chain.specs.Seats.{has}
 use Rattle.dt_chain.proofs.Agreeing.{interest_at, agree_after, taken_out}
 use Rattle.dt_chain.proofs.Listing.{flag_at-past}
@@ -31,16 +31,16 @@ invariant_of-self-clause-agree c = λ probe seat.
     let kept : (with_items old.by_probe c.mark.new.lists).items ≡ c.mark.new.lists =
     with_items_is old.by_probe c.mark.new.lists (omega arith) in
     let same : c.as_mut_slice.result.now ≡ old.by_probe.items = c.as_mut_slice.ensures.value in
-    let own : (p : ℕ) → is_listed c.mark.new.lists p at ≡ has_probe c.new.result p =
+    let own : (p : ℕ) → is_listed_for c.mark.new.lists p at ≡ has_probe c.new.result p =
     λ p.
-    ap (is_listed c.mark.new.lists p) here ∙ c.mark.ensures.own p
+    ap (is_listed_for c.mark.new.lists p) here ∙ c.mark.ensures.own p
     ∙ taken_out (has_probe c.index.result.now p) _
-    (ap (λ lists. is_listed lists p c.args.seat) same ∙ ap (is_listed old.by_probe.items p) (sym here) ∙ old.agree p at
+    (ap (λ lists. is_listed_for lists p c.args.seat) same ∙ ap (is_listed_for old.by_probe.items p) (sym here) ∙ old.agree p at
     ∙ interest_at old.by_seat.items at p c.index.result.now (omega arith) c.index.ensures)
     ∙ sym (c.new.ensures p) in
-    let others : (p other : ℕ) → other ≢ at → is_listed c.mark.new.lists p other ≡ is_listed old.by_probe.items p other =
-    λ p other ne. c.mark.ensures.others p other (λ e. ne (e ∙ sym here)) ∙ ap (λ lists. is_listed lists p other) same in
-    ap (λ lists. is_listed lists probe seat) kept
+    let others : (p other : ℕ) → other ≢ at → is_listed_for c.mark.new.lists p other ≡ is_listed_for old.by_probe.items p other =
+    λ p other ne. c.mark.ensures.others p other (λ e. ne (e ∙ sym here)) ∙ ap (λ lists. is_listed_for lists p other) same in
+    ap (λ lists. is_listed_for lists probe seat) kept
     ∙ agree_after old.by_probe.items c.mark.new.lists old.by_seat.items at c.new.result (omega arith) own others old.agree
     probe seat
 
@@ -52,8 +52,8 @@ returns-clause-own c = λ probe.
     let kept : (with_items old.by_probe c.mark.new.lists).items ≡ c.mark.new.lists =
     with_items_is old.by_probe c.mark.new.lists (omega arith) in
     let same : c.as_mut_slice.result.now ≡ old.by_probe.items = c.as_mut_slice.ensures.value in
-    ap (λ lists. is_listed lists probe c.args.seat) kept ∙ c.mark.ensures.own probe
+    ap (λ lists. is_listed_for lists probe c.args.seat) kept ∙ c.mark.ensures.own probe
     ∙ taken_out (has_probe c.index.result.now probe) _
-    (ap (λ lists. is_listed lists probe c.args.seat) same ∙ ap (is_listed old.by_probe.items probe) (sym here)
+    (ap (λ lists. is_listed_for lists probe c.args.seat) same ∙ ap (is_listed_for old.by_probe.items probe) (sym here)
     ∙ old.agree probe at
     ∙ interest_at old.by_seat.items at probe c.index.result.now (omega arith) c.index.ensures)
