@@ -1,5 +1,5 @@
 -- What isn't refused leaves the lists of a state within the limits.
-use Rattle.std.proofs.Common.{◌≡◌, ◌⊎◌, inl, inr, ℕ, ℤ, ◌+◌, ◌<◌, ◌≤◌, leb, Bool, true, false, ◌&&◌, ◌||◌, List, [], Ok}
+use Rattle.std.proofs.Common.{◌≡◌, ◌⊎◌, inl, inr, ℕ, ℤ, ◌+◌, ◌<◌, ◌≤◌, leb, Bool, true, false, ◌&&◌, List, [], Ok}
 use Rattle.std.proofs.Common.{◌∷◌, ◌++◌, length, Option, Some, None, is_some, refl, sym, ap, ◌∙◌, subst, length-append}
 use Rattle.std.proofs.Common.{arith, leb-false, cond, if◌then◌else◌, pos}
 use Rattle.std.specs.Prelude.{option_and_then}

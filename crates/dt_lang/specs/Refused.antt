@@ -1,5 +1,5 @@
 -- For what cause a token is refused after the tokens before it.
-use Rattle.std.specs.Prelude.{◌≡◌, ℕ, ◌<◌, ◌≤◌, Bool, true, List, [], ◌∷◌, ◌++◌, length, Option, Some, Result, Err, ℤ}
+use Rattle.std.specs.Prelude.{◌≡◌, ℕ, ◌<◌, ◌≤◌, Bool, true, List, [], ◌∷◌, ◌++◌, length, Some, Result, Err, ℤ}
 use Rattle.dt_expr.specs.Form.{Form}
 use Rattle.dt_expr.specs.declared.scene.NumberVariable.TheVariants as variable
 use Rattle.dt_expr.specs.declared.scene.TextVariable.TheVariants as text_variable

@@ -97,8 +97,8 @@ module _ (one_verdict : (account : Account) (registry : Registry) (accepted : Li
   same_verdict (agg name) v w hv hw = hv ∙ sym hw
   same_verdict (trunc name) v w hv hw = hv ∙ sym hw
   same_verdict status v w hv hw = hv ∙ sym hw
-  same_verdict (list None) v w hv hw = hv ∙ sym hw
-  same_verdict (list (Some desc)) v w hv hw = hv ∙ sym hw
+  same_verdict (list (Err wrong)) v w hv hw = hv ∙ sym hw
+  same_verdict (list (Ok desc)) v w hv hw = hv ∙ sym hw
   same_verdict (describe epid) v w hv hw = hv ∙ sym hw
   same_verdict close v w hv hw = hv ∙ sym hw
 
@@ -112,8 +112,8 @@ module _ (one_verdict : (account : Account) (registry : Registry) (accepted : Li
   one_accepted stop a b ha hb = ha ∙ sym hb
   one_accepted close a b ha hb = ha ∙ sym hb
   one_accepted status a b ha hb = ha ∙ sym hb
-  one_accepted (list None) a b ha hb = absurd ha
-  one_accepted (list (Some desc)) a b ha hb = ha ∙ sym hb
+  one_accepted (list (Err wrong)) a b ha hb = absurd ha
+  one_accepted (list (Ok desc)) a b ha hb = ha ∙ sym hb
   one_accepted (describe epid) a b ha hb =
       told_once (ecb_of account registry life epid) (λ f. described epid f.0 (layout_of f.1.clause)) a b ha hb
   one_accepted (agg name) a b ha hb =
@@ -164,8 +164,8 @@ module _ (some_verdict : (account : Account) (registry : Registry) (accepted : L
   verdict_of (agg name) = (_, refl)
   verdict_of (trunc name) = (_, refl)
   verdict_of status = (_, refl)
-  verdict_of (list None) = (_, refl)
-  verdict_of (list (Some desc)) = (_, refl)
+  verdict_of (list (Err wrong)) = (_, refl)
+  verdict_of (list (Ok desc)) = (_, refl)
   verdict_of (describe epid) = (_, refl)
   verdict_of close = (_, refl)
 
@@ -181,8 +181,8 @@ module _ (some_verdict : (account : Account) (registry : Registry) (accepted : L
   some_accepted stop v = (done, refl)
   some_accepted close v = (done, refl)
   some_accepted status v = (answers.status _ _ _ _, refl)
-  some_accepted (list None) v = cc
-  some_accepted (list (Some desc)) v = (listed _, refl)
+  some_accepted (list (Err wrong)) v = cc
+  some_accepted (list (Ok desc)) v = (listed _, refl)
   some_accepted (describe epid) v =
       told_so (ecb_of account registry life epid) (λ f. described epid f.0 (layout_of f.1.clause)) NoEpid v
   some_accepted (agg name) v =

@@ -2,6 +2,7 @@
 use Rattle.std.specs.Prelude.{ℕ, List, Option, Result, Ok, Err}
 use Rattle.std.specs.String.{string_bytes}
 use Rattle.dt_lang.specs.Description.{DescForm, ReadsDescription}
+use Rattle.dt_program.specs.declared.description.DescriptionFault.{DescriptionFault}
 use Rattle.dt_program.specs.laws.SomeDescription.{some_description}
 use Rattle.dt_lang.specs.Reads.{Reading, Reads}
 use Rattle.dt_lang.specs.laws.SomeReading.{some_reading}
@@ -20,7 +21,7 @@ unfolding reading_of
 is_read text = (some_reading text).1
 
 -- the same of a text as a description
-pub description_of : List ℕ → Option DescForm
+pub description_of : List ℕ → Result DescForm DescriptionFault
 description_of text = (some_description text).0
 
 pub is_described : (text : List ℕ) → ReadsDescription text (description_of text)
@@ -37,7 +38,7 @@ pub data Ask : Type 0 where
   agg : (name : List ℕ) → Ask
   trunc : (name : List ℕ) → Ask
   status : Ask
-  list : Option DescForm → Ask
+  list : Result DescForm DescriptionFault → Ask
   describe : (epid : ℕ) → Ask
   close : Ask
 

@@ -1,5 +1,6 @@
 -- The numbers and the names of refusals on the wire, and which refusal a line that is no command has.
 use Rattle.std.specs.Prelude.{ℕ, List, Option, Some, None, codes}
+use Rattle.dt_lang.specs.Fault.{why_of}
 use Rattle.dt_lang.specs.declared.fault.LangFault.{LangFault}
 use Rattle.dt_lang.specs.declared.fault.LangFault.TheVariants as fault
 use Rattle.dt_life.specs.declared.refusal.Refusal.{Refusal}
@@ -18,8 +19,8 @@ IsNoCommand _ = ⊥
 
 -- for what a text is refused that is no program
 abbrev pub refused_as : LangFault → Option Refusal
-refused_as (fault.Program at why) = Some (Program at why)
-refused_as (fault.Destructive at what) = Some (Destructive at what)
+refused_as (fault.Program at end flaw) = Some (Program at (why_of flaw))
+refused_as (fault.Destructive at end what) = Some (Destructive at what)
 refused_as fault.Memory = None
 
 abbrev pub refusal_number : Refusal → ℕ

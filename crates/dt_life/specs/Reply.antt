@@ -89,8 +89,8 @@ module _ (account : Account) (registry : Registry) (life : List Item) where
   IsVerdictOnCommand (agg name) verdict = verdict ≡ option_map_or (λ _. None) (known name) (Some NoAgg)
   IsVerdictOnCommand (trunc name) verdict = verdict ≡ option_map_or (λ _. None) (known name) (Some NoAgg)
   IsVerdictOnCommand status verdict = verdict ≡ None
-  IsVerdictOnCommand (list None) verdict = verdict ≡ Some (Program 0 Probe)
-  IsVerdictOnCommand (list (Some desc)) verdict = verdict ≡ None
+  IsVerdictOnCommand (list (Err wrong)) verdict = verdict ≡ Some (Program 0 Probe)
+  IsVerdictOnCommand (list (Ok desc)) verdict = verdict ≡ None
   IsVerdictOnCommand (describe epid) verdict = verdict ≡ option_map_or (λ _. None) (ecb_of epid) (Some NoEpid)
   IsVerdictOnCommand close verdict = verdict ≡ None
 
@@ -112,8 +112,8 @@ module _ (account : Account) (registry : Registry) (life : List Item) where
   Accepted (trunc name) answer = answer ≡ done
   Accepted status answer =
       answer ≡ answers.status (phase account registry life) seen_firings all_errors all_aggdrops
-  Accepted (list None) answer = ⊥
-  Accepted (list (Some desc)) answer = answer ≡ listed (matching.listed account registry desc)
+  Accepted (list (Err wrong)) answer = ⊥
+  Accepted (list (Ok desc)) answer = answer ≡ listed (matching.listed account registry desc)
   Accepted (describe epid) answer = MatchOption (ecb_of epid) ⊥
       (λ found. answer ≡ described epid found.0 (layout_of found.1.clause))
   Accepted close answer = answer ≡ done

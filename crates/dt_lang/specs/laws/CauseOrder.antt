@@ -1,12 +1,11 @@
 -- Of the causes that hold, the first is that for which a token is refused: so there is one, where the tests of all
 -- causes are at hand.
-use Rattle.std.proofs.Common.{◌≡◌, ◌≢◌, ◌⊎◌, inl, inr, ℕ, zero, suc, ◌+◌, ◌<◌, List, [], ◌∷◌, Option, Some, None}
+use Rattle.std.proofs.Common.{◌≡◌, ◌≢◌, ◌⊎◌, inl, inr, ℕ, zero, suc, ◌<◌, List, [], ◌∷◌, Option, Some, None}
 use Rattle.std.proofs.Common.{refl, sym, ap, ◌∙◌, subst, arith}
 use Rattle.dt_program.specs.declared.description.DescriptionFault.{DescriptionFault}
 use Rattle.dt_lang.specs.declared.fault.Flaw.{Flaw}
 use Rattle.dt_lang.specs.declared.fault.Flaw.TheVariants.{Syntax, Probe, Action, Variable, TooLong, Range}
 use Rattle.dt_lang.specs.declared.token.Token.{Token}
-use Rattle.dt_lang.specs.declared.token.Token.TheVariants as token
 use Rattle.dt_lang.specs.Refused.{Cause, because, destroys, rank, CauseHolds, Refused}
 use Rattle.dt_lang.specs.machine.Cause.{first_of}
 use Rattle.dt_lang.specs.laws.ClauseSound.{none_some, same_some}

@@ -14,8 +14,8 @@ use Rattle.dt_lang.specs.Stand.{BodyStands, Slot, predicate, traced, exited, key
 use Rattle.dt_lang.specs.Stand.{first_key, a_key}
 use Rattle.dt_lang.specs.Refused.{GoesOn, IsForStatement, IsTooLong, a_clause, a_description, a_statement, a_token}
 use Rattle.dt_lang.specs.Refused as refused
-use Rattle.dt_lang.specs.machine.ClauseState.{PlaceForm, outside, described, listed, guarded, body, called, stack_opened, closing}
-use Rattle.dt_lang.specs.machine.ClauseState.{named, keyed, assigned, applied, within, bounding, negating, bounded}
+use Rattle.dt_lang.specs.machine.ClauseState.{PlaceForm, outside, described, listed, body}
+use Rattle.dt_lang.specs.machine.ClauseState.{within}
 use Rattle.dt_lang.specs.machine.ClauseState.{ProgramState, program_at, headed, step, run, program_start}
 use Rattle.dt_lang.specs.declared.fault.Limit.{Limit}
 use Rattle.dt_lang.specs.declared.fault.Limit.TheVariants as limits

@@ -291,8 +291,8 @@ module _ (account : Account) (name : List ℕ) (registry : Registry) where
     verdict_too (trunc word) verdict h =
         h ∙ ap (λ s. option_map_or (λ _. None) (aggregation_of (shapes_in s) word) (Some refusal.NoAgg)) (set_up_alike life)
     verdict_too status verdict h = h
-    verdict_too (list None) verdict h = h
-    verdict_too (list (Some desc)) verdict h = h
+    verdict_too (list (Err wrong)) verdict h = h
+    verdict_too (list (Ok desc)) verdict h = h
     verdict_too (describe epid) verdict h =
         h ∙ ap (λ found. option_map_or (λ _. None) found (Some refusal.NoEpid)) (found_alike epid)
     verdict_too close verdict h = h
@@ -332,8 +332,8 @@ module _ (account : Account) (name : List ℕ) (registry : Registry) where
         all_errors_alike
         ∙ ap (λ each. status_answer (phase_of now) (seen_count now.since) (all_errors account registry life) each)
         all_aggdrops_alike
-    accepted_too (list None) answer h = h
-    accepted_too (list (Some desc)) answer h =
+    accepted_too (list (Err wrong)) answer h = h
+    accepted_too (list (Ok desc)) answer h =
         h ∙ ap (λ listing. listed_answer (listing desc)) (listed_alike account name registry)
     accepted_too (describe epid) answer h =
         subst (λ found. MatchOption found ⊥
