@@ -25,7 +25,7 @@ use Rattle.dt_lang.specs.machine.ClauseState.{from_outside, from_described, from
 use Rattle.dt_lang.specs.machine.ClauseState.{after_call, from_called, stack_of, from_stack_opened, from_closing, from_named, from_keyed}
 use Rattle.dt_lang.specs.machine.ClauseState.{from_assigned, function_given, from_applied, shut_predicate, shut_traced}
 use Rattle.dt_lang.specs.machine.ClauseState.{shut_exited, shut_key, shut_levels, shut_value, shut, go_on, from_within}
-use Rattle.dt_lang.specs.machine.ClauseState.{from_bounding, from_negating, from_bounded, program_step_from, step}
+use Rattle.dt_lang.specs.machine.ClauseState.{from_bounding, from_negating, from_bounded, program_step_from, program_step}
 use Rattle.dt_lang.specs.declared.fault.Limit.{Limit}
 use Rattle.dt_lang.specs.declared.fault.Limit.TheVariants as limits
 use Rattle.dt_lang.specs.machine.Cause.{is_one_more, limit_within, too_long_at}
@@ -322,6 +322,6 @@ module _ (cs : List ClauseForm) (c : ClauseForm) where
 
 -- What isn't one too many leaves the lists of the state within the limits.
 pub fits_step : (s next : ProgramState) (t : Token) → Fits s → too_long_at s.clauses s.clause s.place t ≡ None
-    → step s t ≡ Some next → Fits next
-unfolding step
+    → program_step s t ≡ Some next → Fits next
+unfolding program_step
 fits_step s next t h l e = fits_from s.clauses s.clause s.place t next h l e

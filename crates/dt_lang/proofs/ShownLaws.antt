@@ -17,10 +17,10 @@ use Rattle.dt_lang.specs.machine.ExpressionState as expression
 use Rattle.dt_lang.specs.Grammar.{before_statement}
 use Rattle.dt_program.specs.Clause.{ArgForm, ClauseForm}
 use Rattle.dt_lang.specs.Refused.{Cause, because}
-use Rattle.dt_lang.specs.machine.ClauseState.{PlaceForm, body, assigned, within, ProgramState, program_step_from, step}
+use Rattle.dt_lang.specs.machine.ClauseState.{PlaceForm, body, assigned, within, ProgramState, program_step_from, program_step}
 use Rattle.dt_lang.specs.machine.Cause.{is_word, names_no_variable, too_long_at, out_of_range_at, where_true, destructive_cause}
 use Rattle.dt_lang.specs.machine.Cause.{probe_cause, action_cause, variable_cause, range_cause, syntax_cause, first_of, cause_of}
-use Rattle.dt_lang.specs.machine.ShownCause.{cause_of_refusal, shown_elsewhere, shown_within, shown_at, Outcome, AnswersToken}
+use Rattle.dt_lang.specs.machine.ShownCause.{cause_of_refusal, shown_elsewhere, shown_within, shown_at, ShownOutcome, AnswersToken}
 use Rattle.dt_lang.specs.machine.Fits.{Fits}
 use Rattle.dt_lang.specs.laws.ClauseSound.{none_some}
 use Rattle.dt_lang.proofs.FitsLaws.{fits_step}
@@ -98,13 +98,13 @@ late range next = first_of (range_cause range ∷ syntax_cause next ∷ [])
 
 module _ (s : ProgramState) (t : Token) (short : too_long_at s.clauses s.clause s.place t ≡ None) where
   cause_shown : (cause : Cause) → shown_at s.place t ≡ Some cause → cause_of s t ≡ Some cause
-  unfolding cause_of step
+  unfolding cause_of program_step
   cause_shown cause e =
       rw short (first_shown (ShownTests s.place t (program_step_from s.clauses s.clause s.place t)) _ cause
       (sym (shown_is s.clauses s.clause s.place t) ∙ e))
 
-  cause_late : shown_at s.place t ≡ None → cause_of s t ≡ late (out_of_range_at s.place t) (step s t)
-  unfolding cause_of step late
+  cause_late : shown_at s.place t ≡ None → cause_of s t ≡ late (out_of_range_at s.place t) (program_step s t)
+  unfolding cause_of program_step late
   cause_late e =
       rw short (first_late (ShownTests s.place t (program_step_from s.clauses s.clause s.place t)) _
       (sym (shown_is s.clauses s.clause s.place t) ∙ e))
@@ -115,17 +115,17 @@ module _ (s : ProgramState) (t : Token) (short : too_long_at s.clauses s.clause 
   answers_shown r new e = cause_shown (cause_of_refusal r) e
 
   late_is : (range : Option BoundsFault) (next : Option ProgramState) → out_of_range_at s.place t ≡ range
-      → step s t ≡ next → shown_at s.place t ≡ None → cause_of s t ≡ late range next
+      → program_step s t ≡ next → shown_at s.place t ≡ None → cause_of s t ≡ late range next
   late_is range next r k e = cause_late e ∙ rw (r, k) refl
 
   -- what comes of any other says the cause
   pub answers_late : (found : Option Flaw) (new : ProgramState) → Fits s → shown_at s.place t ≡ None
-      → Outcome (step s t) (out_of_range_at s.place t) found new → AnswersToken s t (option_map refusal.Flaw found) new
+      → ShownOutcome (program_step s t) (out_of_range_at s.place t) found new → AnswersToken s t (option_map refusal.Flaw found) new
   unfolding late
   answers_late None new f e o =
       (late_is None (Some new) o.1 o.0 e, o.0, fits_step s new t f short o.0)
   answers_late (Some flaw.Syntax) new f e o = late_is None None o.1 o.0 e
-  answers_late (Some (flaw.Range fault)) new f e o = late_is (Some fault) (step s t) o refl e
+  answers_late (Some (flaw.Range fault)) new f e o = late_is (Some fault) (program_step s t) o refl e
   answers_late (Some (flaw.Probe fault)) new f e o = absurd o
   answers_late (Some flaw.Action) new f e o = absurd o
   answers_late (Some flaw.Variable) new f e o = absurd o
@@ -148,15 +148,15 @@ module _ (s middle : ProgramState) (t : Token) (short : too_long_at s.clauses s.
       answers_shown s t short r new (sym i ∙ sym h)
 
   pub push_late : (found : Option Flaw) (new : ProgramState) → Fits s → None ≡ shown_at middle.place t
-      → Outcome (step middle t) (out_of_range_at middle.place t) found new
+      → ShownOutcome (program_step middle t) (out_of_range_at middle.place t) found new
       → AnswersToken s t (option_map refusal.Flaw found) new
   push_late found new f h o =
       let i : shown_at middle.place t ≡ shown_at s.place t = ap (λ (x : ProgramState). shown_at x.place t) same in
-      let o2 : Outcome (step s t) (out_of_range_at s.place t) found new =
-      subst (λ (x : ProgramState). Outcome (step x t) (out_of_range_at x.place t) found new) same o in
+      let o2 : ShownOutcome (program_step s t) (out_of_range_at s.place t) found new =
+      subst (λ (x : ProgramState). ShownOutcome (program_step x t) (out_of_range_at x.place t) found new) same o in
       answers_late s t short found new f (sym i ∙ sym h) o2
 
 -- an outcome of what was answered
 pub outcome_is : (next : Option ProgramState) (range : Option BoundsFault) (v w : Option Flaw) (new : ProgramState)
-    → v ≡ w → Outcome next range v new → Outcome next range w new
-outcome_is next range v w new e o = subst (λ (x : Option Flaw). Outcome next range x new) e o
+    → v ≡ w → ShownOutcome next range v new → ShownOutcome next range w new
+outcome_is next range v w new e o = subst (λ (x : Option Flaw). ShownOutcome next range x new) e o

@@ -1,9 +1,9 @@
 //! The reader of programs: a token at a time.
 ghost use Rattle.std.specs.Prelude.{◌≡◌, ◌≤◌, ◌<◌, IfOk, None, Some, false, if◌then◌else◌, not, option_map, length, List, [], ◌∷◌, ◌++◌, vec_len};
 ghost use Rattle.dt_expr.specs.Form.{form_of};
-ghost use Rattle.dt_lang.specs.machine.ClauseState.{ProgramState, step, body, bounded, bounding, from_bounded, ended, entered, finished, from_applied, from_assigned, from_before_statement, from_bounding, from_called, from_closing, from_described, from_after_statement, from_stack_opened, from_guarded, from_keyed, from_listed, from_named, from_negating, from_outside, function_given, headed, after_call, outside, shut, shut_key, shut_predicate, shut_value, program_at, program_start, from_within};
+ghost use Rattle.dt_lang.specs.machine.ClauseState.{ProgramState, program_step, body, bounded, bounding, from_bounded, ended, entered, finished, from_applied, from_assigned, from_before_statement, from_bounding, from_called, from_closing, from_described, from_after_statement, from_stack_opened, from_guarded, from_keyed, from_listed, from_named, from_negating, from_outside, function_given, headed, after_call, outside, shut, shut_key, shut_predicate, shut_value, program_at, program_start, from_within};
 ghost use Rattle.dt_lang.specs.machine.Cause.{out_of_range_at, is_one_more, too_long_at};
-ghost use Rattle.dt_lang.specs.machine.ShownCause.{AnswersToken, Outcome, cause_of_refusal, shown_at};
+ghost use Rattle.dt_lang.specs.machine.ShownCause.{AnswersToken, ShownOutcome, cause_of_refusal, shown_at};
 ghost use Rattle.dt_lang.specs.machine.Fits.{Fits, FitsClause, FitsWithin, SlotHasRoom};
 ghost use Rattle.dt_lang.specs.machine.ExpressionView.{state_of};
 ghost use Rattle.dt_lang.specs.machine.PlaceView.{bound_of, key_forms, place_form, slot_form};
@@ -517,7 +517,7 @@ impl ProgramReader {
     ) -> Result<Option<Flaw>, AllocError>
         requires { vec_len levels.target.keys ≤ KEYS_MAX }
         // goes on, or is refused: for Range where bounds of an `lquantize` make no levels, else Syntax
-        ensures { IfOk result (λ flaw. Outcome
+        ensures { IfOk result (λ flaw. ShownOutcome
             (from_bounded (clauses_of self.old) (clause_of self.old) levels.target.name (key_forms levels.target)
             (form_of levels.value) (bound_of levels.bound) last token.now)
             (out_of_range_at (bounded levels.target.name (key_forms levels.target) (form_of levels.value)
@@ -569,7 +569,7 @@ impl ProgramReader {
         step: i64,
     ) -> Result<Option<Flaw>, AllocError>
         requires { vec_len target.keys ≤ KEYS_MAX }
-        ensures { IfOk result (λ flaw. Outcome
+        ensures { IfOk result (λ flaw. ShownOutcome
             (Some (ended (clauses_of self.old) (clause_of self.old)
             (aggregate target.name (key_forms target) (lquantize (form_of value) lower upper step))))
             (bounds_fault lower upper step) flaw (program_state_of self.new)) }
@@ -639,10 +639,10 @@ impl ProgramReader {
     }
 
     /// Reads a token that is not one too many and shows no cause at its place; or says why it is refused.
-    #[tactic(auto, unfolding(crate::specs::machine::ClauseState::step))]
+    #[tactic(auto, unfolding(crate::specs::machine::ClauseState::program_step))]
     fn step(&mut self, alloc: Global, token: Token) -> Result<Option<Flaw>, AllocError>
         requires { Fits (program_state_of self.old) }
-        ensures { IfOk result (λ flaw. Outcome (step (program_state_of self.old) token)
+        ensures { IfOk result (λ flaw. ShownOutcome (program_step (program_state_of self.old) token)
             (out_of_range_at (place_form (state_of self.old.expression) self.old.place) token) flaw
             (program_state_of self.new)) }
     {

@@ -28,7 +28,7 @@ use Rattle.dt_lang.specs.Refused.{Cause, because, destroys, rank, StatementBegin
 use Rattle.dt_lang.specs.Refused.{IsNoAction, VariableStands, a_number, a_text, NamesNoVariable, IsNoVariable}
 use Rattle.dt_lang.specs.Refused.{CauseHolds, Refused}
 use Rattle.dt_lang.specs.machine.ClauseState.{PlaceForm, body, assigned, within, bounded, at_lower, at_upper, at_step}
-use Rattle.dt_lang.specs.machine.ClauseState.{ProgramState, program_at, shut, go_on, from_within, program_step_from, step, run}
+use Rattle.dt_lang.specs.machine.ClauseState.{ProgramState, program_at, shut, go_on, from_within, program_step_from, program_step, program_run}
 use Rattle.dt_lang.specs.machine.ClauseState.{program_start}
 use Rattle.dt_lang.specs.machine.Cause.{too_long_at, out_of_range_at, is_word, names_no_variable, destructive_of}
 use Rattle.dt_lang.specs.machine.Cause.{description_fault, statement_at, name_may_stand, operand_at, destroys_at, cause_of}
@@ -124,21 +124,21 @@ text_place cs c _ next h = absurd (none_some h)
 -- what steps from places
 statement_steps : (cs : List ClauseForm) (c : ClauseForm) (p : PlaceForm) → statement_at p ≡ true
     → Steps (program_at cs c p) (token.Word (word.Action action.Trace))
-unfolding step
+unfolding program_step
 statement_steps cs c (body before_statement) e = record { next = _; steps = refl }
 statement_steps cs c _ e = cc
 
 name_steps : (cs : List ClauseForm) (c : ClauseForm) (p : PlaceForm) → name_may_stand p ≡ true
     → Steps (program_at cs c p) (token.Word (word.Action action.Trace))
     ⊎ Steps (program_at cs c p) (token.Word (word.Function function.Count))
-unfolding step
+unfolding program_step
 name_steps cs c (body before_statement) e = inl (record { next = _; steps = refl })
 name_steps cs c (assigned name keys) e = inr (record { next = _; steps = refl })
 name_steps cs c _ e = cc
 
 within_steps : (cs : List ClauseForm) (c : ClauseForm) (slot : Slot) (n : ℕ) (e next : expression.State) (t : Token)
     → expression.step e t ≡ Some next → Steps (program_at cs c (within slot n e)) t
-unfolding step
+unfolding program_step
 within_steps cs c slot n e next t h = record { next = program_at cs c (within slot (n + 1) next); steps = rw h refl }
 
 operand_steps : (cs : List ClauseForm) (c : ClauseForm) (p : PlaceForm) → operand_at p ≡ true
@@ -150,9 +150,9 @@ operand_steps cs c (within slot n e) h = elim (operand_goes_on e h) [
 ]
 operand_steps cs c _ h = cc
 
-module _ (ts : List Token) (t : Token) (s : ProgramState) (h : run program_start ts ≡ Some s) where
+module _ (ts : List Token) (t : Token) (s : ProgramState) (h : program_run program_start ts ≡ Some s) where
   statement_where : StatementBegins ts → statement_at s.place ≡ true
-  unfolding step
+  unfolding program_step
   statement_where b =
       let k = goes_on ts s _ h b in statement_place s.clauses s.clause s.place k.next k.steps
 
@@ -160,7 +160,7 @@ module _ (ts : List Token) (t : Token) (s : ProgramState) (h : run program_start
   statement_there e = begins_on ts s _ h (statement_steps s.clauses s.clause s.place e)
 
   name_where : NameStands ts → name_may_stand s.place ≡ true
-  unfolding step
+  unfolding program_step
   name_where (a_statement b) = let k =
       goes_on ts s _ h b in from_statement s.place (statement_place s.clauses s.clause s.place k.next k.steps)
     where
@@ -177,7 +177,7 @@ module _ (ts : List Token) (t : Token) (s : ProgramState) (h : run program_start
   ]
 
   operand_where : VariableStands ts → operand_at s.place ≡ true
-  unfolding step
+  unfolding program_step
   operand_where (a_number b) =
       let k = goes_on ts s _ h b in number_place s.clauses s.clause s.place k.next k.steps
   operand_where (a_text b) = let k = goes_on ts s _ h b in text_place s.clauses s.clause s.place k.next k.steps
@@ -188,14 +188,14 @@ module _ (ts : List Token) (t : Token) (s : ProgramState) (h : run program_start
     | inr k ↦ a_text (begins_on ts s _ h k)
   ]
 
-  syntax_decides : Decides (not (is_some (step s t))) (Begins (ts ++ (t ∷ [])) → ⊥)
-  syntax_decides = (λ e b. go (step s t) (goes_on ts s t h b) e, λ n. back (step s t) refl n)
+  syntax_decides : Decides (not (is_some (program_step s t))) (Begins (ts ++ (t ∷ [])) → ⊥)
+  syntax_decides = (λ e b. go (program_step s t) (goes_on ts s t h b) e, λ n. back (program_step s t) refl n)
     where
-      go : (o : Option ProgramState) → Steps s t → not (is_some (step s t)) ≡ true → ⊥
-      go o k e = let i : not (is_some (step s t)) ≡ false =
+      go : (o : Option ProgramState) → Steps s t → not (is_some (program_step s t)) ≡ true → ⊥
+      go o k e = let i : not (is_some (program_step s t)) ≡ false =
           ap (λ (x : Option ProgramState). not (is_some x)) k.steps in cc
 
-      back : (o : Option ProgramState) → step s t ≡ o → (Begins (ts ++ (t ∷ [])) → ⊥) → not (is_some o) ≡ true
+      back : (o : Option ProgramState) → program_step s t ≡ o → (Begins (ts ++ (t ∷ [])) → ⊥) → not (is_some o) ≡ true
       back None k n = refl
       back (Some next) k n = absurd (n (begins_on ts s t h (record { next = next; steps = k })))
 
@@ -276,8 +276,8 @@ false_of_not : (b : Bool) → not b ≡ true → b ≡ true → ⊥
 false_of_not true e k = cc
 false_of_not false e k = cc
 
-module _ (ts : List Token) (t : Token) (s : ProgramState) (h : run program_start ts ≡ Some s) where
-  action_is : is_word t && (name_may_stand s.place && not (is_some (step s t))) ≡ true → IsNoAction ts t
+module _ (ts : List Token) (t : Token) (s : ProgramState) (h : program_run program_start ts ≡ Some s) where
+  action_is : is_word t && (name_may_stand s.place && not (is_some (program_step s t))) ≡ true → IsNoAction ts t
   action_is e =
       let w = is_word_is t (both_left _ _ e) in
       let k = both_right (is_word t) _ e in
@@ -288,7 +288,7 @@ module _ (ts : List Token) (t : Token) (s : ProgramState) (h : run program_start
         unfit = (syntax_decides ts t s h).0 (both_right (name_may_stand s.place) _ k);
       }
 
-  action_true : IsNoAction ts t → is_word t && (name_may_stand s.place && not (is_some (step s t))) ≡ true
+  action_true : IsNoAction ts t → is_word t && (name_may_stand s.place && not (is_some (program_step s t))) ≡ true
   action_true k =
       let a = is_word_true t k.word k.is_word in
       let b = name_where ts t s h k.stands in
@@ -339,12 +339,12 @@ module _ (ts : List Token) (t : Token) (s : ProgramState) (h : run program_start
       only (because (Probe fault)) r k = ap (λ x. option_map (λ fault. because (Probe fault)) (description_fault x)) k
       only _ r k = absurd (omega arith)
 
-  tells_action : Tells ts t 3 (action_cause s.place t (step s t))
-  tells_action = told_where ts t (because Action) refl (is_word t && (name_may_stand s.place && not (is_some (step s t))))
+  tells_action : Tells ts t 3 (action_cause s.place t (program_step s t))
+  tells_action = told_where ts t (because Action) refl (is_word t && (name_may_stand s.place && not (is_some (program_step s t))))
       action_is only
     where
       only : (cause : Cause) → rank cause ≡ 3 → CauseHolds ts t cause
-          → action_cause s.place t (step s t) ≡ Some cause
+          → action_cause s.place t (program_step s t) ≡ Some cause
       only (because Action) r k = ap (λ b. where_true b (because Action)) (action_true k)
       only _ r k = absurd (omega arith)
 
@@ -365,16 +365,16 @@ module _ (ts : List Token) (t : Token) (s : ProgramState) (h : run program_start
           ap (option_map (λ fault. because (Range fault))) (out_of_range_true ts t s h fault k)
       only _ r k = absurd (omega arith)
 
-  tells_syntax : Tells ts t 6 (syntax_cause (step s t))
-  tells_syntax = told_where ts t (because Syntax) refl (not (is_some (step s t))) (syntax_decides ts t s h).0 only
+  tells_syntax : Tells ts t 6 (syntax_cause (program_step s t))
+  tells_syntax = told_where ts t (because Syntax) refl (not (is_some (program_step s t))) (syntax_decides ts t s h).0 only
     where
-      only : (cause : Cause) → rank cause ≡ 6 → CauseHolds ts t cause → syntax_cause (step s t) ≡ Some cause
+      only : (cause : Cause) → rank cause ≡ 6 → CauseHolds ts t cause → syntax_cause (program_step s t) ≡ Some cause
       only (because Syntax) r k = ap (λ b. where_true b (because Syntax)) ((syntax_decides ts t s h).1 k)
       only _ r k = absurd (omega arith)
 
   tests : Tests ts t 0 (too_long_cause s.clauses s.clause s.place t ∷ destructive_cause s.place t ∷ probe_cause t
-      ∷ action_cause s.place t (step s t) ∷ variable_cause s.place t ∷ range_cause (out_of_range_at s.place t)
-      ∷ syntax_cause (step s t) ∷ [])
+      ∷ action_cause s.place t (program_step s t) ∷ variable_cause s.place t ∷ range_cause (out_of_range_at s.place t)
+      ∷ syntax_cause (program_step s t) ∷ [])
   tests = test 0 _ _ tells_too_long (test 1 _ _ tells_destructive (test 2 _ _ tells_probe (test 3 _ _ tells_action
       (test 4 _ _ tells_variable (test 5 _ _ tells_range (test 6 _ _ tells_syntax done))))))
 
@@ -388,9 +388,9 @@ module _ (ts : List Token) (t : Token) (s : ProgramState) (h : run program_start
 
   -- what is not refused leads on
   pub unrefused_steps : cause_of s t ≡ None → Steps s t
-  unrefused_steps e = go (step s t) refl
+  unrefused_steps e = go (program_step s t) refl
     where
-      go : (o : Option ProgramState) → step s t ≡ o → Steps s t
+      go : (o : Option ProgramState) → program_step s t ≡ o → Steps s t
       go None k = absurd (unrefused e (because Syntax)
           ((syntax_decides ts t s h).0 (ap (λ (x : Option ProgramState). not (is_some x)) k)))
       go (Some next) k = record { next = next; steps = k }

@@ -24,57 +24,57 @@ use Rattle.dt_lang.specs.Stand.{value, divides_in, SlotOpens}
 use Rattle.dt_lang.specs.Stand as stand
 use Rattle.dt_lang.specs.machine.ClauseState.{BoundForm, at_lower, at_upper, at_step, outside, described, body, keyed, assigned}
 use Rattle.dt_lang.specs.machine.ClauseState.{within, bounding, bounded, ProgramState, program_at, headed, ended, entered}
-use Rattle.dt_lang.specs.machine.ClauseState.{function_given, shut, step, run, program_start, whole, finished}
+use Rattle.dt_lang.specs.machine.ClauseState.{function_given, shut, program_step, program_run, program_start, whole, finished}
 use Rattle.dt_lang.specs.laws.ExpressionLaws.{complete, complete_argument}
 use Rattle.dt_lang.specs.laws.ExpressionLaws as laws
 use Rattle.dt_lang.specs.laws.Reading.{split_last, split_two}
 
-pub run-append : (ts us : List Token) (s : ProgramState) → run s (ts ++ us)
-    ≡ option_and_then (λ next. run next us) (run s ts)
-unfolding run
+pub run-append : (ts us : List Token) (s : ProgramState) → program_run s (ts ++ us)
+    ≡ option_and_then (λ next. program_run next us) (program_run s ts)
+unfolding program_run
 run-append [] us s = refl
-run-append (t ∷ ts) us s = go (step s t) (λ next. run-append ts us next)
+run-append (t ∷ ts) us s = go (program_step s t) (λ next. run-append ts us next)
   where
     go : (o : Option ProgramState)
-        → ((next : ProgramState) → run next (ts ++ us) ≡ option_and_then (λ m. run m us) (run next ts))
-        → option_and_then (λ next. run next (ts ++ us)) o
-        ≡ option_and_then (λ next. run next us) (option_and_then (λ next. run next ts) o)
+        → ((next : ProgramState) → program_run next (ts ++ us) ≡ option_and_then (λ m. program_run m us) (program_run next ts))
+        → option_and_then (λ next. program_run next (ts ++ us)) o
+        ≡ option_and_then (λ next. program_run next us) (option_and_then (λ next. program_run next ts) o)
     go None again = refl
     go (Some next) again = again next
 
 -- some tokens, and then others
-pub run_on : (s middle last : ProgramState) (ts us : List Token) → run s ts ≡ Some middle → run middle us ≡ Some last
-    → run s (ts ++ us) ≡ Some last
+pub run_on : (s middle last : ProgramState) (ts us : List Token) → program_run s ts ≡ Some middle → program_run middle us ≡ Some last
+    → program_run s (ts ++ us) ≡ Some last
 run_on s middle last ts us h k = run-append ts us s ∙ rw h k
 
 -- the rest is read where the first tokens lead
-pub run_over : (s middle : ProgramState) (ts us : List Token) → run s ts ≡ Some middle → run s (ts ++ us)
-    ≡ run middle us
+pub run_over : (s middle : ProgramState) (ts us : List Token) → program_run s ts ≡ Some middle → program_run s (ts ++ us)
+    ≡ program_run middle us
 run_over s middle ts us h = run-append ts us s ∙ rw h refl
 
 -- one more token
-pub run_step : (s middle last : ProgramState) (ts : List Token) (t : Token) → run s ts ≡ Some middle
-    → step middle t ≡ Some last → run s (ts ++ (t ∷ [])) ≡ Some last
-unfolding run
+pub run_step : (s middle last : ProgramState) (ts : List Token) (t : Token) → program_run s ts ≡ Some middle
+    → program_step middle t ≡ Some last → program_run s (ts ++ (t ∷ [])) ≡ Some last
+unfolding program_run
 run_step s middle last ts t h k = run_over s middle ts (t ∷ []) h ∙ rw k refl
 
 pub step_within : (cs : List ClauseForm) (c : ClauseForm) (slot : Slot) (n : ℕ) (e next : expression.State) (t : Token)
     → expression.step e t ≡ Some next
-    → step (program_at cs c (within slot n e)) t ≡ Some (program_at cs c (within slot (n + 1) next))
-unfolding step
+    → program_step (program_at cs c (within slot n e)) t ≡ Some (program_at cs c (within slot (n + 1) next))
+unfolding program_step
 step_within cs c slot n e next t h = rw h refl
 
 pub step_shut : (cs : List ClauseForm) (c : ClauseForm) (slot : Slot) (n : ℕ) (e : expression.State) (a : ArgForm)
     (t : Token) → expression.step e t ≡ None → expression.done e ≡ Some a
-    → step (program_at cs c (within slot n e)) t ≡ shut cs c slot t a
-unfolding step
+    → program_step (program_at cs c (within slot n e)) t ≡ shut cs c slot t a
+unfolding program_step
 step_shut cs c slot n e a t h d = rw (h, d) refl
 
 -- what is read for a slot
 pub run_within : (cs : List ClauseForm) (c : ClauseForm) (slot : Slot) (ts : List Token) (n : ℕ)
     (e next : expression.State) → expression.run e ts ≡ Some next
-    → run (program_at cs c (within slot n e)) ts ≡ Some (program_at cs c (within slot (n + length ts) next))
-unfolding run expression.run
+    → program_run (program_at cs c (within slot n e)) ts ≡ Some (program_at cs c (within slot (n + length ts) next))
+unfolding program_run expression.run
 run_within cs c slot [] n e next h =
     let k : e ≡ next = cc in
     rw (k, add-zero n) refl
@@ -84,9 +84,9 @@ run_within cs c slot (t ∷ ts) n e next h =
     go : (o : Option expression.State) → expression.step e t ≡ o
         → option_and_then (λ m. expression.run m ts) o ≡ Some next
         → ((m : expression.State) → expression.run m ts ≡ Some next
-        → run (program_at cs c (within slot (n + 1) m)) ts
+        → program_run (program_at cs c (within slot (n + 1) m)) ts
         ≡ Some (program_at cs c (within slot ((n + 1) + length ts) next)))
-        → run (program_at cs c (within slot n e)) (t ∷ ts)
+        → program_run (program_at cs c (within slot n e)) (t ∷ ts)
         ≡ Some (program_at cs c (within slot (n + length (t ∷ ts)) next))
     go (Some m) k r again =
         let i : (n + 1) + length ts ≡ n + suc (length ts) = omega arith in
@@ -97,8 +97,8 @@ run_within cs c slot (t ∷ ts) n e next h =
 -- what is read for a slot, with the token that ends it
 pub slot_over : (cs : List ClauseForm) (c : ClauseForm) (slot : Slot) (ts us : List Token) (a : ArgForm) (t : Token)
     (next : ProgramState) → IsRead (divides_in slot) ts a → ends_argument (divides_in slot) t ≡ true
-    → shut cs c slot t a ≡ Some next → run (entered cs c slot) (ts ++ (t ∷ us)) ≡ run next us
-unfolding run
+    → shut cs c slot t a ≡ Some next → program_run (entered cs c slot) (ts ++ (t ∷ us)) ≡ program_run next us
+unfolding program_run
 slot_over cs c slot ts us a t next h k e =
     let i = laws.ends (divides_in slot) ts h.at a t h.runs h.is_done k in
     let j = run_within cs c slot ts 0 (expression.start (divides_in slot)) h.at h.runs in
@@ -120,17 +120,17 @@ given_value cs c name keys function.Lquantize f call h = refl
 
 pub constant_over : (cs : List ClauseForm) (c : ClauseForm) (name : List ℕ) (keys : List ArgForm) (f : Form)
     (b : BoundForm) (ts us : List Token) (z : ℤ) → ReadsConstant ts z
-    → run (program_at cs c (bounding name keys f b)) (ts ++ us) ≡ run (program_at cs c (bounded name keys f b z)) us
-unfolding run step
+    → program_run (program_at cs c (bounding name keys f b)) (ts ++ us) ≡ program_run (program_at cs c (bounded name keys f b z)) us
+unfolding program_run program_step
 constant_over cs c name keys f b _ us _ (plain n) = refl
 constant_over cs c name keys f b _ us _ (negative n) = refl
 
 -- bounds and the `)` behind them, where an `lquantize`'s value was read
 bounds_lead : (cs : List ClauseForm) (c : ClauseForm) (name : List ℕ) (keys : List ArgForm) (f : Form)
     (ts us : List Token) (lower upper by : ℤ) → IsRead true ts (number f) → ReadsBounds us lower upper by
-    → run (entered cs c (value name keys function.Lquantize)) (ts ++ (us ++ (token.Sign sign.CloseParen ∷ [])))
+    → program_run (entered cs c (value name keys function.Lquantize)) (ts ++ (us ++ (token.Sign sign.CloseParen ∷ [])))
     ≡ Some (ended cs c (aggregate name keys (lquantize f lower upper by)))
-unfolding run step
+unfolding program_run program_step
 bounds_lead cs c name keys f ts _ _ _ _ r (by_one vs ws lower upper h k) =
     rw append_assoc
     (slot_over cs c (value name keys function.Lquantize) ts _ (number f) (token.Sign sign.Comma) _ r refl refl
@@ -140,15 +140,15 @@ bounds_lead cs c name keys f ts _ _ _ _ r (stepped vs ws xs lower upper by h k l
     rw append_assoc
     (slot_over cs c (value name keys function.Lquantize) ts _ (number f) (token.Sign sign.Comma) _ r refl refl
     ∙ constant_over cs c name keys f at_lower vs _ lower h
-    ∙ ap (λ (x : List Token). run (program_at cs c (bounding name keys f (at_upper lower))) x)
+    ∙ ap (λ (x : List Token). program_run (program_at cs c (bounding name keys f (at_upper lower))) x)
     (append_assoc ws (token.Sign sign.Comma ∷ xs) (token.Sign sign.CloseParen ∷ []))
     ∙ constant_over cs c name keys f (at_upper lower) ws _ upper k
     ∙ constant_over cs c name keys f (at_step lower upper) xs _ by l)
 
 call_leads : (cs : List ClauseForm) (c : ClauseForm) (name : List ℕ) (keys : List ArgForm) (ts : List Token)
     (call : CallForm) → ReadsCall ts call
-    → run (program_at cs c (assigned name keys)) ts ≡ Some (ended cs c (aggregate name keys call))
-unfolding run step
+    → program_run (program_at cs c (assigned name keys)) ts ≡ Some (ended cs c (aggregate name keys call))
+unfolding program_run program_step
 call_leads cs c name keys _ _ counting = refl
 call_leads cs c name keys _ _ (of_one fn ts f call m h) =
     rw (given_value cs c name keys fn f call m)
@@ -166,13 +166,13 @@ pub record KeysLead (cs : List ClauseForm) (c : ClauseForm) (name : List ℕ) (t
   pub tokens : List Token
   pub read : IsRead true tokens last
   pub count : ℕ
-  pub runs : run (entered cs c (key name [])) ts ≡ Some (program_at cs c (within (key name before) count read.at))
+  pub runs : program_run (entered cs c (key name [])) ts ≡ Some (program_at cs c (within (key name before) count read.at))
 
 -- behind keys a `,` or a `]` leads on
 pub key_ends : (cs : List ClauseForm) (c : ClauseForm) (name : List ℕ) (ts : List Token) (keys : List ArgForm)
     (t : Token) (next : ProgramState) (h : KeysLead cs c name ts keys) → ends_argument true t ≡ true
     → shut cs c (key name h.before) t h.last ≡ Some next
-    → run (entered cs c (key name [])) (ts ++ (t ∷ [])) ≡ Some next
+    → program_run (entered cs c (key name [])) (ts ++ (t ∷ [])) ≡ Some next
 key_ends cs c name ts keys t next h k e =
     let i = laws.ends true h.tokens h.read.at h.last t h.read.runs h.read.is_done k in
     run_step _ _ next ts t h.runs (step_shut cs c (key name h.before) h.count h.read.at h.last t i h.read.is_done ∙ e)
@@ -193,11 +193,11 @@ keys_lead cs c name _ _ (a_key ts a h) =
 keys_lead cs c name _ _ (grammar.another ts us keys a h k) =
     let l = keys_lead cs c name ts keys h in
     let r = complete_argument us a k in
-    let first : run (entered cs c (key name [])) (ts ++ (token.Sign sign.Comma ∷ []))
+    let first : program_run (entered cs c (key name [])) (ts ++ (token.Sign sign.Comma ∷ []))
     ≡ Some (entered cs c (key name keys))
     = key_ends cs c name ts keys (token.Sign sign.Comma) _ l refl
     (ap (λ (x : List ArgForm). Some (entered cs c (key name x))) (sym l.keys_are)) in
-    let all : run (entered cs c (key name [])) ((ts ++ (token.Sign sign.Comma ∷ [])) ++ us)
+    let all : program_run (entered cs c (key name [])) ((ts ++ (token.Sign sign.Comma ∷ [])) ++ us)
     ≡ Some (program_at cs c (within (key name keys) (0 + length us) r.at))
     = run_on _ _ _ (ts ++ (token.Sign sign.Comma ∷ [])) us first
     (run_within cs c (key name keys) us 0 _ r.at r.runs) in
@@ -214,9 +214,9 @@ keys_lead cs c name _ _ (grammar.another ts us keys a h k) =
 -- an aggregation with its keys, and `=`
 target_over : (cs : List ClauseForm) (c : ClauseForm) (name : List ℕ) (keys : List ArgForm) (ts us : List Token)
     → ReadsTarget ts name keys
-    → run (program_at cs c (body before_statement)) (ts ++ (token.Sign sign.Equal ∷ us))
-    ≡ run (program_at cs c (assigned name keys)) us
-unfolding run step
+    → program_run (program_at cs c (body before_statement)) (ts ++ (token.Sign sign.Equal ∷ us))
+    ≡ program_run (program_at cs c (assigned name keys)) us
+unfolding program_run program_step
 target_over cs c _ _ _ us (bare name) = refl
 target_over cs c _ _ _ us (grammar.keyed name ts keys h) =
     let l = keys_lead cs c name ts keys h in
@@ -227,8 +227,8 @@ target_over cs c _ _ _ us (grammar.keyed name ts keys h) =
     (ap (λ (x : List ArgForm). Some (program_at cs c (keyed name x))) (sym l.keys_are)))
 
 statement_leads : (cs : List ClauseForm) (c : ClauseForm) (ts : List Token) (s : StatementForm) → ReadsStatement ts s
-    → run (program_at cs c (body before_statement)) ts ≡ Some (ended cs c s)
-unfolding run step
+    → program_run (program_at cs c (body before_statement)) ts ≡ Some (ended cs c s)
+unfolding program_run program_step
 statement_leads cs c _ _ (tracing ts a h) =
     slot_over cs c traced ts [] a (token.Sign sign.CloseParen) _ (complete_argument ts a h) refl refl
 statement_leads cs c _ _ (of_stack n h) = rw (frames_true n h) refl
@@ -240,15 +240,15 @@ statement_leads cs c _ _ (aggregating ts us name keys call h k) =
 
 -- bodies
 separated_step : (cs : List ClauseForm) (c : ClauseForm) (spot : Spot)
-    → step (program_at cs c (body spot)) (token.Sign sign.Semicolon) ≡ Some (program_at cs c (body before_statement))
-unfolding step
+    → program_step (program_at cs c (body spot)) (token.Sign sign.Semicolon) ≡ Some (program_at cs c (body before_statement))
+unfolding program_step
 separated_step cs c before_statement = refl
 separated_step cs c after_statement = refl
 
 closed_step : (cs : List ClauseForm) (c : ClauseForm) (spot : Spot)
-    → step (program_at cs c (body spot)) (token.Sign sign.CloseBrace)
+    → program_step (program_at cs c (body spot)) (token.Sign sign.CloseBrace)
     ≡ Some (program_at (cs ++ (c ∷ [])) (headed []) outside)
-unfolding step
+unfolding program_step
 closed_step cs c before_statement = refl
 closed_step cs c after_statement = refl
 
@@ -258,8 +258,8 @@ clause_of ds p ss = record { descriptions = ds; predicate = p; statements = ss }
 
 body_leads : (cs : List ClauseForm) (ds : List DescForm) (p : Option Form) (spot : Spot) (ts : List Token)
     (ss : List StatementForm) → ReadsBody spot ts ss
-    → run (program_at cs (clause_of ds p []) (body before_statement)) ts ≡ Some (program_at cs (clause_of ds p ss) (body spot))
-unfolding run
+    → program_run (program_at cs (clause_of ds p []) (body before_statement)) ts ≡ Some (program_at cs (clause_of ds p ss) (body spot))
+unfolding program_run
 body_leads cs ds p _ _ _ nothing = refl
 body_leads cs ds p _ _ _ (stated ts us ss s h k) =
     run_on _ _ _ ts us (body_leads cs ds p before_statement ts ss h) (statement_leads cs (clause_of ds p ss) us s k)
@@ -268,14 +268,14 @@ body_leads cs ds p _ _ _ (separated spot ts ss h) =
 
 -- heads
 head_leads : (cs : List ClauseForm) (c : ClauseForm) (ts : List Token) (ds : List DescForm) → ReadsHead ts ds
-    → run (program_at cs c outside) ts ≡ Some (program_at cs (headed ds) described)
-unfolding run step
+    → program_run (program_at cs c outside) ts ≡ Some (program_at cs (headed ds) described)
+unfolding program_run program_step
 head_leads cs c _ _ (a_description d) = refl
 head_leads cs c _ _ (another ts ds d h) = run_on _ _ _ ts _ (head_leads cs c ts ds h) refl
 
 opening_leads : (cs : List ClauseForm) (c : ClauseForm) (ts : List Token) (ds : List DescForm) (p : Option Form)
-    → ReadsOpening ts ds p → run (program_at cs c outside) ts ≡ Some (program_at cs (clause_of ds p []) (body before_statement))
-unfolding run step
+    → ReadsOpening ts ds p → program_run (program_at cs c outside) ts ≡ Some (program_at cs (clause_of ds p []) (body before_statement))
+unfolding program_run program_step
 opening_leads cs c _ _ _ (always ts ds h) = run_over _ _ ts _ (head_leads cs c ts ds h)
 opening_leads cs c _ _ _ (grammar.guarded ts us ds f h k) =
     run_over _ _ ts _ (head_leads cs c ts ds h)
@@ -283,14 +283,14 @@ opening_leads cs c _ _ _ (grammar.guarded ts us ds f h k) =
 
 -- clauses
 clause_leads : (cs : List ClauseForm) (before : ClauseForm) (ts : List Token) (c : ClauseForm) → ReadsClause ts c
-    → run (program_at cs before outside) ts ≡ Some (program_at (cs ++ (c ∷ [])) (headed []) outside)
+    → program_run (program_at cs before outside) ts ≡ Some (program_at (cs ++ (c ∷ [])) (headed []) outside)
 clause_leads cs before _ _ (a_clause spot ts us ds p ss h k) =
     run_over _ _ ts _ (opening_leads cs before ts ds p h)
     ∙ run_step _ _ _ us _ (body_leads cs ds p spot us ss k) (closed_step cs (clause_of ds p ss) spot)
 
 pub clauses_lead : (ts : List Token) (cs : List ClauseForm) → ReadsClauses ts cs
-    → run program_start ts ≡ Some (program_at cs (headed []) outside)
-unfolding run
+    → program_run program_start ts ≡ Some (program_at cs (headed []) outside)
+unfolding program_run
 clauses_lead _ _ grammar.nothing = refl
 clauses_lead _ _ (grammar.another ts us cs c h k) =
     run_on _ _ _ ts us (clauses_lead ts cs h) (clause_leads cs (headed []) us c k)
@@ -298,7 +298,7 @@ clauses_lead _ _ (grammar.another ts us cs c h k) =
 -- a whole program is read to its end
 pub record ProgramLeads (ts : List Token) (cs : List ClauseForm) : Type 0 where
   pub at : ProgramState
-  pub runs : run program_start ts ≡ Some at
+  pub runs : program_run program_start ts ≡ Some at
   pub is_finished : finished at ≡ Some cs
 
 whole_is : (cs : List ClauseForm) → cs ≢ [] → whole cs ≡ Some cs
@@ -317,13 +317,13 @@ program_leads ts cs h =
 
 -- where a program's beginnings lead
 pub head_stands_lead : (ts : List Token) (cs : List ClauseForm) (ds : List DescForm) → HeadStands ts cs ds
-    → run program_start ts ≡ Some (program_at cs (headed ds) described)
+    → program_run program_start ts ≡ Some (program_at cs (headed ds) described)
 head_stands_lead ts cs ds h =
     rw h.split
     (run_on _ _ _ h.clauses h.head (clauses_lead h.clauses cs h.before) (head_leads cs (headed []) h.head ds h.reads))
 
 pub body_stands_lead : (spot : Spot) (ts : List Token) (cs : List ClauseForm) (c : ClauseForm)
-    → BodyStands spot ts cs c → run program_start ts ≡ Some (program_at cs c (body spot))
+    → BodyStands spot ts cs c → program_run program_start ts ≡ Some (program_at cs c (body spot))
 body_stands_lead spot ts cs c h =
     rw h.split
     (run_on _ _ _ h.clauses (h.opening ++ h.body) (clauses_lead h.clauses cs h.before)
@@ -335,12 +335,12 @@ pub record KeysStandLead (ts : List Token) (cs : List ClauseForm) (c : ClauseFor
     (keys : List ArgForm) : Type 0 where
   pub back : List Token
   pub keys_lead : KeysLead cs c name back keys
-  pub runs : (t : Token) (next : ProgramState) → run (entered cs c (key name [])) (back ++ (t ∷ [])) ≡ Some next
-      → run program_start (ts ++ (t ∷ [])) ≡ Some next
+  pub runs : (t : Token) (next : ProgramState) → program_run (entered cs c (key name [])) (back ++ (t ∷ [])) ≡ Some next
+      → program_run program_start (ts ++ (t ∷ [])) ≡ Some next
 
 pub keys_stand_lead : (ts : List Token) (cs : List ClauseForm) (c : ClauseForm) (name : List ℕ) (keys : List ArgForm)
     → KeysStand ts cs c name keys → KeysStandLead ts cs c name keys
-unfolding run step
+unfolding program_run program_step
 keys_stand_lead ts cs c name keys h = record {
   back = h.back;
   keys_lead = keys_lead cs c name h.back keys h.reads;
@@ -350,7 +350,7 @@ keys_stand_lead ts cs c name keys h = record {
 
 pub target_stands_lead : (ts us : List Token) (cs : List ClauseForm) (c : ClauseForm) (name : List ℕ)
     (keys : List ArgForm) → TargetStands ts cs c name keys
-    → run program_start (ts ++ (token.Sign sign.Equal ∷ us)) ≡ run (program_at cs c (assigned name keys)) us
+    → program_run program_start (ts ++ (token.Sign sign.Equal ∷ us)) ≡ program_run (program_at cs c (assigned name keys)) us
 target_stands_lead ts us cs c name keys h =
     rw (split_two ts h.front h.back (token.Sign sign.Equal ∷ us) h.split)
     (run_over _ _ h.front _ (body_stands_lead before_statement h.front cs c h.stands)
@@ -367,8 +367,8 @@ given_other cs c name keys function.Quantize n = refl
 given_other cs c name keys function.Lquantize n = refl
 
 pub slot_leads : (slot : Slot) (ts : List Token) (cs : List ClauseForm) (c : ClauseForm) → SlotOpens slot ts cs c
-    → run program_start ts ≡ Some (entered cs c slot)
-unfolding run step
+    → program_run program_start ts ≡ Some (entered cs c slot)
+unfolding program_run program_step
 slot_leads _ _ _ _ (stand.a_predicate ts cs ds h) = run_over _ _ ts _ (head_stands_lead ts cs ds h)
 slot_leads _ _ _ _ (stand.an_argument ts cs c h) = run_over _ _ ts _ (body_stands_lead before_statement ts cs c h)
 slot_leads _ _ _ _ (stand.a_status ts cs c h) = run_over _ _ ts _ (body_stands_lead before_statement ts cs c h)

@@ -32,7 +32,7 @@ use Rattle.dt_lang.specs.machine.ClauseState.{from_before_statement, from_after_
 use Rattle.dt_lang.specs.machine.ClauseState.{from_named, from_keyed, from_assigned, function_given, from_applied}
 use Rattle.dt_lang.specs.machine.ClauseState.{shut_predicate, shut_traced, shut_exited, shut_key, shut_levels, shut_value, shut}
 use Rattle.dt_lang.specs.machine.ClauseState.{go_on, from_within, from_bounding, from_negating, from_bounded, program_step_from}
-use Rattle.dt_lang.specs.machine.ClauseState.{step, run, program_start}
+use Rattle.dt_lang.specs.machine.ClauseState.{program_step, program_run, program_start}
 use Rattle.dt_lang.specs.laws.ExpressionLaws.{sound, sound_argument, run-append}
 use Rattle.dt_lang.specs.laws.Reading.{HeadRead, ListRead, GuardRead, Follows, FollowsTarget, Closing, Within, BoundsBegin}
 use Rattle.dt_lang.specs.laws.Reading.{Levels, Bounded, stack_action, ReadAt, Read, split_last, split_three, split_four}
@@ -614,25 +614,25 @@ sound_from cs c (negating name keys f b) ts t next h k = sound_negating cs c nam
 sound_from cs c (bounded name keys f b z) ts t next h k = sound_bounded cs c name keys f b z ts t next h k
 
 -- a step reads one more token
-pub sound_step : (s next : ProgramState) (ts : List Token) (t : Token) → Read s ts → step s t ≡ Some next
+pub sound_step : (s next : ProgramState) (ts : List Token) (t : Token) → Read s ts → program_step s t ≡ Some next
     → Read next (ts ++ (t ∷ []))
-unfolding step
+unfolding program_step
 sound_step s next ts t h k = sound_from s.clauses s.clause s.place ts t next h k
 
-sound_then : (s next : ProgramState) (o : Option ProgramState) (ts us : List Token) (t : Token) → step s t ≡ o
-    → Read s ts → option_and_then (λ m. run m us) o ≡ Some next
-    → ((m : ProgramState) → Read m (ts ++ (t ∷ [])) → run m us ≡ Some next → Read next ((ts ++ (t ∷ [])) ++ us))
+sound_then : (s next : ProgramState) (o : Option ProgramState) (ts us : List Token) (t : Token) → program_step s t ≡ o
+    → Read s ts → option_and_then (λ m. program_run m us) o ≡ Some next
+    → ((m : ProgramState) → Read m (ts ++ (t ∷ [])) → program_run m us ≡ Some next → Read next ((ts ++ (t ∷ [])) ++ us))
     → Read next (ts ++ (t ∷ us))
 sound_then s next (Some m) ts us t e h k go =
     let r = go m (sound_step s m ts t h e) k in rw (append_assoc ts (t ∷ []) us) at r
 sound_then s next None ts us t e h k go = absurd (none_some k)
 
 -- a run reads all of its tokens
-pub sound_run : (us ts : List Token) (s next : ProgramState) → Read s ts → run s us ≡ Some next → Read next (ts ++ us)
-unfolding run
+pub sound_run : (us ts : List Token) (s next : ProgramState) → Read s ts → program_run s us ≡ Some next → Read next (ts ++ us)
+unfolding program_run
 sound_run [] ts s next h k = rw (append-nil ts) (landed ts s next k h)
 sound_run (t ∷ us) ts s next h k =
-    sound_then s next (step s t) ts us t refl h k (λ m r q. sound_run us (ts ++ (t ∷ [])) m next r q)
+    sound_then s next (program_step s t) ts us t refl h k (λ m r q. sound_run us (ts ++ (t ∷ [])) m next r q)
 
 -- before the first token nothing is read
 pub starts : Read program_start []

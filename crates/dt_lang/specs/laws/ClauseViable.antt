@@ -19,7 +19,7 @@ use Rattle.dt_lang.specs.Stand.{Slot, predicate, traced, exited, key, value, div
 use Rattle.dt_lang.specs.machine.ClauseState.{BoundForm, at_lower, at_upper, at_step, PlaceForm, outside, described, listed}
 use Rattle.dt_lang.specs.machine.ClauseState.{guarded, body, called, stack_opened, closing, named, keyed, assigned, applied, within}
 use Rattle.dt_lang.specs.machine.ClauseState.{bounding, negating, bounded, ProgramState, program_at, entered, function_given}
-use Rattle.dt_lang.specs.machine.ClauseState.{shut, step, run}
+use Rattle.dt_lang.specs.machine.ClauseState.{shut, program_step, program_run}
 use Rattle.dt_lang.specs.laws.ExpressionLaws.{complete, run_beginning}
 use Rattle.dt_lang.specs.laws.ExpressionLaws as laws
 use Rattle.dt_lang.specs.laws.Reading.{Within, ReadAt, Read}
@@ -31,12 +31,12 @@ pub record Completes (s : ProgramState) : Type 0 where
   pub more : List Token
   pub clauses : List ClauseForm
   pub clause : ClauseForm
-  pub runs : run s more ≡ Some (program_at clauses clause outside)
+  pub runs : program_run s more ≡ Some (program_at clauses clause outside)
   pub some : clauses ≢ []
 
 -- one token before
-back : (s next : ProgramState) (t : Token) → step s t ≡ Some next → Completes next → Completes s
-unfolding run
+back : (s next : ProgramState) (t : Token) → program_step s t ≡ Some next → Completes next → Completes s
+unfolding program_run
 back s next t e h = record {
   more = t ∷ h.more;
   clauses = h.clauses;
@@ -51,7 +51,7 @@ some_clauses (first ∷ cs) c e = cc
 
 module _ (cs : List ClauseForm) (c : ClauseForm) where
   whole_clause : (before : ClauseForm) → Completes (program_at (cs ++ (c ∷ [])) before outside)
-  unfolding run
+  unfolding program_run
   whole_clause before = record {
     more = [];
     clauses = cs ++ (c ∷ []);
@@ -61,21 +61,21 @@ module _ (cs : List ClauseForm) (c : ClauseForm) where
   }
 
   body_completes : (spot : Spot) → Completes (program_at cs c (body spot))
-  unfolding step
+  unfolding program_step
   body_completes before_statement = back _ _ (token.Sign sign.CloseBrace) refl (whole_clause _)
   body_completes after_statement = back _ _ (token.Sign sign.CloseBrace) refl (whole_clause _)
 
 closing_completes : (cs : List ClauseForm) (c : ClauseForm) (s : StatementForm)
     → Completes (program_at cs c (closing s))
-unfolding step
+unfolding program_step
 closing_completes cs c s = back _ _ (token.Sign sign.CloseParen) refl (body_completes cs _ after_statement)
 
 guarded_completes : (cs : List ClauseForm) (c : ClauseForm) → Completes (program_at cs c guarded)
-unfolding step
+unfolding program_step
 guarded_completes cs c = back _ _ (token.Sign sign.OpenBrace) refl (body_completes cs c before_statement)
 
 described_completes : (cs : List ClauseForm) (c : ClauseForm) → Completes (program_at cs c described)
-unfolding step
+unfolding program_step
 described_completes cs c = back _ _ (token.Sign sign.OpenBrace) refl (body_completes cs c before_statement)
 
 -- the description that asks for nothing
@@ -83,61 +83,61 @@ all_probes : Description
 all_probes = record { provider = []; «module» = []; function = []; name = [] }
 
 listed_completes : (cs : List ClauseForm) (c : ClauseForm) → Completes (program_at cs c listed)
-unfolding step
+unfolding program_step
 listed_completes cs c = back _ _ (token.Description (Ok all_probes)) refl (described_completes cs _)
 
 outside_completes : (cs : List ClauseForm) (c : ClauseForm) → Completes (program_at cs c outside)
-unfolding step
+unfolding program_step
 outside_completes cs c = back _ _ (token.Description (Ok all_probes)) refl (described_completes cs _)
 
 stack_opened_completes : (cs : List ClauseForm) (c : ClauseForm) (process : Bool)
     → Completes (program_at cs c (stack_opened process))
-unfolding step
+unfolding program_step
 stack_opened_completes cs c process = back _ _ (token.Number (pos 1)) refl (closing_completes cs c _)
 
 -- aggregations
 applied_completes : (cs : List ClauseForm) (c : ClauseForm) (name : List ℕ) (keys : List ArgForm)
     → Completes (program_at cs c (applied name keys function.Count))
-unfolding step
+unfolding program_step
 applied_completes cs c name keys = back _ _ (token.Sign sign.OpenParen) refl (closing_completes cs c _)
 
 assigned_completes : (cs : List ClauseForm) (c : ClauseForm) (name : List ℕ) (keys : List ArgForm)
     → Completes (program_at cs c (assigned name keys))
-unfolding step
+unfolding program_step
 assigned_completes cs c name keys =
     back _ _ (token.Word (word.Function function.Count)) refl (applied_completes cs c name keys)
 
 keyed_completes : (cs : List ClauseForm) (c : ClauseForm) (name : List ℕ) (keys : List ArgForm)
     → Completes (program_at cs c (keyed name keys))
-unfolding step
+unfolding program_step
 keyed_completes cs c name keys = back _ _ (token.Sign sign.Equal) refl (assigned_completes cs c name keys)
 
 named_completes : (cs : List ClauseForm) (c : ClauseForm) (name : List ℕ) → Completes (program_at cs c (named name))
-unfolding step
+unfolding program_step
 named_completes cs c name = back _ _ (token.Sign sign.Equal) refl (assigned_completes cs c name [])
 
 -- bounds
 module _ (cs : List ClauseForm) (c : ClauseForm) (name : List ℕ) (keys : List ArgForm) (f : Form) where
   upper_completes : (lower z : ℤ) → Completes (program_at cs c (bounded name keys f (at_upper lower) z))
-  unfolding step
+  unfolding program_step
   upper_completes lower z = back _ _ (token.Sign sign.CloseParen) refl (body_completes cs _ after_statement)
 
   next_completes : (lower : ℤ) → Completes (program_at cs c (bounding name keys f (at_upper lower)))
-  unfolding step
+  unfolding program_step
   next_completes lower = back _ _ (token.Number (pos 0)) refl (upper_completes lower (pos 0))
 
   bounded_completes : (b : BoundForm) (z : ℤ) → Completes (program_at cs c (bounded name keys f b z))
-  unfolding step
+  unfolding program_step
   bounded_completes at_lower z = back _ _ (token.Sign sign.Comma) refl (next_completes z)
   bounded_completes (at_upper lower) z = upper_completes lower z
   bounded_completes (at_step lower upper) z = back _ _ (token.Sign sign.CloseParen) refl (body_completes cs _ after_statement)
 
   bounding_completes : (b : BoundForm) → Completes (program_at cs c (bounding name keys f b))
-  unfolding step
+  unfolding program_step
   bounding_completes b = back _ _ (token.Number (pos 0)) refl (bounded_completes b (pos 0))
 
   negating_completes : (b : BoundForm) → Completes (program_at cs c (negating name keys f b))
-  unfolding step
+  unfolding program_step
   negating_completes b = back _ _ (token.Number (pos 0)) refl (bounded_completes b _)
 
 -- a token that ends a number that was read for a slot, and what it leads to
@@ -205,7 +205,7 @@ slot_shuts ts cs c (value name keys fn) f h = value_shuts cs c name keys fn f (t
 -- what was read for a slot goes on to a whole number, and this ends
 within_completes : (cs : List ClauseForm) (c : ClauseForm) (slot : Slot) (n : ℕ) (e : expression.State)
     (ts : List Token) → Within ts cs c slot n e → Completes (program_at cs c (within slot n e))
-unfolding run
+unfolding program_run
 within_completes cs c slot n e ts h =
     let v = laws.viable (divides_in slot) h.back e h.runs in
     let r = complete (divides_in slot) (h.back ++ v.more) v.form v.reads in
@@ -227,7 +227,7 @@ within_completes cs c slot n e ts h =
 -- what a word or a name leads to goes on where what its `(` leads to does
 called_completes : (cs : List ClauseForm) (c : ClauseForm) (a : Action) (ts : List Token)
     → Read (program_at cs c (called a)) ts → Completes (program_at cs c (called a))
-unfolding step
+unfolding program_step
 called_completes cs c action.Trace ts h =
     let r = sound_step (program_at cs c (called action.Trace)) (entered cs c traced) ts
     (token.Sign sign.OpenParen) h refl in
@@ -252,7 +252,7 @@ given_completes cs c name keys function.Lquantize ts h = within_completes cs c _
 function_completes : (cs : List ClauseForm) (c : ClauseForm) (name : List ℕ) (keys : List ArgForm) (fn : Function)
     (ts : List Token) → Read (program_at cs c (applied name keys fn)) ts
     → Completes (program_at cs c (applied name keys fn))
-unfolding step
+unfolding program_step
 function_completes cs c name keys fn ts h =
     let r = sound_step (program_at cs c (applied name keys fn)) (function_given cs c name keys fn) ts
     (token.Sign sign.OpenParen) h refl in

@@ -12,7 +12,7 @@ use Rattle.dt_program.specs.Clause.{ArgForm, number, ClauseForm}
 use Rattle.dt_lang.specs.Stand.{value}
 use Rattle.dt_lang.specs.Refused.{IsOutOfRange}
 use Rattle.dt_lang.specs.machine.ClauseState.{BoundForm, at_lower, at_upper, at_step, PlaceForm, bounding, bounded}
-use Rattle.dt_lang.specs.machine.ClauseState.{ProgramState, program_at, entered, step, run, program_start}
+use Rattle.dt_lang.specs.machine.ClauseState.{ProgramState, program_at, entered, program_step, program_run, program_start}
 use Rattle.dt_lang.specs.machine.Cause.{fault_of_bounds, out_of_range_at}
 use Rattle.dt_lang.specs.machine.ExpressionState.{IsRead}
 use Rattle.dt_lang.specs.laws.ExpressionLaws.{complete}
@@ -81,20 +81,20 @@ pub record BoundsLead (cs : List ClauseForm) (c : ClauseForm) (name : List ℕ) 
   pub bound : BoundForm
   pub last : ℤ
   pub levels : fault_of_bounds bound last ≡ bounds_fault lower upper by
-  pub runs : run (entered cs c (value name keys function.Lquantize)) ts
+  pub runs : program_run (entered cs c (value name keys function.Lquantize)) ts
       ≡ Some (program_at cs c (bounded name keys f bound last))
 
 constant_lead : (cs : List ClauseForm) (c : ClauseForm) (name : List ℕ) (keys : List ArgForm) (f : Form)
     (b : BoundForm) (ts : List Token) (z : ℤ) → ReadsConstant ts z
-    → run (program_at cs c (bounding name keys f b)) ts ≡ Some (program_at cs c (bounded name keys f b z))
-unfolding run step
+    → program_run (program_at cs c (bounding name keys f b)) ts ≡ Some (program_at cs c (bounded name keys f b z))
+unfolding program_run program_step
 constant_lead cs c name keys f b _ _ (plain n) = refl
 constant_lead cs c name keys f b _ _ (negative n) = refl
 
 bounds_lead : (cs : List ClauseForm) (c : ClauseForm) (name : List ℕ) (keys : List ArgForm) (f : Form)
     (ts us : List Token) (lower upper by : ℤ) → IsRead true ts (number f) → ReadsBounds us lower upper by
     → BoundsLead cs c name keys f (ts ++ us) lower upper by
-unfolding run step
+unfolding program_run program_step
 bounds_lead cs c name keys f ts _ _ _ _ r (by_one vs ws lower upper h k) = record {
   bound = at_upper lower;
   last = upper;
@@ -116,7 +116,7 @@ bounds_lead cs c name keys f ts _ _ _ _ r (stepped vs ws xs lower upper by h k l
 -- the state that the tokens lead to, and the rule that the bounds break there
 pub record OutThere (ts : List Token) (t : Token) (fault : BoundsFault) : Type 0 where
   pub at : ProgramState
-  pub runs : run program_start ts ≡ Some at
+  pub runs : program_run program_start ts ≡ Some at
   pub says : out_of_range_at at.place t ≡ Some fault
 
 out_there : (ts : List Token) (t : Token) (fault : BoundsFault) → IsOutOfRange ts t fault → OutThere ts t fault
@@ -131,7 +131,7 @@ out_there ts t fault k =
       says = rw k.ends (l.levels ∙ k.wrong);
     }
 
-module _ (ts : List Token) (t : Token) (s : ProgramState) (h : run program_start ts ≡ Some s) where
+module _ (ts : List Token) (t : Token) (s : ProgramState) (h : program_run program_start ts ≡ Some s) where
   pub out_of_range_is : (fault : BoundsFault) → out_of_range_at s.place t ≡ Some fault → IsOutOfRange ts t fault
   out_of_range_is fault e = read_out_of_range ts s.clauses s.clause s.place t fault (read ts s h) e
 

@@ -17,7 +17,7 @@ use Rattle.dt_lang.specs.Grammar.{ReadsProgram}
 use Rattle.dt_lang.specs.Refused.{Cause, because, destroys, CauseHolds, Refused, NoneRefused}
 use Rattle.dt_lang.specs.Reads.{TokensTo, none, another, IsRefusedProgram, a_token, overlong, stray, unfinished}
 use Rattle.dt_lang.specs.Reads.{IsProgram, Reading, program, fault, destructive, Reads}
-use Rattle.dt_lang.specs.machine.ClauseState.{ProgramState, step, run, program_start, finished}
+use Rattle.dt_lang.specs.machine.ClauseState.{ProgramState, program_step, program_run, program_start, finished}
 use Rattle.dt_lang.specs.machine.Cause.{cause_of}
 use Rattle.dt_lang.specs.laws.ClauseSound.{none_some, same_some}
 use Rattle.dt_lang.specs.laws.ClauseComplete.{run_step, program_leads}
@@ -252,7 +252,7 @@ module _ (text : List ℕ) (laws : LexemeLaws text) where
 pub record Going (text : List ℕ) (mode : Mode) (ts : List Token) (from : ℕ) (s : ProgramState) : Type 0 where
   pub stand : TokensTo text mode ts from
   pub unrefused : NoneRefused ts
-  pub runs : run program_start ts ≡ Some s
+  pub runs : program_run program_start ts ≡ Some s
 
 -- a token of some tokens and one more is one of these, or the last
 split_end : (before ts after : List Token) (t u : Token) → ts ++ (t ∷ []) ≡ before ++ (u ∷ after)
@@ -291,13 +291,13 @@ one_unrefused ts t n m before after u cause e h = elim (split_end before ts afte
 module _ (text : List ℕ) where
   -- nothing was read
   pub going_first : Going text Head [] 0 program_start
-  unfolding run
+  unfolding program_run
   going_first = record { stand = none; unrefused = none_refused; runs = refl }
 
   module _ (mode : Mode) (ts : List Token) (from : ℕ) (s : ProgramState) (g : Going text mode ts from s) where
     -- one more token that isn't refused
     pub going_on : (t : Token) (at to : ℕ) (next : ProgramState) → Lexes text mode from (lexeme.Token at t to)
-        → cause_of s t ≡ None → step s t ≡ Some next → Going text (mode_after mode t) (ts ++ (t ∷ [])) to next
+        → cause_of s t ≡ None → program_step s t ≡ Some next → Going text (mode_after mode t) (ts ++ (t ∷ [])) to next
     going_on t at to next l e k = record {
       stand = another mode ts t from at to g.stand l;
       unrefused = one_unrefused ts t g.unrefused (unrefused ts t s g.runs e);

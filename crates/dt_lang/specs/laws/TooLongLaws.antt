@@ -16,7 +16,7 @@ use Rattle.dt_lang.specs.Refused.{GoesOn, IsForStatement, IsTooLong, a_clause, a
 use Rattle.dt_lang.specs.Refused as refused
 use Rattle.dt_lang.specs.machine.ClauseState.{PlaceForm, outside, described, listed, body}
 use Rattle.dt_lang.specs.machine.ClauseState.{within}
-use Rattle.dt_lang.specs.machine.ClauseState.{ProgramState, program_at, headed, step, run, program_start}
+use Rattle.dt_lang.specs.machine.ClauseState.{ProgramState, program_at, headed, program_step, program_run, program_start}
 use Rattle.dt_lang.specs.declared.fault.Limit.{Limit}
 use Rattle.dt_lang.specs.declared.fault.Limit.TheVariants as limits
 use Rattle.dt_lang.specs.machine.Cause.{is_for_statement, is_one_more, keys_full, limit_within, too_long_at}
@@ -128,12 +128,12 @@ read_too_long ts cs c _ t limit h e = absurd (none_some e)
 -- the state that the tokens lead to, and the limit that the token passes there
 pub record TooLongThere (ts : List Token) (t : Token) (limit : Limit) : Type 0 where
   pub at : ProgramState
-  pub runs : run program_start ts ≡ Some at
+  pub runs : program_run program_start ts ≡ Some at
   pub says : too_long_at at.clauses at.clause at.place t ≡ Some limit
 
 listed_step : (cs : List ClauseForm) (c : ClauseForm)
-    → step (program_at cs c described) (token.Sign sign.Comma) ≡ Some (program_at cs c listed)
-unfolding step
+    → program_step (program_at cs c described) (token.Sign sign.Comma) ≡ Some (program_at cs c listed)
+unfolding program_step
 listed_step cs c = refl
 
 -- what is taken before anything was read
@@ -145,7 +145,7 @@ takes_first t g =
     rw (sym same) at k.takes_it
 
 too_long_there : (ts : List Token) (t : Token) (limit : Limit) → IsTooLong ts t limit → TooLongThere ts t limit
-unfolding run
+unfolding program_run
 too_long_there _ _ _ (a_clause ts cs d r n) =
     record { at = _; runs = clauses_lead ts cs r; says = rw (le-leb CLAUSES_MAX (length cs) n) refl }
 too_long_there _ _ _ (a_description ts cs ds d r n) = record {
@@ -169,7 +169,7 @@ too_long_there _ _ _ (a_token slot ts us cs c t r n g) =
     let m : leb TOKENS_MAX (0 + length us) ≡ true = le-leb TOKENS_MAX (0 + length us) (omega arith) in
     record { at = _; runs = run_on _ _ _ ts us (slot_leads slot ts cs c r) w; says = rw (k.takes_it, m) refl }
 
-module _ (ts : List Token) (t : Token) (s : ProgramState) (h : run program_start ts ≡ Some s) where
+module _ (ts : List Token) (t : Token) (s : ProgramState) (h : program_run program_start ts ≡ Some s) where
   pub too_long_is : (limit : Limit) → too_long_at s.clauses s.clause s.place t ≡ Some limit → IsTooLong ts t limit
   too_long_is limit e = read_too_long ts s.clauses s.clause s.place t limit (read ts s h) e
 

@@ -18,7 +18,7 @@ use Rattle.dt_lang.specs.declared.word.Destructive.{Destructive}
 use Rattle.dt_lang.specs.declared.word.Word.TheVariants as word
 use Rattle.dt_lang.specs.machine.ExpressionState as expression
 use Rattle.dt_lang.specs.machine.ExpressionState.{is_operand}
-use Rattle.dt_lang.specs.machine.ClauseState.{BoundForm, at_lower, at_upper, at_step, PlaceForm, outside, listed, body, assigned, within, bounded, ProgramState, step}
+use Rattle.dt_lang.specs.machine.ClauseState.{BoundForm, at_lower, at_upper, at_step, PlaceForm, outside, listed, body, assigned, within, bounded, ProgramState, program_step}
 use Rattle.dt_lang.specs.Grammar.{before_statement}
 use Rattle.dt_program.specs.Clause.{ClauseForm}
 use Rattle.dt_lang.specs.Refused.{Cause, because, destroys}
@@ -146,5 +146,5 @@ first_of (None ∷ rest) = first_of rest
 -- the cause for which a token is refused, where it is: the first of those that hold
 unfoldable pub cause_of : ProgramState → Token → Option Cause
 cause_of s t = first_of (too_long_cause s.clauses s.clause s.place t ∷ destructive_cause s.place t ∷ probe_cause t
-    ∷ action_cause s.place t (step s t) ∷ variable_cause s.place t ∷ range_cause (out_of_range_at s.place t)
-    ∷ syntax_cause (step s t) ∷ [])
+    ∷ action_cause s.place t (program_step s t) ∷ variable_cause s.place t ∷ range_cause (out_of_range_at s.place t)
+    ∷ syntax_cause (program_step s t) ∷ [])

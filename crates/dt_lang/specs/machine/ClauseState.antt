@@ -252,13 +252,13 @@ program_step_from cs c (negating name keys f b) t = from_negating cs c name keys
 program_step_from cs c (bounded name keys f b z) t = from_bounded cs c name keys f b z t
 
 -- what a token leads to, or none where no program goes on with it
-unfoldable pub step : ProgramState → Token → Option ProgramState
-step s t = program_step_from s.clauses s.clause s.place t
+unfoldable pub program_step : ProgramState → Token → Option ProgramState
+program_step s t = program_step_from s.clauses s.clause s.place t
 
 -- what some tokens lead to
-unfoldable pub run : ProgramState → List Token → Option ProgramState
-run s [] = Some s
-run s (t ∷ ts) = option_and_then (λ next. run next ts) (step s t)
+unfoldable pub program_run : ProgramState → List Token → Option ProgramState
+program_run s [] = Some s
+program_run s (t ∷ ts) = option_and_then (λ next. program_run next ts) (program_step s t)
 
 abbrev pub whole : List ClauseForm → Option (List ClauseForm)
 whole [] = None

@@ -14,7 +14,7 @@ use Rattle.dt_lang.specs.declared.word.Word.TheVariants as word
 use Rattle.dt_lang.specs.machine.ExpressionState as expression
 use Rattle.dt_lang.specs.Grammar.{before_statement}
 use Rattle.dt_lang.specs.machine.Cause.{cause_of}
-use Rattle.dt_lang.specs.machine.ClauseState.{PlaceForm, body, assigned, within, ProgramState, step}
+use Rattle.dt_lang.specs.machine.ClauseState.{PlaceForm, body, assigned, within, ProgramState, program_step}
 use Rattle.dt_lang.specs.machine.Fits.{Fits}
 use Rattle.dt_lang.specs.Refused.{Cause, because, destroys}
 
@@ -60,16 +60,16 @@ shown_at _ t = shown_elsewhere t
 
 -- What came of a token that shows none of those causes: `next` is what it leads to, and `range` the fault of the bounds
 -- where it ends an `lquantize` with wrong ones.
-abbrev pub Outcome : (next : Option ProgramState) → (range : Option BoundsFault) → Option Flaw → ProgramState → Type 0
-Outcome next range None new = (next ≡ Some new) × (range ≡ None)
-Outcome next range (Some flaw.Syntax) new = (next ≡ None) × (range ≡ None)
-Outcome next range (Some (flaw.Range fault)) new = range ≡ Some fault
-Outcome next range (Some _) new = ⊥
+abbrev pub ShownOutcome : (next : Option ProgramState) → (range : Option BoundsFault) → Option Flaw → ProgramState → Type 0
+ShownOutcome next range None new = (next ≡ Some new) × (range ≡ None)
+ShownOutcome next range (Some flaw.Syntax) new = (next ≡ None) × (range ≡ None)
+ShownOutcome next range (Some (flaw.Range fault)) new = range ≡ Some fault
+ShownOutcome next range (Some _) new = ⊥
 
 -- What came of a token: it is refused, or it leads to this state.
 abbrev pub AnswersToken : (old : ProgramState) → Token → Option Refusal → (new : ProgramState) → Type 0
 AnswersToken old t (Some refusal) new = cause_of old t ≡ Some (cause_of_refusal refusal)
-AnswersToken old t None new = (cause_of old t ≡ None) × (step old t ≡ Some new) × Fits new
+AnswersToken old t None new = (cause_of old t ≡ None) × (program_step old t ≡ Some new) × Fits new
 
 -- the fault of a token between these offsets that is refused so
 abbrev pub fault_at : (at end : ℕ) → Refusal → LangFault
