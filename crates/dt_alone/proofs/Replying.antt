@@ -8,10 +8,12 @@ use Rattle.std.proofs.lemmas.List.{length-map, map-append}
 use Rattle.dt_cred.specs.declared.account.Account.{Account}
 use Rattle.dt_machine.specs.Registry.{Registry}
 use Rattle.dt_lang.specs.Program.{ClauseForm, form_of_clause}
-use Rattle.dt_lang.specs.Reads.{Reading, Reads, program, fault, destructive}
+use Rattle.dt_lang.specs.Reads.{Reading, Reads, IsRefusedProgram, program, fault, destructive}
 use Rattle.dt_lang.specs.declared.fault.LangFault.{LangFault}
 use Rattle.dt_lang.specs.declared.fault.LangFault.TheVariants as faults
-use Rattle.dt_lang.specs.declared.fault.Why.{Why}
+use Rattle.dt_lang.specs.declared.fault.Flaw.{Flaw}
+use Rattle.dt_lang.specs.Fault.{why_of}
+use Rattle.dt_lang.specs.Refused.{because, destroys}
 use Rattle.dt_lang.specs.declared.word.Destructive.{Destructive}
 use Rattle.dt_program.specs.declared.clause.Clause.{Clause}
 use Rattle.dt_ecb.specs.Ecbs.{EcbForm, added, ecbs_of}
@@ -462,20 +464,24 @@ module _ (account : Account) (registry : Registry) (life : List Item) (r : Runne
   -- a text that is no program
   pub text_refused : (text : List ℕ) (f : LangFault) (refusal : Refusal)
       → ((text : List ℕ) (a b : Reading) → Reads text a → Reads text b → a ≡ b)
-      → ((at : ℕ) (why : Why) → f ≡ faults.Program at why → Reads text (fault at why))
-      → ((at : ℕ) (what : Destructive) → f ≡ faults.Destructive at what → Reads text (destructive at what))
+      → ((at end : ℕ) (flaw : Flaw) → f ≡ faults.Program at end flaw
+      → IsRefusedProgram text at end (because flaw))
+      → ((at end : ℕ) (what : Destructive) → f ≡ faults.Destructive at end what
+      → IsRefusedProgram text at end (destroys what))
       → Some refusal ≡ refused_as f → phase account registry life ≡ Inactive
       → Answers account registry life (enable (reading_of text)) (Refused refusal) r
-  text_refused text (faults.Program at why) refusal one reads found e off =
-      let same : reading_of text ≡ fault at why =
-      one text (reading_of text) (fault at why) (is_read text) (reads at why refl) in
-      let its : Program at why ≡ refusal = cc in
+  text_refused text (faults.Program at end flaw) refusal one reads found e off =
+      let same : reading_of text ≡ fault at (why_of flaw) =
+      one text (reading_of text) (fault at (why_of flaw)) (is_read text)
+      (end, flaw, refl, reads at end flaw refl) in
+      let its : Program at (why_of flaw) ≡ refusal = cc in
       subst (λ x. Answers account registry life (enable x) (Refused refusal) r) (sym same)
-      (subst (λ x. Answers account registry life (enable (fault at why)) (Refused x) r) its
-      (refuses (enable (fault at why)) (Program at why) (fault_refused account registry life at why off) refl))
-  text_refused text (faults.Destructive at what) refusal one reads found e off =
+      (subst (λ x. Answers account registry life (enable (fault at (why_of flaw))) (Refused x) r) its
+      (refuses (enable (fault at (why_of flaw))) (Program at (why_of flaw))
+      (fault_refused account registry life at (why_of flaw) off) refl))
+  text_refused text (faults.Destructive at end what) refusal one reads found e off =
       let same : reading_of text ≡ destructive at what =
-      one text (reading_of text) (destructive at what) (is_read text) (found at what refl) in
+      one text (reading_of text) (destructive at what) (is_read text) (end, found at end what refl) in
       let its : refusals.Destructive at what ≡ refusal = cc in
       subst (λ x. Answers account registry life (enable x) (Refused refusal) r) (sym same)
       (subst (λ x. Answers account registry life (enable (destructive at what)) (Refused x) r) its

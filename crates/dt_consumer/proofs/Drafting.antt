@@ -10,10 +10,12 @@ use Rattle.dt_buffer.specs.Shows.{Shows, HasContent, HasDrops, IsFilled}
 use Rattle.dt_cred.specs.declared.account.Account.{Account}
 use Rattle.dt_machine.specs.Registry.{Registry}
 use Rattle.dt_lang.specs.Program.{ClauseForm, form_of_clause}
-use Rattle.dt_lang.specs.Reads.{Reading, Reads, program, fault, destructive}
+use Rattle.dt_lang.specs.Reads.{Reading, Reads, IsRefusedProgram, program, fault, destructive}
 use Rattle.dt_lang.specs.declared.fault.LangFault.{LangFault}
 use Rattle.dt_lang.specs.declared.fault.LangFault.TheVariants as faults
-use Rattle.dt_lang.specs.declared.fault.Why.{Why}
+use Rattle.dt_lang.specs.declared.fault.Flaw.{Flaw}
+use Rattle.dt_lang.specs.Fault.{why_of}
+use Rattle.dt_lang.specs.Refused.{because, destroys}
 use Rattle.dt_lang.specs.declared.word.Destructive.{Destructive}
 use Rattle.dt_program.specs.declared.clause.Clause.{Clause}
 use Rattle.dt_ecb.specs.Ecbs.{added}
@@ -183,22 +185,25 @@ module _ (account : Account) (registry : Registry) (life : List Item) where
   -- a text that is no program
   pub text_refused : (text : List ℕ) (f : LangFault) (refusal : Refusal) (draft : Draft)
       → ((text : List ℕ) (a b : Reading) → Reads text a → Reads text b → a ≡ b)
-      → ((at : ℕ) (why : Why) → f ≡ faults.Program at why → Reads text (fault at why))
-      → ((at : ℕ) (what : Destructive) → f ≡ faults.Destructive at what → Reads text (destructive at what))
+      → ((at end : ℕ) (flaw : Flaw) → f ≡ faults.Program at end flaw
+      → IsRefusedProgram text at end (because flaw))
+      → ((at end : ℕ) (what : Destructive) → f ≡ faults.Destructive at end what
+      → IsRefusedProgram text at end (destroys what))
       → Some refusal ≡ refused_as f
       → draft.reply ≡ Refused refusal → draft.change ≡ Counted → is_over life ≡ false
       → phase account registry life ≡ Inactive
       → IsDraftOf account registry life (Ok (enable (reading_of text))) draft
-  text_refused text (faults.Program at why) refusal draft one read found e reply change fresh off =
-      let same : reading_of text ≡ fault at why =
-      one text (reading_of text) (fault at why) (is_read text) (read at why refl) in
-      let its : refusal ≡ Program at why = cc in
+  text_refused text (faults.Program at end flaw) refusal draft one read found e reply change fresh off =
+      let same : reading_of text ≡ fault at (why_of flaw) =
+      one text (reading_of text) (fault at (why_of flaw)) (is_read text)
+      (end, flaw, refl, read at end flaw refl) in
+      let its : refusal ≡ Program at (why_of flaw) = cc in
       subst (λ r. IsDraftOf account registry life (Ok (enable r)) draft) (sym same)
-      (refused_by account registry life (enable (fault at why)) (Program at why) draft (reply ∙ ap Refused its) change
-      fresh (fault_refused account registry life at why off) refl refl)
-  text_refused text (faults.Destructive at what) refusal draft one read found e reply change fresh off =
+      (refused_by account registry life (enable (fault at (why_of flaw))) (Program at (why_of flaw)) draft
+      (reply ∙ ap Refused its) change fresh (fault_refused account registry life at (why_of flaw) off) refl refl)
+  text_refused text (faults.Destructive at end what) refusal draft one read found e reply change fresh off =
       let same : reading_of text ≡ destructive at what =
-      one text (reading_of text) (destructive at what) (is_read text) (found at what refl) in
+      one text (reading_of text) (destructive at what) (is_read text) (end, found at end what refl) in
       let its : refusal ≡ refusals.Destructive at what = cc in
       subst (λ r. IsDraftOf account registry life (Ok (enable r)) draft) (sym same)
       (refused_by account registry life (enable (destructive at what)) (refusals.Destructive at what) draft

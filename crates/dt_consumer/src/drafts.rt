@@ -484,11 +484,14 @@ impl Consumer {
     {
         one_description();
         // the text is one description and nothing else, so its fault is told at its first byte
-        let Some(description) = Description::parse(text) else {
-            return Ok(Draft::refused(Refusal::Program {
-                at: 0,
-                why: Why::Probe,
-            }));
+        let description = match Description::parse(text) {
+            Ok(description) => description,
+            Err(_) => {
+                return Ok(Draft::refused(Refusal::Program {
+                    at: 0,
+                    why: Why::Probe,
+                }));
+            }
         };
         let probes = listed(alloc, &self.account, machine, &description)?;
         Ok(Draft {
@@ -560,8 +563,11 @@ fn refusal_in(fault: LangFault) -> Option<Refusal>
     ensures { result ≡ refused_as fault }
 {
     match fault {
-        LangFault::Program { at, why } => Some(Refusal::Program { at, why }),
-        LangFault::Destructive { at, what } => Some(Refusal::Destructive { at, what }),
+        LangFault::Program { at, flaw, .. } => Some(Refusal::Program {
+            at,
+            why: flaw.why(),
+        }),
+        LangFault::Destructive { at, what, .. } => Some(Refusal::Destructive { at, what }),
         LangFault::Memory => None,
     }
 }

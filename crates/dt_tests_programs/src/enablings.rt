@@ -186,7 +186,7 @@ fn parsed(alloc: Global, text: &str) -> Result<Program, Fail> {
 }
 
 fn description(text: &str) -> Option<Description> {
-    Description::parse(text.as_bytes())
+    Description::parse(text.as_bytes()).ok()
 }
 
 /// A program: clauses with ` / ` between them, or a number of times the same with ` x ` after the number, where `#` is

@@ -280,6 +280,35 @@ pid == 1 -> 0
 1 % 2 -> 1
 ";
 
+/// In each line where the refused token begins and ends and what was found there, and the text, written as in the table
+/// of texts.
+const FOUND: &str = "
+12 15 Variable|BEGIN{trace(foo)}
+6 11 Action|BEGIN{print(1)}
+14 15 Syntax|BEGIN{trace(1 1)}
+12 12 Syntax|BEGIN{trace(08)}
+12 12 Syntax|BEGIN{trace(\"a
+5 5 Syntax|BEGIN
+12 17 panic|BEGIN{} END{panic();}
+512 514 TooLong(Clauses)||64|BEGIN{} |[a
+32 33 TooLong(Descriptions)|a|16|,a|{}
+70 75 TooLong(Statements)|BEGIN{|8|exit(0);|panic
+17 20 TooLong(Keys)|BEGIN{@a[1,2,3,4,foo]=count()}
+75 78 TooLong(Tokens)|BEGIN{exit(|32|1+|foo)}
+70 71 TooLong(Tokens)|BEGIN/|32|1+|1/{}
+6 39 TooLong(NameBytes)|BEGIN{@|32|a|=count()}
+12 45 TooLong(StringBytes)|BEGIN{trace(\"|32|a|
+23 24 Range(NotRising)|BEGIN{@=lquantize(1,5,5)}
+26 27 Range(NoStep)|BEGIN{@=lquantize(1,0,10,0)}
+27 28 Range(Uneven)|BEGIN{@a=lquantize(1,0,10,3)}
+25 26 Range(TooMany)|BEGIN{@=lquantize(1,0,513)}
+0 64 Probe(Fields(TooLong))||64|a|{}
+6 15 Probe(Fields(TooManyFields))|BEGIN a:b:c:d:e{}
+0 2 Probe(Pattern(Unclosed))|[a{}
+6 10 Probe(Pattern(EmptySet))|BEGIN,a:[]{}
+6 8 Probe(Pattern(LoneEscape))|BEGIN,a\\{}
+";
+
 fn parsed(alloc: Global, text: &[u8]) -> Result<Program, LangFault> {
     Program::parse(alloc, text)
 }
@@ -289,17 +318,30 @@ fn is_read_so(alloc: Global, text: &[u8], told: &str) -> bool {
     let (word, place) = told.split_once(' ').unwrap_or((told, "0"));
     match parsed(alloc, text) {
         Ok(_) => word == "read",
-        Err(LangFault::Program { at, why }) => word == why.word()
+        Err(LangFault::Program { at, flaw, .. }) => word == flaw.why().word()
             && place.parse::<usize>() == Ok(at),
-        Err(LangFault::Destructive { at, what }) => {
+        Err(LangFault::Destructive { at, what, .. }) => {
             word == what.name() && place.parse::<usize>() == Ok(at)
         }
         Err(LangFault::Memory) => false,
     }
 }
 
-/// Whether a line of the table is right.
-fn is_right(alloc: Global, line: &str) -> Option<bool> {
+/// What is found of a text that is refused, as the lines of the table say it.
+fn found_of(alloc: Global, text: &[u8]) -> Result<Option<String>, Fail> {
+    match parsed(alloc, text) {
+        Err(LangFault::Program { at, end, flaw }) => {
+            Ok(Some(format!(in alloc; "{at} {end} {flaw:?}")?))
+        }
+        Err(LangFault::Destructive { at, end, what }) => {
+            Ok(Some(format!(in alloc; "{at} {end} {what}")?))
+        }
+        _ => Ok(None),
+    }
+}
+
+/// What a line of a table says, and the text of which it says so.
+fn line_of(alloc: Global, line: &str) -> Option<(&str, Vec<u8>)> {
     let (told, written) = line.split_once('|')?;
     let mut parts = written.split('|');
     let mut text = Vec::new(alloc);
@@ -311,6 +353,12 @@ fn is_right(alloc: Global, line: &str) -> Option<bool> {
         }
         text.extend_from_slice(parts.next()?.as_bytes()).ok()?;
     }
+    Some((told, text))
+}
+
+/// Whether a line of the table is right.
+fn is_right(alloc: Global, line: &str) -> Option<bool> {
+    let (told, text) = line_of(alloc, line)?;
     Some(is_read_so(alloc, &text, told))
 }
 
@@ -322,6 +370,18 @@ fn reads_programs_and_refuses_other_texts(rt: HostRuntime) {
             "{line}"
         );
     }
+}
+
+#[test]
+fn tells_what_was_found_where_it_refuses(rt: HostRuntime) -> Result<(), Fail> {
+    for line in FOUND.lines() {
+        if !line.is_empty() {
+            let (told, text) = line_of(rt.alloc(), line).ok_or("no line of the table")?;
+            let found = found_of(rt.alloc(), &text)?;
+            assert!(rt; found.is_some_and(|found| found.as_str() == told), "{line}");
+        }
+    }
+    Ok(())
 }
 
 #[test]

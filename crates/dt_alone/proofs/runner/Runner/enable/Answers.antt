@@ -36,6 +36,6 @@ returns-in-Some c = λ account life k.
     let off = early account registry life c.args.self.now k (sym c.is_inactive.ensures ∙ c.if-not-is_inactive.false) in
     text_refused account registry life c.args.self.now k c.args.text.now c.in-Err.fault c.in-Some.refusal
     c.one_reading.ensures
-    (λ at why e. c.in-Err.ensures.fault at why (ap Err e))
-    (λ at what e. c.in-Err.ensures.destructive at what (ap Err e))
+    (λ at end flaw e. c.in-Err.ensures.fault at end flaw (ap Err e))
+    (λ at end what e. c.in-Err.ensures.destructive at end what (ap Err e))
     c.in-Some.ensures off

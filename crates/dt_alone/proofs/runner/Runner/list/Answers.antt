@@ -1,5 +1,5 @@
 -- A description is listed as the one reading that it has.
-use Rattle.std.proofs.Common.{Some, None, refl, ap, ◌∙◌}
+use Rattle.std.proofs.Common.{Some, None, Ok, Err, refl, ap, ◌∙◌}
 use Rattle.dt_lang.specs.Description.{form_of_description}
 use Rattle.dt_lang.specs.declared.fault.Why.TheVariants.{Probe}
 use Rattle.dt_ecb.specs.Matching as matching
@@ -8,20 +8,20 @@ use Rattle.dt_life.specs.Ask.{description_of, is_described}
 use Rattle.dt_life.specs.declared.refusal.Refusal.TheVariants.{Program}
 use Rattle.dt_alone.proofs.runner.Runner.list.Goals as goal
 
-pub returns-in_default : goal.returns-in_default
-returns-in_default c = λ account life h.
+pub returns-in-Err : goal.returns-in-Err
+returns-in-Err c = λ account life h.
     let text = c.args.text.now in
-    rw (c.one_description.ensures text (description_of text) None (is_described text) c.in_default.ensures.none)
+    rw (c.one_description.ensures text (description_of text) (Err c.in-Err.field-0) (is_described text) c.in-Err.ensures.fault)
     (Some (Program 0 Probe), refl, refl)
 
 pub returns : goal.returns
 returns c = λ account life h.
     let text = c.args.text.now in
-    let form = form_of_description c.in-Some.description in
-    rw (c.one_description.ensures text (description_of text) (Some form) (is_described text) c.in-Some.ensures.found) (
+    let form = form_of_description c.in-Ok.description in
+    rw (c.one_description.ensures text (description_of text) (Ok form) (is_described text) c.in-Ok.ensures.found) (
       None,
       refl,
       ap listed (c.in_ok-probes.ensures
-          ∙ ap (λ a. matching.listed a c.args.machine.now.registry (form_of_description c.in-Some.description))
+          ∙ ap (λ a. matching.listed a c.args.machine.now.registry (form_of_description c.in-Ok.description))
           h.same_account),
     )

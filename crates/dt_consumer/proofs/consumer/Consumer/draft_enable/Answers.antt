@@ -36,6 +36,6 @@ returns-in-Some-clause-drafted c = λ account life m.
     let registry = c.args.machine.now.registry in
     let off = c.is_late.ensures.early account registry life m.stands c.if-is_late.false in
     text_refused account registry life c.args.text.now c.in-Err.fault c.in-Some.refusal _ c.one_reading.ensures
-    (λ at why e. c.in-Err.ensures.fault at why (ap Err e))
-    (λ at what e. c.in-Err.ensures.destructive at what (ap Err e))
+    (λ at end flaw e. c.in-Err.ensures.fault at end flaw (ap Err e))
+    (λ at end what e. c.in-Err.ensures.destructive at end what (ap Err e))
     c.in-Some.ensures c.refused-in-Some.ensures.reply c.refused-in-Some.ensures.change m.in_quota off
