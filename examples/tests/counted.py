@@ -201,17 +201,14 @@ def aggregations(folder):
 
 
 def entries(folder):
-    """Stores with room for each number of entries from a thousand on, and one entry more, which is dropped.
-
-    A table takes time by the square of its rows. Those of twenty thousand and more aren't asked, but for the longest.
-    """
+    """Stores with room for each number of entries from a thousand on, and one entry more, which is dropped. Each table is read."""
     path = folder / "machine.json"
     path.write_text(machine([[fired(place) for place in range(FIRINGS_MAX)]]))
     most = (1 << 20) // 24
     for count in near(most, 1_023):
         begun = [option("aggsize", min(24 * count + 23, 1 << 20)), option("histsize", FIRINGS_MAX), (enable("read:entry{@[arg0] = count()}"), enabled(1)), go()]
-        shown = [table("count", [{"key": [place], "value": 1} for place in range(count)])] if count < 20_000 or count == most else []
-        yield from sessions(path, f"{count} entries", [[*begun, *fires(count + 1), *shown, status(count + 1, aggdrops=1)]])
+        shown = table("count", [{"key": [place], "value": 1} for place in range(count)])
+        yield from sessions(path, f"{count} entries", [[*begun, *fires(count + 1), shown, status(count + 1, aggdrops=1)]])
 
 
 def refused(name, value):

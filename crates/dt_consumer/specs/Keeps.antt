@@ -1,4 +1,4 @@
--- How a consumer keeps its set-up, and what happened on each processor. Only proofs need these definitions.
+-- How a consumer keeps its set-up, and what happened on each processor: what `StandsFor` is made of.
 use Rattle.std.specs.Prelude.{◌≡◌, ℕ, ◌+◌, Bool, true, false, List, [], ◌∷◌, None, IfSome, if◌then◌else◌, MatchOption}
 use Rattle.std.specs.Prelude.{length, map, slice_get}
 use Rattle.dt_buffer.specs.History.{BufferPast, of_end}
