@@ -67,12 +67,16 @@ pub fn command_of(alloc: Global, line: &[u8]) -> Result<Command, Refusal>
 fn fixed_command(line: &[u8]) -> Option<Command>
     ensures { IfSome result (λ command. requested line.now ≡ Ok (request_of command)) }
 {
-    match line {
-        b"{\"cmd\":\"status\"}" => Some(Command::Status),
-        b"{\"cmd\":\"go\"}" => Some(Command::Go),
-        b"{\"cmd\":\"stop\"}" => Some(Command::Stop),
-        b"{\"cmd\":\"close\"}" => Some(Command::Close),
-        _ => None,
+    if line == b"{\"cmd\":\"status\"}".as_slice() {
+        Some(Command::Status)
+    } else if line == b"{\"cmd\":\"go\"}".as_slice() {
+        Some(Command::Go)
+    } else if line == b"{\"cmd\":\"stop\"}".as_slice() {
+        Some(Command::Stop)
+    } else if line == b"{\"cmd\":\"close\"}".as_slice() {
+        Some(Command::Close)
+    } else {
+        None
     }
 }
 
