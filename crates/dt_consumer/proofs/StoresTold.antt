@@ -5,7 +5,7 @@ use Rattle.std.specs.List.{AllByRecursion, AllZip, flat_map, range_with_len}
 use Rattle.std.specs.Option.{option_map, option_to_list}
 use Rattle.std.specs.Vec.{vec_len}
 use Rattle.std.proofs.lemmas.List.{append-nil}
-use Rattle.dt_aggfn.specs.Answers.{answer_of}
+use Rattle.dt_aggfn.specs.Answers.{answer_of_bag}
 use Rattle.dt_aggstore.specs.Chosen.{choice_of, drops, gives_value}
 use Rattle.dt_aggstore.specs.Held.{Contribution, counted, distinct, held}
 use Rattle.dt_aggstore.specs.Table.{joined_bag}
@@ -139,7 +139,7 @@ empty_table account registry s a quiet =
     sym (ap
     (λ es. map (λ key. record {
       key = key;
-      value = answer_of a.function (joined_bag a key pasts (map choice_of pasts));
+      value = answer_of_bag a.function (joined_bag a key pasts (map choice_of pasts));
     }) (rising_keys a es))
     (all_held (given_in account registry s) (range_with_len 0 registry.cpus)
     (λ cpu. quiet_gives account registry (shapes_in s) (ecbs_in account registry s) cpu s.since quiet)))
