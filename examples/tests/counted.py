@@ -211,6 +211,17 @@ def entries(folder):
         yield from sessions(path, f"{count} entries", [[*begun, *fires(count + 1), shown, status(count + 1, aggdrops=1)]])
 
 
+def wide_tables(folder):
+    """A table of several full stores with different keys: four times as many rows as one store can have."""
+    path = folder / "machine.json"
+    each, cpus = (1 << 20) // 24, 4
+    path.write_text(machine([[fired(cpu * each + place) for place in range(each)] for cpu in range(cpus)]))
+    fires = [(f"fire {cpu}", None) for _place in range(each) for cpu in range(cpus)]
+    rows = [{"key": [place], "value": 1} for place in range(cpus * each)]
+    yield from sessions(path, "a table of four full stores", [[option("aggsize", 1 << 20), option("histsize", cpus * each),
+                        (enable("read:entry{@[arg0] = count()}"), enabled(1)), go(), *fires, table("count", rows)]])
+
+
 def refused(name, value):
     """A value as it is written, which an option doesn't take."""
     return call(cmd="option", name=name, value=0)[:-2] + value + "}", REFUSED
@@ -235,4 +246,4 @@ def options(folder):
     yield from sessions(path, "policies and names of options", [taken + others])
 
 
-judge(accounts, processes, scripts, probes, ecbs, aggregations, entries, options)
+judge(accounts, processes, scripts, probes, ecbs, aggregations, entries, wide_tables, options)

@@ -5,7 +5,7 @@ Where a trail agrees, all before the change is in order, so the place that is na
 import json
 import random
 
-from running import FIRINGS_MAX, LINES_MAX, call, fired, judge, machine, run, text_of
+from running import FIRINGS_MAX, HISTORY_MAX, LINES_MAX, call, fired, judge, machine, run, text_of
 
 CPUS = 4
 SESSIONS = 1_200
@@ -57,6 +57,22 @@ def longest_trail(folder):
     at = told.rindex(b"\nreply ")
     other = told[:at] + b"\nreply x" + told[told.index(b"\n", at + 1):]
     yield "a check of the longest trail with another last reply", checked(path, trail, other), (b"differs at %d\n" % LINES_MAX, 1)
+
+
+def longest_history(folder):
+    """A session that sees as many firings as the longest history has, and asks some lines between; and a firing more."""
+    cpus = HISTORY_MAX // FIRINGS_MAX
+    path, trail = folder / "machine.json", folder / "trail"
+    path.write_text(machine([[fired(place) for place in range(FIRINGS_MAX)] for _cpu in range(cpus)]))
+    steps = ["open 0 root", call(cmd="option", name="histsize", value=HISTORY_MAX), call(cmd="option", name="bufsize", value=4),
+             call(cmd="enable", text="read:entry{@ = count()}"), call(cmd="go")]
+    for cpu in range(cpus):
+        steps += [f"fire {cpu}"] * FIRINGS_MAX + [call(cmd="agg", name="")]
+    told, status = run("replay", path, "--trail", 0, text=text_of(steps))
+    lines = len(steps) - HISTORY_MAX - 1
+    yield "the trail of the longest history", (status, told.count(b"\nline "), told.count(b"\nfired ")), (0, lines, HISTORY_MAX)
+    yield "a check of the trail of the longest history", checked(path, trail, told), (b"agree %d\n" % lines, 0)
+    yield "a check of it and a firing", checked(path, trail, told + b"fired 0 0\n"), (b"illegal at %d\n" % (lines + HISTORY_MAX + 1), 1)
 
 
 ASKED = [
@@ -210,4 +226,4 @@ def further_entries(folder):
         yield f"a trail and {what}", checked(path, trail, text(first, [*entries, entry])), (wanted.encode(), int(not found.startswith("agree")))
 
 
-judge(longest_trail, random_trails, changed_commands, cut_trails, further_entries, quota)
+judge(longest_trail, longest_history, random_trails, changed_commands, cut_trails, further_entries, quota)

@@ -4,7 +4,7 @@ Most parts are sessions one after another on one seat, whose replies are reckone
 """
 import json
 
-from running import (FIRINGS_MAX, OK, call, enable, enabled, fired, fires, go, judge, machine, near, number, option, run, sessions, snap, status, table,
+from running import (FIRINGS_MAX, HISTORY_MAX, OK, call, enable, enabled, fired, fires, go, judge, machine, near, number, option, run, sessions, snap, status, table,
                      text_of)
 
 EDGES = sorted({sign * power + by for power in (1 << n for n in range(63)) for sign in (-1, 1) for by in (-1, 0, 1)} | {-1 << 63, (1 << 63) - 1})
@@ -134,13 +134,32 @@ def histories(folder):
     path.write_text(full_machine(6))
     rows, place = [], 0
     for size in near(FIRINGS_MAX):
-        fires = [(f"fire {at // FIRINGS_MAX}", None) for at in range(place, place + size + 1)]
+        rows.append(history_of(size, [at // FIRINGS_MAX for at in range(place, place + size + 1)], 6))
         place += size + 1
-        zeros = json.dumps([0] * 6, separators=(",", ":"))
-        ended = f'{{"aggdrops":{zeros},"cause":"history","errors":{zeros},"exit":null,"ok":true,"phase":"stopped","seen":{size}}}'
-        rows.append([option("histsize", size), (enable("read:entry{@ = count()}"), enabled(1)), go(), *fires, table("count", [{"key": [], "value": size}]),
-                     (call(cmd="status"), ended)])
     yield from sessions(path, "histories", rows)
+
+
+def long_histories(folder):
+    """Histories longer than a script, each with one firing more, which isn't seen, up to the longest: by 17 processors, one after the other. And one
+    that ends in the middle of the second of two scripts."""
+    path = folder / "machine.json"
+    path.write_text(full_machine(2))
+    yield from sessions(path, "a history over two scripts", [history_of(65_537, [0] * 40_000 + [1] * 40_000, 2)])
+    path.write_text(full_machine(17))
+    for sizes in ([(1 << 17) - 1, (1 << 18) + 1, 1 << 19], [HISTORY_MAX]):
+        rows, place = [], 0
+        for size in sizes:
+            rows.append(history_of(size, [at // FIRINGS_MAX for at in range(place, place + size + 1)], 17))
+            place += size + 1
+        yield from sessions(path, f"histories of {', '.join(map(str, sizes))}", rows)
+
+
+def history_of(size, fired_on, cpus):
+    """A session whose history has this many firings: these processors fire, one after the other."""
+    zeros = json.dumps([0] * cpus, separators=(",", ":"))
+    ended = f'{{"aggdrops":{zeros},"cause":"history","errors":{zeros},"exit":null,"ok":true,"phase":"stopped","seen":{size}}}'
+    return [option("histsize", size), (enable("read:entry{@ = count()}"), enabled(1)), go(), *((f"fire {cpu}", None) for cpu in fired_on),
+            table("count", [{"key": [], "value": size}]), (call(cmd="status"), ended)]
 
 
 def row_of(value):
@@ -263,4 +282,4 @@ def long_inputs(folder):
     yield "ten megabytes of empty lines", run("replay", path, text=b"\n" * 10_000_000 + b"x\n"), (b"line 10000001: refused\n", 1)
 
 
-judge(sizes, histories, values, frames, arguments, megabyte_snaps, descriptions, seats, processors, long_inputs)
+judge(sizes, histories, long_histories, values, frames, arguments, megabyte_snaps, descriptions, seats, processors, long_inputs)

@@ -3,6 +3,7 @@ pub use Rattle.dt_proto.specs.Views
 pub use Rattle.dt_steps.specs.World
 pub use Rattle.dt_steps.specs.Steps
 pub use Rattle.dt_steps.specs.Ran
+pub mod Limits
 pub mod Words
 pub mod StepLine
 pub mod Input

@@ -8,6 +8,8 @@
 //! is read by [`StepLine::parse`]; what a replay does, line by line, stands in `specs/Replay.antt`.
 #![tactic(auto)]
 
+mod limit_laws;
+mod limits;
 mod output;
 mod progress;
 mod replay_laws;
@@ -16,6 +18,7 @@ mod step_line;
 mod words;
 
 pub use dt_steps::{Ran, Step, agree_alike, run, seen_alike, told_alone, worlds_are_sound};
+pub use limit_laws::limits_agree;
 pub use replay_laws::{one_output, one_trail, replays_are_runs};
 pub use replays::{ReplayFault, replay, replay_trail};
 pub use step_line::{StepLine, one_step_line};

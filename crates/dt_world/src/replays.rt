@@ -7,6 +7,7 @@ ghost use Rattle.dt_world.specs.Replay.{IsReplay, IsTrailReplay};
 ghost use Rattle.dt_world.specs.Replaying.{HasReplayed, HasFailed};
 ghost use Rattle.dt_world.specs.Told.{IsOutput};
 
+use crate::limits::READS_MAX;
 use crate::output::Wanted;
 use crate::progress::Progress;
 use dt_chain::Seat;
@@ -14,9 +15,6 @@ use dt_machine::{Machine, MachineFault};
 use std::alloc::{AllocError, Global};
 use std::io::{ErrorKind, Read, Write};
 use thiserror::Error;
-
-/// The most reads of an input.
-const READS_MAX: u64 = 1 << 28;
 
 /// How many bytes are asked of an input at once.
 const CHUNK: usize = 8192;
