@@ -30,7 +30,6 @@ impl Place {
     ghost use Rattle.dt_steps.specs.Stands.{IsAskedOn, IsFinishedOn, IsPublishedOn, opened_on, closed_on, first_account, sees_on};
     ghost use Rattle.dt_steps.specs.Steps as steps;
     ghost use Rattle.dt_steps.specs.World as world;
-    ghost use Rattle.dt_steps.specs.World.{Place, Session, Pending};
 
     /// A seat on which there was no session yet.
     pub(crate) fn new() -> Place
@@ -49,7 +48,7 @@ impl Place {
         machine: &Machine,
         name: &[u8],
     ) -> Result<(), AllocError>
-        ensures { OnOk result ((place : Place) → IsHeld machine.now.registry place self.old
+        ensures { OnOk result ((place : world.Place) → IsHeld machine.now.registry place self.old
             → IsHeld machine.now.registry (opened_on machine.now.registry place name.now) self.new) }
     {
         // on a taken seat, or without an account that may trace, the step isn't enabled
@@ -72,9 +71,9 @@ impl Place {
         machine: &Machine,
         line: WholeLine<'_>,
     ) -> Result<Option<Answered>, AllocError>
-        ensures asked { IfOk result (λ reply. (place : Place) → IsHeld machine.now.registry place self.old
+        ensures asked { IfOk result (λ reply. (place : world.Place) → IsHeld machine.now.registry place self.old
             → IsAskedOn machine.now.registry place (form_lent line.entry) (option_map (λ answered. answered.text.items) reply) self.new) }
-        ensures over { IfOk result (λ reply. IfSome reply (λ answered. (place : Place) (session : Session)
+        ensures over { IfOk result (λ reply. IfSome reply (λ answered. (place : world.Place) (session : world.Session)
             → IsHeld machine.now.registry place self.old → place.present ≡ Some session
             → answered.is_over ≡ is_over (world.life_in machine.now.registry session))) }
     {
@@ -86,9 +85,9 @@ impl Place {
 
     /// Lets the published `go` of its session take effect, and answers the reply's bytes.
     pub(crate) fn finish(&mut self, machine: &Machine) -> Option<Finished>
-        ensures finished { (place : Place) → IsHeld machine.now.registry place self.old
+        ensures finished { (place : world.Place) → IsHeld machine.now.registry place self.old
             → IsFinishedOn machine.now.registry place (option_map (λ finished. finished.text.items) result) self.new }
-        ensures line { IfSome result (λ finished. (place : Place) (session : Session) (pending : Pending)
+        ensures line { IfSome result (λ finished. (place : world.Place) (session : world.Session) (pending : world.Pending)
             → IsHeld machine.now.registry place self.old → place.present ≡ Some session → session.go ≡ Some pending
             → form_asked finished.line ≡ pending.line) }
     {
@@ -100,7 +99,7 @@ impl Place {
 
     /// Publishes the interest of its session, where a `go` of that is pending and not published.
     pub(crate) fn publish(&mut self, entries: &mut Entries, seat: Seat) -> Result<(), AllocError>
-        ensures { OnOk result ((registry : Registry) (place : Place) (writes : List Write)
+        ensures { OnOk result ((registry : Registry) (place : world.Place) (writes : List Write)
             → IsHeld registry place self.old → EntriesAreAt writes entries.old
             → IsPublishedOn registry seat place writes self.new entries.new) }
     {
@@ -117,7 +116,7 @@ impl Place {
 
     /// Whether its entry may be withdrawn: no consumer on it is active, and no `go` is pending.
     pub(crate) fn may_withdraw(&self) -> bool
-        ensures { (registry : Registry) (place : Place) → IsHeld registry place self.now
+        ensures { (registry : Registry) (place : world.Place) → IsHeld registry place self.now
             → result ≡ option_map_or (world.may_withdraw registry) place.present true }
     {
         match &self.present {
@@ -128,10 +127,10 @@ impl Place {
 
     /// A firing reaches its session, if that has this life. Answers whether the session saw the firing.
     pub(crate) fn deliver(&mut self, machine: &Machine, life: u64, moment: &Moment) -> bool
-        ensures seen { (place : Place) → IsHeld machine.now.registry place self.old
+        ensures seen { (place : world.Place) → IsHeld machine.now.registry place self.old
             → IsMoment machine.now.registry moment.now
             → result ≡ sees_on machine.now.registry (record { life = life; firing = moment.now.firing.now }) place }
-        ensures reached { (place : Place) → IsHeld machine.now.registry place self.old
+        ensures reached { (place : world.Place) → IsHeld machine.now.registry place self.old
             → IsMoment machine.now.registry moment.now
             → IsHeld machine.now.registry
             (steps.offered (record { life = life; firing = moment.now.firing.now }) place) self.new }
@@ -148,7 +147,7 @@ impl Place {
 
     /// Whether its session is there, and the first on the seat.
     pub(crate) fn is_first(&self) -> bool
-        ensures { (registry : Registry) (place : Place) → IsHeld registry place self.now
+        ensures { (registry : Registry) (place : world.Place) → IsHeld registry place self.now
             → result ≡ is_some (first_account place) }
     {
         match &self.present {
@@ -159,7 +158,7 @@ impl Place {
 
     /// The account of its session, where that is the first on the seat.
     pub(crate) fn first(&self) -> Option<Account>
-        ensures { (registry : Registry) (place : Place) → IsHeld registry place self.now → result ≡ first_account place }
+        ensures { (registry : Registry) (place : world.Place) → IsHeld registry place self.now → result ≡ first_account place }
     {
         match &self.present {
             Some(session) if self.earlier == 0 => Some(session.account),
@@ -169,7 +168,7 @@ impl Place {
 
     /// Ends its session.
     pub(crate) fn close(&mut self)
-        ensures { (registry : Registry) (place : Place) → length place.earlier + 1 < 2 ^ 64 → IsHeld registry place self.old
+        ensures { (registry : Registry) (place : world.Place) → length place.earlier + 1 < 2 ^ 64 → IsHeld registry place self.old
             → IsHeld registry (closed_on place) self.new }
     {
         if self.present.is_some() {

@@ -58,7 +58,6 @@ impl Session {
     ghost use Rattle.dt_steps.specs.Stands.{IsServed, IsSession, IsAsked, IsFinishing, is_unpublished};
     ghost use Rattle.dt_life.specs.Tests.{is_seen};
     ghost use Rattle.dt_steps.specs.World as world;
-    ghost use Rattle.dt_steps.specs.World.{Session, Pending};
 
     /// A session of an account that has asked nothing.
     pub(crate) fn new(
@@ -78,7 +77,7 @@ impl Session {
 
     /// Whether it may ask a line: no `go` is pending, and no `close` was accepted.
     pub(crate) fn may_ask(&self) -> bool
-        ensures may { (registry : Registry) (session : Session) → IsSession registry session self.now
+        ensures may { (registry : Registry) (session : world.Session) → IsSession registry session self.now
             → result ≡ world.may_ask registry session }
         ensures idle { result ≡ true → self.now.go ≡ None }
     {
@@ -94,10 +93,10 @@ impl Session {
         line: WholeLine<'_>,
     ) -> Result<Option<Answered>, AllocError>
         requires { self.old.go ≡ None }
-        ensures asked { IfOk result (λ reply. (session : Session) → IsSession machine.now.registry session self.old
+        ensures asked { IfOk result (λ reply. (session : world.Session) → IsSession machine.now.registry session self.old
             → world.may_ask machine.now.registry session ≡ true
             → IsAsked machine.now.registry session (form_lent line.entry) (option_map (λ answered. answered.text.items) reply) self.new) }
-        ensures over { IfOk result (λ reply. IfSome reply (λ answered. (session : Session)
+        ensures over { IfOk result (λ reply. IfSome reply (λ answered. (session : world.Session)
             → IsSession machine.now.registry session self.old
             → answered.is_over ≡ is_over (world.life_in machine.now.registry session))) }
     {
@@ -123,7 +122,7 @@ impl Session {
 
     /// Whether a `go` is pending whose interest is still to be published.
     pub(crate) fn is_unpublished(&self) -> bool
-        ensures { (registry : Registry) (session : Session) → IsSession registry session self.now
+        ensures { (registry : Registry) (session : world.Session) → IsSession registry session self.now
             → result ≡ is_unpublished session }
     {
         match &self.go {
@@ -134,7 +133,7 @@ impl Session {
 
     /// The interest was published for the pending `go`.
     pub(crate) fn set_published(&mut self)
-        ensures { (registry : Registry) (session : Session) (pending : Pending)
+        ensures { (registry : Registry) (session : world.Session) (pending : world.Pending)
             → IsSession registry session self.old → session.go ≡ Some pending
             → IsSession registry (world.waiting session pending.line true) self.new }
     {
@@ -146,9 +145,9 @@ impl Session {
     /// A pending `go` whose interest was published takes effect, and is answered. Where there is none, nothing happens: as
     /// long as the interest isn't published no look names the session, so the `go` waits on.
     pub(crate) fn finish(&mut self, machine: &Machine) -> Option<Finished>
-        ensures finished { (session : Session) → IsSession machine.now.registry session self.old
+        ensures finished { (session : world.Session) → IsSession machine.now.registry session self.old
             → IsFinishing machine.now.registry session (option_map (λ finished. finished.text.items) result) self.new }
-        ensures line { IfSome result (λ finished. (session : Session) (pending : Pending)
+        ensures line { IfSome result (λ finished. (session : world.Session) (pending : world.Pending)
             → IsSession machine.now.registry session self.old → session.go ≡ Some pending
             → form_asked finished.line ≡ pending.line) }
     {
@@ -166,7 +165,7 @@ impl Session {
 
     /// Whether its entry may be withdrawn: it is not active, and no `go` is pending.
     pub(crate) fn may_withdraw(&self) -> bool
-        ensures { (registry : Registry) (session : Session) → IsSession registry session self.now
+        ensures { (registry : Registry) (session : world.Session) → IsSession registry session self.now
             → result ≡ world.may_withdraw registry session }
     {
         self.go.is_none() && !matches!(self.consumer.phase(), Phase::Active)
@@ -174,10 +173,10 @@ impl Session {
 
     /// A firing reaches it. Answers whether it saw the firing.
     pub(crate) fn offer(&mut self, machine: &Machine, moment: &Moment) -> bool
-        ensures seen { (account : Account) (life : List Item) (go : Option Pending)
+        ensures seen { (account : Account) (life : List Item) (go : Option world.Pending)
             → IsServed machine.now.registry account life go self.old → IsMoment machine.now.registry moment.now
             → result ≡ is_seen account machine.now.registry life moment.now.firing.now }
-        ensures reached { (account : Account) (life : List Item) (go : Option Pending)
+        ensures reached { (account : Account) (life : List Item) (go : Option world.Pending)
             → IsServed machine.now.registry account life go self.old → IsMoment machine.now.registry moment.now
             → IsServed machine.now.registry account
             (if is_seen account machine.now.registry life moment.now.firing.now then fired moment.now.firing.now ∷ life else life)
