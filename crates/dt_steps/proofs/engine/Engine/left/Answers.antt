@@ -8,10 +8,10 @@ pub returns-in-Some : goal.returns-in-Some
 returns-in-Some c = λ registry world at seat.
     let processors = c.args.self.now.processors.items in
     let lookup = c.in-Some.ensures.lookup in
-    let is = read_at processors c.deref.result.now c.args.cpu c.in-Some.looked.now c.in-Some.looked.now
+    let is = read_at processors c.deref.result.now c.args.cpu c.in-Some.due.now c.in-Some.due.now
     c.deref.ensures.value lookup.0 lookup.1 refl in
     left-looked registry world c.args.self.now.seats.items c.args.self.now.entries processors at.0 at.1 c.args.cpu
-    c.in-Some.looked.now (life_at c.mask.result seat) is seat (c.mask.ensures seat)
+    c.in-Some.due.now (life_at c.mask.result seat) is seat (c.mask.ensures seat)
 
 pub returns-in-None : goal.returns-in-None
 returns-in-None c = λ registry world at seat.

@@ -55,13 +55,13 @@ returns-in_ok-publish-in-Publish c = λ world few at.
 pub returns-in-Finish : goal.returns-in-Finish
 returns-in-Finish c = λ world few at.
     let registry = c.args.machine.now.registry in
-    subst (λ step. EngineIsAt registry (after_step registry world step) c.finish.new.self
+    subst (λ step. EngineIsAt registry (after_step registry world step) c.finish-reply.new.self
     × IsTelling registry world (after_step registry world step) c.finished.result)
     (sym (ap form_of_step c.in-Finish.is)) (
-      c.finish.ensures.at world at,
+      c.finish-reply.ensures.at world at,
       subst (IsTelling registry world (finishing world c.in-Finish.seat)) (sym c.finished.ensures)
           (telling_replied (λ (finished : Finished). finished.text) registry world (finishing world c.in-Finish.seat)
-          c.in-Finish.seat c.finish.result (c.finish.ensures.answer world at)
+          c.in-Finish.seat c.finish-reply.result (c.finish-reply.ensures.answer world at)
           (looks-finishing registry world c.in-Finish.seat)),
     )
 
