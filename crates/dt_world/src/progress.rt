@@ -77,7 +77,7 @@ impl<'m> Progress<'m> {
         machine: &'m Machine,
         step: StepLine<'_>,
     ) -> Result<(), AllocError>
-        requires { IsLineOn machine.now.registry (form_of_step_line step.entry) }
+        requires { IsLineOn machine.now.registry (form_of_step_line step) }
         ensures { OnOk result ((wanted : Wanted) (now : Replayed) → ((seat : ℕ) → number_on now.world seat + 1 < 2 ^ 64)
             → IsAfter wanted machine.now now self.old
             → IsAfter wanted machine.now (after_step_line machine.now now (form_of_step_line step.entry)) self.new) }
