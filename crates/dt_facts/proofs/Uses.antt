@@ -6,12 +6,12 @@ use Rattle.dt_chain.specs.Writes.{Write}
 use Rattle.dt_facts.specs.declared.fact.Fact.{Fact}
 use Rattle.dt_facts.specs.declared.rule.View.{View}
 use Rattle.dt_facts.specs.Facts.{Follows}
-use Rattle.dt_facts.specs.Rule.{Mine, share, book, both, both_unchecked, writes_begun, writes_told, book_begun, maker_view, no_view, next_maker, made, with_share, without_share, share_alone, beginning_of, with_told, with_beginning, AllAgree, HasAgreed, HasGoneOn, HasBegun, HasLearntWrites}
+use Rattle.dt_facts.specs.Rule.{Mine, share, book, both, both_unchecked, writes_begun, writes_told, book_begun, maker_view, no_view, next_maker, made_view, with_share, without_share, share_alone, beginning_of, with_told, with_beginning, AllAgree, HasAgreed, HasGoneOn, HasBegun, HasLearntWrites}
 use Rattle.dt_facts.proofs.Keeping.{makes, joins, agrees, goes_on, cuts}
 use Rattle.dt_facts.proofs.Growing.{begins, tells, learns, opens, compares}
 
-pub makes_as : (id : ℕ) (v : View) (m : ℕ) → v ≡ maker_view m → Splits AllAgree id v (next_maker v) (made v)
-makes_as id v m e = subst (λ (u : View). Splits AllAgree id u (next_maker u) (made u)) (sym e) (makes id m)
+pub makes_as : (id : ℕ) (v : View) (m : ℕ) → v ≡ maker_view m → Splits AllAgree id v (next_maker v) (made_view v)
+makes_as id v m e = subst (λ (u : View). Splits AllAgree id u (next_maker u) (made_view u)) (sym e) (makes id m)
 
 pub joins_as : (id : ℕ) (v : View) (n : ℕ) (x : Fact) (other : ℕ) (w : View) (y : Fact) → v ≡ book n x → w ≡ share n y → Joins AllAgree id v other w (with_share v w) no_view
 joins_as id v n x other w y e e' = subst (λ (p : View × View). Joins AllAgree id p.0 other p.1 (with_share p.0 p.1) no_view) (λ i. (sym e i, sym e' i)) (joins id n x other y)

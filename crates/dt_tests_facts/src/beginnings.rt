@@ -1,7 +1,7 @@
 //! Beginnings of writes, learnt and compared.
 ghost use Rattle.std.specs.Prelude.{◌≡◌};
 ghost use mathlib.Core.List.{IsPrefix};
-ghost use Rattle.dt_facts.specs.Facts.{writes_in, longer, Follows};
+ghost use Rattle.dt_facts.specs.Facts.{writes_in, longer_writes, Follows};
 ghost use Rattle.dt_facts.specs.Handles.{begun, holding};
 
 use dt_facts::{Beginning, Book, Facts, Given, Share};
@@ -36,7 +36,7 @@ fn longer_begins(facts: &Facts, book: &mut Book, one: Beginning, other: Beginnin
     requires book { book.old.word ≡ facts.now }
     requires one { (one.word ≡ facts.now) × (one.name ≡ book.old.name) }
     requires other { (other.word ≡ facts.now) × (other.name ≡ book.old.name) }
-    ensures begins { IsPrefix (longer one.writes other.writes) (writes_in book.old.fact) }
+    ensures begins { IsPrefix (longer_writes one.writes other.writes) (writes_in book.old.fact) }
     ensures same { book.new ≡ book.old }
 {
     let mut one = one;
