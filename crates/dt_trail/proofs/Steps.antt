@@ -8,7 +8,7 @@ use Rattle.atomic_blocks.specs.Cells.{Row, State, Step, step, no_row, row, cell_
 use Rattle.dt_trail.specs.declared.door.Door.{Door}
 use Rattle.dt_trail.specs.declared.rule.Site.{Site}
 use Rattle.dt_trail.specs.declared.rule.View.{View}
-use Rattle.dt_trail.specs.Items.{TrailItem, code, IsReal, AllReal, own, code_at, StartsWith, longer, Stands}
+use Rattle.dt_trail.specs.Items.{TrailItem, code, IsReal, AllReal, own, code_at, StartsWith, longer, IsWordAt}
 use Rattle.dt_trail.specs.Blocks.{flat, before, BlockLiesAt}
 use Rattle.dt_trail.specs.Rule.{NoSlot, FitsRow, Kept, Turn, appender, through, door_at, pushed, reviewed, FindsItem, HasCompared, TurnReads, HasLearnt, learnt, IsLast, IsTurned, IsSeen, IsBack, IsFoundAgain}
 use Rattle.dt_trail.proofs.Begins.{starts_length, starts_longer, own_rest, own_longer, not_own, All-at, code_some, code_behind, stands_begun}
@@ -192,7 +192,7 @@ module _ {K : Type 0} (lawful : K → List TrailItem → Type 0) (root : Ptr) (a
       let found_is : word_of s.rows (suc m.view.door.block) i ≡ code_at (m.view.knows ++ f.begins.0) (m.view.door.from + i) = word_is lawful root acct s h m.view.door i st near ∙ ap (λ l. code_at l k) f.begins.1 in (
         in_block lawful root acct s h m.view.door i st near,
         λ _. quiet lawful root acct s h (suc m.view.door.block) i id m m.view (IsFoundAgain (step (suc m.view.door.block) m.view.door.link.ptr i 0 0) m word) (fits_again lawful root acct s h id m.view f)
-            (refl, subst (Stands m.view.knows k) (sym found_is) (stands_begun m.view.knows f.begins.0 k known (subst AllReal f.begins.1 h.shows.real))),
+            (refl, subst (IsWordAt m.view.knows k) (sym found_is) (stands_begun m.view.knows f.begins.0 k known (subst AllReal f.begins.1 h.shows.real))),
       )
 
   -- a read of the root: where the block lies

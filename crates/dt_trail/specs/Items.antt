@@ -41,8 +41,8 @@ code_at (x ∷ xs) zero = code x
 code_at (x ∷ xs) (suc k) = code_at xs k
 
 -- the word stands for the item at this place
-abbrev pub Stands : List TrailItem → ℕ → ℕ → Type 0
-Stands items k word = (item : TrailItem) × (slice_get items k ≡ Some item) × IsReal item × (word ≡ code item)
+abbrev pub IsWordAt : List TrailItem → ℕ → ℕ → Type 0
+IsWordAt items k word = (item : TrailItem) × (slice_get items k ≡ Some item) × IsReal item × (word ≡ code item)
 
 -- the list begins with what was seen
 abbrev pub StartsWith : List TrailItem → List TrailItem → Type 0

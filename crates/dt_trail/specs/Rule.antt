@@ -8,7 +8,7 @@ use Rattle.atomic_blocks.specs.declared.rows.loose.Link.{Link}
 use Rattle.dt_trail.specs.declared.door.Door.{Door}
 use Rattle.dt_trail.specs.declared.rule.Site.{Site}
 use Rattle.dt_trail.specs.declared.rule.View.{View}
-use Rattle.dt_trail.specs.Items.{TrailItem, whose, code, IsReal, AllReal, own, code_at, StartsWith, longer, Stands}
+use Rattle.dt_trail.specs.Items.{TrailItem, whose, code, IsReal, AllReal, own, code_at, StartsWith, longer, IsWordAt}
 use Rattle.dt_trail.specs.Blocks.{flat, Laid, BlockLiesAt}
 
 abbrev pub NoSlot : Type 0
@@ -184,7 +184,7 @@ module _ {K : Type 0} where
 
   -- the word stands for an item that the seat knows
   abbrev pub IsFoundAgain : Step → Turn K → ℕ → Turn K → Type 0
-  IsFoundAgain st m found n = (n ≡ m) × Stands m.view.knows (m.view.door.from + st.index) found
+  IsFoundAgain st m found n = (n ≡ m) × IsWordAt m.view.knows (m.view.door.from + st.index) found
 
   abbrev pub planned_at : View K → Ptr → View K
   planned_at v p = viewed v.account v.live v.owns v.makes v.note v.knows v.had v.door (site_of v.site.blocks v.site.cells true p)

@@ -1,6 +1,6 @@
 //! How a seat reads an item again that it knows.
 ghost use Rattle.std.specs.Prelude.{◌≡◌, ◌<◌, ◌≤◌, ◌+◌, length, Some};
-ghost use Rattle.dt_trail.specs.Items.{Stands};
+ghost use Rattle.dt_trail.specs.Items.{IsWordAt};
 ghost use Rattle.dt_trail.specs.Rule.{reviewed, through};
 ghost use Rattle.dt_trail.specs.Insides.{OfRow, SameSeat, IsDoor};
 
@@ -51,7 +51,7 @@ fn look_again<K, L: Law<K>>(inner: &Inner<K, L>, seat: &mut RowSeat<K>, door: Do
     requires seat { OfRow inner.now seat.old }
     requires door { (seat.old.me.view.door ≡ door) × IsDoor door × (door.from ≤ k) × (k < door.from + door.len) }
     requires known { k < length seat.old.me.view.knows }
-    ensures { Stands seat.old.me.view.knows k result }
+    ensures { IsWordAt seat.old.me.view.knows k result }
 {
     let place = (k - door.from) as usize;
     inner
@@ -69,7 +69,7 @@ pub fn word_again<K, L: Law<K>>(
     requires seat { OfRow inner.now seat.old × (seat.old.me.view.account ≡ Some inner.now.about.account) }
     requires door { (seat.old.me.view.door ≡ door) × IsDoor door }
     requires known { k < length seat.old.me.view.knows }
-    ensures { Stands seat.old.me.view.knows k result }
+    ensures { IsWordAt seat.old.me.view.knows k result }
 {
     let near = if k < door.from {
         go_back(inner, seat)
