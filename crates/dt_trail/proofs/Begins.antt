@@ -6,7 +6,7 @@ use Rattle.std.proofs.lemmas.Bool.{ltb-true}
 use Rattle.std.proofs.lemmas.Bool.Decides.{nat_tests}
 use mathlib.Core.Option.{some, some-ne-none, some-injective}
 use lib.ListN.{get_elem?}
-use Rattle.dt_trail.specs.Items.{TrailItem, line, long_line, fired, whose, code, IsReal, AllReal, own, code_at, StartsWith, longer}
+use Rattle.dt_trail.specs.Items.{TrailItem, line, long_line, fired, whose, code, IsReal, AllReal, own, code_at, StartsWith, longer, IsWordAt}
 
 pub starts_self : (xs : List TrailItem) → StartsWith xs xs
 starts_self xs = ([], sym (append-nil xs))
@@ -96,6 +96,12 @@ code_some (fired cpu place) = omega arith
 pub code_behind : (xs ys : List TrailItem) → code_at (xs ++ ys) (length xs) ≡ code_at ys 0
 code_behind [] ys = refl
 code_behind (x ∷ xs) ys = code_behind xs ys
+
+-- a beginning has the item whose word the row has there
+pub stands_begun : (xs ys : List TrailItem) (k : ℕ) → k < length xs → AllReal (xs ++ ys) → IsWordAt xs k (code_at (xs ++ ys) k)
+stands_begun [] ys k h a = absurd (omega arith)
+stands_begun (x ∷ xs) ys zero h a = (x, refl, a.0, refl)
+stands_begun (x ∷ xs) ys (suc k) h a = stands_begun xs ys k (omega arith) a.1
 
 pub code_end : (row : List TrailItem) → code_at row (length row) ≡ 0
 code_end [] = refl

@@ -67,6 +67,10 @@ module _ {S : Type 0} where
   before_push (y ∷ bs) x zero h = refl
   before_push (y ∷ bs) x (suc j) h = ap (λ (k : ℕ). length y.cells + k) (before_push bs x j (omega arith))
 
+  pub before_first : (bs : List (Row S)) → before bs 0 ≡ 0
+  before_first [] = refl
+  before_first (x ∷ xs) = refl
+
   pub before_next : (bs : List (Row S)) (j : ℕ) → before bs (suc j) ≡ before bs j + length (row bs j).cells
   before_next [] j = refl
   before_next (x ∷ []) zero = omega arith

@@ -8,11 +8,11 @@ use Rattle.atomic_blocks.specs.Cells.{Row, State, Step, step, no_row, row, cell_
 use Rattle.dt_trail.specs.declared.door.Door.{Door}
 use Rattle.dt_trail.specs.declared.rule.Site.{Site}
 use Rattle.dt_trail.specs.declared.rule.View.{View}
-use Rattle.dt_trail.specs.Items.{TrailItem, code, IsReal, AllReal, own, code_at, StartsWith, longer}
-use Rattle.dt_trail.specs.Blocks.{before, BlockLiesAt}
-use Rattle.dt_trail.specs.Rule.{NoSlot, FitsRow, Kept, Turn, appender, through, door_at, pushed, reviewed, FindsItem, HasCompared, TurnReads, HasLearnt, learnt, IsTurned, IsSeen}
-use Rattle.dt_trail.proofs.Begins.{starts_longer, own_rest, own_longer, not_own, All-at, code_some, code_behind}
-use Rattle.dt_trail.proofs.Flats.{before_next, before_all, before_le}
+use Rattle.dt_trail.specs.Items.{TrailItem, code, IsReal, AllReal, own, code_at, StartsWith, longer, IsWordAt}
+use Rattle.dt_trail.specs.Blocks.{flat, before, BlockLiesAt}
+use Rattle.dt_trail.specs.Rule.{NoSlot, FitsRow, Kept, Turn, appender, through, door_at, pushed, reviewed, FindsItem, HasCompared, TurnReads, HasLearnt, learnt, IsLast, IsTurned, IsSeen, IsBack, IsFoundAgain}
+use Rattle.dt_trail.proofs.Begins.{starts_length, starts_longer, own_rest, own_longer, not_own, All-at, code_some, code_behind, stands_begun}
+use Rattle.dt_trail.proofs.Flats.{before_first, before_next, before_all, before_le}
 use Rattle.dt_trail.proofs.Fitting.{off, root_is, in_root, in_block, word_is, quiet, quiet_link, fits_again, legal_begun}
 
 module _ {K : Type 0} (lawful : K → List TrailItem → Type 0) (root : Ptr) (acct : K) where
@@ -137,7 +137,7 @@ module _ {K : Type 0} (lawful : K → List TrailItem → Type 0) (root : Ptr) (a
             plan = f.plan;
           }) (
             legal_begun lawful root acct s h id v v.knows f f.begins,
-            subst (λ b. MatchBool b ((reviewed m w ≡ m) × (v.owns ≡ true → v.site.cells ≡ d.from + d.len)) (Next w)) (sym (ne_eqb found 0 some))
+            subst (λ b. MatchBool b (IsLast m (reviewed m w)) (Next w)) (sym (ne_eqb found 0 some))
                 (p, pl.1, subst (λ (n : ℕ). n < 2 ^ 40) (sym found_is) pl.3, (let a = before_le bs i in let b = h.laid.wide in let e = from_is in let g = found_is in omega arith), omega arith, refl),
           )
       by_case (no none) =
@@ -145,9 +145,55 @@ module _ {K : Type 0} (lawful : K → List TrailItem → Type 0) (root : Ptr) (a
           let empty : found ≡ 0 = found_is ∙ ap (λ (r : Row NoSlot). length r.cells) gone in
           quiet lawful root acct s h 0 i id m v (IsTurned lawful st0 m found) (fits_again lawful root acct s h id v f) (
             legal_begun lawful root acct s h id v v.knows f f.begins,
-            subst (λ b. MatchBool b ((m ≡ m) × (v.owns ≡ true → v.site.cells ≡ d.from + d.len)) (Next v)) (sym (eq-eqb found 0 empty))
-                (refl, λ o. (f.site o).1 ∙ (sym (before_all bs i (omega arith)) ∙ from_is)),
+            subst (λ b. MatchBool b (IsLast m m) (Next v)) (sym (eq-eqb found 0 empty))
+                (refl, (λ o. (f.site o).1 ∙ whole), known),
           )
+        where
+          whole : length (flat h.world.blocks) ≡ m.view.door.from + m.view.door.len
+          whole = sym (before_all bs i (omega arith)) ∙ from_is
+
+          known : length m.view.knows ≤ m.view.door.from + m.view.door.len
+          known = let a = h.shows.room in let b = starts_length h.world.items m.view.knows f.begins in let e = whole in omega arith
+
+  -- a read of the root: the first block
+  pub goes_back : (id : ℕ) (m : Turn K) → Allows H id m 0 root 0 (λ n. n) (IsBack (step 0 root 0 0 0) m)
+  goes_back id m s h at =
+      let f = h.each id m.view at in
+      let bs = h.world.blocks in
+      let found : ℕ = word_of s.rows 0 0 in
+      let pl = h.laid.places 0 h.laid.some in
+      let found_is : word_of s.rows 0 0 ≡ length (row h.world.blocks 0).cells = ap (λ (r : Row NoSlot). (cell_in r.cells 0).word) (root_is lawful root acct s h) ∙ h.laid.sizes 0 (omega arith) in
+      let w : View K = through m.view (door_at 0 0 found (row bs 0).at) in (
+        in_root lawful root acct s h 0 (omega arith),
+        λ _. quiet lawful root acct s h 0 0 id m w (IsBack (step 0 root 0 0 0) m (word_of s.rows 0 0))
+            (fits_again lawful root acct s h id w record {
+              account = f.account;
+              begins = f.begins;
+              live = f.live;
+              owns = f.owns;
+              makes = f.makes;
+              had = f.had;
+              had_own = f.had_own;
+              stands = (λ _. record { near = h.laid.some; from = sym (before_first bs); len = found_is; at = refl });
+              site = f.site;
+              plan = f.plan;
+            })
+            ((row bs 0).at, pl.1, subst (λ (n : ℕ). 0 < n) (sym found_is) pl.2, subst (λ (n : ℕ). n < 2 ^ 40) (sym found_is) pl.3, refl),
+      )
+
+  -- a read of a cell whose item the seat knows
+  pub reads_again : (id : ℕ) (m : Turn K) (i : ℕ) → 0 < m.view.door.len → m.view.door.from + i < length m.view.knows → i < m.view.door.len
+      → Allows H id m (suc m.view.door.block) m.view.door.link.ptr i (λ n. n) (IsFoundAgain (step (suc m.view.door.block) m.view.door.link.ptr i 0 0) m)
+  reads_again id m i pos known near s h at =
+      let f = h.each id m.view at in
+      let st = f.stands pos in
+      let k : ℕ = m.view.door.from + i in
+      let word = word_of s.rows (suc m.view.door.block) i in
+      let found_is : word_of s.rows (suc m.view.door.block) i ≡ code_at (m.view.knows ++ f.begins.0) (m.view.door.from + i) = word_is lawful root acct s h m.view.door i st near ∙ ap (λ l. code_at l k) f.begins.1 in (
+        in_block lawful root acct s h m.view.door i st near,
+        λ _. quiet lawful root acct s h (suc m.view.door.block) i id m m.view (IsFoundAgain (step (suc m.view.door.block) m.view.door.link.ptr i 0 0) m word) (fits_again lawful root acct s h id m.view f)
+            (refl, subst (IsWordAt m.view.knows k) (sym found_is) (stands_begun m.view.knows f.begins.0 k known (subst AllReal f.begins.1 h.shows.real))),
+      )
 
   -- a read of the root: where the block lies
   pub sees : (id : ℕ) (m : Turn K) (i : ℕ) → 0 < m.view.door.len → i ≡ m.view.door.block → i < 33

@@ -9,7 +9,7 @@ use Rattle.dt_trail.specs.declared.rule.Site.{Site}
 use Rattle.dt_trail.specs.declared.rule.View.{View}
 use Rattle.dt_trail.specs.Items.{TrailItem, whose, code, IsReal}
 use Rattle.dt_trail.specs.Insides.{IsDoor}
-use Rattle.dt_trail.specs.Rule.{NoSlot, Kept, Turn, note, appender, owner, maker, nobody, site_of, with_right, without_right, right_of, maker_after, made, row_ended, IsSet, HasCompared, TurnReads, HasLearnt, IsTurned, IsSeen, IsPlanned, IsLaid, reviewed, through, door_at, claim, claim_of, informed}
+use Rattle.dt_trail.specs.Rule.{NoSlot, Kept, Turn, note, appender, owner, maker, nobody, site_of, with_right, without_right, right_of, maker_after, made, row_ended, IsSet, HasCompared, TurnReads, HasLearnt, IsLast, IsTurned, IsSeen, IsBack, IsFoundAgain, IsPlanned, IsLaid, reviewed, through, door_at, claim, claim_of, informed}
 use Rattle.dt_trail.proofs.Steps as steps
 use Rattle.dt_trail.proofs.Grows as grows
 use Rattle.dt_trail.proofs.Widens as widens
@@ -32,6 +32,16 @@ module _ {K : Type 0} (lawful : K → List TrailItem → Type 0) (key about : Ab
   pub turns_as : (id : ℕ) (m : Turn K) (d : Door) → m.view.door ≡ d → IsDoor d → Allows H id m 0 about.root.ptr (d.block + 1) (λ n. n) (IsTurned lawful (step 0 about.root.ptr (d.block + 1) 0 0) m)
   turns_as id m d e is = subst (λ (p : Ptr). Allows H id m 0 p (d.block + 1) (λ n. n) (IsTurned lawful (step 0 p (d.block + 1) 0 0) m)) root_is
       (steps.turns lawful key.root.ptr key.account id m (d.block + 1) (subst (λ (z : Door). 0 < z.len) (sym e) is.some) (let o : d.block + 1 ≡ suc d.block = omega arith in o ∙ ap (λ (z : Door). suc z.block) (sym e)) (let n = is.near in omega arith))
+
+  pub goes_back_as : (id : ℕ) (m : Turn K) → Allows H id m 0 about.root.ptr 0 (λ n. n) (IsBack (step 0 about.root.ptr 0 0 0) m)
+  goes_back_as id m = subst (λ (p : Ptr). Allows H id m 0 p 0 (λ n. n) (IsBack (step 0 p 0 0 0) m)) root_is (steps.goes_back lawful key.root.ptr key.account id m)
+
+  pub reads_again_as : (id : ℕ) (m : Turn K) (d : Door) (k : ℕ) → m.view.door ≡ d → IsDoor d → d.from ≤ k → k < d.from + d.len → k < length m.view.knows
+      → Allows H id m (d.block + 1) d.link.ptr (k - d.from) (λ n. n) (IsFoundAgain (step (d.block + 1) d.link.ptr (k - d.from) 0 0) m)
+  reads_again_as id m d k e is low high known = subst (λ (z : Door). IsDoor z → z.from ≤ k → k < z.from + z.len
+      → Allows H id m (z.block + 1) z.link.ptr (k - z.from) (λ n. n) (IsFoundAgain (step (z.block + 1) z.link.ptr (k - z.from) 0 0) m)) e
+      (λ i l h. subst (λ (b : ℕ). Allows H id m b m.view.door.link.ptr (k - m.view.door.from) (λ n. n) (IsFoundAgain (step b m.view.door.link.ptr (k - m.view.door.from) 0 0) m)) (let o : suc m.view.door.block ≡ m.view.door.block + 1 = omega arith in o)
+      (steps.reads_again lawful key.root.ptr key.account id m (k - m.view.door.from) i.some (let x = known in omega arith) (omega arith))) is low high
 
   pub sees_as : (id : ℕ) (m : Turn K) (i : ℕ) → 0 < m.view.door.len → i ≡ m.view.door.block → i < 32 → AllowsLink H id m 0 about.root.ptr i (λ q. q) (IsSeen 0 i m)
   sees_as id m i pos ei near = subst (λ (p : Ptr). AllowsLink H id m 0 p i (λ q. q) (IsSeen 0 i m)) root_is (steps.sees lawful key.root.ptr key.account id m i pos ei (omega arith))
@@ -82,5 +92,5 @@ module _ {K : Type 0} (lawful : K → List TrailItem → Type 0) (key about : Ab
 -- what the root told, where there is a block
 pub turned : {K : Type 0} (lawful : K → List TrailItem → Type 0) (st : Step) (m : Turn K) (found : ℕ) (n : Turn K) → found ≢ 0 → IsTurned lawful st m found n
     → (p : Ptr) × InBlock p × (found < 2 ^ 40) × (m.view.door.from + m.view.door.len + found < 2 ^ 60) × (st.index < 32) × (n ≡ reviewed m (through m.view (door_at st.index (m.view.door.from + m.view.door.len) found p)))
-turned {K = K} lawful st m found n some h = subst (λ b. MatchBool b ((n ≡ m) × (m.view.owns ≡ true → m.view.site.cells ≡ m.view.door.from + m.view.door.len))
+turned {K = K} lawful st m found n some h = subst (λ b. MatchBool b (IsLast m n)
     ((p : Ptr) × InBlock p × (found < 2 ^ 40) × (m.view.door.from + m.view.door.len + found < 2 ^ 60) × (st.index < 32) × (n ≡ reviewed m (through m.view (door_at st.index (m.view.door.from + m.view.door.len) found p))))) (ne_eqb found 0 some) h.1

@@ -1,5 +1,5 @@
 -- Items as lists: what an item is, whose it is, and the word that stands for it.
-use Rattle.std.specs.Prelude.{◌≡◌, ◌<◌, ◌^◌, ℕ, zero, suc, ◌+◌, ◌*◌, ◌==◌, List, [], ◌∷◌, ◌++◌, length, filter, cond, nat_lt}
+use Rattle.std.specs.Prelude.{◌≡◌, ◌<◌, ◌^◌, ℕ, zero, suc, ◌+◌, ◌*◌, ◌==◌, List, [], ◌∷◌, ◌++◌, length, filter, cond, nat_lt, slice_get, Some}
 use Rattle.dt_trail.specs.Limits.{cpu_count}
 
 -- a line of the session, of these bytes or too long, or a firing by its processor and its place in that processor's script
@@ -39,6 +39,10 @@ abbrev pub code_at : List TrailItem → ℕ → ℕ
 code_at [] k = 0
 code_at (x ∷ xs) zero = code x
 code_at (x ∷ xs) (suc k) = code_at xs k
+
+-- the word stands for the item at this place
+abbrev pub IsWordAt : List TrailItem → ℕ → ℕ → Type 0
+IsWordAt items k word = (item : TrailItem) × (slice_get items k ≡ Some item) × IsReal item × (word ≡ code item)
 
 -- the list begins with what was seen
 abbrev pub StartsWith : List TrailItem → List TrailItem → Type 0

@@ -24,6 +24,10 @@ pub record Heard : Type 0 where
   pub row : RowsId
   pub knows : List TrailItem
 
+-- the item at this place of the list shows this
+abbrev pub ShowsAt : List TrailItem → ℕ → Seen → Type 0
+ShowsAt items k seen = (item : TrailItem) × (slice_get items k ≡ Some item) × ShowsItem seen item
+
 module _ {K : Type 0} where
   abbrev pub named_row : RowsId → K → Named K
   named_row id account = record { id = id; account = account }

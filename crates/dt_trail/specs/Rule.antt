@@ -8,7 +8,7 @@ use Rattle.atomic_blocks.specs.declared.rows.loose.Link.{Link}
 use Rattle.dt_trail.specs.declared.door.Door.{Door}
 use Rattle.dt_trail.specs.declared.rule.Site.{Site}
 use Rattle.dt_trail.specs.declared.rule.View.{View}
-use Rattle.dt_trail.specs.Items.{TrailItem, whose, code, IsReal, AllReal, own, code_at, StartsWith, longer}
+use Rattle.dt_trail.specs.Items.{TrailItem, whose, code, IsReal, AllReal, own, code_at, StartsWith, longer, IsWordAt}
 use Rattle.dt_trail.specs.Blocks.{flat, Laid, BlockLiesAt}
 
 abbrev pub NoSlot : Type 0
@@ -164,16 +164,27 @@ module _ {K : Type 0} where
       IsBegun lawful m.view.account n.view.knows
       × MatchBool (found == 0) (n ≡ m) (FindsItem m found n)
 
+  -- the seat's door leads to the last block: nothing that it knows lies behind
+  abbrev pub IsLast : Turn K → Turn K → Type 0
+  IsLast m n = (n ≡ m) × (m.view.owns ≡ true → m.view.site.cells ≡ m.view.door.from + m.view.door.len) × (length m.view.knows ≤ m.view.door.from + m.view.door.len)
+
   -- there is no further block yet, or it has so many cells, and lies somewhere
   abbrev pub IsTurned : (K → List TrailItem → Type 0) → Step → Turn K → ℕ → Turn K → Type 0
   IsTurned lawful st m found n =
       IsBegun lawful m.view.account n.view.knows
-      × MatchBool (found == 0)
-      ((n ≡ m) × (m.view.owns ≡ true → m.view.site.cells ≡ m.view.door.from + m.view.door.len))
+      × MatchBool (found == 0) (IsLast m n)
       ((p : Ptr) × InBlock p × (found < 2 ^ 40) × (m.view.door.from + m.view.door.len + found < 2 ^ 60) × (st.index < 32) × (n ≡ reviewed m (through m.view (door_at st.index (m.view.door.from + m.view.door.len) found p))))
 
   abbrev pub IsSeen : ℕ → ℕ → Turn K → Ptr → Turn K → Type 0
   IsSeen k i m q n = (n ≡ m) × (q ≡ m.view.door.link.ptr)
+
+  -- the first block has so many cells, and lies somewhere: the seat's door leads to it
+  abbrev pub IsBack : Step → Turn K → ℕ → Turn K → Type 0
+  IsBack st m found n = (p : Ptr) × InBlock p × (0 < found) × (found < 2 ^ 40) × (n ≡ reviewed m (through m.view (door_at 0 0 found p)))
+
+  -- the word stands for an item that the seat knows
+  abbrev pub IsFoundAgain : Step → Turn K → ℕ → Turn K → Type 0
+  IsFoundAgain st m found n = (n ≡ m) × IsWordAt m.view.knows (m.view.door.from + st.index) found
 
   abbrev pub planned_at : View K → Ptr → View K
   planned_at v p = viewed v.account v.live v.owns v.makes v.note v.knows v.had v.door (site_of v.site.blocks v.site.cells true p)

@@ -2,7 +2,7 @@
 
 /// Which row it is, and whose: the account is what the row's law is about. Contracts speak of it; no value of it is made.
 pub struct Named<K> {
-    /// Two rows have different numbers.
+    /// Which row: what is of one row has one number.
     pub id: (u64, u64),
     /// Whose row it is.
     pub account: K,

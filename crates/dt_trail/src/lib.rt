@@ -10,6 +10,7 @@
 //! are kept. The rule that all steps keep is in `specs/Rule.antt`.
 #![tactic(auto)]
 
+mod again;
 mod door;
 mod inner;
 mod item;

@@ -22,7 +22,7 @@ pub fn turn<K, L: Law<K>>(inner: &Inner<K, L>, seat: &mut RowSeat<K>, door: Door
     requires door { (seat.old.me.view.door ≡ door) × IsDoor door }
     ensures same { SameSeat seat.old seat.new }
     ensures lawful { L.lawful inner.now.about.account seat.new.me.view.knows }
-    ensures next { MatchOption result ((seat.new.me ≡ seat.old.me) × (seat.old.me.view.owns ≡ true → seat.old.me.view.site.cells ≡ door.from + door.len)) (λ d. (seat.new.me ≡ reviewed seat.old.me (through seat.old.me.view d)) × IsDoor d × (d.from ≡ door.from + door.len)) }
+    ensures next { MatchOption result ((seat.new.me ≡ seat.old.me) × (seat.old.me.view.owns ≡ true → seat.old.me.view.site.cells ≡ door.from + door.len) × (length seat.old.me.view.knows ≤ door.from + door.len)) (λ d. (seat.new.me ≡ reviewed seat.old.me (through seat.old.me.view d)) × IsDoor d × (d.from ≡ door.from + door.len)) }
 {
     let next = door.block + 1;
     let root = inner.about.root;

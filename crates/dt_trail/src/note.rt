@@ -5,6 +5,7 @@ ghost use Rattle.atomic_blocks.specs.Cells.{me};
 ghost use Rattle.dt_trail.specs.Insides.{row_of, IsDoor, OfRow};
 ghost use Rattle.dt_trail.specs.Rule.{note};
 
+use crate::again::word_again;
 use crate::door::Door;
 use crate::inner::{Inner, RowSeat};
 use crate::law::Law;
@@ -53,7 +54,7 @@ impl<K: Drop, L: Law<K>> Drop for TrailNote<K, L> {
 }
 
 impl<K, L: Law<K>> TrailNote<K, L> {
-    ghost use Rattle.dt_trail.specs.Known.{noted, KnowsNext, Grows};
+    ghost use Rattle.dt_trail.specs.Known.{noted, KnowsNext, ShowsAt, Grows};
     ghost use Rattle.dt_trail.specs.Items.{StartsWith, longer};
 
     pub(crate) fn of(
@@ -111,6 +112,22 @@ impl<K, L: Law<K>> TrailNote<K, L> {
     {
         'items: while let Some(_) = self.read() {}
         self.count
+    }
+
+    /// Reads an item again that the note knows, by its place in the row, from 0 on. The note stays as it is. It waits for nobody
+    /// and takes no memory.
+    pub fn item(&mut self, k: u64) -> Seen
+        requires { k < length self.old.knows }
+        ensures seen { ShowsAt self.old.knows k result }
+        ensures same { self.new ≡ self.old }
+    {
+        let inner: &Inner<K, L> = &self.cells;
+        let mut seat = tell(inner, &mut self.seat);
+        let word = word_again(inner, &mut seat, self.door, k);
+        let Some(seen) = Seen::of(word) else {
+            unreachable!()
+        };
+        seen
     }
 
     /// What the note knows, to be told to another note of the row.

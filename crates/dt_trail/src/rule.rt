@@ -126,6 +126,24 @@ impl<K> LinkPlay<(), View<K>> for Sees {
     ghost then = { IsSeen };
 }
 
+// The root says how many cells the first block has.
+pub struct GoesBack;
+
+impl<K> Play<(), View<K>> for GoesBack {
+    ghost use Rattle.dt_trail.specs.Rule.{IsBack};
+
+    ghost then = { IsBack };
+}
+
+// A cell whose item the seat knows is read again.
+pub struct ReadsAgain;
+
+impl<K> Play<(), View<K>> for ReadsAgain {
+    ghost use Rattle.dt_trail.specs.Rule.{IsFoundAgain};
+
+    ghost then = { IsFoundAgain };
+}
+
 // The place of the next block is written into the root.
 pub struct Plans;
 

@@ -1,5 +1,5 @@
 //! What one note tells another.
-ghost use Rattle.std.specs.Prelude.{◌≡◌};
+ghost use Rattle.std.specs.Prelude.{◌≡◌, length};
 
 use crate::door::Door;
 use crate::inner::RowSeat;
@@ -26,7 +26,29 @@ impl<K> Model for Told<K> {
 }
 
 impl<K> Told<K> {
+    ghost use Rattle.dt_trail.specs.Items.{longer};
     ghost use Rattle.dt_trail.specs.Insides.{heard, IsHeard};
+
+    /// How many items were told.
+    pub fn count(&self) -> u64
+        ensures { result ≡ length self.now.knows }
+    {
+        self.count
+    }
+
+    /// The longer of two beginnings of one row, for whoever was told twice and has no note of the row. It waits for nobody and
+    /// takes no memory. A note that learns both is promised more: what it then knows begins with both.
+    pub fn longer(self, other: Told<K>) -> Told<K>
+        requires { self.row ≡ other.row }
+        ensures row { result.row ≡ self.row }
+        ensures longer { result.knows ≡ longer self.knows other.knows }
+    {
+        if self.count < other.count {
+            other
+        } else {
+            self
+        }
+    }
 
     pub(crate) fn parts(self) -> (RowSeat<K>, Door, u64)
         ensures { IsHeard result.0 result.1 result.2 × (heard result.0 ≡ self) }
