@@ -2,7 +2,6 @@
 mod PowerLemmas
 mod RowLemmas
 mod BoundLemmas
-pub mod BoundsOf
 mod LevelRowLemmas
 mod CountLemmas
 mod SumLemmas

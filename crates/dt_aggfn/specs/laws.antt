@@ -1,2 +1,3 @@
 -- What holds of the definitions, for those who prove that a program meets them.
 pub mod SameBounds
+pub mod BoundsOf

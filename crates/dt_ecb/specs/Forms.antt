@@ -1,5 +1,7 @@
 -- ECBs, shapes and names of aggregations without where they lie in memory, and what a fault says.
 use Rattle.std.specs.Prelude.{ℕ, List, [], None, Option, Some, map, slice_index_or}
+use Rattle.dt_aggfn.specs.declared.function.AggFn.{AggFn}
+use Rattle.dt_aggfn.specs.declared.function.AggFn.TheVariants as function
 use Rattle.dt_program.specs.Program.{ClauseForm}
 use Rattle.dt_ecb.specs.Ecbs.{EcbForm}
 use Rattle.dt_ecb.specs.Enable.{Verdict, privilege, clash, unmatched, limit}
@@ -7,8 +9,6 @@ use Rattle.dt_ecb.specs.Shapes.{KeyKind, number, text, FunctionForm, count, sum,
 use Rattle.dt_ecb.specs.declared.fault.EnableFault.{EnableFault}
 use Rattle.dt_ecb.specs.declared.fault.EnableFault.TheVariants.{Privilege, AggClash, NoMatch, Limit, Memory}
 use Rattle.dt_ecb.specs.declared.parts.Ecb.{Ecb}
-use Rattle.dt_ecb.specs.declared.shape.Function as functions
-use Rattle.dt_ecb.specs.declared.shape.Function.TheVariants as function
 use Rattle.dt_ecb.specs.declared.shape.KeyKind as kinds
 use Rattle.dt_ecb.specs.declared.shape.KeyKind.TheVariants as kind
 use Rattle.dt_ecb.specs.declared.shape.Shape.{Shape}
@@ -28,7 +28,7 @@ abbrev pub form_of_kind : kinds.KeyKind → KeyKind
 form_of_kind kind.Number = number
 form_of_kind kind.Text = text
 
-abbrev pub form_of_function : functions.Function → FunctionForm
+abbrev pub form_of_function : AggFn → FunctionForm
 form_of_function function.Count = count
 form_of_function function.Sum = sum
 form_of_function function.Avg = avg

@@ -6,8 +6,9 @@ ghost use Rattle.dt_program.specs.declared.clause.Statement.TheVariants.{Aggrega
 ghost use Rattle.dt_ecb.specs.Forms.{form_of_kind, form_of_function, form_of_shape};
 ghost use Rattle.dt_ecb.specs.Shapes as spec;
 
+use dt_aggfn::AggFn;
 use dt_names::ShortText;
-use dt_program::{Aggregation, Argument, Bounds, Call};
+use dt_program::{Aggregation, Argument, Call};
 use std::alloc::{AllocError, Global};
 
 /// What a key is.
@@ -39,61 +40,40 @@ impl KeyKind {
     }
 }
 
-/// By which function an aggregation is kept. (illumos Dynamic Tracing Guide, "Aggregations".)
-#[derive(Clone, Copy, Debug, PartialEq, Eq)]
-pub enum Function {
-    /// `count()`: how many values there are.
-    Count,
-    /// `sum(e)`: their sum.
-    Sum,
-    /// `avg(e)`: their average.
-    Avg,
-    /// `min(e)`: the least of them.
-    Min,
-    /// `max(e)`: the greatest of them.
-    Max,
-    /// `quantize(e)`: how many of them lie in each level, where powers of two bound the levels.
-    Quantize,
-    /// `lquantize(e, lower, upper, step)`: how many of them lie in each of these levels, below them and above them.
-    Lquantize(Bounds),
+/// The function that a use calls.
+fn function_of(call: &Call) -> AggFn
+    ensures { form_of_function result ≡ spec.function_of (form_of_call call.now) }
+{
+    match call {
+        Call::Count => AggFn::Count,
+        Call::Sum(_) => AggFn::Sum,
+        Call::Avg(_) => AggFn::Avg,
+        Call::Min(_) => AggFn::Min,
+        Call::Max(_) => AggFn::Max,
+        Call::Quantize(_) => AggFn::Quantize,
+        Call::Lquantize(_, bounds) => AggFn::Lquantize(*bounds),
+    }
 }
 
-impl Function {
-    /// The function that a use calls.
-    fn of(call: &Call) -> Self
-        ensures { form_of_function result ≡ spec.function_of (form_of_call call.now) }
-    {
-        match call {
-            Call::Count => Function::Count,
-            Call::Sum(_) => Function::Sum,
-            Call::Avg(_) => Function::Avg,
-            Call::Min(_) => Function::Min,
-            Call::Max(_) => Function::Max,
-            Call::Quantize(_) => Function::Quantize,
-            Call::Lquantize(_, bounds) => Function::Lquantize(*bounds),
-        }
-    }
-
-    /// Whether two uses call one function, with the same bounds.
-    fn is_same(self, other: Function) -> bool
-        ensures { result ≡ spec.same_function_form (form_of_function self) (form_of_function other) }
-    {
-        match self {
-            Function::Count => matches!(other, Function::Count),
-            Function::Sum => matches!(other, Function::Sum),
-            Function::Avg => matches!(other, Function::Avg),
-            Function::Min => matches!(other, Function::Min),
-            Function::Max => matches!(other, Function::Max),
-            Function::Quantize => matches!(other, Function::Quantize),
-            Function::Lquantize(bounds) => match other {
-                Function::Lquantize(others) => {
-                    bounds.lower == others.lower
-                        && bounds.upper == others.upper
-                        && bounds.step == others.step
-                }
-                _ => false,
-            },
-        }
+/// Whether two uses call one function, with the same bounds.
+fn same_functions(function: AggFn, other: AggFn) -> bool
+    ensures { result ≡ spec.same_function_form (form_of_function function) (form_of_function other) }
+{
+    match function {
+        AggFn::Count => matches!(other, AggFn::Count),
+        AggFn::Sum => matches!(other, AggFn::Sum),
+        AggFn::Avg => matches!(other, AggFn::Avg),
+        AggFn::Min => matches!(other, AggFn::Min),
+        AggFn::Max => matches!(other, AggFn::Max),
+        AggFn::Quantize => matches!(other, AggFn::Quantize),
+        AggFn::Lquantize(bounds) => match other {
+            AggFn::Lquantize(others) => {
+                bounds.lower == others.lower
+                    && bounds.upper == others.upper
+                    && bounds.step == others.step
+            }
+            _ => false,
+        },
     }
 }
 
@@ -101,7 +81,7 @@ impl Function {
 #[derive(Drop)]
 pub(crate) struct Shape {
     pub(crate) name: ShortText,
-    pub(crate) function: Function,
+    pub(crate) function: AggFn,
     keys: Vec<KeyKind>,
 }
 
@@ -117,7 +97,7 @@ impl Shape {
         }
         Ok(Shape {
             name: aggregation.name,
-            function: Function::of(&aggregation.call),
+            function: function_of(&aggregation.call),
             keys,
         })
     }
@@ -145,7 +125,8 @@ impl Shape {
         ensures { result ≡ spec.clash (form_of_shape self.now) (form_of_shape other.now) }
     {
         self.is_namesake(other)
-            && !(self.function.is_same(other.function) && same_kinds(&self.keys, &other.keys))
+            && !(same_functions(self.function, other.function)
+                && same_kinds(&self.keys, &other.keys))
     }
 }
 

@@ -5,7 +5,8 @@ ghost use Rattle.dt_program.specs.Program.{form_of_program, form_of_statement};
 ghost use Rattle.dt_ecb.specs.Forms.{form_of_named, form_of_shape, shapes_of};
 ghost use Rattle.dt_ecb.specs.Shapes.{named, used_by, uses_of};
 
-use crate::shape::{Function, Shape};
+use crate::shape::Shape;
+use dt_aggfn::AggFn;
 use dt_names::ShortText;
 use dt_program::{Program, Statement};
 use std::alloc::{AllocError, Global};
@@ -19,7 +20,7 @@ pub struct Named {
     /// Its name, without the `@`. It is empty where the aggregation has none.
     pub name: ShortText,
     /// By which function it is kept.
-    pub function: Function,
+    pub function: AggFn,
 }
 
 /// The aggregations that accepted programs use, each use with its name, function, bounds and kinds of keys. (illumos

@@ -22,8 +22,8 @@ use crate::word::{Action, Function, Word};
 use dt_expr::Expr;
 use dt_names::ShortText;
 use dt_program::{
-    Argument, Bounds, CLAUSES_MAX, Call, Clause, DESCRIPTIONS_MAX, Description, Frames, Program,
-    STATEMENTS_MAX, Statement,
+    Argument, CLAUSES_MAX, Call, Clause, DESCRIPTIONS_MAX, Description, Frames, Program,
+    STATEMENTS_MAX, Statement, checked_bounds,
 };
 use std::alloc::{AllocError, Global};
 use std::mem;
@@ -574,7 +574,7 @@ impl ProgramReader {
             (aggregate target.name (key_forms target) (lquantize (form_of value) lower upper step))))
             (bounds_fault lower upper step) flaw (program_state_of self.new)) }
     {
-        match Bounds::new(lower, upper, step) {
+        match checked_bounds(lower, upper, step) {
             Ok(bounds) => {
                 self.end_statement(target.aggregate(Call::Lquantize(value, bounds)))?;
                 Ok(None)

@@ -1,16 +1,9 @@
--- The bounds of an `lquantize`. Guide, Aggregations.
-use Rattle.std.specs.Prelude.{◌≡◌, ℤ, pos, ◌-ℤ◌, int_lt, int_le, int_div, int_rem, IsTrue, Option, Some, None, if◌then◌else◌}
+-- Why numbers are no bounds of an `lquantize` (`AreBounds` of dt_aggfn).
+use Rattle.std.specs.Prelude.{ℤ, pos, ◌-ℤ◌, int_lt, int_le, int_div, int_rem, Option, Some, None, if◌then◌else◌}
 use Rattle.std.specs.Ordering.{int_eq}
-use Rattle.dt_program.specs.Limits.{levels_max}
+use Rattle.dt_aggfn.specs.Limits.{levels_max}
 use Rattle.dt_program.specs.declared.clause.BoundsFault.{BoundsFault}
 use Rattle.dt_program.specs.declared.clause.BoundsFault.TheVariants.{NotRising, NoStep, Uneven, TooMany}
-
--- From `lower` to below `upper` lie some levels, each `step` wide, which leave nothing over, and not too many.
-pub record AreBounds (lower upper step : ℤ) : Type 0 where
-  pub rising : IsTrue (int_lt lower upper)
-  pub forward : IsTrue (int_lt (pos 0) step)
-  pub even : int_rem (upper -ℤ lower) step ≡ pos 0
-  pub few : IsTrue (int_le (int_div (upper -ℤ lower) step) (pos levels_max))
 
 -- the first of the rules for bounds that these break, if they break one
 abbrev pub bounds_fault : (lower upper step : ℤ) → Option BoundsFault

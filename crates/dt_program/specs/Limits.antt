@@ -17,10 +17,6 @@ keys_max = 4
 abbrev pub frames_max : ℕ
 frames_max = 8
 
--- the most levels of a linear quantization
-abbrev pub levels_max : ℕ
-levels_max = 512
-
 -- the most clauses of a program
 abbrev pub clauses_max : ℕ
 clauses_max = 64

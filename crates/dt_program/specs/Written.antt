@@ -7,7 +7,7 @@ use Rattle.dt_names.specs.Limits.{short_text_max}
 use Rattle.dt_expr.specs.Form.{Form, Num, Named, Prefixed, Joined, Compared}
 use Rattle.dt_expr.specs.declared.text.Text.{Text}
 use Rattle.dt_expr.specs.declared.text.Text.TheVariants.{Literal, Variable}
-use Rattle.dt_program.specs.Bounds.{AreBounds}
+use Rattle.dt_aggfn.specs.Bounds.{AreBounds}
 use Rattle.dt_program.specs.Clause.{ArgForm, CallForm, StatementForm, ClauseForm}
 use Rattle.dt_program.specs.Clause as program
 use Rattle.dt_program.specs.Limits.{descriptions_max, statements_max, keys_max, frames_max, clauses_max, tokens_max}

@@ -1,9 +1,10 @@
 //! What a program is made of: clauses with their descriptions, predicate and statements.
 ghost use Rattle.std.specs.Prelude.{◌≡◌, ◌≤◌, ℕ, IfErr, IfNone, IfOk, IfSome, None, OnOk, Some, pos, vec_len};
-ghost use Rattle.dt_program.specs.Bounds.{AreBounds, bounds_fault};
+ghost use Rattle.dt_program.specs.Bounds.{bounds_fault};
 ghost use Rattle.dt_program.specs.declared.clause.TheConstants.{DESCRIPTIONS_MAX, STATEMENTS_MAX, KEYS_MAX, FRAMES_MAX};
 
 use crate::description::Description;
+use dt_aggfn::Bounds;
 use dt_expr::{Expr, Text};
 use dt_names::ShortText;
 use thiserror::Error;
@@ -20,9 +21,6 @@ pub const KEYS_MAX: usize = 4;
 /// The most frames of a stack.
 pub const FRAMES_MAX: u8 = 8;
 
-/// The most levels of an `lquantize`.
-pub const LEVELS_MAX: u64 = 512;
-
 /// What a record or a key is given: a number or a text.
 #[derive(Drop)]
 pub enum Argument {
@@ -38,16 +36,6 @@ pub struct Frames {
     pub ghost few: { count ≤ FRAMES_MAX },
 }
 
-/// The levels of an `lquantize`: from `lower` to below `upper`, each `step` wide. There is one at least, and at most
-/// [`LEVELS_MAX`], and the last one ends at `upper`. (illumos Dynamic Tracing Guide, "Aggregations".)
-#[derive(Clone, Copy, Debug, PartialEq, Eq)]
-pub struct Bounds {
-    pub lower: i64,
-    pub upper: i64,
-    pub step: i64,
-    pub ghost right: { AreBounds lower upper step },
-}
-
 /// Why numbers are no bounds of levels: the first rule that they break.
 #[derive(Clone, Copy, Debug, PartialEq, Eq, Error)]
 pub enum BoundsFault {
@@ -60,36 +48,34 @@ pub enum BoundsFault {
     /// The last level would not end at the upper bound.
     #[error("the step does not divide the range")]
     Uneven,
-    /// There would be more than [`LEVELS_MAX`] levels.
+    /// There would be more than [`dt_aggfn::LEVELS_MAX`] levels.
     #[error("more than 512 levels")]
     TooMany,
 }
 
-impl Bounds {
-    /// The levels with these bounds, where there are some and not too many; else the first rule that they break.
-    pub fn new(lower: i64, upper: i64, step: i64) -> Result<Self, BoundsFault>
-        ensures found { IfOk result (λ bounds. (bounds.lower ≡ lower) × (bounds.upper ≡ upper)
-            × (bounds.step ≡ step)) }
-        ensures right { OnOk result (bounds_fault lower upper step ≡ None) }
-        ensures fault { IfErr result (λ fault. bounds_fault lower upper step ≡ Some fault) }
-    {
-        if lower >= upper {
-            return Err(BoundsFault::NotRising);
-        }
-        if step <= 0 {
-            return Err(BoundsFault::NoStep);
-        }
-        let width = i128::from(upper) - i128::from(lower);
-        let each = i128::from(step);
-        // the levels must end exactly at the upper bound
-        if width % each != 0 {
-            return Err(BoundsFault::Uneven);
-        }
-        // each level is a word of every entry, so there may not be too many
-        if width / each > i128::from(LEVELS_MAX) {
-            return Err(BoundsFault::TooMany);
-        }
-        Ok(Bounds { lower, upper, step })
+/// The levels with these bounds, where there are some and not too many; else the first rule that the numbers break.
+pub fn checked_bounds(lower: i64, upper: i64, step: i64) -> Result<Bounds, BoundsFault>
+    ensures found { IfOk result (λ bounds. (bounds.lower ≡ lower) × (bounds.upper ≡ upper)
+        × (bounds.step ≡ step)) }
+    ensures right { OnOk result (bounds_fault lower upper step ≡ None) }
+    ensures fault { IfErr result (λ fault. bounds_fault lower upper step ≡ Some fault) }
+{
+    if lower >= upper {
+        return Err(BoundsFault::NotRising);
+    }
+    if step <= 0 {
+        return Err(BoundsFault::NoStep);
+    }
+    let width = i128::from(upper) - i128::from(lower);
+    let each = i128::from(step);
+    // the levels must end exactly at the upper bound
+    if width % each != 0 {
+        return Err(BoundsFault::Uneven);
+    }
+    // whatever else breaks none of these rules has too many levels
+    match Bounds::new(lower, upper, step) {
+        Some(bounds) => Ok(bounds),
+        None => Err(BoundsFault::TooMany),
     }
 }
 

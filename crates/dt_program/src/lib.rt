@@ -11,9 +11,10 @@ mod limit_laws;
 mod program;
 
 pub use clause::{
-    Aggregation, Argument, Bounds, BoundsFault, Call, Clause, DESCRIPTIONS_MAX, FRAMES_MAX, Frames,
-    KEYS_MAX, LEVELS_MAX, STATEMENTS_MAX, Statement,
+    Aggregation, Argument, BoundsFault, Call, Clause, DESCRIPTIONS_MAX, FRAMES_MAX, Frames,
+    KEYS_MAX, STATEMENTS_MAX, Statement, checked_bounds,
 };
 pub use description::{Description, DescriptionFault, one_description, some_description};
+pub use dt_aggfn::{Bounds, LEVELS_MAX};
 pub use limit_laws::limits_agree;
 pub use program::{CLAUSES_MAX, Program, TOKENS_MAX};

@@ -8,7 +8,7 @@ use Rattle.dt_expr.specs.Form.{Form}
 use Rattle.dt_expr.specs.declared.scene.NumberVariable.TheVariants as variable
 use Rattle.dt_expr.specs.declared.text.Text.{Text}
 use Rattle.dt_program.specs.declared.description.Description.{Description}
-use Rattle.dt_program.specs.Bounds.{AreBounds}
+use Rattle.dt_aggfn.specs.Bounds.{AreBounds}
 use Rattle.dt_program.specs.Clause.{ArgForm, CallForm, sum, avg, min, max, quantize, StatementForm, ClauseForm}
 use Rattle.dt_program.specs.Description.{DescForm, form_of_description}
 use Rattle.dt_program.specs.Limits.{descriptions_max, statements_max, keys_max, clauses_max, tokens_max}

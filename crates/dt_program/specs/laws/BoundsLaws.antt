@@ -3,8 +3,9 @@ use Rattle.std.proofs.Common.{◌≡◌, Bool, true, false, Some, None, cond, re
 use Rattle.std.specs.Prelude.{◌-ℤ◌, int_lt, int_le, int_div, int_rem}
 use Rattle.std.specs.Ordering.{int_eq}
 use Rattle.std.proofs.lemmas.Bool.Decides.{Decides-int_eq}
-use Rattle.dt_program.specs.Bounds.{AreBounds, bounds_fault}
-use Rattle.dt_program.specs.Limits.{levels_max}
+use Rattle.dt_aggfn.specs.Bounds.{AreBounds}
+use Rattle.dt_aggfn.specs.Limits.{levels_max}
+use Rattle.dt_program.specs.Bounds.{bounds_fault}
 use Rattle.dt_program.specs.declared.clause.BoundsFault.TheVariants.{NotRising, NoStep, Uneven, TooMany}
 
 -- all rules are kept where none is broken

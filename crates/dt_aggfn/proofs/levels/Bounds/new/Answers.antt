@@ -5,7 +5,7 @@ use Rattle.std.specs.Int.Signed.{mag}
 use mir.Syntax.{w128}
 use Rattle.dt_aggfn.proofs.BoundLemmas.{no_rest, some_rest, same_quotient, not_above, above}
 use Rattle.dt_aggfn.specs.Bounds.{AreBounds}
-use Rattle.dt_aggfn.proofs.BoundsOf.{no_bounds_of, some_bounds_of}
+use Rattle.dt_aggfn.specs.laws.BoundsOf.{no_bounds_of, some_bounds_of}
 use Rattle.std.proofs.lemmas.Int.{to_z-of_z}
 use Rattle.dt_aggfn.proofs.levels.Bounds.new.Goals.{then-lower-upper-via-then-lower-upper}
 use Rattle.dt_aggfn.proofs.levels.Bounds.new.Goals.{then-lower-upper-via-else-lower-upper+then-step-le0}

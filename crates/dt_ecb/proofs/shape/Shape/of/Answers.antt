@@ -17,4 +17,4 @@ returns c =
     (ap kinds (sym c.deref-key-items.ensures.value
     ∙ sym (take_all c.loop-key.key-index c.deref-key-items.result.now c.loop-key-test.false))
     ∙ sym c.loop-key.invariant)
-    ∙ ap (λ f. make f (map form_of_kind c.loop-key.keys.items)) (sym c.of-2.ensures)
+    ∙ ap (λ f. make f (map form_of_kind c.loop-key.keys.items)) (sym c.function_of.ensures)

@@ -26,3 +26,7 @@ pub some_bounds_of : (lower upper step : ℤ) (b : Bounds) → b.lower ≡ lower
     → Some b ≡ bounds_of lower upper step
 some_bounds_of lower upper step b e f g =
     one_answer lower upper step (Some b) (bounds_of lower upper step) (e, f, g) (are_bounds_of lower upper step)
+
+-- bounds are those of their own numbers
+pub bounds_of_own : (b : Bounds) → bounds_of b.lower b.upper b.step ≡ Some b
+bounds_of_own b = sym (some_bounds_of b.lower b.upper b.step b refl refl refl)
