@@ -9,7 +9,7 @@ use Rattle.std.proofs.lemmas.List.{append_assoc, append-nil, take-append-le, tak
 use Rattle.std.proofs.lemmas.Option.{slice_get_within}
 use Rattle.dt_aggstore.specs.Keys.{entry_cost, cost_of}
 use Rattle.dt_aggstore.specs.History.{Event, given, truncated, Past, after}
-use Rattle.dt_aggstore.specs.Held.{entry_of, held}
+use Rattle.dt_aggstore.specs.Held.{entry_of, held_after}
 use Rattle.dt_aggstore.specs.Choice.{IsKept, IsChoice, KeepsContribution}
 use Rattle.dt_aggstore.specs.Chosen.{is_kept, choice_of}
 use Rattle.dt_aggstore.specs.declared.key.Aggregation.{Aggregation}
@@ -135,14 +135,14 @@ pub kept_exactly : (size : ℕ) (events : List Event) (chosen : List Bool) (even
     → IsTrue (is_kept size events chosen event) ↔ IsKept size events chosen event
 kept_exactly size events chosen (given aggregation key value) =
     let entry = entry_of aggregation key in
-    let among = has entry (held events chosen) in
-    let cost = entry_cost aggregation key + cost_of (held events chosen) in (
+    let among = has entry (held_after events chosen) in
+    let cost = entry_cost aggregation key + cost_of (held_after events chosen) in (
       (λ kept. ⊎_elim
-          (λ yes. inl (contains_from_has (held events chosen) entry yes))
+          (λ yes. inl (contains_from_has (held_after events chosen) entry yes))
           (λ fits. inr (leb-true cost size fits))
           (or_cases among (nat_le cost size) kept)),
       (λ kept. ⊎_elim
-          (λ yes. ap (λ b. b || nat_le cost size) (has_from_contains (held events chosen) entry yes))
+          (λ yes. ap (λ b. b || nat_le cost size) (has_from_contains (held_after events chosen) entry yes))
           (λ fits. ap (λ b. among || b) (le-leb cost size fits) ∙ or_true among)
           kept),
     )

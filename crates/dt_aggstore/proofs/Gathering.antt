@@ -8,12 +8,12 @@ use Rattle.std.proofs.lemmas.List.Folds.{list_any-append}
 use Rattle.dt_aggfn.specs.Cells.{cell_words, cell_of, IsBag}
 use Rattle.dt_aggstore.specs.Keys.{Entry, same_entry, same_aggregation, same_key}
 use Rattle.dt_aggstore.specs.History.{Past}
-use Rattle.dt_aggstore.specs.Held.{entry_of, counted, held, bag}
-use Rattle.dt_aggstore.specs.Entries.{name_of, names_of, words_of}
+use Rattle.dt_aggstore.specs.Held.{entry_of, counted, held_after, bag}
+use Rattle.dt_aggstore.specs.Entries.{entry_named, entries_named, words_of}
 use Rattle.dt_aggstore.specs.IsAt.{IsAt}
 use Rattle.dt_aggstore.specs.Joining.{AreShares, joined_at, shared_key}
 use Rattle.dt_aggstore.specs.declared.key.Aggregation.{Aggregation}
-use Rattle.dt_aggstore.specs.declared.held.Held.{Held}
+use Rattle.dt_aggstore.specs.declared.entry_name.EntryName.{EntryName}
 use Rattle.dt_aggstore.specs.declared.share.Share.{Share}
 use Rattle.dt_aggstore.specs.declared.store.AggStore.{AggStore}
 use Rattle.dt_aggstore.proofs.Same.{aggregation_is, own_aggregation, key_decides, own_entry}
@@ -94,43 +94,43 @@ module _ (past : Past) (store : AggStore) (at : IsAt past store) (aggregation : 
       (yes_or_no (same_key e.key key))
 
   -- all entries add all bags
-  pub gathered_all : (key : Key) → Gathered (held past.events at.chosen) key ≡ bags key ++ Own key
+  pub gathered_all : (key : Key) → Gathered (held_after past.events at.chosen) key ≡ bags key ++ Own key
   gathered_all key = ⊎_elim
       (λ yes. ap (λ b. cond b (bags key ++ Own key) (bags key)) yes)
       (λ no. ap (λ b. cond b (bags key ++ Own key) (bags key)) no ∙ sym (append-nil (bags key))
       ∙ ap (λ b. bags key ++ b) (sym (values_none (counted past.events at.chosen) (entry_of aggregation key)
       (sym (has-distinct (names (counted past.events at.chosen)) (entry_of aggregation key)) ∙ no))))
-      (yes_or_no (has (entry_of aggregation key) (held past.events at.chosen)))
+      (yes_or_no (has (entry_of aggregation key) (held_after past.events at.chosen)))
 
 -- ---- the entry that a loop reads
 
-pub names_more : (entries : List Held) (i : ℕ) (x : Held) → i < length entries → x ≡ get_or entries i x
-    → names_of (take (i + 1) entries) ≡ names_of (take i entries) ++ name_of x ∷ []
+pub names_more : (entries : List EntryName) (i : ℕ) (x : EntryName) → i < length entries → x ≡ get_or entries i x
+    → entries_named (take (i + 1) entries) ≡ entries_named (take i entries) ++ entry_named x ∷ []
 names_more entries i x h is =
-    ap names_of (take_more entries i x h) ∙ map-append name_of (take i entries) (get_or entries i x ∷ [])
-    ∙ ap (λ y. names_of (take i entries) ++ name_of y ∷ []) (sym is)
+    ap entries_named (take_more entries i x h) ∙ map-append entry_named (take i entries) (get_or entries i x ∷ [])
+    ∙ ap (λ y. entries_named (take i entries) ++ entry_named y ∷ []) (sym is)
 
-names_around : (entries : List Held) (i : ℕ) (x : Held) → i < length entries → x ≡ get_or entries i x
-    → names_of entries ≡ names_of (take i entries) ++ name_of x ∷ names_of (drop (i + 1) entries)
+names_around : (entries : List EntryName) (i : ℕ) (x : EntryName) → i < length entries → x ≡ get_or entries i x
+    → entries_named entries ≡ entries_named (take i entries) ++ entry_named x ∷ entries_named (drop (i + 1) entries)
 names_around entries i x h is =
-    names-take entries i ∙ ap (λ xs. names_of (take i entries) ++ names_of xs) (drop_more entries i x h)
-    ∙ ap (λ y. names_of (take i entries) ++ name_of y ∷ names_of (drop (i + 1) entries)) (sym is)
+    names-take entries i ∙ ap (λ xs. entries_named (take i entries) ++ entries_named xs) (drop_more entries i x h)
+    ∙ ap (λ y. entries_named (take i entries) ++ entry_named y ∷ entries_named (drop (i + 1) entries)) (sym is)
 
-module _ (past : Past) (store : AggStore) (at : IsAt past store) (i : ℕ) (x : Held) (here :
+module _ (past : Past) (store : AggStore) (at : IsAt past store) (i : ℕ) (x : EntryName) (here :
     i < length store.entries.items)
     (is : x ≡ get_or store.entries.items i x) where
   abbrev Before : List Entry
-  Before = names_of (take i store.entries.items)
+  Before = entries_named (take i store.entries.items)
 
   abbrev Later : List Entry
-  Later = names_of (drop (i + 1) store.entries.items)
+  Later = entries_named (drop (i + 1) store.entries.items)
 
-  split : held past.events at.chosen ≡ Before ++ name_of x ∷ Later
+  split : held_after past.events at.chosen ≡ Before ++ entry_named x ∷ Later
   split = sym at.names ∙ names_around store.entries.items i x here is
 
-  pub not_before : has (name_of x) Before ≡ false
+  pub not_before : has (entry_named x) Before ≡ false
   not_before =
-      apart_before (name_of x) Before Later
+      apart_before (entry_named x) Before Later
       (subst AreApart split (distinct_apart (names (counted past.events at.chosen))))
 
   abbrev Bag : List ℤ
@@ -139,9 +139,9 @@ module _ (past : Past) (store : AggStore) (at : IsAt past store) (i : ℕ) (x : 
   pub bag_here : IsBag Bag
   bag_here =
       held_bag past.events at.chosen x.aggregation x.key.parts.items at.numbers (omega (arith, at.added, store.few))
-      (ap (has (name_of x)) split ∙ list_any-append (λ o. same_entry o (name_of x)) Before (name_of x ∷ Later)
-      ∙ ap (λ b. has (name_of x) Before || (b || has (name_of x) Later)) (own_entry (name_of x))
-      ∙ by (has (name_of x) Before))
+      (ap (has (entry_named x)) split ∙ list_any-append (λ o. same_entry o (entry_named x)) Before (entry_named x ∷ Later)
+      ∙ ap (λ b. has (entry_named x) Before || (b || has (entry_named x) Later)) (own_entry (entry_named x))
+      ∙ by (has (entry_named x) Before))
     where
       by : (b : Bool) → (b || true) ≡ true
       by true = refl
@@ -155,22 +155,22 @@ module _ (past : Past) (store : AggStore) (at : IsAt past store) (i : ℕ) (x : 
       ∙ ap (λ n. slice_range store.cells.items (words_of Before) (words_of Before + n)) w
       ∙ ap (λ xs. slice_range xs (words_of Before) (words_of Before + cell_words x.aggregation.function))
       (at.cells ∙ ap (cells_from bags) split)
-      ∙ cell_at lengths bags (name_of x) Before Later
+      ∙ cell_at lengths bags (entry_named x) Before Later
 
 module _ (past : Past) (store : AggStore) (at : IsAt past store) (aggregation : Aggregation) (bags : Key → List ℤ)
     (i : ℕ)
-    (x : Held) (here : i < length store.entries.items) (is : x ≡ get_or store.entries.items i x)
+    (x : EntryName) (here : i < length store.entries.items) (is : x ≡ get_or store.entries.items i x)
     (shares : List Share)
     (so_far : AreShares aggregation.function
-    (Gathered past store at aggregation bags (names_of (take i store.entries.items)))
+    (Gathered past store at aggregation bags (entries_named (take i store.entries.items)))
     shares) where
   abbrev So-far : List Entry
-  So-far = names_of (take i store.entries.items)
+  So-far = entries_named (take i store.entries.items)
 
   abbrev Next : List Entry
-  Next = names_of (take (i + 1) store.entries.items)
+  Next = entries_named (take (i + 1) store.entries.items)
 
-  more : (key : Key) → Gathered past store at aggregation bags (So-far ++ name_of x ∷ []) key
+  more : (key : Key) → Gathered past store at aggregation bags (So-far ++ entry_named x ∷ []) key
       ≡ Gathered past store at aggregation bags Next key
   more key =
       ap (λ xs. Gathered past store at aggregation bags xs key) (sym (names_more store.entries.items i x here is))
@@ -180,7 +180,7 @@ module _ (past : Past) (store : AggStore) (at : IsAt past store) (aggregation : 
   entry_passed other =
       shared_alike aggregation.function (Gathered past store at aggregation bags So-far)
       (Gathered past store at aggregation bags Next) shares
-      (λ key. gathered_other past store at aggregation bags So-far (name_of x) other key ∙ more key) so_far
+      (λ key. gathered_other past store at aggregation bags So-far (entry_named x) other key ∙ more key) so_far
 
   pub entry_shared : Lengths → same_aggregation aggregation x.aggregation ≡ true
       → (place words : ℕ) → place ≡ words_of So-far → words ≡ cell_words x.aggregation.function
@@ -199,7 +199,7 @@ module _ (past : Past) (store : AggStore) (at : IsAt past store) (aggregation : 
       ∙ ap (λ (a : Aggregation). cell_of a.function (bag past.events at.chosen a key)) (sym own) in
       shared_alike aggregation.function (joined_at key bag-of gathered)
       (Gathered past store at aggregation bags Next) (shares ++ share ∷ [])
-      (λ k. gathered_more past store at aggregation bags So-far (name_of x)
+      (λ k. gathered_more past store at aggregation bags So-far (entry_named x)
       (not_before past store at i x here is) same k
       ∙ more k)
       (subst (λ k. AreShares aggregation.function (joined_at k bag-of gathered) (shares ++ share ∷ [])) k

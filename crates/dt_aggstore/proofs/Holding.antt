@@ -6,7 +6,7 @@ use Rattle.std.specs.List.{list_any}
 use Rattle.std.proofs.lemmas.Bool.{false≢true}
 use Rattle.dt_aggstore.specs.Keys.{Entry, same_entry, same_aggregation}
 use Rattle.dt_aggstore.specs.History.{Event, given, truncated}
-use Rattle.dt_aggstore.specs.Held.{entry_of, truncates, counted, held, IsHeldBy}
+use Rattle.dt_aggstore.specs.Held.{entry_of, truncates, counted, held_after, IsHeldBy}
 use Rattle.dt_aggstore.specs.declared.key.Aggregation.{Aggregation}
 use Rattle.dt_aggstore.specs.declared.key.KeyPart.{KeyPart}
 use Rattle.dt_aggstore.proofs.Same.{entry_is, own_entry, aggregation_is, own_aggregation}
@@ -137,12 +137,12 @@ is_held (truncated a ∷ events) (c ∷ chosen) entry (suc place) value there ke
     is_held events chosen entry place value there kept (λ later lt at. since (suc later) (omega arith) at)
 
 pub held_where : (events : List Event) (chosen : List Bool) (entry : Entry)
-    → Contains (held events chosen) entry ↔ IsHeldBy events chosen entry
+    → Contains (held_after events chosen) entry ↔ IsHeldBy events chosen entry
 held_where events chosen entry = (
   (λ among. held_by events chosen entry
       (sym (has-distinct (names (counted events chosen)) entry)
-      ∙ has_from_contains (held events chosen) entry among)),
-  (λ h. contains_from_has (held events chosen) entry
+      ∙ has_from_contains (held_after events chosen) entry among)),
+  (λ h. contains_from_has (held_after events chosen) entry
       (has-distinct (names (counted events chosen)) entry
       ∙ is_held events chosen entry h.place h.value h.there h.kept h.since)),
 )

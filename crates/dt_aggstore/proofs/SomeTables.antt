@@ -10,7 +10,7 @@ use Rattle.std.specs.declared.cmp.Ordering.TheVariants.{Equal, Greater}
 use Rattle.dt_aggfn.specs.Answers.{answer_of_bag}
 use Rattle.dt_aggstore.specs.Keys.{Entry, key_cmp, same_aggregation, IsBelow}
 use Rattle.dt_aggstore.specs.History.{Past}
-use Rattle.dt_aggstore.specs.Held.{entry_of, held}
+use Rattle.dt_aggstore.specs.Held.{entry_of, held_after}
 use Rattle.dt_aggstore.specs.Choice.{IsChoice}
 use Rattle.dt_aggstore.specs.Chosen.{choice_of}
 use Rattle.dt_aggstore.specs.Table.{IsRising, HeldInSome, joined_bag, RowForm, IsTable}
@@ -191,7 +191,7 @@ module _ (aggregation : Aggregation) where
 
   -- the entries that are held at the ends of some pasts
   abbrev all_held : List Past → List Entry
-  all_held pasts = flat_map (λ past. held past.events (choice_of past)) pasts
+  all_held pasts = flat_map (λ past. held_after past.events (choice_of past)) pasts
 
   held_all : (pasts : List Past) (k : Key) → Contains (all_held pasts) (entry_of aggregation k)
       → HeldInSome aggregation k pasts (map choice_of pasts)
@@ -199,15 +199,15 @@ module _ (aggregation : Aggregation) where
   held_all (past ∷ pasts) k a = ⊎_elim
       (λ here. inl here)
       (λ later. inr (held_all pasts k later))
-      (Contains-append_cases (held past.events (choice_of past)) (all_held pasts) (entry_of aggregation k) a)
+      (Contains-append_cases (held_after past.events (choice_of past)) (all_held pasts) (entry_of aggregation k) a)
 
   all_held_has : (pasts : List Past) (k : Key) → HeldInSome aggregation k pasts (map choice_of pasts)
       → Contains (all_held pasts) (entry_of aggregation k)
   all_held_has [] k h = absurd h
   all_held_has (past ∷ pasts) k h = ⊎_elim
-      (λ here. Contains-append_left (held past.events (choice_of past)) (all_held pasts) (entry_of aggregation k)
+      (λ here. Contains-append_left (held_after past.events (choice_of past)) (all_held pasts) (entry_of aggregation k)
       here)
-      (λ later. Contains-append_right (held past.events (choice_of past)) (all_held pasts) (entry_of aggregation k)
+      (λ later. Contains-append_right (held_after past.events (choice_of past)) (all_held pasts) (entry_of aggregation k)
       (all_held_has pasts k later))
       h
 

@@ -13,7 +13,7 @@ use Rattle.dt_aggfn.specs.declared.function.AggFn.{AggFn}
 use Rattle.dt_aggfn.specs.Cells.{cell_words, cell_of, IsBag}
 use Rattle.dt_aggstore.specs.Keys.{Entry, same_entry}
 use Rattle.dt_aggstore.specs.History.{Event, given, truncated, contribution_count}
-use Rattle.dt_aggstore.specs.Held.{Contribution, entry_of, truncates, counted, held, values_of, bag}
+use Rattle.dt_aggstore.specs.Held.{Contribution, entry_of, truncates, counted, held_after, values_of, bag}
 use Rattle.dt_aggstore.specs.Entries.{words_of}
 use Rattle.dt_aggstore.specs.IsAt.{GivesWord}
 use Rattle.dt_aggstore.specs.declared.limits.TheConstants.{ADDED_LIMIT}
@@ -94,7 +94,7 @@ word_values entry (truncated a ∷ events) (c ∷ chosen) w = word_values entry 
 -- an entry that is held has a bag
 pub held_bag : (events : List Event) (chosen : List Bool) (aggregation : Aggregation) (key : List KeyPart)
     → AllByRecursion GivesWord events → contribution_count events ≤ ADDED_LIMIT
-    → has (entry_of aggregation key) (held events chosen) ≡ true → IsBag (bag events chosen aggregation key)
+    → has (entry_of aggregation key) (held_after events chosen) ≡ true → IsBag (bag events chosen aggregation key)
 held_bag events chosen aggregation key words few is = record {
   some = values_some (counted events chosen) (entry_of aggregation key)
       (sym (has-distinct (names (counted events chosen)) (entry_of aggregation key)) ∙ is);

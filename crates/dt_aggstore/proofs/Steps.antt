@@ -11,10 +11,10 @@ use Rattle.std.proofs.lemmas.List.Elements.{Contains-append_right}
 use Rattle.dt_aggfn.specs.Cells.{cell_words, cell_of, IsBag}
 use Rattle.dt_aggstore.specs.Keys.{Entry, same_entry, same_aggregation, entry_cost, cost_of, without}
 use Rattle.dt_aggstore.specs.History.{Event, given, truncated, Past, after, contribution_count}
-use Rattle.dt_aggstore.specs.Held.{Contribution, entry_of, counted, distinct, held, values_of}
+use Rattle.dt_aggstore.specs.Held.{Contribution, entry_of, counted, distinct, held_after, values_of}
 use Rattle.dt_aggstore.specs.Choice.{IsKept, KeepsContribution}
 use Rattle.dt_aggstore.specs.Chosen.{drops}
-use Rattle.dt_aggstore.specs.Entries.{names_of, words_of, LiesAt, cells_without}
+use Rattle.dt_aggstore.specs.Entries.{entries_named, words_of, LiesAt, cells_without}
 use Rattle.dt_aggstore.specs.IsAt.{IsAt}
 use Rattle.dt_aggstore.specs.declared.limits.TheConstants.{ADDED_LIMIT}
 use Rattle.dt_aggstore.specs.declared.key.Aggregation.{Aggregation}
@@ -46,7 +46,7 @@ module _ (past : Past) (old : AggStore) (at : IsAt past old) (aggregation : Aggr
     Counted = counted past.events at.chosen
 
     abbrev Held-then : List Entry
-    Held-then = held past.events at.chosen
+    Held-then = held_after past.events at.chosen
 
     abbrev Bags-then : Bags
     Bags-then e = values_of e Counted
@@ -65,7 +65,7 @@ module _ (past : Past) (old : AggStore) (at : IsAt past old) (aggregation : Aggr
         ≡ Counted ++ contribution aggregation key value ∷ []
     counted_kept = counted-given past.events at.chosen aggregation key value true at.choice.whole
 
-    held_kept : held (past.events ++ Event-of ∷ []) (at.chosen ++ true ∷ [])
+    held_kept : held_after (past.events ++ Event-of ∷ []) (at.chosen ++ true ∷ [])
         ≡ cond (has Given (names Counted)) Held-then (Held-then ++ Given ∷ [])
     held_kept =
         ap (λ c. distinct (names c)) counted_kept
@@ -82,7 +82,7 @@ module _ (past : Past) (old : AggStore) (at : IsAt past old) (aggregation : Aggr
     after_kept : (new : AggStore) → new.size ≡ old.size → new.added ≡ old.added + 1 → new.dropped ≡ old.dropped
         → FitsSigned w64 value → IsKept past.size past.events at.chosen Event-of → (entries : List Entry)
         → entries ≡ cond (has Given (names Counted)) Held-then (Held-then ++ Given ∷ [])
-        → names_of new.entries.items ≡ entries → new.cells.items ≡ cells_from Bags-now entries
+        → entries_named new.entries.items ≡ entries → new.cells.items ≡ cells_from Bags-now entries
         → IsAt (after past Event-of) new
     after_kept new size added dropped word kept entries is named cells = record {
       size = size ∙ at.size;
@@ -93,12 +93,12 @@ module _ (past : Past) (old : AggStore) (at : IsAt past old) (aggregation : Aggr
       choice = choice_more past at.chosen Event-of true at.choice ((λ _. kept), (λ _. refl));
       names = named ∙ is ∙ sym held_kept;
       cells = cells ∙ ap (cells_from Bags-now) (is ∙ sym held_kept)
-          ∙ ap (λ c. cells_from (λ e. values_of e c) (held (past.events ++ Event-of ∷ []) (at.chosen ++ true ∷ [])))
+          ∙ ap (λ c. cells_from (λ e. values_of e c) (held_after (past.events ++ Event-of ∷ []) (at.chosen ++ true ∷ [])))
           (sym counted_kept);
     }
 
     -- where the entry is held, its bag gets the value
-    module _ (lengths : Lengths) (place : ℕ) (lies : LiesAt (names_of old.entries.items) Given place) where
+    module _ (lengths : Lengths) (place : ℕ) (lies : LiesAt (entries_named old.entries.items) Given place) where
       split : Held-then ≡ lies.before ++ Given ∷ lies.later
       split = sym at.names ∙ lies.split
 
@@ -169,10 +169,10 @@ module _ (past : Past) (old : AggStore) (at : IsAt past old) (aggregation : Aggr
           after_kept new size added dropped word (inl among) Held-then
           (sym (ap (λ b. cond b Held-then (Held-then ++ Given ∷ [])) (sym (has-distinct (names Counted) Given)
           ∙ is_held)))
-          (ap (λ v. names_of v.items) same ∙ at.names) (cells_now new cells ∙ ap (cells_from Bags-now) (sym split))
+          (ap (λ v. entries_named v.items) same ∙ at.names) (cells_now new cells ∙ ap (cells_from Bags-now) (sym split))
 
     -- where it isn't, it is made if its cost fits
-    module _ (none : Contains (names_of old.entries.items) Given → ⊥) where
+    module _ (none : Contains (entries_named old.entries.items) Given → ⊥) where
       not_held : has Given Held-then ≡ false
       not_held = ⊎_elim
           (λ yes. absurd (none (subst (λ xs. Contains xs Given) (sym at.names)
@@ -188,8 +188,8 @@ module _ (past : Past) (old : AggStore) (at : IsAt past old) (aggregation : Aggr
 
       pub after_made : (new : AggStore) → new.size ≡ old.size → new.added ≡ old.added + 1
           → new.dropped ≡ old.dropped → FitsSigned w64 value
-          → entry_cost aggregation key + cost_of (names_of old.entries.items) ≤ old.size
-          → names_of new.entries.items ≡ names_of old.entries.items ++ Given ∷ []
+          → entry_cost aggregation key + cost_of (entries_named old.entries.items) ≤ old.size
+          → entries_named new.entries.items ≡ entries_named old.entries.items ++ Given ∷ []
           → new.cells.items ≡ old.cells.items ++ cell_of aggregation.function (value ∷ [])
           → IsAt (after past Event-of) new
       after_made new size added dropped word fits named cells =
@@ -205,7 +205,7 @@ module _ (past : Past) (old : AggStore) (at : IsAt past old) (aggregation : Aggr
           (sym (append-nil (cell_of aggregation.function (Bags-now Given))))
           ∙ sym (flat_map-append (λ e. cell_of e.aggregation.function (Bags-now e)) Held-then (Given ∷ [])))
 
-      not_kept : (entry_cost aggregation key + cost_of (names_of old.entries.items) ≤ old.size → ⊥)
+      not_kept : (entry_cost aggregation key + cost_of (entries_named old.entries.items) ≤ old.size → ⊥)
           → IsKept past.size past.events at.chosen Event-of → ⊥
       not_kept over kept = ⊎_elim
           (λ among. false≢true (sym not_held ∙ has_from_contains Held-then Given among))
@@ -216,7 +216,7 @@ module _ (past : Past) (old : AggStore) (at : IsAt past old) (aggregation : Aggr
       counted_dropped =
           counted-given past.events at.chosen aggregation key value false at.choice.whole ∙ append-nil Counted
 
-      drops_dropped : (entry_cost aggregation key + cost_of (names_of old.entries.items) ≤ old.size → ⊥)
+      drops_dropped : (entry_cost aggregation key + cost_of (entries_named old.entries.items) ≤ old.size → ⊥)
           → drops (after past Event-of) ≡ drops past + 1
       drops_dropped over =
           drops-given past aggregation key value false
@@ -225,8 +225,8 @@ module _ (past : Past) (old : AggStore) (at : IsAt past old) (aggregation : Aggr
 
       pub after_dropped : (new : AggStore) → new.size ≡ old.size → new.added ≡ old.added + 1
           → new.dropped ≡ old.dropped + 1 → FitsSigned w64 value
-          → (entry_cost aggregation key + cost_of (names_of old.entries.items) ≤ old.size → ⊥)
-          → names_of new.entries.items ≡ names_of old.entries.items → new.cells.items ≡ old.cells.items
+          → (entry_cost aggregation key + cost_of (entries_named old.entries.items) ≤ old.size → ⊥)
+          → entries_named new.entries.items ≡ entries_named old.entries.items → new.cells.items ≡ old.cells.items
           → IsAt (after past Event-of) new
       after_dropped new size added dropped word over named cells = record {
         size = size ∙ at.size;
@@ -242,7 +242,7 @@ module _ (past : Past) (old : AggStore) (at : IsAt past old) (aggregation : Aggr
       }
 
       pub keeps_made : (b : Bool) → IsTrue b ↔
-          (entry_cost aggregation key + cost_of (names_of old.entries.items) ≤ old.size)
+          (entry_cost aggregation key + cost_of (entries_named old.entries.items) ≤ old.size)
           → IsTrue b ↔ KeepsContribution past aggregation key value
       keeps_made b fits =
           keeps past aggregation key value at.chosen b at.choice (
@@ -256,12 +256,12 @@ module _ (past : Past) (old : AggStore) (at : IsAt past old) (aggregation : Aggr
 -- where the entry is held, the contribution is kept
 pub keeps_added : (past : Past) (old : AggStore) (at : IsAt past old) (aggregation : Aggregation) (key :
     List KeyPart)
-    (value : ℤ) (place : ℕ) → LiesAt (names_of old.entries.items) (entry_of aggregation key) place
+    (value : ℤ) (place : ℕ) → LiesAt (entries_named old.entries.items) (entry_of aggregation key) place
     → IsTrue true ↔ KeepsContribution past aggregation key value
 keeps_added past old at aggregation key value place lies =
     let entry = entry_of aggregation key in
-    let split : held past.events at.chosen ≡ lies.before ++ entry ∷ lies.later = sym at.names ∙ lies.split in
-    let among : Contains (held past.events at.chosen) entry =
+    let split : held_after past.events at.chosen ≡ lies.before ++ entry ∷ lies.later = sym at.names ∙ lies.split in
+    let among : Contains (held_after past.events at.chosen) entry =
     subst (λ xs. Contains xs entry) (sym split)
     (Contains-append_right lies.before (entry ∷ lies.later) entry (0, omega arith, refl)) in
     keeps past aggregation key value at.chosen true at.choice ((λ _. inl among), (λ _. refl))
@@ -317,12 +317,12 @@ module _ (lengths : Lengths) (past : Past) (old : AggStore) (at : IsAt past old)
       ≡ others aggregation Before
   counted_then = counted-truncated past.events at.chosen aggregation false at.choice.whole
 
-  held_then : distinct (names (others aggregation Before)) ≡ without aggregation (held past.events at.chosen)
+  held_then : distinct (names (others aggregation Before)) ≡ without aggregation (held_after past.events at.chosen)
   held_then = held-others aggregation Before
 
   pub after_truncated : (new : AggStore) → new.size ≡ old.size → new.added ≡ old.added → new.dropped ≡ old.dropped
-      → names_of new.entries.items ≡ without aggregation (names_of old.entries.items)
-      → new.cells.items ≡ cells_without aggregation (names_of old.entries.items) old.cells.items
+      → entries_named new.entries.items ≡ without aggregation (entries_named old.entries.items)
+      → new.cells.items ≡ cells_without aggregation (entries_named old.entries.items) old.cells.items
       → IsAt (after past (truncated aggregation)) new
   after_truncated new size added dropped named cells = record {
     size = size ∙ at.size;
@@ -335,9 +335,9 @@ module _ (lengths : Lengths) (past : Past) (old : AggStore) (at : IsAt past old)
     names = named ∙ ap (without aggregation) at.names ∙ sym held_then
         ∙ sym (ap (λ c. distinct (names c)) counted_then);
     cells = cells ∙ ap (λ xs. cells_without aggregation xs old.cells.items) at.names
-        ∙ ap (cells_without aggregation (held past.events at.chosen)) at.cells
+        ∙ ap (cells_without aggregation (held_after past.events at.chosen)) at.cells
         ∙ without_cells lengths aggregation Then Now (λ e other. values-others aggregation Before e other)
-        (held past.events at.chosen)
+        (held_after past.events at.chosen)
         ∙ ap (cells_from Now) (sym held_then)
         ∙ sym (ap (λ c. cells_from (λ e. values_of e c) (distinct (names c))) counted_then);
   }

@@ -8,7 +8,7 @@ use Rattle.dt_aggfn.specs.declared.function.AggFn.{AggFn}
 use Rattle.dt_aggfn.specs.Answers.{AnswerForm, answer_of_bag}
 use Rattle.dt_aggstore.specs.Keys.{IsBelow}
 use Rattle.dt_aggstore.specs.History.{Past}
-use Rattle.dt_aggstore.specs.Held.{entry_of, counted, held, bag}
+use Rattle.dt_aggstore.specs.Held.{entry_of, counted, held_after, bag}
 use Rattle.dt_aggstore.specs.Choice.{IsChoice}
 use Rattle.dt_aggstore.specs.Table.{IsRising, HeldInSome, joined_bag, RowForm, IsTable}
 use Rattle.dt_aggstore.specs.IsAt.{IsAt}
@@ -141,7 +141,7 @@ module _ (aggregation : Aggregation) where
       (λ here. append_left (bag p.events c aggregation key) (joined_bag aggregation key pasts choices)
       (values_some (counted p.events c) (entry_of aggregation key)
       (sym (has-distinct (names (counted p.events c)) (entry_of aggregation key))
-      ∙ has_from_contains (held p.events c) (entry_of aggregation key) here)))
+      ∙ has_from_contains (held_after p.events c) (entry_of aggregation key) here)))
       (λ later. append_right (bag p.events c aggregation key) (joined_bag aggregation key pasts choices)
       (values_held key pasts choices later))
       h
@@ -152,10 +152,10 @@ module _ (aggregation : Aggregation) where
   held_values key (p ∷ pasts) [] h = h refl
   held_values key (p ∷ pasts) (c ∷ choices) h = ⊎_elim
       (λ here. ⊎_elim
-      (λ yes. inl (contains_from_has (held p.events c) (entry_of aggregation key) yes))
+      (λ yes. inl (contains_from_has (held_after p.events c) (entry_of aggregation key) yes))
       (λ no. absurd (here (values_none (counted p.events c) (entry_of aggregation key)
       (sym (has-distinct (names (counted p.events c)) (entry_of aggregation key)) ∙ no))))
-      (yes_or_no (has (entry_of aggregation key) (held p.events c))))
+      (yes_or_no (has (entry_of aggregation key) (held_after p.events c))))
       (λ later. inr (held_values key pasts choices later))
       (append_cases (bag p.events c aggregation key) (joined_bag aggregation key pasts choices) h)
 

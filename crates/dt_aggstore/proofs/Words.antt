@@ -10,8 +10,8 @@ use Rattle.std.proofs.lemmas.List.Sums.{sum_by-append}
 use Rattle.std.proofs.lemmas.List.Folds.{list_any-append}
 use Rattle.dt_aggfn.specs.Cells.{cell_words}
 use Rattle.dt_aggstore.specs.Keys.{Entry, same_entry, same_aggregation}
-use Rattle.dt_aggstore.specs.Entries.{name_of, names_of, words_of, LiesAt, cells_without}
-use Rattle.dt_aggstore.specs.declared.held.Held.{Held}
+use Rattle.dt_aggstore.specs.Entries.{entry_named, entries_named, words_of, LiesAt, cells_without}
+use Rattle.dt_aggstore.specs.declared.entry_name.EntryName.{EntryName}
 use Rattle.dt_aggstore.specs.declared.key.Aggregation.{Aggregation}
 use Rattle.dt_aggstore.proofs.Same.{entry_is, entry_back}
 use Rattle.dt_aggstore.proofs.Distinct.{has, has_from_contains}
@@ -53,59 +53,59 @@ module _ (xs ys : List ℕ) (from to k : ℕ) (down : to ≤ from) (within : fro
 
 -- ---- words before an entry
 
-pub words_more : (entries : List Held) (i : ℕ) (d : Held) → i < length entries
-    → words_of (names_of (take (i + 1) entries))
-    ≡ words_of (names_of (take i entries)) + cell_words (get_or entries i d).aggregation.function
+pub words_more : (entries : List EntryName) (i : ℕ) (d : EntryName) → i < length entries
+    → words_of (entries_named (take (i + 1) entries))
+    ≡ words_of (entries_named (take i entries)) + cell_words (get_or entries i d).aggregation.function
 words_more entries i d h =
-    ap (λ xs. words_of (names_of xs)) (take_more entries i d h)
-    ∙ ap words_of (map-append name_of (take i entries) (get_or entries i d ∷ []))
-    ∙ sum_by-append (λ e. cell_words e.aggregation.function) (names_of (take i entries))
-    (name_of (get_or entries i d) ∷ [])
-    ∙ ap (λ n. words_of (names_of (take i entries)) + n)
+    ap (λ xs. words_of (entries_named xs)) (take_more entries i d h)
+    ∙ ap words_of (map-append entry_named (take i entries) (get_or entries i d ∷ []))
+    ∙ sum_by-append (λ e. cell_words e.aggregation.function) (entries_named (take i entries))
+    (entry_named (get_or entries i d) ∷ [])
+    ∙ ap (λ n. words_of (entries_named (take i entries)) + n)
     (zero-add (cell_words (get_or entries i d).aggregation.function))
 
-pub names-take : (entries : List Held) (i : ℕ) → names_of entries
-    ≡ names_of (take i entries) ++ names_of (drop i entries)
-names-take entries i = ap names_of (sym (take-append-drop i entries))
-    ∙ map-append name_of (take i entries) (drop i entries)
+pub names-take : (entries : List EntryName) (i : ℕ) → entries_named entries
+    ≡ entries_named (take i entries) ++ entries_named (drop i entries)
+names-take entries i = ap entries_named (sym (take-append-drop i entries))
+    ∙ map-append entry_named (take i entries) (drop i entries)
 
-pub words_within : (entries : List Held) (i : ℕ) → words_of (names_of (take i entries)) ≤ words_of (names_of entries)
+pub words_within : (entries : List EntryName) (i : ℕ) → words_of (entries_named (take i entries)) ≤ words_of (entries_named entries)
 words_within entries i =
     omega (
       arith,
       ap words_of (names-take entries i),
-      sum_by-append (λ e. cell_words e.aggregation.function) (names_of (take i entries))
-          (names_of (drop i entries)),
+      sum_by-append (λ e. cell_words e.aggregation.function) (entries_named (take i entries))
+          (entries_named (drop i entries)),
     )
 
 -- the words up to an entry and of its own cell are not more than all
-pub words_fit : (entries : List Held) (i : ℕ) (d : Held) → i < length entries
-    → words_of (names_of (take i entries)) + cell_words (get_or entries i d).aggregation.function
-    ≤ words_of (names_of entries)
+pub words_fit : (entries : List EntryName) (i : ℕ) (d : EntryName) → i < length entries
+    → words_of (entries_named (take i entries)) + cell_words (get_or entries i d).aggregation.function
+    ≤ words_of (entries_named entries)
 words_fit entries i d h = omega (arith, words_more entries i d h, words_within entries (i + 1))
 
 -- ---- an entry is looked for
 
-pub has-more : (entries : List Held) (i : ℕ) (d : Held) (entry : Entry) → i < length entries
-    → has entry (names_of (take i entries)) ≡ false → same_entry entry (name_of (get_or entries i d)) ≡ false
-    → has entry (names_of (take (i + 1) entries)) ≡ false
+pub has-more : (entries : List EntryName) (i : ℕ) (d : EntryName) (entry : Entry) → i < length entries
+    → has entry (entries_named (take i entries)) ≡ false → same_entry entry (entry_named (get_or entries i d)) ≡ false
+    → has entry (entries_named (take (i + 1) entries)) ≡ false
 has-more entries i d entry h before here =
-    let x = name_of (get_or entries i d) in
-    ap (λ xs. has entry (names_of xs)) (take_more entries i d h)
-    ∙ ap (has entry) (map-append name_of (take i entries) (get_or entries i d ∷ []))
-    ∙ list_any-append (λ o. same_entry o entry) (names_of (take i entries)) (x ∷ [])
+    let x = entry_named (get_or entries i d) in
+    ap (λ xs. has entry (entries_named xs)) (take_more entries i d h)
+    ∙ ap (has entry) (map-append entry_named (take i entries) (get_or entries i d ∷ []))
+    ∙ list_any-append (λ o. same_entry o entry) (entries_named (take i entries)) (x ∷ [])
     ∙ ap (λ b. b || (same_entry x entry || false)) before
     ∙ ap (λ b. b || false) (entry_back entry x here)
 
-pub lies_at : (entries : List Held) (i : ℕ) (d : Held) (entry : Entry) → i < length entries
-    → same_entry entry (name_of (get_or entries i d)) ≡ true
-    → LiesAt (names_of entries) entry (words_of (names_of (take i entries)))
+pub lies_at : (entries : List EntryName) (i : ℕ) (d : EntryName) (entry : Entry) → i < length entries
+    → same_entry entry (entry_named (get_or entries i d)) ≡ true
+    → LiesAt (entries_named entries) entry (words_of (entries_named (take i entries)))
 lies_at entries i d entry h here = record {
-  before = names_of (take i entries);
-  later = names_of (drop (i + 1) entries);
-  split = names-take entries i ∙ ap (λ xs. names_of (take i entries) ++ names_of xs) (drop_more entries i d h)
-      ∙ ap (λ e. names_of (take i entries) ++ e ∷ names_of (drop (i + 1) entries))
-      (sym (entry_is entry (name_of (get_or entries i d)) here));
+  before = entries_named (take i entries);
+  later = entries_named (drop (i + 1) entries);
+  split = names-take entries i ∙ ap (λ xs. entries_named (take i entries) ++ entries_named xs) (drop_more entries i d h)
+      ∙ ap (λ e. entries_named (take i entries) ++ e ∷ entries_named (drop (i + 1) entries))
+      (sym (entry_is entry (entry_named (get_or entries i d)) here));
   place_is = refl;
 }
 
@@ -114,18 +114,18 @@ none_among entries entry none among = false≢true (sym none ∙ has_from_contai
 
 -- ---- cells are closed up
 
-module _ (aggregation : Aggregation) (entries : List Held) (i : ℕ) (d : Held) (here : i < length entries)
+module _ (aggregation : Aggregation) (entries : List EntryName) (i : ℕ) (d : EntryName) (here : i < length entries)
     (cells was : List ℕ) (from to : ℕ) where
   abbrev Words : ℕ
   Words = cell_words (get_or entries i d).aggregation.function
 
   abbrev Left : ℕ → List ℕ → List ℕ
-  Left k words = cells_without aggregation (names_of (drop k entries)) words
+  Left k words = cells_without aggregation (entries_named (drop k entries)) words
 
   left_more : (words : List ℕ) → Left i words
       ≡ cond (same_aggregation aggregation (get_or entries i d).aggregation) [] (take Words words)
       ++ Left (i + 1) (drop Words words)
-  left_more words = ap (λ xs. cells_without aggregation (names_of xs) words) (drop_more entries i d here)
+  left_more words = ap (λ xs. cells_without aggregation (entries_named xs) words) (drop_more entries i d here)
 
   -- the entry's cell goes
   pub close_gone : same_aggregation aggregation (get_or entries i d).aggregation ≡ true
@@ -166,14 +166,14 @@ module _ (aggregation : Aggregation) (entries : List Held) (i : ℕ) (d : Held) 
       ++ Left (i + 1) (drop Words (drop from cells)))) kept)
       ∙ sym (ap (λ xs. take to cells ++ xs) (left_more (drop from cells))) ∙ so_far
 
-module _ (aggregation : Aggregation) (entries : List Held) (i : ℕ) (x : Held) (here : i < length entries)
+module _ (aggregation : Aggregation) (entries : List EntryName) (i : ℕ) (x : EntryName) (here : i < length entries)
     (is : x ≡ get_or entries i x) (cells was : List ℕ) (from to n : ℕ) (n_is : n
     ≡ cell_words x.aggregation.function) where
   words_are : cell_words (get_or entries i x).aggregation.function ≡ n
   words_are = ap (λ y. cell_words y.aggregation.function) (sym is) ∙ sym n_is
 
   abbrev Rest : ℕ → List ℕ → List ℕ
-  Rest k words = cells_without aggregation (names_of (drop k entries)) words
+  Rest k words = cells_without aggregation (entries_named (drop k entries)) words
 
   pub close_gone_at : same_aggregation aggregation x.aggregation ≡ true → take to cells ++ Rest i (drop from cells)
       ≡ was
@@ -199,19 +199,19 @@ module _ (aggregation : Aggregation) (entries : List Held) (i : ℕ) (x : Held) 
       fits shape
 
 -- all were looked at
-pub close_all : (aggregation : Aggregation) (entries : List Held) (i from to : ℕ) (cells was : List ℕ)
+pub close_all : (aggregation : Aggregation) (entries : List EntryName) (i from to : ℕ) (cells was : List ℕ)
     → length entries ≤ i
-    → take to cells ++ cells_without aggregation (names_of (drop i entries)) (drop from cells) ≡ was → take to cells
+    → take to cells ++ cells_without aggregation (entries_named (drop i entries)) (drop from cells) ≡ was → take to cells
     ≡ was
 close_all aggregation entries i from to cells was over so_far =
     sym (append-nil (take to cells))
-    ∙ sym (ap (λ xs. take to cells ++ cells_without aggregation (names_of xs) (drop from cells))
+    ∙ sym (ap (λ xs. take to cells ++ cells_without aggregation (entries_named xs) (drop from cells))
     (drop_all i entries over))
     ∙ so_far
 
 -- ---- the same of the entry that a loop reads
 
-module _ (entries items : List Held) (i : ℕ) (x : Held) (same : items ≡ entries) (lt : i < length items)
+module _ (entries items : List EntryName) (i : ℕ) (x : EntryName) (same : items ≡ entries) (lt : i < length items)
     (is : x ≡ get_or items i x) where
   pub within_at : i < length entries
   within_at = subst (λ xs. i < length xs) same lt
@@ -219,24 +219,24 @@ module _ (entries items : List Held) (i : ℕ) (x : Held) (same : items ≡ entr
   pub read_at : x ≡ get_or entries i x
   read_at = is ∙ ap (λ xs. get_or xs i x) same
 
-  pub words_more_at : words_of (names_of (take (i + 1) entries))
-      ≡ words_of (names_of (take i entries)) + cell_words x.aggregation.function
+  pub words_more_at : words_of (entries_named (take (i + 1) entries))
+      ≡ words_of (entries_named (take i entries)) + cell_words x.aggregation.function
   words_more_at =
       words_more entries i x within_at
-      ∙ ap (λ y. words_of (names_of (take i entries)) + cell_words y.aggregation.function) (sym read_at)
+      ∙ ap (λ y. words_of (entries_named (take i entries)) + cell_words y.aggregation.function) (sym read_at)
 
-  pub words_fit_at : words_of (names_of (take i entries)) + cell_words x.aggregation.function
-      ≤ words_of (names_of entries)
+  pub words_fit_at : words_of (entries_named (take i entries)) + cell_words x.aggregation.function
+      ≤ words_of (entries_named entries)
   words_fit_at = omega (arith, words_more_at, words_within entries (i + 1))
 
-  pub has-more_at : (entry : Entry) → has entry (names_of (take i entries)) ≡ false
-      → same_entry entry (name_of x) ≡ false → has entry (names_of (take (i + 1) entries)) ≡ false
+  pub has-more_at : (entry : Entry) → has entry (entries_named (take i entries)) ≡ false
+      → same_entry entry (entry_named x) ≡ false → has entry (entries_named (take (i + 1) entries)) ≡ false
   has-more_at entry before none =
-      has-more entries i x entry within_at before (ap (λ y. same_entry entry (name_of y)) (sym read_at) ∙ none)
+      has-more entries i x entry within_at before (ap (λ y. same_entry entry (entry_named y)) (sym read_at) ∙ none)
 
-  pub lies_at_at : (entry : Entry) (place : ℕ) → same_entry entry (name_of x) ≡ true
-      → place ≡ words_of (names_of (take i entries)) → LiesAt (names_of entries) entry place
+  pub lies_at_at : (entry : Entry) (place : ℕ) → same_entry entry (entry_named x) ≡ true
+      → place ≡ words_of (entries_named (take i entries)) → LiesAt (entries_named entries) entry place
   lies_at_at entry place found e =
-      let P : ℕ → Type 0 = λ n. LiesAt (names_of entries) entry n in
+      let P : ℕ → Type 0 = λ n. LiesAt (entries_named entries) entry n in
       subst P (sym e)
-      (lies_at entries i x entry within_at (ap (λ y. same_entry entry (name_of y)) (sym read_at) ∙ found))
+      (lies_at entries i x entry within_at (ap (λ y. same_entry entry (entry_named y)) (sym read_at) ∙ found))

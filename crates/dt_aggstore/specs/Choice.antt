@@ -2,7 +2,7 @@
 use Rattle.std.specs.Prelude.{◌≡◌, ℕ, ◌+◌, ◌≤◌, ◌⊎◌, ◌↔◌, ℤ, Bool, false, List, IsTrue, Some, length, take, slice_get, slice_index_or, Contains}
 use Rattle.dt_aggstore.specs.History.{Event, given, truncated, Past, after}
 use Rattle.dt_aggstore.specs.Keys.{entry_cost, cost_of}
-use Rattle.dt_aggstore.specs.Held.{entry_of, held}
+use Rattle.dt_aggstore.specs.Held.{entry_of, held_after}
 use Rattle.dt_aggstore.specs.declared.key.Aggregation.{Aggregation}
 use Rattle.dt_aggstore.specs.declared.key.KeyPart.{KeyPart}
 
@@ -10,8 +10,8 @@ use Rattle.dt_aggstore.specs.declared.key.KeyPart.{KeyPart}
 -- there, or whose entry's cost and the costs of all entries held there add up to at most the size.
 abbrev pub IsKept : ℕ → List Event → List Bool → Event → Type 0
 IsKept size events chosen (given aggregation key value) =
-    Contains (held events chosen) (entry_of aggregation key)
-    ⊎ (entry_cost aggregation key + cost_of (held events chosen) ≤ size)
+    Contains (held_after events chosen) (entry_of aggregation key)
+    ⊎ (entry_cost aggregation key + cost_of (held_after events chosen) ≤ size)
 IsKept size events chosen (truncated aggregation) = ⊥
 
 -- The one choice in which a place is chosen exactly where its event is kept after the chosen ones before it.

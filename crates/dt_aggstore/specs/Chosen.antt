@@ -3,13 +3,13 @@ use Rattle.std.specs.Prelude.{ℕ, ◌+◌, Bool, true, false, ◌&&◌, ◌||�
 use Rattle.std.specs.List.{fold, list_any}
 use Rattle.dt_aggstore.specs.History.{Event, given, truncated, Past}
 use Rattle.dt_aggstore.specs.Keys.{same_entry, entry_cost, cost_of}
-use Rattle.dt_aggstore.specs.Held.{entry_of, held}
+use Rattle.dt_aggstore.specs.Held.{entry_of, held_after}
 
 -- the test of `IsKept`
 abbrev pub is_kept : ℕ → List Event → List Bool → Event → Bool
 is_kept size events chosen (given aggregation key value) =
-    list_any (λ other. same_entry other (entry_of aggregation key)) (held events chosen)
-    || nat_le (entry_cost aggregation key + cost_of (held events chosen)) size
+    list_any (λ other. same_entry other (entry_of aggregation key)) (held_after events chosen)
+    || nat_le (entry_cost aggregation key + cost_of (held_after events chosen)) size
 is_kept size events chosen (truncated aggregation) = false
 
 -- the choice of a past: each event is chosen where it is kept after those before it, of which some were chosen

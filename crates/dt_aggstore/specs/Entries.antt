@@ -6,14 +6,14 @@ use Rattle.dt_aggfn.specs.Answers.{form_of_answer}
 use Rattle.dt_aggstore.specs.Keys.{Entry, same_aggregation}
 use Rattle.dt_aggstore.specs.declared.key.Aggregation.{Aggregation}
 use Rattle.dt_aggstore.specs.Table.{RowForm}
-use Rattle.dt_aggstore.specs.declared.held.Held.{Held}
+use Rattle.dt_aggstore.specs.declared.entry_name.EntryName.{EntryName}
 use Rattle.dt_aggstore.specs.declared.table.Row.{Row}
 
-abbrev pub name_of : Held → Entry
-name_of held = record { aggregation = held.aggregation; key = held.key.parts.items }
+abbrev pub entry_named : EntryName → Entry
+entry_named name = record { aggregation = name.aggregation; key = name.key.parts.items }
 
-abbrev pub names_of : List Held → List Entry
-names_of entries = map name_of entries
+abbrev pub entries_named : List EntryName → List Entry
+entries_named entries = map entry_named entries
 
 -- how many words the cells of entries have
 abbrev pub words_of : List Entry → ℕ

@@ -35,8 +35,8 @@ distinct [] = []
 distinct (entry ∷ entries) = entry ∷ filter (λ other. not (same_entry entry other)) (distinct entries)
 
 -- The entries that are held: those to which some contribution counts.
-abbrev pub held : List Event → List Bool → List Entry
-held events chosen = distinct (map (λ c. c.entry) (counted events chosen))
+abbrev pub held_after : List Event → List Bool → List Entry
+held_after events chosen = distinct (map (λ c. c.entry) (counted events chosen))
 
 -- the values of an entry among contributions, in their order
 abbrev pub values_of : Entry → List Contribution → List ℤ

@@ -5,10 +5,10 @@ use Rattle.std.specs.Int.{w64}
 use Rattle.dt_aggfn.specs.Cells.{cell_of}
 use Rattle.dt_aggstore.specs.History.{Event, given, truncated, Past, contribution_count}
 use Rattle.dt_aggstore.specs.Keys.{Entry, entry_cost, cost_of}
-use Rattle.dt_aggstore.specs.Held.{entry_of, held, bag}
+use Rattle.dt_aggstore.specs.Held.{entry_of, held_after, bag}
 use Rattle.dt_aggstore.specs.Choice.{IsChoice}
 use Rattle.dt_aggstore.specs.Chosen.{drops}
-use Rattle.dt_aggstore.specs.Entries.{names_of}
+use Rattle.dt_aggstore.specs.Entries.{entries_named}
 use Rattle.dt_aggstore.specs.declared.key.Aggregation.{Aggregation}
 use Rattle.dt_aggstore.specs.declared.key.KeyPart.{KeyPart}
 use Rattle.dt_aggstore.specs.declared.store.AggStore.{AggStore}
@@ -32,8 +32,8 @@ pub record IsAt (past : Past) (store : AggStore) : Type 0 where
   pub numbers : AllByRecursion GivesWord past.events
   pub chosen : List Bool
   pub choice : IsChoice past chosen
-  pub names : names_of store.entries.items ≡ held past.events chosen
-  pub cells : store.cells.items ≡ cells_of past.events chosen (held past.events chosen)
+  pub names : entries_named store.entries.items ≡ held_after past.events chosen
+  pub cells : store.cells.items ≡ cells_of past.events chosen (held_after past.events chosen)
 
 -- how many contributions a store counts
 abbrev pub added_of : AggStore → ℕ
@@ -47,5 +47,5 @@ pub record Makes (aggregation : Aggregation) (key : List KeyPart) (value : ℤ) 
   pub same_size : new.size ≡ size
   pub same_count : new.added ≡ added
   pub drops : new.dropped ≡ (if made then dropped else dropped + 1)
-  pub names : names_of new.entries.items ≡ (if made then entries ++ entry_of aggregation key ∷ [] else entries)
+  pub names : entries_named new.entries.items ≡ (if made then entries ++ entry_of aggregation key ∷ [] else entries)
   pub all_cells : new.cells.items ≡ (if made then cells ++ cell_of aggregation.function (value ∷ []) else cells)

@@ -3,12 +3,12 @@ use Rattle.std.specs.Prelude.{◌≡◌, ℕ, ◌+◌, Bool, List, map, slice_ra
 use Rattle.std.specs.List.{AllByRecursion}
 use Rattle.dt_aggfn.specs.Cells.{cell_words, cell_of}
 use Rattle.dt_aggstore.specs.History.{Past}
-use Rattle.dt_aggstore.specs.Held.{held, bag}
+use Rattle.dt_aggstore.specs.Held.{held_after, bag}
 use Rattle.dt_aggstore.specs.Choice.{IsChoice}
-use Rattle.dt_aggstore.specs.Entries.{name_of}
+use Rattle.dt_aggstore.specs.Entries.{entry_named}
 use Rattle.dt_aggstore.specs.Indexed.{places_from}
 use Rattle.dt_aggstore.specs.IsAt.{cells_of}
-use Rattle.dt_aggstore.specs.declared.held.Held.{Held}
+use Rattle.dt_aggstore.specs.declared.entry_name.EntryName.{EntryName}
 use Rattle.dt_aggstore.specs.declared.store.AggStore.{AggStore}
 
 -- the words of a store's cells
@@ -19,15 +19,15 @@ pool_of store = store.cells.items
 pub record LendsPool (past : Past) (pool : List ℕ) : Type 0 where
   pub chosen : List Bool
   pub choice : IsChoice past chosen
-  pub words : pool ≡ cells_of past.events chosen (held past.events chosen)
+  pub words : pool ≡ cells_of past.events chosen (held_after past.events chosen)
 
 -- At the end of a past an index has exactly the held entries, in their order, each with the place of its cell: the
 -- cells lie one after another, and the words that the pool has at an entry's place are the cell of its bag.
-pub record LendsIndex (past : Past) (pool : List ℕ) (index : List (Held × ℕ)) : Type 0 where
+pub record LendsIndex (past : Past) (pool : List ℕ) (index : List (EntryName × ℕ)) : Type 0 where
   pub chosen : List Bool
   pub choice : IsChoice past chosen
-  pub entries : map (λ e. name_of e.0) index ≡ held past.events chosen
-  pub places : map (λ e. e.1) index ≡ places_from 0 (held past.events chosen)
+  pub entries : map (λ e. entry_named e.0) index ≡ held_after past.events chosen
+  pub places : map (λ e. e.1) index ≡ places_from 0 (held_after past.events chosen)
   pub cells : AllByRecursion
       (λ e. slice_range pool e.1 (e.1 + cell_words e.0.aggregation.function)
       ≡ cell_of e.0.aggregation.function (bag past.events chosen e.0.aggregation e.0.key.parts.items))

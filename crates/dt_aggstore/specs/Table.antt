@@ -4,7 +4,7 @@ use Rattle.std.specs.List.{AllZip, AllByRecursion}
 use Rattle.dt_aggfn.specs.Answers.{AnswerForm, answer_of_bag}
 use Rattle.dt_aggstore.specs.History.{Past}
 use Rattle.dt_aggstore.specs.Keys.{IsBelow}
-use Rattle.dt_aggstore.specs.Held.{entry_of, held, bag}
+use Rattle.dt_aggstore.specs.Held.{entry_of, held_after, bag}
 use Rattle.dt_aggstore.specs.Choice.{IsChoice}
 use Rattle.dt_aggstore.specs.declared.key.Aggregation.{Aggregation}
 use Rattle.dt_aggstore.specs.declared.key.KeyPart.{KeyPart}
@@ -20,7 +20,7 @@ module _ (aggregation : Aggregation) (key : List KeyPart) where
   HeldInSome [] choices = ⊥
   HeldInSome (past ∷ pasts) [] = ⊥
   HeldInSome (past ∷ pasts) (chosen ∷ choices) =
-      Contains (held past.events chosen) (entry_of aggregation key) ⊎ HeldInSome pasts choices
+      Contains (held_after past.events chosen) (entry_of aggregation key) ⊎ HeldInSome pasts choices
 
   -- the key's bags at the ends of all pasts, joined in order
   abbrev pub joined_bag : List Past → List (List Bool) → List ℤ

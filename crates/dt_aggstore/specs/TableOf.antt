@@ -5,7 +5,7 @@ use Rattle.std.specs.BTreeSet.{insert_key}
 use Rattle.dt_aggfn.specs.Answers.{answer_of_bag}
 use Rattle.dt_aggstore.specs.Keys.{Entry, key_cmp, same_aggregation}
 use Rattle.dt_aggstore.specs.History.{Past}
-use Rattle.dt_aggstore.specs.Held.{held}
+use Rattle.dt_aggstore.specs.Held.{held_after}
 use Rattle.dt_aggstore.specs.Chosen.{choice_of}
 use Rattle.dt_aggstore.specs.Table.{joined_bag, RowForm}
 use Rattle.dt_aggstore.specs.declared.key.Aggregation.{Aggregation}
@@ -25,4 +25,4 @@ table_of pasts aggregation =
       key = key;
       value = answer_of_bag aggregation.function (joined_bag aggregation key pasts (map choice_of pasts));
     })
-    (rising_keys aggregation (flat_map (λ past. held past.events (choice_of past)) pasts))
+    (rising_keys aggregation (flat_map (λ past. held_after past.events (choice_of past)) pasts))

@@ -1,9 +1,9 @@
 //! The cells of a store's entries, one after another in one list of words.
 ghost use Rattle.std.specs.Prelude.{◌≡◌, ℕ, ◌+◌, ◌≤◌, List, [], ◌∷◌, ◌++◌, ℤ, length, take, drop, slice_range, vec_len, vec_capacity};
 ghost use Rattle.dt_aggfn.specs.Cells.{cell_words, cell_of, IsBag};
-ghost use Rattle.dt_aggstore.specs.Entries.{names_of, words_of, cells_without};
+ghost use Rattle.dt_aggstore.specs.Entries.{entries_named, words_of, cells_without};
 
-use crate::held::Held;
+use crate::entry_name::EntryName;
 use crate::key::Aggregation;
 use dt_aggfn::AggFn;
 
@@ -39,16 +39,16 @@ pub(crate) fn push_first(function: AggFn, cells: &mut Vec<u64>, value: i64)
 }
 
 /// Takes out the cells of an aggregation.
-pub(crate) fn close_up(cells: &mut Vec<u64>, entries: &[Held], aggregation: Aggregation)
-    requires { length cells.old.items ≡ words_of (names_of entries.now) }
-    ensures items { cells.new.items ≡ cells_without aggregation (names_of entries.now) cells.old.items }
+pub(crate) fn close_up(cells: &mut Vec<u64>, entries: &[EntryName], aggregation: Aggregation)
+    requires { length cells.old.items ≡ words_of (entries_named entries.now) }
+    ensures items { cells.new.items ≡ cells_without aggregation (entries_named entries.now) cells.old.items }
     ensures capacity { vec_capacity cells.new ≡ vec_capacity cells.old }
 {
     let mut from = 0;
     let mut to = 0;
-    for held in entries {
-        let words = held.aggregation.function.cell_words();
-        if !aggregation.is(held.aggregation) {
+    for name in entries {
+        let words = name.aggregation.function.cell_words();
+        if !aggregation.is(name.aggregation) {
             move_down(cells, from, to, words);
             to += words;
         }

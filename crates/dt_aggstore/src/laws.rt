@@ -2,7 +2,7 @@
 ghost use Rattle.std.specs.Prelude.{◌≡◌, ◌↔◌, ℕ, Bool, List, Contains};
 ghost use Rattle.dt_aggstore.specs.History.{Event, truncated, Past, new_past, after};
 ghost use Rattle.dt_aggstore.specs.Keys.{Entry};
-ghost use Rattle.dt_aggstore.specs.Held.{held, IsHeldBy};
+ghost use Rattle.dt_aggstore.specs.Held.{held_after, IsHeldBy};
 ghost use Rattle.dt_aggstore.specs.Choice.{IsChoice};
 ghost use Rattle.dt_aggstore.specs.Chosen.{choice_of, drops};
 ghost use Rattle.dt_aggstore.specs.Table.{IsTable, RowForm};
@@ -20,7 +20,7 @@ pub fn one_choice()
 /// truncated since.
 pub fn held_entries()
     ensures { (events : List Event) (chosen : List Bool) (entry : Entry)
-        → Contains (held events chosen) entry ↔ IsHeldBy events chosen entry }
+        → Contains (held_after events chosen) entry ↔ IsHeldBy events chosen entry }
 {}
 
 /// The pasts of stores give an aggregation exactly one table, which is `table_of`.

@@ -10,8 +10,8 @@
 #![tactic(auto)]
 
 mod cells;
-mod entries;
-mod held;
+mod entry_index;
+mod entry_name;
 mod joining;
 mod key;
 mod laws;
@@ -21,7 +21,7 @@ mod share;
 mod store;
 mod table;
 
-pub use held::Held;
+pub use entry_name::EntryName;
 pub use key::{Aggregation, Key, KeyPart};
 pub use laws::{drops_go_on, held_entries, one_choice, one_table};
 pub use limit_laws::limits_agree;

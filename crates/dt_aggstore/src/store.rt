@@ -1,13 +1,13 @@
 //! The store of one processor.
 ghost use Rattle.std.specs.Prelude.{◌≡◌, ◌+◌, ◌*◌, ◌<◌, ◌≤◌, ◌↔◌, ℕ, ℤ, List, length, IfOk, IfSome, IfNone, IsTrue, Contains, if◌then◌else◌, vec_len, vec_capacity};
 ghost use Rattle.dt_aggstore.specs.Keys.{cost_of};
-ghost use Rattle.dt_aggstore.specs.Entries.{name_of, names_of, words_of, LiesAt};
+ghost use Rattle.dt_aggstore.specs.Entries.{entry_named, entries_named, words_of, LiesAt};
 ghost use Rattle.dt_aggstore.specs.Indexed.{places_from};
 ghost use Rattle.dt_aggstore.specs.declared.limits.TheConstants.{ADDED_LIMIT, AGGSIZE_MAX, COST_MIN};
 
 use crate::cells::{add_at, close_up, push_first};
-use crate::entries::Entries;
-use crate::held::{Held, costs};
+use crate::entry_index::EntryIndex;
+use crate::entry_name::{EntryName, costs};
 use crate::key::{Aggregation, Key};
 use crate::limits::{ADDED_LIMIT, AGGSIZE_MAX, COST_MIN};
 use dt_aggfn::cell_length;
@@ -17,7 +17,7 @@ use std::alloc::{AllocError, Global};
 /// What one processor keeps of a consumer's aggregations. All its room is made by `new`.
 #[derive(Drop)]
 pub struct AggStore {
-    pub(crate) entries: Entries,
+    pub(crate) entries: EntryIndex,
     /// The cells of the entries, in their order.
     pub(crate) cells: Vec<u64>,
     pub(crate) size: usize,
@@ -28,9 +28,9 @@ pub struct AggStore {
     pub(crate) dropped: u64,
     ghost entry_room: { size < COST_MIN * (entries.room + 1) },
     ghost cell_room: { size < 8 * (vec_capacity cells + 1) },
-    ghost spent_is: { spent ≡ cost_of (names_of entries.items) },
-    ghost cells_are: { length cells.items ≡ words_of (names_of entries.items) },
-    ghost places_are: { entries.places ≡ places_from 0 (names_of entries.items) },
+    ghost spent_is: { spent ≡ cost_of (entries_named entries.items) },
+    ghost cells_are: { length cells.items ≡ words_of (entries_named entries.items) },
+    ghost places_are: { entries.places ≡ places_from 0 (entries_named entries.items) },
     ghost within: { spent ≤ size },
     ghost small: { size ≤ AGGSIZE_MAX },
     ghost few: { added ≤ ADDED_LIMIT },
@@ -52,7 +52,7 @@ impl AggStore {
         ensures added { IfOk result (λ store. added_of store ≡ 0) }
     {
         Ok(AggStore {
-            entries: Entries::new(alloc, aggsize / COST_MIN)?,
+            entries: EntryIndex::new(alloc, aggsize / COST_MIN)?,
             cells: Vec::with_capacity(alloc, aggsize / 8)?,
             size: aggsize,
             spent: 0,
@@ -84,7 +84,7 @@ impl AggStore {
                 add_at(aggregation.function, &mut self.cells, place, value);
                 true
             }
-            None => self.insert(Held::of(aggregation, key), value),
+            None => self.insert(EntryName::of(aggregation, key), value),
         }
     }
 
@@ -95,9 +95,9 @@ impl AggStore {
     {
         // A cell has its function's words.
         cell_length();
-        close_up(&mut self.cells, self.entries.held(), aggregation);
+        close_up(&mut self.cells, self.entries.names(), aggregation);
         self.entries.let_go(aggregation);
-        let spent = costs(self.entries.held());
+        let spent = costs(self.entries.names());
         self.spent = spent;
     }
 
@@ -118,7 +118,7 @@ impl AggStore {
 
     /// The index of the entries that are held, in the order in which they came, each with the place of its cell in the
     /// [`pool`](AggStore::pool). It takes no memory.
-    pub fn index(&self) -> &IndexMap<Held, usize>
+    pub fn index(&self) -> &IndexMap<EntryName, usize>
         ensures { (past : Past) → IsAt past self.now → LendsIndex past (pool_of self.now) result.now.entries }
     {
         // A cell has its function's words.
@@ -136,23 +136,23 @@ impl AggStore {
 
     /// Makes an entry that isn't held, with the cell of one value, if its cost fits, and says so. Otherwise counts a
     /// drop.
-    fn insert(&mut self, held: Held, value: i64) -> bool
+    fn insert(&mut self, name: EntryName, value: i64) -> bool
         requires dropped { self.old.dropped < self.old.added }
-        requires new { Contains (names_of self.old.entries.items) (name_of held) → ⊥ }
-        ensures { Makes held.aggregation held.key.parts.items value self.old.size self.old.added self.old.dropped
-            (names_of self.old.entries.items) self.old.cells.items self.new result }
+        requires new { Contains (entries_named self.old.entries.items) (entry_named name) → ⊥ }
+        ensures { Makes name.aggregation name.key.parts.items value self.old.size self.old.added self.old.dropped
+            (entries_named self.old.entries.items) self.old.cells.items self.new result }
     {
         // A cell has one word at least.
         cell_length();
-        let cost = held.cost();
+        let cost = name.cost();
         if self.size - self.spent < cost {
             // no entry is let go to make room: a contribution whose new entry doesn't fit is a drop
             self.dropped += 1;
             return false;
         }
         let place = self.cells.len();
-        push_first(held.aggregation.function, &mut self.cells, value);
-        self.entries.push(held, place);
+        push_first(name.aggregation.function, &mut self.cells, value);
+        self.entries.push(name, place);
         self.spent += cost;
         true
     }

@@ -71,12 +71,12 @@ impl AggStore {
     {
         cell_length();
         let mut place = 0;
-        for held in self.entries.held() {
-            let words = held.aggregation.function.cell_words();
-            if aggregation.is(held.aggregation) {
+        for name in self.entries.names() {
+            let words = name.aggregation.function.cell_words();
+            if aggregation.is(name.aggregation) {
                 let cell = cell_at(&self.cells, place, words);
                 shares.push(Share {
-                    key: &held.key,
+                    key: &name.key,
                     cell,
                 })?;
             }

@@ -7,7 +7,7 @@ use Rattle.std.specs.Vec.{vec_len}
 use Rattle.std.proofs.lemmas.List.{append-nil}
 use Rattle.dt_aggfn.specs.Answers.{answer_of_bag}
 use Rattle.dt_aggstore.specs.Chosen.{choice_of, drops, gives_value}
-use Rattle.dt_aggstore.specs.Held.{Contribution, counted, distinct, held}
+use Rattle.dt_aggstore.specs.Held.{Contribution, counted, distinct, held_after}
 use Rattle.dt_aggstore.specs.Table.{joined_bag}
 use Rattle.dt_aggstore.specs.TableOf.{rising_keys, table_of}
 use Rattle.dt_aggstore.specs.History as store
@@ -98,7 +98,7 @@ none_counted (store.given aggregation key value ∷ later) chosen none = cc
 none_counted (store.truncated aggregation ∷ later) [] none = refl
 none_counted (store.truncated aggregation ∷ later) (c ∷ chosen) none = none_counted later chosen none.1
 
-none_held : (events : List store.Event) (chosen : List Bool) → gives_none events → held events chosen ≡ []
+none_held : (events : List store.Event) (chosen : List Bool) → gives_none events → held_after events chosen ≡ []
 none_held events chosen none = ap (λ cs. distinct (map (λ (c : Contribution). c.entry) cs))
     (none_counted events chosen none)
 
@@ -124,10 +124,10 @@ module _ (account : Account) (registry : Registry) (shapes : List ShapeForm) (ec
 
 -- the table of stores to which nothing was given
 all_held : (f : ℕ → store.Past) (cpus : List ℕ) → ((cpu : ℕ) → gives_none (f cpu).events)
-    → flat_map (λ (past : store.Past). held past.events (choice_of past)) (map f cpus) ≡ []
+    → flat_map (λ (past : store.Past). held_after past.events (choice_of past)) (map f cpus) ≡ []
 all_held f [] none = refl
 all_held f (cpu ∷ cpus) none =
-    ap (λ es. es ++ flat_map (λ (past : store.Past). held past.events (choice_of past)) (map f cpus))
+    ap (λ es. es ++ flat_map (λ (past : store.Past). held_after past.events (choice_of past)) (map f cpus))
     (none_held (f cpu).events (choice_of (f cpu)) (none cpu))
     ∙ all_held f cpus none
 

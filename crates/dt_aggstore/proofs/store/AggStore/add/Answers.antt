@@ -11,7 +11,7 @@ use Rattle.dt_aggstore.specs.Indexed.{Indexed}
 use Rattle.dt_aggstore.specs.Keys.{Entry, entry_cost, cost_of}
 use Rattle.dt_aggstore.specs.History.{Past, after, given, contribution_count}
 use Rattle.dt_aggstore.specs.Held.{entry_of, bag}
-use Rattle.dt_aggstore.specs.Entries.{names_of}
+use Rattle.dt_aggstore.specs.Entries.{entries_named}
 use Rattle.dt_aggstore.specs.IsAt.{IsAt, Makes}
 use Rattle.dt_aggstore.specs.declared.limits.TheConstants.{ADDED_LIMIT}
 use Rattle.dt_aggstore.specs.declared.key.Aggregation.{Aggregation}
@@ -25,8 +25,8 @@ use Rattle.dt_aggstore.proofs.store.AggStore.add.Goals as goal
 -- a store where none was found, made or not
 made : (past : Past) (old new : AggStore) (at : IsAt past old) (aggregation : Aggregation) (key : List KeyPart)
     (value : ℤ)
-    (b : Bool) → FitsSigned w64 value → (Contains (names_of old.entries.items) (entry_of aggregation key) → ⊥)
-    → Makes aggregation key value old.size (old.added + 1) old.dropped (names_of old.entries.items)
+    (b : Bool) → FitsSigned w64 value → (Contains (entries_named old.entries.items) (entry_of aggregation key) → ⊥)
+    → Makes aggregation key value old.size (old.added + 1) old.dropped (entries_named old.entries.items)
     old.cells.items new b
     → IsAt (after past (given aggregation key value)) new
 made past old new at aggregation key value true word none m =
@@ -75,11 +75,11 @@ returns-in-None-clause-stands c = λ past at.
     let key = c.args.key.now.parts.items in
     let new = c.insert.new.self in
     made past self new at c.args.aggregation key c.args.value c.insert.result c.ranges.value c.in-None.ensures.none
-    (subst (λ z. MakesOf (entry_of c.args.aggregation key) (names_of self.entries.items) z self new c.insert.result)
+    (subst (λ z. MakesOf (entry_of c.args.aggregation key) (entries_named self.entries.items) z self new c.insert.result)
     (to_z-of_z w64 c.args.value c.ranges.value)
-    (subst (λ (e : Indexed). MakesOf (entry_of c.args.aggregation key) (names_of e.items)
+    (subst (λ (e : Indexed). MakesOf (entry_of c.args.aggregation key) (entries_named e.items)
     (to_z w64 (of_z w64 c.args.value)) self new c.insert.result) c.place_of.ensures.same
-    (subst (λ e. MakesOf e (names_of c.place_of.new.self.items) (to_z w64 (of_z w64 c.args.value)) self new
+    (subst (λ e. MakesOf e (entries_named c.place_of.new.self.items) (to_z w64 (of_z w64 c.args.value)) self new
     c.insert.result) c.of.ensures c.insert.ensures)))
 
 pub returns-in-None-clause-keeps : goal.returns-in-None-clause-keeps
@@ -87,10 +87,10 @@ returns-in-None-clause-keeps c = λ past at.
     keeps_made past c.args.self.now at c.args.aggregation c.args.key.now.parts.items c.args.value
     c.in-None.ensures.none c.insert.result
     (subst (λ (e : Indexed). IsTrue c.insert.result
-    ↔ (entry_cost c.args.aggregation c.args.key.now.parts.items + cost_of (names_of e.items) ≤ c.args.self.now.size))
+    ↔ (entry_cost c.args.aggregation c.args.key.now.parts.items + cost_of (entries_named e.items) ≤ c.args.self.now.size))
     c.place_of.ensures.same
     (subst (λ (e : Entry). IsTrue c.insert.result
-    ↔ (entry_cost e.aggregation e.key + cost_of (names_of c.place_of.new.self.items) ≤ c.args.self.now.size))
+    ↔ (entry_cost e.aggregation e.key + cost_of (entries_named c.place_of.new.self.items) ≤ c.args.self.now.size))
     c.of.ensures c.insert.ensures.fits))
 
 pub returns-in-Some-clause-drops : goal.returns-in-Some-clause-drops

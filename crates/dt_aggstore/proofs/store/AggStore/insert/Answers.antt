@@ -1,10 +1,10 @@
 -- A new entry has room where its cost fits.
 use Rattle.std.proofs.Common.{◌≡◌, ◌+◌, List, ◌++◌, ◌∷◌, [], sym, ap, ◌∙◌, arith}
 use Rattle.std.proofs.lemmas.List.{length-map, map-append}
-use Rattle.dt_aggstore.specs.Entries.{name_of, names_of, words_of}
+use Rattle.dt_aggstore.specs.Entries.{entry_named, entries_named, words_of}
 use Rattle.dt_aggfn.specs.Cells.{cell_words}
 use Rattle.dt_aggstore.specs.Keys.{entry_cost, cost_of}
-use Rattle.dt_aggstore.specs.declared.held.Held.{Held}
+use Rattle.dt_aggstore.specs.declared.entry_name.EntryName.{EntryName}
 use Rattle.dt_aggstore.proofs.Costs.{words_cost, entries_cost, cost-push, words-push}
 use Rattle.dt_aggstore.specs.Indexed.{places_from}
 use Rattle.dt_aggstore.proofs.Indexing.{places-push}
@@ -22,7 +22,7 @@ push_first-requires c =
       self.cells.ok,
       c.if-self-cost.false,
       c.cost-cost.ensures.cost,
-      words_cost (names_of self.entries.items),
+      words_cost (entries_named self.entries.items),
     )
 
 pub push-requires-clause-room : goal.push-requires-clause-room
@@ -35,19 +35,19 @@ push-requires-clause-room c =
       self.spent_is,
       c.if-self-cost.false,
       c.cost-cost.ensures.least,
-      length-map self.entries.items name_of,
-      entries_cost c.cell_length.ensures.some (names_of self.entries.items),
+      length-map self.entries.items entry_named,
+      entries_cost c.cell_length.ensures.some (entries_named self.entries.items),
     )
 
-module _ (items : List Held) (held : Held) (new : List Held) (is : new ≡ items ++ held ∷ []) where
-  one_more : names_of new ≡ names_of items ++ name_of held ∷ []
-  one_more = ap names_of is ∙ map-append name_of items (held ∷ [])
+module _ (items : List EntryName) (name : EntryName) (new : List EntryName) (is : new ≡ items ++ name ∷ []) where
+  one_more : entries_named new ≡ entries_named items ++ entry_named name ∷ []
+  one_more = ap entries_named is ∙ map-append entry_named items (name ∷ [])
 
-  cost_more : cost_of (names_of new) ≡ cost_of (names_of items) + entry_cost held.aggregation held.key.parts.items
-  cost_more = ap cost_of one_more ∙ cost-push (names_of items) (name_of held)
+  cost_more : cost_of (entries_named new) ≡ cost_of (entries_named items) + entry_cost name.aggregation name.key.parts.items
+  cost_more = ap cost_of one_more ∙ cost-push (entries_named items) (entry_named name)
 
-  words_more : words_of (names_of new) ≡ words_of (names_of items) + cell_words held.aggregation.function
-  words_more = ap words_of one_more ∙ words-push (names_of items) (name_of held)
+  words_more : words_of (entries_named new) ≡ words_of (entries_named items) + cell_words name.aggregation.function
+  words_more = ap words_of one_more ∙ words-push (entries_named items) (entry_named name)
 
 pub invariant_of-self-2-clause-spent_is : goal.invariant_of-self-2-clause-spent_is
 invariant_of-self-2-clause-spent_is c =
@@ -56,7 +56,7 @@ invariant_of-self-2-clause-spent_is c =
       arith,
       self.spent_is,
       c.cost-cost.ensures.cost,
-      cost_more self.entries.items c.args.held c.push.new.self.items c.push.ensures.items,
+      cost_more self.entries.items c.args.name c.push.new.self.items c.push.ensures.items,
     )
 
 pub invariant_of-self-2-clause-cells_are : goal.invariant_of-self-2-clause-cells_are
@@ -68,17 +68,17 @@ invariant_of-self-2-clause-cells_are c =
       self.cells.ok,
       c.push_first.new.cells.ok,
       c.push_first.ensures.len,
-      words_more self.entries.items c.args.held c.push.new.self.items c.push.ensures.items,
+      words_more self.entries.items c.args.name c.push.new.self.items c.push.ensures.items,
     )
 
 -- the new cell lies behind the others
 pub invariant_of-self-2-clause-places_are : goal.invariant_of-self-2-clause-places_are
 invariant_of-self-2-clause-places_are c =
     let self = c.args.self.now in
-    let names = names_of self.entries.items in
+    let names = entries_named self.entries.items in
     c.push.ensures.places
     ∙ ap (λ places. places ++ c.len-place.result ∷ []) self.places_are
     ∙ ap (λ place. places_from 0 names ++ place ∷ [])
     (omega (arith, c.len-place.ensures, self.cells.ok, self.cells_are))
-    ∙ sym (places-push 0 names (name_of c.args.held))
-    ∙ ap (places_from 0) (sym (one_more self.entries.items c.args.held c.push.new.self.items c.push.ensures.items))
+    ∙ sym (places-push 0 names (entry_named c.args.name))
+    ∙ ap (places_from 0) (sym (one_more self.entries.items c.args.name c.push.new.self.items c.push.ensures.items))

@@ -1,6 +1,6 @@
 -- A new store has nothing, and dropped nothing.
 use Rattle.std.proofs.Common.{[], refl, sym, ap}
-use Rattle.dt_aggstore.specs.Entries.{names_of}
+use Rattle.dt_aggstore.specs.Entries.{entries_named}
 use Rattle.dt_aggstore.proofs.Choices.{no_choice}
 use Rattle.dt_aggstore.proofs.Drops.{drops-new_past}
 use Rattle.dt_aggstore.proofs.store.AggStore.new.Goals as goal
@@ -13,6 +13,6 @@ returns-clause-stands c = record {
   numbers = tt;
   chosen = [];
   choice = no_choice c.args.aggsize;
-  names = ap names_of c.in_ok-new.ensures.items;
+  names = ap entries_named c.in_ok-new.ensures.items;
   cells = c.in_ok-with_capacity.ensures.items;
 }

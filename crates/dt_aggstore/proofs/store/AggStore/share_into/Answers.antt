@@ -5,7 +5,7 @@ use Rattle.std.specs.Prelude.{slice_range, All}
 use Rattle.std.proofs.lemmas.List.{take_all, length-take-le, length-drop}
 use Rattle.std.proofs.lemmas.List.Elements.{All-push}
 use Rattle.dt_aggfn.specs.Cells.{cell_words}
-use Rattle.dt_aggstore.specs.Entries.{names_of, words_of}
+use Rattle.dt_aggstore.specs.Entries.{entries_named, words_of}
 use Rattle.dt_aggstore.specs.Joining.{AreShares}
 use Rattle.dt_aggstore.specs.declared.key.Aggregation.{Aggregation}
 use Rattle.dt_aggstore.specs.declared.share.Share.{Share}
@@ -26,12 +26,12 @@ cell_at-cell-requires c =
     omega (
       arith,
       c.args.self.now.cells_are,
-      c.loop-held.invariant.place_is,
+      c.loop-name.invariant.place_is,
       c.cell_words-words.ensures.words,
       ap length c.deref.ensures.value,
-      words_fit_at c.args.self.now.entries.items c.held-held-items.result.now c.loop-held.held-index
-          c.held-item.result
-          c.held-held-items.ensures c.loop-held-test.true c.held-item.is,
+      words_fit_at c.args.self.now.entries.items c.names-name-items.result.now c.loop-name.name-index
+          c.name-item.result
+          c.names-name-items.ensures c.loop-name-test.true c.name-item.is,
     )
 
 pub overflow_add-place : goal.overflow_add-place
@@ -40,87 +40,87 @@ overflow_add-place c =
       arith,
       c.args.self.now.cells_are,
       c.args.self.now.cells.small,
-      c.loop-held.invariant.place_is,
+      c.loop-name.invariant.place_is,
       c.cell_words-words.ensures.words,
-      words_fit_at c.args.self.now.entries.items c.held-held-items.result.now c.loop-held.held-index
-          c.held-item.result
-          c.held-held-items.ensures c.loop-held-test.true c.held-item.is,
+      words_fit_at c.args.self.now.entries.items c.names-name-items.result.now c.loop-name.name-index
+          c.name-item.result
+          c.names-name-items.ensures c.loop-name-test.true c.name-item.is,
     )
 
-pub loop-held-preserved : goal.loop-held-preserved
-loop-held-preserved c =
+pub loop-name-preserved : goal.loop-name-preserved
+loop-name-preserved c =
     let entries = c.args.self.now.entries.items in
-    let items = c.held-held-items.result.now in
-    let i = c.loop-held.held-index in
-    let x = c.held-item.result in
-    let same = c.held-held-items.ensures in
-    let lt = c.loop-held-test.true in
+    let items = c.names-name-items.result.now in
+    let i = c.loop-name.name-index in
+    let x = c.name-item.result in
+    let same = c.names-name-items.ensures in
+    let lt = c.loop-name-test.true in
     let function = c.args.aggregation.function in
-    let place_is : c.loop-held.place + c.cell_words-words.result ≡ words_of (names_of (take (i + 1) entries)) =
+    let place_is : c.loop-name.place + c.cell_words-words.result ≡ words_of (entries_named (take (i + 1) entries)) =
     omega (
       arith,
-      c.loop-held.invariant.place_is,
+      c.loop-name.invariant.place_is,
       c.cell_words-words.ensures.words,
-      words_more_at entries items i x same lt c.held-item.is,
+      words_more_at entries items i x same lt c.name-item.is,
     ) in
     elim c.if-is.branch [
       | then-is+in_ok-push w ↦
           (let own = aggregation_is c.args.aggregation x.aggregation (sym c.is.ensures ∙ w.if-is.true) in
-          let pushed : c.if-is.shares.items ≡ c.loop-held.shares.items ++ _ ∷ [] =
+          let pushed : c.if-is.shares.items ≡ c.loop-name.shares.items ++ _ ∷ [] =
           ap (λ (v : Vec Share Global). v.items) w.shares-is ∙ w.in_ok-push.ensures.items in
           record {
             place_is = place_is;
             words = λ all. subst (All (λ (share : Share). length share.cell.now ≡ cell_words function)) (sym pushed)
-                (All-push (λ (share : Share). length share.cell.now ≡ cell_words function) c.loop-held.shares.items _
-                (c.loop-held.invariant.words all)
+                (All-push (λ (share : Share). length share.cell.now ≡ cell_words function) c.loop-name.shares.items _
+                (c.loop-name.invariant.words all)
                 (ap length w.cell_at-cell.ensures
-                ∙ length_range w.deref.result.now c.loop-held.place c.cell_words-words.result
+                ∙ length_range w.deref.result.now c.loop-name.place c.cell_words-words.result
                 (omega (
                   arith,
                   c.args.self.now.cells_are,
-                  c.loop-held.invariant.place_is,
+                  c.loop-name.invariant.place_is,
                   c.cell_words-words.ensures.words,
                   ap length w.deref.ensures.value,
-                  words_fit_at entries items i x same lt c.held-item.is,
+                  words_fit_at entries items i x same lt c.name-item.is,
                 ))
                 ∙ c.cell_words-words.ensures.words
                 ∙ ap (λ (a : Aggregation). cell_words a.function) (sym own)));
             shares = λ past at bags a.
                 subst (AreShares function
-                (Gathered past c.args.self.now at c.args.aggregation bags (names_of (take (i + 1) entries))))
+                (Gathered past c.args.self.now at c.args.aggregation bags (entries_named (take (i + 1) entries))))
                 (sym pushed)
                 (entry_shared past c.args.self.now at c.args.aggregation bags i x
-                (within_at entries items i x same lt c.held-item.is)
-                (read_at entries items i x same lt c.held-item.is) c.loop-held.shares.items
-                (c.loop-held.invariant.shares past at bags a) c.cell_length.ensures.words
-                (sym c.is.ensures ∙ w.if-is.true) c.loop-held.place c.cell_words-words.result
-                c.loop-held.invariant.place_is c.cell_words-words.ensures.words _ refl
+                (within_at entries items i x same lt c.name-item.is)
+                (read_at entries items i x same lt c.name-item.is) c.loop-name.shares.items
+                (c.loop-name.invariant.shares past at bags a) c.cell_length.ensures.words
+                (sym c.is.ensures ∙ w.if-is.true) c.loop-name.place c.cell_words-words.result
+                c.loop-name.invariant.place_is c.cell_words-words.ensures.words _ refl
                 (w.cell_at-cell.ensures
-                ∙ ap (λ xs. slice_range xs c.loop-held.place (c.loop-held.place + c.cell_words-words.result))
+                ∙ ap (λ xs. slice_range xs c.loop-name.place (c.loop-name.place + c.cell_words-words.result))
                 w.deref.ensures.value));
           })
       | else-is w ↦ (record {
         place_is = place_is;
         words = λ all. subst (All (λ (share : Share). length share.cell.now ≡ cell_words function))
-            (sym (ap (λ (v : Vec Share Global). v.items) w.shares-is)) (c.loop-held.invariant.words all);
+            (sym (ap (λ (v : Vec Share Global). v.items) w.shares-is)) (c.loop-name.invariant.words all);
         shares = λ past at bags a.
             subst (AreShares function
-            (Gathered past c.args.self.now at c.args.aggregation bags (names_of (take (i + 1) entries))))
+            (Gathered past c.args.self.now at c.args.aggregation bags (entries_named (take (i + 1) entries))))
             (sym (ap (λ (v : Vec Share Global). v.items) w.shares-is))
             (entry_passed past c.args.self.now at c.args.aggregation bags i x
-            (within_at entries items i x same lt c.held-item.is)
-            (read_at entries items i x same lt c.held-item.is) c.loop-held.shares.items
-            (c.loop-held.invariant.shares past at bags a) (sym c.is.ensures ∙ w.if-is.false));
+            (within_at entries items i x same lt c.name-item.is)
+            (read_at entries items i x same lt c.name-item.is) c.loop-name.shares.items
+            (c.loop-name.invariant.shares past at bags a) (sym c.is.ensures ∙ w.if-is.false));
       })
     ]
 
 pub returns-clause-shares : goal.returns-clause-shares
 returns-clause-shares c = λ past at bags a.
     let self = c.args.self.now in
-    let all : names_of (take c.loop-held.held-index self.entries.items) ≡ names_of self.entries.items =
-    ap names_of (take_all c.loop-held.held-index self.entries.items
-    (omega (arith, ap length c.held-held-items.ensures, c.loop-held-test.false))) in
-    shared_alike c.args.aggregation.function _ _ c.loop-held.shares.items
+    let all : entries_named (take c.loop-name.name-index self.entries.items) ≡ entries_named self.entries.items =
+    ap entries_named (take_all c.loop-name.name-index self.entries.items
+    (omega (arith, ap length c.names-name-items.ensures, c.loop-name-test.false))) in
+    shared_alike c.args.aggregation.function _ _ c.loop-name.shares.items
     (λ key. ap (λ xs. Gathered past self at c.args.aggregation bags xs key) (all ∙ at.names)
     ∙ gathered_all past self at c.args.aggregation bags key)
-    (c.loop-held.invariant.shares past at bags a)
+    (c.loop-name.invariant.shares past at bags a)

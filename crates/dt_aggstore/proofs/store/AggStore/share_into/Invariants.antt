@@ -2,7 +2,7 @@
 use Rattle.std.proofs.Common.{◌≡◌, List, take, ℤ, length}
 use Rattle.std.specs.Prelude.{All}
 use Rattle.dt_aggfn.specs.Cells.{cell_words}
-use Rattle.dt_aggstore.specs.Entries.{names_of, words_of}
+use Rattle.dt_aggstore.specs.Entries.{entries_named, words_of}
 use Rattle.dt_aggstore.specs.History.{Past}
 use Rattle.dt_aggstore.specs.IsAt.{IsAt}
 use Rattle.dt_aggstore.specs.Joining.{AreShares}
@@ -11,14 +11,14 @@ use Rattle.dt_aggstore.proofs.Rising.{Key}
 use Rattle.dt_aggstore.proofs.Gathering.{Gathered}
 use Rattle.dt_aggstore.proofs.store.AggStore.share_into.Given as goal
 
-abbrev pub invariant-loop-held : goal.invariant-loop-held
-invariant-loop-held l = record {
-  place_is : l.place ≡ words_of (names_of (take l.held-index l.self.entries.items));
+abbrev pub invariant-loop-name : goal.invariant-loop-name
+invariant-loop-name l = record {
+  place_is : l.place ≡ words_of (entries_named (take l.name-index l.self.entries.items));
   words : All (λ (share : Share). length share.cell.now ≡ cell_words l.aggregation.function) l.fn.shares.items
       → All (λ (share : Share). length share.cell.now ≡ cell_words l.aggregation.function) l.shares.items;
   shares : (past : Past) (at : IsAt past l.self) (bags : Key → List ℤ)
       → AreShares l.aggregation.function bags l.fn.shares.items
       → AreShares l.aggregation.function
-      (Gathered past l.self at l.aggregation bags (names_of (take l.held-index l.self.entries.items)))
+      (Gathered past l.self at l.aggregation bags (entries_named (take l.name-index l.self.entries.items)))
       l.shares.items;
 }

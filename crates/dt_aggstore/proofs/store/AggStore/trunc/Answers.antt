@@ -1,7 +1,7 @@
 -- The entries of an aggregation go.
 use Rattle.std.proofs.Common.{length, refl, sym, ap, ◌∙◌, arith}
 use Rattle.dt_aggstore.specs.Keys.{cost_of}
-use Rattle.dt_aggstore.specs.Entries.{names_of, words_of, cells_without}
+use Rattle.dt_aggstore.specs.Entries.{entries_named, words_of, cells_without}
 use Rattle.dt_aggstore.proofs.Costs.{words_cost, cost_without, length-cells_without}
 use Rattle.dt_aggstore.proofs.Steps.{after_truncated}
 use Rattle.dt_aggstore.proofs.store.AggStore.trunc.Goals as goal
@@ -11,7 +11,7 @@ let_go-requires c =
     let self = c.args.self.now in
     omega (
       arith,
-      words_cost (names_of self.entries.items),
+      words_cost (entries_named self.entries.items),
       self.spent_is,
       self.within,
       self.small,
@@ -22,9 +22,9 @@ costs-spent-requires c =
     let self = c.args.self.now in
     omega (
       arith,
-      ap (λ xs. cost_of (names_of xs)) c.held-2.ensures,
+      ap (λ xs. cost_of (entries_named xs)) c.names-2.ensures,
       ap cost_of c.let_go.ensures.names,
-      cost_without c.args.aggregation (names_of self.entries.items),
+      cost_without c.args.aggregation (entries_named self.entries.items),
       self.spent_is,
       self.within,
       self.small,
@@ -36,18 +36,18 @@ invariant_of-self c =
     record {
       entry_room = omega (arith, self.entry_room, c.let_go.ensures.room);
       cell_room = omega (arith, self.cell_room, c.close_up.ensures.capacity);
-      spent_is = c.costs-spent.ensures ∙ ap (λ xs. cost_of (names_of xs)) c.held-2.ensures;
+      spent_is = c.costs-spent.ensures ∙ ap (λ xs. cost_of (entries_named xs)) c.names-2.ensures;
       cells_are = ap length c.close_up.ensures.items
-          ∙ ap (λ xs. length (cells_without c.args.aggregation (names_of xs) self.cells.items)) c.held.ensures
-          ∙ length-cells_without c.args.aggregation (names_of self.entries.items) self.cells.items self.cells_are
+          ∙ ap (λ xs. length (cells_without c.args.aggregation (entries_named xs) self.cells.items)) c.names.ensures
+          ∙ length-cells_without c.args.aggregation (entries_named self.entries.items) self.cells.items self.cells_are
           ∙ ap words_of (sym c.let_go.ensures.names);
       places_are = c.let_go.ensures.places;
       within = omega (
         arith,
         c.costs-spent.ensures,
-        ap (λ xs. cost_of (names_of xs)) c.held-2.ensures,
+        ap (λ xs. cost_of (entries_named xs)) c.names-2.ensures,
         ap cost_of c.let_go.ensures.names,
-        cost_without c.args.aggregation (names_of self.entries.items),
+        cost_without c.args.aggregation (entries_named self.entries.items),
         self.spent_is,
         self.within,
       );
@@ -61,4 +61,4 @@ returns-clause-stands c = λ past at.
     let self = c.args.self.now in
     after_truncated c.cell_length.ensures.words past self at c.args.aggregation _ refl refl refl c.let_go.ensures.names
     (c.close_up.ensures.items
-    ∙ ap (λ xs. cells_without c.args.aggregation (names_of xs) self.cells.items) c.held.ensures)
+    ∙ ap (λ xs. cells_without c.args.aggregation (entries_named xs) self.cells.items) c.names.ensures)

@@ -3,13 +3,13 @@ ghost use Rattle.std.specs.Prelude.{◌≡◌, ◌+◌, ◌<◌, ◌≤◌, [], 
 ghost use Rattle.std.specs.List.{IsDistinct};
 ghost use Rattle.std.specs.Map.{lookup};
 ghost use Rattle.indexmap.specs.IndexMap.{keys, values, index_map_len, spare, IsEmpty};
-ghost use Rattle.dt_aggstore.specs.Entries.{name_of, names_of, words_of, LiesAt};
+ghost use Rattle.dt_aggstore.specs.Entries.{entry_named, entries_named, words_of, LiesAt};
 ghost use Rattle.dt_aggstore.specs.Held.{entry_of};
 ghost use Rattle.dt_aggstore.specs.Indexed.{places_from};
 ghost use Rattle.dt_aggstore.specs.Keys.{same_entry, without};
 ghost use Rattle.dt_aggstore.specs.declared.limits.TheConstants.{AGGSIZE_MAX};
 
-use crate::held::Held;
+use crate::entry_name::EntryName;
 use crate::key::{Aggregation, Key};
 use crate::limits::{AGGSIZE_MAX, RECENT_MAX};
 use indexmap::IndexMap;
@@ -19,18 +19,18 @@ use std::mem;
 
 /// Entries in the order in which they came, each with the place of its cell. All their room is made by `new`.
 #[derive(Drop)]
-pub(crate) struct Entries {
-    index: IndexMap<Held, usize>,
+pub(crate) struct EntryIndex {
+    index: IndexMap<EntryName, usize>,
     /// Empty, with as much room. An index that is removed from may lose room, so the entries that stay where others
     /// are let go move over to this one.
-    other: IndexMap<Held, usize>,
+    other: IndexMap<EntryName, usize>,
     room: usize,
     /// Where in the order the entry stands that was found or put last, for each aggregation by its number: mostly it is
     /// the next one of that aggregation too, and no name is hashed. Where it is another one, the name is looked up.
     recent: [usize; RECENT_MAX],
 }
 
-impl Model for Entries {
+impl Model for EntryIndex {
     ghost use Rattle.indexmap.specs.IndexMap.{keys, values};
     ghost use Rattle.dt_aggstore.specs.Indexed.{Indexed, IndexHasRoom};
 
@@ -41,14 +41,14 @@ impl Model for Entries {
     ghost invariant = { λ e. IndexHasRoom e.room e.index e.other };
 }
 
-impl Entries {
+impl EntryIndex {
     /// No entries, and room for so many. `Err`: there was no memory for it.
     pub(crate) fn new(alloc: Global, room: usize) -> Result<Self, AllocError>
         ensures items { IfOk result (λ entries. entries.items ≡ []) }
         ensures places { IfOk result (λ entries. entries.places ≡ []) }
         ensures room { IfOk result (λ entries. entries.room ≡ room) }
     {
-        Ok(Entries {
+        Ok(EntryIndex {
             index: IndexMap::with_capacity(alloc, room)?,
             other: IndexMap::with_capacity(alloc, room)?,
             room,
@@ -58,10 +58,10 @@ impl Entries {
 
     /// The place of the cell of the entry of an aggregation and a key, if it is among them.
     pub(crate) fn place_of(&mut self, aggregation: Aggregation, key: &Key) -> Option<usize>
-        requires { self.old.places ≡ places_from 0 (names_of self.old.items) }
+        requires { self.old.places ≡ places_from 0 (entries_named self.old.items) }
         ensures same { self.new ≡ self.old }
-        ensures found { IfSome result (LiesAt (names_of self.old.items) (entry_of aggregation key.now.parts.items)) }
-        ensures none { IfNone result (Contains (names_of self.old.items) (entry_of aggregation key.now.parts.items) → ⊥) }
+        ensures found { IfSome result (LiesAt (entries_named self.old.items) (entry_of aggregation key.now.parts.items)) }
+        ensures none { IfNone result (Contains (entries_named self.old.items) (entry_of aggregation key.now.parts.items) → ⊥) }
     {
         let number = aggregation.number % RECENT_MAX;
         let place = recent_place(&self.index, self.recent[number], aggregation, key);
@@ -69,28 +69,28 @@ impl Entries {
         if place.is_some() {
             return place;
         }
-        let recent = self.index.get_index_of(&Held::of(aggregation, key))?;
+        let recent = self.index.get_index_of(&EntryName::of(aggregation, key))?;
         self.recent[number] = recent;
         Some(self.index[recent])
     }
 
     /// Puts an entry that isn't among them at the end.
-    pub(crate) fn push(&mut self, held: Held, place: usize)
+    pub(crate) fn push(&mut self, name: EntryName, place: usize)
         requires room { length self.old.items < self.old.room }
-        requires new { Contains (names_of self.old.items) (name_of held) → ⊥ }
-        ensures items { self.new.items ≡ self.old.items ++ held ∷ [] }
+        requires new { Contains (entries_named self.old.items) (entry_named name) → ⊥ }
+        ensures items { self.new.items ≡ self.old.items ++ name ∷ [] }
         ensures places { self.new.places ≡ self.old.places ++ place ∷ [] }
         ensures room { self.new.room ≡ self.old.room }
     {
-        self.recent[held.aggregation.number % RECENT_MAX] = self.index.len();
-        put(&mut self.index, held, place);
+        self.recent[name.aggregation.number % RECENT_MAX] = self.index.len();
+        put(&mut self.index, name, place);
     }
 
     /// Lets the entries of an aggregation go, where their cells are taken out too.
     pub(crate) fn let_go(&mut self, aggregation: Aggregation)
-        requires { words_of (names_of self.old.items) ≤ AGGSIZE_MAX }
-        ensures names { names_of self.new.items ≡ without aggregation (names_of self.old.items) }
-        ensures places { self.new.places ≡ places_from 0 (names_of self.new.items) }
+        requires { words_of (entries_named self.old.items) ≤ AGGSIZE_MAX }
+        ensures names { entries_named self.new.items ≡ without aggregation (entries_named self.old.items) }
+        ensures places { self.new.places ≡ places_from 0 (entries_named self.new.items) }
         ensures room { self.new.room ≡ self.old.room }
     {
         put_others(&mut self.other, self.index.keys().as_slice(), aggregation);
@@ -99,14 +99,14 @@ impl Entries {
     }
 
     /// The entries, in their order.
-    pub(crate) fn held(&self) -> &[Held]
+    pub(crate) fn names(&self) -> &[EntryName]
         ensures { result.now ≡ self.now.items }
     {
         self.index.keys().as_slice()
     }
 
     /// The index from each entry to the place of its cell.
-    pub(crate) fn index(&self) -> &IndexMap<Held, usize>
+    pub(crate) fn index(&self) -> &IndexMap<EntryName, usize>
         ensures { result.now.entries ≡ zip self.now.items self.now.places }
     {
         &self.index
@@ -115,16 +115,16 @@ impl Entries {
 
 /// The place that stands beside the entry at a position of an index, if it is that of the aggregation and key.
 fn recent_place(
-    index: &IndexMap<Held, usize>,
+    index: &IndexMap<EntryName, usize>,
     position: usize,
     aggregation: Aggregation,
     key: &Key,
 ) -> Option<usize>
-    ensures { IfSome result (λ place. lookup (λ one. same_entry (entry_of aggregation key.now.parts.items) (name_of one))
+    ensures { IfSome result (λ place. lookup (λ one. same_entry (entry_of aggregation key.now.parts.items) (entry_named one))
         index.now.entries ≡ Some place) }
 {
-    let (held, place) = index.get_index(position)?;
-    if held.is(aggregation, key) {
+    let (name, place) = index.get_index(position)?;
+    if name.is(aggregation, key) {
         Some(*place)
     } else {
         None
@@ -132,31 +132,35 @@ fn recent_place(
 }
 
 /// Puts an entry that isn't in an index at its end, beside the place of its cell.
-fn put(index: &mut IndexMap<Held, usize>, held: Held, place: usize)
+fn put(index: &mut IndexMap<EntryName, usize>, name: EntryName, place: usize)
     requires room { 0 < spare index.old }
-    requires new { Contains (names_of (keys index.old)) (name_of held) → ⊥ }
-    ensures entries { index.new.entries ≡ index.old.entries ++ (held, place) ∷ [] }
+    requires new { Contains (entries_named (keys index.old)) (entry_named name) → ⊥ }
+    ensures entries { index.new.entries ≡ index.old.entries ++ (name, place) ∷ [] }
     ensures spare { spare index.old ≤ spare index.new + 1 }
 {
-    index.insert(held, place).unwrap();
+    index.insert(name, place).unwrap();
 }
 
 /// Puts the entries of other aggregations into an empty index, with the places where their cells lie one after another.
-fn put_others(index: &mut IndexMap<Held, usize>, entries: &[Held], aggregation: Aggregation)
+fn put_others(
+    index: &mut IndexMap<EntryName, usize>,
+    entries: &[EntryName],
+    aggregation: Aggregation,
+)
     requires empty { IsEmpty index.old }
     requires room { length entries.now ≤ spare index.old }
-    requires apart { IsDistinct (λ one other. same_entry (name_of one) (name_of other)) entries.now }
-    requires words { words_of (names_of entries.now) ≤ AGGSIZE_MAX }
-    ensures names { names_of (keys index.new) ≡ without aggregation (names_of entries.now) }
-    ensures places { values index.new ≡ places_from 0 (names_of (keys index.new)) }
+    requires apart { IsDistinct (λ one other. same_entry (entry_named one) (entry_named other)) entries.now }
+    requires words { words_of (entries_named entries.now) ≤ AGGSIZE_MAX }
+    ensures names { entries_named (keys index.new) ≡ without aggregation (entries_named entries.now) }
+    ensures places { values index.new ≡ places_from 0 (entries_named (keys index.new)) }
     ensures few { index_map_len index.new ≤ length entries.now }
     ensures room { spare index.old ≤ index_map_len index.new + spare index.new }
 {
     let mut place = 0;
-    for held in entries {
-        if !aggregation.is(held.aggregation) {
-            put(index, held.copy(), place);
-            place += held.aggregation.function.cell_words();
+    for name in entries {
+        if !aggregation.is(name.aggregation) {
+            put(index, name.copy(), place);
+            place += name.aggregation.function.cell_words();
         }
     }
 }

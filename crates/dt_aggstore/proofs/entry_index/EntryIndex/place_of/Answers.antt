@@ -2,31 +2,31 @@
 use Rattle.std.proofs.Common.{◌≡◌, ℕ, List, zip, sym, ap, ◌∙◌, subst, is_some}
 use Rattle.std.specs.Prelude.{IfSome, IfNone, Contains}
 use Rattle.std.specs.Map.{lookup, keys_of, values_of}
-use Rattle.dt_aggstore.specs.Entries.{names_of, LiesAt}
+use Rattle.dt_aggstore.specs.Entries.{entries_named, LiesAt}
 use Rattle.dt_aggstore.specs.Held.{entry_of}
 use Rattle.dt_aggstore.specs.Indexed.{Indexed, places_from}
 use Rattle.dt_aggstore.specs.Keys.{Entry}
-use Rattle.dt_aggstore.specs.declared.held.Held.{Held}
+use Rattle.dt_aggstore.specs.declared.entry_name.EntryName.{EntryName}
 use Rattle.dt_aggstore.proofs.Indexing.{is_named, tests_alike, zipped, found_lies, none_found, found_so, not_some}
-use Rattle.dt_aggstore.proofs.entries.Entries.place_of.Goals as goal
+use Rattle.dt_aggstore.proofs.entry_index.EntryIndex.place_of.Goals as goal
 
 -- entries with places, as they are seen
-record Seen (es : List (Held × ℕ)) (items : List Held) : Type 0 where
-  pub zips : zip (keys_of es) (values_of es) ≡ zip items (places_from 0 (names_of items))
+record Seen (es : List (EntryName × ℕ)) (items : List EntryName) : Type 0 where
+  pub zips : zip (keys_of es) (values_of es) ≡ zip items (places_from 0 (entries_named items))
 
-module _ (entry : Entry) (es : List (Held × ℕ)) (items : List Held) (seen : Seen es items) where
-  in_view : lookup (is_named entry) es ≡ lookup (is_named entry) (zip items (places_from 0 (names_of items)))
+module _ (entry : Entry) (es : List (EntryName × ℕ)) (items : List EntryName) (seen : Seen es items) where
+  in_view : lookup (is_named entry) es ≡ lookup (is_named entry) (zip items (places_from 0 (entries_named items)))
   in_view = ap (lookup (is_named entry)) (zipped es ∙ seen.zips)
 
-  lies : IfSome (lookup (is_named entry) es) (LiesAt (names_of items) entry)
-  lies = subst (λ found. IfSome found (LiesAt (names_of items) entry)) (sym in_view) (found_lies entry items)
+  lies : IfSome (lookup (is_named entry) es) (LiesAt (entries_named items) entry)
+  lies = subst (λ found. IfSome found (LiesAt (entries_named items) entry)) (sym in_view) (found_lies entry items)
 
-  lacks : IfNone (lookup (is_named entry) es) (Contains (names_of items) entry → ⊥)
-  lacks = subst (λ found. IfNone found (Contains (names_of items) entry → ⊥)) (sym in_view) (none_found entry items)
+  lacks : IfNone (lookup (is_named entry) es) (Contains (entries_named items) entry → ⊥)
+  lacks = subst (λ found. IfNone found (Contains (entries_named items) entry → ⊥)) (sym in_view) (none_found entry items)
 
-as_seen : (es : List (Held × ℕ)) (view : Indexed)
+as_seen : (es : List (EntryName × ℕ)) (view : Indexed)
     → zip (keys_of es) (values_of es) ≡ zip view.items view.places
-    → view.places ≡ places_from 0 (names_of view.items) → Seen es view.items
+    → view.places ≡ places_from 0 (entries_named view.items) → Seen es view.items
 as_seen es view is at = record { zips = is ∙ ap (λ places. zip view.items places) at }
 
 pub returns-then-is_some-clause-found : goal.returns-then-is_some-clause-found
@@ -35,7 +35,7 @@ returns-then-is_some-clause-found c =
     let es = c.self.inside.index.entries in
     let entry = entry_of c.args.aggregation c.args.key.now.parts.items in
     let seen = as_seen es self (ap (λ (v : Indexed). zip v.items v.places) c.self.view_is) c.requires in
-    found_so (LiesAt (names_of self.items) entry) (lookup (is_named entry) es) c.recent_place-place.result
+    found_so (LiesAt (entries_named self.items) entry) (lookup (is_named entry) es) c.recent_place-place.result
     c.recent_place-place.ensures (lies entry es self.items seen)
 
 pub returns-in_err-recent-clause-none : goal.returns-in_err-recent-clause-none
@@ -45,7 +45,7 @@ returns-in_err-recent-clause-none c =
     let entry = entry_of c.args.aggregation c.args.key.now.parts.items in
     let seen = as_seen es self (ap (λ (v : Indexed). zip v.items v.places) c.self.view_is) c.requires in
     let by_key = ap (λ eq. lookup (eq c.of.result) es) tests_alike ∙ ap (λ e. lookup (is_named e) es) c.of.ensures in
-    let Lacks : Type 0 = Contains (names_of self.items) entry → ⊥ in
+    let Lacks : Type 0 = Contains (entries_named self.items) entry → ⊥ in
     subst (λ found. IfNone found Lacks) (sym c.from_residual.ensures)
     (not_some Lacks (lookup (is_named entry) es)
     (sym (ap is_some by_key) ∙ sym c.get_index_of.ensures.found ∙ ap is_some c.in_err-recent.was)
@@ -58,6 +58,6 @@ returns-clause-found c =
     let entry = entry_of c.args.aggregation c.args.key.now.parts.items in
     let seen = as_seen es self (ap (λ (v : Indexed). zip v.items v.places) c.self.view_is) c.requires in
     let by_key = ap (λ eq. lookup (eq c.of.result) es) tests_alike ∙ ap (λ e. lookup (is_named e) es) c.of.ensures in
-    subst (λ found. IfSome found (LiesAt (names_of self.items) entry))
+    subst (λ found. IfSome found (LiesAt (entries_named self.items) entry))
     (sym by_key ∙ sym c.in_ok-recent.ensures.value ∙ c.index.ensures)
     (lies entry es self.items seen)

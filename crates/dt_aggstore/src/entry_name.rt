@@ -1,6 +1,6 @@
-//! Entries as a store holds them.
+//! By which name a store finds an entry.
 ghost use Rattle.std.specs.Prelude.{◌≡◌, ◌≤◌};
-ghost use Rattle.dt_aggstore.specs.Entries.{name_of, names_of};
+ghost use Rattle.dt_aggstore.specs.Entries.{entry_named, entries_named};
 ghost use Rattle.dt_aggstore.specs.Held.{entry_of};
 ghost use Rattle.dt_aggstore.specs.Keys.{same_entry, entry_cost, cost_of};
 ghost use Rattle.dt_aggstore.specs.declared.limits.TheConstants.{AGGSIZE_MAX, COST_MIN};
@@ -12,40 +12,40 @@ use dt_aggfn::cell_length;
 
 /// An entry of a store, by which its cell is found.
 #[derive(PartialEq, Eq, Hash, Drop)]
-pub struct Held {
+pub struct EntryName {
     pub aggregation: Aggregation,
     pub key: Key,
 }
 
-impl Held {
+impl EntryName {
     /// The entry of an aggregation and a key.
-    pub(crate) fn of(aggregation: Aggregation, key: &Key) -> Held
-        ensures { name_of result ≡ entry_of aggregation key.now.parts.items }
+    pub(crate) fn of(aggregation: Aggregation, key: &Key) -> EntryName
+        ensures { entry_named result ≡ entry_of aggregation key.now.parts.items }
     {
-        let mut held = Held {
+        let mut name = EntryName {
             aggregation,
             key: Key {
                 parts: ArrayVec::new(),
             },
         };
         for part in key.parts.as_slice() {
-            held.key.parts.push(*part);
+            name.key.parts.push(*part);
         }
-        held
+        name
     }
 
     /// Whether it is the entry of this aggregation and key.
     pub(crate) fn is(&self, aggregation: Aggregation, key: &Key) -> bool
-        ensures { result ≡ same_entry (entry_of aggregation key.now.parts.items) (name_of self.now) }
+        ensures { result ≡ same_entry (entry_of aggregation key.now.parts.items) (entry_named self.now) }
     {
         aggregation.is(self.aggregation) && key.is(&self.key)
     }
 
     /// The same entry.
-    pub(crate) fn copy(&self) -> Held
-        ensures { name_of result ≡ name_of self.now }
+    pub(crate) fn copy(&self) -> EntryName
+        ensures { entry_named result ≡ entry_named self.now }
     {
-        Held::of(self.aggregation, &self.key)
+        EntryName::of(self.aggregation, &self.key)
     }
 
     /// How many bytes it costs: eight for each word of its head, its key and its cell.
@@ -60,9 +60,9 @@ impl Held {
 }
 
 /// What entries cost together.
-pub(crate) fn costs(entries: &[Held]) -> usize
-    requires { cost_of (names_of entries.now) ≤ AGGSIZE_MAX }
-    ensures { result ≡ cost_of (names_of entries.now) }
+pub(crate) fn costs(entries: &[EntryName]) -> usize
+    requires { cost_of (entries_named entries.now) ≤ AGGSIZE_MAX }
+    ensures { result ≡ cost_of (entries_named entries.now) }
 {
-    entries.iter().map(|held| held.cost()).sum()
+    entries.iter().map(|name| name.cost()).sum()
 }

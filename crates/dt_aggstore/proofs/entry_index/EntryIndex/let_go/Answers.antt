@@ -4,7 +4,7 @@ use Rattle.std.specs.List.{IsDistinct}
 use Rattle.std.specs.Map.{keys_of}
 use Rattle.std.proofs.lemmas.Map.Entries.{length-keys_of}
 use Rattle.dt_aggstore.proofs.Indexing.{tests_alike, named_as}
-use Rattle.dt_aggstore.proofs.entries.Entries.let_go.Goals as goal
+use Rattle.dt_aggstore.proofs.entry_index.EntryIndex.let_go.Goals as goal
 
 pub put_others-requires-clause-room : goal.put_others-requires-clause-room
 put_others-requires-clause-room c =
