@@ -192,7 +192,7 @@ READS = {"cmd": "enable", "text": "read:entry{}"}
 GO = {"cmd": "go"}
 HISTORY = {"cmd": "option", "name": "histsize", "value": 1}
 LONG, JSON = 'reply {"error":3,"name":"LineLong"}', 'reply {"error":1,"name":"Json"}'
-# what a session of an account does, one entry behind it, and what is found then
+# what a session of an account does, one entry after it, and what is found then
 FURTHER = [
     ("a firing before the go", "root", [READS], ["fired 0 0"], "illegal at {entry}"),
     ("a firing of a probe that isn't enabled", "root", [{"cmd": "enable", "text": "tick-1sec{}"}, GO], ["fired 0 0"], "illegal at {entry}"),
@@ -213,7 +213,7 @@ FURTHER = [
 
 
 def further_entries(folder):
-    """One entry behind a trail that agrees, of each kind, in and out of place."""
+    """One entry after a trail that agrees, of each kind, in and out of place."""
     path, trail = folder / "machine.json", folder / "trail"
     path.write_text(machine([[fired(0), fired(1), fired(2)], [fired(0, pid=200)]], ["root", "ann"]))
     for what, account, did, entry, found in FURTHER:

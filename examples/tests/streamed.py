@@ -56,7 +56,7 @@ def input_of(content, fails):
     ours, theirs = socket.socketpair()
     ours.sendall(content)
     if fails:
-        # who closes with bytes left unread breaks the stream for the other, behind what was sent
+        # who closes with bytes left unread breaks the stream for the other, after what was sent
         theirs.send(b"x")
     ours.close()
     return theirs

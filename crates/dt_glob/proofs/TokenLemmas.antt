@@ -35,7 +35,7 @@ pub record Seeks (text : List ℕ) (len : ℕ) (rest : List ℕ) : Type 0 where
   pub seen_unended : Lacks closing_bracket seen
   pub more_unended : Lacks closing_bracket more
 
--- the first of some signs, and what stands behind it
+-- the first of some signs, and what stands after it
 pub record FirstSign (signs : List Sign) (sign : Sign) (rest : List ℕ) : Type 0 where
   pub more : List Sign
   pub signs_are : signs ≡ sign ∷ more
@@ -108,7 +108,7 @@ range_end_text (sign ∷ []) rest a e b = absurd b
 range_end_text (sign ∷ last ∷ more) rest a e b =
     (last, text_of_signs more, a.1.0, e ∙ ap (λ (s : Sign). sign_text s ++ (sign_text last ++ text_of_signs more)) b)
 
--- no dash stands behind the sign
+-- no dash stands after the sign
 pub single_alone : (text : List ℕ) (first : Sign) (rest : List ℕ) (elements : List Element) → IsSign first → text
     ≡ sign_text first ++ rest
     → ((behind : List ℕ) → rest ≢ 45 ∷ behind) → ShowsElements text elements
@@ -116,7 +116,7 @@ pub single_alone : (text : List ℕ) (first : Sign) (rest : List ℕ) (elements 
 single_alone text first rest elements i e n h =
     single_read text first rest elements i e (inr (λ more a w b. let r = range_end_text more rest a w b in n _ r.3)) h
 
--- a dash stands behind the sign, and no sign behind that
+-- a dash stands after the sign, and no sign after that
 pub single_last : (text : List ℕ) (first : Sign) (rest behind : List ℕ) (elements : List Element) → IsSign first
     → text ≡ sign_text first ++ rest
     → rest ≡ 45 ∷ behind → (behind ≡ []) ⊎ (behind ≡ 92 ∷ []) → ShowsElements text elements
@@ -445,7 +445,7 @@ literal_item sign inner (Literal byte) n m o (inr h) = let e = h.0 in let same :
     cc in (cc, ap Literal (sym (ap byte_of same)))
 literal_item sign inner (OneOf negated elements) n m o h = let e = h.1 in absurd (o (cc e))
 
--- what stands behind the opening bracket of a set
+-- what stands after the opening bracket of a set
 pub record ReadsSet (items : List PatternItem) (rest : List ℕ) : Type 0 where
   pub negated : Bool
   pub elements : List Element

@@ -1,4 +1,4 @@
--- The first fault of a text from the left: what stands before it is faultless, and the fault shows behind that.
+-- The first fault of a text from the left: what stands before it is faultless, and the fault shows after that.
 use Rattle.std.specs.Prelude.{◌≡◌, ℕ, ◌⊎◌, Bool, List, [], ◌∷◌, ◌++◌}
 use Rattle.dt_glob.specs.declared.sign.Sign.{Sign}
 use Rattle.dt_glob.specs.declared.fault.GlobFault.{GlobFault}
@@ -25,6 +25,6 @@ FaultOf text Unclosed = (signs : List Sign) × (text ≡ text_of_signs signs) ×
 -- a set ends before it has an element, whatever follows
 FaultOf text EmptySet = (front : List Sign) × (negated : Bool) × (rest : List ℕ)
     × (text ≡ text_of_signs (front ++ opening_bracket ∷ (mark negated ++ closing_bracket ∷ [])) ++ rest) × AreSigns front × AreItems front
--- the text ends in a `\` with nothing behind it, in a set or behind whole items
+-- the text ends in a `\` with nothing after it, in a set or after whole items
 FaultOf text LoneEscape = (signs : List Sign) × (text ≡ text_of_signs signs ++ escape ∷ []) × AreSigns signs
     × (AreItems signs ⊎ EndsInSet signs)

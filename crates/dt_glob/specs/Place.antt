@@ -1,4 +1,4 @@
--- Where the check of a text stands behind some signs.
+-- Where the check of a text stands after some signs.
 use Rattle.std.specs.Prelude.{◌≡◌, ◌≢◌, Bool, true, false, if◌then◌else◌, List, [], ◌∷◌, ◌++◌, Result, Ok, Err}
 use Rattle.dt_glob.specs.declared.sign.Sign.{Sign}
 use Rattle.dt_glob.specs.declared.place.Place.{Place}

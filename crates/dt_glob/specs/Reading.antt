@@ -14,7 +14,7 @@ abbrev pub is_plain : ℕ → Sign → Bool
 is_plain own (Plain byte) = byte == own
 is_plain own (Escaped byte) = false
 
--- the signs of a text, and whether a lone `\` stands behind them
+-- the signs of a text, and whether a lone `\` stands after them
 pub record Signs : Type 0 where
   pub signs : List Sign
   pub lone : Bool

@@ -13,7 +13,7 @@ TakeEach [] (byte ∷ bytes) = ⊥
 TakeEach (item ∷ items) [] = ⊥
 TakeEach (item ∷ items) (byte ∷ bytes) = Takes item byte × TakeEach items bytes
 
--- the items before the first star take the bytes before `rest`, and the text `behind` spells the items behind the star
+-- the items before the first star take the bytes before `rest`, and the text `behind` spells the items after the star
 pub record ReachesStar (items : List PatternItem) (text behind rest : List ℕ) : Type 0 where
   pub front : List PatternItem
   pub tail : List PatternItem
@@ -28,7 +28,7 @@ IsRun run.Matched items text = Matches items text
 IsRun run.Failed items text = ¬ Matches items text
 IsRun (run.Star behind rest) items text = ReachesStar items text behind.now rest.now
 
--- less of the pattern's text stands behind the star
+-- less of the pattern's text stands after the star
 abbrev pub LeavesLess : Run → List ℕ → Type 0
 LeavesLess run.Matched pattern = Unit {0}
 LeavesLess run.Failed pattern = Unit {0}

@@ -1,4 +1,4 @@
--- The bytes of a pattern's text: a byte behind a `\` is escaped, and any other byte is plain.
+-- The bytes of a pattern's text: a byte after a `\` is escaped, and any other byte is plain.
 use Rattle.std.specs.Prelude.{◌≢◌, ℕ, List, [], ◌∷◌, ◌++◌}
 use Rattle.dt_glob.specs.declared.sign.Sign.{Sign}
 use Rattle.dt_glob.specs.declared.sign.Sign.TheVariants.{Plain, Escaped}

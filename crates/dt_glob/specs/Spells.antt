@@ -7,7 +7,7 @@ use Rattle.dt_glob.specs.declared.element.Element.TheVariants.{Single, Range}
 use Rattle.dt_glob.specs.Sign.{byte_of, text_of_signs, AreSigns, star, question, opening_bracket, closing_bracket, bang, dash}
 use Rattle.dt_glob.specs.PatternItem.{PatternItem, Star, AnyByte, Literal, OneOf}
 
--- a plain `-` with a sign behind it
+-- a plain `-` with a sign after it
 abbrev pub BeginsRangeEnd : List Sign → Type 0
 BeginsRangeEnd [] = ⊥
 BeginsRangeEnd (sign ∷ []) = ⊥
@@ -32,7 +32,7 @@ abbrev pub BeginsWithSign : Sign → List Sign → Type 0
 BeginsWithSign sign [] = ⊥
 BeginsWithSign sign (next ∷ signs) = next ≡ sign
 
--- how a negated set begins, behind its `[`
+-- how a negated set begins, after its `[`
 abbrev pub mark : Bool → List Sign
 mark true = bang ∷ []
 mark false = []

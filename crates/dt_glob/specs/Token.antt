@@ -15,7 +15,7 @@ pub record ShowsElements (text : List ℕ) (elements : List Element) : Type 0 wh
   pub are_signs : AreSigns signs
   pub spells : SpellsElements signs elements
 
--- the elements are this one, and those that the text behind it shows
+-- the elements are this one, and those that the text after it shows
 pub record ReadsElement (element : Element) (elements : List Element) (rest : List ℕ) : Type 0 where
   pub tail : List Element
   pub elements_are : elements ≡ element ∷ tail
@@ -29,7 +29,7 @@ IsToken (token.Literal byte) item = item ≡ Literal byte
 IsToken (token.OneOf negated text) item = (elements : List Element) × (item ≡ OneOf negated elements)
     × ShowsElements text.now elements
 
--- the items are the token's, and those that the text behind it spells
+-- the items are the token's, and those that the text after it spells
 pub record ReadsToken (token : Token) (items : List PatternItem) (rest : List ℕ) : Type 0 where
   pub item : PatternItem
   pub tail : List PatternItem
@@ -37,7 +37,7 @@ pub record ReadsToken (token : Token) (items : List PatternItem) (rest : List �
   pub is_token : IsToken token item
   pub spells : Spells rest tail
 
--- the text is an inside of a set, a plain `]`, the first one, and what stands behind that
+-- the text is an inside of a set, a plain `]`, the first one, and what stands after that
 pub record ClosesAt (text inside rest : List ℕ) : Type 0 where
   pub signs : List Sign
   pub inside_is : inside ≡ text_of_signs signs
@@ -45,7 +45,7 @@ pub record ClosesAt (text inside rest : List ℕ) : Type 0 where
   pub unended : Lacks closing_bracket signs
   pub cut : text ≡ inside ++ 93 ∷ rest
 
--- the text, behind a `[`, begins with the rest of this set
+-- the text, after a `[`, begins with the rest of this set
 pub record BeginsSet (text : List ℕ) (negated : Bool) (elements : List Element) (behind : List ℕ) : Type 0 where
   pub inner : List Sign
   pub written : text ≡ text_of_signs inner ++ 93 ∷ behind

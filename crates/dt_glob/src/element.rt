@@ -17,7 +17,7 @@ pub(crate) enum Element {
 }
 
 impl Element {
-    /// The element at the front of a set's inside, and what stands behind it.
+    /// The element at the front of a set's inside, and what stands after it.
     pub(crate) fn split_first(text: &[u8]) -> Option<(Element, &[u8])>
         requires { (elements : List Element) × ShowsElements text.now elements }
         ensures some { IfSome result (λ found. (elements : List Element) → ShowsElements text.now elements →

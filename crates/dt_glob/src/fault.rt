@@ -11,7 +11,7 @@ pub enum GlobFault {
     /// A set has no element, as in `[]` and `[!]`: found at its `]`.
     #[error("a set has no element")]
     EmptySet,
-    /// Nothing stands behind a `\`: found at that `\`, the last byte of the text, inside a set or outside.
-    #[error("a `\\` has no byte behind it")]
+    /// Nothing stands after a `\`: found at that `\`, the last byte of the text, inside a set or outside.
+    #[error("a `\\` has no byte after it")]
     LoneEscape,
 }

@@ -9,11 +9,11 @@ use crate::sign::Sign;
 /// Where the signs read so far lead.
 #[derive(Clone, Copy)]
 pub(crate) enum Place {
-    /// Behind whole items.
+    /// After whole items.
     Outside,
-    /// Behind the `[` of a set.
+    /// After the `[` of a set.
     Opened,
-    /// Behind the `[!` of a set.
+    /// After the `[!` of a set.
     Negated,
     /// In a set that has an element already.
     Inside,

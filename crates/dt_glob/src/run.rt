@@ -14,7 +14,7 @@ pub(crate) enum Run<'a> {
     Matched,
     /// The pattern doesn't match the text.
     Failed,
-    /// Each item before the star takes a byte: what stands behind the star, and what is left of the text.
+    /// Each item before the star takes a byte: what stands after the star, and what is left of the text.
     Star { behind: &'a [u8], rest: &'a [u8] },
 }
 

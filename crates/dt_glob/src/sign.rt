@@ -8,12 +8,12 @@ ghost use Rattle.dt_glob.specs.Sign.{escape, byte_of, sign_text, IsSign};
 pub(crate) enum Sign {
     /// A byte with no `\` in front of it.
     Plain(u8),
-    /// A byte behind a `\`, which stands for itself everywhere.
+    /// A byte after a `\`, which stands for itself everywhere.
     Escaped(u8),
 }
 
 impl Sign {
-    /// The sign at the front of a text, and what stands behind it. A text that is empty or a lone `\` has none.
+    /// The sign at the front of a text, and what stands after it. A text that is empty or a lone `\` has none.
     pub(crate) fn split_first(text: &[u8]) -> Option<(Sign, &[u8])>
         ensures some { IfSome result (λ found. IsSign found.0 × (text.now ≡ sign_text found.0 ++ found.1.now)) }
         ensures none { IfNone result ((text.now ≡ []) ⊎ (text.now ≡ escape ∷ [])) }
@@ -45,7 +45,7 @@ impl Sign {
     }
 }
 
-/// What stands behind this byte at the front of a text.
+/// What stands after this byte at the front of a text.
 pub(crate) fn strip_byte(text: &[u8], byte: u8) -> Option<&[u8]>
     ensures some { IfSome result (λ rest. text.now ≡ byte ∷ rest.now) }
     ensures none { IfNone result ((rest : List ℕ) → text.now ≢ byte ∷ rest) }

@@ -23,7 +23,7 @@ pub(crate) enum Token<'a> {
 }
 
 impl<'a> Token<'a> {
-    /// The item at the front of a pattern's text, and what stands behind it.
+    /// The item at the front of a pattern's text, and what stands after it.
     pub(crate) fn split_first(text: &'a [u8]) -> Option<(Token<'a>, &'a [u8])>
         requires { (items : List PatternItem) × Spells text.now items }
         ensures some { IfSome result (λ found. (items : List PatternItem) → Spells text.now items →
@@ -53,7 +53,7 @@ impl<'a> Token<'a> {
         }
     }
 
-    /// The set whose `[` stands in front of a text, and what stands behind its `]`.
+    /// The set whose `[` stands in front of a text, and what stands after its `]`.
     fn split_set(text: &'a [u8]) -> (Token<'a>, &'a [u8])
         requires { (negated : Bool) × (elements : List Element) × (behind : List ℕ) ×
             BeginsSet text.now negated elements behind }
@@ -82,7 +82,7 @@ impl<'a> Token<'a> {
     }
 }
 
-/// What stands before the first plain `]` of a text, and what stands behind it.
+/// What stands before the first plain `]` of a text, and what stands after it.
 fn split_at_closing(text: &[u8]) -> (&[u8], &[u8])
     requires { (inside : List ℕ) × (behind : List ℕ) × ClosesAt text.now inside behind }
     ensures split { ClosesAt text.now result.0.now result.1.now }

@@ -7,7 +7,7 @@ use Rattle.std.specs.List.{slice_get, list_any}
 use Rattle.std.proofs.lemmas.List.{reverse-append, map-append, length-append, append-nil}
 use Rattle.std.proofs.lemmas.List.Folds.{list_any-append}
 use Rattle.std.proofs.Math.Dec.{leb-zero}
-use Rattle.dt_lang.specs.declared.pending.Pending.{Pending}
+use Rattle.dt_lang.specs.declared.pending.PendingOperator.{PendingOperator}
 use Rattle.dt_expr.specs.Form.{Form, Prefixed, Joined}
 use Rattle.dt_expr.specs.declared.text.Text.{Text}
 use Rattle.dt_lang.specs.Expression.{OPERAND}
@@ -18,7 +18,7 @@ use Rattle.dt_lang.specs.laws.ExpressionSteps.{close_ends}
 use Rattle.dt_lang.specs.machine.ExpressionView.{pending_form}
 use Rattle.std.specs.Global.{Vec}
 
-pub shown_push : (xs : List Pending) (x : Pending) → reverse (map pending_form (xs ++ x ∷ []))
+pub shown_push : (xs : List PendingOperator) (x : PendingOperator) → reverse (map pending_form (xs ++ x ∷ []))
     ≡ pending_form x ∷ reverse (map pending_form xs)
 shown_push xs x = ap reverse (map-append pending_form xs (x ∷ [])) ∙ reverse-append (map pending_form xs) (pending_form x ∷ [])
 
@@ -46,7 +46,7 @@ last_is {A} x xs e =
     ap (slice_get (x ∷ xs)) size ∙ ap (λ (l : List A). slice_get l (length e.front)) e.all
     ∙ slice_get_end e.front e.last
 
-pub last_shown : (xs : List Pending) (r : Option (Bor Pending)) → option_copied r ≡ slice_get xs (length xs - 1)
+pub last_shown : (xs : List PendingOperator) (r : Option (Bor PendingOperator)) → option_copied r ≡ slice_get xs (length xs - 1)
     → MatchOption r (reverse (map pending_form xs) ≡ [])
     (λ x. (pending : List PendingForm) × (reverse (map pending_form xs) ≡ pending_form x.now ∷ pending))
 last_shown [] None h = refl
@@ -56,20 +56,20 @@ last_shown (y ∷ xs) (Some x) h =
     let e = from_end y xs in
     let same : x.now ≡ e.last = cc (h, last_is y xs e) in (
       reverse (map pending_form e.front),
-      ap (λ (l : List Pending). reverse (map pending_form l)) e.all ∙ shown_push e.front e.last
-          ∙ ap (λ (f : Pending). pending_form f ∷ reverse (map pending_form e.front)) (sym same),
+      ap (λ (l : List PendingOperator). reverse (map pending_form l)) e.all ∙ shown_push e.front e.last
+          ∙ ap (λ (f : PendingOperator). pending_form f ∷ reverse (map pending_form e.front)) (sym same),
     )
 
-pub pop_shown : (xs ys : List Pending) (r : Option Pending) → xs ≡ ys ++ option_to_list r
+pub pop_shown : (xs ys : List PendingOperator) (r : Option PendingOperator) → xs ≡ ys ++ option_to_list r
     → MatchOption r (ys ≡ []) (λ _. Unit {0})
     → MatchOption r ((reverse (map pending_form xs) ≡ []) × (reverse (map pending_form ys) ≡ []))
     (λ top. reverse (map pending_form xs) ≡ pending_form top ∷ reverse (map pending_form ys))
 pop_shown xs ys None h k =
     let none : ys ≡ [] = k in (
-      ap (λ (l : List Pending). reverse (map pending_form l)) (h ∙ append-nil ys ∙ none),
-      ap (λ (l : List Pending). reverse (map pending_form l)) none,
+      ap (λ (l : List PendingOperator). reverse (map pending_form l)) (h ∙ append-nil ys ∙ none),
+      ap (λ (l : List PendingOperator). reverse (map pending_form l)) none,
     )
-pop_shown xs ys (Some x) h k = ap (λ (l : List Pending). reverse (map pending_form l)) h ∙ shown_push ys x
+pop_shown xs ys (Some x) h k = ap (λ (l : List PendingOperator). reverse (map pending_form l)) h ∙ shown_push ys x
 
 or_swap : (a b : Bool) → (a || (b || false)) ≡ (b || a)
 or_swap true true = refl
@@ -81,7 +81,7 @@ opened_from_end : (front : List PendingForm) (f : PendingForm)
     → list_any is_opened (front ++ f ∷ []) ≡ (is_opened f || list_any is_opened front)
 opened_from_end front f = list_any-append is_opened front (f ∷ []) ∙ or_swap (list_any is_opened front) (is_opened f)
 
-pub opened_shown : (xs : List Pending) → list_any is_opened (reverse (map pending_form xs))
+pub opened_shown : (xs : List PendingOperator) → list_any is_opened (reverse (map pending_form xs))
     ≡ list_any (λ x. is_opened (pending_form x)) xs
 opened_shown [] = refl
 opened_shown (x ∷ xs) =
@@ -89,7 +89,7 @@ opened_shown (x ∷ xs) =
     ∙ opened_from_end (reverse (map pending_form xs)) (pending_form x)
     ∙ ap (λ (b : Bool). is_opened (pending_form x) || b) (opened_shown xs)
 
-pub none_left : (old new : Vec Pending) (r : Option Pending)
+pub none_left : (old new : Vec PendingOperator) (r : Option PendingOperator)
     → MatchOption r ((vec_len old ≡ 0) × (vec_len new ≡ 0)) (λ _. vec_len new + 1 ≡ vec_len old)
     → new.items ≡ take (vec_len old - 1) old.items → MatchOption r (new.items ≡ []) (λ _. Unit {0})
 none_left old new None h k =

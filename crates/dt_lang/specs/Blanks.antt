@@ -15,7 +15,7 @@ pub record BeginsWithBlank (text rest : List ℕ) : Type 0 where
   pub blank : IsTrue (is_blank byte)
   pub cut : text ≡ byte ∷ rest
 
--- the text, behind a comment's beginning, is the rest of the comment, up to its first end, and then the rest
+-- the text, after a comment's beginning, is the rest of the comment, up to its first end, and then the rest
 pub record EndsComment (text rest : List ℕ) : Type 0 where
   pub inside : List ℕ
   pub cut : text ≡ inside ++ (42 ∷ 47 ∷ rest)

@@ -112,7 +112,7 @@ pub data Spot : Type 0 where
   before_statement : Spot
   after_statement : Spot
 
--- The tokens are what stands behind `{`, up to such a spot, with these statements. A statement begins behind `{` or `;`,
+-- The tokens are what stands after `{`, up to such a spot, with these statements. A statement begins after `{` or `;`,
 -- and none need stand there.
 pub data ReadsBody : Spot → List Token → List StatementForm → Type 0 where
   nothing : ReadsBody before_statement [] []

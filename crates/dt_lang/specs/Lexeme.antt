@@ -137,7 +137,7 @@ placed at (piece.Overlong limit size) = lexeme.Overlong at limit (at + size)
 placed at piece.Stray = lexeme.Stray at
 placed at piece.End = lexeme.End at
 
--- What is read of the text from this byte on: what stands behind the blanks. Its place is told by what is left there.
+-- What is read of the text from this byte on: what stands after the blanks. Its place is told by what is left there.
 pub record Lexes (text : List ℕ) (mode : Mode) (from : ℕ) (lexeme : Lexeme) : Type 0 where
   pub rest : List ℕ
   pub skipped : SkipsBlanks (drop from text) rest

@@ -28,7 +28,7 @@ abbrev pub after_in_body : Token → Mode
 after_in_body (token.Sign sign.CloseBrace) = Head
 after_in_body _ = Body
 
--- the mode behind a token
+-- the mode after a token
 abbrev pub mode_after : Mode → Token → Mode
 mode_after Head t = after_in_head t
 mode_after (Predicate depth) t = after_in_predicate depth t

@@ -16,7 +16,7 @@ use Rattle.dt_lang.specs.Mode.{mode_after}
 use Rattle.dt_program.specs.Clause.{ClauseForm}
 use Rattle.dt_lang.specs.Refused.{Cause, because, destroys, Refused, NoneRefused}
 
--- The tokens stand at the front of the text, up to this byte, each the lexeme behind the one before it, in the mode
+-- The tokens stand at the front of the text, up to this byte, each the lexeme after the one before it, in the mode
 -- that the tokens before it give.
 pub data TokensTo (text : List ℕ) : Mode → List Token → ℕ → Type 0 where
   none : TokensTo text Head [] 0

@@ -82,7 +82,7 @@ pub data IsTooLong : List Token → Token → Limit → Type 0 where
       → SlotOpens slot ts cs c → tokens_max ≤ length us → GoesOn (divides_in slot) us t
       → IsTooLong (ts ++ us) t limit.Tokens
 
--- A statement may begin behind these tokens.
+-- A statement may begin after these tokens.
 abbrev pub StatementBegins : List Token → Type 0
 StatementBegins ts = Begins (ts ++ (token.Word (word.Action action.Trace) ∷ []))
 
@@ -91,7 +91,7 @@ pub record IsDestructive (ts : List Token) (t : Token) (what : Destructive) : Ty
   pub names : t ≡ token.Word (word.Destructive what)
   pub stands : StatementBegins ts
 
--- An action's name or an aggregating function's stands behind these tokens.
+-- An action's name or an aggregating function's stands after these tokens.
 pub data NameStands (ts : List Token) : Type 0 where
   a_statement : StatementBegins ts → NameStands ts
   a_function : Begins (ts ++ (token.Word (word.Function function.Count) ∷ [])) → NameStands ts
@@ -103,7 +103,7 @@ pub record IsNoAction (ts : List Token) (t : Token) : Type 0 where
   pub stands : NameStands ts
   pub unfit : Begins (ts ++ (t ∷ [])) → ⊥
 
--- A variable or another operand stands behind these tokens.
+-- A variable or another operand stands after these tokens.
 pub data VariableStands (ts : List Token) : Type 0 where
   a_number : Begins (ts ++ (token.Word (word.Number variable.Pid) ∷ [])) → VariableStands ts
   a_text : Begins (ts ++ (token.Word (word.Text text_variable.Execname) ∷ [])) → VariableStands ts

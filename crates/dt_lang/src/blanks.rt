@@ -2,7 +2,7 @@
 ghost use Rattle.std.specs.Prelude.{◌≡◌, ◌≢◌, ℕ, ◌<◌, ◌≤◌, List, ◌∷◌, ◌++◌, length, IfSome, IfNone};
 ghost use Rattle.dt_lang.specs.Blanks.{HasNoEnd, EndsComment, StripsBlank, SkipsBlanks};
 
-/// What stands behind the blanks at the front of a text. A comment that isn't closed is no blank.
+/// What stands after the blanks at the front of a text. A comment that isn't closed is no blank.
 pub(crate) fn skip_blanks(text: &[u8]) -> &[u8]
     ensures skipped { SkipsBlanks text.now result.now }
     ensures shorter { length result.now ≤ length text.now }
@@ -14,7 +14,7 @@ pub(crate) fn skip_blanks(text: &[u8]) -> &[u8]
     rest
 }
 
-/// What stands behind the one blank at the front of a text: a blank byte, or a comment.
+/// What stands after the one blank at the front of a text: a blank byte, or a comment.
 fn strip_blank(text: &[u8]) -> Option<&[u8]>
     ensures some { IfSome result (λ rest. StripsBlank text.now rest.now) }
     ensures shorter { IfSome result (λ rest. length rest.now < length text.now) }
@@ -27,7 +27,7 @@ fn strip_blank(text: &[u8]) -> Option<&[u8]>
     }
 }
 
-/// What stands behind the first `*/`.
+/// What stands after the first `*/`.
 fn behind_comment(text: &[u8]) -> Option<&[u8]>
     ensures some { IfSome result (λ rest. EndsComment text.now rest.now) }
     ensures shorter { IfSome result (λ rest. length rest.now < length text.now) }
@@ -44,7 +44,7 @@ fn behind_comment(text: &[u8]) -> Option<&[u8]>
     None
 }
 
-/// What stands behind a `*/`.
+/// What stands after a `*/`.
 fn strip_end(text: &[u8]) -> Option<&[u8]>
     ensures some { IfSome result (λ rest. text.now ≡ 42 ∷ 47 ∷ rest.now) }
     ensures none { IfNone result ((rest : List ℕ) → text.now ≢ 42 ∷ 47 ∷ rest) }

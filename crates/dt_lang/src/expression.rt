@@ -6,7 +6,7 @@ ghost use Rattle.dt_lang.specs.machine.ExpressionState.{nothing, whole, lone, co
 ghost use Rattle.dt_lang.specs.machine.ExpressionView.{pending_forms, hand_of, state_of};
 ghost use Rattle.dt_program.specs.Clause.{form_of_argument};
 
-use crate::pending::{EQUALITY, OPERAND, Pending, PendingStack, binding_of};
+use crate::pending::{EQUALITY, OPERAND, PendingOperator, PendingStack, binding_of};
 use crate::token::{Sign, Token};
 use crate::word::Word;
 use dt_expr::{BinaryOp, Expr, Text, TextOp, UnaryOp};
@@ -217,13 +217,13 @@ impl ExpressionReader {
     {
         // it is no operator: it waits for its `)`, and up to there a `/` divides in a predicate too
         if sign == Sign::OpenParen {
-            self.pending.push(Pending::Opened(self.divides))?;
+            self.pending.push(PendingOperator::Opened(self.divides))?;
             self.divides = true;
             return Ok(true);
         }
         match prefix_of(sign) {
             Some(op) => {
-                self.pending.push(Pending::Before(op))?;
+                self.pending.push(PendingOperator::Before(op))?;
                 Ok(true)
             }
             None => Ok(false),
@@ -273,7 +273,7 @@ impl ExpressionReader {
             Some(op) if binding_of(op) <= level => {
                 let left = self.pending.close(alloc, binding_of(op), form)?;
                 self.pending
-                    .push(Pending::After(Box::new(alloc, left)?, op))?;
+                    .push(PendingOperator::After(Box::new(alloc, left)?, op))?;
                 self.hand = Hand::Nothing;
                 Ok(true)
             }

@@ -127,7 +127,7 @@ impl fmt::Display for Flaw {
 /// Why a text was not read as a program.
 #[derive(Clone, Copy, Debug, PartialEq, Eq, Error)]
 pub enum LangFault {
-    /// The text is no program: the offset of the byte at which that shows, that behind the token which begins there, and
+    /// The text is no program: the offset of the byte at which that shows, that after the token which begins there, and
     /// what is wrong with it. Where bytes are no token, or the text ends, `end` is `at`.
     #[error("{flaw} at {at}")]
     Program {
@@ -135,7 +135,7 @@ pub enum LangFault {
         end: usize,
         flaw: Flaw,
     },
-    /// A statement is a destructive action: the offset of its name, that behind it, and which.
+    /// A statement is a destructive action: the offset of its name, that after it, and which.
     #[error("destructive action {what} at {at}")]
     Destructive {
         at: usize,

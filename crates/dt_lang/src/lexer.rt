@@ -13,9 +13,9 @@ use crate::token::Token;
 /// What is read next of a text, with its place: the offset of its first byte.
 #[derive(Drop)]
 pub(crate) enum Lexeme {
-    /// A token, and the offset behind it.
+    /// A token, and the offset after it.
     Token { at: usize, token: Token, end: usize },
-    /// A string or an aggregation's name that is too long, and the offset behind it.
+    /// A string or an aggregation's name that is too long, and the offset after it.
     Overlong { at: usize, limit: Limit, end: usize },
     /// Bytes that are no token, or a text or a comment that isn't closed.
     Stray { at: usize },

@@ -6,7 +6,7 @@
 #![tactic(auto)]
 
 mod blanks;
-mod class;
+mod byte_class;
 mod expression;
 mod expression_laws;
 mod fault;

@@ -18,7 +18,7 @@ pub(crate) enum Mode {
 }
 
 impl Mode {
-    /// The mode behind this token.
+    /// The mode after this token.
     pub(crate) fn after(self, token: &Token) -> Mode
         requires { depth_of self + 1 < 2 ^ 64 }
         ensures { result ≡ mode_after self token.now }

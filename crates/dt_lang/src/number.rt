@@ -3,7 +3,7 @@ ghost use Rattle.std.specs.Prelude.{◌≡◌, ℕ, ◌<◌, ◌≤◌, ◌^◌,
 ghost use Rattle.std.specs.Str.Parse.{digits_value, AllDigits};
 ghost use Rattle.dt_lang.specs.Number.{IsNumber};
 
-/// The number that these bytes are: decimal, octal behind a `0`, or hexadecimal behind `0x` or `0X`.
+/// The number that these bytes are: decimal, octal after a `0`, or hexadecimal after `0x` or `0X`.
 pub(crate) fn value_of(bytes: &[u8]) -> Option<u64>
     ensures found { IfSome result (IsNumber bytes.now) }
     ensures none { IfNone result ((n : ℕ) → IsNumber bytes.now n → ⊥) }

@@ -16,7 +16,7 @@ pub(crate) const EQUALITY: u8 = 6;
 
 /// What waits for its right side.
 #[derive(Drop)]
-pub(crate) enum Pending {
+pub(crate) enum PendingOperator {
     /// An open parenthesis, and whether `/` divides outside of it.
     Opened(bool),
     /// An operator before its operand.
@@ -28,7 +28,7 @@ pub(crate) enum Pending {
 /// All that waits, the last on top.
 #[derive(Drop)]
 pub(crate) struct PendingStack {
-    pending: Vec<Pending>,
+    pending: Vec<PendingOperator>,
 }
 
 /// How tightly an operator binds, the loosest 0. (illumos Dynamic Tracing Guide, "Types, Operators and Expressions",
@@ -51,15 +51,15 @@ pub(crate) fn binding_of(op: BinaryOp) -> u8
     }
 }
 
-impl Pending {
+impl PendingOperator {
     /// Whether an operator of this level ends it.
     fn binds(&self, level: u8) -> bool
         ensures { result ≡ binds level (pending_form self.now) }
     {
         match self {
-            Pending::Opened(_) => false,
-            Pending::Before(_) => true,
-            Pending::After(_, op) => level <= binding_of(*op),
+            PendingOperator::Opened(_) => false,
+            PendingOperator::Before(_) => true,
+            PendingOperator::After(_, op) => level <= binding_of(*op),
         }
     }
 
@@ -67,7 +67,7 @@ impl Pending {
     fn is_opened(&self) -> bool
         ensures { result ≡ is_opened (pending_form self.now) }
     {
-        matches!(self, Pending::Opened(_))
+        matches!(self, PendingOperator::Opened(_))
     }
 
     /// How tightly what stands next must bind.
@@ -75,9 +75,9 @@ impl Pending {
         ensures { result ≡ level_next (pending_form self.now ∷ []) }
     {
         match self {
-            Pending::Opened(_) => 0,
-            Pending::Before(_) => OPERAND,
-            Pending::After(_, op) => binding_of(*op) + 1,
+            PendingOperator::Opened(_) => 0,
+            PendingOperator::Before(_) => OPERAND,
+            PendingOperator::After(_, op) => binding_of(*op) + 1,
         }
     }
 
@@ -86,9 +86,9 @@ impl Pending {
         ensures { IfOk result (λ whole. form_of whole ≡ around (pending_form self) (form_of form)) }
     {
         match self {
-            Pending::Opened(_) => Ok(form),
-            Pending::Before(op) => Ok(Expr::Unary(op, Box::new(alloc, form)?)),
-            Pending::After(left, op) => Ok(Expr::Binary(op, left, Box::new(alloc, form)?)),
+            PendingOperator::Opened(_) => Ok(form),
+            PendingOperator::Before(op) => Ok(Expr::Unary(op, Box::new(alloc, form)?)),
+            PendingOperator::After(left, op) => Ok(Expr::Binary(op, left, Box::new(alloc, form)?)),
         }
     }
 }
@@ -111,7 +111,7 @@ impl PendingStack {
     }
 
     /// Puts one on top.
-    pub(crate) fn push(&mut self, top: Pending) -> Result<(), AllocError>
+    pub(crate) fn push(&mut self, top: PendingOperator) -> Result<(), AllocError>
         ensures { IfOk result (λ _. pending_forms self.new ≡ pending_form top ∷ pending_forms self.old) }
     {
         self.pending.push(top)?;
@@ -119,7 +119,7 @@ impl PendingStack {
     }
 
     /// Takes the top away.
-    fn pop(&mut self) -> Option<Pending>
+    fn pop(&mut self) -> Option<PendingOperator>
         ensures { MatchOption result ((pending_forms self.old ≡ []) × (pending_forms self.new ≡ []))
             (λ top. pending_forms self.old ≡ pending_form top ∷ pending_forms self.new) }
     {
@@ -132,13 +132,13 @@ impl PendingStack {
         ensures { pending_forms self.old ≡ opened result ∷ pending_forms self.new }
     {
         match self.pop() {
-            Some(Pending::Opened(divides)) => divides,
+            Some(PendingOperator::Opened(divides)) => divides,
             _ => unreachable!(),
         }
     }
 
     /// The top.
-    fn last(&self) -> Option<&Pending>
+    fn last(&self) -> Option<&PendingOperator>
         ensures { MatchOption result (pending_forms self.now ≡ [])
             (λ top. (pending : List PendingForm) × (pending_forms self.now ≡ pending_form top.now ∷ pending)) }
     {
@@ -170,7 +170,7 @@ impl PendingStack {
     }
 
     /// Takes the top away where an operator of this level ends it.
-    fn pop_binding(&mut self, level: u8) -> Option<Pending>
+    fn pop_binding(&mut self, level: u8) -> Option<PendingOperator>
         ensures some { IfSome result (λ top. pending_forms self.old ≡ pending_form top ∷ pending_forms self.new) }
         ensures binds { IfSome result (λ top. binds level (pending_form top) ≡ true) }
         ensures none { IfNone result (is_bound level (pending_forms self.old) ≡ false) }

@@ -5,7 +5,7 @@ ghost use Rattle.dt_lang.specs.Class.{is_string_byte};
 ghost use Rattle.dt_lang.specs.Lexeme.{Stands};
 ghost use Rattle.dt_lang.specs.machine.Piece.{start_of, identifier_at, FindsWord, NumberOf, string_piece, aggregation_read, FindsSign, FindsInBody, FindsInHead, opens_comment};
 
-use crate::class::Class;
+use crate::byte_class::ByteClass;
 use crate::fault::Limit;
 use crate::mode::Mode;
 use crate::number::value_of;
@@ -70,7 +70,7 @@ fn in_head(text: &[u8]) -> Piece
     requires { 0 < length text.now }
     ensures { FindsInHead text.now result }
 {
-    let run = Class::Description.run(text);
+    let run = ByteClass::Description.run(text);
     // the longest run is the description, also where it is none: a program is then refused as Probe
     if !run.is_empty() {
         return Piece::Token {
@@ -98,7 +98,7 @@ fn in_body(text: &[u8]) -> Piece
 {
     match Start::of(text[0]) {
         Start::Letter => identifier(text),
-        Start::Digit => number(Class::Word.run(text)),
+        Start::Digit => number(ByteClass::Word.run(text)),
         Start::Quote => string(&text[1..]),
         Start::At => aggregation(&text[1..]),
         Start::Other => sign(text),
@@ -111,7 +111,7 @@ impl Start {
     {
         if byte.is_ascii_digit() {
             Start::Digit
-        } else if Class::Word.has(byte) {
+        } else if ByteClass::Word.has(byte) {
             Start::Letter
         } else if byte == b'"' {
             Start::Quote
@@ -147,11 +147,11 @@ fn number(run: &[u8]) -> Piece
     }
 }
 
-/// A string, behind its opening `"`.
+/// A string, after its opening `"`.
 fn string(rest: &[u8]) -> Piece
     ensures { result ≡ string_piece (take_while is_string_byte rest.now) rest.now }
 {
-    let bytes = Class::String.run(rest);
+    let bytes = ByteClass::String.run(rest);
     match ShortText::new(bytes) {
         None => Piece::Overlong {
             limit: Limit::StringBytes,
@@ -165,7 +165,7 @@ fn string(rest: &[u8]) -> Piece
     }
 }
 
-/// An aggregation, behind its `@`.
+/// An aggregation, after its `@`.
 fn aggregation(rest: &[u8]) -> Piece
     ensures { result ≡ aggregation_read (identifier_at rest.now) }
 {
@@ -201,6 +201,6 @@ fn identifier_at(text: &[u8]) -> &[u8]
 {
     match text {
         [b'0'..=b'9', ..] => &[],
-        _ => Class::Word.run(text),
+        _ => ByteClass::Word.run(text),
     }
 }

@@ -43,7 +43,7 @@ pub(crate) enum Slot {
     Traced,
     /// What `exit` is given.
     Exited,
-    /// A key, behind those before it.
+    /// A key, after those before it.
     Key(Target),
     /// What an aggregating function is given.
     Value(Target, Function),
@@ -104,7 +104,7 @@ pub(crate) enum Place {
     Outside,
     /// A description of a head.
     Described,
-    /// The `,` behind a description.
+    /// The `,` after a description.
     Listed,
     /// The `/` that ends the predicate.
     Guarded,
@@ -120,7 +120,7 @@ pub(crate) enum Place {
     Closing(Statement),
     /// An aggregation's name.
     Named(ShortText),
-    /// The `]` behind the keys.
+    /// The `]` after the keys.
     Keyed(Target),
     /// The `=` of an aggregation.
     Assigned(Target),

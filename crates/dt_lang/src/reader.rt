@@ -146,7 +146,7 @@ impl ProgramReader {
         }
     }
 
-    /// Reads a token behind a description.
+    /// Reads a token after a description.
     fn from_described(&mut self, token: &Token) -> bool
         ensures { Leads (from_described (clauses_of self.old) (clause_of self.old) token.now) result
             (program_state_of self.new) }
@@ -168,7 +168,7 @@ impl ProgramReader {
         }
     }
 
-    /// Reads a token behind the `,` of a head.
+    /// Reads a token after the `,` of a head.
     fn from_listed(&mut self, token: Token) -> Result<bool, AllocError>
         ensures { IfOk result (λ on. Leads (from_listed (clauses_of self.old) (clause_of self.old) token) on
             (program_state_of self.new)) }
@@ -183,7 +183,7 @@ impl ProgramReader {
         }
     }
 
-    /// Reads a token behind a predicate.
+    /// Reads a token after a predicate.
     fn from_guarded(&mut self, token: &Token) -> bool
         ensures { Leads (from_guarded (clauses_of self.old) (clause_of self.old) token.now) result
             (program_state_of self.new) }
@@ -214,7 +214,7 @@ impl ProgramReader {
         Ok(true)
     }
 
-    /// Reads a token behind a statement.
+    /// Reads a token after a statement.
     fn from_after_statement(&mut self, alloc: Global, token: &Token) -> Result<bool, AllocError>
         requires { FitsClause (clauses_of self.old) (clause_of self.old) }
         ensures { IfOk result (λ on. Leads (from_after_statement (clauses_of self.old) (clause_of self.old) token.now) on
@@ -229,7 +229,7 @@ impl ProgramReader {
         Ok(true)
     }
 
-    /// Reads a token behind an action's name.
+    /// Reads a token after an action's name.
     fn from_called(&mut self, action: Action, token: &Token) -> bool
         ensures { Leads (from_called (clauses_of self.old) (clause_of self.old) action token.now) result
             (program_state_of self.new) }
@@ -248,7 +248,7 @@ impl ProgramReader {
         }
     }
 
-    /// Reads a token behind the `(` of an action that records frames of a stack.
+    /// Reads a token after the `(` of an action that records frames of a stack.
     fn from_stack_opened(&mut self, process: bool, token: &Token) -> bool
         ensures { Leads (from_stack_opened (clauses_of self.old) (clause_of self.old) process token.now) result
             (program_state_of self.new) }
@@ -285,7 +285,7 @@ impl ProgramReader {
         }
     }
 
-    /// Reads a token behind an aggregation's name.
+    /// Reads a token after an aggregation's name.
     fn from_named(&mut self, alloc: Global, name: ShortText, token: &Token) -> bool
         ensures { Leads (from_named (clauses_of self.old) (clause_of self.old) name token.now) result
             (program_state_of self.new) }
@@ -307,7 +307,7 @@ impl ProgramReader {
         }
     }
 
-    /// Reads a token behind an aggregation's keys.
+    /// Reads a token after an aggregation's keys.
     fn from_keyed(&mut self, target: Target, token: &Token) -> bool
         ensures { Leads (from_keyed (clauses_of self.old) (clause_of self.old) target.name (key_forms target) token.now)
             result (program_state_of self.new) }
@@ -321,7 +321,7 @@ impl ProgramReader {
         }
     }
 
-    /// Reads a token behind the `=` of an aggregation.
+    /// Reads a token after the `=` of an aggregation.
     fn from_assigned(&mut self, target: Target, token: &Token) -> bool
         ensures { Leads
             (from_assigned (clauses_of self.old) (clause_of self.old) target.name (key_forms target) token.now) result
@@ -336,7 +336,7 @@ impl ProgramReader {
         }
     }
 
-    /// Reads a token behind an aggregating function's name.
+    /// Reads a token after an aggregating function's name.
     fn from_applied(&mut self, target: Target, function: Function, token: &Token) -> bool
         requires { vec_len target.keys ≤ KEYS_MAX }
         ensures { Leads
@@ -493,7 +493,7 @@ impl ProgramReader {
         }
     }
 
-    /// Reads a token behind the `-` of a bound.
+    /// Reads a token after the `-` of a bound.
     fn from_negating(&mut self, levels: Levels, token: &Token) -> bool
         ensures { Leads
             (from_negating (clauses_of self.old) (clause_of self.old) levels.target.name (key_forms levels.target)
@@ -508,7 +508,7 @@ impl ProgramReader {
         }
     }
 
-    /// Reads a token behind a bound.
+    /// Reads a token after a bound.
     fn from_bounded(
         &mut self,
         levels: Levels,

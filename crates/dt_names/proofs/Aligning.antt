@@ -17,7 +17,7 @@ shift_in zs n a b c d x fits h =
     ∙ ap (drop 1) (sym (drop-append-le n zs (x ∷ []) fits))
     ∙ sym (drop_one_more n (zs ++ x ∷ []))
 
--- at most four fields are all there, behind empty ones
+-- at most four fields are all there, after empty ones
 pub aligned_few : (parts : List (List ℕ)) → length parts ≤ 4 → drop (length parts) (replicate 4 [] ++ parts)
     ≡ replicate (4 - length parts) [] ++ parts
 aligned_few parts few =

@@ -60,7 +60,7 @@ bytes_back n xs long are =
     (ap (big_from 0 n) (sym (append-nil (bytes_high_first n (big_number n xs))))
     ∙ big_number-reads_back n (big_number n xs) [] small)
 
--- what stands in front of bytes, and what stands behind
+-- what stands in front of bytes, and what stands after
 pub back_bytes : (xs ys : List ℕ) → AreBytes (xs ++ ys) → AreBytes ys
 back_bytes [] ys h = h
 back_bytes (x ∷ xs) ys h = back_bytes xs ys (tail_bytes x (xs ++ ys) h)

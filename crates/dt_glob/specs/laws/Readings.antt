@@ -174,7 +174,7 @@ items_from-empty_set lone false front rest h =
     rw append_assoc (items_from-items lone front (opening_bracket ∷ ([] ++ closing_bracket ∷ []) ++ rest) h.0 h.1
     ∙ ap (all_also h.0) (items_from-closed lone [] rest tt) ∙ all_also-err h.0 EmptySet)
 
--- the reading of signs and what stands behind them
+-- the reading of signs and what stands after them
 reading_of-signs : (signs : List Sign) (tail : List ℕ) → AreSigns signs → reading_of (text_of_signs signs ++ tail)
     ≡ items_from (signs_of tail).lone None (signs ++ (signs_of tail).signs)
 unfolding reading_of

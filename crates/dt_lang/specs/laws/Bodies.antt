@@ -109,7 +109,7 @@ pub behind_byte : (text : List ℕ) (x : ℕ) → x ≢ 0 → get_or text 0 0 �
 behind_byte [] x n e = absurd (n (sym e))
 behind_byte (y ∷ ys) x n e = ap (λ z. z ∷ ys) e
 
--- how the fronts that are a text's lie behind the quote
+-- how the fronts that are a text's lie after the quote
 closed_behind : (rest inside behind : List ℕ) (text front : List ℕ) → text ≡ 34 ∷ rest → text ≡ front ++ behind
     → front ≡ 34 ∷ (inside ++ (34 ∷ [])) → rest ≡ inside ++ (34 ∷ behind)
 closed_behind rest inside behind text front q cut e =
@@ -128,7 +128,7 @@ closed_length front inside e =
 open_length : (front inside : List ℕ) (x : ℕ) → front ≡ x ∷ inside → length front ≡ length inside + 1
 open_length front inside x e = let f = ap (λ (s : List ℕ). length s) e in omega arith
 
--- the run behind a quote, and what the fronts with a text are to it
+-- the run after a quote, and what the fronts with a text are to it
 module _ (text rest : List ℕ) (quote : text ≡ 34 ∷ rest) (fronts : FrontsFit start.Quote text) where
   quoted_run : List ℕ
   quoted_run = take_while is_string_byte rest

@@ -125,7 +125,7 @@ unfolding program_run program_step
 constant_over cs c name keys f b _ us _ (plain n) = refl
 constant_over cs c name keys f b _ us _ (negative n) = refl
 
--- bounds and the `)` behind them, where an `lquantize`'s value was read
+-- bounds and the `)` after them, where an `lquantize`'s value was read
 bounds_lead : (cs : List ClauseForm) (c : ClauseForm) (name : List ℕ) (keys : List ArgForm) (f : Form)
     (ts us : List Token) (lower upper by : ℤ) → IsRead true ts (number f) → ReadsBounds us lower upper by
     → program_run (entered cs c (value name keys function.Lquantize)) (ts ++ (us ++ (token.Sign sign.CloseParen ∷ [])))
@@ -168,7 +168,7 @@ pub record KeysLead (cs : List ClauseForm) (c : ClauseForm) (name : List ℕ) (t
   pub count : ℕ
   pub runs : program_run (entered cs c (key name [])) ts ≡ Some (program_at cs c (within (key name before) count read.at))
 
--- behind keys a `,` or a `]` leads on
+-- after keys a `,` or a `]` leads on
 pub key_ends : (cs : List ClauseForm) (c : ClauseForm) (name : List ℕ) (ts : List Token) (keys : List ArgForm)
     (t : Token) (next : ProgramState) (h : KeysLead cs c name ts keys) → ends_argument true t ≡ true
     → shut cs c (key name h.before) t h.last ≡ Some next

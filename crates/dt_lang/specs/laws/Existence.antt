@@ -180,7 +180,7 @@ hexadecimal x digits big own = written (48 ∷ x ∷ digits) 16 digits (inr (inr
     only r d (inr (inl k)) all = absurd (no_x (48 ∷ x ∷ digits) d digits r x big k all refl)
     only r d (inr (inr k)) all = (k.base, same_hexadecimal (48 ∷ x ∷ digits) r 16 d digits k own)
 
--- behind a 0
+-- after a 0
 zero_and : (rest : List ℕ) → Number (48 ∷ rest)
 zero_and [] = octal [] (λ r d h. elim h.cut [
   | inl e ↦ let bad : [] ≡ 120 ∷ d = (tails 48 48 _ _ e).1 in cc

@@ -17,7 +17,7 @@ use Rattle.dt_lang.specs.machine.ExpressionState.{Closed, close, state, wait, le
 use Rattle.dt_lang.specs.laws.ExpressionSteps.{run_more, run_step, run_one, binding-lt, close_stays, close_ends}
 use Rattle.dt_lang.specs.laws.ExpressionSteps.{begins_sign, begins_text, follows, leaves}
 
--- The tokens are read behind what is pending, and what is at hand then is to all that comes as the form alone.
+-- The tokens are read after what is pending, and what is at hand then is to all that comes as the form alone.
 pub record Arrives (divides : Bool) (pending : List PendingForm) (level : ℕ) (f : Form) (ts : List Token) : Type 0 where
   pub waiting : List PendingForm
   pub bound : ℕ

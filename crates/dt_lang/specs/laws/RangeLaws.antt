@@ -75,7 +75,7 @@ read_out_of_range : (ts : List Token) (cs : List ClauseForm) (c : ClauseForm) (p
 read_out_of_range ts cs c (bounded name keys f b z) t fault h e = bounded_out_at ts cs c name keys f b z t fault h e
 read_out_of_range ts cs c _ t fault h e = absurd (none_some e)
 
--- where bounds lead, behind an `lquantize`'s value
+-- where bounds lead, after an `lquantize`'s value
 pub record BoundsLead (cs : List ClauseForm) (c : ClauseForm) (name : List ℕ) (keys : List ArgForm) (f : Form)
     (ts : List Token) (lower upper by : ℤ) : Type 0 where
   pub bound : BoundForm

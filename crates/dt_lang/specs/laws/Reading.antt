@@ -43,13 +43,13 @@ pub record GuardRead (ts : List Token) (cs : List ClauseForm) (c : ClauseForm) :
   pub reads : ReadsExpr false 0 back form
   pub fresh : c ≡ record { descriptions = c.descriptions; predicate = Some form; statements = [] }
 
--- these tokens behind where a statement may begin
+-- these tokens after where a statement may begin
 pub record Follows (tail ts : List Token) (cs : List ClauseForm) (c : ClauseForm) : Type 0 where
   pub front : List Token
   pub split : ts ≡ front ++ tail
   pub stands : BodyStands before_statement front cs c
 
--- these tokens behind an aggregation with its keys
+-- these tokens after an aggregation with its keys
 pub record FollowsTarget (tail ts : List Token) (cs : List ClauseForm) (c : ClauseForm) (name : List ℕ)
     (keys : List ArgForm) : Type 0 where
   pub front : List Token
@@ -83,7 +83,7 @@ BoundsBegin (at_step lower upper) ts =
     (us vs : List Token) × (ts ≡ token.Sign sign.Comma ∷ (us ++ (token.Sign sign.Comma
     ∷ (vs ++ (token.Sign sign.Comma ∷ []))))) × ReadsConstant us lower × ReadsConstant vs upper
 
--- an `lquantize` up to some of its bounds, with these tokens behind
+-- an `lquantize` up to some of its bounds, with these tokens after
 pub record Levels (tail ts : List Token) (cs : List ClauseForm) (c : ClauseForm) (name : List ℕ) (keys : List ArgForm)
     (f : Form) (b : BoundForm) : Type 0 where
   pub front : List Token
@@ -94,7 +94,7 @@ pub record Levels (tail ts : List Token) (cs : List ClauseForm) (c : ClauseForm)
   pub reads : ReadsExpr true 0 middle f
   pub bounds : BoundsBegin b back
 
--- such an `lquantize` with a constant behind
+-- such an `lquantize` with a constant after
 pub record Bounded (ts : List Token) (cs : List ClauseForm) (c : ClauseForm) (name : List ℕ) (keys : List ArgForm)
     (f : Form) (b : BoundForm) (z : ℤ) : Type 0 where
   pub tail : List Token

@@ -37,7 +37,7 @@ run_at_least p text front behind e h =
     let f = subst (λ (s : List ℕ). length front ≤ prefix_len p s) (sym e) (at_least p front behind h) in
     let g = length-prefix_len p text in omega arith
 
--- and where a byte that doesn't pass stands behind them, they are the run
+-- and where a byte that doesn't pass stands after them, they are the run
 exactly : (p : ℕ → Bool) (front : List ℕ) (stop : ℕ) (behind : List ℕ) → AllPass p front → p stop ≡ false
     → prefix_len p (front ++ (stop ∷ behind)) ≡ length front
 exactly p [] stop behind h s = ap (λ b. cond b (1 + prefix_len p behind) 0) s
@@ -64,7 +64,7 @@ run_passes p (x ∷ xs) = elim (truth_of (p x)) [
   | inr h ↦ subst (AllPass p) (sym (run_ends p x xs h)) (none_pass p)
 ]
 
--- what stands behind a run
+-- what stands after a run
 abbrev pub behind_run : (ℕ → Bool) → List ℕ → List ℕ
 behind_run p text = drop (prefix_len p text) text
 

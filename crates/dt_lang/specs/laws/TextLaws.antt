@@ -36,7 +36,7 @@ pub data Stop : Type 0 where
   whole : List ClauseForm → Stop
   refused_there : (at end : ℕ) → Cause → Stop
 
--- Behind these tokens the reading of a text stops so.
+-- After these tokens the reading of a text stops so.
 pub data Stops (text : List ℕ) (mode : Mode) (ts : List Token) (from : ℕ) : Stop → Type 0 where
   at_token : (t : Token) (at to : ℕ) (cause : Cause) → Lexes text mode from (lexeme.Token at t to)
       → Refused ts t cause → Stops text mode ts from (refused_there at to cause)
@@ -355,7 +355,7 @@ unfolding SomeReading
 reads_program text cs h = (program cs, h)
 
 module _ (text : List ℕ) (laws : LexemeLaws text) where
-  -- what is left of the text is read, given how it is behind one more token
+  -- what is left of the text is read, given how it is after one more token
   read_lexeme : (mode : Mode) (ts : List Token) (from : ℕ) (s : ProgramState) (l : Lexeme)
       → Going text mode ts from s → Lexes text mode from l
       → ((t : Token) (at to : ℕ) (next : ProgramState) → Lexes text mode from (lexeme.Token at t to)

@@ -57,7 +57,7 @@ one_more xs x n h = omega (arith, length-append xs (x ∷ []))
 some_more : {A : Type 0} (xs : List A) (x : A) → 1 ≤ length (xs ++ (x ∷ []))
 some_more xs x = omega (arith, length-append xs (x ∷ []))
 
--- a list with an element behind the first n
+-- a list with an element after the first n
 record CutAt (n : ℕ) (xs : List Token) : Type 0 where
   front : List Token
   one : Token
@@ -78,7 +78,7 @@ cut_at (suc n) (x ∷ xs) h =
       is = ap (λ ys. x ∷ ys) more.is;
     }
 
--- some tokens stand behind others
+-- some tokens stand after others
 record At (tokens front us : List Token) : Type 0 where
   back : List Token
   cut : tokens ≡ front ++ (us ++ back)
@@ -350,7 +350,7 @@ module _ (tokens : List Token) (unrefused : NoneRefused tokens) (each : AreWritt
   statement_begins _ _ (aggregating ts us name keys call target calls) =
       target_begins ts (token.Sign sign.Equal ∷ us) name keys target
 
-  -- bodies and heads, in a clause behind whole ones
+  -- bodies and heads, in a clause after whole ones
   abbrev clause_of : List DescForm → Option Form → List StatementForm → ClauseForm
   clause_of ds p ss = record { descriptions = ds; predicate = p; statements = ss }
 

@@ -78,7 +78,7 @@ with_statement c s =
 abbrev pub program_start : ProgramState
 program_start = program_at [] (headed []) outside
 
--- behind a whole statement
+-- after a whole statement
 abbrev pub ended : List ClauseForm → ClauseForm → StatementForm → ProgramState
 ended cs c s = program_at cs (with_statement c s) (body after_statement)
 

@@ -5,12 +5,12 @@ use Rattle.dt_expr.specs.Form.{form_of}
 use Rattle.dt_lang.specs.declared.expression.ExpressionReader.{ExpressionReader}
 use Rattle.dt_lang.specs.declared.expression.Hand.{Hand}
 use Rattle.dt_lang.specs.declared.expression.Hand.TheVariants as hand
-use Rattle.dt_lang.specs.declared.pending.Pending.{Pending}
-use Rattle.dt_lang.specs.declared.pending.Pending.TheVariants as kind
+use Rattle.dt_lang.specs.declared.pending.PendingOperator.{PendingOperator}
+use Rattle.dt_lang.specs.declared.pending.PendingOperator.TheVariants as kind
 use Rattle.dt_lang.specs.declared.pending.PendingStack.{PendingStack}
 use Rattle.dt_lang.specs.machine.ExpressionState.{PendingForm, opened, before, after, HandForm, nothing, whole, lone, compares, State}
 
-abbrev pub pending_form : Pending → PendingForm
+abbrev pub pending_form : PendingOperator → PendingForm
 pending_form (kind.Opened divides) = opened divides
 pending_form (kind.Before op) = before op
 pending_form (kind.After left op) = after (form_of left.value) op

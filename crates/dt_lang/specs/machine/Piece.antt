@@ -44,13 +44,13 @@ NumberOf run (piece.Token t size) = (n : ℕ) × IsNumber run n × (t ≡ token.
 NumberOf run piece.Stray = (n : ℕ) → IsNumber run n → ⊥
 NumberOf run _ = ⊥
 
--- a string behind its opening `"`, whose bytes these are
+-- a string after its opening `"`, whose bytes these are
 abbrev pub string_piece : List ℕ → List ℕ → Piece
 string_piece bytes rest = if nat_lt short_text_max (length bytes) then piece.Overlong StringBytes (length bytes + 1)
     else (if slice_index rest (length bytes) == 34 then piece.Token (token.String bytes) (length bytes + 2)
     else piece.Stray)
 
--- an aggregation's name behind its `@`
+-- an aggregation's name after its `@`
 abbrev pub aggregation_read : List ℕ → Piece
 aggregation_read name = if nat_lt short_text_max (length name) then piece.Overlong NameBytes (length name + 1)
     else piece.Token (token.Aggregation name) (length name + 1)

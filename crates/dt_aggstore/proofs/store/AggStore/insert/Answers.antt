@@ -71,7 +71,7 @@ invariant_of-self-2-clause-cells_are c =
       words_more self.entries.items c.args.name c.push.new.self.items c.push.ensures.items,
     )
 
--- the new cell lies behind the others
+-- the new cell lies after the others
 pub invariant_of-self-2-clause-places_are : goal.invariant_of-self-2-clause-places_are
 invariant_of-self-2-clause-places_are c =
     let self = c.args.self.now in

@@ -7,7 +7,7 @@ use dt_names::is_name_byte;
 
 /// Which bytes run together.
 #[derive(Clone, Copy)]
-pub(crate) enum Class {
+pub(crate) enum ByteClass {
     /// Letters, digits and `_`: identifiers and numbers.
     Word,
     /// What a string has between its `"`.
@@ -16,15 +16,15 @@ pub(crate) enum Class {
     Description,
 }
 
-impl Class {
+impl ByteClass {
     /// Whether a byte is one of these.
     pub(crate) fn has(self, byte: u8) -> bool
         ensures { result ≡ members self byte }
     {
         match self {
-            Class::Word => byte.is_ascii_alphanumeric() || byte == b'_',
-            Class::String => byte >= b' ' && byte <= b'~' && byte != b'"' && byte != b'\\',
-            Class::Description => is_name_byte(byte) || byte == b':',
+            ByteClass::Word => byte.is_ascii_alphanumeric() || byte == b'_',
+            ByteClass::String => byte >= b' ' && byte <= b'~' && byte != b'"' && byte != b'\\',
+            ByteClass::Description => is_name_byte(byte) || byte == b':',
         }
     }
 

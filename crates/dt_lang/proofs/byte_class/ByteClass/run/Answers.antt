@@ -3,7 +3,7 @@ use Rattle.std.proofs.Common.{◌≡◌, false, sym, ◌∙◌, ap, take, get_or
 use Rattle.std.proofs.lemmas.List.Sums.{prefix_len_is}
 use Rattle.std.proofs.Math.Seq.{take-length}
 use Rattle.dt_lang.specs.Class.{members}
-use Rattle.dt_lang.proofs.class.Class.run.Goals as goal
+use Rattle.dt_lang.proofs.byte_class.ByteClass.run.Goals as goal
 
 pub returns-then-not-has : goal.returns-then-not-has
 returns-then-not-has c =
