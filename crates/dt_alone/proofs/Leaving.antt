@@ -12,7 +12,7 @@ use Rattle.dt_expr.specs.declared.text.Value.{Value}
 use Rattle.dt_expr.specs.declared.text.Value.TheVariants as val
 use Rattle.dt_lang.specs.Program.{ClauseForm, form_of_argument, form_of_clause, form_of_statement}
 use Rattle.dt_program.specs.declared.clause.Clause.{Clause}
-use Rattle.dt_program.specs.declared.clause.Aggregation as program
+use Rattle.dt_program.specs.declared.clause.AggregationUse as program
 use Rattle.dt_program.specs.declared.clause.Statement.{Statement}
 use Rattle.dt_program.specs.declared.clause.Statement.TheVariants.{Aggregate, Exit, Stack, Trace, Ustack}
 use Rattle.dt_record.specs.Taking.{Outcome, TakenForm, leaves, left_in, taking}
@@ -97,7 +97,7 @@ given_none o keys values is = ap (λ x. contribution_at (x, keys) values) is
 
 -- a statement that aggregates
 module _ (shapes : List ShapeForm) (statements : List Statement) (i : ℕ) (s : Statement)
-    (inside : i < length statements) (at : s ≡ get_or statements i s) (values : List Value) (a : program.Aggregation)
+    (inside : i < length statements) (at : s ≡ get_or statements i s) (values : List Value) (a : program.AggregationUse)
     (is : s ≡ Aggregate a) (place : ℕ)
     (there : place ≡ span (uses_by shapes (map form_of_statement (take i statements)))) where
   use_is : use_by shapes (form_of_statement s) ≡ (aggregation_of shapes a.name, length a.keys.items) ∷ []
@@ -119,7 +119,7 @@ module _ (shapes : List ShapeForm) (statements : List Statement) (i : ℕ) (s : 
       ap (λ n. n + (length a.keys.items + 1)) there ∙ sym (span_one shapes statements i s inside at values _ use_is)
 
 -- one that does not
-pub other_use : (shapes : List ShapeForm) (s : Statement) → ((a : program.Aggregation) → s ≡ Aggregate a → ⊥)
+pub other_use : (shapes : List ShapeForm) (s : Statement) → ((a : program.AggregationUse) → s ≡ Aggregate a → ⊥)
     → use_by shapes (form_of_statement s) ≡ []
 other_use shapes (Trace a) none = refl
 other_use shapes (Stack n) none = refl

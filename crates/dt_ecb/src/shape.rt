@@ -8,7 +8,7 @@ ghost use Rattle.dt_ecb.specs.Shapes as spec;
 
 use dt_aggfn::AggFn;
 use dt_names::ShortText;
-use dt_program::{Aggregation, Argument, Call};
+use dt_program::{AggregationUse, Argument, Call};
 use std::alloc::{AllocError, Global};
 
 /// What a key is.
@@ -87,7 +87,7 @@ pub(crate) struct Shape {
 
 impl Shape {
     /// The shape of a use.
-    pub(crate) fn of(alloc: Global, aggregation: &Aggregation) -> Result<Self, AllocError>
+    pub(crate) fn of(alloc: Global, aggregation: &AggregationUse) -> Result<Self, AllocError>
         ensures { IfOk result (λ shape.
             spec.used_by (form_of_statement (Aggregate aggregation.now)) ≡ form_of_shape shape ∷ []) }
     {

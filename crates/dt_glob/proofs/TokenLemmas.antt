@@ -1,8 +1,8 @@
 -- Items and elements, as the code reads them off a text.
 use Rattle.std.proofs.Common.{◌≡◌, ◌≢◌, ℕ, ◌-◌, ◌⊎◌, inl, inr, Bool, true, false, List, [], ◌∷◌, ◌++◌, length, refl}
 use Rattle.std.proofs.Common.{sym, ap, ◌∙◌, append_assoc, append-nil, eqb, arith, ◌↔◌, length-append}
-use Rattle.dt_glob.specs.declared.sign.Sign.{Sign}
-use Rattle.dt_glob.specs.declared.sign.Sign.TheVariants.{Plain, Escaped}
+use Rattle.dt_glob.specs.declared.sign.PatternSign.{PatternSign}
+use Rattle.dt_glob.specs.declared.sign.PatternSign.TheVariants.{Plain, Escaped}
 use Rattle.dt_glob.specs.declared.element.Element.{Element}
 use Rattle.dt_glob.specs.declared.element.Element.TheVariants.{Single, Range}
 use Rattle.dt_glob.specs.Sign.{byte_of, sign_text, text_of_signs, IsSign, AreSigns, star, question, opening_bracket, closing_bracket}
@@ -11,8 +11,8 @@ use Rattle.dt_glob.specs.PatternItem.{PatternItem, Star, AnyByte, Literal, OneOf
 use Rattle.dt_glob.specs.Spells.{BeginsRangeEnd, SpellsElements, Lacks, BeginsWithSign, SpellsSet, SpellsItem}
 use Rattle.dt_glob.specs.Spells.{SpellsItems, Spells}
 use Rattle.dt_glob.specs.Token.{ShowsElements, ReadsElement, IsToken, ReadsToken, ClosesAt, BeginsSet}
-use Rattle.dt_glob.specs.declared.token.Token.{Token}
-use Rattle.dt_glob.specs.declared.token.Token.TheVariants as token
+use Rattle.dt_glob.specs.declared.token.PatternToken.{PatternToken}
+use Rattle.dt_glob.specs.declared.token.PatternToken.TheVariants as token
 use Rattle.dt_glob.specs.laws.Signs.{text_of_signs-append, AreSigns-append, AreSigns-front, AreSigns-back, same_sign}
 use Rattle.dt_glob.specs.laws.Signs.{plain_apart, Lacks-mark}
 
@@ -24,8 +24,8 @@ pub record LeftOf (elements : List Element) (rest : List ℕ) (byte : ℕ) : Typ
 
 -- how far the search for a closing bracket is
 pub record Seeks (text : List ℕ) (len : ℕ) (rest : List ℕ) : Type 0 where
-  pub seen : List Sign
-  pub more : List Sign
+  pub seen : List PatternSign
+  pub more : List PatternSign
   pub behind : List ℕ
   pub text_is : text ≡ text_of_signs seen ++ rest
   pub len_is : len ≡ length (text_of_signs seen)
@@ -36,31 +36,31 @@ pub record Seeks (text : List ℕ) (len : ℕ) (rest : List ℕ) : Type 0 where
   pub more_unended : Lacks closing_bracket more
 
 -- the first of some signs, and what stands after it
-pub record FirstSign (signs : List Sign) (sign : Sign) (rest : List ℕ) : Type 0 where
-  pub more : List Sign
+pub record FirstSign (signs : List PatternSign) (sign : PatternSign) (rest : List ℕ) : Type 0 where
+  pub more : List PatternSign
   pub signs_are : signs ≡ sign ∷ more
   pub rest_is : rest ≡ text_of_signs more
   pub are_more : AreSigns more
 
-some_text : (sign : Sign) (rest : List ℕ) → [] ≢ sign_text sign ++ rest
+some_text : (sign : PatternSign) (rest : List ℕ) → [] ≢ sign_text sign ++ rest
 some_text (Plain byte) rest e = cc
 some_text (Escaped byte) rest e = cc
 
-pub first_sign : (signs : List Sign) (sign : Sign) (rest : List ℕ) → IsSign sign → AreSigns signs → text_of_signs signs
+pub first_sign : (signs : List PatternSign) (sign : PatternSign) (rest : List ℕ) → IsSign sign → AreSigns signs → text_of_signs signs
     ≡ sign_text sign ++ rest → FirstSign signs sign rest
 first_sign [] sign rest h a e = absurd (some_text sign rest e)
 first_sign (first ∷ more) sign rest h a e =
     let same = same_sign first sign (text_of_signs more) rest a.0 h e in
-    record { more = more; signs_are = ap (λ (s : Sign). s ∷ more) same.0; rest_is = sym same.1; are_more = a.1 }
+    record { more = more; signs_are = ap (λ (s : PatternSign). s ∷ more) same.0; rest_is = sym same.1; are_more = a.1 }
 
 -- a text with no sign at its front
-pub no_sign : (text : List ℕ) (sign : Sign) (rest : List ℕ) → (text ≡ []) ⊎ (text ≡ 92 ∷ []) → IsSign sign
+pub no_sign : (text : List ℕ) (sign : PatternSign) (rest : List ℕ) → (text ≡ []) ⊎ (text ≡ 92 ∷ []) → IsSign sign
     → text ≢ sign_text sign ++ rest
 no_sign text sign rest (inl e) h k = some_text sign rest (sym e ∙ k)
 no_sign text (Plain byte) rest (inr e) h k = let same : byte ≡ 92 = cc in h same
 no_sign text (Escaped byte) rest (inr e) h k = let both : 92 ∷ [] ≡ 92 ∷ byte ∷ rest = sym e ∙ k in cc
 
-pub no_signs : (text : List ℕ) (signs : List Sign) → (text ≡ []) ⊎ (text ≡ 92 ∷ []) → AreSigns signs → text
+pub no_signs : (text : List ℕ) (signs : List PatternSign) → (text ≡ []) ⊎ (text ≡ 92 ∷ []) → AreSigns signs → text
     ≡ text_of_signs signs → text ≡ []
 no_signs text [] h a e = e
 no_signs text (sign ∷ signs) h a e = absurd (no_sign text sign (text_of_signs signs) h a.0 e)
@@ -69,9 +69,9 @@ no_signs text (sign ∷ signs) h a e = absurd (no_sign text sign (text_of_signs 
 dash_is : IsSign dash
 dash_is e = omega arith
 
-single_read : (text : List ℕ) (first : Sign) (rest : List ℕ) (elements : List Element) → IsSign first → text
+single_read : (text : List ℕ) (first : PatternSign) (rest : List ℕ) (elements : List Element) → IsSign first → text
     ≡ sign_text first ++ rest
-    → (first ≡ dash) ⊎ ((more : List Sign) → AreSigns more → rest ≡ text_of_signs more → ¬ BeginsRangeEnd more)
+    → (first ≡ dash) ⊎ ((more : List PatternSign) → AreSigns more → rest ≡ text_of_signs more → ¬ BeginsRangeEnd more)
     → ShowsElements text elements → ReadsElement (Single (byte_of first)) elements rest
 single_read text first rest elements i e n h = go elements h.spells
   where
@@ -96,20 +96,20 @@ single_read text first rest elements i e n h = go elements h.spells
         let fronts : front ≡ first = cc in
         absurd (elim n [ inl z ↦ m (fronts ∙ z) | inr z ↦ z f.more f.are_more f.rest_is (rw rests refl) ])
 
-pub single_dash : (text : List ℕ) (first : Sign) (rest : List ℕ) (elements : List Element) → IsSign first → text
+pub single_dash : (text : List ℕ) (first : PatternSign) (rest : List ℕ) (elements : List Element) → IsSign first → text
     ≡ sign_text first ++ rest
     → first ≡ dash → ShowsElements text elements → ReadsElement (Single (byte_of first)) elements rest
 single_dash text first rest elements i e d h = single_read text first rest elements i e (inl d) h
 
-range_end_text : (more : List Sign) (rest : List ℕ) → AreSigns more → rest ≡ text_of_signs more → BeginsRangeEnd more
-    → (last : Sign) × (behind : List ℕ) × IsSign last × (rest ≡ 45 ∷ (sign_text last ++ behind))
+range_end_text : (more : List PatternSign) (rest : List ℕ) → AreSigns more → rest ≡ text_of_signs more → BeginsRangeEnd more
+    → (last : PatternSign) × (behind : List ℕ) × IsSign last × (rest ≡ 45 ∷ (sign_text last ++ behind))
 range_end_text [] rest a e b = absurd b
 range_end_text (sign ∷ []) rest a e b = absurd b
 range_end_text (sign ∷ last ∷ more) rest a e b =
-    (last, text_of_signs more, a.1.0, e ∙ ap (λ (s : Sign). sign_text s ++ (sign_text last ++ text_of_signs more)) b)
+    (last, text_of_signs more, a.1.0, e ∙ ap (λ (s : PatternSign). sign_text s ++ (sign_text last ++ text_of_signs more)) b)
 
 -- no dash stands after the sign
-pub single_alone : (text : List ℕ) (first : Sign) (rest : List ℕ) (elements : List Element) → IsSign first → text
+pub single_alone : (text : List ℕ) (first : PatternSign) (rest : List ℕ) (elements : List Element) → IsSign first → text
     ≡ sign_text first ++ rest
     → ((behind : List ℕ) → rest ≢ 45 ∷ behind) → ShowsElements text elements
     → ReadsElement (Single (byte_of first)) elements rest
@@ -117,7 +117,7 @@ single_alone text first rest elements i e n h =
     single_read text first rest elements i e (inr (λ more a w b. let r = range_end_text more rest a w b in n _ r.3)) h
 
 -- a dash stands after the sign, and no sign after that
-pub single_last : (text : List ℕ) (first : Sign) (rest behind : List ℕ) (elements : List Element) → IsSign first
+pub single_last : (text : List ℕ) (first : PatternSign) (rest behind : List ℕ) (elements : List Element) → IsSign first
     → text ≡ sign_text first ++ rest
     → rest ≡ 45 ∷ behind → (behind ≡ []) ⊎ (behind ≡ 92 ∷ []) → ShowsElements text elements
     → ReadsElement (Single (byte_of first)) elements rest
@@ -127,7 +127,7 @@ single_last text first rest behind elements i e d n h =
     let both : 45 ∷ behind ≡ 45 ∷ (sign_text r.0 ++ r.1) = sym d ∙ r.3 in
     no_sign behind r.0 r.1 n r.2 (cc))) h
 
-pub range_read : (text : List ℕ) (first : Sign) (rest behind : List ℕ) (last : Sign) (after : List ℕ)
+pub range_read : (text : List ℕ) (first : PatternSign) (rest behind : List ℕ) (last : PatternSign) (after : List ℕ)
     (elements : List Element) → IsSign first → text ≡ sign_text first ++ rest
     → first ≢ dash → rest ≡ 45 ∷ behind → IsSign last → behind ≡ sign_text last ++ after → ShowsElements text elements
     → ReadsElement (Range (byte_of first) (byte_of last)) elements after
@@ -143,7 +143,7 @@ range_read text first rest behind last after elements i e n d j b h = go element
     k = first_sign g.more last after j g.are_more (sym g.rest_is ∙ b)
 
     all : h.signs ≡ first ∷ dash ∷ last ∷ k.more
-    all = f.signs_are ∙ ap (λ (s : List Sign). first ∷ s) (g.signs_are ∙ ap (λ (s : List Sign). dash ∷ s) k.signs_are)
+    all = f.signs_are ∙ ap (λ (s : List PatternSign). first ∷ s) (g.signs_are ∙ ap (λ (s : List PatternSign). dash ∷ s) k.signs_are)
 
     go : (elements : List Element) → SpellsElements h.signs elements
         → ReadsElement (Range (byte_of first) (byte_of last)) elements after
@@ -194,12 +194,12 @@ shows_none : (elements : List Element) → ShowsElements [] elements → element
 shows_none [] h = refl
 shows_none (Single byte ∷ tail) h = go h.signs h.written h.spells.2
   where
-    go : (signs : List Sign) → [] ≡ text_of_signs signs → signs ≡ h.spells.0 ∷ h.spells.1 → Single byte ∷ tail ≡ []
+    go : (signs : List PatternSign) → [] ≡ text_of_signs signs → signs ≡ h.spells.0 ∷ h.spells.1 → Single byte ∷ tail ≡ []
     go [] e k = cc
     go (sign ∷ signs) e k = absurd (some_text sign (text_of_signs signs) e)
 shows_none (Range low high ∷ tail) h = go h.signs h.written h.spells.3
   where
-    go : (signs : List Sign) → [] ≡ text_of_signs signs → signs ≡ h.spells.0 ∷ dash ∷ h.spells.1 ∷ h.spells.2
+    go : (signs : List PatternSign) → [] ≡ text_of_signs signs → signs ≡ h.spells.0 ∷ dash ∷ h.spells.1 ∷ h.spells.2
         → Range low high ∷ tail ≡ []
     go [] e k = cc
     go (sign ∷ signs) e k = absurd (some_text sign (text_of_signs signs) e)
@@ -229,11 +229,11 @@ seeks_first text inside behind h = record {
 closing_is : IsSign closing_bracket
 closing_is e = omega arith
 
-Lacks-append : (sign : Sign) (a b : List Sign) → Lacks sign a → Lacks sign b → Lacks sign (a ++ b)
+Lacks-append : (sign : PatternSign) (a b : List PatternSign) → Lacks sign a → Lacks sign b → Lacks sign (a ++ b)
 Lacks-append sign [] b h k = k
 Lacks-append sign (next ∷ a) b h k = (h.0, Lacks-append sign a b h.1 k)
 
-pub seeks_more : (text : List ℕ) (len : ℕ) (rest : List ℕ) (sign : Sign) (behind : List ℕ) → Seeks text len rest
+pub seeks_more : (text : List ℕ) (len : ℕ) (rest : List ℕ) (sign : PatternSign) (behind : List ℕ) → Seeks text len rest
     → IsSign sign → sign ≢ closing_bracket
     → rest ≡ sign_text sign ++ behind → Seeks text (length text - length behind) behind
 seeks_more text len rest sign behind h i n e = go h.more h.rest_is h.are_more h.more_unended
@@ -242,7 +242,7 @@ seeks_more text len rest sign behind h i n e = go h.more h.rest_is h.are_more h.
     whole = h.text_is ∙ ap (λ (s : List ℕ). text_of_signs h.seen ++ s) e
         ∙ sym (rw (text_of_signs-append h.seen (sign ∷ []), append-nil, append_assoc) refl)
 
-    go : (more : List Sign) → rest ≡ text_of_signs more ++ 93 ∷ h.behind → AreSigns more → Lacks closing_bracket more
+    go : (more : List PatternSign) → rest ≡ text_of_signs more ++ 93 ∷ h.behind → AreSigns more → Lacks closing_bracket more
         → Seeks text (length text - length behind) behind
     go [] k a u = absurd (n (same_sign sign closing_bracket behind h.behind i closing_is (sym e ∙ k)).0)
     go (first ∷ more) k a u =
@@ -264,7 +264,7 @@ seeks_more text len rest sign behind h i n e = go h.more h.rest_is h.are_more h.
         }
 
 -- one set ends at one place
-closes_once : (a b : List Sign) (r s : List ℕ) → AreSigns a → AreSigns b → Lacks closing_bracket a → Lacks closing_bracket b
+closes_once : (a b : List PatternSign) (r s : List ℕ) → AreSigns a → AreSigns b → Lacks closing_bracket a → Lacks closing_bracket b
     → text_of_signs a ++ 93 ∷ r ≡ text_of_signs b ++ 93 ∷ s → (a ≡ b) × (r ≡ s)
 closes_once [] [] r s p q u v e = (refl, cc)
 closes_once [] (y ∷ b) r s p q u v e =
@@ -281,7 +281,7 @@ closes_once (x ∷ a) (y ∷ b) r s p q u v e =
     let more = closes_once a b r s p.1 q.1 u.1 v.1 same.1 in
     (cc (same.0, more.0), more.1)
 
-SpellsSet-unended : (inner : List Sign) (negated : Bool) (elements : List Element) → SpellsSet inner negated elements
+SpellsSet-unended : (inner : List PatternSign) (negated : Bool) (elements : List Element) → SpellsSet inner negated elements
     → Lacks closing_bracket inner
 SpellsSet-unended inner negated elements h = rw h.begins (Lacks-mark negated h.inside h.unended)
 
@@ -297,7 +297,7 @@ begins_closes text negated elements behind h = record {
 
 -- what the search found is the set
 pub record FindsSet (negated : Bool) (elements : List Element) (inside : List ℕ) : Type 0 where
-  pub inner : List Sign
+  pub inner : List PatternSign
   pub written : inside ≡ text_of_signs inner
   pub are_signs : AreSigns inner
   pub spells : SpellsSet inner negated elements
@@ -320,7 +320,7 @@ finds_set text inside rest negated elements behind k h =
       once.1,
     )
 
-bang_text : (signs : List Sign) (rest : List ℕ) → text_of_signs signs ≡ 33 ∷ rest → BeginsWithSign bang signs
+bang_text : (signs : List PatternSign) (rest : List ℕ) → text_of_signs signs ≡ 33 ∷ rest → BeginsWithSign bang signs
 bang_text [] rest e = cc
 bang_text (Plain byte ∷ signs) rest e = let same : byte ≡ 33 = cc in ap Plain same
 bang_text (Escaped byte ∷ signs) rest e = let same : ◌≡◌ {A = ℕ} 92 33 = cc in absurd (omega arith)
@@ -360,11 +360,11 @@ no_item (Literal byte) (inl e) = cc
 no_item (Literal byte) (inr h) = let e = h.0 in cc
 no_item (OneOf negated elements) h = let e = h.1 in cc
 
-pub record ReadsItem (sign : Sign) (items : List PatternItem) (rest : List ℕ) : Type 0 where
+pub record ReadsItem (sign : PatternSign) (items : List PatternItem) (rest : List ℕ) : Type 0 where
   pub item : PatternItem
   pub tail : List PatternItem
-  pub inner : List Sign
-  pub after : List Sign
+  pub inner : List PatternSign
+  pub after : List PatternSign
   pub items_are : items ≡ item ∷ tail
   pub spells : SpellsItem (sign ∷ inner) item
   pub rest_is : rest ≡ text_of_signs inner ++ text_of_signs after
@@ -372,14 +372,14 @@ pub record ReadsItem (sign : Sign) (items : List PatternItem) (rest : List ℕ) 
   pub are_after : AreSigns after
   pub spells_tail : SpellsItems after tail
 
-pub item_read : (text : List ℕ) (sign : Sign) (rest : List ℕ) (items : List PatternItem) → IsSign sign → text
+pub item_read : (text : List ℕ) (sign : PatternSign) (rest : List ℕ) (items : List PatternItem) → IsSign sign → text
     ≡ sign_text sign ++ rest → Spells text items → ReadsItem sign items rest
 item_read text sign rest items i e h = go items h.spells
   where
     f : FirstSign h.signs sign rest
     f = first_sign h.signs sign rest i h.are_signs (sym h.written ∙ e)
 
-    cut : (item : PatternItem) (tail : List PatternItem) (front after : List Sign) → sign ∷ f.more ≡ front ++ after
+    cut : (item : PatternItem) (tail : List PatternItem) (front after : List PatternSign) → sign ∷ f.more ≡ front ++ after
         → SpellsItem front item → SpellsItems after tail → ReadsItem sign (item ∷ tail) rest
     cut item tail [] after k m s = absurd (no_item item m)
     cut item tail (first ∷ inner) after k m s =
@@ -404,19 +404,19 @@ item_read text sign rest items i e h = go items h.spells
     go (item ∷ tail) (front, after, k, m, s) = cut item tail front after (sym f.signs_are ∙ k) m s
 
 -- an item of one sign leaves the rest to the others
-lone_tail : (sign : Sign) (items : List PatternItem) (rest : List ℕ) (h : ReadsItem sign items rest) → h.inner ≡ []
+lone_tail : (sign : PatternSign) (items : List PatternItem) (rest : List ℕ) (h : ReadsItem sign items rest) → h.inner ≡ []
     → Spells rest h.tail
 lone_tail sign items rest h e =
     record {
       signs = h.after;
       written =
-          h.rest_is ∙ ap (λ (s : List Sign). text_of_signs s ++ text_of_signs h.after) e;
+          h.rest_is ∙ ap (λ (s : List PatternSign). text_of_signs s ++ text_of_signs h.after) e;
       are_signs = h.are_after;
       spells =
           h.spells_tail;
     }
 
-star_item : (inner : List Sign) (item : PatternItem) → SpellsItem (star ∷ inner) item → (inner ≡ []) × (item ≡ Star)
+star_item : (inner : List PatternSign) (item : PatternItem) → SpellsItem (star ∷ inner) item → (inner ≡ []) × (item ≡ Star)
 star_item inner Star e = (cc, refl)
 star_item inner AnyByte e = let same : star ≡ question = cc in absurd (plain_apart 42 63 (λ k. omega arith) same)
 star_item inner (Literal byte) (inl e) = let same : Plain 42 ≡ Escaped byte = cc in cc
@@ -425,7 +425,7 @@ star_item inner (Literal byte) (inr h) = let e = h.0 in let same : Plain 42 ≡ 
 star_item inner (OneOf negated elements) h = let e = h.1 in let same : star ≡ opening_bracket =
     cc in absurd (plain_apart 42 91 (λ k. omega arith) same)
 
-question_item : (inner : List Sign) (item : PatternItem) → SpellsItem (question ∷ inner) item → (inner ≡ [])
+question_item : (inner : List PatternSign) (item : PatternItem) → SpellsItem (question ∷ inner) item → (inner ≡ [])
     × (item ≡ AnyByte)
 question_item inner Star e = let same : question ≡ star = cc in absurd (plain_apart 63 42 (λ k. omega arith) same)
 question_item inner AnyByte e = (cc, refl)
@@ -435,7 +435,7 @@ question_item inner (Literal byte) (inr h) = let e = h.0 in let same : Plain 63 
 question_item inner (OneOf negated elements) h = let e = h.1 in let same : question ≡ opening_bracket =
     cc in absurd (plain_apart 63 91 (λ k. omega arith) same)
 
-literal_item : (sign : Sign) (inner : List Sign) (item : PatternItem) → sign ≢ star → sign ≢ question → sign ≢ opening_bracket
+literal_item : (sign : PatternSign) (inner : List PatternSign) (item : PatternItem) → sign ≢ star → sign ≢ question → sign ≢ opening_bracket
     → SpellsItem (sign ∷ inner) item → (inner ≡ []) × (item ≡ Literal (byte_of sign))
 literal_item sign inner Star n m o e = absurd (n (cc e))
 literal_item sign inner AnyByte n m o e = absurd (m (cc e))
@@ -478,7 +478,7 @@ set_read text rest items e h = go r.item r.items_are r.spells
           items_are = k;
           begins = record {
             inner = inner;
-            written = r.rest_is ∙ ap (λ (s : List Sign). text_of_signs s ++ text_of_signs r.after) inners
+            written = r.rest_is ∙ ap (λ (s : List PatternSign). text_of_signs s ++ text_of_signs r.after) inners
                 ∙ rw (text_of_signs-append inner (closing_bracket ∷ []), append_assoc) refl;
             are_signs = AreSigns-front inner (closing_bracket ∷ []) are;
             spells = s;
@@ -487,9 +487,9 @@ set_read text rest items e h = go r.item r.items_are r.spells
         }
 
 -- what a sign says of the item in front
-pub plain_read : (token : Token) (item : PatternItem) (text : List ℕ) (sign : Sign) (rest : List ℕ)
+pub plain_read : (token : PatternToken) (item : PatternItem) (text : List ℕ) (sign : PatternSign) (rest : List ℕ)
     (items : List PatternItem) → IsSign sign → text ≡ sign_text sign ++ rest
-    → ((inner : List Sign) (own : PatternItem) → SpellsItem (sign ∷ inner) own → (inner ≡ []) × (own ≡ item))
+    → ((inner : List PatternSign) (own : PatternItem) → SpellsItem (sign ∷ inner) own → (inner ≡ []) × (own ≡ item))
     → IsToken token item → Spells text items → ReadsToken token items rest
 plain_read token item text sign rest items i e only t h =
     let r = item_read text sign rest items i e h in
@@ -513,14 +513,14 @@ pub question_read : (text rest : List ℕ) (items : List PatternItem) → text �
 question_read text rest items e h =
     plain_read token.AnyByte AnyByte text question rest items (λ k. omega arith) e question_item refl h
 
-pub literal_read : (text : List ℕ) (sign : Sign) (rest : List ℕ) (items : List PatternItem) → IsSign sign → text
+pub literal_read : (text : List ℕ) (sign : PatternSign) (rest : List ℕ) (items : List PatternItem) → IsSign sign → text
     ≡ sign_text sign ++ rest → sign ≢ star → sign ≢ question → sign ≢ opening_bracket
     → Spells text items → ReadsToken (token.Literal (byte_of sign)) items rest
 literal_read text sign rest items i e n m o h =
     plain_read (token.Literal (byte_of sign)) (Literal (byte_of sign)) text sign rest items i e
     (λ inner own. literal_item sign inner own n m o) refl h
 
-pub set_token : (token : Token) (rest : List ℕ) (items : List PatternItem) (behind : List ℕ) (r : ReadsSet items rest)
+pub set_token : (token : PatternToken) (rest : List ℕ) (items : List PatternItem) (behind : List ℕ) (r : ReadsSet items rest)
     → IsToken token (OneOf r.negated r.elements) → behind ≡ r.behind → ReadsToken token items behind
 set_token token rest items behind r t e =
     record {
@@ -533,13 +533,13 @@ set_token token rest items behind r t e =
     }
 
 -- a token that is no star is an item that is none
-pub token_no_star : (one : Token) (item : PatternItem) → IsToken one item → one ≢ token.Star → item ≢ Star
+pub token_no_star : (one : PatternToken) (item : PatternItem) → IsToken one item → one ≢ token.Star → item ≢ Star
 token_no_star token.Star item t n e = n refl
 token_no_star token.AnyByte item t n e = cc
 token_no_star (token.Literal byte) item t n e = cc
 token_no_star (token.OneOf negated text) item t n e = let same = t.1 in cc
 
-no_text : (signs : List Sign) → [] ≡ text_of_signs signs → signs ≡ []
+no_text : (signs : List PatternSign) → [] ≡ text_of_signs signs → signs ≡ []
 no_text [] e = refl
 no_text (sign ∷ signs) e = absurd (some_text sign (text_of_signs signs) e)
 
@@ -550,7 +550,7 @@ spells_none items h = go items (rw (no_text h.signs h.written) at h.spells)
     go [] e = refl
     go (item ∷ tail) (front, rest, e, m, k) = absurd (at_front front e m)
       where
-        at_front : (front : List Sign) → [] ≡ front ++ rest → SpellsItem front item → ⊥
+        at_front : (front : List PatternSign) → [] ≡ front ++ rest → SpellsItem front item → ⊥
         at_front [] e m = no_item item m
         at_front (sign ∷ front) e m = cc
 

@@ -1,8 +1,8 @@
 -- The items that a text spells, as a function: what a contract sees of a `Pattern`. The law `one_answer` and the
 -- contract of `Pattern::parse` say that they are what `Spells` names.
 use Rattle.std.specs.Prelude.{ℕ, Bool, true, false, ◌==◌, if◌then◌else◌, List, [], ◌∷◌, ◌++◌, Option, Some, None, Result, Ok, Err}
-use Rattle.dt_glob.specs.declared.sign.Sign.{Sign}
-use Rattle.dt_glob.specs.declared.sign.Sign.TheVariants.{Plain, Escaped}
+use Rattle.dt_glob.specs.declared.sign.PatternSign.{PatternSign}
+use Rattle.dt_glob.specs.declared.sign.PatternSign.TheVariants.{Plain, Escaped}
 use Rattle.dt_glob.specs.declared.element.Element.{Element}
 use Rattle.dt_glob.specs.declared.element.Element.TheVariants.{Single, Range}
 use Rattle.dt_glob.specs.declared.fault.GlobFault.{GlobFault}
@@ -10,16 +10,16 @@ use Rattle.dt_glob.specs.declared.fault.GlobFault.TheVariants.{Unclosed, EmptySe
 use Rattle.dt_glob.specs.Sign.{byte_of}
 use Rattle.dt_glob.specs.PatternItem.{PatternItem, Star, AnyByte, Literal, OneOf}
 
-abbrev pub is_plain : ℕ → Sign → Bool
+abbrev pub is_plain : ℕ → PatternSign → Bool
 is_plain own (Plain byte) = byte == own
 is_plain own (Escaped byte) = false
 
 -- the signs of a text, and whether a lone `\` stands after them
 pub record Signs : Type 0 where
-  pub signs : List Sign
+  pub signs : List PatternSign
   pub lone : Bool
 
-abbrev pub behind : Sign → Signs → Signs
+abbrev pub behind : PatternSign → Signs → Signs
 behind sign read = record read { signs = sign ∷ read.signs }
 
 unfoldable pub signs_of : List ℕ → Signs
@@ -29,7 +29,7 @@ signs_of (byte ∷ []) =
 signs_of (byte ∷ next ∷ text) =
     if byte == 92 then behind (Escaped next) (signs_of text) else behind (Plain byte) (signs_of (next ∷ text))
 
-unfoldable pub elements_of : List Sign → List Element
+unfoldable pub elements_of : List PatternSign → List Element
 elements_of [] = []
 elements_of (sign ∷ []) = Single (byte_of sign) ∷ []
 elements_of (sign ∷ next ∷ []) = Single (byte_of sign) ∷ Single (byte_of next) ∷ []
@@ -39,7 +39,7 @@ elements_of (sign ∷ next ∷ last ∷ signs) =
     else Single (byte_of sign) ∷ elements_of (next ∷ last ∷ signs))
 
 -- an item that is no set
-abbrev pub item_of_sign : Sign → PatternItem
+abbrev pub item_of_sign : PatternSign → PatternItem
 item_of_sign (Plain byte) = if byte == 42 then Star else (if byte == 63 then AnyByte else Literal byte)
 item_of_sign (Escaped byte) = Literal byte
 
@@ -48,7 +48,7 @@ also item (Ok items) = Ok (item ∷ items)
 also item (Err fault) = Err fault
 
 -- a set of this inside, and then the rest
-abbrev pub set_and : List Sign → Result (List PatternItem) GlobFault → Result (List PatternItem) GlobFault
+abbrev pub set_and : List PatternSign → Result (List PatternItem) GlobFault → Result (List PatternItem) GlobFault
 set_and [] rest = Err EmptySet
 set_and (sign ∷ []) rest = if is_plain 33 sign then Err EmptySet else also (OneOf false (elements_of (sign ∷ []))) rest
 set_and (sign ∷ next ∷ signs) rest =
@@ -56,7 +56,7 @@ set_and (sign ∷ next ∷ signs) rest =
     else also (OneOf false (elements_of (sign ∷ next ∷ signs))) rest
 
 -- `inside` is what has come of an open set
-unfoldable pub items_from : Bool → Option (List Sign) → List Sign → Result (List PatternItem) GlobFault
+unfoldable pub items_from : Bool → Option (List PatternSign) → List PatternSign → Result (List PatternItem) GlobFault
 items_from lone None [] = if lone then Err LoneEscape else Ok []
 items_from lone (Some inside) [] = if lone then Err LoneEscape else Err Unclosed
 items_from lone None (sign ∷ signs) =

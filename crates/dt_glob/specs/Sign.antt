@@ -1,10 +1,10 @@
 -- The bytes of a pattern's text: a byte after a `\` is escaped, and any other byte is plain.
 use Rattle.std.specs.Prelude.{◌≢◌, ℕ, List, [], ◌∷◌, ◌++◌}
-use Rattle.dt_glob.specs.declared.sign.Sign.{Sign}
-use Rattle.dt_glob.specs.declared.sign.Sign.TheVariants.{Plain, Escaped}
+use Rattle.dt_glob.specs.declared.sign.PatternSign.{PatternSign}
+use Rattle.dt_glob.specs.declared.sign.PatternSign.TheVariants.{Plain, Escaped}
 
 -- the byte that a sign stands for
-abbrev pub byte_of : Sign → ℕ
+abbrev pub byte_of : PatternSign → ℕ
 byte_of (Plain byte) = byte
 byte_of (Escaped byte) = byte
 
@@ -13,39 +13,39 @@ abbrev pub escape : ℕ
 escape = 92
 
 -- how a sign is written
-abbrev pub sign_text : Sign → List ℕ
+abbrev pub sign_text : PatternSign → List ℕ
 sign_text (Plain byte) = byte ∷ []
 sign_text (Escaped byte) = escape ∷ byte ∷ []
 
 -- how signs are written, one after another
-abbrev pub text_of_signs : List Sign → List ℕ
+abbrev pub text_of_signs : List PatternSign → List ℕ
 text_of_signs [] = []
 text_of_signs (sign ∷ signs) = sign_text sign ++ text_of_signs signs
 
 -- no `\` is plain
-abbrev pub IsSign : Sign → Type 0
+abbrev pub IsSign : PatternSign → Type 0
 IsSign (Plain byte) = byte ≢ escape
 IsSign (Escaped byte) = Unit {0}
 
-abbrev pub AreSigns : List Sign → Type 0
+abbrev pub AreSigns : List PatternSign → Type 0
 AreSigns [] = Unit {0}
 AreSigns (sign ∷ signs) = IsSign sign × AreSigns signs
 
 -- the signs that have a meaning: a star, a question mark, brackets, an exclamation mark and a dash
-abbrev pub star : Sign
+abbrev pub star : PatternSign
 star = Plain 42
 
-abbrev pub question : Sign
+abbrev pub question : PatternSign
 question = Plain 63
 
-abbrev pub opening_bracket : Sign
+abbrev pub opening_bracket : PatternSign
 opening_bracket = Plain 91
 
-abbrev pub closing_bracket : Sign
+abbrev pub closing_bracket : PatternSign
 closing_bracket = Plain 93
 
-abbrev pub bang : Sign
+abbrev pub bang : PatternSign
 bang = Plain 33
 
-abbrev pub dash : Sign
+abbrev pub dash : PatternSign
 dash = Plain 45

@@ -5,7 +5,7 @@ ghost use Rattle.dt_glob.specs.declared.element.Element.{Element};
 ghost use Rattle.dt_glob.specs.PatternItem.{Holds, HoldsAny};
 ghost use Rattle.dt_glob.specs.Token.{ShowsElements, ReadsElement};
 
-use crate::sign::{Sign, strip_byte};
+use crate::sign::{PatternSign, strip_byte};
 
 /// An element of a set.
 #[derive(Clone, Copy)]
@@ -25,7 +25,7 @@ impl Element {
         ensures shorter { IfSome result (λ found. length found.1.now < length text.now) }
         ensures none { IfNone result (text.now ≡ []) }
     {
-        let (first, rest) = Sign::split_first(text)?;
+        let (first, rest) = PatternSign::split_first(text)?;
         let single = Element::Single(first.byte());
         // where an element begins, a plain `-` is the byte itself and begins no range
         if first.is_plain(b'-') {
@@ -35,7 +35,7 @@ impl Element {
         let Some(behind) = strip_byte(rest, b'-') else {
             return Some((single, rest));
         };
-        match Sign::split_first(behind) {
+        match PatternSign::split_first(behind) {
             Some((last, rest)) => {
                 let range = Element::Range {
                     first: first.byte(),

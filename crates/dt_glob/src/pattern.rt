@@ -9,9 +9,9 @@ ghost use Rattle.dt_glob.specs.Spells.{Spells};
 ghost use Rattle.dt_glob.specs.Fault.{FaultOf};
 
 use crate::fault::GlobFault;
-use crate::place::Place;
+use crate::place::PatternPlace;
 use crate::run::Run;
-use crate::sign::Sign;
+use crate::sign::PatternSign;
 use arrayvec::ArrayVec;
 use std::marker::Model;
 
@@ -89,9 +89,9 @@ fn check(text: &[u8]) -> Result<(), GlobFault>
     ensures found { OnOk result ((items : List PatternItem) × Spells text.now items) }
     ensures fault { IfErr result (FaultOf text.now) }
 {
-    let mut place = Place::Outside;
+    let mut place = PatternPlace::Outside;
     let mut rest = text;
-    while let Some((sign, behind)) = Sign::split_first(rest) {
+    while let Some((sign, behind)) = PatternSign::split_first(rest) {
         place = place.step(sign)?;
         rest = behind;
     }
@@ -100,7 +100,7 @@ fn check(text: &[u8]) -> Result<(), GlobFault>
         return Err(GlobFault::LoneEscape);
     }
     match place {
-        Place::Outside => Ok(()),
+        PatternPlace::Outside => Ok(()),
         _ => Err(GlobFault::Unclosed),
     }
 }

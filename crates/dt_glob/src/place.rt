@@ -4,11 +4,11 @@ ghost use Rattle.std.specs.Prelude.{◌≡◌};
 ghost use Rattle.dt_glob.specs.Place.{step_of};
 
 use crate::fault::GlobFault;
-use crate::sign::Sign;
+use crate::sign::PatternSign;
 
 /// Where the signs read so far lead.
 #[derive(Clone, Copy)]
-pub(crate) enum Place {
+pub(crate) enum PatternPlace {
     /// After whole items.
     Outside,
     /// After the `[` of a set.
@@ -19,28 +19,28 @@ pub(crate) enum Place {
     Inside,
 }
 
-impl Place {
+impl PatternPlace {
     /// Where one more sign leads, or that it ends a set with no element.
-    pub(crate) fn step(self, sign: Sign) -> Result<Place, GlobFault>
+    pub(crate) fn step(self, sign: PatternSign) -> Result<PatternPlace, GlobFault>
         ensures { result ≡ step_of self sign }
     {
         match self {
-            Place::Outside => match sign {
-                Sign::Plain(b'[') => Ok(Place::Opened),
-                _ => Ok(Place::Outside),
+            PatternPlace::Outside => match sign {
+                PatternSign::Plain(b'[') => Ok(PatternPlace::Opened),
+                _ => Ok(PatternPlace::Outside),
             },
-            Place::Opened => match sign {
-                Sign::Plain(b']') => Err(GlobFault::EmptySet),
-                Sign::Plain(b'!') => Ok(Place::Negated),
-                _ => Ok(Place::Inside),
+            PatternPlace::Opened => match sign {
+                PatternSign::Plain(b']') => Err(GlobFault::EmptySet),
+                PatternSign::Plain(b'!') => Ok(PatternPlace::Negated),
+                _ => Ok(PatternPlace::Inside),
             },
-            Place::Negated => match sign {
-                Sign::Plain(b']') => Err(GlobFault::EmptySet),
-                _ => Ok(Place::Inside),
+            PatternPlace::Negated => match sign {
+                PatternSign::Plain(b']') => Err(GlobFault::EmptySet),
+                _ => Ok(PatternPlace::Inside),
             },
-            Place::Inside => match sign {
-                Sign::Plain(b']') => Ok(Place::Outside),
-                _ => Ok(Place::Inside),
+            PatternPlace::Inside => match sign {
+                PatternSign::Plain(b']') => Ok(PatternPlace::Outside),
+                _ => Ok(PatternPlace::Inside),
             },
         }
     }

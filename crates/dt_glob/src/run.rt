@@ -5,7 +5,7 @@ ghost use Rattle.dt_glob.specs.PatternItem.{PatternItem};
 ghost use Rattle.dt_glob.specs.Spells.{Spells};
 ghost use Rattle.dt_glob.specs.Run.{IsRun, LeavesLess};
 
-use crate::token::Token;
+use crate::token::PatternToken;
 
 /// How a pattern's items before its first star go with the front of a text.
 #[derive(Clone, Copy)]
@@ -27,9 +27,9 @@ impl<'a> Run<'a> {
     {
         let mut unread = pattern;
         let mut left = text;
-        while let Some((token, behind)) = Token::split_first(unread) {
+        while let Some((token, behind)) = PatternToken::split_first(unread) {
             // how much the star takes is for the caller to try
-            if let Token::Star = token {
+            if let PatternToken::Star = token {
                 return Run::Star { behind, rest: left };
             }
             // every item but a star takes a byte, and none is left

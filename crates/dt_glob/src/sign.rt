@@ -5,33 +5,33 @@ ghost use Rattle.dt_glob.specs.Sign.{escape, byte_of, sign_text, IsSign};
 
 /// A byte of a pattern, as its text shows it.
 #[derive(Clone, Copy)]
-pub(crate) enum Sign {
+pub(crate) enum PatternSign {
     /// A byte with no `\` in front of it.
     Plain(u8),
     /// A byte after a `\`, which stands for itself everywhere.
     Escaped(u8),
 }
 
-impl Sign {
+impl PatternSign {
     /// The sign at the front of a text, and what stands after it. A text that is empty or a lone `\` has none.
-    pub(crate) fn split_first(text: &[u8]) -> Option<(Sign, &[u8])>
+    pub(crate) fn split_first(text: &[u8]) -> Option<(PatternSign, &[u8])>
         ensures some { IfSome result (λ found. IsSign found.0 × (text.now ≡ sign_text found.0 ++ found.1.now)) }
         ensures none { IfNone result ((text.now ≡ []) ⊎ (text.now ≡ escape ∷ [])) }
     {
         match text {
             [] | [b'\\'] => None,
-            [b'\\', byte, rest @ ..] => Some((Sign::Escaped(*byte), rest)),
-            [byte, rest @ ..] => Some((Sign::Plain(*byte), rest)),
+            [b'\\', byte, rest @ ..] => Some((PatternSign::Escaped(*byte), rest)),
+            [byte, rest @ ..] => Some((PatternSign::Plain(*byte), rest)),
         }
     }
 
     /// Whether this is the byte with no `\` in front of it.
     pub(crate) fn is_plain(self, byte: u8) -> bool
-        ensures { IsTrue result ↔ (self ≡ Sign.Plain byte) }
+        ensures { IsTrue result ↔ (self ≡ PatternSign.Plain byte) }
     {
         match self {
-            Sign::Plain(own) => own == byte,
-            Sign::Escaped(_) => false,
+            PatternSign::Plain(own) => own == byte,
+            PatternSign::Escaped(_) => false,
         }
     }
 
@@ -40,7 +40,7 @@ impl Sign {
         ensures { result ≡ byte_of self }
     {
         match self {
-            Sign::Plain(byte) | Sign::Escaped(byte) => byte,
+            PatternSign::Plain(byte) | PatternSign::Escaped(byte) => byte,
         }
     }
 }

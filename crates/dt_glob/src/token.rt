@@ -7,11 +7,11 @@ ghost use Rattle.dt_glob.specs.Spells.{Spells};
 ghost use Rattle.dt_glob.specs.Token.{IsToken, ReadsToken, BeginsSet, ClosesAt};
 
 use crate::element::some_element_holds;
-use crate::sign::{Sign, strip_byte};
+use crate::sign::{PatternSign, strip_byte};
 
 /// An item of a pattern, with the elements of a set left in the text.
 #[derive(Clone, Copy)]
-pub(crate) enum Token<'a> {
+pub(crate) enum PatternToken<'a> {
     /// `*`: any text.
     Star,
     /// `?`: any one byte.
@@ -22,21 +22,21 @@ pub(crate) enum Token<'a> {
     OneOf { negated: bool, elements: &'a [u8] },
 }
 
-impl<'a> Token<'a> {
+impl<'a> PatternToken<'a> {
     /// The item at the front of a pattern's text, and what stands after it.
-    pub(crate) fn split_first(text: &'a [u8]) -> Option<(Token<'a>, &'a [u8])>
+    pub(crate) fn split_first(text: &'a [u8]) -> Option<(PatternToken<'a>, &'a [u8])>
         requires { (items : List PatternItem) × Spells text.now items }
         ensures some { IfSome result (λ found. (items : List PatternItem) → Spells text.now items →
             ReadsToken found.0 items found.1.now) }
         ensures shorter { IfSome result (λ found. length found.1.now < length text.now) }
         ensures none { IfNone result (text.now ≡ []) }
     {
-        let (sign, rest) = Sign::split_first(text)?;
+        let (sign, rest) = PatternSign::split_first(text)?;
         match sign {
-            Sign::Plain(b'*') => Some((Token::Star, rest)),
-            Sign::Plain(b'?') => Some((Token::AnyByte, rest)),
-            Sign::Plain(b'[') => Some(Token::split_set(rest)),
-            _ => Some((Token::Literal(sign.byte()), rest)),
+            PatternSign::Plain(b'*') => Some((PatternToken::Star, rest)),
+            PatternSign::Plain(b'?') => Some((PatternToken::AnyByte, rest)),
+            PatternSign::Plain(b'[') => Some(PatternToken::split_set(rest)),
+            _ => Some((PatternToken::Literal(sign.byte()), rest)),
         }
     }
 
@@ -46,15 +46,16 @@ impl<'a> Token<'a> {
         ensures { (item : PatternItem) → IsToken self.now item → (IsTrue result ↔ Takes item byte) }
     {
         match *self {
-            Token::Star => false,
-            Token::AnyByte => true,
-            Token::Literal(own) => byte == own,
-            Token::OneOf { negated, elements } => some_element_holds(elements, byte) != negated,
+            PatternToken::Star => false,
+            PatternToken::AnyByte => true,
+            PatternToken::Literal(own) => byte == own,
+            PatternToken::OneOf { negated, elements } => some_element_holds(elements, byte)
+                != negated,
         }
     }
 
     /// The set whose `[` stands in front of a text, and what stands after its `]`.
-    fn split_set(text: &'a [u8]) -> (Token<'a>, &'a [u8])
+    fn split_set(text: &'a [u8]) -> (PatternToken<'a>, &'a [u8])
         requires { (negated : Bool) × (elements : List Element) × (behind : List ℕ) ×
             BeginsSet text.now negated elements behind }
         ensures set { (negated : Bool) (elements : List Element) (behind : List ℕ) →
@@ -65,14 +66,14 @@ impl<'a> Token<'a> {
         let (inside, rest) = split_at_closing(text);
         match strip_byte(inside, b'!') {
             Some(elements) => (
-                Token::OneOf {
+                PatternToken::OneOf {
                     negated: true,
                     elements,
                 },
                 rest,
             ),
             None => (
-                Token::OneOf {
+                PatternToken::OneOf {
                     negated: false,
                     elements: inside,
                 },
@@ -90,7 +91,7 @@ fn split_at_closing(text: &[u8]) -> (&[u8], &[u8])
 {
     let mut inside = 0;
     let mut rest = text;
-    while let Some((sign, behind)) = Sign::split_first(rest) {
+    while let Some((sign, behind)) = PatternSign::split_first(rest) {
         // the first plain `]` ends the set: an escaped one is a byte of it
         if sign.is_plain(b']') {
             return (&text[..inside], behind);

@@ -3,12 +3,12 @@ use Rattle.std.proofs.Common.{◌≡◌, ℕ, Bool, true, false, cond, eqb, ◌<
 use Rattle.std.specs.Prelude.{ok_or}
 use Rattle.std.specs.Option.{option_map}
 use Rattle.dt_lang.specs.declared.fault.LangFault.TheVariants as lang
-use Rattle.dt_lang.specs.declared.fault.Refusal.{Refusal}
-use Rattle.dt_lang.specs.declared.fault.Refusal.TheVariants as refusal
+use Rattle.dt_lang.specs.declared.fault.TokenRefusal.{TokenRefusal}
+use Rattle.dt_lang.specs.declared.fault.TokenRefusal.TheVariants as refusal
 use Rattle.dt_lang.specs.declared.fault.Flaw.TheVariants.{Syntax, TooLong}
 use Rattle.dt_lang.specs.declared.fault.Limit.{Limit}
 use Rattle.dt_lang.specs.declared.lexer.Lexeme.TheVariants as lexeme
-use Rattle.dt_lang.specs.declared.mode.Mode.{Mode}
+use Rattle.dt_lang.specs.declared.mode.LexerMode.{LexerMode}
 use Rattle.dt_program.specs.declared.program.Program.{Program}
 use Rattle.dt_lang.specs.declared.token.Token.{Token}
 use Rattle.dt_lang.specs.machine.ClauseState.{ProgramState, program_start, finished}
@@ -20,12 +20,12 @@ use Rattle.dt_program.specs.Program.{form_of_program}
 use Rattle.dt_lang.specs.machine.ReaderView.{Answered}
 use Rattle.dt_lang.specs.laws.TextLaws.{Going, going_on, going_first, refused_at, overlong_at, stray_at, ended_whole}
 use Rattle.dt_lang.specs.laws.TextLaws.{ended_early}
-use Rattle.dt_lang.specs.declared.mode.Mode.TheVariants.{Head, Predicate, Tail, Body}
+use Rattle.dt_lang.specs.declared.mode.LexerMode.TheVariants.{Head, Predicate, Tail, Body}
 use Rattle.dt_lang.specs.declared.token.Sign.TheVariants as sign
 use Rattle.dt_lang.specs.declared.token.Token.TheVariants as token
 
 -- What was read up to this byte.
-pub record SoFar (text : List ℕ) (mode : Mode) (from : ℕ) (s : ProgramState) : Type 0 where
+pub record SoFar (text : List ℕ) (mode : LexerMode) (from : ℕ) (s : ProgramState) : Type 0 where
   pub tokens : List Token
   pub going : Going text mode tokens from s
   pub fits : Fits s
@@ -40,7 +40,7 @@ after_slash true depth to h = omega arith
 after_slash false depth to h = h
 
 -- a token opens one parenthesis at most
-deeper : (mode : Mode) (t : Token) (from to : ℕ) → depth_of mode ≤ from → from < to → depth_of (mode_after mode t) ≤ to
+deeper : (mode : LexerMode) (t : Token) (from to : ℕ) → depth_of mode ≤ from → from < to → depth_of (mode_after mode t) ≤ to
 deeper Head (token.Sign sign.Slash) from to h less = omega arith
 deeper Head (token.Sign sign.OpenBrace) from to h less = omega arith
 deeper Head _ from to h less = omega arith
@@ -53,7 +53,7 @@ deeper Tail _ from to h less = omega arith
 deeper Body (token.Sign sign.CloseBrace) from to h less = omega arith
 deeper Body _ from to h less = omega arith
 
-module _ (text : List ℕ) (mode : Mode) (from : ℕ) (s : ProgramState) (h : SoFar text mode from s) where
+module _ (text : List ℕ) (mode : LexerMode) (from : ℕ) (s : ProgramState) (h : SoFar text mode from s) where
   pub so_far_on : (t : Token) (at to : ℕ) (new : ProgramState) → Lexes text mode from (lexeme.Token at t to)
       → LiesWithin from (lexeme.Token at t to) (length text) → AnswersToken s t None new
       → SoFar text (mode_after mode t) to new
@@ -65,7 +65,7 @@ module _ (text : List ℕ) (mode : Mode) (from : ℕ) (s : ProgramState) (h : So
     deep = deeper mode t from to h.deep (omega arith);
   }
 
-  pub so_far_refused : (t : Token) (at to : ℕ) (r : Refusal) (new : ProgramState)
+  pub so_far_refused : (t : Token) (at to : ℕ) (r : TokenRefusal) (new : ProgramState)
       → Lexes text mode from (lexeme.Token at t to) → AnswersToken s t (Some r) new
       → Answered text (Err (fault_at at to r))
   so_far_refused t at to (refusal.Flaw flaw) new l a = refused_at text mode h.tokens from s h.going t at to _ l a
@@ -94,6 +94,6 @@ module _ (text : List ℕ) (mode : Mode) (from : ℕ) (s : ProgramState) (h : So
   so_far_end at None l e = so_far_early at l e
 
 -- what was answered of a token
-pub answers_is : (s new : ProgramState) (t : Token) (v w : Option Refusal) → v ≡ w → AnswersToken s t v new
+pub answers_is : (s new : ProgramState) (t : Token) (v w : Option TokenRefusal) → v ≡ w → AnswersToken s t v new
     → AnswersToken s t w new
-answers_is s new t v w e a = subst (λ (x : Option Refusal). AnswersToken s t x new) e a
+answers_is s new t v w e a = subst (λ (x : Option TokenRefusal). AnswersToken s t x new) e a

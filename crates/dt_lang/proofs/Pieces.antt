@@ -10,8 +10,8 @@ use Rattle.dt_lang.specs.Lexeme.{IsDescriptionToken}
 use Rattle.dt_lang.specs.Class.{is_description_byte}
 use Rattle.dt_lang.specs.machine.Piece.{FindsRun, FindsInHead, FindsInBody, FindsInMode, FindsUncommented, opens_comment}
 use Rattle.dt_lang.specs.machine.Piece.{FindsPiece}
-use Rattle.dt_lang.specs.declared.mode.Mode.{Mode}
-use Rattle.dt_lang.specs.declared.mode.Mode.TheVariants as mode
+use Rattle.dt_lang.specs.declared.mode.LexerMode.{LexerMode}
+use Rattle.dt_lang.specs.declared.mode.LexerMode.TheVariants as mode
 use Rattle.dt_lang.specs.declared.piece.Piece.{Piece}
 use Rattle.dt_lang.specs.declared.piece.Piece.TheVariants as piece
 use Rattle.dt_lang.specs.declared.token.Token.TheVariants as token
@@ -35,23 +35,23 @@ described text run d is some found fault =
     (stands_run run text d some (reads run d found fault))
 
 -- what stands where there is more, and no comment begins
-pub finds : (m : Mode) (text : List ℕ) (found : Piece) → eqb (length text) 0 ≡ false → opens_comment text ≡ false
+pub finds : (m : LexerMode) (text : List ℕ) (found : Piece) → eqb (length text) 0 ≡ false → opens_comment text ≡ false
     → FindsInMode m text found → FindsPiece m text found
 finds m [] found some shut h = absurd (false≢true (sym some))
 finds m (byte ∷ rest) found some shut h = subst (λ o. FindsUncommented o m (byte ∷ rest) found) (sym shut) h
 
-pub commented : (m : Mode) (text : List ℕ) → eqb (length text) 0 ≡ false → opens_comment text ≡ true
+pub commented : (m : LexerMode) (text : List ℕ) → eqb (length text) 0 ≡ false → opens_comment text ≡ true
     → FindsPiece m text piece.Stray
 commented m [] some begun = absurd (false≢true (sym some))
 commented m (byte ∷ rest) some begun =
     subst (λ o. FindsUncommented o m (byte ∷ rest) piece.Stray) (sym begun) refl
 
-pub head_mode : (m : Mode) (text : List ℕ) (found : Piece) → (m ≡ mode.Head) ⊎ (m ≡ mode.Tail)
+pub head_mode : (m : LexerMode) (text : List ℕ) (found : Piece) → (m ≡ mode.Head) ⊎ (m ≡ mode.Tail)
     → FindsInHead text found → FindsInMode m text found
 head_mode m text found (inl e) h = subst (λ m. FindsInMode m text found) (sym e) h
 head_mode m text found (inr e) h = subst (λ m. FindsInMode m text found) (sym e) h
 
-pub body_mode : (m : Mode) (text : List ℕ) (found : Piece)
+pub body_mode : (m : LexerMode) (text : List ℕ) (found : Piece)
     → ((depth : ℕ) × (m ≡ mode.Predicate depth)) ⊎ (m ≡ mode.Body)
     → FindsInBody text found → FindsInMode m text found
 body_mode m text found (inl (depth, e)) h = subst (λ m. FindsInMode m text found) (sym e) h

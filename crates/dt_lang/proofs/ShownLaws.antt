@@ -2,8 +2,8 @@
 use Rattle.std.proofs.Common.{◌≡◌, ℕ, Bool, true, false, ◌&&◌, List, [], ◌∷◌, ◌++◌, Option, Some, None, Ok, Err, refl}
 use Rattle.std.proofs.Common.{sym, ap, ◌∙◌, subst}
 use Rattle.std.specs.Option.{option_map}
-use Rattle.dt_lang.specs.declared.fault.Refusal.{Refusal}
-use Rattle.dt_lang.specs.declared.fault.Refusal.TheVariants as refusal
+use Rattle.dt_lang.specs.declared.fault.TokenRefusal.{TokenRefusal}
+use Rattle.dt_lang.specs.declared.fault.TokenRefusal.TheVariants as refusal
 use Rattle.dt_program.specs.declared.clause.BoundsFault.{BoundsFault}
 use Rattle.dt_lang.specs.declared.fault.Flaw.{Flaw}
 use Rattle.dt_lang.specs.declared.fault.Flaw.TheVariants as flaw
@@ -110,7 +110,7 @@ module _ (s : ProgramState) (t : Token) (short : too_long_at s.clauses s.clause 
       (sym (shown_is s.clauses s.clause s.place t) ∙ e))
 
   -- a token that shows a cause is refused for it
-  pub answers_shown : (r : Refusal) (new : ProgramState) → shown_at s.place t ≡ Some (cause_of_refusal r)
+  pub answers_shown : (r : TokenRefusal) (new : ProgramState) → shown_at s.place t ≡ Some (cause_of_refusal r)
       → AnswersToken s t (Some r) new
   answers_shown r new e = cause_shown (cause_of_refusal r) e
 
@@ -141,7 +141,7 @@ answers_too_long s t limit new e = rw e refl
 -- a token that isn't, where nothing was changed by the test
 module _ (s middle : ProgramState) (t : Token) (short : too_long_at s.clauses s.clause s.place t ≡ None)
     (same : middle ≡ s) where
-  pub push_shown : (r : Refusal) (new : ProgramState) → Some (cause_of_refusal r) ≡ shown_at middle.place t
+  pub push_shown : (r : TokenRefusal) (new : ProgramState) → Some (cause_of_refusal r) ≡ shown_at middle.place t
       → AnswersToken s t (Some r) new
   push_shown r new h =
       let i : shown_at middle.place t ≡ shown_at s.place t = ap (λ (x : ProgramState). shown_at x.place t) same in

@@ -12,8 +12,8 @@ use Rattle.dt_names.specs.Name.{IsNameByte}
 use Rattle.dt_names.specs.Limits.{short_text_max}
 use Rattle.dt_lang.specs.declared.lexer.Lexeme.{Lexeme}
 use Rattle.dt_lang.specs.declared.lexer.Lexeme.TheVariants as lexeme
-use Rattle.dt_lang.specs.declared.mode.Mode.{Mode}
-use Rattle.dt_lang.specs.declared.mode.Mode.TheVariants.{Head, Predicate, Tail, Body}
+use Rattle.dt_lang.specs.declared.mode.LexerMode.{LexerMode}
+use Rattle.dt_lang.specs.declared.mode.LexerMode.TheVariants.{Head, Predicate, Tail, Body}
 use Rattle.dt_lang.specs.declared.piece.Piece.{Piece}
 use Rattle.dt_lang.specs.declared.piece.Piece.TheVariants as piece
 use Rattle.dt_lang.specs.declared.token.Sign.{Sign}
@@ -105,14 +105,14 @@ IsHeadPiece bytes piece.Stray = bytes ≡ OPENING
 IsHeadPiece bytes _ = ⊥
 
 -- What the bytes are in this mode.
-abbrev pub IsPiece : Mode → List ℕ → Piece → Type 0
+abbrev pub IsPiece : LexerMode → List ℕ → Piece → Type 0
 IsPiece Head bytes found = IsHeadPiece bytes found
 IsPiece Tail bytes found = IsHeadPiece bytes found
 IsPiece (Predicate depth) bytes found = IsBodyPiece bytes found
 IsPiece Body bytes found = IsBodyPiece bytes found
 
 -- Of the fronts of the text that are a piece, the longest is this one.
-pub record IsLongest (mode : Mode) (text : List ℕ) (found : Piece) : Type 0 where
+pub record IsLongest (mode : LexerMode) (text : List ℕ) (found : Piece) : Type 0 where
   pub bytes : List ℕ
   pub rest : List ℕ
   pub cut : text ≡ bytes ++ rest
@@ -121,11 +121,11 @@ pub record IsLongest (mode : Mode) (text : List ℕ) (found : Piece) : Type 0 wh
       → length front ≤ length bytes
 
 -- no front of the text is a piece
-abbrev pub HasNoPiece : Mode → List ℕ → Type 0
+abbrev pub HasNoPiece : LexerMode → List ℕ → Type 0
 HasNoPiece mode text = (front behind : List ℕ) (other : Piece) → text ≡ front ++ behind → IsPiece mode front other → ⊥
 
 -- What stands at the front of a text where no blanks stand: its longest piece. Where there is none, no token stands.
-abbrev pub Stands : Mode → List ℕ → Piece → Type 0
+abbrev pub Stands : LexerMode → List ℕ → Piece → Type 0
 Stands mode [] found = found ≡ piece.End
 Stands mode (byte ∷ rest) found =
     IsLongest mode (byte ∷ rest) found ⊎ ((found ≡ piece.Stray) × HasNoPiece mode (byte ∷ rest))
@@ -138,7 +138,7 @@ placed at piece.Stray = lexeme.Stray at
 placed at piece.End = lexeme.End at
 
 -- What is read of the text from this byte on: what stands after the blanks. Its place is told by what is left there.
-pub record Lexes (text : List ℕ) (mode : Mode) (from : ℕ) (lexeme : Lexeme) : Type 0 where
+pub record Lexes (text : List ℕ) (mode : LexerMode) (from : ℕ) (lexeme : Lexeme) : Type 0 where
   pub rest : List ℕ
   pub skipped : SkipsBlanks (drop from text) rest
   pub found : Piece

@@ -149,21 +149,21 @@ pub enum LangFault {
 
 /// Why a token is refused.
 #[derive(Clone, Copy)]
-pub(crate) enum Refusal {
+pub(crate) enum TokenRefusal {
     /// For this.
     Flaw(Flaw),
     /// It is this destructive action's name.
     Destructive(Destructive),
 }
 
-impl Refusal {
+impl TokenRefusal {
     /// The fault of a token between these offsets.
     pub(crate) fn fault(self, at: usize, end: usize) -> LangFault
         ensures { result ≡ fault_at at end self }
     {
         match self {
-            Refusal::Flaw(flaw) => LangFault::Program { at, end, flaw },
-            Refusal::Destructive(what) => LangFault::Destructive { at, end, what },
+            TokenRefusal::Flaw(flaw) => LangFault::Program { at, end, flaw },
+            TokenRefusal::Destructive(what) => LangFault::Destructive { at, end, what },
         }
     }
 }

@@ -2,11 +2,11 @@
 ghost use Rattle.std.specs.Prelude.{◌≡◌, ℕ, ◌≤◌, List, length};
 ghost use Rattle.dt_lang.specs.Lexeme.{Lexes, LiesWithin};
 ghost use Rattle.dt_lang.specs.declared.lexer.Lexeme.{Lexeme};
-ghost use Rattle.dt_lang.specs.declared.mode.Mode.{Mode};
+ghost use Rattle.dt_lang.specs.declared.mode.LexerMode.{LexerMode};
 
 use crate::blanks::skip_blanks;
 use crate::fault::Limit;
-use crate::mode::Mode;
+use crate::mode::LexerMode;
 use crate::piece::Piece;
 use crate::token::Token;
 
@@ -24,7 +24,7 @@ pub(crate) enum Lexeme {
 }
 
 /// What stands in a text from a byte on, read in this mode. It takes no memory.
-pub(crate) fn next(text: &[u8], mode: Mode, from: usize) -> Lexeme
+pub(crate) fn next(text: &[u8], mode: LexerMode, from: usize) -> Lexeme
     requires { from ≤ length text.now }
     ensures lexes { Lexes text.now mode from result }
     ensures within { LiesWithin from result (length text.now) }
@@ -49,7 +49,7 @@ pub(crate) fn next(text: &[u8], mode: Mode, from: usize) -> Lexeme
 
 /// Law: in each text, mode and place up to its end something stands.
 pub(crate) fn some_lexeme()
-    ensures { (text : List ℕ) (mode : Mode) (from : ℕ) → from ≤ length text →
+    ensures { (text : List ℕ) (mode : LexerMode) (from : ℕ) → from ≤ length text →
         (lexeme : Lexeme) × Lexes text mode from lexeme }
 {
     dt_program::some_description();
@@ -57,9 +57,9 @@ pub(crate) fn some_lexeme()
 
 /// Law: in each text, mode and place stands one lexeme at most, and it lies within the text.
 pub(crate) fn one_lexeme()
-    ensures one { (text : List ℕ) (mode : Mode) (from : ℕ) (a b : Lexeme) →
+    ensures one { (text : List ℕ) (mode : LexerMode) (from : ℕ) (a b : Lexeme) →
         Lexes text mode from a → Lexes text mode from b → a ≡ b }
-    ensures within { (text : List ℕ) (mode : Mode) (from : ℕ) (lexeme : Lexeme) → from ≤ length text →
+    ensures within { (text : List ℕ) (mode : LexerMode) (from : ℕ) (lexeme : Lexeme) → from ≤ length text →
         Lexes text mode from lexeme → LiesWithin from lexeme (length text) }
 {
     dt_program::one_description();

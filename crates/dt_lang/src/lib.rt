@@ -24,7 +24,7 @@ mod token;
 mod word;
 
 pub use dt_program::{
-    Aggregation, Argument, Bounds, BoundsFault, CLAUSES_MAX, Call, Clause, DESCRIPTIONS_MAX,
+    AggregationUse, Argument, Bounds, BoundsFault, CLAUSES_MAX, Call, Clause, DESCRIPTIONS_MAX,
     Description, DescriptionFault, FRAMES_MAX, Frames, KEYS_MAX, LEVELS_MAX, Program,
     STATEMENTS_MAX, Statement, TOKENS_MAX, one_description, some_description,
 };

@@ -6,7 +6,7 @@ use crate::token::{Sign, Token};
 
 /// The part of a clause that a token is read in.
 #[derive(Clone, Copy)]
-pub(crate) enum Mode {
+pub(crate) enum LexerMode {
     /// Before a predicate or a body.
     Head,
     /// In a predicate, within so many parentheses.
@@ -17,23 +17,24 @@ pub(crate) enum Mode {
     Body,
 }
 
-impl Mode {
+impl LexerMode {
     /// The mode after this token.
-    pub(crate) fn after(self, token: &Token) -> Mode
+    pub(crate) fn after(self, token: &Token) -> LexerMode
         requires { depth_of self + 1 < 2 ^ 64 }
         ensures { result ≡ mode_after self token.now }
     {
         match (self, token) {
-            (Mode::Head, Token::Sign(Sign::Slash)) => Mode::Predicate { depth: 0 },
-            (Mode::Head | Mode::Tail, Token::Sign(Sign::OpenBrace)) => Mode::Body,
-            (Mode::Predicate { depth }, Token::Sign(Sign::OpenParen)) => Mode::Predicate {
+            (LexerMode::Head, Token::Sign(Sign::Slash)) => LexerMode::Predicate { depth: 0 },
+            (LexerMode::Head | LexerMode::Tail, Token::Sign(Sign::OpenBrace)) => LexerMode::Body,
+            (LexerMode::Predicate { depth }, Token::Sign(Sign::OpenParen)) => LexerMode::Predicate {
                 depth: depth + 1,
             },
-            (Mode::Predicate { depth }, Token::Sign(Sign::CloseParen)) => Mode::Predicate {
-                depth: depth.saturating_sub(1),
-            },
-            (Mode::Predicate { depth: 0 }, Token::Sign(Sign::Slash)) => Mode::Tail,
-            (Mode::Body, Token::Sign(Sign::CloseBrace)) => Mode::Head,
+            (LexerMode::Predicate { depth }, Token::Sign(Sign::CloseParen)) =>
+                LexerMode::Predicate {
+                    depth: depth.saturating_sub(1),
+                },
+            (LexerMode::Predicate { depth: 0 }, Token::Sign(Sign::Slash)) => LexerMode::Tail,
+            (LexerMode::Body, Token::Sign(Sign::CloseBrace)) => LexerMode::Head,
             _ => self,
         }
     }

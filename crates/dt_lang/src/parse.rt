@@ -11,7 +11,7 @@ ghost use Rattle.dt_lang.specs.declared.word.Destructive.{Destructive};
 
 use crate::fault::{Flaw, LangFault};
 use crate::lexer::{Lexeme, next, one_lexeme, some_lexeme};
-use crate::mode::Mode;
+use crate::mode::LexerMode;
 use crate::reader::ProgramReader;
 use dt_program::Program;
 use std::alloc::Global;
@@ -42,7 +42,7 @@ fn read(alloc: Global, reader: &mut ProgramReader, text: &[u8]) -> Result<Progra
     requires { program_state_of reader.old ≡ program_start }
     ensures { Answered text.now result }
 {
-    let mut mode = Mode::Head;
+    let mut mode = LexerMode::Head;
     let mut from = 0;
     'tokens: loop {
         match next(text, mode, from) {

@@ -7,7 +7,7 @@ ghost use Rattle.dt_lang.specs.machine.Piece.{start_of, identifier_at, FindsWord
 
 use crate::byte_class::ByteClass;
 use crate::fault::Limit;
-use crate::mode::Mode;
+use crate::mode::LexerMode;
 use crate::number::value_of;
 use crate::sign::{sign_at, spelling};
 use crate::token::{Sign, Token};
@@ -40,7 +40,7 @@ pub(crate) enum Start {
 
 impl Piece {
     /// What stands at the front of a text, read in this mode.
-    pub(crate) fn of(text: &[u8], mode: Mode) -> Piece
+    pub(crate) fn of(text: &[u8], mode: LexerMode) -> Piece
         ensures { Stands mode text.now result }
     {
         // whether the program is whole is for its reader to say
@@ -52,8 +52,8 @@ impl Piece {
             return Piece::Stray;
         }
         match mode {
-            Mode::Head | Mode::Tail => in_head(text),
-            Mode::Predicate { .. } | Mode::Body => in_body(text),
+            LexerMode::Head | LexerMode::Tail => in_head(text),
+            LexerMode::Predicate { .. } | LexerMode::Body => in_body(text),
         }
     }
 }

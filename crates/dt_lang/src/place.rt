@@ -11,7 +11,7 @@ use crate::fault::Limit;
 use crate::word::{Action, Function};
 use dt_expr::Expr;
 use dt_names::ShortText;
-use dt_program::{Aggregation, Argument, Call, KEYS_MAX, Statement, TOKENS_MAX};
+use dt_program::{AggregationUse, Argument, Call, KEYS_MAX, Statement, TOKENS_MAX};
 
 /// An aggregation's name and keys.
 #[derive(Drop)]
@@ -26,7 +26,7 @@ impl Target {
         requires { vec_len self.keys ≤ KEYS_MAX }
         ensures { form_of_statement result ≡ aggregate self.name (key_forms self) (form_of_call call) }
     {
-        Statement::Aggregate(Aggregation {
+        Statement::Aggregate(AggregationUse {
             name: self.name,
             keys: self.keys,
             call,
@@ -99,7 +99,7 @@ pub(crate) struct Levels {
 
 /// What the last token was, and so what stands next.
 #[derive(Drop)]
-pub(crate) enum Place {
+pub(crate) enum ReaderPlace {
     /// Nothing, or the end of a clause: a clause may begin.
     Outside,
     /// A description of a head.

@@ -14,8 +14,8 @@ ghost use Rattle.dt_program.specs.Bounds.{bounds_fault};
 ghost use Rattle.dt_program.specs.declared.clause.TheConstants.{DESCRIPTIONS_MAX, KEYS_MAX, STATEMENTS_MAX};
 
 use crate::expression::ExpressionReader;
-use crate::fault::{Flaw, Limit, Refusal};
-use crate::place::{Bound, Levels, Place, Slot, Target, call_of};
+use crate::fault::{Flaw, Limit, TokenRefusal};
+use crate::place::{Bound, Levels, ReaderPlace, Slot, Target, call_of};
 use crate::shown_cause::{shown_assigned, shown_before_statement, shown_elsewhere, shown_operand};
 use crate::token::{Sign, Token};
 use crate::word::{Action, Function, Word};
@@ -38,7 +38,7 @@ pub(crate) struct ProgramReader {
     predicate: Option<Expr>,
     statements: Vec<Statement>,
     expression: ExpressionReader,
-    place: Place,
+    place: ReaderPlace,
 }
 
 impl ProgramReader {
@@ -52,7 +52,7 @@ impl ProgramReader {
             predicate: None,
             statements: Vec::new(alloc),
             expression: ExpressionReader::new(alloc),
-            place: Place::Outside,
+            place: ReaderPlace::Outside,
         }
     }
 
@@ -61,21 +61,21 @@ impl ProgramReader {
         &mut self,
         alloc: Global,
         token: Token,
-    ) -> Result<Option<Refusal>, AllocError>
+    ) -> Result<Option<TokenRefusal>, AllocError>
         requires { Fits (program_state_of self.old) }
         ensures { IfOk result (λ refused. AnswersToken (program_state_of self.old) token refused
             (program_state_of self.new)) }
     {
         // of the causes of one token TooLong goes before all others
         if let Some(limit) = self.exceeds(alloc, &token)? {
-            return Ok(Some(Refusal::Flaw(Flaw::TooLong(limit))));
+            return Ok(Some(TokenRefusal::Flaw(Flaw::TooLong(limit))));
         }
         // next come the causes that the token shows at its place: they go before Range and Syntax
         if let Some(refusal) = self.shown(&token) {
             return Ok(Some(refusal));
         }
         match self.step(alloc, token)? {
-            Some(flaw) => Ok(Some(Refusal::Flaw(flaw))),
+            Some(flaw) => Ok(Some(TokenRefusal::Flaw(flaw))),
             None => Ok(None),
         }
     }
@@ -87,7 +87,7 @@ impl ProgramReader {
         ensures { option_map form_of_program result ≡ finished (program_state_of self.old) }
     {
         match self.place {
-            Place::Outside if !self.clauses.is_empty() => Some(Program {
+            ReaderPlace::Outside if !self.clauses.is_empty() => Some(Program {
                 clauses: mem::replace(&mut self.clauses, Vec::new(alloc)),
             }),
             _ => None,
@@ -99,7 +99,7 @@ impl ProgramReader {
         ensures { program_state_of self.new ≡ entered (clauses_of self.old) (clause_of self.old) (slot_form slot) }
     {
         self.expression.begin(slot.divides());
-        self.place = Place::Within { slot, count: 0 };
+        self.place = ReaderPlace::Within { slot, count: 0 };
     }
 
     /// Ends a statement.
@@ -108,7 +108,7 @@ impl ProgramReader {
             ≡ ended (clauses_of self.old) (clause_of self.old) (form_of_statement statement)) }
     {
         self.statements.push(statement)?;
-        self.place = Place::AfterStatement;
+        self.place = ReaderPlace::AfterStatement;
         Ok(())
     }
 
@@ -124,7 +124,7 @@ impl ProgramReader {
             statements: mem::replace(&mut self.statements, Vec::new(alloc)),
         };
         self.clauses.push(clause)?;
-        self.place = Place::Outside;
+        self.place = ReaderPlace::Outside;
         Ok(())
     }
 
@@ -139,7 +139,7 @@ impl ProgramReader {
                 self.descriptions = descriptions;
                 self.predicate = None;
                 self.statements = Vec::new(alloc);
-                self.place = Place::Described;
+                self.place = ReaderPlace::Described;
                 Ok(true)
             }
             _ => Ok(false),
@@ -153,7 +153,7 @@ impl ProgramReader {
     {
         match token {
             Token::Sign(Sign::Comma) => {
-                self.place = Place::Listed;
+                self.place = ReaderPlace::Listed;
                 true
             }
             Token::Sign(Sign::Slash) => {
@@ -161,7 +161,7 @@ impl ProgramReader {
                 true
             }
             Token::Sign(Sign::OpenBrace) => {
-                self.place = Place::BeforeStatement;
+                self.place = ReaderPlace::BeforeStatement;
                 true
             }
             _ => false,
@@ -176,7 +176,7 @@ impl ProgramReader {
         match token {
             Token::Description(Ok(description)) => {
                 self.descriptions.push(description)?;
-                self.place = Place::Described;
+                self.place = ReaderPlace::Described;
                 Ok(true)
             }
             _ => Ok(false),
@@ -190,7 +190,7 @@ impl ProgramReader {
     {
         match token {
             Token::Sign(Sign::OpenBrace) => {
-                self.place = Place::BeforeStatement;
+                self.place = ReaderPlace::BeforeStatement;
                 true
             }
             _ => false,
@@ -204,10 +204,10 @@ impl ProgramReader {
             (program_state_of self.new)) }
     {
         match token {
-            Token::Sign(Sign::Semicolon) => self.place = Place::BeforeStatement,
+            Token::Sign(Sign::Semicolon) => self.place = ReaderPlace::BeforeStatement,
             Token::Sign(Sign::CloseBrace) => self.end_clause(alloc)?,
-            Token::Word(Word::Action(action)) => self.place = Place::Called(*action),
-            Token::Aggregation(name) => self.place = Place::Named(*name),
+            Token::Word(Word::Action(action)) => self.place = ReaderPlace::Called(*action),
+            Token::Aggregation(name) => self.place = ReaderPlace::Named(*name),
             // nothing else begins a statement or ends the clause
             _ => return Ok(false),
         }
@@ -221,7 +221,7 @@ impl ProgramReader {
             (program_state_of self.new)) }
     {
         match token {
-            Token::Sign(Sign::Semicolon) => self.place = Place::BeforeStatement,
+            Token::Sign(Sign::Semicolon) => self.place = ReaderPlace::BeforeStatement,
             Token::Sign(Sign::CloseBrace) => self.end_clause(alloc)?,
             // after a statement stands a `;` or the clause's end
             _ => return Ok(false),
@@ -239,8 +239,8 @@ impl ProgramReader {
                 match action {
                     Action::Trace => self.enter(Slot::Traced),
                     Action::Exit => self.enter(Slot::Exited),
-                    Action::Stack => self.place = Place::StackOpened { process: false },
-                    Action::Ustack => self.place = Place::StackOpened { process: true },
+                    Action::Stack => self.place = ReaderPlace::StackOpened { process: false },
+                    Action::Ustack => self.place = ReaderPlace::StackOpened { process: true },
                 }
                 true
             }
@@ -266,7 +266,7 @@ impl ProgramReader {
         } else {
             Statement::Stack(frames)
         };
-        self.place = Place::Closing(statement);
+        self.place = ReaderPlace::Closing(statement);
         true
     }
 
@@ -300,7 +300,7 @@ impl ProgramReader {
                 true
             }
             Token::Sign(Sign::Equal) => {
-                self.place = Place::Assigned(target);
+                self.place = ReaderPlace::Assigned(target);
                 true
             }
             _ => false,
@@ -314,7 +314,7 @@ impl ProgramReader {
     {
         match token {
             Token::Sign(Sign::Equal) => {
-                self.place = Place::Assigned(target);
+                self.place = ReaderPlace::Assigned(target);
                 true
             }
             _ => false,
@@ -329,7 +329,7 @@ impl ProgramReader {
     {
         match token {
             Token::Word(Word::Function(function)) => {
-                self.place = Place::Applied(target, *function);
+                self.place = ReaderPlace::Applied(target, *function);
                 true
             }
             _ => false,
@@ -346,7 +346,9 @@ impl ProgramReader {
         match token {
             Token::Sign(Sign::OpenParen) => {
                 match function {
-                    Function::Count => self.place = Place::Closing(target.aggregate(Call::Count)),
+                    Function::Count => self.place = ReaderPlace::Closing(target.aggregate(
+                        Call::Count,
+                    )),
                     _ => self.enter(Slot::Value(target, function)),
                 }
                 true
@@ -371,7 +373,7 @@ impl ProgramReader {
     {
         // the longest expression is read: the slot ends at the first token that doesn't go on with it
         if self.expression.push(alloc, token)? {
-            self.place = Place::Within {
+            self.place = ReaderPlace::Within {
                 slot,
                 count: count + 1,
             };
@@ -412,7 +414,7 @@ impl ProgramReader {
         match token {
             Token::Sign(Sign::Slash) => {
                 self.predicate = Some(value);
-                self.place = Place::Guarded;
+                self.place = ReaderPlace::Guarded;
                 true
             }
             _ => false,
@@ -434,7 +436,7 @@ impl ProgramReader {
         target.keys.push(argument)?;
         match token {
             Token::Sign(Sign::Comma) => self.enter(Slot::Key(target)),
-            Token::Sign(Sign::CloseBracket) => self.place = Place::Keyed(target),
+            Token::Sign(Sign::CloseBracket) => self.place = ReaderPlace::Keyed(target),
             // after a key stands a further one or the keys' end
             _ => return Ok(false),
         }
@@ -463,7 +465,7 @@ impl ProgramReader {
                 None => Ok(false),
             },
             Token::Sign(Sign::Comma) if function == Function::Lquantize => {
-                self.place = Place::Bounding(Levels {
+                self.place = ReaderPlace::Bounding(Levels {
                     target,
                     value,
                     bound: Bound::Lower,
@@ -482,11 +484,11 @@ impl ProgramReader {
     {
         match token {
             Token::Number(number) if *number >= 0 => {
-                self.place = Place::Bounded(levels, *number);
+                self.place = ReaderPlace::Bounded(levels, *number);
                 true
             }
             Token::Sign(Sign::Minus) => {
-                self.place = Place::Negating(levels);
+                self.place = ReaderPlace::Negating(levels);
                 true
             }
             _ => false,
@@ -501,7 +503,7 @@ impl ProgramReader {
     {
         match token {
             Token::Number(number) if *number >= 0 => {
-                self.place = Place::Bounded(levels, -*number);
+                self.place = ReaderPlace::Bounded(levels, -*number);
                 true
             }
             _ => false,
@@ -552,7 +554,7 @@ impl ProgramReader {
         ensures { program_state_of self.new ≡ program_at (clauses_of self.old) (clause_of self.old)
             (bounding target.name (key_forms target) (form_of value) (bound_of bound)) }
     {
-        self.place = Place::Bounding(Levels {
+        self.place = ReaderPlace::Bounding(Levels {
             target,
             value,
             bound,
@@ -593,18 +595,18 @@ impl ProgramReader {
             → program_state_of self.new ≡ program_state_of self.old) }
     {
         match &self.place {
-            Place::Outside if token.is_description() && self.clauses.len() >= CLAUSES_MAX => {
+            ReaderPlace::Outside if token.is_description() && self.clauses.len() >= CLAUSES_MAX => {
                 Ok(Some(Limit::Clauses))
             }
-            Place::Listed
+            ReaderPlace::Listed
                 if token.is_description() && self.descriptions.len() >= DESCRIPTIONS_MAX => {
                 Ok(Some(Limit::Descriptions))
             }
-            Place::BeforeStatement
+            ReaderPlace::BeforeStatement
                 if self.statements.len() >= STATEMENTS_MAX && token.is_for_statement() => {
                 Ok(Some(Limit::Statements))
             }
-            Place::Within { slot, count } => match slot.limit_within(*count) {
+            ReaderPlace::Within { slot, count } => match slot.limit_within(*count) {
                 Some(limit) => {
                     let over = self.is_one_more(alloc, token)?;
                     Ok(if over { Some(limit) } else { None })
@@ -626,14 +628,14 @@ impl ProgramReader {
     }
 
     /// The cause that a token shows at its place, before it is known whether it goes on.
-    fn shown(&self, token: &Token) -> Option<Refusal>
+    fn shown(&self, token: &Token) -> Option<TokenRefusal>
         ensures { option_map cause_of_refusal result
             ≡ shown_at (place_form (state_of self.now.expression) self.now.place) token.now }
     {
         match &self.place {
-            Place::BeforeStatement => shown_before_statement(token),
-            Place::Assigned(_) => shown_assigned(token),
-            Place::Within { .. } if self.expression.wants_operand() => shown_operand(token),
+            ReaderPlace::BeforeStatement => shown_before_statement(token),
+            ReaderPlace::Assigned(_) => shown_assigned(token),
+            ReaderPlace::Within { .. } if self.expression.wants_operand() => shown_operand(token),
             _ => shown_elsewhere(token),
         }
     }
@@ -646,30 +648,36 @@ impl ProgramReader {
             (out_of_range_at (place_form (state_of self.old.expression) self.old.place) token) flaw
             (program_state_of self.new)) }
     {
-        match mem::replace(&mut self.place, Place::Outside) {
-            Place::Outside => Ok(stuck_unless(self.from_outside(alloc, token)?)),
-            Place::Described => Ok(stuck_unless(self.from_described(&token))),
-            Place::Listed => Ok(stuck_unless(self.from_listed(token)?)),
-            Place::Guarded => Ok(stuck_unless(self.from_guarded(&token))),
-            Place::BeforeStatement => Ok(stuck_unless(self.from_before_statement(alloc, &token)?)),
-            Place::AfterStatement => Ok(stuck_unless(self.from_after_statement(alloc, &token)?)),
-            Place::Called(action) => Ok(stuck_unless(self.from_called(action, &token))),
-            Place::StackOpened { process } => Ok(stuck_unless(self.from_stack_opened(
+        match mem::replace(&mut self.place, ReaderPlace::Outside) {
+            ReaderPlace::Outside => Ok(stuck_unless(self.from_outside(alloc, token)?)),
+            ReaderPlace::Described => Ok(stuck_unless(self.from_described(&token))),
+            ReaderPlace::Listed => Ok(stuck_unless(self.from_listed(token)?)),
+            ReaderPlace::Guarded => Ok(stuck_unless(self.from_guarded(&token))),
+            ReaderPlace::BeforeStatement => Ok(stuck_unless(self.from_before_statement(
+                alloc, &token,
+            )?)),
+            ReaderPlace::AfterStatement => Ok(stuck_unless(self.from_after_statement(
+                alloc, &token,
+            )?)),
+            ReaderPlace::Called(action) => Ok(stuck_unless(self.from_called(action, &token))),
+            ReaderPlace::StackOpened { process } => Ok(stuck_unless(self.from_stack_opened(
                 process, &token,
             ))),
-            Place::Closing(statement) => Ok(stuck_unless(self.from_closing(statement, &token)?)),
-            Place::Named(name) => Ok(stuck_unless(self.from_named(alloc, name, &token))),
-            Place::Keyed(target) => Ok(stuck_unless(self.from_keyed(target, &token))),
-            Place::Assigned(target) => Ok(stuck_unless(self.from_assigned(target, &token))),
-            Place::Applied(target, function) => {
+            ReaderPlace::Closing(statement) => Ok(stuck_unless(self.from_closing(
+                statement, &token,
+            )?)),
+            ReaderPlace::Named(name) => Ok(stuck_unless(self.from_named(alloc, name, &token))),
+            ReaderPlace::Keyed(target) => Ok(stuck_unless(self.from_keyed(target, &token))),
+            ReaderPlace::Assigned(target) => Ok(stuck_unless(self.from_assigned(target, &token))),
+            ReaderPlace::Applied(target, function) => {
                 Ok(stuck_unless(self.from_applied(target, function, &token)))
             }
-            Place::Within { slot, count } => Ok(stuck_unless(self.from_within(
+            ReaderPlace::Within { slot, count } => Ok(stuck_unless(self.from_within(
                 alloc, slot, count, &token,
             )?)),
-            Place::Bounding(levels) => Ok(stuck_unless(self.from_bounding(levels, &token))),
-            Place::Negating(levels) => Ok(stuck_unless(self.from_negating(levels, &token))),
-            Place::Bounded(levels, last) => self.from_bounded(levels, last, &token),
+            ReaderPlace::Bounding(levels) => Ok(stuck_unless(self.from_bounding(levels, &token))),
+            ReaderPlace::Negating(levels) => Ok(stuck_unless(self.from_negating(levels, &token))),
+            ReaderPlace::Bounded(levels, last) => self.from_bounded(levels, last, &token),
         }
     }
 }

@@ -13,7 +13,7 @@ use Rattle.dt_machine.specs.Reading.{processes_in, scripts_in}
 use Rattle.dt_machine.specs.Registry.{Registry, Contents, Belongs}
 use Rattle.dt_cred.specs.declared.account.Process.{Process as ProcessType}
 use Rattle.dt_machine.specs.declared.found.Found.{Found}
-use Rattle.dt_machine.specs.declared.found.Key.TheVariants as key
+use Rattle.dt_machine.specs.declared.found.FileKey.TheVariants as key
 use Rattle.dt_machine.specs.declared.found.Part.TheVariants as part
 use Rattle.dt_machine.specs.Given.{items, items_at, is_text, is_list_of}
 use Rattle.dt_machine.specs.Shape.{is_account, is_process, is_firing}

@@ -11,7 +11,7 @@ use Rattle.serde_json.specs.Find.{get, as_object}
 use Rattle.serde_json.specs.View.{view}
 use Rattle.serde_json.specs.declared.value.Value.{Value}
 use Rattle.dt_machine.specs.declared.found.Found.{Found}
-use Rattle.dt_machine.specs.declared.found.Key.TheVariants as key
+use Rattle.dt_machine.specs.declared.found.FileKey.TheVariants as key
 use Rattle.dt_machine.specs.declared.found.Part.TheVariants.{File}
 use Rattle.dt_machine.specs.Found.{Else, of, IsFirstFound, IsFoundOfList, IsMisshapenScript, IsMisshapenFile}
 use Rattle.dt_machine.specs.Given.{items, items_at, is_integer, is_text, is_list_of, has_field}

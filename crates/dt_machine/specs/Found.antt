@@ -9,8 +9,8 @@ use Rattle.dt_names.specs.declared.tuple.ProbeTuple.{ProbeTuple}
 use Rattle.dt_cred.specs.Class.{NamesProcess}
 use Rattle.dt_cred.specs.declared.account.Process.{Process as ProcessType}
 use Rattle.dt_machine.specs.declared.found.Found.{Found}
-use Rattle.dt_machine.specs.declared.found.Key.{Key}
-use Rattle.dt_machine.specs.declared.found.Key.TheVariants as key
+use Rattle.dt_machine.specs.declared.found.FileKey.{FileKey}
+use Rattle.dt_machine.specs.declared.found.FileKey.TheVariants as key
 use Rattle.dt_machine.specs.declared.found.Part.{Part}
 use Rattle.dt_machine.specs.declared.found.Part.TheVariants.{File, Account, Process, Probe, Script, Firing}
 use Rattle.dt_machine.specs.Given.{is_integer, is_text, is_list_of, has_field, may_have, items, items_at}
@@ -20,7 +20,7 @@ use Rattle.dt_machine.specs.Rows.{AccountRow, ProcessRow, FiringRow, IsAccountNa
 use Rattle.dt_machine.specs.Limits.{accounts_max, processes_max, probes_max, pid_max}
 
 -- The words.
-abbrev pub key_word : Key → List ℕ
+abbrev pub key_word : FileKey → List ℕ
 key_word key.Cpus = codes "cpus"
 key_word key.Accounts = codes "accounts"
 key_word key.Processes = codes "processes"
@@ -57,7 +57,7 @@ Else Test Here Later = ((Test → ⊥) × Here) ⊎ (Test × Later)
 abbrev pub Fails : (found this : Found) → (Test Later : Type 0) → Type 0
 Fails found this Test Later = Else Test (found ≡ this) Later
 
-abbrev pub of : Part → Key → Found
+abbrev pub of : Part → FileKey → Found
 of part key = record { key = key; part = part }
 
 -- What is found of a row that is not right, given its place and the rows before it.

@@ -10,7 +10,7 @@ use Rattle.dt_machine.specs.Shape.{is_machine}
 use Rattle.dt_machine.specs.Rows.{AccountRow, ProcessRow, FiringRow, account_row, process_row, script_rows, account, process, scripts, AreProbes, IsRightAccount, IsRightProcess, IsRightProbe, IsRightFiring, HasRoom}
 use Rattle.dt_machine.specs.Registry.{Registry, Contents, Belongs}
 use Rattle.dt_machine.specs.declared.found.Found.{Found}
-use Rattle.dt_machine.specs.declared.found.Key.TheVariants as key
+use Rattle.dt_machine.specs.declared.found.FileKey.TheVariants as key
 use Rattle.dt_machine.specs.declared.found.Part.TheVariants as part
 use Rattle.dt_machine.specs.Found.{Fails, of, IsFoundAt, IsFoundIn, IsFoundOfShape, IsFoundOfAccount, IsFoundOfProcess, IsFoundOfProbe, IsFoundOfFiring}
 use Rattle.dt_machine.specs.Limits.{cpus_max}

@@ -10,7 +10,7 @@ ghost use Rattle.dt_machine.specs.Reading.{AllRight};
 ghost use Rattle.dt_machine.specs.Sections.{NowhereIfMemory, UnlessMemory, IsMiss, account_rows, texts};
 
 use crate::fault::{FaultNumber, MachineFault};
-use crate::found::{Found, Key, Part};
+use crate::found::{FileKey, Found, Part};
 use crate::keys::{list_at, text_at, text_of, u32_of, unsigned_at};
 use crate::limits::ACCOUNTS_MAX;
 use dt_cred::{Account, Privs};
@@ -45,16 +45,16 @@ fn account_of(before: &[Account], row: &Value) -> Result<Account, Found>
 {
     // one account more than a machine may have isn't right, whatever its row says
     if before.len() >= ACCOUNTS_MAX {
-        return Err(Part::File.has(Key::Accounts));
+        return Err(Part::File.has(FileKey::Accounts));
     }
     let this = Part::Account(before.len());
-    let name = account_name(text_at(row, "name", "").as_bytes()).ok_or(this.has(Key::Name))?;
+    let name = account_name(text_at(row, "name", "").as_bytes()).ok_or(this.has(FileKey::Name))?;
     // a session is opened by the name of its account, so no two may have one
     if is_taken(before, name.as_bytes()) {
-        return Err(this.has(Key::Name));
+        return Err(this.has(FileKey::Name));
     }
-    let uid = u32_of(unsigned_at(row, "uid", None)).ok_or(this.has(Key::Uid))?;
-    let privs = privs_of(list_at(row, "privs")).ok_or(this.has(Key::Privs))?;
+    let uid = u32_of(unsigned_at(row, "uid", None)).ok_or(this.has(FileKey::Uid))?;
+    let privs = privs_of(list_at(row, "privs")).ok_or(this.has(FileKey::Privs))?;
     Ok(Account { name, uid, privs })
 }
 

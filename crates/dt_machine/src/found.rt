@@ -3,7 +3,7 @@ use std::fmt;
 
 /// A key of the machine file. A probe is a text and has no keys: of it are told its text or its provider.
 #[derive(Clone, Copy, Debug, PartialEq, Eq)]
-pub enum Key {
+pub enum FileKey {
     /// The number of processors.
     Cpus,
     /// The list of accounts.
@@ -44,7 +44,7 @@ pub enum Key {
     Ustack,
 }
 
-impl Key {
+impl FileKey {
     ghost use Rattle.std.specs.Prelude.{◌≡◌};
     ghost use Rattle.dt_machine.specs.Found.{key_word};
 
@@ -53,30 +53,30 @@ impl Key {
         ensures { result.now ≡ key_word self }
     {
         match self {
-            Key::Cpus => "cpus",
-            Key::Accounts => "accounts",
-            Key::Processes => "processes",
-            Key::Probes => "probes",
-            Key::Scripts => "scripts",
-            Key::Name => "name",
-            Key::Uid => "uid",
-            Key::Privs => "privs",
-            Key::Pid => "pid",
-            Key::Execname => "execname",
-            Key::Text => "text",
-            Key::Provider => "provider",
-            Key::Probe => "probe",
-            Key::Tid => "tid",
-            Key::Mode => "mode",
-            Key::Timestamp => "timestamp",
-            Key::Args => "args",
-            Key::Kstack => "kstack",
-            Key::Ustack => "ustack",
+            FileKey::Cpus => "cpus",
+            FileKey::Accounts => "accounts",
+            FileKey::Processes => "processes",
+            FileKey::Probes => "probes",
+            FileKey::Scripts => "scripts",
+            FileKey::Name => "name",
+            FileKey::Uid => "uid",
+            FileKey::Privs => "privs",
+            FileKey::Pid => "pid",
+            FileKey::Execname => "execname",
+            FileKey::Text => "text",
+            FileKey::Provider => "provider",
+            FileKey::Probe => "probe",
+            FileKey::Tid => "tid",
+            FileKey::Mode => "mode",
+            FileKey::Timestamp => "timestamp",
+            FileKey::Args => "args",
+            FileKey::Kstack => "kstack",
+            FileKey::Ustack => "ustack",
         }
     }
 }
 
-impl fmt::Display for Key {
+impl fmt::Display for FileKey {
     ghost use Rattle.std.specs.Prelude.{Some};
     ghost use Rattle.dt_machine.specs.Found.{key_word};
 
@@ -109,7 +109,7 @@ impl Part {
     ghost use Rattle.dt_machine.specs.Found.{of};
 
     /// What is found where a key of this part is wrong.
-    pub(crate) fn has(self, key: Key) -> Found
+    pub(crate) fn has(self, key: FileKey) -> Found
         ensures { result ≡ of self key }
     {
         Found { key, part: self }
@@ -138,7 +138,7 @@ impl fmt::Display for Part {
 #[derive(Clone, Copy, Debug, PartialEq, Eq)]
 pub struct Found {
     /// The key that is missing, or whose value is wrong.
-    pub key: Key,
+    pub key: FileKey,
     /// The part that has the key.
     pub part: Part,
 }

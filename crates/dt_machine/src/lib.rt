@@ -34,7 +34,7 @@ mod shape;
 pub use bit_word::{BitWord, WORD_BITS};
 pub use dt_cred::{ARGS, FRAMES, Firing};
 pub use fault::{FaultNumber, MachineFault};
-pub use found::{Found, Key, Part};
+pub use found::{FileKey, Found, Part};
 pub use interest::{INTEREST_WORDS, Interest};
 pub use law::{described_is_in_bounds, described_is_sound, one_answer};
 pub use limit_laws::limits_agree;

@@ -8,7 +8,7 @@ ghost use Rattle.dt_machine.specs.Sections.{NowhereIfMemory};
 
 use crate::belonging::first_foreign;
 use crate::fault::{FaultNumber, MachineFault};
-use crate::found::{Key, Part};
+use crate::found::{FileKey, Part};
 use crate::keys::list_at;
 use crate::moment::Moment;
 use crate::scripts::read_scripts;
@@ -72,7 +72,7 @@ impl Machine {
                     number: FaultNumber::Foreign,
                     cpu,
                     row,
-                    found: Some(firing.has(Key::Pid)),
+                    found: Some(firing.has(FileKey::Pid)),
                 })
             }
             None => Ok(Machine::new(sections, scripts)),

@@ -11,7 +11,7 @@ ghost use Rattle.dt_machine.specs.Reading.{AllRight};
 ghost use Rattle.dt_machine.specs.Sections.{NowhereIfMemory, UnlessMemory, IsMiss, IsTraced, eq_tuples, texts};
 
 use crate::fault::{FaultNumber, MachineFault};
-use crate::found::{Found, Key, Part};
+use crate::found::{FileKey, Found, Part};
 use crate::keys::text_of;
 use crate::limits::{FIRST_PROBE_ID, PROBES_MAX};
 use dt_cred::{Class, Probe, Process};
@@ -70,18 +70,18 @@ fn probe_of(before: &[Probe], processes: &[Process], text: &[u8]) -> Result<Prob
 {
     // one probe more than a machine may have isn't right, whatever its text says
     if before.len() >= PROBES_MAX {
-        return Err(Part::File.has(Key::Probes));
+        return Err(Part::File.has(FileKey::Probes));
     }
     let this = Part::Probe(before.len());
-    let tuple = ProbeTuple::parse(text).ok_or(this.has(Key::Text))?;
+    let tuple = ProbeTuple::parse(text).ok_or(this.has(FileKey::Text))?;
     // no two probes are alike: a repeated one is told at its later row
     if is_taken(before, &tuple) {
-        return Err(this.has(Key::Text));
+        return Err(this.has(FileKey::Text));
     }
     let probe = Probe::new(before.len() as u32 + FIRST_PROBE_ID, tuple);
     // the provider `dtrace` has `BEGIN` and `END` alone, and a `pid` provider needs its process in the file
     if !is_traced(probe.class, processes) {
-        return Err(this.has(Key::Provider));
+        return Err(this.has(FileKey::Provider));
     }
     Ok(probe)
 }

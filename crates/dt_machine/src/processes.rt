@@ -8,7 +8,7 @@ ghost use Rattle.dt_machine.specs.Sections.{NowhereIfMemory, UnlessMemory, IsMis
 
 use crate::by_pid::ByPid;
 use crate::fault::{FaultNumber, MachineFault};
-use crate::found::{Found, Key, Part};
+use crate::found::{FileKey, Found, Part};
 use crate::keys::{text_at, u32_of, unsigned_at};
 use crate::limits::{PID_MAX, PROCESSES_MAX};
 use dt_cred::Process;
@@ -58,17 +58,17 @@ fn process_of(before: usize, by_pid: &ByPid, row: &Value) -> Result<Process, Fou
 {
     // one process more than a machine may have isn't right, whatever its row says
     if before >= PROCESSES_MAX {
-        return Err(Part::File.has(Key::Processes));
+        return Err(Part::File.has(FileKey::Processes));
     }
     let this = Part::Process(before);
-    let pid = pid_of(unsigned_at(row, "pid", None)).ok_or(this.has(Key::Pid))?;
+    let pid = pid_of(unsigned_at(row, "pid", None)).ok_or(this.has(FileKey::Pid))?;
     // a firing names its process by the number, so no two may have one
     if by_pid.place_of(pid).is_some() {
-        return Err(this.has(Key::Pid));
+        return Err(this.has(FileKey::Pid));
     }
-    let uid = u32_of(unsigned_at(row, "uid", None)).ok_or(this.has(Key::Uid))?;
+    let uid = u32_of(unsigned_at(row, "uid", None)).ok_or(this.has(FileKey::Uid))?;
     let execname = execname_of(text_at(row, "execname", "").as_bytes()).ok_or(this.has(
-        Key::Execname,
+        FileKey::Execname,
     ))?;
     Ok(Process { pid, uid, execname })
 }

@@ -9,7 +9,7 @@ ghost use Rattle.dt_machine.specs.Reading.{AllRight, AllRightIn, IsFirstWrong, I
 ghost use Rattle.dt_machine.specs.Sections.{NowhereIfMemory, UnlessMemory, IsReady, firing_rows, scripts_rows, registry_of};
 
 use crate::fault::{FaultNumber, MachineFault};
-use crate::found::{Found, Key, Part};
+use crate::found::{FileKey, Found, Part};
 use crate::keys::{items_of, list_at, text_at, u32_of, unsigned_at};
 use crate::limits::{CPUS_MAX, FIRST_PROBE_ID, SCRIPT_MAX};
 use crate::numbers::{arguments_of, frames_of};
@@ -106,16 +106,18 @@ fn firing_of(sections: &Sections, cpu: u32, place: u32, row: &Value) -> Result<F
         cpu: cpu as usize,
         row: place as usize,
     };
-    let probe = probe_of(sections, unsigned_at(row, "probe", None)).ok_or(this.has(Key::Probe))?;
-    let pid = pid_of(sections, unsigned_at(row, "pid", None)).ok_or(this.has(Key::Pid))?;
-    let tid = u32_of(unsigned_at(row, "tid", Some(1))).ok_or(this.has(Key::Tid))?;
-    let mode = mode_of(text_at(row, "mode", "user")).ok_or(this.has(Key::Mode))?;
-    let timestamp = timestamp_of(unsigned_at(row, "timestamp", Some(0))).ok_or(this.has(
-        Key::Timestamp,
+    let probe = probe_of(sections, unsigned_at(row, "probe", None)).ok_or(this.has(
+        FileKey::Probe,
     ))?;
-    let args = arguments_of(list_at(row, "args")).ok_or(this.has(Key::Args))?;
-    let kstack = frames_of(list_at(row, "kstack")).ok_or(this.has(Key::Kstack))?;
-    let ustack = frames_of(list_at(row, "ustack")).ok_or(this.has(Key::Ustack))?;
+    let pid = pid_of(sections, unsigned_at(row, "pid", None)).ok_or(this.has(FileKey::Pid))?;
+    let tid = u32_of(unsigned_at(row, "tid", Some(1))).ok_or(this.has(FileKey::Tid))?;
+    let mode = mode_of(text_at(row, "mode", "user")).ok_or(this.has(FileKey::Mode))?;
+    let timestamp = timestamp_of(unsigned_at(row, "timestamp", Some(0))).ok_or(this.has(
+        FileKey::Timestamp,
+    ))?;
+    let args = arguments_of(list_at(row, "args")).ok_or(this.has(FileKey::Args))?;
+    let kstack = frames_of(list_at(row, "kstack")).ok_or(this.has(FileKey::Kstack))?;
+    let ustack = frames_of(list_at(row, "ustack")).ok_or(this.has(FileKey::Ustack))?;
     Ok(Firing {
         cpu,
         place,

@@ -9,7 +9,7 @@ ghost use Rattle.dt_cred.specs.declared.class.Class.TheVariants.{Pid};
 use crate::accounts::read_accounts;
 use crate::by_pid::ByPid;
 use crate::fault::{FaultNumber, MachineFault};
-use crate::found::{Key, Part};
+use crate::found::{FileKey, Part};
 use crate::keys::{list_at, unsigned_at};
 use crate::limits::{CPUS_MAX, FIRST_PROBE_ID, SCRIPT_MAX};
 use crate::moment::Moment;
@@ -47,7 +47,7 @@ impl Sections {
             return Err(fault);
         }
         let Some(cpus) = cpus_of(file) else {
-            return Err(FaultNumber::Cpus.at_row(0, Part::File.has(Key::Cpus)));
+            return Err(FaultNumber::Cpus.at_row(0, Part::File.has(FileKey::Cpus)));
         };
         let accounts = read_accounts(alloc, list_at(file, "accounts"))?;
         let (processes, by_pid) = read_processes(alloc, list_at(file, "processes"))?;
@@ -142,14 +142,14 @@ fn script_fault(cpus: u32, scripts: &[Value]) -> Option<MachineFault>
 {
     // how many scripts there are goes before how long one is, and names no processor
     if scripts.len() != cpus as usize {
-        return Some(FaultNumber::Script.at_row(0, Part::File.has(Key::Scripts)));
+        return Some(FaultNumber::Script.at_row(0, Part::File.has(FileKey::Scripts)));
     }
     match first_long(scripts) {
         Some(cpu) => Some(MachineFault {
             number: FaultNumber::Script,
             cpu,
             row: SCRIPT_MAX as u32,
-            found: Some(Part::Script(cpu as usize).has(Key::Scripts)),
+            found: Some(Part::Script(cpu as usize).has(FileKey::Scripts)),
         }),
         None => None,
     }

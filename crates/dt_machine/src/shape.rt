@@ -8,7 +8,7 @@ ghost use Rattle.dt_machine.specs.Reading.{Nowhere};
 ghost use Rattle.dt_machine.specs.Shape.{is_account, is_process, is_numbers, is_firing, is_machine};
 
 use crate::fault::{FaultNumber, MachineFault};
-use crate::found::{Found, Key, Part};
+use crate::found::{FileKey, Found, Part};
 use crate::keys::{items, items_at};
 use serde_json::Value;
 
@@ -32,7 +32,7 @@ fn first_of_file(file: &Value) -> Option<Found>
     ensures { MatchOption result (is_machine (view file.now) ≡ true) (IsMisshapenFile (view file.now)) }
 {
     if !has_integer(file, "cpus") {
-        return Some(Part::File.has(Key::Cpus));
+        return Some(Part::File.has(FileKey::Cpus));
     }
     if let Some(found) = first_of_accounts(file) {
         return Some(found);
@@ -48,11 +48,11 @@ fn first_of_file(file: &Value) -> Option<Found>
 
 fn first_of_accounts(file: &Value) -> Option<Found>
     ensures { MatchOption result (has_field (codes "accounts") (is_list_of is_account) (view file.now) ≡ true)
-        (IsFoundOfList (of Part.File Key.Accounts) is_account IsMisshapenAccount (items_at (codes "accounts") (view file.now))) }
+        (IsFoundOfList (of Part.File FileKey.Accounts) is_account IsMisshapenAccount (items_at (codes "accounts") (view file.now))) }
 {
     match items_at(file, "accounts") {
         Some(rows) => first_account(rows),
-        None => Some(Part::File.has(Key::Accounts)),
+        None => Some(Part::File.has(FileKey::Accounts)),
     }
 }
 
@@ -75,24 +75,24 @@ fn of_account(at: usize, row: &Value) -> Option<Found>
 {
     let this = Part::Account(at);
     if !has_text(row, "name") {
-        return Some(this.has(Key::Name));
+        return Some(this.has(FileKey::Name));
     }
     if !has_integer(row, "uid") {
-        return Some(this.has(Key::Uid));
+        return Some(this.has(FileKey::Uid));
     }
     if !has_texts(row, "privs") {
-        return Some(this.has(Key::Privs));
+        return Some(this.has(FileKey::Privs));
     }
     None
 }
 
 fn first_of_processes(file: &Value) -> Option<Found>
     ensures { MatchOption result (has_field (codes "processes") (is_list_of is_process) (view file.now) ≡ true)
-        (IsFoundOfList (of Part.File Key.Processes) is_process IsMisshapenProcess (items_at (codes "processes") (view file.now))) }
+        (IsFoundOfList (of Part.File FileKey.Processes) is_process IsMisshapenProcess (items_at (codes "processes") (view file.now))) }
 {
     match items_at(file, "processes") {
         Some(rows) => first_process(rows),
-        None => Some(Part::File.has(Key::Processes)),
+        None => Some(Part::File.has(FileKey::Processes)),
     }
 }
 
@@ -115,24 +115,24 @@ fn of_process(at: usize, row: &Value) -> Option<Found>
 {
     let this = Part::Process(at);
     if !has_integer(row, "pid") {
-        return Some(this.has(Key::Pid));
+        return Some(this.has(FileKey::Pid));
     }
     if !has_integer(row, "uid") {
-        return Some(this.has(Key::Uid));
+        return Some(this.has(FileKey::Uid));
     }
     if !has_text(row, "execname") {
-        return Some(this.has(Key::Execname));
+        return Some(this.has(FileKey::Execname));
     }
     None
 }
 
 fn first_of_probes(file: &Value) -> Option<Found>
     ensures { MatchOption result (has_field (codes "probes") (is_list_of is_text) (view file.now) ≡ true)
-        (IsFoundOfList (of Part.File Key.Probes) is_text IsMisshapenProbe (items_at (codes "probes") (view file.now))) }
+        (IsFoundOfList (of Part.File FileKey.Probes) is_text IsMisshapenProbe (items_at (codes "probes") (view file.now))) }
 {
     match items_at(file, "probes") {
         Some(rows) => first_probe(rows),
-        None => Some(Part::File.has(Key::Probes)),
+        None => Some(Part::File.has(FileKey::Probes)),
     }
 }
 
@@ -155,18 +155,18 @@ fn of_probe(at: usize, row: &Value) -> Option<Found>
 {
     let this = Part::Probe(at);
     if !row.is_string() {
-        return Some(this.has(Key::Text));
+        return Some(this.has(FileKey::Text));
     }
     None
 }
 
 fn first_of_scripts(file: &Value) -> Option<Found>
     ensures { MatchOption result (has_field (codes "scripts") (is_list_of (is_list_of is_firing)) (view file.now) ≡ true)
-        (IsFoundOfList (of Part.File Key.Scripts) (is_list_of is_firing) IsMisshapenScript (items_at (codes "scripts") (view file.now))) }
+        (IsFoundOfList (of Part.File FileKey.Scripts) (is_list_of is_firing) IsMisshapenScript (items_at (codes "scripts") (view file.now))) }
 {
     match items_at(file, "scripts") {
         Some(rows) => first_script(rows),
-        None => Some(Part::File.has(Key::Scripts)),
+        None => Some(Part::File.has(FileKey::Scripts)),
     }
 }
 
@@ -189,7 +189,7 @@ fn of_script(cpu: usize, script: &Value) -> Option<Found>
 {
     match items(script) {
         Some(rows) => first_firing(cpu, rows),
-        None => Some(Part::Script(cpu).has(Key::Scripts)),
+        None => Some(Part::Script(cpu).has(FileKey::Scripts)),
     }
 }
 
@@ -212,28 +212,28 @@ fn of_firing(cpu: usize, at: usize, row: &Value) -> Option<Found>
 {
     let this = Part::Firing { cpu, row: at };
     if !has_integer(row, "probe") {
-        return Some(this.has(Key::Probe));
+        return Some(this.has(FileKey::Probe));
     }
     if !has_integer(row, "pid") {
-        return Some(this.has(Key::Pid));
+        return Some(this.has(FileKey::Pid));
     }
     if !may_have_integer(row, "tid") {
-        return Some(this.has(Key::Tid));
+        return Some(this.has(FileKey::Tid));
     }
     if !may_have_text(row, "mode") {
-        return Some(this.has(Key::Mode));
+        return Some(this.has(FileKey::Mode));
     }
     if !may_have_integer(row, "timestamp") {
-        return Some(this.has(Key::Timestamp));
+        return Some(this.has(FileKey::Timestamp));
     }
     if !may_have_numbers(row, "args") {
-        return Some(this.has(Key::Args));
+        return Some(this.has(FileKey::Args));
     }
     if !may_have_numbers(row, "kstack") {
-        return Some(this.has(Key::Kstack));
+        return Some(this.has(FileKey::Kstack));
     }
     if !may_have_numbers(row, "ustack") {
-        return Some(this.has(Key::Ustack));
+        return Some(this.has(FileKey::Ustack));
     }
     None
 }

@@ -106,9 +106,9 @@ pub enum Call {
     Lquantize(Expr, Bounds),
 }
 
-/// `@name[keys] = function(value)`. (illumos Dynamic Tracing Guide, "Aggregations".)
+/// A use of an aggregation: `@name[keys] = function(value)`. (illumos Dynamic Tracing Guide, "Aggregations".)
 #[derive(Drop)]
-pub struct Aggregation {
+pub struct AggregationUse {
     pub name: ShortText,
     /// At most [`KEYS_MAX`].
     pub keys: Vec<Argument>,
@@ -128,7 +128,7 @@ pub enum Statement {
     /// `exit(e)`: tracing stops with this status.
     Exit(Expr),
     /// The value is given to an aggregation.
-    Aggregate(Aggregation),
+    Aggregate(AggregationUse),
 }
 
 /// What is to be done at the probes that some descriptions ask for, where the predicate, if there is one, isn't 0.

@@ -11,7 +11,7 @@ mod limit_laws;
 mod program;
 
 pub use clause::{
-    Aggregation, Argument, BoundsFault, Call, Clause, DESCRIPTIONS_MAX, FRAMES_MAX, Frames,
+    AggregationUse, Argument, BoundsFault, Call, Clause, DESCRIPTIONS_MAX, FRAMES_MAX, Frames,
     KEYS_MAX, STATEMENTS_MAX, Statement, checked_bounds,
 };
 pub use description::{Description, DescriptionFault, one_description, some_description};

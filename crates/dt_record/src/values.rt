@@ -12,7 +12,7 @@ use crate::limits::VALUES_MAX;
 use arrayvec::ArrayVec;
 use dt_expr::{EvalFault, Scene, Text, TextVariable, Value, eval};
 use dt_names::PADDED_SIZE;
-use dt_program::{Aggregation, Argument, Call};
+use dt_program::{Argument, Call};
 
 /// A text as a record shows it: its bytes, and zeros up to 32 bytes in all.
 pub(crate) fn shown<'a>(text: &'a Text, scene: &Scene<'a>) -> &'a [u8; PADDED_SIZE]

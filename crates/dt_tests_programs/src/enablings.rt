@@ -2,7 +2,7 @@
 use dt_ecb::{Ecb, EnableFault, Shapes, enable, listed};
 use dt_expr::{Expr, Text};
 use dt_lang::{
-    Aggregation, Argument, Bounds, CLAUSES_MAX, Call, Clause, DESCRIPTIONS_MAX, Description,
+    AggregationUse, Argument, Bounds, CLAUSES_MAX, Call, Clause, DESCRIPTIONS_MAX, Description,
     Frames, KEYS_MAX, ParseProgram, Program, STATEMENTS_MAX, Statement,
 };
 use dt_machine::Machine;
@@ -146,7 +146,7 @@ fn statement(alloc: Global, text: &str) -> Result<Statement, Fail> {
                 return Err("too many keys".into());
             }
             let name = ShortText::new(name.as_bytes()).ok_or("no name")?;
-            Statement::Aggregate(Aggregation {
+            Statement::Aggregate(AggregationUse {
                 name,
                 keys,
                 call: call(word)?,

@@ -17,8 +17,8 @@ use Rattle.dt_lang.specs.machine.Piece.{FindsAs, FindsInBody, head_sign, FindsRu
 use Rattle.dt_lang.specs.machine.Piece.{FindsPiece, opens_comment}
 use Rattle.dt_lang.specs.Spelling.{spelling}
 use Rattle.dt_lang.specs.Word.{name_of_word, IsWord}
-use Rattle.dt_lang.specs.declared.mode.Mode.{Mode}
-use Rattle.dt_lang.specs.declared.mode.Mode.TheVariants as mode
+use Rattle.dt_lang.specs.declared.mode.LexerMode.{LexerMode}
+use Rattle.dt_lang.specs.declared.mode.LexerMode.TheVariants as mode
 use Rattle.dt_lang.specs.declared.piece.Piece.{Piece}
 use Rattle.dt_lang.specs.declared.piece.Piece.TheVariants as piece
 use Rattle.dt_lang.specs.declared.piece.Start.{Start}
@@ -250,16 +250,16 @@ module _ (some_description : (text : List ℕ)
   some_in_head : (text : List ℕ) → (found : Piece) × FindsInHead text found
   some_in_head text = some_run (take_while is_description_byte text) text
 
-  some_in_mode : (m : Mode) (text : List ℕ) → (found : Piece) × FindsInMode m text found
+  some_in_mode : (m : LexerMode) (text : List ℕ) → (found : Piece) × FindsInMode m text found
   some_in_mode mode.Head text = some_in_head text
   some_in_mode mode.Tail text = some_in_head text
   some_in_mode (mode.Predicate depth) text = some_in_body text
   some_in_mode mode.Body text = some_in_body text
 
-  some_uncommented : (begun : Bool) (m : Mode) (text : List ℕ) → (found : Piece) × FindsUncommented begun m text found
+  some_uncommented : (begun : Bool) (m : LexerMode) (text : List ℕ) → (found : Piece) × FindsUncommented begun m text found
   some_uncommented true m text = (piece.Stray, refl)
   some_uncommented false m text = some_in_mode m text
 
-  pub some_piece : (m : Mode) (text : List ℕ) → (found : Piece) × FindsPiece m text found
+  pub some_piece : (m : LexerMode) (text : List ℕ) → (found : Piece) × FindsPiece m text found
   some_piece m [] = (piece.End, refl)
   some_piece m (byte ∷ rest) = some_uncommented (opens_comment (byte ∷ rest)) m (byte ∷ rest)

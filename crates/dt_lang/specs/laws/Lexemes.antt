@@ -5,7 +5,7 @@ use Rattle.dt_program.specs.Description.{DescForm, ReadsDescription}
 use Rattle.dt_program.specs.declared.description.DescriptionFault.{DescriptionFault}
 use Rattle.dt_lang.specs.Lexeme.{placed, Lexes, LiesWithin, Stands}
 use Rattle.dt_lang.specs.declared.lexer.Lexeme.{Lexeme}
-use Rattle.dt_lang.specs.declared.mode.Mode.{Mode}
+use Rattle.dt_lang.specs.declared.mode.LexerMode.{LexerMode}
 use Rattle.dt_lang.specs.declared.piece.Piece.{Piece}
 use Rattle.dt_lang.specs.declared.piece.Piece.TheVariants as piece
 use Rattle.dt_lang.specs.laws.BlankLaws.{one_rest, some_rest, rest_less}
@@ -15,7 +15,7 @@ use Rattle.dt_lang.specs.laws.Sameness.{one_piece}
 use Rattle.dt_lang.specs.laws.Standing.{stands_found}
 
 pub some_lexed : ((text : List ℕ) → (reading : Result DescForm DescriptionFault) × ReadsDescription text reading)
-    → (text : List ℕ) (m : Mode) (from : ℕ) → (lexeme : Lexeme) × Lexes text m from lexeme
+    → (text : List ℕ) (m : LexerMode) (from : ℕ) → (lexeme : Lexeme) × Lexes text m from lexeme
 some_lexed some text m from =
     let r = some_rest (drop from text) in
     let f = some_piece some m r.rest in (
@@ -31,7 +31,7 @@ some_lexed some text m from =
 
 pub one_lexed : ((text : List ℕ) (a b : Result DescForm DescriptionFault) → ReadsDescription text a
     → ReadsDescription text b → a ≡ b)
-    → (text : List ℕ) (m : Mode) (from : ℕ) (a b : Lexeme) → Lexes text m from a → Lexes text m from b → a ≡ b
+    → (text : List ℕ) (m : LexerMode) (from : ℕ) (a b : Lexeme) → Lexes text m from a → Lexes text m from b → a ≡ b
 one_lexed one text m from a b h k =
     let rest = one_rest (drop from text) h.rest k.rest h.skipped k.skipped in
     let stands = subst (λ (r : List ℕ). Stands m r h.found) rest h.stands in
@@ -39,7 +39,7 @@ one_lexed one text m from a b h k =
     h.lexeme_is ∙ ap (λ (r : List ℕ). placed (length text - length r) h.found) rest
     ∙ ap (placed (length text - length k.rest)) found ∙ sym k.lexeme_is
 
-placed_within : (text rest : List ℕ) (m : Mode) (from : ℕ) (found : Piece) → from ≤ length text
+placed_within : (text rest : List ℕ) (m : LexerMode) (from : ℕ) (found : Piece) → from ≤ length text
     → length rest ≤ length (drop from text) → Stands m rest found
     → LiesWithin from (placed (length text - length rest) found) (length text)
 placed_within text rest m from (piece.Token t size) fits less h =
@@ -59,7 +59,7 @@ placed_within text rest m from piece.Stray fits less h =
 placed_within text rest m from piece.End fits less h =
     let behind = length-drop from text in (omega arith, omega arith)
 
-pub lexed_within : (text : List ℕ) (m : Mode) (from : ℕ) (lexeme : Lexeme) → from ≤ length text
+pub lexed_within : (text : List ℕ) (m : LexerMode) (from : ℕ) (lexeme : Lexeme) → from ≤ length text
     → Lexes text m from lexeme → LiesWithin from lexeme (length text)
 lexed_within text m from lexeme fits h =
     subst (λ l. LiesWithin from l (length text)) (sym h.lexeme_is)

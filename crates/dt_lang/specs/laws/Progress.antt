@@ -2,8 +2,8 @@
 use Rattle.std.proofs.Common.{◌≡◌, ℕ, ◌≤◌, inl, inr, List, [], ◌∷◌, length, ap, arith, length-append}
 use Rattle.dt_lang.specs.Lexeme.{IsBodyPiece, IsHeadPiece, IsPiece, Stands}
 use Rattle.dt_lang.specs.declared.fault.Limit.{Limit}
-use Rattle.dt_lang.specs.declared.mode.Mode.{Mode}
-use Rattle.dt_lang.specs.declared.mode.Mode.TheVariants as mode
+use Rattle.dt_lang.specs.declared.mode.LexerMode.{LexerMode}
+use Rattle.dt_lang.specs.declared.mode.LexerMode.TheVariants as mode
 use Rattle.dt_lang.specs.declared.piece.Piece.{Piece}
 use Rattle.dt_lang.specs.declared.piece.Piece.TheVariants as piece
 use Rattle.dt_lang.specs.declared.token.Token.{Token}
@@ -25,20 +25,20 @@ head_some bytes found h = elim (head_fits bytes found h) [
 body_some : (bytes : List ℕ) (found : Piece) → IsBodyPiece bytes found → 1 ≤ length bytes
 body_some bytes found h = some_length bytes (front_of bytes found h).some
 
-pub piece_some : (m : Mode) (bytes : List ℕ) (found : Piece) → IsPiece m bytes found → 1 ≤ length bytes
+pub piece_some : (m : LexerMode) (bytes : List ℕ) (found : Piece) → IsPiece m bytes found → 1 ≤ length bytes
 piece_some mode.Head bytes found h = head_some bytes found h
 piece_some mode.Tail bytes found h = head_some bytes found h
 piece_some (mode.Predicate depth) bytes found h = body_some bytes found h
 piece_some mode.Body bytes found h = body_some bytes found h
 
-overlong_size : (m : Mode) (bytes : List ℕ) (limit : Limit) (size : ℕ) → IsPiece m bytes (piece.Overlong limit size)
+overlong_size : (m : LexerMode) (bytes : List ℕ) (limit : Limit) (size : ℕ) → IsPiece m bytes (piece.Overlong limit size)
     → size ≡ length bytes
 overlong_size mode.Head bytes limit size h = absurd h
 overlong_size mode.Tail bytes limit size h = absurd h
 overlong_size (mode.Predicate depth) bytes limit size h = h.1
 overlong_size mode.Body bytes limit size h = h.1
 
-token_size : (m : Mode) (bytes : List ℕ) (t : Token) (size : ℕ) → IsPiece m bytes (piece.Token t size)
+token_size : (m : LexerMode) (bytes : List ℕ) (t : Token) (size : ℕ) → IsPiece m bytes (piece.Token t size)
     → size ≡ length bytes
 token_size mode.Head bytes t size h = h.1
 token_size mode.Tail bytes t size h = h.1
@@ -49,7 +49,7 @@ pub record Within (text : List ℕ) (size : ℕ) : Type 0 where
   pub some : 1 ≤ size
   pub fits : size ≤ length text
 
-pub token_within : (m : Mode) (text : List ℕ) (t : Token) (size : ℕ) → Stands m text (piece.Token t size)
+pub token_within : (m : LexerMode) (text : List ℕ) (t : Token) (size : ℕ) → Stands m text (piece.Token t size)
     → Within text size
 token_within m [] t size e = cc
 token_within m (byte ∷ rest) t size (inl l) =
@@ -60,7 +60,7 @@ token_within m (byte ∷ rest) t size (inl l) =
     record { some = omega arith; fits = omega arith }
 token_within m (byte ∷ rest) t size (inr n) = let bad = n.0 in cc
 
-pub overlong_within : (m : Mode) (text : List ℕ) (limit : Limit) (size : ℕ) → Stands m text (piece.Overlong limit size)
+pub overlong_within : (m : LexerMode) (text : List ℕ) (limit : Limit) (size : ℕ) → Stands m text (piece.Overlong limit size)
     → Within text size
 overlong_within m [] limit size e = cc
 overlong_within m (byte ∷ rest) limit size (inl l) =

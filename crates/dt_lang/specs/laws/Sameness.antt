@@ -13,8 +13,8 @@ use Rattle.dt_lang.specs.Class.{is_string_byte, is_description_byte}
 use Rattle.dt_lang.specs.Lexeme.{IsBodyPiece, IsDescriptionToken, IsHeadPiece, IsPiece, Stands}
 use Rattle.dt_lang.specs.Number.{IsNumber, IsDecimal, IsOctal, IsHexadecimal}
 use Rattle.dt_lang.specs.machine.Piece.{start_of, NumberOf, aggregation_read}
-use Rattle.dt_lang.specs.declared.mode.Mode.{Mode}
-use Rattle.dt_lang.specs.declared.mode.Mode.TheVariants as mode
+use Rattle.dt_lang.specs.declared.mode.LexerMode.{LexerMode}
+use Rattle.dt_lang.specs.declared.mode.LexerMode.TheVariants as mode
 use Rattle.dt_lang.specs.declared.piece.Piece.{Piece}
 use Rattle.dt_lang.specs.declared.piece.Piece.TheVariants as piece
 use Rattle.dt_lang.specs.declared.piece.Start.{Start}
@@ -210,7 +210,7 @@ module _ (one_description : (text : List ℕ) (a b : Result DescForm Description
     ]
   ]
 
-  same_piece : (m : Mode) (bytes : List ℕ) (f g : Piece) → IsPiece m bytes f → IsPiece m bytes g → f ≡ g
+  same_piece : (m : LexerMode) (bytes : List ℕ) (f g : Piece) → IsPiece m bytes f → IsPiece m bytes g → f ≡ g
   same_piece mode.Head bytes f g h k = same_in_head bytes f g h k
   same_piece mode.Tail bytes f g h k = same_in_head bytes f g h k
   same_piece (mode.Predicate depth) bytes f g h k = same_in_body bytes f g h k
@@ -224,7 +224,7 @@ module _ (one_description : (text : List ℕ) (a b : Result DescForm Description
       let t = tails x y _ _ e in
       ap (λ v. v ∷ xs) t.0 ∙ ap (λ (u : List ℕ). y ∷ u) (same_front xs ys r s t.1 (omega arith))
 
-  pub one_piece : (m : Mode) (text : List ℕ) (f g : Piece) → Stands m text f → Stands m text g → f ≡ g
+  pub one_piece : (m : LexerMode) (text : List ℕ) (f g : Piece) → Stands m text f → Stands m text g → f ≡ g
   one_piece m [] f g h k = h ∙ sym k
   one_piece m (byte ∷ rest) f g (inl h) (inl k) =
       let le = h.longest k.bytes k.rest g k.cut k.is in

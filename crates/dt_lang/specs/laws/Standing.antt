@@ -4,24 +4,24 @@ use Rattle.std.proofs.Common.{arith}
 use Rattle.std.proofs.lemmas.Bool.{false≢true, eqb-true}
 use Rattle.dt_lang.specs.Lexeme.{IsPiece, OPENING, IsLongest, Stands}
 use Rattle.dt_lang.specs.machine.Piece.{FindsInMode, FindsUncommented, FindsPiece, opens_comment}
-use Rattle.dt_lang.specs.declared.mode.Mode.{Mode}
-use Rattle.dt_lang.specs.declared.mode.Mode.TheVariants as mode
+use Rattle.dt_lang.specs.declared.mode.LexerMode.{LexerMode}
+use Rattle.dt_lang.specs.declared.mode.LexerMode.TheVariants as mode
 use Rattle.dt_lang.specs.declared.piece.Piece.{Piece}
 use Rattle.dt_lang.specs.declared.piece.Piece.TheVariants as piece
 use Rattle.dt_lang.specs.laws.Bodies.{Top, Tops, body_top, comment_body}
 use Rattle.dt_lang.specs.laws.Heads.{head_top, comment_head}
 
-longest : (m : Mode) (text : List ℕ) (found : Piece) → Top (λ bytes piece. IsPiece m bytes piece) text found
+longest : (m : LexerMode) (text : List ℕ) (found : Piece) → Top (λ bytes piece. IsPiece m bytes piece) text found
     → IsLongest m text found
 longest m text found t =
     record { bytes = t.bytes; rest = t.rest; cut = t.cut; is = t.is; longest = t.longest }
 
-standing : (m : Mode) (byte : ℕ) (rest : List ℕ) (found : Piece)
+standing : (m : LexerMode) (byte : ℕ) (rest : List ℕ) (found : Piece)
     → Tops (λ bytes piece. IsPiece m bytes piece) (byte ∷ rest) found → Stands m (byte ∷ rest) found
 standing m byte rest found (inl t) = inl (longest m (byte ∷ rest) found t)
 standing m byte rest found (inr n) = inr n
 
-in_mode : (m : Mode) (byte : ℕ) (rest : List ℕ) (found : Piece) → opens_comment (byte ∷ rest) ≡ false
+in_mode : (m : LexerMode) (byte : ℕ) (rest : List ℕ) (found : Piece) → opens_comment (byte ∷ rest) ≡ false
     → FindsInMode m (byte ∷ rest) found → Stands m (byte ∷ rest) found
 in_mode mode.Head byte rest found shut h =
     standing mode.Head byte rest found (head_top (byte ∷ rest) found (omega arith) shut h)
@@ -46,14 +46,14 @@ opening (x ∷ y ∷ rest) e =
     let second = eqb-true y 42 h.1 in
     (rest, cc)
 
-in_comment : (m : Mode) (text behind : List ℕ) → text ≡ OPENING ++ behind → IsLongest m text piece.Stray
+in_comment : (m : LexerMode) (text behind : List ℕ) → text ≡ OPENING ++ behind → IsLongest m text piece.Stray
 in_comment mode.Head text behind e = longest mode.Head text piece.Stray (comment_head text behind e)
 in_comment mode.Tail text behind e = longest mode.Tail text piece.Stray (comment_head text behind e)
 in_comment (mode.Predicate depth) text behind e =
     longest (mode.Predicate depth) text piece.Stray (comment_body text behind e)
 in_comment mode.Body text behind e = longest mode.Body text piece.Stray (comment_body text behind e)
 
-uncommented : (begun : Bool) (m : Mode) (byte : ℕ) (rest : List ℕ) (found : Piece)
+uncommented : (begun : Bool) (m : LexerMode) (byte : ℕ) (rest : List ℕ) (found : Piece)
     → begun ≡ opens_comment (byte ∷ rest) → FindsUncommented begun m (byte ∷ rest) found
     → Stands m (byte ∷ rest) found
 uncommented true m byte rest found b e =
@@ -61,6 +61,6 @@ uncommented true m byte rest found b e =
     inl (subst (IsLongest m (byte ∷ rest)) (sym e) (in_comment m (byte ∷ rest) cut.0 cut.1))
 uncommented false m byte rest found b h = in_mode m byte rest found (sym b) h
 
-pub stands_found : (m : Mode) (text : List ℕ) (found : Piece) → FindsPiece m text found → Stands m text found
+pub stands_found : (m : LexerMode) (text : List ℕ) (found : Piece) → FindsPiece m text found → Stands m text found
 stands_found m [] found h = h
 stands_found m (byte ∷ rest) found h = uncommented (opens_comment (byte ∷ rest)) m byte rest found refl h

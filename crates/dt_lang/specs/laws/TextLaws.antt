@@ -7,8 +7,8 @@ use Rattle.dt_lang.specs.declared.fault.Limit.{Limit}
 use Rattle.dt_lang.specs.Fault.{why_of}
 use Rattle.dt_lang.specs.declared.lexer.Lexeme.{Lexeme}
 use Rattle.dt_lang.specs.declared.lexer.Lexeme.TheVariants as lexeme
-use Rattle.dt_lang.specs.declared.mode.Mode.{Mode}
-use Rattle.dt_lang.specs.declared.mode.Mode.TheVariants.{Head}
+use Rattle.dt_lang.specs.declared.mode.LexerMode.{LexerMode}
+use Rattle.dt_lang.specs.declared.mode.LexerMode.TheVariants.{Head}
 use Rattle.dt_lang.specs.declared.token.Token.{Token}
 use Rattle.dt_lang.specs.Lexeme.{Lexes, LiesWithin}
 use Rattle.dt_lang.specs.Mode.{mode_after}
@@ -26,9 +26,9 @@ use Rattle.dt_lang.specs.laws.CauseLaws.{refused, unrefused, unrefused_steps, on
 
 -- what is said of lexemes
 pub record LexemeLaws (text : List ℕ) : Type 0 where
-  pub one : (mode : Mode) (from : ℕ) (a b : Lexeme) → Lexes text mode from a → Lexes text mode from b → a ≡ b
-  pub some : (mode : Mode) (from : ℕ) → from ≤ length text → (l : Lexeme) × Lexes text mode from l
-  pub within : (mode : Mode) (from : ℕ) (l : Lexeme) → from ≤ length text → Lexes text mode from l
+  pub one : (mode : LexerMode) (from : ℕ) (a b : Lexeme) → Lexes text mode from a → Lexes text mode from b → a ≡ b
+  pub some : (mode : LexerMode) (from : ℕ) → from ≤ length text → (l : Lexeme) × Lexes text mode from l
+  pub within : (mode : LexerMode) (from : ℕ) (l : Lexeme) → from ≤ length text → Lexes text mode from l
       → LiesWithin from l (length text)
 
 -- how the reading of a text stops: with a program, or refused between these places
@@ -37,7 +37,7 @@ pub data Stop : Type 0 where
   refused_there : (at end : ℕ) → Cause → Stop
 
 -- After these tokens the reading of a text stops so.
-pub data Stops (text : List ℕ) (mode : Mode) (ts : List Token) (from : ℕ) : Stop → Type 0 where
+pub data Stops (text : List ℕ) (mode : LexerMode) (ts : List Token) (from : ℕ) : Stop → Type 0 where
   at_token : (t : Token) (at to : ℕ) (cause : Cause) → Lexes text mode from (lexeme.Token at t to)
       → Refused ts t cause → Stops text mode ts from (refused_there at to cause)
   at_overlong : (at to : ℕ) (limit : Limit) → Lexes text mode from (lexeme.Overlong at limit to)
@@ -51,7 +51,7 @@ pub data Stops (text : List ℕ) (mode : Mode) (ts : List Token) (from : ℕ) : 
 
 -- the tokens that are read of a text, and how the reading stops
 pub record Stopped (text : List ℕ) (stop : Stop) : Type 0 where
-  pub mode : Mode
+  pub mode : LexerMode
   pub tokens : List Token
   pub from : ℕ
   pub stand : TokensTo text mode tokens from
@@ -86,13 +86,13 @@ stopped_whole {cs = cs} h = record {
 }
 
 -- where other tokens of the text end, seen from where these do
-data Ahead (text : List ℕ) (mode : Mode) (ts : List Token) (from : ℕ) : Mode → List Token → ℕ → Type 0 where
+data Ahead (text : List ℕ) (mode : LexerMode) (ts : List Token) (from : ℕ) : LexerMode → List Token → ℕ → Type 0 where
   here : Ahead text mode ts from mode ts from
-  there : (t : Token) (at to : ℕ) (rest : List Token) (other : Mode) (n : ℕ)
+  there : (t : Token) (at to : ℕ) (rest : List Token) (other : LexerMode) (n : ℕ)
       → Lexes text mode from (lexeme.Token at t to) → Ahead text mode ts from other (ts ++ (t ∷ rest)) n
 
 -- tokens that are as many are the same
-record Same (mode other : Mode) (ts us : List Token) (from n : ℕ) : Type 0 where
+record Same (mode other : LexerMode) (ts us : List Token) (from n : ℕ) : Type 0 where
   modes : mode ≡ other
   tokens : ts ≡ us
   ends : from ≡ n
@@ -100,12 +100,12 @@ record Same (mode other : Mode) (ts us : List Token) (from n : ℕ) : Type 0 whe
 length_last : (ts : List Token) (t : Token) → length (ts ++ (t ∷ [])) ≡ suc (length ts)
 length_last ts t = omega (arith, length-append ts (t ∷ []))
 
-none_ahead : (text : List ℕ) (mode : Mode) (ts : List Token) (from : ℕ) → TokensTo text mode ts from
+none_ahead : (text : List ℕ) (mode : LexerMode) (ts : List Token) (from : ℕ) → TokensTo text mode ts from
     → length ts ≤ 0 → Ahead text mode ts from Head [] 0
 none_ahead text _ _ _ none s = here
 none_ahead text _ _ _ (another mode ts t from at to h l) s = absurd (omega (arith, length_last ts t))
 
-one_more : (text : List ℕ) (mode other : Mode) (ts us : List Token) (from n : ℕ) (t : Token) (at to : ℕ) (next : Mode)
+one_more : (text : List ℕ) (mode other : LexerMode) (ts us : List Token) (from n : ℕ) (t : Token) (at to : ℕ) (next : LexerMode)
     → Ahead text mode ts from other us n → Lexes text other n (lexeme.Token at t to)
     → Ahead text mode ts from next (us ++ (t ∷ [])) to
 one_more text mode _ ts _ from _ t at to next here l = there t at to [] next to l
@@ -114,7 +114,7 @@ one_more text mode _ ts _ from _ t at to next (there x a b rest other n k) l =
     subst (λ (y : List Token). Ahead text mode ts from next y to) (sym e)
     (there x a b (rest ++ (t ∷ [])) next to k)
 
-same_last : (mode other : Mode) (ts us : List Token) (from n : ℕ) (t u : Token) (at a to b : ℕ)
+same_last : (mode other : LexerMode) (ts us : List Token) (from n : ℕ) (t u : Token) (at a to b : ℕ)
     → Same mode other ts us from n → lexeme.Token at t to ≡ lexeme.Token a u b
     → Same (mode_after mode t) (mode_after other u) (ts ++ (t ∷ [])) (us ++ (u ∷ [])) to b
 same_last mode other ts us from n t u at a to b s e =
@@ -123,7 +123,7 @@ same_last mode other ts us from n t u at a to b s e =
     record { modes = rw (s.modes, i) refl; tokens = rw (s.tokens, i) refl; ends = j }
 
 module _ (text : List ℕ) (laws : LexemeLaws text) where
-  as_many : (mode other : Mode) (ts us : List Token) (from n : ℕ) → TokensTo text mode ts from
+  as_many : (mode other : LexerMode) (ts us : List Token) (from n : ℕ) → TokensTo text mode ts from
       → TokensTo text other us n → length ts ≡ length us → Same mode other ts us from n
   as_many _ _ _ _ _ _ none none e = record { modes = refl; tokens = refl; ends = refl }
   as_many _ _ _ _ _ _ none (another other us u n a b k m) e = absurd (omega (arith, length_last us u))
@@ -133,7 +133,7 @@ module _ (text : List ℕ) (laws : LexemeLaws text) where
       let l2 : Lexes text other n (lexeme.Token at t to) = rw (s.modes, s.ends) at l in
       same_last mode other ts us from n t u at a to b s (laws.one other n _ _ l2 m)
 
-  ahead : (mode other : Mode) (ts us : List Token) (from n : ℕ) → TokensTo text mode ts from
+  ahead : (mode other : LexerMode) (ts us : List Token) (from n : ℕ) → TokensTo text mode ts from
       → TokensTo text other us n → length ts ≤ length us → Ahead text mode ts from other us n
   ahead mode _ ts _ from _ h none s = none_ahead text mode ts from h s
   ahead mode _ ts _ from _ h (another other us u n a b k m) s = elim (dec_le (length ts) (length us)) [
@@ -142,12 +142,12 @@ module _ (text : List ℕ) (laws : LexemeLaws text) where
         (omega (arith, length_last us u, i)))
   ]
     where
-      same_ahead : {mode other : Mode} {ts us : List Token} {from n : ℕ} → Same mode other ts us from n
+      same_ahead : {mode other : LexerMode} {ts us : List Token} {from n : ℕ} → Same mode other ts us from n
           → Ahead text mode ts from other us n
       same_ahead s = rw (s.modes, s.tokens, s.ends) here
 
   -- where the reading stops, no unrefused token stands
-  none_beyond : (mode : Mode) (ts : List Token) (from : ℕ) (t : Token) (at to : ℕ) (rest : List Token) (a : Stop)
+  none_beyond : (mode : LexerMode) (ts : List Token) (from : ℕ) (t : Token) (at to : ℕ) (rest : List Token) (a : Stop)
       → Lexes text mode from (lexeme.Token at t to) → NoneRefused (ts ++ (t ∷ rest)) → Stops text mode ts from a → ⊥
   none_beyond mode ts from t at to rest _ l n (at_token u b c cause k r) =
       let e = laws.one mode from _ _ k l in
@@ -168,7 +168,7 @@ module _ (text : List ℕ) (laws : LexemeLaws text) where
       let k = one_cause ts t c d r (rw i at q) in
       rw (j, to_same, k) refl
 
-  same_stop : (mode : Mode) (ts : List Token) (from : ℕ) (a b : Stop) → Stops text mode ts from a
+  same_stop : (mode : LexerMode) (ts : List Token) (from : ℕ) (a b : Stop) → Stops text mode ts from a
       → Stops text mode ts from b → a ≡ b
   same_stop mode ts from _ _ (at_token t at to c l r) (at_token u b n d k q) =
       same_refusal ts t u at b to n c d (laws.one mode from _ _ l k) r q
@@ -197,7 +197,7 @@ module _ (text : List ℕ) (laws : LexemeLaws text) where
   same_stop mode ts from _ _ (at_whole at cs l r) (at_end b k q) = absurd (q cs r)
   same_stop mode ts from _ _ (at_whole at cs l r) (at_whole b ds k q) = ap whole (one_program ts cs ds r q)
 
-  meet : (mode other : Mode) (ts us : List Token) (from n : ℕ) (a b : Stop) → Ahead text mode ts from other us n
+  meet : (mode other : LexerMode) (ts us : List Token) (from n : ℕ) (a b : Stop) → Ahead text mode ts from other us n
       → NoneRefused us → Stops text mode ts from a → Stops text other us n b → a ≡ b
   meet mode _ ts _ from _ a b here r s q = same_stop mode ts from a b s q
   meet mode _ ts _ from _ a b (there t at to rest other n l) r s q =
@@ -249,7 +249,7 @@ module _ (text : List ℕ) (laws : LexemeLaws text) where
       rw (place, its) refl
 
 -- What was read of a text so far: tokens of which none is refused, and the state that they lead to.
-pub record Going (text : List ℕ) (mode : Mode) (ts : List Token) (from : ℕ) (s : ProgramState) : Type 0 where
+pub record Going (text : List ℕ) (mode : LexerMode) (ts : List Token) (from : ℕ) (s : ProgramState) : Type 0 where
   pub stand : TokensTo text mode ts from
   pub unrefused : NoneRefused ts
   pub runs : program_run program_start ts ≡ Some s
@@ -294,7 +294,7 @@ module _ (text : List ℕ) where
   unfolding program_run
   going_first = record { stand = none; unrefused = none_refused; runs = refl }
 
-  module _ (mode : Mode) (ts : List Token) (from : ℕ) (s : ProgramState) (g : Going text mode ts from s) where
+  module _ (mode : LexerMode) (ts : List Token) (from : ℕ) (s : ProgramState) (g : Going text mode ts from s) where
     -- one more token that isn't refused
     pub going_on : (t : Token) (at to : ℕ) (next : ProgramState) → Lexes text mode from (lexeme.Token at t to)
         → cause_of s t ≡ None → program_step s t ≡ Some next → Going text (mode_after mode t) (ts ++ (t ∷ [])) to next
@@ -356,7 +356,7 @@ reads_program text cs h = (program cs, h)
 
 module _ (text : List ℕ) (laws : LexemeLaws text) where
   -- what is left of the text is read, given how it is after one more token
-  read_lexeme : (mode : Mode) (ts : List Token) (from : ℕ) (s : ProgramState) (l : Lexeme)
+  read_lexeme : (mode : LexerMode) (ts : List Token) (from : ℕ) (s : ProgramState) (l : Lexeme)
       → Going text mode ts from s → Lexes text mode from l
       → ((t : Token) (at to : ℕ) (next : ProgramState) → Lexes text mode from (lexeme.Token at t to)
       → Going text (mode_after mode t) (ts ++ (t ∷ [])) to next → SomeReading text) → SomeReading text
@@ -377,7 +377,7 @@ module _ (text : List ℕ) (laws : LexemeLaws text) where
       go (Some cs) e = reads_program text cs (ended_whole text mode ts from s g at cs l e)
       go None e = reads_refusal text at at _ (ended_early text mode ts from s g at l e)
 
-  read_rest : (left : ℕ) (mode : Mode) (ts : List Token) (from : ℕ) (s : ProgramState) → from ≤ length text
+  read_rest : (left : ℕ) (mode : LexerMode) (ts : List Token) (from : ℕ) (s : ProgramState) → from ≤ length text
       → length text ≤ from + left → Going text mode ts from s → SomeReading text
   read_rest zero mode ts from s w m g =
       let l = laws.some mode from w in

@@ -10,8 +10,8 @@ use Rattle.dt_expr.specs.declared.text.Text.{Text}
 use Rattle.dt_expr.specs.declared.text.Text.TheVariants as operand
 use Rattle.dt_program.specs.Written.{IsWrittenText, HasWrittenParts, parts_count}
 use Rattle.dt_lang.specs.declared.lexer.Lexeme.TheVariants as lexeme
-use Rattle.dt_lang.specs.declared.mode.Mode.{Mode}
-use Rattle.dt_lang.specs.declared.mode.Mode.TheVariants as modes
+use Rattle.dt_lang.specs.declared.mode.LexerMode.{LexerMode}
+use Rattle.dt_lang.specs.declared.mode.LexerMode.TheVariants as modes
 use Rattle.dt_lang.specs.declared.piece.Piece.{Piece}
 use Rattle.dt_lang.specs.declared.piece.Piece.TheVariants as piece
 use Rattle.dt_lang.specs.declared.token.Sign.TheVariants as sign
@@ -65,20 +65,20 @@ head_token bytes (token.Number z) h = absurd h
 head_token bytes (token.String t) h = absurd h
 head_token bytes (token.Aggregation name) h = absurd h
 
-piece_token : (mode : Mode) (bytes : List ℕ) (t : Token) (size : ℕ) → IsPiece mode bytes (piece.Token t size)
+piece_token : (mode : LexerMode) (bytes : List ℕ) (t : Token) (size : ℕ) → IsPiece mode bytes (piece.Token t size)
     → IsWrittenToken t
 piece_token modes.Head bytes t size h = head_token bytes t h.0
 piece_token modes.Tail bytes t size h = head_token bytes t h.0
 piece_token (modes.Predicate depth) bytes t size h = body_token bytes t h.0
 piece_token modes.Body bytes t size h = body_token bytes t h.0
 
-standing_token : (mode : Mode) (rest : List ℕ) (t : Token) (size : ℕ) → Stands mode rest (piece.Token t size)
+standing_token : (mode : LexerMode) (rest : List ℕ) (t : Token) (size : ℕ) → Stands mode rest (piece.Token t size)
     → IsWrittenToken t
 standing_token mode [] t size h = cc
 standing_token mode (byte ∷ rest) t size h =
     ⊎_elim (λ longest. piece_token mode longest.bytes t size longest.is) (λ stray. let e = stray.0 in cc) h
 
-lexed_token : (mode : Mode) (rest : List ℕ) (found : Piece) (place at to : ℕ) (t : Token) → Stands mode rest found
+lexed_token : (mode : LexerMode) (rest : List ℕ) (found : Piece) (place at to : ℕ) (t : Token) → Stands mode rest found
     → lexeme.Token at t to ≡ placed place found → IsWrittenToken t
 lexed_token mode rest (piece.Token u size) place at to t h e =
     let same : u ≡ t = cc in subst IsWrittenToken same (standing_token mode rest u size h)
@@ -87,7 +87,7 @@ lexed_token mode rest piece.Stray place at to t h e = cc
 lexed_token mode rest piece.End place at to t h e = cc
 
 -- all tokens of a text
-pub tokens_written : {text : List ℕ} {mode : Mode} {ts : List Token} {from : ℕ} → TokensTo text mode ts from
+pub tokens_written : {text : List ℕ} {mode : LexerMode} {ts : List Token} {from : ℕ} → TokensTo text mode ts from
     → AreWritten ts
 tokens_written none = tt
 tokens_written {text = text} (another mode ts t from at to h lexes) =

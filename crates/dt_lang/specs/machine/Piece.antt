@@ -8,8 +8,8 @@ use Rattle.dt_program.specs.declared.description.Description.{Description}
 use Rattle.dt_program.specs.declared.description.DescriptionFault.{DescriptionFault}
 use Rattle.dt_lang.specs.declared.fault.Limit.TheVariants.{StringBytes, NameBytes}
 use Rattle.dt_names.specs.Limits.{short_text_max}
-use Rattle.dt_lang.specs.declared.mode.Mode.{Mode}
-use Rattle.dt_lang.specs.declared.mode.Mode.TheVariants.{Head, Predicate, Tail, Body}
+use Rattle.dt_lang.specs.declared.mode.LexerMode.{LexerMode}
+use Rattle.dt_lang.specs.declared.mode.LexerMode.TheVariants.{Head, Predicate, Tail, Body}
 use Rattle.dt_lang.specs.declared.piece.Piece.{Piece}
 use Rattle.dt_lang.specs.declared.piece.Piece.TheVariants as piece
 use Rattle.dt_lang.specs.declared.piece.Start.{Start}
@@ -103,18 +103,18 @@ FindsInHead text found = FindsRun (take_while is_description_byte text) text fou
 abbrev pub opens_comment : List ℕ → Bool
 opens_comment text = slice_index text 0 == 47 && slice_index text 1 == 42
 
-abbrev pub FindsInMode : Mode → List ℕ → Piece → Type 0
+abbrev pub FindsInMode : LexerMode → List ℕ → Piece → Type 0
 FindsInMode Head text found = FindsInHead text found
 FindsInMode Tail text found = FindsInHead text found
 FindsInMode (Predicate depth) text found = FindsInBody text found
 FindsInMode Body text found = FindsInBody text found
 
 -- a comment that isn't closed is nothing
-abbrev pub FindsUncommented : Bool → Mode → List ℕ → Piece → Type 0
+abbrev pub FindsUncommented : Bool → LexerMode → List ℕ → Piece → Type 0
 FindsUncommented true mode text found = found ≡ piece.Stray
 FindsUncommented false mode text found = FindsInMode mode text found
 
 -- What stands at the front of a text, read in this mode, where no blanks stand there.
-abbrev pub FindsPiece : Mode → List ℕ → Piece → Type 0
+abbrev pub FindsPiece : LexerMode → List ℕ → Piece → Type 0
 FindsPiece mode [] found = found ≡ piece.End
 FindsPiece mode (byte ∷ rest) found = FindsUncommented (opens_comment (byte ∷ rest)) mode (byte ∷ rest) found

@@ -4,8 +4,8 @@ use Rattle.std.specs.Prelude.{List, map}
 use Rattle.dt_expr.specs.Form.{form_of}
 use Rattle.dt_lang.specs.declared.place.Bound.{Bound}
 use Rattle.dt_lang.specs.declared.place.Bound.TheVariants as bound
-use Rattle.dt_lang.specs.declared.place.Place.{Place}
-use Rattle.dt_lang.specs.declared.place.Place.TheVariants as place
+use Rattle.dt_lang.specs.declared.place.ReaderPlace.{ReaderPlace}
+use Rattle.dt_lang.specs.declared.place.ReaderPlace.TheVariants as place
 use Rattle.dt_lang.specs.declared.place.Slot.{Slot}
 use Rattle.dt_lang.specs.declared.place.Slot.TheVariants as slot
 use Rattle.dt_lang.specs.declared.place.Target.{Target}
@@ -31,7 +31,7 @@ bound_of (bound.Upper lower) = state.at_upper lower
 bound_of (bound.Step lower upper) = state.at_step lower upper
 
 -- the place, where expressions are read in this state
-abbrev pub place_form : expression.State → Place → state.PlaceForm
+abbrev pub place_form : expression.State → ReaderPlace → state.PlaceForm
 place_form e place.Outside = state.outside
 place_form e place.Described = state.described
 place_form e place.Listed = state.listed

@@ -3,8 +3,8 @@
 use Rattle.std.specs.Prelude.{◌≡◌, ℕ, Bool, true, false, Option, Some, None, Err}
 use Rattle.dt_lang.specs.declared.fault.LangFault.{LangFault}
 use Rattle.dt_lang.specs.declared.fault.LangFault.TheVariants as fault
-use Rattle.dt_lang.specs.declared.fault.Refusal.{Refusal}
-use Rattle.dt_lang.specs.declared.fault.Refusal.TheVariants as refusal
+use Rattle.dt_lang.specs.declared.fault.TokenRefusal.{TokenRefusal}
+use Rattle.dt_lang.specs.declared.fault.TokenRefusal.TheVariants as refusal
 use Rattle.dt_program.specs.declared.clause.BoundsFault.{BoundsFault}
 use Rattle.dt_lang.specs.declared.fault.Flaw.{Flaw}
 use Rattle.dt_lang.specs.declared.fault.Flaw.TheVariants as flaw
@@ -18,7 +18,7 @@ use Rattle.dt_lang.specs.machine.ClauseState.{PlaceForm, body, assigned, within,
 use Rattle.dt_lang.specs.machine.Fits.{Fits}
 use Rattle.dt_lang.specs.Refused.{Cause, because, destroys}
 
-abbrev pub cause_of_refusal : Refusal → Cause
+abbrev pub cause_of_refusal : TokenRefusal → Cause
 cause_of_refusal (refusal.Flaw flaw) = because flaw
 cause_of_refusal (refusal.Destructive what) = destroys what
 
@@ -67,11 +67,11 @@ ShownOutcome next range (Some (flaw.Range fault)) new = range ≡ Some fault
 ShownOutcome next range (Some _) new = ⊥
 
 -- What came of a token: it is refused, or it leads to this state.
-abbrev pub AnswersToken : (old : ProgramState) → Token → Option Refusal → (new : ProgramState) → Type 0
+abbrev pub AnswersToken : (old : ProgramState) → Token → Option TokenRefusal → (new : ProgramState) → Type 0
 AnswersToken old t (Some refusal) new = cause_of old t ≡ Some (cause_of_refusal refusal)
 AnswersToken old t None new = (cause_of old t ≡ None) × (program_step old t ≡ Some new) × Fits new
 
 -- the fault of a token between these offsets that is refused so
-abbrev pub fault_at : (at end : ℕ) → Refusal → LangFault
+abbrev pub fault_at : (at end : ℕ) → TokenRefusal → LangFault
 fault_at at end (refusal.Flaw flaw) = fault.Program at end flaw
 fault_at at end (refusal.Destructive what) = fault.Destructive at end what

@@ -1,8 +1,8 @@
 -- What was read goes on with the next lexeme, or stops there.
 use Rattle.std.proofs.Common.{None, Some, Err, Result, sym, subst}
 use Rattle.dt_lang.specs.declared.fault.LangFault.{LangFault}
-use Rattle.dt_lang.specs.declared.mode.Mode.{Mode}
-use Rattle.dt_lang.specs.declared.mode.Mode.TheVariants.{Head}
+use Rattle.dt_lang.specs.declared.mode.LexerMode.{LexerMode}
+use Rattle.dt_lang.specs.declared.mode.LexerMode.TheVariants.{Head}
 use Rattle.dt_program.specs.declared.program.Program.{Program}
 use Rattle.dt_lang.specs.machine.ClauseState.{ProgramState}
 use Rattle.dt_lang.specs.machine.ReaderView.{Answered, program_state_of}
@@ -29,7 +29,7 @@ tokens-preserved c =
     let r = so_far_on c.args.text.now c.tokens.mode c.tokens.from (program_state_of c.tokens.reader) c.tokens.invariant
     c.in-Token.token c.in-Token.at c.in-Token.end (program_state_of c.push.new.self) c.in-Token.ensures.lexes
     c.in-Token.ensures.within a in
-    subst (λ (m : Mode). SoFar c.args.text.now m c.in-Token.end (program_state_of c.push.new.self))
+    subst (λ (m : LexerMode). SoFar c.args.text.now m c.in-Token.end (program_state_of c.push.new.self))
     (sym c.after-after.ensures) r
 
 pub returns-in-Overlong : goal.returns-in-Overlong

@@ -1,7 +1,7 @@
 -- What the proof of `first_of_accounts` is told at its goals.
 use Rattle.std.proofs.Common.{map, codes}
 use Rattle.serde_json.specs.View.{view}
-use Rattle.dt_machine.specs.declared.found.Key.TheVariants as key
+use Rattle.dt_machine.specs.declared.found.FileKey.TheVariants as key
 use Rattle.dt_machine.specs.declared.found.Part.TheVariants as part
 use Rattle.dt_machine.specs.Found.{of, IsMisshapenAccount}
 use Rattle.dt_machine.specs.Given.{items_at}

@@ -2,7 +2,7 @@
 use Rattle.std.proofs.Common.{◌≡◌, ◌∙◌, true, codes, inl, inr, sym}
 use Rattle.serde_json.specs.Find.{get}
 use Rattle.serde_json.specs.View.{view}
-use Rattle.dt_machine.specs.declared.found.Key.TheVariants as key
+use Rattle.dt_machine.specs.declared.found.FileKey.TheVariants as key
 use Rattle.dt_machine.specs.declared.found.Part.TheVariants.{File}
 use Rattle.dt_machine.specs.Found.{of, IsMisshapenAccount, IsMisshapenProcess, IsMisshapenProbe}
 use Rattle.dt_machine.specs.Given.{is_integer, is_text, has_field}

@@ -1,7 +1,7 @@
 -- What the proof of `of_script` is told at its goals.
 use Rattle.std.proofs.Common.{map}
 use Rattle.serde_json.specs.View.{view}
-use Rattle.dt_machine.specs.declared.found.Key.TheVariants as key
+use Rattle.dt_machine.specs.declared.found.FileKey.TheVariants as key
 use Rattle.dt_machine.specs.declared.found.Part.TheVariants as part
 use Rattle.dt_machine.specs.Found.{of, IsMisshapenFiring}
 use Rattle.dt_machine.specs.Shape.{is_firing}

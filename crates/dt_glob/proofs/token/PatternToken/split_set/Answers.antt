@@ -1,9 +1,9 @@
--- What the proof of `Token::split_set` is told at its goals.
+-- What the proof of `PatternToken::split_set` is told at its goals.
 use Rattle.std.proofs.Common.{ap}
 use Rattle.dt_glob.specs.PatternItem.{OneOf}
 use Rattle.dt_glob.specs.Sign.{text_of_signs}
 use Rattle.dt_glob.proofs.TokenLemmas.{begins_closes, finds_set, set_negated, set_plain}
-use Rattle.dt_glob.proofs.token.Token.split_set.Goals as goal
+use Rattle.dt_glob.proofs.token.PatternToken.split_set.Goals as goal
 
 pub split_at_closing-requires : goal.split_at_closing-requires
 split_at_closing-requires c =
