@@ -1,8 +1,11 @@
--- What the contracts of this crate cite.
+-- Aggregating functions: their bounds, their rows, the cell of a bag of values, and what is answered of it.
+
+-- What is promised.
 pub mod Limits
 pub mod Bounds
 pub mod BoundsOf
 pub mod Rows
 pub mod Cells
 pub mod Answers
+-- The laws of these.
 pub mod laws

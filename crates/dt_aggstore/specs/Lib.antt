@@ -1,4 +1,6 @@
--- What the contracts of this crate cite.
+-- Stores of aggregations: what one keeps of all that came to it, what it lends, and the table of several.
+
+-- What is promised.
 pub mod Limits
 pub mod Keys
 pub mod History
@@ -12,4 +14,5 @@ pub mod Fed
 pub mod Indexed
 pub mod IsAt
 pub mod Lent
+-- Private to the proofs: no promise names them.
 pub mod Joining

@@ -1,4 +1,6 @@
 -- Matching, ECBs, shapes of aggregations, and whether a program is enabled.
+
+-- What is promised.
 pub mod Limits
 pub mod Matching
 pub mod Ecbs
@@ -6,6 +8,8 @@ pub mod Shapes
 pub mod Enable
 pub mod Fault
 pub mod Forms
-pub mod Places
 pub mod Interest
+-- Private to the proofs: no promise names them.
+pub mod Places
+-- The laws of these.
 pub mod laws

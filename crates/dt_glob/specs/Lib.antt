@@ -1,4 +1,6 @@
 -- Patterns: what texts spell, what they match, and their faults.
+
+-- What is promised.
 pub mod Limits
 pub mod Sign
 pub mod PatternItem
@@ -7,7 +9,9 @@ pub mod Test
 pub mod Spells
 pub mod Fault
 pub mod Reading
+-- Private to the proofs: no promise names them.
 pub mod Place
 pub mod Token
 pub mod Run
+-- The laws of these.
 pub mod laws

@@ -1,18 +1,22 @@
--- What the contracts of this crate cite.
+-- The machine, and which files describe one.
+
+-- What is promised.
 pub mod Limits
 pub mod BitWord
 pub mod Interest
 pub mod Registry
 pub mod Shown
 pub mod Moment
-pub mod Inside
 pub mod Given
 pub mod Shape
 pub mod Rows
 pub mod Found
-pub mod ByPid
 pub mod Reading
-pub mod Sections
 pub mod Tests
 pub mod Bounds
+-- Private to the proofs: no promise names them.
+pub mod Inside
+pub mod ByPid
+pub mod Sections
+-- The laws of these.
 pub mod laws

@@ -1,4 +1,6 @@
--- What a clause does where it is taken, and its records; then the laws of these.
+-- What a clause does where it is taken, and its records.
+
+-- What is promised.
 pub mod Limits
 pub mod Taking
 pub mod Forms
@@ -6,7 +8,9 @@ pub mod Layout
 pub mod Fields
 pub mod Split
 pub mod Records
-pub mod Left
 pub mod Showing
 pub mod Within
+-- Private to the proofs: no promise names them.
+pub mod Left
+-- The laws of these.
 pub mod laws
