@@ -1,5 +1,5 @@
 //! Whether a program is enabled, and the ECBs that it adds.
-ghost use Rattle.std.specs.Prelude.{◌≡◌, ◌+◌, ◌-◌, ◌<◌, ◌≤◌, ◌^◌, ◌||◌, length, map, nat_lt, All, IfOk, IfErr, IfSome, vec_len};
+ghost use Rattle.std.specs.Prelude.{◌≡◌, ◌+◌, ◌++◌, ◌-◌, ◌<◌, ◌≤◌, ◌^◌, ◌||◌, length, map, nat_lt, All, IfOk, IfErr, IfSome, vec_len};
 ghost use Rattle.dt_program.specs.Program.{form_of_program};
 ghost use Rattle.dt_ecb.specs.Ecbs.{added};
 ghost use Rattle.dt_ecb.specs.Enable.{IsVerdict, enabled};
@@ -49,26 +49,26 @@ pub fn enable(
         let what = RestrictedAction::Stack;
         return Err(EnableFault::Privilege { clause, what });
     }
-    let all = shapes.after(alloc, program)?;
+    let own = Shapes::of(alloc, program)?;
     // a consumer's aggregation has one function, one set of bounds and one row of key kinds in all programs
-    if let Some(what) = first_clash(shapes, &all) {
+    if let Some(what) = first_clash(shapes, &own) {
         return Err(EnableFault::AggClash { what });
     }
     // each clause is matched with each probe once: its ECBs tell whether it takes effect on any
     let ecbs = ecbs_of(alloc, account, machine, program, next_epid)?;
     // the limits are the consumer's: what its earlier programs added counts too
-    if is_too_much(&all, next_epid, ecbs.len()) {
+    if is_too_much(shapes, &own, next_epid, ecbs.len()) {
         return Err(EnableFault::Limit);
     }
     Ok(ecbs)
 }
 
-/// Whether so many further ECBs, or the names of all uses, are more than one consumer may have.
-fn is_too_much(all: &Shapes, next_epid: u32, ecbs: usize) -> bool
+/// Whether so many further ECBs, or the names of the accepted uses and the program's own, are more than one consumer may have.
+fn is_too_much(accepted: &Shapes, own: &Shapes, next_epid: u32, ecbs: usize) -> bool
     requires from_one { 1 ≤ next_epid }
     requires few { ecbs < 2 ^ 31 }
     ensures { result ≡ (nat_lt ECBS_MAX (next_epid - 1 + ecbs)
-        || nat_lt AGGREGATIONS_MAX (spec.names_count (shapes_of all.now))) }
+        || nat_lt AGGREGATIONS_MAX (spec.names_count (shapes_of accepted.now ++ shapes_of own.now))) }
 {
-    next_epid as usize - 1 + ecbs > ECBS_MAX || names_count(&all.uses) > AGGREGATIONS_MAX
+    next_epid as usize - 1 + ecbs > ECBS_MAX || names_count(accepted, own) > AGGREGATIONS_MAX
 }

@@ -40,6 +40,13 @@ impl Shapes {
         }
     }
 
+    /// Those of a program alone.
+    pub(crate) fn of(alloc: Global, program: &Program) -> Result<Self, AllocError>
+        ensures { IfOk result (λ shapes. shapes_of shapes ≡ uses_of (form_of_program program.now)) }
+    {
+        Shapes::new(alloc).after(alloc, program)
+    }
+
     /// These, and after them those of a further program.
     pub fn after(&self, alloc: Global, program: &Program) -> Result<Self, AllocError>
         ensures { IfOk result (λ shapes.
