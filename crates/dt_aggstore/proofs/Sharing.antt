@@ -17,7 +17,7 @@ use Rattle.dt_aggfn.specs.Cells.{cell_of, IsBag}
 use Rattle.dt_aggstore.specs.Keys.{key_cmp, same_key, IsBelow}
 use Rattle.dt_aggstore.specs.Joining.{AreJoined, AreShares, MakeBag, NoneAfter, joined_at, keys_of, shared_key}
 use Rattle.dt_aggstore.specs.declared.joining.Joined.{Joined}
-use Rattle.dt_aggstore.specs.declared.share.Share.{Share}
+use Rattle.dt_aggstore.specs.declared.share.KeyShare.{KeyShare}
 use Rattle.dt_aggstore.proofs.Same.{key_decides}
 use Rattle.dt_aggstore.proofs.Filters.{yes_or_no}
 use Rattle.dt_aggstore.proofs.Rising.{Key, keys_total, key_exact, above_differs, below_differs, contains_later}
@@ -27,21 +27,21 @@ abbrev Bags-of : Type 0
 Bags-of = Key → List ℤ
 
 -- whether a share has a key
-abbrev pub has_key : Key → Share → Bool
+abbrev pub has_key : Key → KeyShare → Bool
 has_key key share = same_key (shared_key share) key
 
-abbrev Has-cell : AggFn → Share → List ℤ → Type 0
+abbrev Has-cell : AggFn → KeyShare → List ℤ → Type 0
 Has-cell function share part = IsBag part × (share.cell.now ≡ cell_of function part)
 
 -- shares are of bags that are the same
-pub shared_alike : (function : AggFn) (bags other : Bags-of) (shares : List Share)
+pub shared_alike : (function : AggFn) (bags other : Bags-of) (shares : List KeyShare)
     → ((key : Key) → bags key ≡ other key) → AreShares function bags shares → AreShares function other shares
 shared_alike function bags other shares h a = λ key. subst (MakeBag function (filter (has_key key) shares)) (h key)
     (a key)
 
 -- ---- none
 
-pub none_shared : (function : AggFn) (bags : Bags-of) (shares : List Share) → shares ≡ []
+pub none_shared : (function : AggFn) (bags : Bags-of) (shares : List KeyShare) → shares ≡ []
     → ((key : Key) → bags key ≡ []) → AreShares function bags shares
 none_shared function bags shares e none = λ key.
     subst (λ xs. MakeBag function (filter (has_key key) xs) (bags key)) (sym e)
@@ -69,7 +69,7 @@ joined_push parts last =
     flat_map-append (λ (part : List ℤ). part) parts (last ∷ [])
     ∙ ap (λ xs. flat_map (λ part. part) parts ++ xs) (append-nil last)
 
-made_more : (function : AggFn) (bag last : List ℤ) (shares : List Share) (share : Share)
+made_more : (function : AggFn) (bag last : List ℤ) (shares : List KeyShare) (share : KeyShare)
     → MakeBag function shares bag → Has-cell function share last
     → MakeBag function (shares ++ share ∷ []) (bag ++ last)
 made_more function bag last shares share m has = record {
@@ -78,7 +78,7 @@ made_more function bag last shares share m has = record {
   joined = ap (λ xs. xs ++ last) m.joined ∙ sym (joined_push m.parts last);
 }
 
-module _ (function : AggFn) (bags : Bags-of) (bag : List ℤ) (shares : List Share) (share : Share) where
+module _ (function : AggFn) (bags : Bags-of) (bag : List ℤ) (shares : List KeyShare) (share : KeyShare) where
   pub shared_more : AreShares function bags shares → IsBag bag → share.cell.now ≡ cell_of function bag
       → AreShares function (joined_at (shared_key share) bag bags) (shares ++ share ∷ [])
   shared_more so_far own cell = λ key.
@@ -105,7 +105,7 @@ zip_pop R (w ∷ xs) x (y ∷ ys) a =
     (y ∷ rest.0, rest.1, ap (λ zs. y ∷ zs) rest.2, (a.0, rest.3), rest.4)
 
 -- what shares make before the last one, and what that one has
-pub record Before (function : AggFn) (shares : List Share) (share : Share) (bag : List ℤ) : Type 0 where
+pub record Before (function : AggFn) (shares : List KeyShare) (share : KeyShare) (bag : List ℤ) : Type 0 where
   pub front : List ℤ
   pub last : List ℤ
   pub made : MakeBag function shares front
@@ -113,7 +113,7 @@ pub record Before (function : AggFn) (shares : List Share) (share : Share) (bag 
   pub cell : share.cell.now ≡ cell_of function last
   pub whole : front ++ last ≡ bag
 
-made_before : (function : AggFn) (bag : List ℤ) (shares : List Share) (share : Share)
+made_before : (function : AggFn) (bag : List ℤ) (shares : List KeyShare) (share : KeyShare)
     → MakeBag function (shares ++ share ∷ []) bag → Before function shares share bag
 made_before function bag shares share m =
     let two = zip_pop (Has-cell function) shares share m.parts m.cells in
@@ -126,7 +126,7 @@ made_before function bag shares share m =
       whole = sym (m.joined ∙ ap (flat_map (λ part. part)) two.2 ∙ joined_push two.0 two.1);
     }
 
-module _ (function : AggFn) (bags : Bags-of) (shares : List Share) (share : Share)
+module _ (function : AggFn) (bags : Bags-of) (shares : List KeyShare) (share : KeyShare)
     (all : AreShares function bags (shares ++ share ∷ [])) where
   abbrev Own-key : Key
   Own-key = shared_key share
@@ -179,7 +179,7 @@ module _ (function : AggFn) (bags : Bags-of) (shares : List Share) (share : Shar
 -- ---- in order
 
 -- whether a share's key comes before another's
-abbrev pub comes_before : Share → Share → Bool
+abbrev pub comes_before : KeyShare → KeyShare → Bool
 comes_before a b = is_lt (key_cmp (shared_key a) (shared_key b))
 
 -- keys tie exactly where they are the same
@@ -220,7 +220,7 @@ filtered p (x ∷ xs) = ⊎_elim
     (yes_or_no (p x))
 
 -- those of one key stay as they were
-same_filter : (key : Key) (xs ys : List Share) → IsStableByKey shared_key key_cmp xs ys
+same_filter : (key : Key) (xs ys : List KeyShare) → IsStableByKey shared_key key_cmp xs ys
     → filter (has_key key) ys ≡ filter (has_key key) xs
 same_filter key xs ys stable = ⊎_elim
     (λ none. ⊎_elim
@@ -230,20 +230,20 @@ same_filter key xs ys stable = ⊎_elim
     (λ some. by some.0 some.2)
     (filtered (has_key key) ys)
   where
-    by : (x : Share) → has_key key x ≡ true → filter (has_key key) ys ≡ filter (has_key key) xs
+    by : (x : KeyShare) → has_key key x ≡ true → filter (has_key key) ys ≡ filter (has_key key) xs
     by x e =
         let is = (key_decides (shared_key x) key).0 e in
         let same : ties comes_before x ≡ has_key key =
         (λ i y. tests y i) in
         subst (λ p. filter p ys ≡ filter p xs) same (stable x)
       where
-        tests : (y : Share) → ties comes_before x y ≡ has_key key y
+        tests : (y : KeyShare) → ties comes_before x y ≡ has_key key y
         tests y =
             tied (shared_key x) (shared_key y) _ _ refl refl
             ∙ same_back (shared_key x) (shared_key y)
             ∙ ap (same_key (shared_key y)) ((key_decides (shared_key x) key).0 e)
 
-pub sorted_shares : (function : AggFn) (bags : Bags-of) (xs ys : List Share)
+pub sorted_shares : (function : AggFn) (bags : Bags-of) (xs ys : List KeyShare)
     → IsStableByKey shared_key key_cmp xs ys → AreShares function bags xs → AreShares function bags ys
 sorted_shares function bags xs ys stable a = λ key.
     subst (λ zs. MakeBag function zs (bags key)) (sym (same_filter key xs ys stable)) (a key)
@@ -257,7 +257,7 @@ all_from P (x ∷ xs) h = (h x (contains_here x xs), all_from P xs (λ y c. h y 
 lt_from_less : (o : Ordering) → is_lt o ≡ false → o ≡ Less → ⊥
 lt_from_less o e f = false≢true (sym e ∙ ap is_lt f)
 
-pub none_after : (function : AggFn) (bags : Bags-of) (shares : List Share) (n : ℕ) (share : Share) (rows : List Joined)
+pub none_after : (function : AggFn) (bags : Bags-of) (shares : List KeyShare) (n : ℕ) (share : KeyShare) (rows : List Joined)
     → n < length shares → share ≡ get_or shares n share → IsSortedByKey shared_key key_cmp shares
     → AreShares function bags (take n shares) → AreJoined function bags rows
     → NoneAfter (shared_key share) (keys_of rows)
@@ -268,7 +268,7 @@ none_after function bags shares n share rows here is sorted a j =
     (λ some. by key some.0 some.1 some.2)
     (filtered (has_key key) (take n shares)))
   where
-    by : (key : Key) (x : Share) → Contains (take n shares) x → has_key key x ≡ true
+    by : (key : Key) (x : KeyShare) → Contains (take n shares) x → has_key key x ≡ true
         → IsBelow (shared_key share) key → ⊥
     by key x (k, lt, e) own below =
         let short : length (take n shares) ≡ n = length-take-le n shares (omega arith) in

@@ -16,7 +16,7 @@ use Rattle.dt_aggstore.specs.Joining.{keys_of, AreJoined, AreShares, MakesRows}
 use Rattle.dt_aggstore.specs.declared.limits.TheConstants.{ADDED_LIMIT}
 use Rattle.dt_aggstore.specs.declared.key.Aggregation.{Aggregation}
 use Rattle.dt_aggstore.specs.declared.joining.Joined.{Joined}
-use Rattle.dt_aggstore.specs.declared.share.Share.{Share}
+use Rattle.dt_aggstore.specs.declared.share.KeyShare.{KeyShare}
 use Rattle.dt_aggstore.specs.declared.store.AggStore.{AggStore}
 use Rattle.dt_aggstore.proofs.Filters.{yes_or_no}
 use Rattle.dt_aggstore.proofs.Distinct.{has, has-distinct, has_from_contains, contains_from_has}
@@ -267,14 +267,14 @@ one_table pasts aggregation rows other t u =
 -- ---- a store is shared
 
 -- what a store's shares do to shares
-abbrev pub SharesStore : Aggregation → List Share → List Share → AggStore → Type 0
+abbrev pub SharesStore : Aggregation → List KeyShare → List KeyShare → AggStore → Type 0
 SharesStore aggregation shares shares' store =
     (past : Past) (at : IsAt past store) (bags : Key → List ℤ) → AreShares aggregation.function bags shares
     → AreShares aggregation.function (λ key. bags key ++ bag past.events at.chosen aggregation key) shares'
 
 pub store_shared : (aggregation : Aggregation) (pasts : List Past) (stores : List AggStore) (at :
     AllZip IsAt pasts stores)
-    (i : ℕ) (store : AggStore) (shares shares' : List Share) → i < length stores → store ≡ get_or stores i store
+    (i : ℕ) (store : AggStore) (shares shares' : List KeyShare) → i < length stores → store ≡ get_or stores i store
     → SharesStore aggregation shares shares' store
     → AreShares aggregation.function (Bags-to aggregation pasts stores at i) shares
     → AreShares aggregation.function (Bags-to aggregation pasts stores at (i + 1)) shares'
@@ -288,7 +288,7 @@ store_shared aggregation pasts stores at i store shares shares' here is joins so
 -- all stores were shared
 pub all_shared : (aggregation : Aggregation) (pasts : List Past) (stores : List AggStore) (at :
     AllZip IsAt pasts stores) (n : ℕ)
-    (shares : List Share) → length stores ≤ n
+    (shares : List KeyShare) → length stores ≤ n
     → AreShares aggregation.function (Bags-to aggregation pasts stores at n) shares
     → AreShares aggregation.function (λ key. joined_bag aggregation key pasts (choices_of pasts stores at)) shares
 all_shared aggregation pasts stores at n shares all j =

@@ -9,7 +9,7 @@ use Rattle.dt_aggstore.specs.Keys.{same_key, IsBelow}
 use Rattle.dt_aggstore.specs.Table.{IsRising, RowForm}
 use Rattle.dt_aggstore.specs.declared.key.KeyPart.{KeyPart}
 use Rattle.dt_aggstore.specs.declared.joining.Joined.{Joined}
-use Rattle.dt_aggstore.specs.declared.share.Share.{Share}
+use Rattle.dt_aggstore.specs.declared.share.KeyShare.{KeyShare}
 
 abbrev pub key_of : Joined → List KeyPart
 key_of row = row.key.parts.items
@@ -33,17 +33,17 @@ joined_at key bag bags other = cond (same_key key other) (bags other ++ bag) (ba
 abbrev pub NoneAfter : List KeyPart → List (List KeyPart) → Type 0
 NoneAfter key keys = AllByRecursion (λ other. IsBelow key other → ⊥) keys
 
-abbrev pub shared_key : Share → List KeyPart
+abbrev pub shared_key : KeyShare → List KeyPart
 shared_key share = share.key.now.parts.items
 
 -- Shares make a bag: each has the cell of a bag, and those bags, joined in order, are it.
-pub record MakeBag (function : AggFn) (shares : List Share) (bag : List ℤ) : Type 0 where
+pub record MakeBag (function : AggFn) (shares : List KeyShare) (bag : List ℤ) : Type 0 where
   pub parts : List (List ℤ)
   pub cells : AllZip (λ share part. IsBag part × (share.cell.now ≡ cell_of function part)) shares parts
   pub joined : bag ≡ flat_map (λ part. part) parts
 
 -- Shares are of bags: those of each key make its bag.
-abbrev pub AreShares : AggFn → (List KeyPart → List ℤ) → List Share → Type 0
+abbrev pub AreShares : AggFn → (List KeyPart → List ℤ) → List KeyShare → Type 0
 AreShares function bags shares =
     (key : List KeyPart) → MakeBag function (filter (λ share. same_key (shared_key share) key) shares) (bags key)
 

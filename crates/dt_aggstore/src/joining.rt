@@ -4,7 +4,7 @@ ghost use Rattle.dt_aggfn.specs.Cells.{cell_words, cell_of, IsBag};
 ghost use Rattle.dt_aggfn.specs.declared.limits.TheConstants.{BAG_LIMIT};
 
 use crate::key::Key;
-use crate::share::Share;
+use crate::share::KeyShare;
 use dt_aggfn::AggFn;
 use std::alloc::{AllocError, Global};
 
@@ -28,16 +28,16 @@ impl Joining {
     ghost use Rattle.dt_aggstore.specs.Joining.{AreJoined, AreShares, joined_at, key_of, keys_of, shared_key, NoneAfter};
     ghost use Rattle.dt_aggstore.specs.Keys.{key_cmp, same_key};
     ghost use Rattle.dt_aggstore.specs.declared.key.KeyPart.{KeyPart};
-    ghost use Rattle.dt_aggstore.specs.declared.share.Share.{Share};
+    ghost use Rattle.dt_aggstore.specs.declared.share.KeyShare.{KeyShare};
     ghost use Rattle.std.specs.List.Sorted.{IsSortedByKey};
 
     /// The rows of shares that are in order of key. `Err`: there was no memory for them.
     pub(crate) fn of(
         alloc: Global,
         function: AggFn,
-        shares: &[Share<'_>],
+        shares: &[KeyShare<'_>],
     ) -> Result<Self, AllocError>
-        requires words { All (λ (share : Share). length share.cell.now ≡ cell_words function) shares.now }
+        requires words { All (λ (share : KeyShare). length share.cell.now ≡ cell_words function) shares.now }
         requires sorted { IsSortedByKey shared_key key_cmp shares.now }
         ensures function { IfOk result (λ joining. joining.function ≡ function) }
         // where shares are of bags, the rows are joined from those
@@ -56,7 +56,7 @@ impl Joining {
     }
 
     /// Joins a share. `Err`: there was no memory for a new row.
-    fn join(&mut self, alloc: Global, share: &Share<'_>) -> Result<(), AllocError>
+    fn join(&mut self, alloc: Global, share: &KeyShare<'_>) -> Result<(), AllocError>
         requires { length share.now.cell.now ≡ cell_words self.old.function }
         ensures function { self.new.function ≡ self.old.function }
         // On success rows joined from bags, of which none comes after the share's key, are those of the same bags with

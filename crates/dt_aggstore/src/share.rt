@@ -5,26 +5,26 @@ ghost use Rattle.dt_aggfn.specs.declared.function.AggFn.{AggFn};
 ghost use Rattle.dt_aggstore.specs.Joining.{shared_key, AreShares};
 ghost use Rattle.dt_aggstore.specs.Keys.{key_cmp};
 ghost use Rattle.dt_aggstore.specs.declared.key.KeyPart.{KeyPart};
-ghost use Rattle.dt_aggstore.specs.declared.share.Share.{Share};
+ghost use Rattle.dt_aggstore.specs.declared.share.KeyShare.{KeyShare};
 
 use crate::key::Key;
 use std::alloc::AllocError;
 
 /// A key with the cell that one store has of it.
 #[derive(Clone, Copy)]
-pub(crate) struct Share<'a> {
+pub(crate) struct KeyShare<'a> {
     pub(crate) key: &'a Key,
     pub(crate) cell: &'a [u64],
 }
 
 /// Puts shares in order of key, and leaves those of one key in the order of their stores. `Err`: there was no memory
 /// for it.
-pub(crate) fn sort(shares: &mut Vec<Share<'_>>) -> Result<(), AllocError>
+pub(crate) fn sort(shares: &mut Vec<KeyShare<'_>>) -> Result<(), AllocError>
     ensures sorted { OnOk result (IsSortedByKey shared_key key_cmp shares.new.items) }
     ensures bags { (function : AggFn) (bags : List KeyPart → List ℤ) → AreShares function bags shares.old.items
         → AreShares function bags shares.new.items }
-    ensures words { (words : ℕ) → All (λ (share : Share). length share.cell.now ≡ words) shares.old.items
-        → All (λ (share : Share). length share.cell.now ≡ words) shares.new.items }
+    ensures words { (words : ℕ) → All (λ (share : KeyShare). length share.cell.now ≡ words) shares.old.items
+        → All (λ (share : KeyShare). length share.cell.now ≡ words) shares.new.items }
 {
     shares.sort_by(|one, other| one.key.order(other.key))
 }

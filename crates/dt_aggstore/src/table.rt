@@ -11,14 +11,14 @@ ghost use Rattle.dt_aggstore.specs.Table.{IsTable};
 ghost use Rattle.dt_aggstore.specs.TableOf.{table_of};
 ghost use Rattle.dt_aggfn.specs.Cells.{cell_words};
 ghost use Rattle.dt_aggstore.specs.declared.key.KeyPart.{KeyPart};
-ghost use Rattle.dt_aggstore.specs.declared.share.Share.{Share};
+ghost use Rattle.dt_aggstore.specs.declared.share.KeyShare.{KeyShare};
 ghost use Rattle.dt_aggstore.specs.declared.limits.TheConstants.{STORES_MAX, ADDED_LIMIT};
 
 use crate::cells::cell_at;
 use crate::joining::Joining;
 use crate::key::{Aggregation, Key};
 use crate::limits::STORES_MAX;
-use crate::share::{Share, sort};
+use crate::share::{KeyShare, sort};
 use crate::store::AggStore;
 use dt_aggfn::{Answer, cell_length};
 use std::alloc::{AllocError, Global};
@@ -58,11 +58,11 @@ impl AggStore {
     fn share_into<'a>(
         &'a self,
         aggregation: Aggregation,
-        shares: &mut Vec<Share<'a>>,
+        shares: &mut Vec<KeyShare<'a>>,
     ) -> Result<(), AllocError>
-        ensures words { All (λ (share : Share). length share.cell.now ≡ cell_words aggregation.function)
+        ensures words { All (λ (share : KeyShare). length share.cell.now ≡ cell_words aggregation.function)
             shares.old.items
-            → All (λ (share : Share). length share.cell.now ≡ cell_words aggregation.function) shares.new.items }
+            → All (λ (share : KeyShare). length share.cell.now ≡ cell_words aggregation.function) shares.new.items }
         // on success shares of bags are those of the same bags with what this store keeps of each key
         ensures shares { (past : Past) (at : IsAt past self.now) (bags : List KeyPart → List ℤ)
             → AreShares aggregation.function bags shares.old.items
@@ -75,7 +75,7 @@ impl AggStore {
             let words = name.aggregation.function.cell_words();
             if aggregation.is(name.aggregation) {
                 let cell = cell_at(&self.cells, place, words);
-                shares.push(Share {
+                shares.push(KeyShare {
                     key: &name.key,
                     cell,
                 })?;

@@ -8,7 +8,7 @@ use Rattle.dt_aggfn.specs.Cells.{cell_words}
 use Rattle.dt_aggstore.specs.Entries.{entries_named, words_of}
 use Rattle.dt_aggstore.specs.Joining.{AreShares}
 use Rattle.dt_aggstore.specs.declared.key.Aggregation.{Aggregation}
-use Rattle.dt_aggstore.specs.declared.share.Share.{Share}
+use Rattle.dt_aggstore.specs.declared.share.KeyShare.{KeyShare}
 use Rattle.dt_aggstore.proofs.Same.{aggregation_is}
 use Rattle.dt_aggstore.proofs.Words.{within_at, read_at, words_more_at, words_fit_at}
 use Rattle.dt_aggstore.proofs.Gathering.{Gathered, gathered_all, entry_passed, entry_shared}
@@ -67,11 +67,11 @@ loop-name-preserved c =
       | then-is+in_ok-push w ↦
           (let own = aggregation_is c.args.aggregation x.aggregation (sym c.is.ensures ∙ w.if-is.true) in
           let pushed : c.if-is.shares.items ≡ c.loop-name.shares.items ++ _ ∷ [] =
-          ap (λ (v : Vec Share Global). v.items) w.shares-is ∙ w.in_ok-push.ensures.items in
+          ap (λ (v : Vec KeyShare Global). v.items) w.shares-is ∙ w.in_ok-push.ensures.items in
           record {
             place_is = place_is;
-            words = λ all. subst (All (λ (share : Share). length share.cell.now ≡ cell_words function)) (sym pushed)
-                (All-push (λ (share : Share). length share.cell.now ≡ cell_words function) c.loop-name.shares.items _
+            words = λ all. subst (All (λ (share : KeyShare). length share.cell.now ≡ cell_words function)) (sym pushed)
+                (All-push (λ (share : KeyShare). length share.cell.now ≡ cell_words function) c.loop-name.shares.items _
                 (c.loop-name.invariant.words all)
                 (ap length w.cell_at-cell.ensures
                 ∙ length_range w.deref.result.now c.loop-name.place c.cell_words-words.result
@@ -101,12 +101,12 @@ loop-name-preserved c =
           })
       | else-is w ↦ (record {
         place_is = place_is;
-        words = λ all. subst (All (λ (share : Share). length share.cell.now ≡ cell_words function))
-            (sym (ap (λ (v : Vec Share Global). v.items) w.shares-is)) (c.loop-name.invariant.words all);
+        words = λ all. subst (All (λ (share : KeyShare). length share.cell.now ≡ cell_words function))
+            (sym (ap (λ (v : Vec KeyShare Global). v.items) w.shares-is)) (c.loop-name.invariant.words all);
         shares = λ past at bags a.
             subst (AreShares function
             (Gathered past c.args.self.now at c.args.aggregation bags (entries_named (take (i + 1) entries))))
-            (sym (ap (λ (v : Vec Share Global). v.items) w.shares-is))
+            (sym (ap (λ (v : Vec KeyShare Global). v.items) w.shares-is))
             (entry_passed past c.args.self.now at c.args.aggregation bags i x
             (within_at entries items i x same lt c.name-item.is)
             (read_at entries items i x same lt c.name-item.is) c.loop-name.shares.items
