@@ -1,13 +1,15 @@
--- The definitions of the crate, lowest first.
+-- What a consumer has that traces alone, and the verdict on a trail.
 
+-- What is promised.
+pub mod Items
+pub mod Verdicts
+pub mod VerdictText
+-- Private to the proofs: no promise names them.
 pub mod Happened
 pub mod Shown
 pub mod Runs
-pub mod Items
 pub mod Answered
 pub mod Parts
 pub mod Lent
-pub mod Verdicts
-pub mod VerdictText
 pub mod Compared
 pub mod Judging

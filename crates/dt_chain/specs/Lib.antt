@@ -1,5 +1,6 @@
--- The definitions of the crate.
+-- Who published what, what a look finds, and the chains.
 
+-- What is promised.
 pub mod Limits
 pub mod Writes
 pub mod Kinds
@@ -13,4 +14,5 @@ pub mod Tests
 pub mod Books
 pub mod Copies
 pub mod Chains
+-- The laws of these.
 pub mod laws

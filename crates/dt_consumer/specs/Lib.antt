@@ -1,8 +1,12 @@
 -- How a consumer keeps what its life has made of it, and what a draft says of a line.
+
+-- What is promised.
 pub mod Uses
-pub mod Counts
 pub mod Placing
 pub mod Keeps
 pub mod StandsFor
 pub mod Draft
+-- Private to the proofs: no promise names them.
+pub mod Counts
+-- The laws of these.
 pub mod laws

@@ -1,5 +1,6 @@
--- What reaches a consumer, what that makes of it, and what it is answered; then the laws of these.
+-- What reaches a consumer, what that makes of it, and what it is answered.
 
+-- What is promised.
 pub mod Limits
 pub mod Options
 pub mod Refusal
@@ -21,4 +22,5 @@ pub mod Placed
 pub mod Uses
 pub mod Following
 pub mod Scenes
+-- The laws of these.
 pub mod laws

@@ -1,5 +1,6 @@
--- What the contracts of this crate cite.
+-- Lines, commands and replies as JSON; sessions; trails and their legality.
 
+-- What is promised.
 pub mod Limits
 pub mod Lines
 pub mod Splits
@@ -16,4 +17,5 @@ pub mod Views
 pub mod Legal
 pub mod Told
 pub mod Brought
+-- The laws of these.
 pub mod laws

@@ -1,10 +1,13 @@
 -- The world of many consumers: what its steps do, and what a run of them answers.
 
+-- What is promised.
 pub mod World
 pub mod Steps
 pub mod Sound
 pub mod Ran
-pub mod Ready
 pub mod Stands
+-- Private to the proofs: no promise names them.
+pub mod Ready
 pub mod Telling
+-- The laws of these.
 pub mod laws

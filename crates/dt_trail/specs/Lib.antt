@@ -1,5 +1,6 @@
--- The definitions of the crate.
+-- Rows of blocks: what an owner and its notes may do, and what they know.
 
+-- What is promised.
 pub mod Limits
 pub mod Items
 pub mod Kinds
