@@ -37,8 +37,7 @@ use Rattle.dt_lang.specs.machine.Cause.{range_cause, syntax_cause}
 use Rattle.dt_lang.specs.laws.ExpressionLaws.{foreign}
 use Rattle.dt_lang.specs.laws.ClauseSound.{none_some, same_some}
 use Rattle.dt_lang.specs.laws.ClauseLaws.{Steps, goes_on, begins_on}
-use Rattle.dt_lang.specs.laws.CauseOrder.{Tells, Tests, done, test, not_destructive, refused_by, unrefused_by}
-pub use Rattle.dt_lang.specs.laws.CauseOrder.{one_cause}
+use Rattle.dt_lang.specs.laws.CauseOrder.{Tells, Tests, done, test, not_destructive, refused_by, first_by, unrefused_by}
 use Rattle.dt_lang.specs.laws.TakesLaws.{both_left, both_right, wants_where_number, wants_where_text, operand_goes_on}
 use Rattle.dt_lang.specs.laws.TooLongLaws.{too_long_is, too_long_true}
 use Rattle.dt_lang.specs.laws.RangeLaws.{out_of_range_is, out_of_range_true}
@@ -386,11 +385,18 @@ module _ (ts : List Token) (t : Token) (s : ProgramState) (h : program_run progr
   unfolding cause_of
   unrefused e cause k = unrefused_by ts t _ tests e cause k
 
+  -- A token is refused for one cause.
+  pub one_cause : (c d : Cause) → Refused ts t c → Refused ts t d → c ≡ d
+  one_cause c d r q = same_some (sym (first_by ts t _ c tests r) ∙ first_by ts t _ d tests q)
+
   -- what is not refused leads on
-  pub unrefused_steps : cause_of s t ≡ None → Steps s t
-  unrefused_steps e = go (program_step s t) refl
+  pub faultless_steps : ((cause : Cause) → CauseHolds ts t cause → ⊥) → Steps s t
+  faultless_steps faultless = go (program_step s t) refl
     where
       go : (o : Option ProgramState) → program_step s t ≡ o → Steps s t
-      go None k = absurd (unrefused e (because Syntax)
+      go None k = absurd (faultless (because Syntax)
           ((syntax_decides ts t s h).0 (ap (λ (x : Option ProgramState). not (is_some x)) k)))
       go (Some next) k = record { next = next; steps = k }
+
+  pub unrefused_steps : cause_of s t ≡ None → Steps s t
+  unrefused_steps e = faultless_steps (unrefused e)

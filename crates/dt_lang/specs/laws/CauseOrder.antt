@@ -1,16 +1,14 @@
--- Of the causes that hold, the first is that for which a token is refused: so there is one, where the tests of all
+-- Of the causes that hold, the first is that for which a token is refused: so there is one at most, where the tests of all
 -- causes are at hand.
-use Rattle.std.proofs.Common.{◌≡◌, ◌≢◌, ◌⊎◌, inl, inr, ℕ, zero, suc, ◌<◌, List, [], ◌∷◌, Option, Some, None}
-use Rattle.std.proofs.Common.{refl, sym, ap, ◌∙◌, subst, arith}
-use Rattle.dt_program.specs.declared.description.DescriptionFault.{DescriptionFault}
+use Rattle.std.proofs.Common.{◌≡◌, ◌≢◌, ◌⊎◌, inl, inr, ℕ, zero, suc, ◌<◌, ◌≤◌, List, [], ◌∷◌, Option, Some, None}
+use Rattle.std.proofs.Common.{refl, sym, ap, subst, arith}
+use Rattle.std.proofs.lemmas.Bool.{cases_lt}
 use Rattle.dt_lang.specs.declared.fault.Flaw.{Flaw}
 use Rattle.dt_lang.specs.declared.fault.Flaw.TheVariants.{Syntax, Probe, Action, Variable, TooLong, Range}
 use Rattle.dt_lang.specs.declared.token.Token.{Token}
 use Rattle.dt_lang.specs.Refused.{Cause, because, destroys, rank, CauseHolds, Refused}
 use Rattle.dt_lang.specs.machine.Cause.{first_of}
 use Rattle.dt_lang.specs.laws.ClauseSound.{none_some, same_some}
-use Rattle.dt_lang.specs.laws.TooLongLaws.{one_limit}
-use Rattle.dt_lang.specs.laws.RangeLaws.{one_range}
 
 -- how many ranks of causes there are
 abbrev pub RANKS : ℕ
@@ -77,6 +75,20 @@ module _ (ts : List Token) (t : Token) where
   unrefused_from _ _ (test n None rest told more) below e cause h =
       unrefused_from (suc n) rest more (none_below_more n told below) e cause h
 
+  -- what a token is refused for is the first cause whose test is met, so it is one
+  first_from : (n : ℕ) (found : List (Option Cause)) (cause : Cause) → Tests ts t n found → n ≤ rank cause
+      → Refused ts t cause → first_of found ≡ Some cause
+  first_from _ _ cause done least r = absurd (omega (arith, rank_below cause))
+  first_from _ _ cause (test n (Some first) rest told more) least r = elim (cases_lt n (rank cause)) [
+    | inl less ↦ absurd (r.first first (subst (λ (k : ℕ). k < rank cause) (sym (told.ranked first refl)) less)
+        (told.holds first refl))
+    | inr reached ↦ told.tells cause (omega arith) r.holds
+  ]
+  first_from _ _ cause (test n None rest told more) least r = elim (cases_lt n (rank cause)) [
+    | inl less ↦ first_from (suc n) rest cause more (omega arith) r
+    | inr reached ↦ absurd (none_some (told.tells cause (omega arith) r.holds))
+  ]
+
   none_first : NoneBelow 0
   none_first other r h = absurd (omega arith)
 
@@ -85,13 +97,13 @@ module _ (ts : List Token) (t : Token) where
       → Refused ts t cause
   refused_by found cause tests e = refused_from 0 found cause tests none_first e
 
+  pub first_by : (found : List (Option Cause)) (cause : Cause) → Tests ts t 0 found → Refused ts t cause
+      → first_of found ≡ Some cause
+  first_by found cause tests r = first_from 0 found cause tests (omega arith) r
+
   pub unrefused_by : (found : List (Option Cause)) → Tests ts t 0 found → first_of found ≡ None
       → (cause : Cause) → CauseHolds ts t cause → ⊥
   unrefused_by found tests e cause h = unrefused_from 0 found tests none_first e cause h
-
-one_description_fault : (t : Token) (a b : DescriptionFault) → CauseHolds [] t (because (Probe a))
-    → CauseHolds [] t (because (Probe b)) → a ≡ b
-one_description_fault t a b h k = let e = sym h ∙ k in cc
 
 pub not_destructive : (flaw : Flaw) → rank (because flaw) ≢ 1
 not_destructive (TooLong limit) r = omega arith
@@ -100,26 +112,3 @@ not_destructive Action r = omega arith
 not_destructive Variable r = omega arith
 not_destructive (Range fault) r = omega arith
 not_destructive Syntax r = omega arith
-
-same_rank : (ts : List Token) (t : Token) (c d : Cause) → rank c ≡ rank d → CauseHolds ts t c
-    → CauseHolds ts t d → c ≡ d
-same_rank ts t (because (TooLong a)) (because (TooLong b)) r h k =
-    ap (λ limit. because (TooLong limit)) (one_limit ts t a b h k)
-same_rank ts t (destroys what) (destroys other) r h k = let e = sym h.names ∙ k.names in cc
-same_rank ts t (because (Probe a)) (because (Probe b)) r h k =
-    ap (λ fault. because (Probe fault)) (one_description_fault t a b h k)
-same_rank ts t (because Action) (because Action) r h k = refl
-same_rank ts t (because Variable) (because Variable) r h k = refl
-same_rank ts t (because (Range a)) (because (Range b)) r h k =
-    ap (λ fault. because (Range fault)) (one_range ts t a b h k)
-same_rank ts t (because Syntax) (because Syntax) r h k = refl
-same_rank ts t (because flaw) (destroys what) r h k = absurd (not_destructive flaw r)
-same_rank ts t (destroys what) (because flaw) r h k = absurd (not_destructive flaw (sym r))
-same_rank ts t (because _) (because _) r h k = absurd (omega arith)
-
--- A token is refused for one cause.
-pub one_cause : (ts : List Token) (t : Token) (c d : Cause) → Refused ts t c → Refused ts t d → c ≡ d
-one_cause ts t c d h k = same_rank ts t c d (same (rank c) (rank d) (k.first c) (h.first d)) h.holds k.holds
-  where
-    same : (m n : ℕ) → (m < n → CauseHolds ts t c → ⊥) → (n < m → CauseHolds ts t d → ⊥) → m ≡ n
-    same m n below above = omega (arith, λ (r : m < n). below r h.holds, λ (r : n < m). above r k.holds)

@@ -139,9 +139,3 @@ module _ (ts : List Token) (t : Token) (s : ProgramState) (h : program_run progr
   out_of_range_true fault k =
       let there = out_there ts t fault k in
       subst (λ (x : ProgramState). out_of_range_at x.place t ≡ Some fault) (same_some (sym there.runs ∙ h)) there.says
-
--- Bounds break one rule first.
-pub one_range : (ts : List Token) (t : Token) (a b : BoundsFault) → IsOutOfRange ts t a → IsOutOfRange ts t b → a ≡ b
-one_range ts t a b h k =
-    let there = out_there ts t a h in
-    same_some (sym there.says ∙ out_of_range_true ts t there.at there.runs b k)

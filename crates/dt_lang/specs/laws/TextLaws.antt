@@ -1,7 +1,7 @@
 -- Each text has one reading.
 use native.Mathlib.Decide.{dec_le}
 use Rattle.std.proofs.Common.{◌≡◌, ◌≢◌, ◌⊎◌, inl, inr, ℕ, zero, suc, ◌+◌, ◌≤◌, List, [], ◌∷◌, ◌++◌, length, Option}
-use Rattle.std.proofs.Common.{Some, None, refl, sym, ap, ◌∙◌, subst, append_assoc, length-append, arith}
+use Rattle.std.proofs.Common.{Some, None, refl, sym, ap, ◌∙◌, subst, append_assoc, append-nil, length-append, arith}
 use Rattle.dt_lang.specs.declared.fault.Flaw.TheVariants.{Syntax, TooLong}
 use Rattle.dt_lang.specs.declared.fault.Limit.{Limit}
 use Rattle.dt_lang.specs.Fault.{why_of}
@@ -22,7 +22,7 @@ use Rattle.dt_lang.specs.machine.Cause.{cause_of}
 use Rattle.dt_lang.specs.laws.ClauseSound.{none_some, same_some}
 use Rattle.dt_lang.specs.laws.ClauseComplete.{run_step, program_leads}
 use Rattle.dt_lang.specs.laws.ClauseLaws.{sound_program, one_program}
-use Rattle.dt_lang.specs.laws.CauseLaws.{refused, unrefused, unrefused_steps, one_cause}
+use Rattle.dt_lang.specs.laws.CauseLaws.{refused, unrefused, unrefused_steps, faultless_steps, one_cause}
 
 -- what is said of lexemes
 pub record LexemeLaws (text : List ℕ) : Type 0 where
@@ -122,6 +122,19 @@ same_last mode other ts us from n t u at a to b s e =
     let j : to ≡ b = cc in
     record { modes = rw (s.modes, i) refl; tokens = rw (s.tokens, i) refl; ends = j }
 
+-- tokens of which none is refused lead to a state
+leads : (ts front rest : List Token) (s : ProgramState) → NoneRefused ts → ts ≡ front ++ rest
+    → program_run program_start front ≡ Some s → (last : ProgramState) × (program_run program_start ts ≡ Some last)
+leads ts front [] s n e h = (s, ap (program_run program_start) (e ∙ append-nil front) ∙ h)
+leads ts front (t ∷ rest) s n e h =
+    let k = faultless_steps front t s h (λ cause. n front rest t cause e) in
+    leads ts (front ++ (t ∷ [])) rest k.next n (e ∙ sym (append_assoc front (t ∷ []) rest))
+    (run_step program_start s k.next front t h k.steps)
+
+all_lead : (ts : List Token) → NoneRefused ts → (last : ProgramState) × (program_run program_start ts ≡ Some last)
+unfolding program_run
+all_lead ts n = leads ts [] ts program_start n refl refl
+
 module _ (text : List ℕ) (laws : LexemeLaws text) where
   as_many : (mode other : LexerMode) (ts us : List Token) (from n : ℕ) → TokensTo text mode ts from
       → TokensTo text other us n → length ts ≡ length us → Same mode other ts us from n
@@ -159,47 +172,48 @@ module _ (text : List ℕ) (laws : LexemeLaws text) where
   none_beyond mode ts from t at to rest _ l n (at_whole b cs k r) = let e = laws.one mode from _ _ k l in cc
 
   same_refusal : (ts : List Token) (t u : Token) (at a to b : ℕ) (c d : Cause)
-      → lexeme.Token at t to ≡ lexeme.Token a u b → Refused ts t c → Refused ts u d
+      → NoneRefused ts → lexeme.Token at t to ≡ lexeme.Token a u b → Refused ts t c → Refused ts u d
       → refused_there at to c ≡ refused_there a b d
-  same_refusal ts t u at a to b c d e r q =
+  same_refusal ts t u at a to b c d unrefused_all e r q =
       let i : u ≡ t = cc in
       let j : at ≡ a = cc in
       let to_same : to ≡ b = cc in
-      let k = one_cause ts t c d r (rw i at q) in
+      let last = all_lead ts unrefused_all in
+      let k = one_cause ts t last.0 last.1 c d r (rw i at q) in
       rw (j, to_same, k) refl
 
-  same_stop : (mode : LexerMode) (ts : List Token) (from : ℕ) (a b : Stop) → Stops text mode ts from a
+  same_stop : (mode : LexerMode) (ts : List Token) (from : ℕ) (a b : Stop) → NoneRefused ts → Stops text mode ts from a
       → Stops text mode ts from b → a ≡ b
-  same_stop mode ts from _ _ (at_token t at to c l r) (at_token u b n d k q) =
-      same_refusal ts t u at b to n c d (laws.one mode from _ _ l k) r q
-  same_stop mode ts from _ _ (at_token t at to c l r) (at_overlong b n limit2 k) = let e = laws.one mode from _ _ l k in cc
-  same_stop mode ts from _ _ (at_token t at to c l r) (at_stray b k) = let e = laws.one mode from _ _ l k in cc
-  same_stop mode ts from _ _ (at_token t at to c l r) (at_end b k q) = let e = laws.one mode from _ _ l k in cc
-  same_stop mode ts from _ _ (at_token t at to c l r) (at_whole b ds k q) = let e = laws.one mode from _ _ l k in cc
-  same_stop mode ts from _ _ (at_overlong at to limit l) (at_token u b n d k q) = let e = laws.one mode from _ _ l k in cc
-  same_stop mode ts from _ _ (at_overlong at to limit l) (at_overlong b n limit2 k) = let e = laws.one mode from _ _ l k in cc
-  same_stop mode ts from _ _ (at_overlong at to limit l) (at_stray b k) = let e = laws.one mode from _ _ l k in cc
-  same_stop mode ts from _ _ (at_overlong at to limit l) (at_end b k q) = let e = laws.one mode from _ _ l k in cc
-  same_stop mode ts from _ _ (at_overlong at to limit l) (at_whole b ds k q) = let e = laws.one mode from _ _ l k in cc
-  same_stop mode ts from _ _ (at_stray at l) (at_token u b n d k q) = let e = laws.one mode from _ _ l k in cc
-  same_stop mode ts from _ _ (at_stray at l) (at_overlong b n limit2 k) = let e = laws.one mode from _ _ l k in cc
-  same_stop mode ts from _ _ (at_stray at l) (at_stray b k) = let e = laws.one mode from _ _ l k in cc
-  same_stop mode ts from _ _ (at_stray at l) (at_end b k q) = let e = laws.one mode from _ _ l k in cc
-  same_stop mode ts from _ _ (at_stray at l) (at_whole b ds k q) = let e = laws.one mode from _ _ l k in cc
-  same_stop mode ts from _ _ (at_end at l r) (at_token u b n d k q) = let e = laws.one mode from _ _ l k in cc
-  same_stop mode ts from _ _ (at_end at l r) (at_overlong b n limit2 k) = let e = laws.one mode from _ _ l k in cc
-  same_stop mode ts from _ _ (at_end at l r) (at_stray b k) = let e = laws.one mode from _ _ l k in cc
-  same_stop mode ts from _ _ (at_end at l r) (at_end b k q) = let e = laws.one mode from _ _ l k in cc
-  same_stop mode ts from _ _ (at_end at l r) (at_whole b ds k q) = absurd (r ds q)
-  same_stop mode ts from _ _ (at_whole at cs l r) (at_token u b n d k q) = let e = laws.one mode from _ _ l k in cc
-  same_stop mode ts from _ _ (at_whole at cs l r) (at_overlong b n limit2 k) = let e = laws.one mode from _ _ l k in cc
-  same_stop mode ts from _ _ (at_whole at cs l r) (at_stray b k) = let e = laws.one mode from _ _ l k in cc
-  same_stop mode ts from _ _ (at_whole at cs l r) (at_end b k q) = absurd (q cs r)
-  same_stop mode ts from _ _ (at_whole at cs l r) (at_whole b ds k q) = ap whole (one_program ts cs ds r q)
+  same_stop mode ts from _ _ unrefused_all (at_token t at to c l r) (at_token u b n d k q) =
+      same_refusal ts t u at b to n c d unrefused_all (laws.one mode from _ _ l k) r q
+  same_stop mode ts from _ _ unrefused_all (at_token t at to c l r) (at_overlong b n limit2 k) = let e = laws.one mode from _ _ l k in cc
+  same_stop mode ts from _ _ unrefused_all (at_token t at to c l r) (at_stray b k) = let e = laws.one mode from _ _ l k in cc
+  same_stop mode ts from _ _ unrefused_all (at_token t at to c l r) (at_end b k q) = let e = laws.one mode from _ _ l k in cc
+  same_stop mode ts from _ _ unrefused_all (at_token t at to c l r) (at_whole b ds k q) = let e = laws.one mode from _ _ l k in cc
+  same_stop mode ts from _ _ unrefused_all (at_overlong at to limit l) (at_token u b n d k q) = let e = laws.one mode from _ _ l k in cc
+  same_stop mode ts from _ _ unrefused_all (at_overlong at to limit l) (at_overlong b n limit2 k) = let e = laws.one mode from _ _ l k in cc
+  same_stop mode ts from _ _ unrefused_all (at_overlong at to limit l) (at_stray b k) = let e = laws.one mode from _ _ l k in cc
+  same_stop mode ts from _ _ unrefused_all (at_overlong at to limit l) (at_end b k q) = let e = laws.one mode from _ _ l k in cc
+  same_stop mode ts from _ _ unrefused_all (at_overlong at to limit l) (at_whole b ds k q) = let e = laws.one mode from _ _ l k in cc
+  same_stop mode ts from _ _ unrefused_all (at_stray at l) (at_token u b n d k q) = let e = laws.one mode from _ _ l k in cc
+  same_stop mode ts from _ _ unrefused_all (at_stray at l) (at_overlong b n limit2 k) = let e = laws.one mode from _ _ l k in cc
+  same_stop mode ts from _ _ unrefused_all (at_stray at l) (at_stray b k) = let e = laws.one mode from _ _ l k in cc
+  same_stop mode ts from _ _ unrefused_all (at_stray at l) (at_end b k q) = let e = laws.one mode from _ _ l k in cc
+  same_stop mode ts from _ _ unrefused_all (at_stray at l) (at_whole b ds k q) = let e = laws.one mode from _ _ l k in cc
+  same_stop mode ts from _ _ unrefused_all (at_end at l r) (at_token u b n d k q) = let e = laws.one mode from _ _ l k in cc
+  same_stop mode ts from _ _ unrefused_all (at_end at l r) (at_overlong b n limit2 k) = let e = laws.one mode from _ _ l k in cc
+  same_stop mode ts from _ _ unrefused_all (at_end at l r) (at_stray b k) = let e = laws.one mode from _ _ l k in cc
+  same_stop mode ts from _ _ unrefused_all (at_end at l r) (at_end b k q) = let e = laws.one mode from _ _ l k in cc
+  same_stop mode ts from _ _ unrefused_all (at_end at l r) (at_whole b ds k q) = absurd (r ds q)
+  same_stop mode ts from _ _ unrefused_all (at_whole at cs l r) (at_token u b n d k q) = let e = laws.one mode from _ _ l k in cc
+  same_stop mode ts from _ _ unrefused_all (at_whole at cs l r) (at_overlong b n limit2 k) = let e = laws.one mode from _ _ l k in cc
+  same_stop mode ts from _ _ unrefused_all (at_whole at cs l r) (at_stray b k) = let e = laws.one mode from _ _ l k in cc
+  same_stop mode ts from _ _ unrefused_all (at_whole at cs l r) (at_end b k q) = absurd (q cs r)
+  same_stop mode ts from _ _ unrefused_all (at_whole at cs l r) (at_whole b ds k q) = ap whole (one_program ts cs ds r q)
 
   meet : (mode other : LexerMode) (ts us : List Token) (from n : ℕ) (a b : Stop) → Ahead text mode ts from other us n
       → NoneRefused us → Stops text mode ts from a → Stops text other us n b → a ≡ b
-  meet mode _ ts _ from _ a b here r s q = same_stop mode ts from a b s q
+  meet mode _ ts _ from _ a b here r s q = same_stop mode ts from a b r s q
   meet mode _ ts _ from _ a b (there t at to rest other n l) r s q =
       absurd (none_beyond mode ts from t at to rest a l r s)
 

@@ -178,9 +178,3 @@ module _ (ts : List Token) (t : Token) (s : ProgramState) (h : program_run progr
       let there = too_long_there ts t limit k in
       subst (λ (x : ProgramState). too_long_at x.clauses x.clause x.place t ≡ Some limit)
       (same_some (sym there.runs ∙ h)) there.says
-
--- A token passes one limit at most.
-pub one_limit : (ts : List Token) (t : Token) (a b : Limit) → IsTooLong ts t a → IsTooLong ts t b → a ≡ b
-one_limit ts t a b h k =
-    let there = too_long_there ts t a h in
-    same_some (sym there.says ∙ too_long_true ts t there.at there.runs b k)
