@@ -1,9 +1,0 @@
--- The name is the one that was asked for.
-use Rattle.dt_ecb.specs.Forms.{shapes_of}
-use Rattle.dt_life.proofs.Names.{named_so}
-use Rattle.dt_life.proofs.known.Known.of.Goals as goal
-
-pub returns-clause-named : goal.returns-clause-named
-returns-clause-named c =
-    named_so (shapes_of c.args.shapes.now) c.args.name.now c.named.result c.in_ok-named.named c.in_ok-named.was
-    c.named.ensures
