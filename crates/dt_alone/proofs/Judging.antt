@@ -1,4 +1,4 @@
--- What a judge does with one entry more.
+-- What a judge does with one item more.
 use Rattle.std.proofs.Common.{◌≡◌, ◌≢◌, ℕ, ◌+◌, ◌<◌, ◌≤◌, ◌↔◌, false, List, [], ◌∷◌, Option, Some, None, IfSome, Result}
 use Rattle.std.proofs.Common.{length, get_or, set, replicate, refl, sym, ap, ◌∙◌, ⊎_elim, arith}
 use Rattle.std.specs.List.{slice_get}
@@ -19,7 +19,7 @@ use Rattle.dt_proto.specs.Line.{ask_in}
 use Rattle.dt_proto.specs.Lines.{line_form, long_line}
 use Rattle.dt_proto.specs.Reply.{reply_text}
 use Rattle.dt_proto.specs.Splits.{with_newline}
-use Rattle.dt_proto.specs.Trail.{TrailEntry, line_asked, long_asked, fired_at}
+use Rattle.dt_proto.specs.Trail.{WrittenItem, line_asked, long_asked, fired_at}
 use Rattle.dt_alone.specs.Answered.{AnswersAsk}
 use Rattle.dt_alone.specs.Compared.{IsCompared}
 use Rattle.dt_alone.specs.Judging.{HasJudged, IsRuling}
@@ -53,7 +53,7 @@ inside contents cpu place firing sound is =
     inside_script contents cpu place firing (slice_get contents.scripts cpu) sound refl (sound.short cpu) is
 
 -- the least places above those of each processor's firings
-abbrev pub AreLeast : List TrailEntry → List ℕ → Type 0
+abbrev pub AreLeast : List WrittenItem → List ℕ → Type 0
 AreLeast past least = (cpu place : ℕ) → cpu < 64 → (IsAbove past cpu place ↔ (get_or least cpu 0 ≤ place))
 
 not_above : (n place : ℕ) → n ≡ 0 → n ≤ place
@@ -65,7 +65,7 @@ no_least cpu place low = (
   λ reached. tt,
 )
 
-pub least_more : (least : List ℕ) (past : List TrailEntry) (cpu place : ℕ) → cpu < length least → AreLeast past least
+pub least_more : (least : List ℕ) (past : List WrittenItem) (cpu place : ℕ) → cpu < length least → AreLeast past least
     → get_or least cpu 0 ≤ place → AreLeast (fired_at cpu place ∷ past) (set least cpu (place + 1))
 least_more least past cpu place within before low other at small =
     ⊎_elim
@@ -87,7 +87,7 @@ least_more least past cpu place within before low other at small =
 module _ (one_reply : (account : Account) (registry : Registry) (life : List Item) (line : Result Ask Refusal)
     (a b : Answer) → Replies account registry life line a → Replies account registry life line b → a ≡ b)
     (account : Account) (contents : Contents) where
-  abbrev life_of : List TrailEntry → List Item
+  abbrev life_of : List WrittenItem → List Item
   life_of past = life_of_trail account contents past
 
   -- what is said of a reply to what a line asks
@@ -112,7 +112,7 @@ module _ (one_reply : (account : Account) (registry : Registry) (life : List Ite
       → Answered life ask runner due → is_over life ≡ false → Runs account contents.registry runner (asked ask ∷ life)
   has_run life ask runner due h quota = rw quota at h.runs
 
-  pub line_ruled : (past : List TrailEntry) (judge new : Judge) (line reply due : List ℕ) (ruling : Ruling)
+  pub line_ruled : (past : List WrittenItem) (judge new : Judge) (line reply due : List ℕ) (ruling : Ruling)
       → HasJudged account contents past judge → new.least ≡ judge.least → is_over (life_of past) ≡ false
       → Answered (life_of past) (ask_in (line_form line)) new.runner due → IsCompared (with_newline reply) due ruling
       → IsRuling account contents past (line_asked line reply) new ruling
@@ -131,7 +131,7 @@ module _ (one_reply : (account : Account) (registry : Registry) (life : List Ite
       (quota, no_reply (life_of past) (ask_in (line_form line)) new.runner reply due h other)
   line_ruled past judge new line reply due OutOfPlace after kept quota h none = absurd none
 
-  pub long_ruled : (past : List TrailEntry) (judge new : Judge) (reply due : List ℕ) (ruling : Ruling)
+  pub long_ruled : (past : List WrittenItem) (judge new : Judge) (reply due : List ℕ) (ruling : Ruling)
       → HasJudged account contents past judge → new.least ≡ judge.least → is_over (life_of past) ≡ false
       → Answered (life_of past) (ask_in long_line) new.runner due → IsCompared (with_newline reply) due ruling
       → IsRuling account contents past (long_asked reply) new ruling

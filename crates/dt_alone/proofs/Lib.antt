@@ -10,7 +10,7 @@ pub mod Recounting
 pub mod Storing
 pub mod Cuts
 pub mod Decimals
-pub mod Entries
+pub mod TrailItems
 pub mod Trails
 pub mod Verdicts
 pub mod Judging

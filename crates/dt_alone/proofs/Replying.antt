@@ -29,7 +29,8 @@ use Rattle.dt_aggstore.specs.declared.key.Aggregation.{Aggregation}
 use Rattle.dt_buffer.specs.Shows.{Shows}
 use Rattle.std.specs.Global.{Vec}
 use Rattle.dt_alone.specs.declared.happened.Happened.{Happened}
-use Rattle.dt_alone.specs.declared.happened.Happened.TheVariants.{Read, Truncated}
+use Rattle.dt_alone.specs.declared.happened.Happened.TheVariants.{Truncated}
+use Rattle.dt_alone.specs.declared.happened.Happened.TheVariants as happened
 use Rattle.dt_life.specs.declared.options.Options.{Options}
 use Rattle.dt_alone.specs.declared.programs.Programs.{Programs}
 use Rattle.dt_alone.specs.declared.runner.Runner.{Runner}
@@ -53,13 +54,13 @@ use Rattle.dt_life.specs.declared.refusal.Refusal.TheVariants as refusals
 use Rattle.dt_life.specs.declared.refusal.Refusal.TheVariants.{Program}
 use Rattle.dt_life.specs.declared.reply.Reply.{Reply}
 use Rattle.dt_life.specs.declared.reply.Reply.TheVariants.{Done, Enabled, Refused, Snapped}
-use Rattle.dt_life.specs.laws.Verdicts.{begun_by_go, destructive_refused, fault_refused, go_taken, read_by_snap}
+use Rattle.dt_life.specs.laws.Verdicts.{begun_by_go, destructive_refused, fault_refused, go_taken, snapped_by}
 use Rattle.dt_life.specs.laws.Placed.{are_both}
 use Rattle.dt_life.specs.laws.Verdicts.{snap_taken, some_trunc, stop_taken, stopped_by, truncated_by, idle_program}
 use Rattle.dt_life.specs.laws.Verdicts.{idle_unset, option_refused, option_taken, program_added, program_verdict}
 use Rattle.dt_life.specs.laws.Verdicts.{set_by}
 use Rattle.dt_life.specs.laws.Placed.{are_placed}
-use Rattle.dt_alone.proofs.Running.{Told, has_since, told_read, told_truncated}
+use Rattle.dt_alone.proofs.Running.{Told, has_since, told_snapped, told_truncated}
 
 pub idle_phase : (phase : Phase) → is_inactive phase ≡ true → phase ≡ Inactive
 idle_phase Inactive e = refl
@@ -255,17 +256,17 @@ module _ (account : Account) (registry : Registry) (life : List Item) (r : Runne
       → is_readable (set_up account registry life) (phase account registry life) ≡ true
       → Shows (past account registry life cpu) bytes.items drops filled
       → new.account ≡ r.account → new.options ≡ r.options → new.programs ≡ r.programs → new.phase ≡ r.phase
-      → new.seen ≡ r.seen → new.since.items ≡ r.since.items ++ Read cpu ∷ [] → new.lines ≡ r.lines
+      → new.seen ≡ r.seen → new.since.items ≡ r.since.items ++ happened.Snapped cpu ∷ [] → new.lines ≡ r.lines
       → Answers account registry life (snap cpu) (Snapped cpu bytes drops filled) new
   snap_done cpu drops filled bytes new inside on shows same_account same_options same_programs same_phase same_seen
       grown same =
       accepts_as (snap cpu) (Snapped cpu bytes drops filled) new _ (snap_taken account registry life cpu inside on)
-      (bytes.items, drops, filled, shows, refl) (read_by_snap account registry life cpu inside on)
+      (bytes.items, drops, filled, shows, refl) (snapped_by account registry life cpu inside on)
       (has_since account registry now (snapped cpu ∷ now.since) (phase_of now) (phase_of now) r new k.has same_account
       same_options same_programs (same_phase ∙ stands) (readable_begun now (phase account registry life) on)
       (same_seen ∙ k.has.seen)
       (subst (λ hs. Told account registry (with_event now (snapped cpu)) hs) (sym grown)
-      (told_read account registry now cpu r.since.items k.has.brings)))
+      (told_snapped account registry now cpu r.since.items k.has.brings)))
       same
 
   -- an aggregation was truncated

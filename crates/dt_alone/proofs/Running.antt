@@ -18,7 +18,7 @@ use Rattle.dt_alone.specs.Happened.{AddsTakings, Brings}
 use Rattle.dt_alone.specs.Runs.{Has, HasIn}
 use Rattle.dt_alone.specs.Runs as runs
 use Rattle.dt_alone.specs.declared.happened.Happened.{Happened}
-use Rattle.dt_alone.specs.declared.happened.Happened.TheVariants.{Read, Truncated}
+use Rattle.dt_alone.specs.declared.happened.Happened.TheVariants.{Snapped, Truncated}
 use Rattle.dt_alone.specs.declared.programs.Programs.{Programs}
 use Rattle.dt_alone.specs.declared.runner.Runner.{Runner}
 use Rattle.dt_alone.proofs.Bringing.{brings_one, same_brings}
@@ -100,11 +100,11 @@ module _ (account : Account) (registry : Registry) where
         (sym (append-nil (given_since account registry (shapes_in s) ecbs cpu s.since))) (told cpu)
 
     -- a buffer was read
-    pub told_read : (n : ℕ) (old : List Happened) → Told s old → Told (with_event s (snapped n)) (old ++ Read n ∷ [])
-    told_read n old told = λ cpu.
-        same_brings cpu (old ++ Read n ∷ []) _ _ _ _ _ _ refl
+    pub told_snapped : (n : ℕ) (old : List Happened) → Told s old → Told (with_event s (snapped n)) (old ++ Snapped n ∷ [])
+    told_snapped n old told = λ cpu.
+        same_brings cpu (old ++ Snapped n ∷ []) _ _ _ _ _ _ refl
         (no_faults (taken_since account registry ecbs cpu s.since) _ refl) refl
-        (brings_one cpu old (Read n) _ _ _ (told cpu))
+        (brings_one cpu old (Snapped n) _ _ _ (told cpu))
 
     -- an aggregation was truncated
     pub told_truncated : (name : List ℕ) (a : Aggregation) (old : List Happened)
@@ -122,12 +122,6 @@ module _ (account : Account) (registry : Registry) where
     pub own_ecbs : map (form_of_ecb (map form_of_clause r.programs.clauses.items)) r.programs.ecbs.items
         ≡ ecbs_in account registry s
     own_ecbs = ap (λ cs. map (form_of_ecb cs) r.programs.ecbs.items) h.clauses ∙ h.ecbs.forms
-
-    pub own_placed : All (λ ecb. ecb.clause < length r.programs.clauses.items) r.programs.ecbs.items
-    own_placed =
-        let long : length s.clauses ≡ length r.programs.clauses.items =
-        sym (ap length h.clauses) ∙ length-map r.programs.clauses.items form_of_clause in
-        subst (λ n. All (λ ecb. ecb.clause < n) r.programs.ecbs.items) long h.ecbs.placed
 
     -- what a runner took is what is taken by its set-up
     pub own_adds : (in_end : Bool) (m : MomentForm) (old new : List Happened)

@@ -21,7 +21,7 @@ use Rattle.dt_buffer.specs.laws.Choices.{choice_more, concat-push}
 use Rattle.dt_alone.specs.Happened.{all_to, comes_to, fitting_on}
 use Rattle.dt_alone.specs.Shown.{IsBeginningOf, events_of, of_kind}
 use Rattle.dt_alone.specs.declared.happened.Happened.{Happened}
-use Rattle.dt_alone.specs.declared.happened.Happened.TheVariants.{Failed, Left, Read, Truncated}
+use Rattle.dt_alone.specs.declared.happened.Happened.TheVariants.{Failed, Left, Snapped, Truncated}
 use Rattle.dt_alone.specs.declared.shown.Beginning.{Beginning}
 use Rattle.dt_alone.specs.declared.shown.Came.{Came}
 use Rattle.dt_alone.specs.declared.shown.Came.TheVariants as came
@@ -40,9 +40,9 @@ kind_other false true events bytes ne =
     ordinary-append events (attempt bytes true ∷ []) ∙ append-nil (ordinary events)
 kind_other false false events bytes ne = absurd (ne refl)
 
-pub kind_read : (b : Bool) (events : List BufferEvent) → of_kind b (events ++ swap ∷ []) ≡ of_kind b events
-kind_read true events = of_end-append events (swap ∷ []) ∙ append-nil (of_end events)
-kind_read false events = ordinary-append events (swap ∷ []) ∙ append-nil (ordinary events)
+pub kind_snapped : (b : Bool) (events : List BufferEvent) → of_kind b (events ++ swap ∷ []) ≡ of_kind b events
+kind_snapped true events = of_end-append events (swap ∷ []) ∙ append-nil (of_end events)
+kind_snapped false events = ordinary-append events (swap ∷ []) ∙ append-nil (ordinary events)
 
 -- what came by one thing more
 pub all_more : (cpu : ℕ) (hs : List Happened) (i : ℕ) (x : Happened) → i < length hs → x ≡ get_or hs i x
@@ -59,7 +59,7 @@ pub no_attempts : (c : Came) → ((bytes : Bor (List ℕ)) (in_end : Bool) → c
     × ((b : Bool) → of_kind b (xs ++ events_of c) ≡ of_kind b xs)
 no_attempts came.Nothing none xs = (ap attempts (append-nil xs), (λ b. ap (of_kind b) (append-nil xs)))
 no_attempts (came.Put bytes in_end) none xs = absurd (none bytes in_end refl)
-no_attempts came.Read none xs = (attempts-append xs (swap ∷ []) ∙ append-nil (attempts xs), (λ b. kind_read b xs))
+no_attempts came.Snapped none xs = (attempts-append xs (swap ∷ []) ∙ append-nil (attempts xs), (λ b. kind_snapped b xs))
 
 pub same_switch : (size : ℕ) (a a' : List (List ℕ)) (b b' : List ℕ) (d d' : ℕ) → a ≡ a' → b ≡ b' → d ≡ d'
     → ShowsSwitch size a b d → ShowsSwitch size a' b' d'
@@ -281,7 +281,7 @@ comes_few cpu (Left there in_end left) = one (there == cpu) left.bytes
     one true None = omega arith
     one true (Some bytes) = omega arith
     one false o = omega arith
-comes_few cpu (Read there) = one (there == cpu)
+comes_few cpu (Snapped there) = one (there == cpu)
   where
     one : (b : Bool) → length (cond b (swap ∷ []) []) ≤ 1
     one true = omega arith

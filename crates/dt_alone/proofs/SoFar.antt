@@ -1,4 +1,4 @@
--- The items or the entries so far, and one more.
+-- The items or the items so far, and one more.
 use Rattle.std.proofs.Common.{◌≡◌, ℕ, ◌+◌, ◌<◌, ◌↔◌, Bool, true, false, List, [], ◌∷◌, ◌++◌, cond, length, get_or, take}
 use Rattle.std.proofs.Common.{drop, map, reverse, IsTrue, refl, sym, ap, ◌∙◌, inl, inr, arith}
 use Rattle.std.proofs.lemmas.List.{drop_more, length-map, length-take-le, map-append, map_more, reverse-append}

@@ -8,7 +8,7 @@ use Rattle.dt_buffer.specs.Ending.{fitting}
 use Rattle.dt_buffer.specs.History as buffer
 use Rattle.dt_ecb.specs.Shapes.{ShapeForm}
 use Rattle.dt_alone.specs.declared.happened.Happened.{Happened}
-use Rattle.dt_alone.specs.declared.happened.Happened.TheVariants.{Failed, Left, Read, Truncated}
+use Rattle.dt_alone.specs.declared.happened.Happened.TheVariants.{Failed, Left, Snapped, Truncated}
 use Rattle.dt_alone.specs.declared.happened.Contribution.{Contribution}
 use Rattle.dt_life.specs.Aggregations.{contributions}
 use Rattle.dt_life.specs.Buffers.{attempts_of}
@@ -25,7 +25,7 @@ comes_to cpu (Failed there) = []
 comes_to cpu (Left there in_end left) =
     if there == cpu then
     option_to_list (option_map (λ (bytes : Vec ℕ). buffer.attempt bytes.items in_end) left.bytes) else []
-comes_to cpu (Read there) = if there == cpu then buffer.swap ∷ [] else []
+comes_to cpu (Snapped there) = if there == cpu then buffer.swap ∷ [] else []
 comes_to cpu (Truncated aggregation) = []
 
 -- a clause that a division by zero ended on a processor
@@ -37,7 +37,7 @@ is_fault_on cpu _ = false
 abbrev pub gives_to : ℕ → Happened → List store.Event
 gives_to cpu (Failed there) = []
 gives_to cpu (Left there in_end left) = if there == cpu then map given_as left.given.items else []
-gives_to cpu (Read there) = []
+gives_to cpu (Snapped there) = []
 gives_to cpu (Truncated aggregation) = store.truncated aggregation ∷ []
 
 abbrev pub all_to : ℕ → List Happened → List buffer.BufferEvent

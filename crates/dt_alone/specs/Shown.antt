@@ -5,13 +5,13 @@ use Rattle.dt_buffer.specs.Beginning.{IsLongestBeginning}
 use Rattle.dt_buffer.specs.History.{BufferEvent, attempt, swap, of_end, ordinary}
 use Rattle.dt_alone.specs.declared.shown.Beginning.{Beginning}
 use Rattle.dt_alone.specs.declared.shown.Came.{Came}
-use Rattle.dt_alone.specs.declared.shown.Came.TheVariants.{Nothing, Put, Read}
+use Rattle.dt_alone.specs.declared.shown.Came.TheVariants.{Nothing, Put, Snapped}
 
 -- what came, as an event of the buffer's past
 abbrev pub events_of : Came → List BufferEvent
 events_of Nothing = []
 events_of (Put bytes in_end) = attempt bytes.now in_end ∷ []
-events_of Read = swap ∷ []
+events_of Snapped = swap ∷ []
 
 -- the records of END, or the ordinary ones
 abbrev pub of_kind : Bool → List BufferEvent → List (List ℕ)

@@ -6,4 +6,4 @@ use Rattle.dt_alone.specs.declared.verdict.Verdict.TheVariants.{Agree, Differs, 
 abbrev pub verdict_text : Verdict → List ℕ
 verdict_text (Agree replies) = codes "agree " ++ decimal replies
 verdict_text (Differs reply) = codes "differs at " ++ decimal reply
-verdict_text (Illegal entry) = codes "illegal at " ++ decimal entry
+verdict_text (Illegal item) = codes "illegal at " ++ decimal item

@@ -2,11 +2,11 @@
 ghost use Rattle.std.specs.Prelude.{◌≡◌, ◌≤◌, Err, IfOk, length};
 ghost use Rattle.std.specs.Option.{option_copied};
 ghost use Rattle.dt_proto.specs.Session.{session_account};
-ghost use Rattle.dt_alone.specs.Lent.{entries_of};
+ghost use Rattle.dt_alone.specs.Lent.{forms_of_lent};
 ghost use Rattle.dt_alone.specs.Verdicts.{IsTrail, IsTrailVerdict, IsVerdictOn, replies_in};
 
-use crate::entry::Entry;
 use crate::judge::{Judge, Ruling};
+use crate::lent_item::LentItem;
 use crate::trail::Trail;
 use crate::verdict::Verdict;
 use dt_cred::Account;
@@ -25,9 +25,9 @@ pub enum CheckFault {
     Memory,
 }
 
-/// Reads the text of a trail, and then judges its entries on the machine.
+/// Reads the text of a trail, and then judges its items on the machine.
 ///
-/// [`CheckFault::Text`]: the text is no trail of a session on the machine, whatever its first entries are.
+/// [`CheckFault::Text`]: the text is no trail of a session on the machine, whatever its first items are.
 /// [`CheckFault::Memory`] may come in place of any other result.
 pub fn check(alloc: Global, machine: &Machine, text: &[u8]) -> Result<Verdict, CheckFault>
     ensures verdict { IfOk result (IsVerdictOn machine.now text.now) }
@@ -35,7 +35,7 @@ pub fn check(alloc: Global, machine: &Machine, text: &[u8]) -> Result<Verdict, C
 {
     let trail = Trail::read(alloc, text)?;
     let account = opened(machine, trail.name).ok_or(CheckFault::Text)?;
-    judge(alloc, machine, account, &trail.entries).map_err(|_| CheckFault::Memory)
+    judge(alloc, machine, account, &trail.items).map_err(|_| CheckFault::Memory)
 }
 
 /// The account of a session that is opened by this name: the machine's, where it has a dtrace privilege.
@@ -47,31 +47,31 @@ fn opened<'m>(machine: &'m Machine, name: &[u8]) -> Option<&'m Account>
         .filter(|account| account.privs.has_dtrace())
 }
 
-/// Judges entries, the oldest first.
+/// Judges items, the oldest first.
 fn judge(
     alloc: Global,
     machine: &Machine,
     account: &Account,
-    entries: &[Entry<'_>],
+    items: &[LentItem<'_>],
 ) -> Result<Verdict, AllocError>
-    ensures { IfOk result (IsTrailVerdict account.now machine.now (entries_of entries.now)) }
+    ensures { IfOk result (IsTrailVerdict account.now machine.now (forms_of_lent items.now)) }
 {
     let mut judge = Judge::new(alloc, *account);
-    for (index, entry) in entries.iter().enumerate() {
-        match judge.take(alloc, machine, entry)? {
+    for (index, item) in items.iter().enumerate() {
+        match judge.take(alloc, machine, item)? {
             Ruling::Right => {}
-            // the earliest entry that isn't in order decides, and what comes after it isn't judged
-            Ruling::Wrong => return Ok(Verdict::Differs(replies_in(&entries[..index]) + 1)),
+            // the earliest item that isn't in order decides, and what comes after it isn't judged
+            Ruling::Wrong => return Ok(Verdict::Differs(replies_in(&items[..index]) + 1)),
             Ruling::OutOfPlace => return Ok(Verdict::Illegal(index + 1)),
         }
     }
-    Ok(Verdict::Agree(replies_in(entries)))
+    Ok(Verdict::Agree(replies_in(items)))
 }
 
-/// How many of the entries have replies.
-fn replies_in(entries: &[Entry<'_>]) -> usize
-    ensures count { result ≡ replies_in (entries_of entries.now) }
-    ensures few { result ≤ length entries.now }
+/// How many of the items have replies.
+fn replies_in(items: &[LentItem<'_>]) -> usize
+    ensures count { result ≡ replies_in (forms_of_lent items.now) }
+    ensures few { result ≤ length items.now }
 {
-    entries.iter().filter(|entry| entry.has_reply()).count()
+    items.iter().filter(|item| item.has_reply()).count()
 }

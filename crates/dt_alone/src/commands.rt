@@ -1,5 +1,5 @@
 //! The replies to the commands, computed from all that happened.
-ghost use Rattle.std.specs.Prelude.{◌≡◌, ◌≤◌, ◌+◌, ◌-◌, ◌*◌, ◌<◌, ℕ, List, Option, Ok, Some, None, true, false, IfOk, IfSome, MatchOption, length, map, vec_len};
+ghost use Rattle.std.specs.Prelude.{◌≡◌, ◌≤◌, ◌+◌, ◌-◌, ◌*◌, ◌<◌, List, Option, Ok, Some, None, IfOk, length, vec_len};
 ghost use Rattle.dt_cred.specs.declared.account.Account.{Account};
 ghost use Rattle.dt_machine.specs.Registry.{Registry};
 ghost use Rattle.dt_lang.specs.Program.{form_of_program};
@@ -9,18 +9,14 @@ ghost use Rattle.dt_aggstore.specs.IsAt.{IsAt};
 ghost use Rattle.dt_aggstore.specs.declared.limits.TheConstants.{STORES_MAX};
 ghost use Rattle.std.specs.List.{AllZip};
 ghost use Rattle.dt_alone.specs.Runs.{Answers, Has, HasAsked};
-ghost use Rattle.dt_life.specs.Answer.{answer_of, described};
-ghost use Rattle.dt_life.specs.Ask.{Ask, ask_of, reading_of, description_of, agg, enable, go, snap, status, list, describe, option, stop, trunc, close};
-ghost use Rattle.dt_life.specs.Buffers.{past, reserve_on};
-ghost use Rattle.dt_life.specs.Life.{Item, SetUp, set_up, phase, phase_of, has_room, is_inactive, is_readable};
+ghost use Rattle.dt_life.specs.Answer.{answer_of};
+ghost use Rattle.dt_life.specs.Ask.{ask_of, reading_of, description_of, agg, enable, go, snap, status, list, describe, option, stop, trunc, close};
+ghost use Rattle.dt_life.specs.Buffers.{reserve_on};
+ghost use Rattle.dt_life.specs.Life.{Item, SetUp, set_up, phase, is_inactive, is_readable};
 ghost use Rattle.dt_life.specs.Options.{setting_of};
-ghost use Rattle.dt_life.specs.Refusal.{refused_as};
-ghost use Rattle.dt_life.specs.Reply.{RepliesInQuota, ecb_of, all_aggdrops, all_errors, refusal_of};
+ghost use Rattle.dt_life.specs.Reply.{RepliesInQuota, all_aggdrops, all_errors};
 ghost use Rattle.dt_life.specs.Stores.{stores_in};
 ghost use Rattle.dt_life.specs.declared.phase.Phase.TheVariants.{Inactive};
-ghost use Rattle.dt_ecb.specs.Forms.{verdict_of};
-ghost use Rattle.dt_record.specs.Layout.{layout_of};
-ghost use Rattle.std.specs.Option.{option_and_then};
 ghost use Rattle.std.specs.String.{string_bytes};
 
 use crate::happened::Happened;
@@ -28,15 +24,13 @@ use crate::runner::Runner;
 use crate::shown::shown_on;
 use crate::stores::{faults_on, stores_on};
 use dt_aggstore::AggStore;
-use dt_buffer::Policy;
-use dt_ecb::{EnableFault, ecbs_go_on, enable, listed, one_verdict, uses_of_both};
-use dt_lang::{Description, LangFault, ParseProgram, Program, Why, one_description, one_reading};
+use dt_ecb::{ecbs_go_on, enable, one_verdict, uses_of_both};
+use dt_lang::{ParseProgram, Program, one_reading};
 use dt_life::{
-    BEGIN, Command, End, Known, OptionValue, Phase, Refusal, Reply, left_by_end, own_firing,
-    own_process,
+    BEGIN, Command, End, NamedAggregation, OptionValue, Phase, Refusal, Reply, end_reserve,
+    own_firing, own_process, reply_to_describe, reply_to_list,
 };
 use dt_machine::{Machine, Moment};
-use dt_record::Layout;
 use std::alloc::{AllocError, Global};
 
 impl Runner {
@@ -105,7 +99,7 @@ impl Runner {
         one_reading();
         match Program::parse(alloc, text) {
             Ok(program) => self.enable_program(alloc, machine, program),
-            Err(fault) => match refusal_in(fault) {
+            Err(fault) => match Refusal::of_text(fault) {
                 Some(refusal) => Ok(Reply::Refused(refusal)),
                 None => Err(AllocError),
             },
@@ -146,7 +140,7 @@ impl Runner {
                     first,
                 })
             }
-            Err(fault) => match refusal_for(fault) {
+            Err(fault) => match Refusal::of_program(fault) {
                 Some(refusal) => Ok(Reply::Refused(refusal)),
                 None => Err(AllocError),
             },
@@ -165,7 +159,8 @@ impl Runner {
             return Ok(Reply::Refused(Refusal::Busy));
         }
         // under fill END's records always fit: a `go` without room for them on processor 0 is refused
-        if self.reserve().is_none() {
+        let programs = &self.programs;
+        if end_reserve(self.options, &programs.clauses, &programs.ecbs).is_none() {
             return Ok(Reply::Refused(Refusal::Limit));
         }
         let process = own_process(&self.account);
@@ -179,30 +174,14 @@ impl Runner {
         Ok(Reply::Done)
     }
 
-    /// How many bytes of the first processor's buffer are kept for END's records, or `None` where it hasn't as many.
-    /// Under fill it is one record of each of END's ECBs, whatever their predicates.
-    fn reserve(&self) -> Option<usize>
-        ensures within { IfSome result (λ reserve. reserve ≤ self.now.options.bufsize) }
-        ensures reserve { (account : Account) (registry : Registry) (s : SetUp) → Has account registry s self.now
-            → MatchOption result (has_room account registry s ≡ false)
-            (λ reserve. (has_room account registry s ≡ true) × (reserve ≡ reserve_on account registry s 0)) }
-    {
-        let size = self.options.bufsize;
-        match self.options.bufpolicy {
-            Policy::Fill => Some(
-                size - left_by_end(&self.programs.clauses, &self.programs.ecbs, size)?,
-            ),
-            Policy::Switch | Policy::Ring => Some(0),
-        }
-    }
-
     /// How many bytes ordinary records may take on the first processor.
     fn room(&self) -> usize
         ensures within { result ≤ self.now.options.bufsize }
         ensures room { (account : Account) (registry : Registry) (s : SetUp) → Has account registry s self.now
             → result ≡ s.options.bufsize - reserve_on account registry s 0 }
     {
-        match self.reserve() {
+        let programs = &self.programs;
+        match end_reserve(self.options, &programs.clauses, &programs.ecbs) {
             Some(reserve) => self.options.bufsize - reserve,
             None => 0,
         }
@@ -237,7 +216,7 @@ impl Runner {
         }
         let cpu = cpu as u32;
         // before `go` there is nothing to read, and a ring isn't read while it is written
-        if !self.is_readable() {
+        if !self.options.is_readable(self.phase) {
             return Ok(Reply::Refused(Refusal::Busy));
         }
         let room = if cpu == 0 {
@@ -246,25 +225,13 @@ impl Runner {
             self.options.bufsize
         };
         let shown = shown_on(alloc, &self.options, room, &self.since, cpu)?;
-        self.since.push(Happened::Read { cpu })?;
+        self.since.push(Happened::Snapped { cpu })?;
         Ok(Reply::Snapped {
             cpu,
             data: shown.bytes,
             drops: shown.drops,
             filled: shown.filled,
         })
-    }
-
-    /// Whether a buffer can be read: from `go` on, under ring only after tracing ended.
-    fn is_readable(&self) -> bool
-        ensures { (account : Account) (registry : Registry) (s : SetUp) → Has account registry s self.now
-            → result ≡ is_readable s (phase_of s) }
-    {
-        match self.phase {
-            Phase::Inactive => false,
-            Phase::Active => !matches!(self.options.bufpolicy, Policy::Ring),
-            Phase::Stopped(_) => true,
-        }
     }
 
     /// The table of an aggregation.
@@ -274,14 +241,14 @@ impl Runner {
             → RepliesInQuota account machine.now.registry life (Ok (agg name.now)) (answer_of reply)) }
     {
         // only a name that an accepted program uses is an aggregation's, whatever the phase
-        let Some(known) = Known::of(&self.programs.shapes, name) else {
+        let Some(named) = NamedAggregation::of(&self.programs.shapes, name) else {
             return Ok(Reply::Refused(Refusal::NoAgg));
         };
         let stores = self.stores(alloc, machine)?;
         Ok(Reply::Aggregated {
-            name: known.name,
-            function: known.aggregation.function,
-            rows: AggStore::merge_all(alloc, &stores, known.aggregation)?,
+            name: named.name,
+            function: named.aggregation.function,
+            rows: AggStore::merge_all(alloc, &stores, named.aggregation)?,
         })
     }
 
@@ -303,13 +270,13 @@ impl Runner {
             → Answers account registry life (trunc name.now) reply self.new) }
     {
         // as for an `agg`, the name must be one that an accepted program uses, in whatever phase
-        let Some(known) = Known::of(&self.programs.shapes, name) else {
+        let Some(named) = NamedAggregation::of(&self.programs.shapes, name) else {
             return Ok(Reply::Refused(Refusal::NoAgg));
         };
         // before tracing begins nothing was given
         if !self.is_inactive() {
             self.since.push(Happened::Truncated {
-                aggregation: known.aggregation,
+                aggregation: named.aggregation,
             })?;
         }
         Ok(Reply::Done)
@@ -370,19 +337,7 @@ impl Runner {
             → RepliesInQuota account machine.now.registry life (Ok (list (description_of text.now)))
             (answer_of reply)) }
     {
-        one_description();
-        // the text is one description and nothing else, so its fault is told at its first byte
-        let description = match Description::parse(text) {
-            Ok(description) => description,
-            Err(_) => {
-                return Ok(Reply::Refused(Refusal::Program {
-                    at: 0,
-                    why: Why::Probe,
-                }));
-            }
-        };
-        let probes = listed(alloc, &self.account, machine, &description)?;
-        Ok(Reply::Listed { probes })
+        reply_to_list(alloc, &self.account, machine, text)
     }
 
     /// Tells of what the records of an ECB are made.
@@ -391,55 +346,7 @@ impl Runner {
             → Has account machine.now.registry (set_up account machine.now.registry life) self.now
             → RepliesInQuota account machine.now.registry life (Ok (describe epid)) (answer_of result) }
     {
-        match self.description(machine, epid) {
-            Some(reply) => reply,
-            None => Reply::Refused(Refusal::NoEpid),
-        }
-    }
-
-    /// What is told of the ECB of a number, if there is one.
-    fn description(&self, machine: &Machine, epid: u64) -> Option<Reply>
-        // none where there is no such ECB; else its EPID, its probe, and what its records are made of
-        ensures { (account : Account) (life : List Item)
-            → Has account machine.now.registry (set_up account machine.now.registry life) self.now
-            → MatchOption (ecb_of account machine.now.registry life epid) (result ≡ None)
-            (λ found. (reply : Reply) × (result ≡ Some reply)
-            × (answer_of reply ≡ described epid found.0 (layout_of found.1.clause))) }
-    {
-        let ecb = self.programs.ecb(epid)?;
-        let probe = machine.probe(ecb.probe)?;
-        let clause = self.programs.clauses.get(ecb.clause)?;
-        Some(Reply::Described {
-            epid: ecb.epid,
-            probe: *probe,
-            layout: Layout::of(clause),
-        })
-    }
-}
-
-/// For what a program with this fault is refused. That memory ran out is no fault of the program.
-fn refusal_for(fault: EnableFault) -> Option<Refusal>
-    ensures { result ≡ option_and_then refusal_of (verdict_of fault) }
-{
-    match fault {
-        EnableFault::Privilege { clause, what } => Some(Refusal::Privilege { clause, what }),
-        EnableFault::AggClash { what } => Some(Refusal::AggClash { what }),
-        EnableFault::NoMatch { clause } => Some(Refusal::NoMatch { clause }),
-        EnableFault::Limit => Some(Refusal::Limit),
-        EnableFault::Memory => None,
-    }
-}
-
-/// For what a text with this fault is refused. That memory ran out is no fault of the text.
-fn refusal_in(fault: LangFault) -> Option<Refusal>
-    ensures { result ≡ refused_as fault }
-{
-    match fault {
-        LangFault::Program { at, flaw, .. } => Some(Refusal::Program {
-            at,
-            why: flaw.why(),
-        }),
-        LangFault::Destructive { at, what, .. } => Some(Refusal::Destructive { at, what }),
-        LangFault::Memory => None,
+        let programs = &self.programs;
+        reply_to_describe(machine, &programs.clauses, &programs.ecbs, epid)
     }
 }

@@ -10,7 +10,7 @@ use dt_aggstore::{AggStore, Aggregation, Key};
 use dt_ecb::Shapes;
 use dt_expr::Value;
 use dt_lang::{STATEMENTS_MAX, Statement};
-use dt_life::{Known, number_in, parts_at};
+use dt_life::{NamedAggregation, number_in, parts_at};
 use std::alloc::{AllocError, Global};
 
 /// One thing that happened.
@@ -20,8 +20,8 @@ pub(crate) enum Happened {
     Failed { cpu: u32 },
     /// A clause left something on a processor; `in_end` says that it was taken as END fired.
     Left { cpu: u32, in_end: bool, left: Left },
-    /// The buffer of a processor was read.
-    Read { cpu: u32 },
+    /// The buffer of a processor was read, by a `snap`.
+    Snapped { cpu: u32 },
     /// An aggregation was truncated.
     Truncated { aggregation: Aggregation },
 }
@@ -48,7 +48,6 @@ impl Contribution {
     ghost use Rattle.dt_life.specs.Aggregations.{split_by, uses_by};
     ghost use Rattle.dt_ecb.specs.Forms.{shapes_of};
     ghost use Rattle.dt_lang.specs.Program.{form_of_statement};
-    ghost use Rattle.dt_program.specs.declared.clause.TheConstants.{KEYS_MAX};
 
     /// What a clause's statements give of the values that it left: keys and numbers, one after another.
     pub(crate) fn all(
@@ -67,9 +66,9 @@ impl Contribution {
         for statement in statements {
             if let Statement::Aggregate(aggregation) = statement {
                 let keys = aggregation.keys.len();
-                if let Some(known) = Known::of(shapes, aggregation.name.as_bytes()) {
+                if let Some(named) = NamedAggregation::of(shapes, aggregation.name.as_bytes()) {
                     given.push(Contribution {
-                        aggregation: known.aggregation,
+                        aggregation: named.aggregation,
                         key: Key {
                             parts: parts_at(values, place, keys),
                         },

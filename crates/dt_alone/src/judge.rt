@@ -1,6 +1,6 @@
-//! The judge of a trail's entries, taken one by one.
+//! The judge of a trail's items, taken one by one.
 use crate::answering::answer;
-use crate::entry::Entry;
+use crate::lent_item::LentItem;
 use crate::runner::Runner;
 use dt_cred::Account;
 use dt_life::one_reply;
@@ -8,7 +8,7 @@ use dt_machine::{CPUS_MAX, Machine};
 use dt_proto::WholeLine;
 use std::alloc::{AllocError, Global};
 
-/// What is found of one entry.
+/// What is found of one item.
 #[derive(Clone, Copy, Debug, PartialEq, Eq)]
 pub(crate) enum Ruling {
     /// It may stand, and its reply, if it has one, is the one that is due.
@@ -19,7 +19,7 @@ pub(crate) enum Ruling {
     OutOfPlace,
 }
 
-/// The life that the entries so far tell, and how far each processor's firings have come.
+/// The life that the items so far tell, and how far each processor's firings have come.
 #[derive(Drop)]
 pub(crate) struct Judge {
     pub(crate) runner: Runner,
@@ -28,7 +28,7 @@ pub(crate) struct Judge {
 }
 
 impl Judge {
-    ghost use Rattle.std.specs.Prelude.{◌≡◌, ◌↔◌, List, [], ◌∷◌, IfOk, IsTrue};
+    ghost use Rattle.std.specs.Prelude.{List, [], IfOk};
     ghost use Rattle.dt_cred.specs.declared.account.Account.{Account};
     ghost use Rattle.dt_machine.specs.Registry.{Contents};
     ghost use Rattle.dt_proto.specs.Trail as trail;
@@ -36,7 +36,7 @@ impl Judge {
     ghost use Rattle.dt_alone.specs.Judging.{HasJudged, IsRuling};
     ghost use Rattle.dt_alone.specs.Lent.{form_of_lent};
 
-    /// A judge that has seen no entry.
+    /// A judge that has seen no item.
     pub(crate) fn new(alloc: Global, account: Account) -> Self
         ensures { (contents : Contents) → HasJudged account contents [] result }
     {
@@ -46,22 +46,22 @@ impl Judge {
         }
     }
 
-    /// Judges the next entry. After one that isn't right the judge is not to be used again, nor after an `Err`, which
+    /// Judges the next item. After one that isn't right the judge is not to be used again, nor after an `Err`, which
     /// comes where there is no memory.
     pub(crate) fn take(
         &mut self,
         alloc: Global,
         machine: &Machine,
-        entry: &Entry<'_>,
+        item: &LentItem<'_>,
     ) -> Result<Ruling, AllocError>
-        ensures { IfOk result (λ ruling. (account : Account) (past : List trail.TrailEntry)
+        ensures { IfOk result (λ ruling. (account : Account) (past : List trail.WrittenItem)
             → HasJudged account machine.now past self.old
-            → IsRuling account machine.now past (form_of_lent entry.now) self.new ruling) }
+            → IsRuling account machine.now past (form_of_lent item.now) self.new ruling) }
     {
-        match entry {
-            Entry::Line { line, reply } => self.take_line(alloc, machine, line, reply),
-            Entry::Long { reply } => self.take_long(alloc, machine, reply),
-            Entry::Fired { cpu, place } => self.take_firing(alloc, machine, *cpu, *place),
+        match item {
+            LentItem::Line { line, reply } => self.take_line(alloc, machine, line, reply),
+            LentItem::Long { reply } => self.take_long(alloc, machine, reply),
+            LentItem::Fired { cpu, place } => self.take_firing(alloc, machine, *cpu, *place),
         }
     }
 
@@ -73,7 +73,7 @@ impl Judge {
         line: &[u8],
         reply: &[u8],
     ) -> Result<Ruling, AllocError>
-        ensures { IfOk result (λ ruling. (account : Account) (past : List trail.TrailEntry)
+        ensures { IfOk result (λ ruling. (account : Account) (past : List trail.WrittenItem)
             → HasJudged account machine.now past self.old
             → IsRuling account machine.now past (line_asked line.now reply.now) self.new ruling) }
     {
@@ -93,7 +93,7 @@ impl Judge {
         machine: &Machine,
         reply: &[u8],
     ) -> Result<Ruling, AllocError>
-        ensures { IfOk result (λ ruling. (account : Account) (past : List trail.TrailEntry)
+        ensures { IfOk result (λ ruling. (account : Account) (past : List trail.WrittenItem)
             → HasJudged account machine.now past self.old
             → IsRuling account machine.now past (long_asked reply.now) self.new ruling) }
     {
@@ -114,7 +114,7 @@ impl Judge {
         cpu: u32,
         place: u32,
     ) -> Result<Ruling, AllocError>
-        ensures { IfOk result (λ ruling. (account : Account) (past : List trail.TrailEntry)
+        ensures { IfOk result (λ ruling. (account : Account) (past : List trail.WrittenItem)
             → HasJudged account machine.now past self.old
             → IsRuling account machine.now past (fired_at cpu place) self.new ruling) }
     {
@@ -135,7 +135,6 @@ impl Judge {
     }
 }
 
-ghost use Rattle.std.specs.Prelude.{◌≡◌};
 ghost use Rattle.dt_proto.specs.Splits.{with_newline};
 ghost use Rattle.dt_alone.specs.Compared.{IsCompared};
 

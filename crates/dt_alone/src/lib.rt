@@ -1,7 +1,7 @@
 //! What a consumer that traces alone is answered, and whether the trail of a session says just this.
 //!
 //! [`alone`] gives the replies to a list of own lines and firings, as `Alone` of dt_proto defines them, and [`check`]
-//! reads the text of a trail and judges it: it agrees; or it has a first entry that may not stand there, or whose reply
+//! reads the text of a trail and judges it: it agrees; or it has a first item that may not stand there, or whose reply
 //! is not the one that is due (`specs/Verdicts.antt`, over `specs/Legal.antt`). Both run the lines and the firings on
 //! a `Runner`, which keeps all that happened and computes each reply from the whole list (`specs/Runs.antt`). The laws
 //! `one_verdict` and `trail_agrees` say that a text has one verdict, and that the trail of what a machine can bring to a
@@ -12,11 +12,11 @@
 mod answering;
 mod checking;
 mod commands;
-mod entry;
 mod happened;
 mod item;
 mod judge;
 mod laws;
+mod lent_item;
 mod parts;
 mod programs;
 mod replies;

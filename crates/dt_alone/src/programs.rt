@@ -1,7 +1,6 @@
 //! What the accepted programs come to, and what is taken where a probe fires.
-ghost use Rattle.std.specs.Prelude.{◌≡◌, ◌+◌, ◌≤◌, ◌<◌, ◌++◌, ◌==◌, ◌^◌, ◌∷◌, [], List, All, IfOk, IfSome, MatchOption, false, find, length, map, sum, vec_len};
+ghost use Rattle.std.specs.Prelude.{◌≡◌, ◌+◌, ◌≤◌, ◌<◌, ◌++◌, ◌==◌, ◌∷◌, [], All, IfOk, false, length, map, vec_len};
 ghost use Rattle.std.specs.List.{list_any};
-ghost use Rattle.std.specs.Option.{option_copied};
 ghost use Rattle.dt_lang.specs.Program.{form_of_clause};
 ghost use Rattle.dt_ecb.specs.Forms.{form_of_ecb, shapes_of};
 ghost use Rattle.dt_ecb.specs.declared.limits.TheConstants.{ECBS_MAX};
@@ -24,6 +23,7 @@ pub(crate) struct Programs {
     pub(crate) ecbs: Vec<Ecb>,
     pub(crate) shapes: Shapes,
     ghost few: { vec_len ecbs ≤ ECBS_MAX },
+    ghost placed: { All (λ ecb. ecb.clause < vec_len clauses) ecbs.items },
 }
 
 impl Programs {
@@ -52,13 +52,6 @@ impl Programs {
         ensures { result ≡ list_any (λ ecb. ecb.probe == probe) self.now.ecbs.items }
     {
         self.ecbs.iter().any(|ecb| ecb.probe == probe)
-    }
-
-    /// The ECB of a number, if there is one.
-    pub(crate) fn ecb(&self, epid: u64) -> Option<&Ecb>
-        ensures { option_copied result ≡ find (λ ecb. ecb.epid == epid) self.now.ecbs.items }
-    {
-        self.ecbs.iter().find(|ecb| u64::from(ecb.epid) == epid)
     }
 
     /// Adds the clauses of a program and its ECBs, which name places among its own clauses. The aggregations are all
@@ -94,12 +87,11 @@ impl Programs {
         in_end: bool,
     ) -> Result<Option<i64>, AllocError>
         // listed on the firing's processor is what is taken there: up to the first exit, in END all
-        ensures taken { All (λ ecb. ecb.clause < length self.now.clauses.items) self.now.ecbs.items
-            → (let m = form_of_moment moment.now in
+        ensures taken { let m = form_of_moment moment.now in
             IfOk result (λ _. AddsTakings (shapes_of self.now.shapes) m.firing.cpu (taken_at in_end
             (map (form_of_ecb (map form_of_clause self.now.clauses.items)) self.now.ecbs.items) m)
-            happened.old.items happened.new.items)) }
-        ensures exit { All (λ ecb. ecb.clause < length self.now.clauses.items) self.now.ecbs.items → in_end ≡ false
+            happened.old.items happened.new.items) }
+        ensures exit { in_end ≡ false
             → IfOk result (λ exit. exit ≡ first_exit (taken_at false
             (map (form_of_ecb (map form_of_clause self.now.clauses.items)) self.now.ecbs.items)
             (form_of_moment moment.now))) }
@@ -124,19 +116,17 @@ impl Programs {
         moment: &Moment,
         in_end: bool,
     ) -> Result<Option<i64>, AllocError>
-        ensures taken { ecb.clause < length self.now.clauses.items → (let m = form_of_moment moment.now in
+        requires { ecb.clause < length self.now.clauses.items }
+        ensures taken { let m = form_of_moment moment.now in
             IfOk result (λ _. AddsTakings (shapes_of self.now.shapes) m.firing.cpu
             (taking_by in_end m (map form_of_clause self.now.clauses.items) ecb ∷ [])
-            happened.old.items happened.new.items)) }
-        ensures exit { ecb.clause < length self.now.clauses.items → IfOk result (λ exit. exit
+            happened.old.items happened.new.items) }
+        ensures exit { IfOk result (λ exit. exit
             ≡ exit_of (taking_by in_end (form_of_moment moment.now) (map form_of_clause self.now.clauses.items) ecb)) }
         ensures few { vec_len happened.new ≤ vec_len happened.old + 1 }
     {
         let cpu = moment.firing.cpu;
-        // each ECB has the place of a clause that was accepted with it, so this end is never met
-        let Some(clause) = self.clauses.get(ecb.clause) else {
-            return Ok(None);
-        };
+        let clause = &self.clauses[ecb.clause];
         match taken(ecb.epid, clause, &scene_at(moment, ecb.epid)) {
             Ok(Some(taken)) => {
                 let left = self.left(alloc, clause, &taken)?;

@@ -1,6 +1,5 @@
 //! The plain runner of one life: it has all that happened in it.
-ghost use Rattle.std.specs.Prelude.{◌≡◌, ◌≤◌, ◌<◌, ◌+◌, ◌*◌, ◌==◌, None, Some, if◌then◌else◌, vec_len};
-ghost use Rattle.std.specs.Option.{option_map, option_or};
+ghost use Rattle.std.specs.Prelude.{◌≡◌, ◌≤◌, ◌<◌, ◌+◌, ◌*◌, None, Some, if◌then◌else◌, vec_len};
 ghost use Rattle.dt_life.specs.declared.limits.TheConstants.{HISTORY_MAX, LINES_MAX};
 ghost use Rattle.dt_life.specs.declared.phase.Phase.TheVariants as phases;
 ghost use Rattle.dt_ecb.specs.declared.limits.TheConstants.{ECBS_MAX};
@@ -34,18 +33,18 @@ pub(crate) struct Runner {
 }
 
 impl Runner {
-    ghost use Rattle.std.specs.Prelude.{◌↔◌, ◌∷◌, ℕ, List, [], Option, Result, Ok, Some, None, IsTrue, IfOk, nat_le, false, length, if◌then◌else◌, ◌==◌};
+    ghost use Rattle.std.specs.Prelude.{◌↔◌, ◌∷◌, List, [], Result, Ok, Some, None, IsTrue, IfOk, nat_le, false, if◌then◌else◌};
     ghost use Rattle.dt_cred.specs.declared.account.Account.{Account};
     ghost use Rattle.dt_machine.specs.Registry.{Registry};
     ghost use Rattle.dt_machine.specs.Moment.{form_of_moment};
-    ghost use Rattle.dt_alone.specs.Runs.{Answers, Has, HasIn, HasAsked, IsFiring, Runs};
+    ghost use Rattle.dt_alone.specs.Runs.{Has, HasIn, IsFiring, Runs};
     ghost use Rattle.dt_life.specs.Answer.{answer_of};
-    ghost use Rattle.dt_life.specs.Ask.{line_asks, ask_of};
+    ghost use Rattle.dt_life.specs.Ask.{line_asks};
     ghost use Rattle.dt_life.specs.Acceptance.{after_line};
-    ghost use Rattle.dt_life.specs.Life.{Item, SetUp, asked, fired, happens, phase_after, seen_count, set_up, with_event, is_over as over};
-    ghost use Rattle.dt_life.specs.Reply.{Replies, RepliesInQuota};
+    ghost use Rattle.dt_life.specs.Life.{Item, SetUp, asked, fired, happens, phase_after, seen_count, with_event, is_over as over};
+    ghost use Rattle.dt_life.specs.Reply.{Replies};
     ghost use Rattle.dt_life.specs.Sees.{Sees};
-    ghost use Rattle.dt_life.specs.Takings.{TracingEvent, ended, is_end, moment_at};
+    ghost use Rattle.dt_life.specs.Takings.{TracingEvent, ended, moment_at};
     ghost use Rattle.dt_life.specs.declared.phase.End.{End};
 
     /// A runner of the empty life.
@@ -157,7 +156,7 @@ impl Runner {
             Phase::Stopped(Some(End::History))
         };
         let exit = self.programs.take(alloc, &mut self.since, moment, false)?;
-        let end = end_after(exit, seen, history);
+        let end = End::after(exit, seen, history);
         self.phase = match end {
             Some(end) => Phase::Stopped(Some(end)),
             None => Phase::Active,
@@ -185,16 +184,5 @@ impl Runner {
         };
         let _exit = self.programs.take(alloc, &mut self.since, &moment, true)?;
         Ok(())
-    }
-}
-
-/// Why tracing ends after a firing, if it does: one of its clauses exited, or it is the last of the history.
-fn end_after(exit: Option<i64>, seen: u32, history: u32) -> Option<End>
-    ensures { result ≡ option_or (option_map End.Exit exit) (if seen == history then Some End.History else None) }
-{
-    match exit {
-        Some(status) => Some(End::Exit(status)),
-        None if seen == history => Some(End::History),
-        None => None,
     }
 }

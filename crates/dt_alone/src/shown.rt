@@ -34,7 +34,7 @@ pub(crate) struct Beginning {
 pub(crate) enum Came<'a> {
     Nothing,
     Put { bytes: &'a [u8], in_end: bool },
-    Read,
+    Snapped,
 }
 
 impl Happened {
@@ -53,7 +53,7 @@ impl Happened {
                 },
                 None => Came::Nothing,
             },
-            Happened::Read { cpu } if *cpu == on => Came::Read,
+            Happened::Snapped { cpu } if *cpu == on => Came::Snapped,
             _ => Came::Nothing,
         }
     }
@@ -101,7 +101,7 @@ fn switch(alloc: Global, size: usize, happened: &[Happened], cpu: u32) -> Result
                     drops += 1;
                 }
             }
-            Came::Read => {
+            Came::Snapped => {
                 bytes.clear();
                 drops = 0;
             }

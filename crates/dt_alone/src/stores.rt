@@ -1,16 +1,15 @@
 //! The stores of aggregations, filled anew from what happened, and the errors.
-ghost use Rattle.std.specs.Prelude.{◌≡◌, ◌≤◌, ◌*◌, ℕ, All, IfOk, length, map};
+ghost use Rattle.std.specs.Prelude.{◌≡◌, ◌≤◌, ◌*◌, IfOk, length, map};
 ghost use Rattle.std.specs.List.{range_with_len};
-ghost use Rattle.dt_aggstore.specs.History as spec;
 ghost use Rattle.dt_aggstore.specs.declared.limits.TheConstants.{AGGSIZE_MAX, ADDED_LIMIT};
 ghost use Rattle.dt_program.specs.declared.clause.TheConstants.{STATEMENTS_MAX};
 ghost use Rattle.dt_alone.specs.Happened as happenings;
 ghost use Rattle.dt_alone.specs.Happened.{given_to};
-ghost use Rattle.dt_life.specs.Uses.{GivenAtMost};
 ghost use Rattle.dt_life.specs.Uses.{AreGiven};
 
 use crate::happened::Happened;
 use dt_aggstore::AggStore;
+use dt_life::empty_stores;
 use std::alloc::{AllocError, Global};
 
 /// The stores of so many processors, to each of which is given, in order, what happened there.
@@ -29,20 +28,6 @@ pub(crate) fn stores_on(
     let mut stores = empty_stores(alloc, size, cpus)?;
     for one in happened {
         one.give(stores.as_mut_slice());
-    }
-    Ok(stores)
-}
-
-/// Stores of so many processors, to which nothing was given.
-fn empty_stores(alloc: Global, size: usize, cpus: u32) -> Result<Vec<AggStore>, AllocError>
-    requires { size ≤ AGGSIZE_MAX }
-    ensures len { IfOk result (λ stores. length stores.items ≡ cpus) }
-    ensures fresh { IfOk result (λ stores. AreGiven (λ cpu. spec.new_past size) stores.items) }
-    ensures gives { IfOk result (λ stores. All (GivenAtMost 0) stores.items) }
-{
-    let mut stores = Vec::new(alloc);
-    for _cpu in 0..cpus {
-        stores.push(AggStore::new(alloc, size)?)?;
     }
     Ok(stores)
 }

@@ -4,11 +4,11 @@ use std::fmt;
 /// What a check finds of a trail.
 #[derive(Clone, Copy, Debug, PartialEq, Eq)]
 pub enum Verdict {
-    /// Each entry may stand where it does, and so many replies are all as they are due.
+    /// Each item may stand where it does, and so many replies are all as they are due.
     Agree(usize),
     /// This reply, counted from 1, is the first that isn't the one that is due. All before it is in order.
     Differs(usize),
-    /// This entry, counted from 1, is the first that may not stand where it does: a line over the quota, a firing that
+    /// This item, counted from 1, is the first that may not stand where it does: a line over the quota, a firing that
     /// the machine's scripts don't have, one at no higher place than an earlier one of its processor, or one that isn't
     /// seen. All before it is in order.
     Illegal(usize),
@@ -24,7 +24,7 @@ impl fmt::Display for Verdict {
         match self {
             Verdict::Agree(replies) => write!(f, "agree {replies}"),
             Verdict::Differs(reply) => write!(f, "differs at {reply}"),
-            Verdict::Illegal(entry) => write!(f, "illegal at {entry}"),
+            Verdict::Illegal(item) => write!(f, "illegal at {item}"),
         }
     }
 }

@@ -50,3 +50,13 @@ module _ (account : Account) (registry : Registry) (life : List Item) where
     replies = in_quota account registry life (Ok ask) (answer_of reply) fresh (accepted_reply account registry life ask (answer_of reply) verdict accepted);
     makes = (fresh, idle, goes_on);
   }
+
+  -- a command whose reply is the definition's, counted, and that changes nothing else
+  pub counted_draft : (ask : Ask) (reply : Reply) → is_over life ≡ false
+      → RepliesInQuota account registry life (Ok ask) (answer_of reply)
+      → set_up account registry (asked (Ok ask) ∷ life) ≡ now → is_close (Ok ask) ≡ false
+      → IsDraftOf account registry life (Ok ask) (record { reply = reply; change = Counted })
+  counted_draft ask reply fresh replies idle goes_on = record {
+    replies = in_quota account registry life (Ok ask) (answer_of reply) fresh replies;
+    makes = (fresh, idle, goes_on);
+  }

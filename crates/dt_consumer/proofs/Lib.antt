@@ -6,7 +6,7 @@ pub mod Giving
 pub mod Taken
 pub mod Tracings
 pub mod Stores
-pub mod Reading
+pub mod Snapping
 pub mod Counted
 pub mod Stands
 pub mod Seeing

@@ -84,7 +84,7 @@ impl Consumer {
     /// Takes a firing, and answers whether the consumer saw it: it is active, the firing belongs to the machine, one
     /// of its ECBs names the probe, and its account is shown the firing. Where a clause exits, or the firing is the last
     /// of the history, tracing ends, and END fires in the same step. An unseen firing changes nothing. It takes no
-    /// memory.
+    /// memory. This is [`Consumer::offer_moment`] for a firing whose probe and process nobody looked up.
     pub fn offer(&mut self, machine: &Machine, firing: &Firing) -> bool
         ensures sees { (account : Account) (life : List Item)
             → StandsFor account machine.now.registry self.old life
@@ -102,8 +102,8 @@ impl Consumer {
         }
     }
 
-    /// Takes a firing whose probe and process were looked up before, as [`Consumer::offer`] does: so who offers a firing to many
-    /// looks them up once. The moment is one of the machine's.
+    /// The same for a firing whose probe and process were looked up, which is all the work of an offer: so who offers a firing to
+    /// many consumers looks them up once. The moment is one of the machine's.
     pub fn offer_moment(&mut self, machine: &Machine, moment: &Moment) -> bool
         ensures sees { (account : Account) (life : List Item)
             → StandsFor account machine.now.registry self.old life → IsMoment machine.now.registry moment.now

@@ -1,49 +1,45 @@
 //! The drafts of a consumer's lines.
-ghost use Rattle.std.specs.Prelude.{◌≡◌, ◌≤◌, ◌+◌, ◌<◌, ℕ, List, Option, Result, Ok, Err, Some, None, true, false, length, map, All, IsTrue, IfOk, IfErr, IfSome, MatchOption, is_some, option_and_then, slice_get, vec_len, if◌then◌else◌};
+ghost use Rattle.std.specs.Prelude.{◌≡◌, ◌≤◌, ◌+◌, ◌<◌, List, Option, Result, Ok, Err, Some, None, true, false, length, map, All, IfOk, IfErr, MatchOption, is_some, vec_len};
 ghost use Rattle.dt_aggstore.specs.Entries.{form_of_row};
 ghost use Rattle.dt_aggstore.specs.TableOf.{table_of};
 ghost use Rattle.dt_cred.specs.declared.account.Account.{Account};
 ghost use Rattle.dt_machine.specs.Registry.{Registry};
-ghost use Rattle.dt_lang.specs.Description.{DescForm, ReadsDescription};
 ghost use Rattle.dt_lang.specs.Program.{form_of_program};
 ghost use Rattle.dt_lang.specs.Reads as lang;
 ghost use Rattle.dt_ecb.specs.Ecbs.{added};
 ghost use Rattle.dt_ecb.specs.Enable as verdict;
 ghost use Rattle.dt_ecb.specs.Enable.{IsVerdict};
-ghost use Rattle.dt_ecb.specs.Forms.{form_of_ecb, shapes_of, verdict_of};
+ghost use Rattle.dt_ecb.specs.Forms.{form_of_ecb, shapes_of};
 ghost use Rattle.dt_ecb.specs.declared.limits.TheConstants.{ECBS_MAX};
-ghost use Rattle.dt_life.specs.Answer.{answer_of, described};
-ghost use Rattle.dt_life.specs.Ask.{Ask, ask_of, line_asks, reading_of, description_of, agg, enable, go, snap, status, list, describe, option, stop, trunc, close};
-ghost use Rattle.dt_life.specs.Buffers.{errors, past, reserve_on};
+ghost use Rattle.dt_life.specs.Answer.{answer_of};
+ghost use Rattle.dt_life.specs.Ask.{ask_of, line_asks, reading_of, description_of, agg, enable, go, snap, status, list, describe, option, stop, trunc, close};
+ghost use Rattle.dt_life.specs.Buffers.{errors, past};
 ghost use Rattle.dt_life.specs.Options.{setting_of};
-ghost use Rattle.dt_consumer.specs.Keeps.{HasTaken, Keeps, is_quiet};
+ghost use Rattle.dt_consumer.specs.Keeps.{HasTaken, is_quiet};
 ghost use Rattle.dt_life.specs.declared.phase.Phase.TheVariants.{Inactive};
 ghost use Rattle.std.specs.String.{string_bytes};
 ghost use Rattle.std.specs.Option.{option_copied};
 ghost use Rattle.dt_consumer.specs.Draft.{CanApply, IsDraftOf};
-ghost use Rattle.dt_consumer.specs.Placing.{IsPlaced};
-ghost use Rattle.dt_life.specs.Life.{Item, SetUp, set_up, phase, phase_of, next_epid, has_room, is_inactive, is_readable};
-ghost use Rattle.dt_life.specs.Refusal.{IsNoCommand, refused_as};
-ghost use Rattle.dt_life.specs.Reply.{Accepted, ecb_of, all_aggdrops, all_errors, refusal_of, seen_firings};
+ghost use Rattle.dt_life.specs.Life.{Item, set_up, phase, next_epid, is_inactive, is_readable};
+ghost use Rattle.dt_life.specs.Refusal.{IsNoCommand};
+ghost use Rattle.dt_life.specs.Reply.{Accepted, all_aggdrops, all_errors, seen_firings};
 ghost use Rattle.dt_life.specs.Stores.{stores_in};
 ghost use Rattle.dt_consumer.specs.StandsFor.{StandsFor, MayAsk};
 ghost use Rattle.dt_life.specs.declared.reply.Reply.{Reply};
-ghost use Rattle.dt_record.specs.Layout.{layout_of};
 
 use crate::consumer::Consumer;
 use crate::draft::{Change, Draft};
 use crate::processor::Processor;
 use crate::tracing::Tracing;
 use dt_aggstore::{AggStore, Aggregation, Row, drops_go_on};
-use dt_buffer::{Policy, one_shown};
-use dt_ecb::{Ecb, EnableFault, enable, listed, one_verdict};
-use dt_lang::{Description, LangFault, ParseProgram, Program, Why, one_description, one_reading};
+use dt_buffer::one_shown;
+use dt_ecb::{Ecb, enable, one_verdict};
+use dt_lang::{ParseProgram, Program, one_reading};
 use dt_life::{
-    Command, Known, LINES_MAX, OptionValue, Options, Phase, Refusal, Reply, left_by_end,
-    placed_after,
+    Command, LINES_MAX, NamedAggregation, OptionValue, Phase, Refusal, Reply, end_reserve,
+    placed_after, reply_to_describe, reply_to_list,
 };
 use dt_machine::Machine;
-use dt_record::Layout;
 use std::alloc::{AllocError, Global};
 
 impl Consumer {
@@ -152,7 +148,7 @@ impl Consumer {
         one_reading();
         match Program::parse(alloc, text) {
             Ok(program) => self.draft_program(alloc, machine, program),
-            Err(fault) => match refusal_in(fault) {
+            Err(fault) => match Refusal::of_text(fault) {
                 Some(refusal) => Ok(Draft::refused(refusal)),
                 None => Err(AllocError),
             },
@@ -180,7 +176,7 @@ impl Consumer {
         let shapes = &self.programs.shapes;
         match enable(alloc, &self.account, machine, &program, shapes, first) {
             Ok(ecbs) => self.draft_enabled(alloc, program, ecbs, first),
-            Err(fault) => match refusal_for(fault) {
+            Err(fault) => match Refusal::of_program(fault) {
                 Some(refusal) => Ok(Draft::refused(refusal)),
                 None => Err(AllocError),
             },
@@ -241,36 +237,16 @@ impl Consumer {
             return Ok(Draft::refused(Refusal::Busy));
         }
         // under fill END's records always fit: a `go` without room for them on processor 0 is refused
-        let Some(reserve) = self.reserve() else {
+        let (account, options) = (&self.account, self.options);
+        let (clauses, ecbs) = (self.programs.clauses(), self.programs.ecbs());
+        let Some(reserve) = end_reserve(options, clauses, ecbs) else {
             return Ok(Draft::refused(Refusal::Limit));
         };
-        let (account, options) = (&self.account, self.options);
         let tracing = Tracing::begin(alloc, account, machine, options, &self.programs, reserve)?;
         Ok(Draft {
             reply: Reply::Done,
             change: Change::Go { tracing },
         })
-    }
-
-    /// How many bytes of the first processor's buffer are kept for END's records, or `None` where it hasn't as many.
-    /// Under fill it is one record of each of END's ECBs, whatever their predicates.
-    fn reserve(&self) -> Option<usize>
-        ensures within { IfSome result (λ reserve. reserve ≤ self.now.options.bufsize) }
-        ensures reserve { (account : Account) (registry : Registry) (s : SetUp) → Keeps account registry s self.now
-            → MatchOption result (has_room account registry s ≡ false)
-            (λ reserve. (has_room account registry s ≡ true) × (reserve ≡ reserve_on account registry s 0)) }
-    {
-        let Options {
-            bufsize,
-            bufpolicy,
-            ..
-        } = self.options;
-        match bufpolicy {
-            Policy::Fill => Some(
-                bufsize - left_by_end(self.programs.clauses(), self.programs.ecbs(), bufsize)?,
-            ),
-            Policy::Switch | Policy::Ring => Some(0),
-        }
     }
 
     /// The draft of a `stop`.
@@ -301,26 +277,13 @@ impl Consumer {
         }
         let cpu = cpu as u32;
         // before `go` there is nothing to read, and a ring isn't read while it is written
-        if !self.is_readable() {
+        if !self.options.is_readable(self.phase()) {
             return Ok(Draft::refused(Refusal::Busy));
         }
         Ok(Draft {
             reply: self.shown(alloc, machine, cpu)?,
             change: Change::Snap { cpu: cpu as usize },
         })
-    }
-
-    /// Whether buffers can be read: from `go` on, under ring only after tracing ended.
-    fn is_readable(&self) -> bool
-        ensures { (account : Account) (registry : Registry) (life : List Item)
-            → StandsFor account registry self.now life
-            → result ≡ is_readable (set_up account registry life) (phase account registry life) }
-    {
-        match self.phase() {
-            Phase::Inactive => false,
-            Phase::Active => !matches!(self.options.bufpolicy, Policy::Ring),
-            Phase::Stopped(_) => true,
-        }
     }
 
     /// What the buffer of a processor shows: nothing where the session was closed before tracing began.
@@ -366,13 +329,13 @@ impl Consumer {
         ensures fits { IfOk result (λ draft. CanApply self.now draft) }
     {
         // only a name that an accepted program uses is an aggregation's, whatever the phase
-        let Some(known) = Known::of(&self.programs.shapes, name) else {
+        let Some(named) = NamedAggregation::of(&self.programs.shapes, name) else {
             return Ok(Draft::refused(Refusal::NoAgg));
         };
         let reply = Reply::Aggregated {
-            name: known.name,
-            function: known.aggregation.function,
-            rows: self.table(alloc, known.aggregation)?,
+            name: named.name,
+            function: named.aggregation.function,
+            rows: self.table(alloc, named.aggregation)?,
         };
         Ok(Draft {
             reply,
@@ -400,7 +363,7 @@ impl Consumer {
         ensures fits { CanApply self.now result }
     {
         // as for an `agg`, the name must be one that an accepted program uses, in whatever phase
-        let Some(known) = Known::of(&self.programs.shapes, name) else {
+        let Some(named) = NamedAggregation::of(&self.programs.shapes, name) else {
             return Draft::refused(Refusal::NoAgg);
         };
         // before tracing begins nothing was given
@@ -413,7 +376,7 @@ impl Consumer {
         Draft {
             reply: Reply::Done,
             change: Change::Trunc {
-                aggregation: known.aggregation,
+                aggregation: named.aggregation,
             },
         }
     }
@@ -482,20 +445,8 @@ impl Consumer {
             → IsDraftOf account machine.now.registry life (Ok (list (description_of text.now))) draft) }
         ensures fits { IfOk result (λ draft. CanApply self.now draft) }
     {
-        one_description();
-        // the text is one description and nothing else, so its fault is told at its first byte
-        let description = match Description::parse(text) {
-            Ok(description) => description,
-            Err(_) => {
-                return Ok(Draft::refused(Refusal::Program {
-                    at: 0,
-                    why: Why::Probe,
-                }));
-            }
-        };
-        let probes = listed(alloc, &self.account, machine, &description)?;
         Ok(Draft {
-            reply: Reply::Listed { probes },
+            reply: reply_to_list(alloc, &self.account, machine, text)?,
             change: Change::Counted,
         })
     }
@@ -506,30 +457,11 @@ impl Consumer {
             → IsDraftOf account machine.now.registry life (Ok (describe epid)) result }
         ensures fits { CanApply self.now result }
     {
-        match self.description(machine, epid) {
-            Some(reply) => Draft {
-                reply,
-                change: Change::Counted,
-            },
-            None => Draft::refused(Refusal::NoEpid),
+        let (clauses, ecbs) = (self.programs.clauses(), self.programs.ecbs());
+        Draft {
+            reply: reply_to_describe(machine, clauses, ecbs, epid),
+            change: Change::Counted,
         }
-    }
-
-    /// What is told of the ECB of a number, if there is one.
-    fn description(&self, machine: &Machine, epid: u64) -> Option<Reply>
-        ensures { (account : Account) (life : List Item) → StandsFor account machine.now.registry self.now life
-            → MatchOption (ecb_of account machine.now.registry life epid) (result ≡ None)
-            (λ found. (reply : Reply) × (result ≡ Some reply)
-            × (answer_of reply ≡ described epid found.0 (layout_of found.1.clause))) }
-    {
-        let ecb = self.programs.ecb(epid)?;
-        let probe = machine.probe(ecb.probe)?;
-        let clause = self.programs.clauses().get(ecb.clause)?;
-        Some(Reply::Described {
-            epid: ecb.epid,
-            probe: *probe,
-            layout: Layout::of(clause),
-        })
     }
 
     /// The draft of a `close`: it is accepted in every phase.
@@ -542,32 +474,5 @@ impl Consumer {
             reply: Reply::Done,
             change: Change::Close,
         }
-    }
-}
-
-/// For what a program with this fault is refused. That memory ran out is no fault of the program.
-fn refusal_for(fault: EnableFault) -> Option<Refusal>
-    ensures { result ≡ option_and_then refusal_of (verdict_of fault) }
-{
-    match fault {
-        EnableFault::Privilege { clause, what } => Some(Refusal::Privilege { clause, what }),
-        EnableFault::AggClash { what } => Some(Refusal::AggClash { what }),
-        EnableFault::NoMatch { clause } => Some(Refusal::NoMatch { clause }),
-        EnableFault::Limit => Some(Refusal::Limit),
-        EnableFault::Memory => None,
-    }
-}
-
-/// For what a text with this fault is refused. That memory ran out is no fault of the text.
-fn refusal_in(fault: LangFault) -> Option<Refusal>
-    ensures { result ≡ refused_as fault }
-{
-    match fault {
-        LangFault::Program { at, flaw, .. } => Some(Refusal::Program {
-            at,
-            why: flaw.why(),
-        }),
-        LangFault::Destructive { at, what, .. } => Some(Refusal::Destructive { at, what }),
-        LangFault::Memory => None,
     }
 }

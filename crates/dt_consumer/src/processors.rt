@@ -7,7 +7,7 @@ use crate::enabled::Enabled;
 use crate::processor::Processor;
 use dt_aggstore::{AggStore, Aggregation};
 use dt_cred::Account;
-use dt_life::{END, Moment, Options, own_firing, own_process};
+use dt_life::{END, Moment, Options, empty_stores, own_firing, own_process};
 use dt_machine::Machine;
 use dt_record::Taken;
 use std::alloc::{AllocError, Global};
@@ -25,11 +25,11 @@ pub(crate) struct Processors {
 }
 
 impl Processors {
-    ghost use Rattle.std.specs.Prelude.{◌≡◌, ◌+◌, ◌-◌, ◌<◌, ◌==◌, ◌&&◌, ℕ, true, false, List, All, IfOk, IfSome, IsSomeAnd, length, map, slice_get, vec_len, if◌then◌else◌};
+    ghost use Rattle.std.specs.Prelude.{◌≡◌, ◌+◌, ◌-◌, ◌<◌, ◌==◌, ℕ, true, false, List, All, IfOk, IfSome, IsSomeAnd, length, map, slice_get, vec_len, if◌then◌else◌};
     ghost use Rattle.dt_aggstore.specs.Chosen.{drops};
     ghost use Rattle.dt_aggstore.specs.History as stores;
     ghost use Rattle.std.specs.List.{range_with_len};
-    ghost use Rattle.dt_aggstore.specs.declared.limits.TheConstants.{ADDED_LIMIT, AGGSIZE_MAX};
+    ghost use Rattle.dt_aggstore.specs.declared.limits.TheConstants.{ADDED_LIMIT};
     ghost use Rattle.dt_ecb.specs.Shapes.{ShapeForm};
     ghost use Rattle.dt_buffer.specs.History.{BufferPast, new_buffer_past};
     ghost use Rattle.dt_buffer.specs.Shows.{EndLast};
@@ -66,7 +66,7 @@ impl Processors {
     {
         Ok(Processors {
             all: Processors::fresh(alloc, options, reserve, cpus)?,
-            stores: Processors::empty_stores(alloc, options.aggsize, cpus)?,
+            stores: empty_stores(alloc, options.aggsize, cpus)?,
             left: Taken::new(),
         })
     }
@@ -88,20 +88,6 @@ impl Processors {
         for cpu in 0..cpus {
             let reserve = if cpu == 0 { reserve } else { 0 };
             all.push(Processor::new(alloc, options, reserve)?)?;
-        }
-        Ok(all)
-    }
-
-    /// Stores to which nothing was given.
-    fn empty_stores(alloc: Global, size: usize, cpus: u32) -> Result<Vec<AggStore>, AllocError>
-        requires { size ≤ AGGSIZE_MAX }
-        ensures len { IfOk result (λ all. vec_len all ≡ cpus) }
-        ensures fresh { IfOk result (λ all. AreGiven (λ cpu. stores.new_past size) all.items) }
-        ensures gives { IfOk result (λ all. All (GivenAtMost 0) all.items) }
-    {
-        let mut all = Vec::with_capacity(alloc, cpus as usize)?;
-        for _cpu in 0..cpus {
-            all.push(AggStore::new(alloc, size)?)?;
         }
         Ok(all)
     }

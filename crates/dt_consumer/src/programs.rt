@@ -1,6 +1,5 @@
 //! What a consumer's accepted programs come to.
-ghost use Rattle.std.specs.Prelude.{◌≡◌, ◌≢◌, ◌↔◌, ℕ, ◌+◌, ◌≤◌, ◌<◌, ◌++◌, List, [], length, ◌==◌, filter, find, map, sum, All, IsTrue, IfOk, IfSome, MatchOption, vec_len, vec_capacity};
-ghost use Rattle.std.specs.Option.{option_copied};
+ghost use Rattle.std.specs.Prelude.{◌≡◌, ◌≢◌, ◌↔◌, ℕ, ◌+◌, ◌≤◌, ◌<◌, ◌++◌, [], length, ◌==◌, filter, All, IsTrue, IfOk, vec_len, vec_capacity};
 ghost use Rattle.dt_machine.specs.Interest.{has_probe};
 ghost use Rattle.dt_ecb.specs.Forms.{shapes_of};
 ghost use Rattle.dt_consumer.specs.Placing.{IsPlaced};
@@ -54,13 +53,6 @@ impl Programs {
         ensures placed { All (IsPlaced (vec_len self.now.clauses)) result.now }
     {
         &self.ecbs
-    }
-
-    /// The ECB of a number, if there is one.
-    pub(crate) fn ecb(&self, epid: u64) -> Option<&Ecb>
-        ensures { option_copied result ≡ find (λ ecb. ecb.epid == epid) self.now.ecbs.items }
-    {
-        self.ecbs.iter().find(|ecb| u64::from(ecb.epid) == epid)
     }
 
     /// The probes that the ECBs name.

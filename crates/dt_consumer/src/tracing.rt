@@ -1,6 +1,5 @@
 //! What a consumer has from its `go` on.
-ghost use Rattle.std.specs.Prelude.{◌≡◌, ◌≤◌, ◌<◌, ◌+◌, ◌*◌, ◌==◌, All, None, Some, vec_len, if◌then◌else◌};
-ghost use Rattle.std.specs.Option.{option_map, option_or};
+ghost use Rattle.std.specs.Prelude.{◌≡◌, ◌≤◌, ◌<◌, ◌+◌, ◌*◌, All, None, Some, vec_len};
 ghost use Rattle.dt_ecb.specs.declared.limits.TheConstants.{ECBS_MAX};
 ghost use Rattle.dt_consumer.specs.Counts.{AtMost, GIVES_MAX, own_firings, must_be_left};
 ghost use Rattle.dt_consumer.specs.Placing.{ArePlaced};
@@ -40,7 +39,7 @@ pub(crate) struct Tracing {
 }
 
 impl Tracing {
-    ghost use Rattle.std.specs.Prelude.{◌≡◌, ◌≢◌, ◌↔◌, ◌==◌, ◌&&◌, ℕ, [], List, Option, Some, None, IsTrue, IfOk, IfSome, length, slice_get, filter, map, true, false, if◌then◌else◌};
+    ghost use Rattle.std.specs.Prelude.{◌≡◌, ◌≢◌, ◌↔◌, ◌&&◌, ℕ, [], List, Option, Some, None, IsTrue, IfOk, length, map, true, false};
     ghost use Rattle.dt_cred.specs.declared.account.Account.{Account};
     ghost use Rattle.dt_machine.specs.Registry.{Registry};
     ghost use Rattle.dt_cred.specs.declared.firing.Firing.{Firing};
@@ -83,7 +82,7 @@ impl Tracing {
             alloc, account, machine, options, programs, reserve,
         )?;
         // BEGIN is no seen firing, so tracing goes on unless one of BEGIN's clauses exits
-        let Some(end) = end_after(exit, 0, options.histsize) else {
+        let Some(end) = End::after(exit, 0, options.histsize) else {
             return Ok(tracing);
         };
         tracing.finish(end, account, machine, programs.clauses());
@@ -202,7 +201,7 @@ impl Tracing {
         let list = &self.lists[moment.firing.probe as usize];
         let exit = self.processors.take(&enabled, list, moment);
         self.seen += 1;
-        if let Some(end) = end_after(exit, self.seen, self.history) {
+        if let Some(end) = End::after(exit, self.seen, self.history) {
             self.course = Course::Over(Some(end));
             let list = &self.lists[END as usize];
             self.processors.fire_end(account, machine, &enabled, list);
@@ -290,16 +289,5 @@ impl Tracing {
             errors.push(processor.errors)?;
         }
         Ok(errors)
-    }
-}
-
-/// Why tracing ends after a firing, if it does: one of its clauses exited, or it is the last of the history.
-fn end_after(exit: Option<i64>, seen: u32, history: u32) -> Option<End>
-    ensures { result ≡ option_or (option_map End.Exit exit) (if seen == history then Some End.History else None) }
-{
-    match exit {
-        Some(status) => Some(End::Exit(status)),
-        None if seen == history => Some(End::History),
-        None => None,
     }
 }

@@ -6,7 +6,7 @@ use dt_aggstore::{AggStore, Aggregation, Key};
 use dt_ecb::Shapes;
 use dt_expr::Value;
 use dt_lang::{Clause, KEYS_MAX, STATEMENTS_MAX, Statement};
-use dt_life::{Known, number_in, parts_at};
+use dt_life::{NamedAggregation, number_in, parts_at};
 use std::alloc::{AllocError, Global};
 
 /// A use of an aggregation by a statement: which one, and with how many keys.
@@ -59,8 +59,8 @@ impl Uses {
         for statement in &clause.statements {
             match statement {
                 Statement::Aggregate(aggregation) => all.push(Use {
-                    aggregation: Known::of(shapes, aggregation.name.as_bytes()).map(
-                        |known| known.aggregation,
+                    aggregation: NamedAggregation::of(shapes, aggregation.name.as_bytes()).map(
+                        |named| named.aggregation,
                     ),
                     keys: aggregation.keys.len(),
                 })?,

@@ -4,7 +4,7 @@ use Rattle.std.proofs.Common.{◌∙◌, subst}
 use Rattle.dt_aggstore.specs.TableOf.{table_of}
 use Rattle.dt_life.specs.Stores.{stores_in}
 use Rattle.std.specs.Bool.{MatchBool}
-use Rattle.std.specs.Option.{MatchOption, option_map_or}
+use Rattle.std.specs.Option.{MatchOption, is_none}
 use Rattle.dt_cred.specs.declared.account.Account.{Account}
 use Rattle.dt_machine.specs.Registry.{Registry}
 use Rattle.dt_lang.specs.Program.{ClauseForm}
@@ -30,10 +30,22 @@ one_by_bool : {X : Type 0} (b : Bool) (P : X → Type 0) (r x y : X) → ((x y :
 one_by_bool true P r x y one hx hy = hx ∙ sym hy
 one_by_bool false P r x y one hx hy = one x y hx hy
 
+one_by_cause : (b : Bool) (P : Option Refusal → Type 0) (r : Refusal) (x y : Option Refusal)
+    → ((x y : Option Refusal) → P x → P y → x ≡ y)
+    → MatchOption (cond b (Some r) None) (P x) (λ s. x ≡ Some s)
+    → MatchOption (cond b (Some r) None) (P y) (λ s. y ≡ Some s) → x ≡ y
+one_by_cause true P r x y one hx hy = hx ∙ sym hy
+one_by_cause false P r x y one hx hy = one x y hx hy
+
 one_by_option : (refusal : Option Refusal) (P : Answer → Type 0) (a b : Answer) → ((x y : Answer) → P x → P y → x ≡ y)
     → MatchOption refusal (P a) (λ r. a ≡ refused r) → MatchOption refusal (P b) (λ r. b ≡ refused r) → a ≡ b
 one_by_option (Some r) P a b one ha hb = ha ∙ sym hb
 one_by_option None P a b one ha hb = one a b ha hb
+
+some_by_cause : (b : Bool) (P : Option Refusal → Type 0) (r : Refusal) → (x : Option Refusal) × P x
+    → (x : Option Refusal) × MatchOption (cond b (Some r) None) (P x) (λ s. x ≡ Some s)
+some_by_cause true P r some = (Some r, refl)
+some_by_cause false P r some = some
 
 some_by_bool : {X : Type 0} (b : Bool) (P : X → Type 0) (r : X) → (x : X) × P x → (x : X) × MatchBool b (x ≡ r) (P x)
 some_by_bool true P r some = (r, refl)
@@ -54,7 +66,7 @@ told_once None P a b ha hb = absurd ha
 told_once (Some f) P a b ha hb = ha ∙ sym hb
 
 told_so : {X : Type 0} (o : Option X) (P : X → Answer) (r : Refusal)
-    → None ≡ option_map_or (λ (f : X). None) o (Some r) → (a : Answer) × MatchOption o ⊥ (λ f. a ≡ P f)
+    → None ≡ cond (is_none o) (Some r) None → (a : Answer) × MatchOption o ⊥ (λ f. a ≡ P f)
 told_so None P r v = cc
 told_so (Some f) P r v = (P f, refl)
 
@@ -86,8 +98,7 @@ module _ (one_verdict : (account : Account) (registry : Registry) (accepted : Li
 
   same_verdict : (ask : Ask) (v w : Option Refusal) → Verdict-on ask v → Verdict-on ask w → v ≡ w
   same_verdict (enable (program clauses)) v w hv hw =
-      one_by_bool (is_asked_late account registry life) (OfProgram clauses) (Some Busy) v w (one_of_program clauses)
-      hv hw
+      one_by_cause (is_asked_late account registry life) (OfProgram clauses) Busy v w (one_of_program clauses) hv hw
   same_verdict (enable (fault at why)) v w hv hw = hv ∙ sym hw
   same_verdict (enable (destructive at what)) v w hv hw = hv ∙ sym hw
   same_verdict (option setting) v w hv hw = hv ∙ sym hw
@@ -154,7 +165,9 @@ module _ (some_verdict : (account : Account) (registry : Registry) (accepted : L
   verdict_of : (ask : Ask) → (v : Option Refusal) × IsVerdictOnCommand account registry life ask v
   verdict_of (enable (program clauses)) =
       let v = some_verdict account registry (shapes_in s) (next_epid account registry s) clauses in
-      some_by_bool (is_asked_late account registry life) _ (Some Busy) (refusal_of v.0, (v.0, v.1, refl))
+      some_by_cause (is_asked_late account registry life)
+      (λ verdict. (w : Verdict) × IsVerdict account registry (shapes_in s) (next_epid account registry s) clauses w
+      × (verdict ≡ refusal_of w)) Busy (refusal_of v.0, (v.0, v.1, refl))
   verdict_of (enable (fault at why)) = (_, refl)
   verdict_of (enable (destructive at what)) = (_, refl)
   verdict_of (option setting) = (_, refl)

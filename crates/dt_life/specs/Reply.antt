@@ -1,9 +1,10 @@
 -- What a consumer answers to a line, given its life before it.
-use Rattle.std.specs.Prelude.{◌≡◌, ℕ, ◌==◌, Bool, not, List, Option, Some, None, Result, Ok, Err, length, map, find}
-use Rattle.std.specs.Prelude.{nat_le, option_and_then, MatchOption, MatchBool, if◌then◌else◌}
+use Rattle.std.specs.Prelude.{◌≡◌, ℕ, ◌==◌, Bool, true, not, List, [], ◌∷◌, Option, Some, None, Result, Ok, Err}
+use Rattle.std.specs.Prelude.{length, map, find, is_none, nat_le, option_and_then, MatchOption, MatchBool}
+use Rattle.std.specs.Prelude.{if◌then◌else◌}
 use Rattle.dt_aggstore.specs.TableOf.{table_of}
 use Rattle.std.specs.List.{range_with_len}
-use Rattle.std.specs.Option.{option_map, option_map_or}
+use Rattle.std.specs.Option.{option_map}
 use Rattle.dt_aggstore.specs.declared.key.Aggregation.{Aggregation}
 use Rattle.dt_buffer.specs.Shows.{Shows}
 use Rattle.dt_cred.specs.declared.account.Account.{Account}
@@ -38,6 +39,11 @@ refusal_of (clash name) = Some (AggClash name)
 refusal_of (unmatched clause) = Some (NoMatch clause)
 refusal_of limit = Some Limit
 
+-- the refusal of the first cause that holds, if one does
+abbrev pub first_refusal : List (Bool × Refusal) → Option Refusal
+first_refusal [] = None
+first_refusal (cause ∷ later) = if cause.0 then Some cause.1 else first_refusal later
+
 module _ (account : Account) (registry : Registry) (life : List Item) where
   abbrev now : SetUp
   now = set_up account registry life
@@ -68,31 +74,33 @@ module _ (account : Account) (registry : Registry) (life : List Item) where
       (λ (ecb : EcbForm). option_map (λ probe. (probe, ecb)) (probe_of registry ecb.probe))
       (find (λ (ecb : EcbForm). ecb.epid == epid) (ecbs account registry life))
 
-  -- What becomes of a command: it is accepted (None), or refused, for the first cause in this order.
+  -- For what a command is refused, each condition with its refusal, in the order in which they count. What a program that
+  -- is read asks for is judged besides, after these.
+  abbrev pub causes : Ask → List (Bool × Refusal)
+  causes (option setting) = (is_asked_late, Busy) ∷ (is_none setting, refusal.Option) ∷ []
+  causes (enable (program clauses)) = (is_asked_late, Busy) ∷ []
+  causes (enable (fault at why)) = (is_asked_late, Busy) ∷ (true, Program at why) ∷ []
+  causes (enable (destructive at what)) = (is_asked_late, Busy) ∷ (true, Destructive at what) ∷ []
+  causes go = (is_asked_late, Busy) ∷ (not (has_room account registry now), Limit) ∷ []
+  causes stop = (not (is_active (phase account registry life)), Busy) ∷ []
+  causes (snap cpu) =
+      (nat_le registry.cpus cpu, NoCpu) ∷ (not (is_readable now (phase account registry life)), Busy) ∷ []
+  causes (agg name) = (is_none (known name), NoAgg) ∷ []
+  causes (trunc name) = (is_none (known name), NoAgg) ∷ []
+  causes status = []
+  causes (list (Err wrong)) = (true, Program 0 Probe) ∷ []
+  causes (list (Ok desc)) = []
+  causes (describe epid) = (is_none (ecb_of epid), NoEpid) ∷ []
+  causes close = []
+
+  -- What becomes of a command: it is refused for the first of its causes that holds, or accepted (None) where none does. A program
+  -- for which none holds has the verdict on what it asks for.
   abbrev pub IsVerdictOnCommand : Ask → Option Refusal → Type 0
-  IsVerdictOnCommand (option setting) verdict =
-      verdict ≡ (if is_asked_late then Some Busy else option_map_or (λ _. None) setting (Some refusal.Option))
   IsVerdictOnCommand (enable (program clauses)) verdict =
-      MatchBool is_asked_late (verdict ≡ Some Busy)
+      MatchOption (first_refusal (causes (enable (program clauses))))
       ((v : Verdict) × IsVerdict account registry (shapes_in now) (next_epid account registry now) clauses v
-      × (verdict ≡ refusal_of v))
-  IsVerdictOnCommand (enable (fault at why)) verdict =
-      verdict ≡ (if is_asked_late then Some Busy else Some (Program at why))
-  IsVerdictOnCommand (enable (destructive at what)) verdict =
-      verdict ≡ (if is_asked_late then Some Busy else Some (Destructive at what))
-  IsVerdictOnCommand go verdict =
-      verdict ≡ (if is_asked_late then Some Busy else (if has_room account registry now then None else Some Limit))
-  IsVerdictOnCommand stop verdict = verdict ≡ (if is_active (phase account registry life) then None else Some Busy)
-  IsVerdictOnCommand (snap cpu) verdict =
-      verdict ≡ (if nat_le registry.cpus cpu then Some NoCpu else
-      (if is_readable now (phase account registry life) then None else Some Busy))
-  IsVerdictOnCommand (agg name) verdict = verdict ≡ option_map_or (λ _. None) (known name) (Some NoAgg)
-  IsVerdictOnCommand (trunc name) verdict = verdict ≡ option_map_or (λ _. None) (known name) (Some NoAgg)
-  IsVerdictOnCommand status verdict = verdict ≡ None
-  IsVerdictOnCommand (list (Err wrong)) verdict = verdict ≡ Some (Program 0 Probe)
-  IsVerdictOnCommand (list (Ok desc)) verdict = verdict ≡ None
-  IsVerdictOnCommand (describe epid) verdict = verdict ≡ option_map_or (λ _. None) (ecb_of epid) (Some NoEpid)
-  IsVerdictOnCommand close verdict = verdict ≡ None
+      × (verdict ≡ refusal_of v)) (λ refusal. verdict ≡ Some refusal)
+  IsVerdictOnCommand ask verdict = verdict ≡ first_refusal (causes ask)
 
   -- the answer to an accepted command
   abbrev pub Accepted : Ask → Answer → Type 0

@@ -16,7 +16,7 @@ ghost use Rattle.dt_life.specs.Acceptance.{IsAcceptedGo};
 ghost use Rattle.dt_life.specs.Answer.{Answer};
 ghost use Rattle.dt_life.specs.Ask.{Ask, go, close};
 ghost use Rattle.dt_life.specs.Buffers.{past};
-ghost use Rattle.dt_life.specs.Ending.{unless_ended, ended_at, ended_by};
+ghost use Rattle.dt_life.specs.Ending.{phase_by_event, phase_by_item};
 ghost use Rattle.dt_life.specs.Life.{Item, asked, ecbs, has_room, phase, seen_count, set_up, since_then};
 ghost use Rattle.dt_life.specs.Reply.{Replies};
 ghost use Rattle.dt_life.specs.Scenes.{IsLifeInBounds, IsLifeOn, IsOfLayout};
@@ -64,11 +64,10 @@ pub fn phases()
     ensures begins { (account : Account) (registry : Registry) (life : List Item)
         → phase account registry life ≡ Inactive → has_room account registry (set_up account registry life) ≡ true
         → phase account registry (asked (Ok go) ∷ life)
-        ≡ unless_ended (ended_at account registry (since_then (set_up account registry life) []) began) }
+        ≡ phase_by_event account registry (since_then (set_up account registry life) []) began }
     ensures goes_on { (account : Account) (registry : Registry) (life : List Item) (item : Item)
         → phase account registry life ≡ Active
-        → phase account registry (item ∷ life)
-        ≡ unless_ended (ended_by account registry (set_up account registry life) item) }
+        → phase account registry (item ∷ life) ≡ phase_by_item account registry (set_up account registry life) item }
     ensures stays { (account : Account) (registry : Registry) (life : List Item) (item : Item) (cause : Option End)
         → phase account registry life ≡ Stopped cause → phase account registry (item ∷ life) ≡ Stopped cause }
 {}

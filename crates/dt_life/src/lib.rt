@@ -8,10 +8,10 @@
 #![tactic(auto)]
 
 mod command;
-mod known;
 mod laws;
 mod limit_laws;
 mod limits;
+mod named_aggregation;
 mod options;
 mod own;
 mod phase;
@@ -20,25 +20,29 @@ mod refusal;
 mod reply;
 mod reserve;
 mod scene;
+mod stores;
+mod told;
 mod values;
 mod visibility;
 
 pub use command::{Command, OptionValue};
 pub use dt_machine::Moment;
-pub use known::Known;
 pub use laws::{
     ecbs_stay, one_reply, phases, records_are_of_layouts, seen_by_interest, seen_within_history,
     some_reply, tests_agree,
 };
 pub use limit_laws::limits_agree;
 pub use limits::{AGGSIZE, AGGSIZE_MIN, BEGIN, BUFFER_SIZE, END, HISTORY, HISTORY_MAX, LINES_MAX};
+pub use named_aggregation::NamedAggregation;
 pub use options::Options;
 pub use own::{own_firing, own_process};
 pub use phase::{End, Phase};
 pub use placing::placed_after;
 pub use refusal::Refusal;
 pub use reply::Reply;
-pub use reserve::left_by_end;
+pub use reserve::end_reserve;
 pub use scene::scene_at;
+pub use stores::empty_stores;
+pub use told::{reply_to_describe, reply_to_list};
 pub use values::{number_in, parts_at};
 pub use visibility::shown;

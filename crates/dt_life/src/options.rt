@@ -7,6 +7,7 @@ ghost use Rattle.dt_life.specs.declared.limits.TheConstants.{HISTORY_MAX};
 
 use crate::command::OptionValue;
 use crate::limits::{AGGSIZE, AGGSIZE_MIN, BUFFER_SIZE, HISTORY, HISTORY_MAX};
+use crate::phase::Phase;
 use dt_aggstore::AGGSIZE_MAX;
 use dt_buffer::{Policy, SIZE_MAX};
 
@@ -29,8 +30,8 @@ pub struct Options {
 
 impl Options {
     ghost use Rattle.std.specs.Option.{option_map};
-    ghost use Rattle.std.specs.String.{string_bytes};
     ghost use Rattle.dt_life.specs.Forms.{form_of_options};
+    ghost use Rattle.dt_life.specs.Life.{SetUp, is_readable};
     ghost use Rattle.dt_life.specs.Options.{default_options, with_setting, setting_of, policy_of, number_set};
 
     /// The options where no line sets them.
@@ -67,6 +68,17 @@ impl Options {
                 }
             }
             OptionValue::Other => None,
+        }
+    }
+
+    /// Whether a buffer can be read in this phase: from `go` on, under ring only after tracing ended.
+    pub fn is_readable(self, phase: Phase) -> bool
+        ensures { (s : SetUp) → form_of_options self ≡ s.options → result ≡ is_readable s phase }
+    {
+        match phase {
+            Phase::Inactive => false,
+            Phase::Active => !matches!(self.bufpolicy, Policy::Ring),
+            Phase::Stopped(_) => true,
         }
     }
 

@@ -38,8 +38,20 @@ impl Phase {
 }
 
 impl End {
-    ghost use Rattle.std.specs.Prelude.{◌≡◌};
+    ghost use Rattle.std.specs.Prelude.{◌≡◌, ◌==◌, None, Some, if◌then◌else◌};
+    ghost use Rattle.std.specs.Option.{option_map, option_or};
     ghost use Rattle.dt_life.specs.Phase.{cause_word};
+
+    /// Why tracing ends after a firing, if it does: one of its clauses exited, or it is the last of the history.
+    pub fn after(exit: Option<i64>, seen: u32, history: u32) -> Option<Self>
+        ensures { result ≡ option_or (option_map End.Exit exit) (if seen == history then Some End.History else None) }
+    {
+        match exit {
+            Some(status) => Some(End::Exit(status)),
+            None if seen == history => Some(End::History),
+            None => None,
+        }
+    }
 
     /// The word for the cause, as replies carry it.
     pub fn word(self) -> &'static str

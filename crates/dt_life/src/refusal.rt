@@ -1,9 +1,12 @@
 //! Why a line is refused.
 ghost use Rattle.std.specs.Prelude.{◌≡◌};
-ghost use Rattle.dt_life.specs.Refusal.{refusal_number, refusal_name};
+ghost use Rattle.std.specs.Option.{option_and_then};
+ghost use Rattle.dt_ecb.specs.Forms.{verdict_of};
+ghost use Rattle.dt_life.specs.Refusal.{refusal_number, refusal_name, refused_as};
+ghost use Rattle.dt_life.specs.Reply.{refusal_of};
 
-use dt_ecb::RestrictedAction;
-use dt_lang::{Destructive, Why};
+use dt_ecb::{EnableFault, RestrictedAction};
+use dt_lang::{Destructive, LangFault, Why};
 use dt_names::ShortText;
 use std::fmt;
 
@@ -51,6 +54,33 @@ impl fmt::Debug for Refusal {
 }
 
 impl Refusal {
+    /// For what a text with this fault is refused. That memory ran out is no fault of the text.
+    pub fn of_text(fault: LangFault) -> Option<Self>
+        ensures { result ≡ refused_as fault }
+    {
+        match fault {
+            LangFault::Program { at, flaw, .. } => Some(Refusal::Program {
+                at,
+                why: flaw.why(),
+            }),
+            LangFault::Destructive { at, what, .. } => Some(Refusal::Destructive { at, what }),
+            LangFault::Memory => None,
+        }
+    }
+
+    /// For what a program with this fault is refused. That memory ran out is no fault of the program.
+    pub fn of_program(fault: EnableFault) -> Option<Self>
+        ensures { result ≡ option_and_then refusal_of (verdict_of fault) }
+    {
+        match fault {
+            EnableFault::Privilege { clause, what } => Some(Refusal::Privilege { clause, what }),
+            EnableFault::AggClash { what } => Some(Refusal::AggClash { what }),
+            EnableFault::NoMatch { clause } => Some(Refusal::NoMatch { clause }),
+            EnableFault::Limit => Some(Refusal::Limit),
+            EnableFault::Memory => None,
+        }
+    }
+
     /// The number of the refusal on the wire, by which programs tell one from another.
     pub fn number(self) -> u32
         ensures { result ≡ refusal_number self }

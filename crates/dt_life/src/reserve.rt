@@ -1,19 +1,44 @@
 //! The room that END's records take of a buffer.
-ghost use Rattle.std.specs.Prelude.{◌≡◌, ◌+◌, ◌≤◌, ◌<◌, List, length, map, sum, All, IfSome, MatchOption};
+ghost use Rattle.std.specs.Prelude.{◌≡◌, ◌+◌, ◌≤◌, ◌<◌, List, true, false, length, map, sum, All, IfSome, MatchOption};
+ghost use Rattle.dt_cred.specs.declared.account.Account.{Account};
+ghost use Rattle.dt_machine.specs.Registry.{Registry};
 ghost use Rattle.dt_program.specs.Program.{ClauseForm, form_of_clause};
 ghost use Rattle.dt_record.specs.Layout.{layout_of, layout_size};
 ghost use Rattle.dt_ecb.specs.Ecbs.{of_probe};
 ghost use Rattle.dt_ecb.specs.Forms.{form_of_ecb};
+ghost use Rattle.dt_life.specs.Buffers.{reserve_on};
+ghost use Rattle.dt_life.specs.Forms.{form_of_options};
+ghost use Rattle.dt_life.specs.Life.{SetUp, ecbs_in, has_room};
+ghost use Rattle.dt_life.specs.Placed.{AreEcbs};
 ghost use Rattle.dt_life.specs.declared.limits.TheConstants.{END};
 
 use crate::limits::END;
+use crate::options::Options;
+use dt_buffer::Policy;
 use dt_ecb::Ecb;
 use dt_program::Clause;
 use dt_record::Layout;
 
+/// How many bytes of the first processor's buffer are kept for END's records, or `None` where it hasn't as many. Under fill it
+/// is one record of each of END's ECBs, whatever their predicates; else none.
+pub fn end_reserve(options: Options, clauses: &[Clause], ecbs: &[Ecb]) -> Option<usize>
+    ensures within { IfSome result (λ reserve. reserve ≤ options.bufsize) }
+    // for each set-up with these options, clauses and ECBs
+    ensures reserve { (account : Account) (registry : Registry) (s : SetUp) → form_of_options options ≡ s.options
+        → map form_of_clause clauses.now ≡ s.clauses → AreEcbs s.clauses (ecbs_in account registry s) ecbs.now
+        → MatchOption result (has_room account registry s ≡ false)
+        (λ reserve. (has_room account registry s ≡ true) × (reserve ≡ reserve_on account registry s 0)) }
+{
+    let size = options.bufsize;
+    match options.bufpolicy {
+        Policy::Fill => Some(size - left_by_end(clauses, ecbs, size)?),
+        Policy::Switch | Policy::Ring => Some(0),
+    }
+}
+
 /// What is left of so many bytes after one record of each of END's ECBs, or `None` where they don't suffice. Each ECB
 /// has the place of its clause among these.
-pub fn left_by_end(clauses: &[Clause], ecbs: &[Ecb], size: usize) -> Option<usize>
+fn left_by_end(clauses: &[Clause], ecbs: &[Ecb], size: usize) -> Option<usize>
     ensures within { IfSome result (λ left. left ≤ size) }
     // none where one record of each of END's ECBs doesn't fit the size, else what these leave of it
     ensures left { (forms : List ClauseForm) → map form_of_clause clauses.now ≡ forms

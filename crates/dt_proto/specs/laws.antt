@@ -2,7 +2,7 @@
 
 pub mod Parts
 pub mod Splitting
-pub mod Entries
+pub mod TrailItems
 pub mod Views
 pub mod Accounts
 pub mod OneLine

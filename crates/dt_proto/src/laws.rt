@@ -15,7 +15,7 @@ ghost use Rattle.dt_proto.specs.Reply.{reply_text};
 ghost use Rattle.dt_proto.specs.Session.{session_account};
 ghost use Rattle.dt_proto.specs.Splits.{HasNoNewline, Splits, with_newline};
 ghost use Rattle.dt_proto.specs.Told.{AreRepliesAlone, view_told};
-ghost use Rattle.dt_proto.specs.Trail.{IsTrailOf, TrailEntry, replies_of};
+ghost use Rattle.dt_proto.specs.Trail.{IsTrailOf, WrittenItem, replies_of};
 ghost use Rattle.dt_proto.specs.Views.{life_of, seen_view};
 
 use dt_life::one_reply;
@@ -59,16 +59,16 @@ pub fn seen_alike()
 
 /// The trail of a view is the trail of its seen view: what a session didn't see isn't told.
 pub fn trails_are_seen()
-    ensures { (account : Account) (registry : Registry) (view : List Reached) (entries : List TrailEntry)
-        → IsTrailOf account registry view entries
-        ↔ IsTrailOf account registry (seen_view account registry view) entries }
+    ensures { (account : Account) (registry : Registry) (view : List Reached) (items : List WrittenItem)
+        → IsTrailOf account registry view items
+        ↔ IsTrailOf account registry (seen_view account registry view) items }
 {}
 
 /// The replies that a trail tells are the first that its view is answered alone, as many as the quota of lines allows.
 pub fn first_replies()
-    ensures { (account : Account) (registry : Registry) (view : List Reached) (entries : List TrailEntry)
-        (answers : List Answer) → IsTrailOf account registry view entries → Alone account registry view answers
-        → replies_of entries ≡ map reply_text (take lines_max answers) }
+    ensures { (account : Account) (registry : Registry) (view : List Reached) (items : List WrittenItem)
+        (answers : List Answer) → IsTrailOf account registry view items → Alone account registry view answers
+        → replies_of items ≡ map reply_text (take lines_max answers) }
 {
     one_reply();
 }
@@ -78,31 +78,31 @@ pub fn one_line()
     ensures { (answer : Answer) → (reply : List ℕ) × (reply_text answer ≡ with_newline reply) × HasNoNewline reply }
 {}
 
-/// The life that the entries of a legal trail tell is the life of the view that they tell, and what stands before its newest
-/// entries is legal by itself.
+/// The life that the items of a legal trail tell is the life of the view that they tell, and what stands before its newest
+/// items is legal by itself.
 pub fn legal_lives()
-    ensures life { (account : Account) (contents : Contents) (past : List TrailEntry) → IsLegal account contents past
+    ensures life { (account : Account) (contents : Contents) (past : List WrittenItem) → IsLegal account contents past
         → IsLifeOf account contents.registry (view_told contents past) (life_of_trail account contents past) }
-    ensures function { (account : Account) (contents : Contents) (past : List TrailEntry)
+    ensures function { (account : Account) (contents : Contents) (past : List WrittenItem)
         → IsLegal account contents past
         → life_of_trail account contents past ≡ life_of account contents.registry (view_told contents past) }
-    ensures before { (account : Account) (contents : Contents) (later past : List TrailEntry)
+    ensures before { (account : Account) (contents : Contents) (later past : List WrittenItem)
         → IsLegal account contents (later ++ past) → IsLegal account contents past }
 {}
 
-/// Entries agree exactly where they tell a legal trail, and their replies are those that a consumer is answered which
-/// traces alone, with just what these entries tell.
+/// Items agree exactly where they tell a legal trail, and their replies are those that a consumer is answered which
+/// traces alone, with just what these items tell.
 pub fn agreement()
-    ensures { (account : Account) (contents : Contents) (entries : List TrailEntry)
-        → Agrees account contents (reverse entries)
-        ↔ (IsLegal account contents (reverse entries) × AreRepliesAlone account contents entries) }
+    ensures { (account : Account) (contents : Contents) (items : List WrittenItem)
+        → Agrees account contents (reverse items)
+        ↔ (IsLegal account contents (reverse items) × AreRepliesAlone account contents items) }
 {}
 
 /// The trail of a view that a machine can bring agrees.
 pub fn trails_agree()
-    ensures { (account : Account) (contents : Contents) (view : List Reached) (entries : List TrailEntry)
-        → IsBrought contents view → IsTrailOf account contents.registry view entries
-        → Agrees account contents (reverse entries) }
+    ensures { (account : Account) (contents : Contents) (view : List Reached) (items : List WrittenItem)
+        → IsBrought contents view → IsTrailOf account contents.registry view items
+        → Agrees account contents (reverse items) }
 {}
 
 /// The life of a view that a machine can bring to one of its accounts is a life on that machine, and whoever may have a

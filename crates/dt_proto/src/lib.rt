@@ -9,7 +9,7 @@
 //! [`reply_bytes`] writes a reply as its JSON (`specs/Reply.antt`), whose text the law `reply_texts` gives letter by
 //! letter. `specs/Alone.antt` says what a consumer is answered that traces alone.
 //!
-//! A session's trail is legal where each entry may stand after those before it, and agrees where each reply is the one that
+//! A session's trail is legal where each item may stand after those before it, and agrees where each reply is the one that
 //! is due (`specs/Legal.antt`). `legal_lives` says that a legal trail tells the life of its view, `agreement` that it agrees
 //! exactly where its replies are those of a consumer alone, and `trails_agree` that the trail of a view agrees that a machine
 //! can bring. The life of such a view is a life on the machine (`lives_on_machines`).

@@ -1,11 +1,15 @@
 -- A seat after each of its calls.
-use Rattle.std.proofs.Common.{◌≡◌, ℕ, ◌+◌, true, false, List, Option, Some, None, IfSome, is_some, refl, sym, ap, ◌∙◌}
-use Rattle.std.proofs.Common.{arith}
+use Rattle.std.proofs.Common.{◌≡◌, ℕ, ◌+◌, ◌==◌, Bool, true, false, cond, List, ◌∷◌, length, Option, Some, None, IfSome}
+use Rattle.std.proofs.Common.{is_some, refl, sym, ap, ◌∙◌, arith}
+use Rattle.std.proofs.lemmas.Bool.{eq-eqb}
+use Rattle.dt_life.specs.Life.{fired}
+use Rattle.dt_life.specs.Tests.{is_seen}
 use Rattle.dt_machine.specs.Registry.{Registry}
 use Rattle.dt_proto.specs.Lines.{LineForm}
-use Rattle.dt_steps.specs.Stands.{IsSession, IsPresent, IsHeld, IsAsked, IsAskedOn, IsFinishing, IsFinishedOn}
-use Rattle.dt_steps.specs.Stands.{closed_on}
-use Rattle.dt_steps.specs.World.{Session, Place, may_ask}
+use Rattle.dt_steps.specs.Stands.{IsServed, IsSession, IsPresent, IsHeld, IsAsked, IsAskedOn, IsFinishing, IsFinishedOn}
+use Rattle.dt_steps.specs.Stands.{closed_on, sees_on}
+use Rattle.dt_steps.specs.Steps.{offered}
+use Rattle.dt_steps.specs.World.{DueOffer, Session, Place, life_in, may_ask}
 use Rattle.dt_steps.specs.declared.place.Place.{Place as HeldPlace}
 use Rattle.dt_steps.specs.declared.session.Session.{Session as HeldSession}
 
@@ -56,6 +60,29 @@ module _ (registry : Registry) where
     finished-session reply served after is does =
         let s = serves served is in
         rw s.is (after, h.counted, refl, does s.session s.kept)
+
+    -- a firing was offered to it, which names its own life: whether it saw the firing, and what it is then
+    own_life : (due : DueOffer) → due.life ≡ held.earlier → (due.life == length place.earlier) ≡ true
+    own_life due own = eq-eqb due.life (length place.earlier) (own ∙ h.counted)
+
+    pub seen-session : (due : DueOffer) (seen : Bool) (served : HeldSession) → held.present ≡ Some served
+        → due.life ≡ held.earlier
+        → ((session : Session) → IsSession registry session served
+        → seen ≡ is_seen session.account registry (life_in registry session) due.firing)
+        → seen ≡ sees_on registry due place
+    seen-session due seen served is own sees =
+        let s = serves served is in
+        rw (s.is, own_life due own) (sees s.session s.kept)
+
+    pub offered-session : (due : DueOffer) (served after : HeldSession) → held.present ≡ Some served
+        → due.life ≡ held.earlier
+        → ((session : Session) → IsSession registry session served → IsServed registry session.account
+        (cond (is_seen session.account registry (life_in registry session) due.firing)
+        (fired due.firing ∷ life_in registry session) (life_in registry session)) session.go after)
+        → IsHeld registry (offered due place) (record { present = Some after; earlier = held.earlier })
+    offered-session due served after is own reaches =
+        let s = serves served is in
+        rw (s.is, own_life due own) (record { counted = h.counted; present = reaches s.session s.kept })
 
     -- its session ends
     pub closed-session : (earlier : ℕ) → is_some held.present ≡ true → earlier ≡ held.earlier + 1

@@ -79,7 +79,7 @@ module _ (registry : Registry) (place : Place) (held : HeldPlace) (h : IsHeld re
       let s = serves registry place held h served is in
       let session = s.session in
       let own = ecbs session.account registry (life_in registry session) in
-      let entered : chain.EntriesAreAt (published seat (length place.earlier) session.account
+      let now_published : chain.EntriesAreAt (published seat (length place.earlier) session.account
       (interest_of own) ∷ writes)
       later =
       entered_alike seat (length place.earlier) session.account flags (interest_of own) writes later
@@ -91,4 +91,4 @@ module _ (registry : Registry) (place : Place) (held : HeldPlace) (h : IsHeld re
       × chain.EntriesAreAt writes later)
       (Later (record { present = Some after; earlier = held.earlier }) later) place.present session s.is
       (due session s.kept)
-      (λ pending waits. (record { counted = h.counted; present = sets session pending s.kept waits }, entered))
+      (λ pending waits. (record { counted = h.counted; present = sets session pending s.kept waits }, now_published))

@@ -18,7 +18,7 @@ use Rattle.dt_proto.specs.Alone.{firing_made}
 use Rattle.dt_proto.specs.Line.{ask_in}
 use Rattle.dt_proto.specs.Lines.{LineForm}
 use Rattle.dt_proto.specs.Session.{session_account}
-use Rattle.dt_steps.specs.Sound.{publication_of, IsEntered, IsSoundSeat, IsSoundWorld}
+use Rattle.dt_steps.specs.Sound.{publication_of, IsSoundSession, IsSoundSeat, IsSoundWorld}
 use Rattle.dt_steps.specs.Steps.{StepForm, opens, asks, publishes, finishes, withdraws, looks, offers, closes, after_step}
 use Rattle.dt_steps.specs.Steps.{world_after, with_session, answering, opening, asking, publishing, finishing}
 use Rattle.dt_steps.specs.Steps.{withdrawing, passed, looking, is_done, offered, offering, closing}
@@ -52,35 +52,35 @@ pub updated : (P : ℕ → Place → Type 0) (places : ℕ → Place) (seat : �
 updated P places seat place before now other =
     updated_at P places seat other place (seat == other) refl (λ no. before other) now
 
--- the same where an entry changes as well
-both_at : (P : ℕ → Option Published → Place → Type 0) (places : ℕ → Place) (entries : ℕ → Option Published)
-    (seat other : ℕ) (place : Place) (entry : Option Published) (same : Bool) → (seat == other) ≡ same
-    → P other (entries other) (places other) → P seat entry place
-    → P other (cond same entry (entries other)) (cond same place (places other))
-both_at P places entries seat other place entry true is before now =
-    let at : seat ≡ other = eqb-true seat other is in subst (λ o. P o entry place) at now
-both_at P places entries seat other place entry false is before now = before
+-- the same where a publication changes as well
+both_at : (P : ℕ → Option Published → Place → Type 0) (places : ℕ → Place) (publications : ℕ → Option Published)
+    (seat other : ℕ) (place : Place) (publication : Option Published) (same : Bool) → (seat == other) ≡ same
+    → P other (publications other) (places other) → P seat publication place
+    → P other (cond same publication (publications other)) (cond same place (places other))
+both_at P places publications seat other place publication true is before now =
+    let at : seat ≡ other = eqb-true seat other is in subst (λ o. P o publication place) at now
+both_at P places publications seat other place publication false is before now = before
 
-both_updated : (P : ℕ → Option Published → Place → Type 0) (places : ℕ → Place) (entries : ℕ → Option Published)
-    (seat : ℕ) (place : Place) (entry : Option Published)
-    → ((other : ℕ) → P other (entries other) (places other)) → P seat entry place
-    → (other : ℕ) → P other (cond (seat == other) entry (entries other)) (cond (seat == other) place (places other))
-both_updated P places entries seat place entry before now other =
-    both_at P places entries seat other place entry (seat == other) refl (before other) now
+both_updated : (P : ℕ → Option Published → Place → Type 0) (places : ℕ → Place) (publications : ℕ → Option Published)
+    (seat : ℕ) (place : Place) (publication : Option Published)
+    → ((other : ℕ) → P other (publications other) (places other)) → P seat publication place
+    → (other : ℕ) → P other (cond (seat == other) publication (publications other)) (cond (seat == other) place (places other))
+both_updated P places publications seat place publication before now other =
+    both_at P places publications seat other place publication (seat == other) refl (before other) now
 
-entry_updated_at : (P : ℕ → Option Published → Type 0) (entries : ℕ → Option Published)
-    (seat other : ℕ) (entry : Option Published) (same : Bool) → (seat == other) ≡ same
-    → P other (entries other) → P seat entry → P other (cond same entry (entries other))
-entry_updated_at P entries seat other entry true is before now =
-    let at : seat ≡ other = eqb-true seat other is in subst (λ o. P o entry) at now
-entry_updated_at P entries seat other entry false is before now = before
+publication_updated_at : (P : ℕ → Option Published → Type 0) (publications : ℕ → Option Published)
+    (seat other : ℕ) (publication : Option Published) (same : Bool) → (seat == other) ≡ same
+    → P other (publications other) → P seat publication → P other (cond same publication (publications other))
+publication_updated_at P publications seat other publication true is before now =
+    let at : seat ≡ other = eqb-true seat other is in subst (λ o. P o publication) at now
+publication_updated_at P publications seat other publication false is before now = before
 
-entry_updated : (P : ℕ → Option Published → Type 0) (entries : ℕ → Option Published) (seat : ℕ)
-    (entry : Option Published)
-    → ((other : ℕ) → P other (entries other)) → P seat entry
-    → (other : ℕ) → P other (cond (seat == other) entry (entries other))
-entry_updated P entries seat entry before now other =
-    entry_updated_at P entries seat other entry (seat == other) refl (before other) now
+publication_updated : (P : ℕ → Option Published → Type 0) (publications : ℕ → Option Published) (seat : ℕ)
+    (publication : Option Published)
+    → ((other : ℕ) → P other (publications other)) → P seat publication
+    → (other : ℕ) → P other (cond (seat == other) publication (publications other))
+publication_updated P publications seat publication before now other =
+    publication_updated_at P publications seat other publication (seat == other) refl (before other) now
 
 -- what holds of what a step leaves, where it depends on a session
 pub option_case : {A B : Type 0} (P : B → Type 0) (f : A → B) (b : B) (o : Option A) → P b
@@ -97,15 +97,15 @@ unfolding is_published
 none_published line other e = let bad : false ≡ true = ap is_published e in cc
 
 -- a session on a seat, and nothing else, changes
-module _ (registry : Registry) (account : Account) (n : ℕ) (entry : Option Published) where
-  abbrev Entered : List Item → Option Pending → Type 0
-  Entered life waits = IsEntered registry account life waits n entry
+module _ (registry : Registry) (account : Account) (n : ℕ) (publication : Option Published) where
+  abbrev SoundSession : List Item → Option Pending → Type 0
+  SoundSession life waits = IsSoundSession registry account life waits n publication
 
-  -- what is entered of a life stays where a later one traces
-  kept_entry : (life later : List Item) (go : Option Pending)
-      → Keeps (set_up account registry life) (set_up account registry later) → Entered life go
-      → is_active (phase account registry later) ≡ true → entry ≡ Some (publication_of registry account later n)
-  kept_entry life later waits keeps h a =
+  -- what was published of a life stays where a later one traces
+  kept_publication : (life later : List Item) (go : Option Pending)
+      → Keeps (set_up account registry life) (set_up account registry later) → SoundSession life go
+      → is_active (phase account registry later) ≡ true → publication ≡ Some (publication_of registry account later n)
+  kept_publication life later waits keeps h a =
       h.traces (keeps.traced a)
       ∙ ap (λ clauses. Some (record {
         life = n;
@@ -114,8 +114,8 @@ module _ (registry : Registry) (account : Account) (n : ℕ) (entry : Option Pub
       }))
       (sym (keeps.clauses a))
 
-  entered-new : Entered [] None
-  entered-new = record { accepted = λ pending e. cc; traces = λ h. cc; published = λ line e. cc }
+  session-new : SoundSession [] None
+  session-new = record { accepted = λ pending e. cc; traces = λ h. cc; published = λ line e. cc }
 
   not_begun : (life : List Item) (line : Result Ask Refusal)
       → (IsAcceptedGo account registry life line → ⊥) → is_over life ≡ false → line ≡ Ok go
@@ -126,18 +126,18 @@ module _ (registry : Registry) (account : Account) (n : ℕ) (entry : Option Pub
       none (over, inactive_from (phase account registry life) parts.0, parts.1, is))
 
   -- a line that is answered, and is no accepted `go`
-  entered-answered : (life : List Item) (line : Result Ask Refusal)
-      → (IsAcceptedGo account registry life line → ⊥) → Entered life None → Entered (after_line life line) None
-  entered-answered life line none h = record {
+  session-answered : (life : List Item) (line : Result Ask Refusal)
+      → (IsAcceptedGo account registry life line → ⊥) → SoundSession life None → SoundSession (after_line life line) None
+  session-answered life line none h = record {
     accepted = λ pending e. cc;
-    traces = kept_entry life (after_line life line) None
+    traces = kept_publication life (after_line life line) None
         (life-after_line account registry life line (not_begun life line none)) h;
     published = λ other e. cc;
   }
 
-  entered-waiting : (life : List Item) (line : LineForm) → IsAcceptedGo account registry life (ask_in line)
-      → Entered life None → Entered life (Some (record { line = line; published = false }))
-  entered-waiting life line is h = record {
+  session-waiting : (life : List Item) (line : LineForm) → IsAcceptedGo account registry life (ask_in line)
+      → SoundSession life None → SoundSession life (Some (record { line = line; published = false }))
+  session-waiting life line is h = record {
     accepted = λ pending e.
         let same : record { line = line; published = false } ≡ pending = cc in
         subst (λ p. IsAcceptedGo account registry life (ask_in p.line)) same is;
@@ -146,9 +146,9 @@ module _ (registry : Registry) (account : Account) (n : ℕ) (entry : Option Pub
   }
 
   -- a published `go` takes effect
-  entered-finished : (life : List Item) (line : LineForm)
-      → Entered life (Some (record { line = line; published = true })) → Entered (after_line life (ask_in line)) None
-  entered-finished life line h =
+  session-finished : (life : List Item) (line : LineForm)
+      → SoundSession life (Some (record { line = line; published = true })) → SoundSession (after_line life (ask_in line)) None
+  session-finished life line h =
       let is = h.accepted (record { line = line; published = true }) refl in
       let later : after_line life (ask_in line) ≡ asked (Ok go) ∷ life =
       ap (λ over. cond over life (asked (ask_in line) ∷ life)) is.0 ∙ ap (λ own. asked own ∷ life) is.3 in
@@ -168,22 +168,22 @@ module _ (registry : Registry) (account : Account) (n : ℕ) (entry : Option Pub
       let both : Active ≡ Inactive = sym active ∙ is.1 in cc
 
   -- a firing reaches a session
-  entered-fired : (life : List Item) (go : Option Pending) (firing : Firing) (seen : Bool)
-      → is_seen account registry life firing ≡ seen → Entered life go
-      → Entered (cond seen (fired firing ∷ life) life) go
-  entered-fired life waits firing false is h = h
-  entered-fired life waits firing true is h = record {
+  session-fired : (life : List Item) (go : Option Pending) (firing : Firing) (seen : Bool)
+      → is_seen account registry life firing ≡ seen → SoundSession life go
+      → SoundSession (cond seen (fired firing ∷ life) life) go
+  session-fired life waits firing false is h = h
+  session-fired life waits firing true is h = record {
     accepted = λ pending e. absurd (no_go life firing (ask_in pending.line) is (h.accepted pending e));
-    traces = kept_entry life (fired firing ∷ life) waits (life-fired account registry life firing) h;
+    traces = kept_publication life (fired firing ∷ life) waits (life-fired account registry life firing) h;
     published = λ line e. absurd (no_go life firing (ask_in line) is (h.accepted _ e));
   }
 
 -- its interest is published
-entered-published : (registry : Registry) (account : Account) (n : ℕ) (entry : Option Published) (life : List Item)
-    (line : LineForm) → IsEntered registry account life (Some (record { line = line; published = false })) n entry
-    → IsEntered registry account life (Some (record { line = line; published = true })) n
+session-published : (registry : Registry) (account : Account) (n : ℕ) (publication : Option Published) (life : List Item)
+    (line : LineForm) → IsSoundSession registry account life (Some (record { line = line; published = false })) n publication
+    → IsSoundSession registry account life (Some (record { line = line; published = true })) n
     (Some (publication_of registry account life n))
-entered-published registry account n entry life line h = record {
+session-published registry account n publication life line h = record {
   accepted = λ pending e.
       let same : record { line = line; published = true } ≡ pending = cc in
       subst (λ p. IsAcceptedGo account registry life (ask_in p.line)) same
@@ -192,73 +192,73 @@ entered-published registry account n entry life line h = record {
   published = λ other e. refl;
 }
 
--- its entry is withdrawn, where it doesn't trace
-entered-withdrawn : (registry : Registry) (account : Account) (n : ℕ) (life : List Item)
-    → is_active (phase account registry life) ≡ false → IsEntered registry account life None n None
-entered-withdrawn registry account n life quiet = record {
+-- its publication is withdrawn, where it doesn't trace
+session-withdrawn : (registry : Registry) (account : Account) (n : ℕ) (life : List Item)
+    → is_active (phase account registry life) ≡ false → IsSoundSession registry account life None n None
+session-withdrawn registry account n life quiet = record {
   accepted = λ pending e. cc;
   traces = λ a. absurd (both_ways (is_active (phase account registry life)) quiet a);
   published = λ line e. cc;
 }
 
 module _ (registry : Registry) where
-  no_entry : (seat : ℕ) (entry : Option Published) (place : Place) (present : Option Session) → place.present ≡ present
-      → IsSoundSeat registry seat entry place → SEATS ≤ seat → entry ≡ None
-  no_entry seat entry place None is h past = (rw is at h) past
-  no_entry seat entry place (Some session) is h past =
+  no_publication : (seat : ℕ) (publication : Option Published) (place : Place) (present : Option Session) → place.present ≡ present
+      → IsSoundSeat registry seat publication place → SEATS ≤ seat → publication ≡ None
+  no_publication seat publication place None is h past = (rw is at h) past
+  no_publication seat publication place (Some session) is h past =
       let low : seat < SEATS = (rw is at h).0 in absurd (omega arith)
 
   -- a seat after a firing reached its session
-  sound-reached : (seat : ℕ) (entry : Option Published) (place : Place) (session : Session) (firing : Firing)
-      → place.present ≡ Some session → IsSoundSeat registry seat entry place
-      → IsSoundSeat registry seat entry (record place { present = Some (reached session (firing_made firing)) })
-  sound-reached seat entry place session firing is h =
+  sound-reached : (seat : ℕ) (publication : Option Published) (place : Place) (session : Session) (firing : Firing)
+      → place.present ≡ Some session → IsSoundSeat registry seat publication place
+      → IsSoundSeat registry seat publication (record place { present = Some (reached session (firing_made firing)) })
+  sound-reached seat publication place session firing is h =
       let before = rw is at h in (
         before.0,
-        entered-fired registry session.account (length place.earlier) entry (life_in registry session)
+        session-fired registry session.account (length place.earlier) publication (life_in registry session)
             session.go firing
             (is_seen session.account registry (life_in registry session) firing) refl before.1,
       )
 
-  sound-passed : (seat : ℕ) (entry : Option Published) (place : Place) (firing : Firing) (named : Option ℕ)
-      → IsSoundSeat registry seat entry place → IsSoundSeat registry seat entry (passed firing named place)
-  sound-passed seat entry place firing named h =
-      option_case (IsSoundSeat registry seat entry) _ place place.present h (λ session is.
+  sound-passed : (seat : ℕ) (publication : Option Published) (place : Place) (firing : Firing) (named : Option ℕ)
+      → IsSoundSeat registry seat publication place → IsSoundSeat registry seat publication (passed firing named place)
+  sound-passed seat publication place firing named h =
+      option_case (IsSoundSeat registry seat publication) _ place place.present h (λ session is.
       cond_both (option_map_or (λ life. life == length place.earlier) named false) _ _
-      (IsSoundSeat registry seat entry)
-      (λ own. h) (λ other. sound-reached seat entry place session firing is h))
+      (IsSoundSeat registry seat publication)
+      (λ own. h) (λ other. sound-reached seat publication place session firing is h))
 
-  sound-offered : (seat : ℕ) (entry : Option Published) (place : Place) (due : DueOffer)
-      → IsSoundSeat registry seat entry place → IsSoundSeat registry seat entry (offered due place)
-  sound-offered seat entry place due h =
-      option_case (IsSoundSeat registry seat entry) _ place place.present h (λ session is.
-      cond_both (due.life == length place.earlier) _ _ (IsSoundSeat registry seat entry)
-      (λ own. sound-reached seat entry place session due.firing is h) (λ other. h))
+  sound-offered : (seat : ℕ) (publication : Option Published) (place : Place) (due : DueOffer)
+      → IsSoundSeat registry seat publication place → IsSoundSeat registry seat publication (offered due place)
+  sound-offered seat publication place due h =
+      option_case (IsSoundSeat registry seat publication) _ place place.present h (λ session is.
+      cond_both (due.life == length place.earlier) _ _ (IsSoundSeat registry seat publication)
+      (λ own. sound-reached seat publication place session due.firing is h) (λ other. h))
 
   module _ (world : World) (h : IsSoundWorld registry world) where
     -- the session on a seat
     at_session : (seat : ℕ) (session : Session) → (world.places seat).present ≡ Some session
-        → (seat < SEATS) × IsEntered registry session.account (life_in registry session) session.go
+        → (seat < SEATS) × IsSoundSession registry session.account (life_in registry session) session.go
         (number_on world seat) (published_on world.writes seat)
     at_session seat session is = rw is at (h.seats seat)
 
     sound-with_session : (seat : ℕ) (session : Session) → seat < SEATS
-        → IsEntered registry session.account (life_in registry session) session.go (number_on world seat)
+        → IsSoundSession registry session.account (life_in registry session) session.go (number_on world seat)
         (published_on world.writes seat)
         → IsSoundWorld registry (with_session world seat session)
-    sound-with_session seat session low entered = record {
+    sound-with_session seat session low own = record {
       seats = updated (λ other place. IsSoundSeat registry other (published_on world.writes other) place)
           world.places seat
-          (record { present = Some session; earlier = (world.places seat).earlier }) h.seats (low, entered);
+          (record { present = Some session; earlier = (world.places seat).earlier }) h.seats (low, own);
       due = h.due;
     }
 
     sound-answering : (seat : ℕ) (session : Session) (line : LineForm) → seat < SEATS
-        → IsEntered registry session.account (life_in registry (answered session line)) None (number_on world seat)
+        → IsSoundSession registry session.account (life_in registry (answered session line)) None (number_on world seat)
         (published_on world.writes seat)
         → IsSoundWorld registry (answering world seat session line)
-    sound-answering seat session line low entered =
-        let one = sound-with_session seat (answered session line) low entered in
+    sound-answering seat session line low own =
+        let one = sound-with_session seat (answered session line) low own in
         record { seats = one.seats; due = one.due }
 
     pub sound-opening : (seat : ℕ) (name : List ℕ) → IsSoundWorld registry (opening registry world seat name)
@@ -267,7 +267,7 @@ module _ (registry : Registry) where
         cond_both (nat_lt seat SEATS && is_none (world.places seat).present) _ world (IsSoundWorld registry)
         (λ may. option_case (IsSoundWorld registry) _ world (session_account registry name) h (λ account is.
         sound-with_session seat (new_session account) (ltb-true seat SEATS ((and_parts _ _ may).0))
-        (entered-new registry account (number_on world seat) (published_on world.writes seat))))
+        (session-new registry account (number_on world seat) (published_on world.writes seat))))
         (λ no. h)
 
     none_pending : (go : Option Pending) → is_none go ≡ true → go ≡ None
@@ -285,14 +285,14 @@ module _ (registry : Registry) where
         cond_both (may_ask registry session) _ world (IsSoundWorld registry)
         (λ may.
         let at = at_session seat session is in
-        let idle : IsEntered registry session.account (life_in registry session) None (number_on world seat)
+        let idle : IsSoundSession registry session.account (life_in registry session) None (number_on world seat)
         (published_on world.writes seat) = rw (may_ask_none session may) at at.1 in
         cond_both (accepts_go registry session line) _ _ (IsSoundWorld registry)
         (λ begun. sound-with_session seat (waiting session line false) at.0
-        (entered-waiting registry session.account (number_on world seat) (published_on world.writes seat)
+        (session-waiting registry session.account (number_on world seat) (published_on world.writes seat)
         (life_in registry session) line (accepts_from registry session line begun) idle))
         (λ no. sound-answering seat session line at.0
-        (entered-answered registry session.account (number_on world seat) (published_on world.writes seat)
+        (session-answered registry session.account (number_on world seat) (published_on world.writes seat)
         (life_in registry session) (ask_in line)
         (λ is_go. both_ways (accepts_go registry session line) no (accepts_to registry session line is_go)) idle)))
         (λ no. h))
@@ -304,10 +304,10 @@ module _ (registry : Registry) where
         option_case (IsSoundWorld registry) _ world session.go h (λ pending pends.
         cond_both pending.published _ _ (IsSoundWorld registry) (λ done. h) (λ due.
         let at = at_session seat session is in
-        let before : IsEntered registry session.account (life_in registry session)
+        let before : IsSoundSession registry session.account (life_in registry session)
         (Some (record { line = pending.line; published = false })) (number_on world seat)
         (published_on world.writes seat) =
-        subst (λ waits. IsEntered registry session.account (life_in registry session) waits (number_on world seat)
+        subst (λ waits. IsSoundSession registry session.account (life_in registry session) waits (number_on world seat)
         (published_on world.writes seat))
         (pends ∙ ap (λ b. Some (record { line = pending.line; published = b })) due) at.1 in
         record {
@@ -316,7 +316,7 @@ module _ (registry : Registry) where
               (Some (publication_of registry session.account (life_in registry session) (number_on world seat)))
               h.seats (
                 at.0,
-                entered-published registry session.account (number_on world seat)
+                session-published registry session.account (number_on world seat)
                     (published_on world.writes seat) (life_in registry session) pending.line before,
               );
           due = h.due;
@@ -329,31 +329,31 @@ module _ (registry : Registry) where
         option_case (IsSoundWorld registry) _ world session.go h (λ pending pends.
         cond_both pending.published _ _ (IsSoundWorld registry) (λ due.
         let at = at_session seat session is in
-        let before : IsEntered registry session.account (life_in registry session)
+        let before : IsSoundSession registry session.account (life_in registry session)
         (Some (record { line = pending.line; published = true })) (number_on world seat)
         (published_on world.writes seat) =
-        subst (λ waits. IsEntered registry session.account (life_in registry session) waits (number_on world seat)
+        subst (λ waits. IsSoundSession registry session.account (life_in registry session) waits (number_on world seat)
         (published_on world.writes seat))
         (pends ∙ ap (λ b. Some (record { line = pending.line; published = b })) due) at.1 in
         sound-answering seat session pending.line at.0
-        (entered-finished registry session.account (number_on world seat) (published_on world.writes seat)
+        (session-finished registry session.account (number_on world seat) (published_on world.writes seat)
         (life_in registry session) pending.line before))
         (λ no. h)))
 
-    -- a seat whose entry is withdrawn
-    withdrawn_seat : (seat : ℕ) (place : Place) (entry : Option Published) (present : Option Session)
+    -- a seat whose publication is withdrawn
+    withdrawn_seat : (seat : ℕ) (place : Place) (publication : Option Published) (present : Option Session)
         → place.present ≡ present → option_map_or (may_withdraw registry) place.present true ≡ true
-        → IsSoundSeat registry seat entry place → IsSoundSeat registry seat None place
+        → IsSoundSeat registry seat publication place → IsSoundSeat registry seat None place
     unfolding may_withdraw
-    withdrawn_seat seat place entry None is may at = rw is (λ past. refl)
-    withdrawn_seat seat place entry (Some session) is may at =
+    withdrawn_seat seat place publication None is may at = rw is (λ past. refl)
+    withdrawn_seat seat place publication (Some session) is may at =
         let before = rw is at at in
         let parts = and_parts _ _ (rw is at may) in
         let none : session.go ≡ None = none_pending session.go parts.0 in
         let quiet : is_tracing registry session ≡ false = not-true (is_tracing registry session) parts.1 in
         rw is (
           before.0,
-          rw none (entered-withdrawn registry session.account (length place.earlier)
+          rw none (session-withdrawn registry session.account (length place.earlier)
               (life_in registry session) quiet),
         )
 
@@ -363,7 +363,7 @@ module _ (registry : Registry) where
         cond_both (option_map_or (may_withdraw registry) (world.places seat).present true) _ world
         (IsSoundWorld registry)
         (λ may. record {
-          seats = entry_updated (λ other entry. IsSoundSeat registry other entry (world.places other))
+          seats = publication_updated (λ other publication. IsSoundSeat registry other publication (world.places other))
               (published_on world.writes) seat None h.seats
               (withdrawn_seat seat (world.places seat) (published_on world.writes seat) (world.places seat).present
               refl may
@@ -375,7 +375,7 @@ module _ (registry : Registry) where
     none_named : (firing : Firing) (seat : ℕ) → SEATS ≤ seat → mask_of registry world.writes firing seat ≡ None
     unfolding mask_of
     none_named firing seat past =
-        rw (no_entry seat (published_on world.writes seat) (world.places seat) (world.places seat).present refl
+        rw (no_publication seat (published_on world.writes seat) (world.places seat) (world.places seat).present refl
         (h.seats seat) past)
         refl
 
@@ -419,7 +419,7 @@ module _ (registry : Registry) where
           seats = updated (λ other place. IsSoundSeat registry other (published_on world.writes other) place)
               world.places seat
               (record { present = None; earlier = session ∷ (world.places seat).earlier }) h.seats
-              (no_entry seat (published_on world.writes seat) (world.places seat) (world.places seat).present refl
+              (no_publication seat (published_on world.writes seat) (world.places seat) (world.places seat).present refl
               (h.seats seat));
           due = h.due;
         })

@@ -106,8 +106,8 @@ module _ (registry : Registry) where
         → served_ ≡ Some served → IsSession registry session served → IsPresent registry present served_
     present_same present served_ e f kept = rw (e, f) kept
 
-  module _ (world : World) (seats : List HeldPlace) (entries : Entries) (processors : List DueOffers)
-      (kept : WorldIsKept registry world seats entries processors) where
+  module _ (world : World) (seats : List HeldPlace) (publications : Entries) (processors : List DueOffers)
+      (kept : WorldIsKept registry world seats publications processors) where
     module _ (at seat : ℕ) (held : HeldPlace) (found : Found seats at seat held) where
       seat_low : seat < SEATS
       seat_low = let is = found.is in let low = found.low in omega arith
@@ -140,11 +140,11 @@ module _ (registry : Registry) where
 
       -- the session on this seat is another, or what is on it
       kept-with_place : (place : Place) (after : HeldPlace) → IsHeld registry place after
-          → WorldIsKept registry (with_place world seat place) (set seats at after) entries processors
+          → WorldIsKept registry (with_place world seat place) (set seats at after) publications processors
       kept-with_place place after h = record {
         all = set_all after;
         held = kept_seat world.places place after kept.held h;
-        entered = kept.entered;
+        published = kept.published;
         cpus = kept.cpus;
         due = kept.due;
         moments = kept.moments;
@@ -164,11 +164,11 @@ module _ (registry : Registry) where
           (λ same. kept.held other)
 
       kept_same : (after : HeldPlace) → IsHeld registry (world.places seat) after
-          → WorldIsKept registry world (set seats at after) entries processors
+          → WorldIsKept registry world (set seats at after) publications processors
       kept_same after h = record {
         all = set_all after;
         held = λ other. kept_same_at after other h;
-        entered = kept.entered;
+        published = kept.published;
         cpus = kept.cpus;
         due = kept.due;
         moments = kept.moments;
@@ -176,15 +176,15 @@ module _ (registry : Registry) where
 
       kept-answering : (session : Session) (line : LineForm) (after : HeldPlace)
           → IsHeld registry (with_present (world.places seat) (answered session line)) after
-          → WorldIsKept registry (answering world seat session line) (set seats at after) entries processors
+          → WorldIsKept registry (answering world seat session line) (set seats at after) publications processors
       kept-answering session line after h =
           let one = kept-with_place (with_present (world.places seat) (answered session line)) after h in
-          record { all = one.all; held = one.held; entered = one.entered; cpus = one.cpus; due = one.due; moments = one.moments }
+          record { all = one.all; held = one.held; published = one.published; cpus = one.cpus; due = one.due; moments = one.moments }
 
       -- Open
       pub kept-opening : (name : List ℕ) (after : HeldPlace)
           → ((place : Place) → IsHeld registry place held → IsHeld registry (opened_on registry place name) after)
-          → WorldIsKept registry (opening registry world seat name) (set seats at after) entries processors
+          → WorldIsKept registry (opening registry world seat name) (set seats at after) publications processors
       unfolding opening
       kept-opening name after opens =
           let here : nat_lt seat SEATS ≡ true = lt-ltb seat SEATS seat_low in
@@ -196,7 +196,7 @@ module _ (registry : Registry) where
                 → WorldIsKept registry (cond (nat_lt seat SEATS && not (is_some (world.places seat).present))
                 (option_map_or (λ own. with_session world seat (new_session own))
                 (session_account registry name) world)
-                world) (set seats at after) entries processors
+                world) (set seats at after) publications processors
             opened_at true account taken is here after h =
                 rw (here, taken) (kept_same after (rw taken at h))
             opened_at false None taken is here after h =
@@ -208,7 +208,7 @@ module _ (registry : Registry) where
       -- Ask
       Asked : LineForm → Option (List ℕ) → HeldPlace → World → Type 0
       Asked line reply after later =
-          WorldIsKept registry later (set seats at after) entries processors
+          WorldIsKept registry later (set seats at after) publications processors
           × IsAnswered registry world later seat reply
 
       asked_begun : (session : Session) (line : LineForm) (reply : Option (List ℕ)) (after : HeldPlace) (served : HeldSession)
@@ -230,7 +230,7 @@ module _ (registry : Registry) where
 
       pub kept-asking : (line : LineForm) (reply : Option (List ℕ)) (after : HeldPlace)
           → ((place : Place) → IsHeld registry place held → IsAskedOn registry place line reply after)
-          → WorldIsKept registry (asking registry world seat line) (set seats at after) entries processors
+          → WorldIsKept registry (asking registry world seat line) (set seats at after) publications processors
           × IsAnswered registry world (asking registry world seat line) seat reply
       unfolding asking Asked
       kept-asking line reply after asks =
@@ -262,7 +262,7 @@ module _ (registry : Registry) where
       -- Finish
       Finished : Option (List ℕ) → HeldPlace → World → Type 0
       Finished reply after later =
-          WorldIsKept registry later (set seats at after) entries processors
+          WorldIsKept registry later (set seats at after) publications processors
           × IsAnswered registry world later seat reply
 
       finished_on : (session : Session) (reply : Option (List ℕ)) (after : HeldPlace) (served : HeldSession)
@@ -291,7 +291,7 @@ module _ (registry : Registry) where
 
       pub kept-finishing : (reply : Option (List ℕ)) (after : HeldPlace)
           → ((place : Place) → IsHeld registry place held → IsFinishedOn registry place reply after)
-          → WorldIsKept registry (finishing world seat) (set seats at after) entries processors
+          → WorldIsKept registry (finishing world seat) (set seats at after) publications processors
           × IsAnswered registry world (finishing world seat) seat reply
       unfolding finishing Finished
       kept-finishing reply after finishes =
@@ -310,7 +310,7 @@ module _ (registry : Registry) where
           → ((place : Place) → length place.earlier + 1 < 2 ^ 64 → IsHeld registry place held
           → IsHeld registry (closed_on place) after)
           → number_on world seat + 1 < 2 ^ 64
-          → WorldIsKept registry (closing world seat) (set seats at after) entries processors
+          → WorldIsKept registry (closing world seat) (set seats at after) publications processors
       unfolding closing
       kept-closing after closes few =
           closed_case (λ session. record { present = None; earlier = session ∷ (world.places seat).earlier })
@@ -318,7 +318,7 @@ module _ (registry : Registry) where
             closed_case : (f : Session → Place) (present : Option Session)
                 → IsHeld registry (option_map_or f present (world.places seat)) after
                 → WorldIsKept registry (option_map_or (λ session. with_place world seat (f session)) present world)
-                (set seats at after) entries processors
+                (set seats at after) publications processors
             closed_case f None h = kept_same after h
             closed_case f (Some session) h = kept-with_place (f session) after h
 
@@ -329,24 +329,24 @@ module _ (registry : Registry) where
           (interest_of (ecbs session.account registry (life_in registry session))) ∷ world.writes) later
           → WorldIsKept registry (publishing_of registry world seat session pending) (set seats at after) later
           processors
-      kept_published session pending after later h entered =
+      kept_published session pending after later h now_published =
           let one = kept-with_place (with_present (world.places seat) (waiting session pending.line true)) after h in
-          record { all = one.all; held = one.held; entered = entered; cpus = one.cpus; due = one.due; moments = one.moments }
+          record { all = one.all; held = one.held; published = now_published; cpus = one.cpus; due = one.due; moments = one.moments }
 
-      kept_entries : (after : HeldPlace) (later : Entries) → IsHeld registry (world.places seat) after
+      kept_publications : (after : HeldPlace) (later : Entries) → IsHeld registry (world.places seat) after
           → chain.EntriesAreAt world.writes later → WorldIsKept registry world (set seats at after) later processors
-      kept_entries after later h entered =
+      kept_publications after later h now_published =
           let one = kept_same after h in
-          record { all = one.all; held = one.held; entered = entered; cpus = one.cpus; due = one.due; moments = one.moments }
+          record { all = one.all; held = one.held; published = now_published; cpus = one.cpus; due = one.due; moments = one.moments }
 
       pub kept-publishing : (after : HeldPlace) (later : Entries)
-          → ((place : Place) (writes : List Write) → IsHeld registry place held → chain.EntriesAreAt writes entries
+          → ((place : Place) (writes : List Write) → IsHeld registry place held → chain.EntriesAreAt writes publications
           → IsPublishedOn registry seat place writes after later)
           → WorldIsKept registry (publishing registry world seat) (set seats at after) later processors
       unfolding publishing
       kept-publishing after later publishes =
           published_case (world.places seat).present
-          (publishes (world.places seat) world.writes held_at kept.entered) where
+          (publishes (world.places seat) world.writes held_at kept.published) where
             pending_case : (session : Session) (pending : Pending) (done : Bool)
                 → MatchBool done (IsHeld registry (world.places seat) after × chain.EntriesAreAt world.writes later)
                 (IsHeld registry (with_present (world.places seat) (waiting session pending.line true)) after
@@ -354,7 +354,7 @@ module _ (registry : Registry) where
                 (interest_of (ecbs session.account registry (life_in registry session))) ∷ world.writes) later)
                 → WorldIsKept registry (cond done world (publishing_of registry world seat session pending))
                 (set seats at after) later processors
-            pending_case session pending true h = kept_entries after later h.0 h.1
+            pending_case session pending true h = kept_publications after later h.0 h.1
             pending_case session pending false h = kept_published session pending after later h.0 h.1
 
             go_case : (session : Session) (go : Option Pending)
@@ -366,7 +366,7 @@ module _ (registry : Registry) where
                 (interest_of (ecbs session.account registry (life_in registry session))) ∷ world.writes) later))
                 → WorldIsKept registry (option_map_or (λ pending. cond pending.published world
                 (publishing_of registry world seat session pending)) go world) (set seats at after) later processors
-            go_case session None h = kept_entries after later h.0 h.1
+            go_case session None h = kept_publications after later h.0 h.1
             go_case session (Some pending) h = pending_case session pending pending.published h
 
             published_case : (present : Option Session)
@@ -383,31 +383,31 @@ module _ (registry : Registry) where
                 (λ session. option_map_or (λ pending. cond pending.published world
                 (publishing_of registry world seat session pending)) session.go world) present world)
                 (set seats at after) later processors
-            published_case None h = kept_entries after later h.0 h.1
+            published_case None h = kept_publications after later h.0 h.1
             published_case (Some session) h = go_case session session.go h
 
       -- Withdraw
       pub kept-withdrawing : (told : Bool) (later : Entries)
           → ((place : Place) → IsHeld registry place held → told
           ≡ option_map_or (may_withdraw registry) place.present true)
-          → (told ≡ true → (writes : List Write) → chain.EntriesAreAt writes entries
+          → (told ≡ true → (writes : List Write) → chain.EntriesAreAt writes publications
           → chain.EntriesAreAt (withdrawn seat ∷ writes) later)
-          → (told ≡ false → later ≡ entries)
+          → (told ≡ false → later ≡ publications)
           → WorldIsKept registry (withdrawing registry world seat) seats later processors
       unfolding withdrawing
       kept-withdrawing told later tells does not_ =
           may_case told (option_map_or (may_withdraw registry) (world.places seat).present true)
           (tells (world.places seat) held_at) does not_ where
             may_case : (told_ may : Bool) → told_ ≡ may
-                → (told_ ≡ true → (writes : List Write) → chain.EntriesAreAt writes entries
+                → (told_ ≡ true → (writes : List Write) → chain.EntriesAreAt writes publications
                 → chain.EntriesAreAt (withdrawn seat ∷ writes) later)
-                → (told_ ≡ false → later ≡ entries)
+                → (told_ ≡ false → later ≡ publications)
                 → WorldIsKept registry (cond may (record world { writes = withdrawn seat ∷ world.writes }) world) seats
                 later processors
             may_case told_ true is does_ none_ = record {
               all = kept.all;
               held = kept.held;
-              entered = does_ is world.writes kept.entered;
+              published = does_ is world.writes kept.published;
               cpus = kept.cpus;
               due = kept.due;
               moments = kept.moments;
@@ -415,7 +415,7 @@ module _ (registry : Registry) where
             may_case told_ false is does_ none_ = record {
               all = kept.all;
               held = kept.held;
-              entered = subst (λ e. chain.EntriesAreAt world.writes e) (sym (none_ is)) kept.entered;
+              published = subst (λ e. chain.EntriesAreAt world.writes e) (sym (none_ is)) kept.published;
               cpus = kept.cpus;
               due = kept.due;
               moments = kept.moments;
@@ -445,25 +445,25 @@ unseen_present registry session firing None unseen h = h
 unseen_present registry session firing (Some served) unseen h = rw unseen h
 
 module _ (registry : Registry) where
-  passed_held : (seat : ℕ) (entry : Option Published) (place : Place) (held : HeldPlace) (firing : Firing)
-      → IsSoundSeat registry seat entry place → IsHeld registry place held
+  passed_held : (seat : ℕ) (publication : Option Published) (place : Place) (held : HeldPlace) (firing : Firing)
+      → IsSoundSeat registry seat publication place → IsHeld registry place held
       → IsHeld registry (passed firing (option_and_then
-      (λ one. cond (is_named registry one firing) (Some one.life) None) entry) place) held
-  passed_held seat entry place held firing sound h =
+      (λ one. cond (is_named registry one firing) (Some one.life) None) publication) place) held
+  passed_held seat publication place held firing sound h =
       option_both (λ p. IsHeld registry p held) _ place place.present (λ none. h) (λ session is.
       cond_case session is (option_map_or (λ life. life == length place.earlier) (option_and_then
-      (λ one. cond (is_named registry one firing) (Some one.life) None) entry) false) refl) where
+      (λ one. cond (is_named registry one firing) (Some one.life) None) publication) false) refl) where
         cond_case : (session : Session) → place.present ≡ Some session → (named : Bool)
             → option_map_or (λ life. life == length place.earlier) (option_and_then
-            (λ one. cond (is_named registry one firing) (Some one.life) None) entry) false ≡ named
+            (λ one. cond (is_named registry one firing) (Some one.life) None) publication) false ≡ named
             → IsHeld registry (cond named place
             (record place { present = Some (reached session (firing_made firing)) })) held
         cond_case session is true named = h
         cond_case session is false named =
-            let entered = rw is at sound in
+            let is_sound = rw is at sound in
             let unseen : is_seen session.account registry (life_in registry session) firing ≡ false =
             unseen_unless_named registry session.account (life_in registry session) (length place.earlier) firing
-            session.go entry entered.1 named in
+            session.go publication is_sound.1 named in
             record {
               counted = h.counted;
               present = unseen_present registry session firing held.present unseen (rw is at h.present);
@@ -476,8 +476,8 @@ module _ (registry : Registry) where
   held_each seats places later seat None is keeps h = h
   held_each seats places later seat (Some held) is keeps h = keeps held h
 
-  module _ (world : World) (seats : List HeldPlace) (entries : Entries) (processors : List DueOffers)
-      (sound : IsSoundWorld registry world) (kept : WorldIsKept registry world seats entries processors) where
+  module _ (world : World) (seats : List HeldPlace) (publications : Entries) (processors : List DueOffers)
+      (sound : IsSoundWorld registry world) (kept : WorldIsKept registry world seats publications processors) where
     -- whether a look is enabled
     done_all : (due : ℕ → Option DueOffer) (from count : ℕ) → ((seat : ℕ) → due seat ≡ None)
         → list_all (λ seat. is_none (due seat)) (range_with_len from count) ≡ true
@@ -592,7 +592,7 @@ module _ (registry : Registry) where
         → ((at : ℕ) → due_of looked at
         ≡ option_map (λ life. record { life = life; firing = firing }) (life_at looked.left at))
         → IfSome looked.moment (IsMoment registry)
-        → WorldIsKept registry (looking registry world cpu firing) seats entries (set processors cpu looked)
+        → WorldIsKept registry (looking registry world cpu firing) seats publications (set processors cpu looked)
     unfolding looking mask_of
     kept-looking cpu firing looked own enabled look owes moment =
         let cpus = kept.cpus in
@@ -608,7 +608,7 @@ module _ (registry : Registry) where
               (λ held h. passed_held seat (published_on world.writes seat) (world.places seat) held firing
               (sound.seats seat) h)
               (kept.held seat);
-          entered = kept.entered;
+          published = kept.published;
           cpus = length-set processors cpu looked ∙ kept.cpus;
           due = λ other seat. due_after cpu other seat firing looked
               (ltb-true cpu registry.cpus parts.0) named owes;
@@ -651,7 +651,7 @@ module _ (registry : Registry) where
 
     pub kept-looking-not : (cpu : ℕ) (firing : Firing) → IsNaming registry world cpu firing None
         → IsSoundWorld registry (looking registry world cpu firing)
-        × WorldIsKept registry (looking registry world cpu firing) seats entries processors
+        × WorldIsKept registry (looking registry world cpu firing) seats publications processors
     unfolding looking
     kept-looking-not cpu firing no_look = rw no_look (sound, kept)
 
@@ -676,7 +676,7 @@ module _ (registry : Registry) where
     seen-offered cpu at seat held before due found is owes seen tells =
         let own : world.due cpu seat ≡ Some due = kept.due cpu seat ∙ ap (λ o. due_in o seat) is ∙ owes in
         let told = tells (world.places seat)
-        (held_at registry world seats entries processors kept at seat held found) in
+        (held_at registry world seats publications processors kept at seat held found) in
         rw own (ap (λ b. cond b (Some due.firing) None) (sym told))
 
     due_taken : (cpu seat other at : ℕ) (before after : DueOffers) → slice_get processors cpu ≡ Some before
@@ -703,17 +703,17 @@ module _ (registry : Registry) where
         → ((one : ℕ) → due_of left one ≡ cond (one == seat) None (due_of before one))
         → left.moment ≡ before.moment
         → ((place : Place) → IsHeld registry place held → IsHeld registry (offered due place) after)
-        → WorldIsKept registry (offering world cpu seat) (set seats at after) entries (set processors cpu left)
+        → WorldIsKept registry (offering world cpu seat) (set seats at after) publications (set processors cpu left)
     unfolding offering
     kept-offering cpu at seat held after before left due found is owes taken stays delivers =
         let own : world.due cpu seat ≡ Some due = kept.due cpu seat ∙ ap (λ o. due_in o seat) is ∙ owes in
         let h = delivers (world.places seat)
-        (held_at registry world seats entries processors kept at seat held found) in
+        (held_at registry world seats publications processors kept at seat held found) in
         rw own (record {
           all = length-set seats at after ∙ kept.all;
-          held = kept_seat registry world seats entries processors kept at seat held found world.places
+          held = kept_seat registry world seats publications processors kept at seat held found world.places
               (offered due (world.places seat)) after kept.held h;
-          entered = kept.entered;
+          published = kept.published;
           cpus = length-set processors cpu left ∙ kept.cpus;
           due = λ other one. due_taken cpu seat other one before left is taken;
           moments = λ other. moments_after cpu other left (slice_get_within processors cpu before is)
@@ -724,19 +724,19 @@ module _ (registry : Registry) where
     -- nothing was taken
     pub kept-offering-none : (cpu seat : ℕ) (value changed : DueOffers) → cpu < length processors
         → value ≡ get_or processors cpu value → changed ≡ value → due_of value seat ≡ None
-        → WorldIsKept registry (offering world cpu seat) seats entries (set processors cpu changed)
+        → WorldIsKept registry (offering world cpu seat) seats publications (set processors cpu changed)
     kept-offering-none cpu seat value changed low read same none =
         let found : slice_get processors cpu ≡ Some value =
         slice_get-get_or processors cpu value low ∙ ap Some (sym read) in
         let off : offering world cpu seat ≡ world = offering-none cpu seat (ap (λ o. due_in o seat) found ∙ none) in
         let all_same : set processors cpu changed ≡ processors =
         ap (set processors cpu) (same ∙ read) ∙ set-get_or processors cpu value in
-        subst (λ w. WorldIsKept registry w seats entries (set processors cpu changed)) (sym off)
-        (subst (λ ps. WorldIsKept registry world seats entries ps) (sym all_same) kept)
+        subst (λ w. WorldIsKept registry w seats publications (set processors cpu changed)) (sym off)
+        (subst (λ ps. WorldIsKept registry world seats publications ps) (sym all_same) kept)
 
     pub kept-offering-past : (cpu seat : ℕ) → length processors ≤ cpu
-        → WorldIsKept registry (offering world cpu seat) seats entries processors
+        → WorldIsKept registry (offering world cpu seat) seats publications processors
     kept-offering-past cpu seat high =
         let off : offering world cpu seat ≡ world =
         offering-none cpu seat (ap (λ o. due_in o seat) (slice_get_past processors cpu high)) in
-        subst (λ w. WorldIsKept registry w seats entries processors) (sym off) kept
+        subst (λ w. WorldIsKept registry w seats publications processors) (sym off) kept

@@ -17,20 +17,20 @@ module _ (registry : Registry) where
   abbrev pub publication_of : Account → List Item → (n : ℕ) → Published
   publication_of account life n = record { life = n; account = account; probes = interest_of (ecbs account registry life) }
 
-  -- A session is soundly entered: its pending `go` is an accepted one, and its entry is its own where it traces, and
+  -- A session is sound: its pending `go` is an accepted one, and its publication is its own where it traces, and
   -- where its pending `go` is published.
-  pub record IsEntered (account : Account) (life : List Item) (go : Option Pending) (n : ℕ) (entry : Option Published)
+  pub record IsSoundSession (account : Account) (life : List Item) (go : Option Pending) (n : ℕ) (publication : Option Published)
       : Type 0 where
     pub accepted : (pending : Pending) → go ≡ Some pending → IsAcceptedGo account registry life (ask_in pending.line)
-    pub traces : is_active (phase account registry life) ≡ true → entry ≡ Some (publication_of account life n)
+    pub traces : is_active (phase account registry life) ≡ true → publication ≡ Some (publication_of account life n)
     pub published : (line : LineForm) → go ≡ Some (record { line = line; published = true })
-        → entry ≡ Some (publication_of account life n)
+        → publication ≡ Some (publication_of account life n)
 
-  -- A seat is sound: its session is soundly entered. What is no seat has neither a session nor an entry.
+  -- A seat is sound: its session is. What is no seat has neither a session nor a publication.
   abbrev pub IsSoundSeat : (seat : ℕ) → Option Published → Place → Type 0
-  IsSoundSeat seat entry place = MatchOption place.present (seat_count ≤ seat → entry ≡ None)
+  IsSoundSeat seat publication place = MatchOption place.present (seat_count ≤ seat → publication ≡ None)
       (λ session. (seat < seat_count)
-      × IsEntered session.account (life_in registry session) session.go (length place.earlier) entry)
+      × IsSoundSession session.account (life_in registry session) session.go (length place.earlier) publication)
 
   pub record IsSoundWorld (world : World) : Type 0 where
     pub seats : (seat : ℕ) → IsSoundSeat seat (published_on world.writes seat) (world.places seat)

@@ -166,19 +166,19 @@ module _ (registry : Registry) where
 
   -- The interest of the session on a seat was published, if its pending `go` wasn't yet.
   abbrev pub IsPublishedOn : (seat : ℕ) → Place → List Write → HeldPlace → Entries → Type 0
-  IsPublishedOn seat place writes held entries =
-      let same = IsHeld place held × chain.EntriesAreAt writes entries in
+  IsPublishedOn seat place writes held publications =
+      let same = IsHeld place held × chain.EntriesAreAt writes publications in
       MatchOption place.present same (λ session. MatchOption session.go same (λ pending. MatchBool pending.published same
       (IsHeld (with_present place (waiting session pending.line true)) held
       × chain.EntriesAreAt (published seat (length place.earlier) session.account
-      (interest_of (ecbs session.account registry (life_in registry session))) ∷ writes) entries)))
+      (interest_of (ecbs session.account registry (life_in registry session))) ∷ writes) publications)))
 
-  -- What is kept is that of a world: of each seat, of each processor, and the entries.
-  pub record WorldIsKept (world : World) (seats : List HeldPlace) (entries : Entries) (processors : List DueOffers)
+  -- What is kept is that of a world: of each seat, of each processor, and the publications.
+  pub record WorldIsKept (world : World) (seats : List HeldPlace) (publications : Entries) (processors : List DueOffers)
       : Type 0 where
     pub all : length seats ≡ seat_count
     pub held : (seat : ℕ) → IfSome (slice_get seats seat) (IsHeld (world.places seat))
-    pub entered : chain.EntriesAreAt world.writes entries
+    pub published : chain.EntriesAreAt world.writes publications
     pub cpus : length processors ≡ registry.cpus
     pub due : (cpu seat : ℕ) → world.due cpu seat ≡ due_in (slice_get processors cpu) seat
     pub moments : (cpu : ℕ) → IfSome (slice_get processors cpu) (λ looked. IfSome looked.moment (IsMoment registry))
@@ -186,7 +186,7 @@ module _ (registry : Registry) where
   -- The seats with their consumers stand for a world: it is sound, and what is kept is the world's.
   abbrev pub EngineIsAt : World → Engine → Type 0
   EngineIsAt world engine = IsSoundWorld registry world
-      × WorldIsKept world engine.seats.items engine.entries engine.processors.items
+      × WorldIsKept world engine.seats.items engine.publications engine.processors.items
 
   -- A step answered this at a seat, or nothing: one question more, and its reply; or none more.
   abbrev pub IsAnswered : (before after : World) → (seat : ℕ) → (reply : Option (List ℕ)) → Type 0

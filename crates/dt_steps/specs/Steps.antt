@@ -106,7 +106,7 @@ finishing world seat =
     where_some session.go world (λ pending.
     if pending.published then answering world seat session pending.line else world))
 
--- Withdraw, on a free seat, and where the session is not active and no `go` is pending: the entry goes.
+-- Withdraw, on a free seat, and where the session is not active and no `go` is pending: the publication goes.
 unfoldable pub withdrawing : Registry → World → (seat : ℕ) → World
 withdrawing registry world seat =
     if option_map_or (may_withdraw registry) (world.places seat).present true

@@ -120,7 +120,7 @@ module _ (registry : Registry) where
   unfoldable pub accepts_go : Session → LineForm → Bool
   accepts_go session line = is_accepted_go session.account registry (life_in session) (ask_in line)
 
-  -- the entry may be withdrawn: the session is not active, and no `go` is pending
+  -- the publication may be withdrawn: the session is not active, and no `go` is pending
   unfoldable pub may_withdraw : Session → Bool
   may_withdraw session = is_none session.go && not (is_tracing session)
 

@@ -44,11 +44,11 @@ impl<'m> DueOffers<'m> {
     /// forgotten.
     pub(crate) fn look(
         &mut self,
-        entries: &Entries,
+        publications: &Entries,
         machine: &'m Machine,
         firing: &'m Firing,
     ) -> SeatSet
-        ensures look { (writes : List Write) → EntriesAreAt writes entries.now
+        ensures look { (writes : List Write) → EntriesAreAt writes publications.now
             → IsLook machine.now.registry writes firing.now (life_at self.new.left) }
         ensures owes { (seat : ℕ) → due_of self.new seat
             ≡ option_map (λ life. record { life = life; firing = firing.now }) (life_at self.new.left seat) }
@@ -56,7 +56,7 @@ impl<'m> DueOffers<'m> {
         ensures moment { IfSome self.new.moment (IsMoment machine.now.registry) }
     {
         // where no seat is named, most often since none is interested in the probe, there is no moment
-        self.moment = entries.look_into(machine, firing, &mut self.left);
+        self.moment = publications.look_into(machine, firing, &mut self.left);
         self.left.seats()
     }
 

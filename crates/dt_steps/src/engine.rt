@@ -17,7 +17,7 @@ use std::alloc::{AllocError, Global};
 #[derive(Drop)]
 pub struct Engine<'m> {
     pub(crate) seats: Vec<Place>,
-    pub(crate) entries: Entries,
+    pub(crate) publications: Entries,
     pub(crate) processors: Vec<DueOffers<'m>>,
     ghost all: { vec_len seats ≡ SEATS },
 }
@@ -40,7 +40,7 @@ impl<'m> Engine<'m> {
     {
         Ok(Engine {
             seats: free_seats(alloc)?,
-            entries: Entries::new(alloc),
+            publications: Entries::new(alloc),
             processors: idle_processors(alloc, machine.cpus())?,
         })
     }
@@ -84,7 +84,7 @@ impl<'m> Engine<'m> {
         ensures { OnOk result ((world : World) → EngineIsAt machine.now.registry world self.old
             → EngineIsAt machine.now.registry (publishing machine.now.registry world seat) self.new) }
     {
-        self.seats[seat.number() as usize].publish(&mut self.entries, seat)
+        self.seats[seat.number() as usize].publish(&mut self.publications, seat)
     }
 
     /// Lets the published `go` of the session on a seat take effect, and answers the reply's bytes.
@@ -100,13 +100,13 @@ impl<'m> Engine<'m> {
         self.seats[seat.number() as usize].finish(machine)
     }
 
-    /// Withdraws the entry of a seat.
+    /// Withdraws the publication of a seat.
     pub fn withdraw(&mut self, machine: &Machine, seat: Seat)
         ensures { (world : World) → EngineIsAt machine.now.registry world self.old
             → EngineIsAt machine.now.registry (withdrawing machine.now.registry world seat) self.new }
     {
         if self.seats[seat.number() as usize].may_withdraw() {
-            self.entries.withdraw(seat);
+            self.publications.withdraw(seat);
         }
     }
 
@@ -126,7 +126,7 @@ impl<'m> Engine<'m> {
         if !self.is_done(cpu) {
             return None;
         }
-        Some(self.processors[cpu as usize].look(&self.entries, machine, firing))
+        Some(self.processors[cpu as usize].look(&self.publications, machine, firing))
     }
 
     /// Whether there is such a processor, and none of its offers is left.

@@ -20,7 +20,7 @@ pub(crate) struct Place {
 }
 
 impl Place {
-    ghost use Rattle.std.specs.Prelude.{◌+◌, ◌<◌, ◌^◌, ◌∷◌, OnOk, List, Some, true, length, is_some, option_map};
+    ghost use Rattle.std.specs.Prelude.{◌+◌, ◌<◌, ◌^◌, OnOk, List, Some, true, length, is_some, option_map};
     ghost use Rattle.std.specs.Option.{option_map_or};
     ghost use Rattle.dt_chain.specs.IsAt.{EntriesAreAt};
     ghost use Rattle.dt_chain.specs.Writes.{Write};
@@ -98,15 +98,19 @@ impl Place {
     }
 
     /// Publishes the interest of its session, where a `go` of that is pending and not published.
-    pub(crate) fn publish(&mut self, entries: &mut Entries, seat: Seat) -> Result<(), AllocError>
+    pub(crate) fn publish(
+        &mut self,
+        publications: &mut Entries,
+        seat: Seat,
+    ) -> Result<(), AllocError>
         ensures { OnOk result ((registry : Registry) (place : world.Place) (writes : List Write)
-            → IsHeld registry place self.old → EntriesAreAt writes entries.old
-            → IsPublishedOn registry seat place writes self.new entries.new) }
+            → IsHeld registry place self.old → EntriesAreAt writes publications.old
+            → IsPublishedOn registry seat place writes self.new publications.new) }
     {
         match &mut self.present {
             Some(session) if session.is_unpublished() => {
                 let interest = session.consumer.interest()?;
-                entries.publish(seat, self.earlier, &session.account, &interest)?;
+                publications.publish(seat, self.earlier, &session.account, &interest)?;
                 session.set_published();
                 Ok(())
             }
@@ -114,7 +118,7 @@ impl Place {
         }
     }
 
-    /// Whether its entry may be withdrawn: no consumer on it is active, and no `go` is pending.
+    /// Whether its publication may be withdrawn: no consumer on it is active, and no `go` is pending.
     pub(crate) fn may_withdraw(&self) -> bool
         ensures { (registry : Registry) (place : world.Place) → IsHeld registry place self.now
             → result ≡ option_map_or (world.may_withdraw registry) place.present true }
@@ -140,7 +144,7 @@ impl Place {
             return false;
         }
         match &mut self.present {
-            Some(session) => session.offer(machine, moment),
+            Some(session) => session.consumer.offer_moment(machine, moment),
             None => false,
         }
     }

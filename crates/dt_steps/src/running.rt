@@ -23,7 +23,7 @@ pub struct Ran {
 /// Takes steps in order, in a world in which nothing happened yet. `Err`: memory ran out.
 ///
 /// The world is that of the steps alone, and no consumer is in it. `replies`: each reply is the one to its question, at the
-/// seat of the session that asked. `masks`: each mask is what the entries named at its look. `alone`: what was told to a
+/// seat of the session that asked. `masks`: each mask is what the publications named at its look. `alone`: what was told to a
 /// session is what its view is answered alone, none missing and none more, whatever other sessions did.
 pub fn run(alloc: Global, machine: &Machine, steps: &[Step]) -> Result<Ran, AllocError>
     ensures replies { IfOk result (λ ran. AreReplies machine.now.registry

@@ -1,11 +1,11 @@
 //! A session that goes on, with its consumer.
-ghost use Rattle.std.specs.Prelude.{◌≡◌, ◌↔◌, IsTrue};
+ghost use Rattle.std.specs.Prelude.{◌≡◌};
 ghost use Rattle.dt_steps.specs.Ready.{GoIsReady, ready_prop};
 
 use dt_consumer::{Consumer, Draft};
 use dt_cred::Account;
 use dt_life::Phase;
-use dt_machine::{Machine, Moment};
+use dt_machine::Machine;
 use dt_proto::{Asked, WholeLine, read_line, reply_bytes};
 use std::alloc::{AllocError, Global};
 
@@ -49,14 +49,12 @@ pub struct Finished {
 }
 
 impl Session {
-    ghost use Rattle.std.specs.Prelude.{◌≡◌, List, [], ◌∷◌, Option, Some, None, true, IfOk, IfSome, option_map, if◌then◌else◌};
+    ghost use Rattle.std.specs.Prelude.{◌≡◌, [], Some, None, true, IfOk, IfSome, option_map};
     ghost use Rattle.dt_cred.specs.declared.account.Account.{Account};
-    ghost use Rattle.dt_machine.specs.Moment.{IsMoment};
     ghost use Rattle.dt_machine.specs.Registry.{Registry};
-    ghost use Rattle.dt_life.specs.Life.{Item, fired, is_over};
+    ghost use Rattle.dt_life.specs.Life.{is_over};
     ghost use Rattle.dt_proto.specs.Asked.{form_lent, form_asked};
     ghost use Rattle.dt_steps.specs.Stands.{IsServed, IsSession, IsAsked, IsFinishing, is_unpublished};
-    ghost use Rattle.dt_life.specs.Tests.{is_seen};
     ghost use Rattle.dt_steps.specs.World as world;
 
     /// A session of an account that has asked nothing.
@@ -163,25 +161,11 @@ impl Session {
         })
     }
 
-    /// Whether its entry may be withdrawn: it is not active, and no `go` is pending.
+    /// Whether its publication may be withdrawn: it is not active, and no `go` is pending.
     pub(crate) fn may_withdraw(&self) -> bool
         ensures { (registry : Registry) (session : world.Session) → IsSession registry session self.now
             → result ≡ world.may_withdraw registry session }
     {
         self.go.is_none() && !matches!(self.consumer.phase(), Phase::Active)
-    }
-
-    /// A firing reaches it. Answers whether it saw the firing.
-    pub(crate) fn offer(&mut self, machine: &Machine, moment: &Moment) -> bool
-        ensures seen { (account : Account) (life : List Item) (go : Option world.Pending)
-            → IsServed machine.now.registry account life go self.old → IsMoment machine.now.registry moment.now
-            → result ≡ is_seen account machine.now.registry life moment.now.firing.now }
-        ensures reached { (account : Account) (life : List Item) (go : Option world.Pending)
-            → IsServed machine.now.registry account life go self.old → IsMoment machine.now.registry moment.now
-            → IsServed machine.now.registry account
-            (if is_seen account machine.now.registry life moment.now.firing.now then fired moment.now.firing.now ∷ life else life)
-            go self.new }
-    {
-        self.consumer.offer_moment(machine, moment)
     }
 }

@@ -16,7 +16,7 @@ pub enum Step {
     Publish(Seat),
     /// The pending `go` of the session on a seat takes effect, and is answered: enabled where it is published.
     Finish(Seat),
-    /// The entry of a seat is withdrawn: enabled where no consumer on it is active and no `go` is pending.
+    /// The publication of a seat is withdrawn: enabled where no consumer on it is active and no `go` is pending.
     Withdraw(Seat),
     /// A processor looks whom a firing is to be offered to: enabled where the processor exists and is the firing's, and
     /// none of its offers is left.

@@ -104,7 +104,7 @@ const ROWS: &[(&str, &str, &str)] = &[
         "0 {\"count\":1,\"first\":1,\"ok\":true}\n0 {\"error\":10,\"name\":\"Busy\"}\n",
         "0:0 / / ",
     ),
-    // an active session keeps its entry, a stopped one needs none
+    // an active session keeps its publication, a stopped one needs none
     (
         r#"open 5 root;ask 5 {"cmd":"enable","text":"read:entry{}"};ask 5 {"cmd":"go"};withdraw 5;publish 5;finish 5;withdraw 5;look 0 0;offer 0 5;ask 5 {"cmd":"stop"};withdraw 5;look 0 1"#,
         "5 {\"count\":1,\"first\":1,\"ok\":true}\n5 {\"ok\":true}\n5 {\"ok\":true}\n",

@@ -10,7 +10,7 @@ use Rattle.dt_chain.specs.Writes.{Published}
 use Rattle.dt_life.specs.Life.{is_over}
 use Rattle.dt_proto.specs.Alone.{Reached, firing_made, IsText}
 use Rattle.dt_proto.specs.Lines.{LineForm}
-use Rattle.dt_proto.specs.Trail.{fired_at, entry_text}
+use Rattle.dt_proto.specs.Trail.{fired_at, item_text}
 use Rattle.dt_world.specs.Replay.{IsTrailText}
 use Rattle.dt_steps.specs.Sound.{IsSoundSeat}
 use Rattle.dt_steps.specs.Stands.{first_account, sees_on}
@@ -85,9 +85,9 @@ module _ (place : Place) (session : Session) (is : place.present ≡ Some sessio
       → IsTrailText registry (first_on place) text
       → IsTrailText registry (first_on
       (record { present = Some (reached session (firing_made firing)); earlier = place.earlier }))
-      (text ++ cond (is_some (first_account place)) (entry_text (fired_at firing.cpu firing.place)) [])
+      (text ++ cond (is_some (first_account place)) (item_text (fired_at firing.cpu firing.place)) [])
   first-seen registry firing text seen h =
-      changed registry (reached session (firing_made firing)) text (entry_text (fired_at firing.cpu firing.place))
+      changed registry (reached session (firing_made firing)) text (item_text (fired_at firing.cpu firing.place))
       (trail-seen session.account registry session.view firing text seen) h
 
   pub first-unseen : (registry : Registry) (firing : Firing) (text : List ℕ)
@@ -109,13 +109,13 @@ module _ (registry : Registry) where
   pub offered-seen : (due : DueOffer) (place : Place) (text : List ℕ) → sees_on registry due place ≡ true
       → IsTrailText registry (first_on place) text
       → IsTrailText registry (first_on (offered due place))
-      (text ++ cond (is_some (first_account place)) (entry_text (fired_at due.firing.cpu due.firing.place)) [])
+      (text ++ cond (is_some (first_account place)) (item_text (fired_at due.firing.cpu due.firing.place)) [])
   offered-seen due place text sees h = session_case place.present refl sees where
     life_case : (session : Session) (same : Bool) → place.present ≡ Some session
         → (same && is_seen session.account registry (life_in registry session) due.firing) ≡ true
         → IsTrailText registry (first_on
         (cond same (record place { present = Some (reached session (firing_made due.firing)) }) place))
-        (text ++ cond (is_some (first_account place)) (entry_text (fired_at due.firing.cpu due.firing.place)) [])
+        (text ++ cond (is_some (first_account place)) (item_text (fired_at due.firing.cpu due.firing.place)) [])
     life_case session true is seen = first-seen place session is registry due.firing text seen h
     life_case session false is seen = cc
 
@@ -124,7 +124,7 @@ module _ (registry : Registry) where
         && is_seen session.account registry (life_in registry session) due.firing) present false ≡ true
         → IsTrailText registry (first_on (option_map_or (λ session. cond (due.life == length place.earlier)
         (record place { present = Some (reached session (firing_made due.firing)) }) place) present place))
-        (text ++ cond (is_some (first_account place)) (entry_text (fired_at due.firing.cpu due.firing.place)) [])
+        (text ++ cond (is_some (first_account place)) (item_text (fired_at due.firing.cpu due.firing.place)) [])
     session_case None is seen = cc
     session_case (Some session) is seen = life_case session (due.life == length place.earlier) is seen
 
@@ -148,30 +148,30 @@ module _ (registry : Registry) where
     session_case (Some session) is seen = life_case session (due.life == length place.earlier) is seen
 
   abbrev life_named : Firing → Option Published → Option ℕ
-  life_named firing entry = option_and_then (λ one. cond (is_named registry one firing) (Some one.life) None) entry
+  life_named firing publication = option_and_then (λ one. cond (is_named registry one firing) (Some one.life) None) publication
 
   -- a look passes a seat: who isn't named doesn't see the firing
-  pub passed-trail : (seat : ℕ) (entry : Option Published) (place : Place) (firing : Firing) (text : List ℕ)
-      → IsSoundSeat registry seat entry place → IsTrailText registry (first_on place) text
+  pub passed-trail : (seat : ℕ) (publication : Option Published) (place : Place) (firing : Firing) (text : List ℕ)
+      → IsSoundSeat registry seat publication place → IsTrailText registry (first_on place) text
       → IsTrailText registry (first_on (passed firing (option_and_then
-      (λ one. cond (is_named registry one firing) (Some one.life) None) entry) place)) text
-  passed-trail seat entry place firing text sound h = session_case place.present refl where
+      (λ one. cond (is_named registry one firing) (Some one.life) None) publication) place)) text
+  passed-trail seat publication place firing text sound h = session_case place.present refl where
     named_case : (session : Session) → place.present ≡ Some session → (is_named_now : Bool)
-        → option_map_or (λ life. life == length place.earlier) (life_named firing entry) false ≡ is_named_now
+        → option_map_or (λ life. life == length place.earlier) (life_named firing publication) false ≡ is_named_now
         → IsTrailText registry (first_on
         (cond is_named_now place (record place { present = Some (reached session (firing_made firing)) }))) text
     named_case session is true at = h
     named_case session is false at =
-        let entered = rw is at sound in
+        let is_sound = rw is at sound in
         first-unseen place session is registry firing text
         (unseen_unless_named registry session.account (life_in registry session) (length place.earlier) firing
-        session.go entry entered.1 at) h
+        session.go publication is_sound.1 at) h
 
     session_case : (present : Option Session) → place.present ≡ present
         → IsTrailText registry (first_on (option_map_or (λ session.
-        cond (option_map_or (λ life. life == length place.earlier) (life_named firing entry) false) place
+        cond (option_map_or (λ life. life == length place.earlier) (life_named firing publication) false) place
         (record place { present = Some (reached session (firing_made firing)) })) present place)) text
     session_case None is = h
     session_case (Some session) is =
-        named_case session is (option_map_or (λ life. life == length place.earlier) (life_named firing entry) false)
+        named_case session is (option_map_or (λ life. life == length place.earlier) (life_named firing publication) false)
         refl

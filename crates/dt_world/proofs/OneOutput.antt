@@ -18,7 +18,7 @@ use Rattle.dt_proto.specs.Line.{ask_in}
 use Rattle.dt_proto.specs.Lines.{LineForm, short_line, long_line}
 use Rattle.dt_proto.specs.Reply.{reply_text}
 use Rattle.dt_proto.specs.Splits.{with_newline}
-use Rattle.dt_proto.specs.Trail.{TrailEntry, line_asked, long_asked, IsEntryOf, IsLineTold, IsToldFiring, IsTrailOf}
+use Rattle.dt_proto.specs.Trail.{WrittenItem, line_asked, long_asked, IsItemOf, IsLineTold, IsToldFiring, IsTrailOf}
 use Rattle.dt_proto.specs.Trail.{trail_text}
 use Rattle.dt_steps.specs.Ran.{Told, IsReply, AreReplies}
 use Rattle.dt_world.specs.Replay as replay
@@ -42,15 +42,15 @@ pub is_run : (contents : Contents) (forms : List StepLineForm)
     → (replayed contents forms).world ≡ world_after contents.registry (steps_from contents beginning forms)
 is_run contents forms = from contents beginning forms
 
--- a line and a reply have one entry
+-- a line and a reply have one item
 same_reply : (a b : List ℕ) → with_newline a ≡ with_newline b → a ≡ b
 same_reply a b e = append_cancel_right a b (10 ∷ []) e
 
-same_entry : (line : LineForm) (answer : Answer) (a b : TrailEntry) → IsEntryOf line answer a
-    → IsEntryOf line answer b → a ≡ b
-same_entry (short_line line) answer a b h k =
+same_item : (line : LineForm) (answer : Answer) (a b : WrittenItem) → IsItemOf line answer a
+    → IsItemOf line answer b → a ≡ b
+same_item (short_line line) answer a b h k =
     h.1 ∙ ap (line_asked line) (same_reply h.0 k.0 (h.2 ∙ sym k.2)) ∙ sym k.1
-same_entry long_line answer a b h k = h.1 ∙ ap long_asked (same_reply h.0 k.0 (h.2 ∙ sym k.2)) ∙ sym k.1
+same_item long_line answer a b h k = h.1 ∙ ap long_asked (same_reply h.0 k.0 (h.2 ∙ sym k.2)) ∙ sym k.1
 
 module _ (one_reply : (account : Account) (registry : Registry) (life : List Item) (line : Result Ask Refusal)
     (a b : Answer) → Replies account registry life line a → Replies account registry life line b → a ≡ b) where
@@ -81,27 +81,27 @@ module _ (one_reply : (account : Account) (registry : Registry) (life : List Ite
         (subst (λ l. Replies account registry l (ask_in line) b) life k.2)
 
     -- what a line adds to a trail is one
-    told_same_at : (life : List Item) (line : LineForm) (over : Bool) (a b : List TrailEntry)
-        → MatchBool over (a ≡ []) ((answer : Answer) × (entry : TrailEntry)
+    told_same_at : (life : List Item) (line : LineForm) (over : Bool) (a b : List WrittenItem)
+        → MatchBool over (a ≡ []) ((answer : Answer) × (item : WrittenItem)
         × Replies account registry life (ask_in line) answer
-        × IsEntryOf line answer entry × (a ≡ entry ∷ []))
-        → MatchBool over (b ≡ []) ((answer : Answer) × (entry : TrailEntry)
+        × IsItemOf line answer item × (a ≡ item ∷ []))
+        → MatchBool over (b ≡ []) ((answer : Answer) × (item : WrittenItem)
         × Replies account registry life (ask_in line) answer
-        × IsEntryOf line answer entry × (b ≡ entry ∷ []))
+        × IsItemOf line answer item × (b ≡ item ∷ []))
         → a ≡ b
     told_same_at life line true a b h k = h ∙ sym k
     told_same_at life line false a b h k =
         let answer : k.0 ≡ h.0 = one_reply account registry life (ask_in line) k.0 h.0 k.2 h.2 in
-        let entry : h.1 ≡ k.1 =
-        same_entry line h.0 h.1 k.1 h.3 (subst (λ one. IsEntryOf line one k.1) answer k.3) in
-        h.4 ∙ ap (λ one. one ∷ []) entry ∙ sym k.4
+        let item : h.1 ≡ k.1 =
+        same_item line h.0 h.1 k.1 h.3 (subst (λ one. IsItemOf line one k.1) answer k.3) in
+        h.4 ∙ ap (λ one. one ∷ []) item ∙ sym k.4
 
-    told_same : (life : List Item) (line : LineForm) (a b : List TrailEntry) → IsLineTold account registry life line a
+    told_same : (life : List Item) (line : LineForm) (a b : List WrittenItem) → IsLineTold account registry life line a
         → IsLineTold account registry life line b → a ≡ b
     told_same life line a b h k = told_same_at life line (is_over life) a b h k
 
     -- what a firing adds to a trail is one
-    told_firing_same : (life : List Item) (firing : Firing) (a b : List TrailEntry)
+    told_firing_same : (life : List Item) (firing : Firing) (a b : List WrittenItem)
         → IsToldFiring account registry life firing a → IsToldFiring account registry life firing b → a ≡ b
     told_firing_same life firing a b h k =
         ⊎_elim
@@ -109,7 +109,7 @@ module _ (one_reply : (account : Account) (registry : Registry) (life : List Ite
         (λ unseen. ⊎_elim (λ seen. absurd (unseen.0 seen.0)) (λ too. unseen.1 ∙ sym too.1) k)
         h
 
-    same_trail : (view : List Reached) (a b : List TrailEntry) → IsTrailOf account registry view a
+    same_trail : (view : List Reached) (a b : List WrittenItem) → IsTrailOf account registry view a
         → IsTrailOf account registry view b → a ≡ b
     same_trail [] a b h k = h ∙ sym k
     same_trail (own_line line ∷ view) a b h k =

@@ -16,9 +16,9 @@ use Rattle.dt_proto.specs.Line.{ask_in}
 use Rattle.dt_proto.specs.Lines.{LineForm, short_line, long_line}
 use Rattle.dt_proto.specs.Reply.{reply_text}
 use Rattle.dt_proto.specs.Splits.{with_newline}
-use Rattle.dt_proto.specs.Trail.{TrailEntry, line_asked, long_asked, fired_at, entry_text, IsEntryOf, IsTrailOf}
+use Rattle.dt_proto.specs.Trail.{WrittenItem, line_asked, long_asked, fired_at, item_text, IsItemOf, IsTrailOf}
 use Rattle.dt_proto.specs.Trail.{IsLineTold as IsTrailOfLine, trail_text}
-use Rattle.dt_proto.specs.laws.Entries.{reply_line_of}
+use Rattle.dt_proto.specs.laws.TrailItems.{reply_line_of}
 use Rattle.dt_world.specs.Told.{line_told, answer_told}
 use Rattle.dt_life.specs.Tests.{is_seen}
 use Rattle.dt_proto.specs.Views.{life_of}
@@ -28,33 +28,33 @@ use Rattle.dt_life.specs.laws.Seeing.{seen_from, seen_to}
 -- The text is the trail of this view.
 abbrev pub IsTrail : Account → Registry → List Reached → List ℕ → Type 0
 IsTrail account registry view text =
-    (entries : List TrailEntry) × IsTrailOf account registry view entries × (text ≡ trail_text account.name entries)
+    (items : List WrittenItem) × IsTrailOf account registry view items × (text ≡ trail_text account.name items)
 
--- the text of a trail with entries added
-trail_text-append : (name : List ℕ) (earlier new : List TrailEntry)
-    → trail_text name (earlier ++ new) ≡ trail_text name earlier ++ flat_map entry_text new
+-- the text of a trail with items added
+trail_text-append : (name : List ℕ) (earlier new : List WrittenItem)
+    → trail_text name (earlier ++ new) ≡ trail_text name earlier ++ flat_map item_text new
 trail_text-append name earlier new =
-    ap (λ more. with_newline (codes "account " ++ name) ++ more) (flat_map-append entry_text earlier new)
-    ∙ sym (append_assoc (with_newline (codes "account " ++ name)) (flat_map entry_text earlier)
-    (flat_map entry_text new))
+    ap (λ more. with_newline (codes "account " ++ name) ++ more) (flat_map-append item_text earlier new)
+    ∙ sym (append_assoc (with_newline (codes "account " ++ name)) (flat_map item_text earlier)
+    (flat_map item_text new))
 
--- the entry of a line and its reply
-abbrev entry_of : LineForm → (reply : List ℕ) → TrailEntry
-entry_of (short_line line) reply = line_asked line reply
-entry_of long_line reply = long_asked reply
+-- the item of a line and its reply
+abbrev item_of : LineForm → (reply : List ℕ) → WrittenItem
+item_of (short_line line) reply = line_asked line reply
+item_of long_line reply = long_asked reply
 
-is_entry : (line : LineForm) (answer : Answer) (reply : List ℕ) → with_newline reply ≡ reply_text answer
-    → IsEntryOf line answer (entry_of line reply)
-is_entry (short_line line) answer reply is = (reply, refl, is)
-is_entry long_line answer reply is = (reply, refl, is)
+is_item : (line : LineForm) (answer : Answer) (reply : List ℕ) → with_newline reply ≡ reply_text answer
+    → IsItemOf line answer (item_of line reply)
+is_item (short_line line) answer reply is = (reply, refl, is)
+is_item long_line answer reply is = (reply, refl, is)
 
-text_of_entry : (line : LineForm) (answer : Answer) (reply : List ℕ) → with_newline reply ≡ reply_text answer
-    → flat_map entry_text (entry_of line reply ∷ []) ≡ line_told line ++ (codes "reply " ++ reply_text answer)
-text_of_entry (short_line line) answer reply is =
-    append-nil (entry_text (line_asked line reply))
+text_of_item : (line : LineForm) (answer : Answer) (reply : List ℕ) → with_newline reply ≡ reply_text answer
+    → flat_map item_text (item_of line reply ∷ []) ≡ line_told line ++ (codes "reply " ++ reply_text answer)
+text_of_item (short_line line) answer reply is =
+    append-nil (item_text (line_asked line reply))
     ∙ ap (λ more. line_told (short_line line) ++ (codes "reply " ++ more)) is
-text_of_entry long_line answer reply is =
-    append-nil (entry_text (long_asked reply)) ∙ ap (λ more. line_told long_line ++ (codes "reply " ++ more)) is
+text_of_item long_line answer reply is =
+    append-nil (item_text (long_asked reply)) ∙ ap (λ more. line_told long_line ++ (codes "reply " ++ more)) is
 
 module _ (account : Account) (registry : Registry) (view : List Reached) where
   -- a session that begins
@@ -76,17 +76,17 @@ module _ (account : Account) (registry : Registry) (view : List Reached) where
   answered_at line answer false text replies full told =
       let life = life_of account registry view in
       let reply = reply_line_of answer in
-      let entry = entry_of line reply.0 in
-      let new : IsTrailOfLine account registry life line (entry ∷ []) =
-      subst (λ is_full. MatchBool is_full (entry ∷ [] ≡ []) ((told_answer : Answer) × (told_entry : TrailEntry)
-      × Replies account registry life (ask_in line) told_answer × IsEntryOf line told_answer told_entry
-      × (entry ∷ [] ≡ told_entry ∷ []))) full
-      (answer, entry, replies, is_entry line answer reply.0 reply.1, refl) in (
-        told.0 ++ entry ∷ [],
-        (life, told.0, entry ∷ [], is_life account registry view, told.1, new, refl),
+      let item = item_of line reply.0 in
+      let new : IsTrailOfLine account registry life line (item ∷ []) =
+      subst (λ is_full. MatchBool is_full (item ∷ [] ≡ []) ((told_answer : Answer) × (told_item : WrittenItem)
+      × Replies account registry life (ask_in line) told_answer × IsItemOf line told_answer told_item
+      × (item ∷ [] ≡ told_item ∷ []))) full
+      (answer, item, replies, is_item line answer reply.0 reply.1, refl) in (
+        told.0 ++ item ∷ [],
+        (life, told.0, item ∷ [], is_life account registry view, told.1, new, refl),
         rw (told.2) (ap (λ more. trail_text account.name told.0 ++ more)
-            (sym (text_of_entry line answer reply.0 reply.1))
-            ∙ sym (trail_text-append account.name told.0 (entry ∷ []))),
+            (sym (text_of_item line answer reply.0 reply.1))
+            ∙ sym (trail_text-append account.name told.0 (item ∷ []))),
       )
 
   pub trail-answered : (line : LineForm) (reply : List ℕ) (over : Bool) (text : List ℕ)
@@ -100,22 +100,22 @@ module _ (account : Account) (registry : Registry) (view : List Reached) where
   -- a firing was seen
   pub trail-seen : (firing : Firing) (text : List ℕ)
       → is_seen account registry (life_of account registry view) firing ≡ true → IsTrail account registry view text
-      → IsTrail account registry (firing_made firing ∷ view) (text ++ entry_text (fired_at firing.cpu firing.place))
+      → IsTrail account registry (firing_made firing ∷ view) (text ++ item_text (fired_at firing.cpu firing.place))
   trail-seen firing text seen told =
       let life = life_of account registry view in
-      let entry = fired_at firing.cpu firing.place in (
-        told.0 ++ entry ∷ [],
+      let item = fired_at firing.cpu firing.place in (
+        told.0 ++ item ∷ [],
         (
           life,
           told.0,
-          entry ∷ [],
+          item ∷ [],
           is_life account registry view,
           told.1,
           inl (seen_from account registry life firing seen, refl),
           refl,
         ),
-        rw (told.2) (ap (λ more. trail_text account.name told.0 ++ more) (sym (append-nil (entry_text entry)))
-            ∙ sym (trail_text-append account.name told.0 (entry ∷ []))),
+        rw (told.2) (ap (λ more. trail_text account.name told.0 ++ more) (sym (append-nil (item_text item)))
+            ∙ sym (trail_text-append account.name told.0 (item ∷ []))),
       )
 
   -- a firing was not seen

@@ -14,7 +14,7 @@ use Rattle.dt_life.specs.Life.{is_over}
 use Rattle.dt_proto.specs.Lines.{LineForm}
 use Rattle.dt_proto.specs.Session.{session_account}
 use Rattle.dt_proto.specs.Splits.{with_newline}
-use Rattle.dt_proto.specs.Trail.{fired_at, entry_text}
+use Rattle.dt_proto.specs.Trail.{fired_at, item_text}
 use Rattle.dt_proto.specs.Alone.{IsText}
 use Rattle.dt_world.specs.Replay.{IsTrailText, told_line}
 use Rattle.dt_steps.specs.Stands.{IsAnswered, first_account, place_of, sees_on, seen_in}
@@ -269,8 +269,8 @@ module _ (registry : Registry) (world : World) where
       → session.go ≡ Some pending → IsSoundWorld registry world → false ≡ is_over (life_in registry session)
   within_quota at session pending is go sound =
       let seat = sound.seats at in
-      let entered = rw is at seat in
-      sym ((entered.1.accepted pending go).0)
+      let is_sound = rw is at seat in
+      sym ((is_sound.1.accepted pending go).0)
 
   -- Open
   record Opens (later : World) (at : ℕ) : Type 0 where
@@ -416,9 +416,9 @@ module _ (registry : Registry) (world : World) where
             firing.place)
         sees_case due true is seen =
             let one : firing ≡ due.firing = cc in
-            let entry = entry_text (fired_at due.firing.cpu due.firing.place) in
-            rw (one, cond_and (at == own) (is_some (first_account (world.places at))) entry [])
-            (offered_case own cpu at text (cond (is_some (first_account (world.places at))) entry []) due
+            let item = item_text (fired_at due.firing.cpu due.firing.place) in
+            rw (one, cond_and (at == own) (is_some (first_account (world.places at))) item [])
+            (offered_case own cpu at text (cond (is_some (first_account (world.places at))) item []) due
             (offered-seen registry due (world.places at) text is) told)
         sees_case due false is seen = cc
 

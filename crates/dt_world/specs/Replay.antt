@@ -7,7 +7,7 @@ use Rattle.dt_chain.specs.Limits.{seat_count}
 use Rattle.dt_machine.specs.Registry.{Registry, Contents, firing_at}
 use Rattle.dt_cred.specs.declared.firing.Firing.{Firing}
 use Rattle.dt_proto.specs.Lines.{line_form}
-use Rattle.dt_proto.specs.Trail.{TrailEntry, IsTrailOf, trail_text}
+use Rattle.dt_proto.specs.Trail.{WrittenItem, IsTrailOf, trail_text}
 use Rattle.dt_world.specs.Input.{AreStepLines, input_lines}
 use Rattle.dt_steps.specs.Ran.{Told, AreReplies}
 use Rattle.dt_world.specs.StepLine.{StepLineForm, open_line, close_line, withdraw_line, ask_line, publish_line}
@@ -87,8 +87,8 @@ told_line told = decimal told.0 ++ (codes " " ++ told.1)
 -- the trail of a session; without one there is nothing
 abbrev pub IsTrailText : Registry → Option Session → List ℕ → Type 0
 IsTrailText registry session output = MatchOption session (output ≡ [])
-    (λ s. (entries : List TrailEntry) × IsTrailOf s.account registry s.view entries
-    × (output ≡ trail_text s.account.name entries))
+    (λ s. (items : List WrittenItem) × IsTrailOf s.account registry s.view items
+    × (output ≡ trail_text s.account.name items))
 
 -- What is written for an input on a machine: the replies, each on a line of its own.
 pub record IsReplay (contents : Contents) (text output : List ℕ) : Type 0 where

@@ -1,5 +1,5 @@
 -- What a replay writes, and why it fails: from the bytes of a machine file and of an input to those that are written.
-use Rattle.std.specs.Prelude.{◌≡◌, ◌≢◌, ℕ, List, Option, IfSome, take}
+use Rattle.std.specs.Prelude.{◌≡◌, ◌≢◌, ℕ, List, Option, Result, IfErr, IfSome, OnOk, take}
 use Rattle.std.specs.Io.KnownBytes.{Appends, Keeps}
 use Rattle.dt_machine.specs.Reading.{IsDescribed, IsFaultOf}
 use Rattle.dt_machine.specs.Registry.{Contents}
@@ -32,3 +32,16 @@ module _ (IsWanted : Contents → (text output : List ℕ) → Type 0) (file : L
     pub beginning_written : fault ≡ Write → IfSome input (λ text.
         (contents : Contents) × (output : List ℕ) × (count : ℕ) × IsDescribed file contents
         × IsWanted contents text output × Appends before after (take count output))
+
+-- How a replay of a machine file ends that has this result, by its reader and its writer before it and after it. What the
+-- reader still has, and what the writer has taken, is known of some.
+module _ {R W : Type 0} (remaining : R → Option (List ℕ)) (contents : W → Option (List ℕ)) where
+  pub record IsReplayed (IsWanted : Contents → (text output : List ℕ) → Type 0) (file : List ℕ)
+      (reader reader_after : R) (writer writer_after : W) (result : Result (Unit {0}) ReplayFault) : Type 0 where
+    -- What is written is what the definition gives to what was read.
+    pub ok : OnOk result (HasReplayed IsWanted file (remaining reader) (contents writer) (contents writer_after))
+    pub err : IfErr result (HasFailed IsWanted file (remaining reader) (contents writer) (contents writer_after))
+    -- Where the machine file is refused, nothing was read.
+    pub unread : IfErr result (λ fault. IsOfMachine fault → reader_after ≡ reader)
+    -- On any fault but a failed write the writer wasn't even asked: one that fails is never told as a lack of memory.
+    pub untouched : IfErr result (λ fault. fault ≢ Write → writer_after ≡ writer)

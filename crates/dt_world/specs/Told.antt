@@ -5,7 +5,7 @@ use Rattle.dt_cred.specs.declared.account.Account.{Account}
 use Rattle.dt_machine.specs.Registry.{Registry, Contents}
 use Rattle.dt_proto.specs.Lines.{LineForm, short_line, long_line}
 use Rattle.dt_proto.specs.Splits.{with_newline}
-use Rattle.dt_proto.specs.Trail.{fired_at, entry_text}
+use Rattle.dt_proto.specs.Trail.{fired_at, item_text}
 use Rattle.dt_steps.specs.Ran.{Told as Reply, AreReplies}
 use Rattle.dt_world.specs.Replay.{IsReplay, IsTrailReplay, IsTrailText, told_line}
 use Rattle.dt_steps.specs.World.{World, Question, session_of}
@@ -56,7 +56,7 @@ reply_told (wanted.Trail own) seat first line reply over =
 
 -- what is written for a firing that is seen
 abbrev pub firing_told : Wanted → (seat : ℕ) → (first : Bool) → (cpu place : ℕ) → List ℕ
-firing_told wanted seat first cpu place = if follows wanted seat first then entry_text (fired_at cpu place) else []
+firing_told wanted seat first cpu place = if follows wanted seat first then item_text (fired_at cpu place) else []
 
 -- This was written in addition.
 pub record Tells (old new : Output) (more : List ℕ) : Type 0 where

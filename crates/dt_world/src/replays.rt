@@ -1,10 +1,10 @@
 //! A replay: a machine file and step lines, from bytes to bytes.
-ghost use Rattle.std.specs.Prelude.{◌≡◌, ◌≢◌, ℕ, IfOk, IfErr, IfSome, IfNone, OnOk, take};
+ghost use Rattle.std.specs.Prelude.{◌≡◌, ℕ, IfOk, IfErr, IfSome, IfNone, OnOk, take};
 ghost use Rattle.std.specs.Io.KnownBytes.{Appends};
 ghost use Rattle.dt_proto.specs.Splits.{HasNoNewline, IsCut};
-ghost use Rattle.dt_world.specs.Faults.{IsFaultOfReading, IsFaultOfLines, IsOfMachine};
+ghost use Rattle.dt_world.specs.Faults.{IsFaultOfReading, IsFaultOfLines};
 ghost use Rattle.dt_world.specs.Replay.{IsReplay, IsTrailReplay};
-ghost use Rattle.dt_world.specs.Replaying.{HasReplayed, HasFailed};
+ghost use Rattle.dt_world.specs.Replaying.{IsReplayed};
 ghost use Rattle.dt_world.specs.Told.{IsOutput};
 
 use crate::limits::READS_MAX;
@@ -48,15 +48,7 @@ pub fn replay<R: Read, W: Write>(
     reader: &mut R,
     writer: &mut W,
 ) -> Result<(), ReplayFault>
-    // What is written is what the definition gives to what was read.
-    ensures ok { OnOk result (HasReplayed IsReplay machine.now
-        (R.remaining reader.old) (W.contents writer.old) (W.contents writer.new)) }
-    ensures err { IfErr result (HasFailed IsReplay machine.now
-        (R.remaining reader.old) (W.contents writer.old) (W.contents writer.new)) }
-    // Where the machine file is refused, nothing was read.
-    ensures unread { IfErr result (λ fault. IsOfMachine fault → reader.new ≡ reader.old) }
-    // On any fault but a failed write the writer wasn't even asked: one that fails is never told as a lack of memory.
-    ensures untouched { IfErr result (λ fault. fault ≢ ReplayFault.Write → writer.new ≡ writer.old) }
+    ensures { IsReplayed R.remaining W.contents IsReplay machine.now reader.old reader.new writer.old writer.new result }
 {
     replay_as(alloc, Wanted::Replies, machine, reader, writer)
 }
@@ -71,15 +63,7 @@ pub fn replay_trail<R: Read, W: Write>(
     reader: &mut R,
     writer: &mut W,
 ) -> Result<(), ReplayFault>
-    // What is written is what the definition gives to what was read.
-    ensures ok { OnOk result (HasReplayed (λ contents input. IsTrailReplay contents input seat) machine.now
-        (R.remaining reader.old) (W.contents writer.old) (W.contents writer.new)) }
-    ensures err { IfErr result (HasFailed (λ contents input. IsTrailReplay contents input seat) machine.now
-        (R.remaining reader.old) (W.contents writer.old) (W.contents writer.new)) }
-    // Where the machine file is refused, nothing was read.
-    ensures unread { IfErr result (λ fault. IsOfMachine fault → reader.new ≡ reader.old) }
-    // On any fault but a failed write the writer wasn't even asked: one that fails is never told as a lack of memory.
-    ensures untouched { IfErr result (λ fault. fault ≢ ReplayFault.Write → writer.new ≡ writer.old) }
+    ensures { IsReplayed R.remaining W.contents (λ contents input. IsTrailReplay contents input seat) machine.now reader.old reader.new writer.old writer.new result }
 {
     replay_as(alloc, Wanted::Trail(seat), machine, reader, writer)
 }
@@ -92,15 +76,7 @@ fn replay_as<R: Read, W: Write>(
     reader: &mut R,
     writer: &mut W,
 ) -> Result<(), ReplayFault>
-    // What is written is what the definition gives to what was read.
-    ensures ok { OnOk result (HasReplayed (IsOutput wanted) machine.now
-        (R.remaining reader.old) (W.contents writer.old) (W.contents writer.new)) }
-    ensures err { IfErr result (HasFailed (IsOutput wanted) machine.now
-        (R.remaining reader.old) (W.contents writer.old) (W.contents writer.new)) }
-    // Where the machine file is refused, nothing was read.
-    ensures unread { IfErr result (λ fault. IsOfMachine fault → reader.new ≡ reader.old) }
-    // On any fault but a failed write the writer wasn't even asked: one that fails is never told as a lack of memory.
-    ensures untouched { IfErr result (λ fault. fault ≢ ReplayFault.Write → writer.new ≡ writer.old) }
+    ensures { IsReplayed R.remaining W.contents (IsOutput wanted) machine.now reader.old reader.new writer.old writer.new result }
 {
     // the machine file goes first: where it is refused, nothing is read of the input
     let machine = match Machine::read(alloc, machine) {

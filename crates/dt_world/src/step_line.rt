@@ -14,12 +14,12 @@ pub enum StepLine<'a> {
     Open { seat: Seat, account: &'a [u8] },
     /// `close <seat>`: the session on the seat ends.
     Close { seat: Seat },
-    /// `withdraw <seat>`: the seat's entry goes.
+    /// `withdraw <seat>`: the seat's publication is withdrawn.
     Withdraw { seat: Seat },
     /// `ask <seat> <line>`: the session on the seat asks this line, which is all that stands behind the blank; it may be
     /// empty.
     Ask { seat: Seat, line: &'a [u8] },
-    /// `publish <seat>`: what a pending `go` is interested in becomes the seat's entry.
+    /// `publish <seat>`: what a pending `go` is interested in is published, as the seat's publication.
     Publish { seat: Seat },
     /// `finish <seat>`: a pending `go` takes effect.
     Finish { seat: Seat },

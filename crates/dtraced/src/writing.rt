@@ -1,10 +1,9 @@
 //! What a replay and a check write on given streams.
-ghost use Rattle.std.specs.Prelude.{◌≡◌, ◌≢◌, ◌++◌, Err, IfErr, IfOk, OnOk, codes};
+ghost use Rattle.std.specs.Prelude.{◌≡◌, ◌++◌, Err, IfErr, IfOk, OnOk, codes};
 ghost use Rattle.std.specs.Io.KnownBytes.{Appends, Keeps};
 ghost use Rattle.dt_alone.specs.VerdictText.{verdict_text};
 ghost use Rattle.dt_alone.specs.Verdicts.{IsTrail, IsVerdictOn};
-ghost use Rattle.dt_world.specs.Faults.{IsOfMachine};
-ghost use Rattle.dt_world.specs.Replaying.{HasReplayed, HasFailed};
+ghost use Rattle.dt_world.specs.Replaying.{IsReplayed};
 ghost use Rattle.dtraced.specs.Status.{IsOfCheck};
 ghost use Rattle.dtraced.specs.Writing.{IsWritten};
 
@@ -24,15 +23,8 @@ pub fn write_replay<R: Read, W: Write>(
     reader: &mut R,
     writer: &mut W,
 ) -> Result<(), ReplayFault>
-    // What is written is what the definition gives to what was read.
-    ensures ok { OnOk result (HasReplayed (IsWritten trail) machine.now
-        (R.remaining reader.old) (W.contents writer.old) (W.contents writer.new)) }
-    ensures err { IfErr result (HasFailed (IsWritten trail) machine.now
-        (R.remaining reader.old) (W.contents writer.old) (W.contents writer.new)) }
-    // Where the machine file is refused, nothing was read.
-    ensures unread { IfErr result (λ fault. IsOfMachine fault → reader.new ≡ reader.old) }
-    // On any fault but a failed write the writer wasn't even asked: one that fails is never told as a lack of memory.
-    ensures untouched { IfErr result (λ fault. fault ≢ ReplayFault.Write → writer.new ≡ writer.old) }
+    ensures { IsReplayed R.remaining W.contents (IsWritten trail) machine.now reader.old reader.new writer.old writer.new
+        result }
 {
     match trail {
         Some(seat) => replay_trail(alloc, machine, seat, reader, writer),

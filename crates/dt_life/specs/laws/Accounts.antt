@@ -4,7 +4,7 @@ use Rattle.std.proofs.Common.{Result, Ok, Err, map, sum, length, MatchBool, Matc
 use Rattle.std.proofs.Math.Path.{fun_ext}
 use Rattle.std.specs.Bool.{nat_le}
 use Rattle.std.specs.List.{find, range_with_len}
-use Rattle.std.specs.Option.{option_and_then, option_map, option_map_or, option_or}
+use Rattle.std.specs.Option.{is_none, option_and_then, option_map, option_map_or, option_or}
 use Rattle.dt_aggstore.specs.Chosen.{drops}
 use Rattle.dt_aggstore.specs.History as store
 use Rattle.dt_aggstore.specs.TableOf.{table_of}
@@ -246,10 +246,12 @@ module _ (account : Account) (name : List ℕ) (registry : Registry) where
         (λ s. ap drops (given_alike s cpu))))
 
     enabled_too : (late : Bool) (clauses : List ClauseForm) (s : SetUp) (verdict : Option Refusal)
-        → MatchBool late (verdict ≡ Some refusal.Busy) ((v : Verdict)
+        → MatchOption (cond late (Some refusal.Busy) None) ((v : Verdict)
         × IsVerdict other registry (shapes_in s) (next_epid other registry s) clauses v × (verdict ≡ refusal_of v))
-        → MatchBool late (verdict ≡ Some refusal.Busy) ((v : Verdict)
+        (λ why. verdict ≡ Some why)
+        → MatchOption (cond late (Some refusal.Busy) None) ((v : Verdict)
         × IsVerdict account registry (shapes_in s) (next_epid account registry s) clauses v × (verdict ≡ refusal_of v))
+        (λ why. verdict ≡ Some why)
     enabled_too true clauses s verdict h = h
     enabled_too false clauses s verdict h = (
       h.0,
@@ -262,12 +264,12 @@ module _ (account : Account) (name : List ℕ) (registry : Registry) where
         → IsVerdictOnCommand account registry life ask verdict
     verdict_too (option setting) verdict h =
         subst (λ s. verdict ≡ cond (not (is_inactive (phase_of s))) (Some refusal.Busy)
-        (option_map_or (λ _. None) setting (Some refusal.Option))) (set_up_alike life) h
+        (cond (is_none setting) (Some refusal.Option) None)) (set_up_alike life) h
     verdict_too (enable (program clauses)) verdict h =
         enabled_too (not (is_inactive (phase_of now))) clauses now verdict
-        (subst (λ s. MatchBool (not (is_inactive (phase_of s))) (verdict ≡ Some refusal.Busy) ((v : Verdict)
-        × IsVerdict other registry (shapes_in s) (next_epid other registry s) clauses v × (verdict ≡ refusal_of v)))
-        (set_up_alike life) h)
+        (subst (λ s. MatchOption (cond (not (is_inactive (phase_of s))) (Some refusal.Busy) None) ((v : Verdict)
+        × IsVerdict other registry (shapes_in s) (next_epid other registry s) clauses v × (verdict ≡ refusal_of v))
+        (λ why. verdict ≡ Some why)) (set_up_alike life) h)
     verdict_too (enable (fault at why)) verdict h =
         subst (λ s. verdict ≡ cond (not (is_inactive (phase_of s))) (Some refusal.Busy) (Some (refusal.Program at why)))
         (set_up_alike life) h
@@ -276,25 +278,25 @@ module _ (account : Account) (name : List ℕ) (registry : Registry) where
         (set_up_alike life) h
     verdict_too go verdict h = h ∙ of_set_up
         (λ s. cond (not (is_inactive (phase_of s))) (Some refusal.Busy)
-        (cond (has_room other registry s) None (Some refusal.Limit)))
+        (cond (not (has_room other registry s)) (Some refusal.Limit) None))
         (λ s. cond (not (is_inactive (phase_of s))) (Some refusal.Busy)
-        (cond (has_room account registry s) None (Some refusal.Limit)))
-        (λ s. ap (λ room. cond (not (is_inactive (phase_of s))) (Some refusal.Busy) (cond room None (Some refusal.Limit)))
+        (cond (not (has_room account registry s)) (Some refusal.Limit) None))
+        (λ s. ap (λ room. cond (not (is_inactive (phase_of s))) (Some refusal.Busy) (cond (not room) (Some refusal.Limit) None))
         (room_alike s))
     verdict_too stop verdict h =
-        h ∙ ap (λ s. cond (is_active (phase_of s)) None (Some refusal.Busy)) (set_up_alike life)
+        h ∙ ap (λ s. cond (not (is_active (phase_of s))) (Some refusal.Busy) None) (set_up_alike life)
     verdict_too (snap cpu) verdict h =
         h ∙ ap (λ s. cond (nat_le registry.cpus cpu) (Some refusal.NoCpu)
-        (cond (is_readable s (phase_of s)) None (Some refusal.Busy))) (set_up_alike life)
+        (cond (not (is_readable s (phase_of s))) (Some refusal.Busy) None)) (set_up_alike life)
     verdict_too (agg word) verdict h =
-        h ∙ ap (λ s. option_map_or (λ _. None) (aggregation_of (shapes_in s) word) (Some refusal.NoAgg)) (set_up_alike life)
+        h ∙ ap (λ s. cond (is_none (aggregation_of (shapes_in s) word)) (Some refusal.NoAgg) None) (set_up_alike life)
     verdict_too (trunc word) verdict h =
-        h ∙ ap (λ s. option_map_or (λ _. None) (aggregation_of (shapes_in s) word) (Some refusal.NoAgg)) (set_up_alike life)
+        h ∙ ap (λ s. cond (is_none (aggregation_of (shapes_in s) word)) (Some refusal.NoAgg) None) (set_up_alike life)
     verdict_too status verdict h = h
     verdict_too (list (Err wrong)) verdict h = h
     verdict_too (list (Ok desc)) verdict h = h
     verdict_too (describe epid) verdict h =
-        h ∙ ap (λ found. option_map_or (λ _. None) found (Some refusal.NoEpid)) (found_alike epid)
+        h ∙ ap (λ (found : Option (AProbe × EcbForm)). cond (is_none found) (Some refusal.NoEpid) None) (found_alike epid)
     verdict_too close verdict h = h
 
     accepted_too : (ask : Ask) (answer : Answer) → Accepted other registry life ask answer

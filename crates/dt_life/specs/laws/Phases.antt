@@ -4,13 +4,13 @@ use Rattle.std.proofs.Common.{◌≡◌, ◌≢◌, ◌&&◌, ◌||◌, Bool, tr
 use Rattle.std.proofs.Common.{Option, Some, None, Ok, Err, refl, ap, ◌∙◌, is_none}
 use Rattle.std.proofs.lemmas.Bool.{and_parts, both_ways}
 use Rattle.std.specs.Bool.{nat_lt}
-use Rattle.std.specs.Option.{option_map, option_map_or}
+use Rattle.std.specs.Option.{option_map_or}
 use Rattle.dt_cred.specs.declared.account.Account.{Account}
 use Rattle.dt_lang.specs.Reads.{program, fault, destructive}
 use Rattle.dt_machine.specs.Registry.{Registry}
 use Rattle.dt_life.specs.Aggregations.{aggregation_of}
 use Rattle.dt_life.specs.Ask.{option, enable, go, stop, snap, agg, trunc, status, list, describe, close}
-use Rattle.dt_life.specs.Ending.{unless_ended, ended_at, ended_by}
+use Rattle.dt_life.specs.Ending.{phase_by_event, phase_by_item}
 use Rattle.dt_life.specs.Life.{Item, asked, fired, SetUp, accepts, after_item, end_by, happens, has_room, is_active}
 use Rattle.dt_life.specs.Life.{is_inactive, is_readable, is_stopped, phase_of}
 use Rattle.dt_life.specs.Life.{shapes_in, since_then, with_event, with_options, with_program}
@@ -25,17 +25,17 @@ module _ (account : Account) (registry : Registry) where
   -- the phase after an event at which tracing may end
   phase_then : (s : SetUp) (event : TracingEvent) (end : Option End) → phase_of (with_event s event) ≡ Active
       → phase_of (option_map_or (λ end. with_event (with_event s event) (ended end)) end (with_event s event))
-      ≡ unless_ended (option_map Some end)
+      ≡ option_map_or (λ end. Stopped (Some end)) end Active
   phase_then s event None active = active
   phase_then s event (Some end) active = refl
 
   phase_happens : (s : SetUp) (event : TracingEvent) → phase_of (with_event s event) ≡ Active
-      → phase_of (happens account registry s event) ≡ unless_ended (ended_at account registry s event)
+      → phase_of (happens account registry s event) ≡ phase_by_event account registry s event
   phase_happens s event active = phase_then s event (end_by account registry (with_event s event) event) active
 
   -- what becomes of a phase by a reading or a truncation: nothing
   pub going_on : (s : SetUp) → phase_of s ≡ Active → (item : Item)
-      → phase_of (after_item account registry s item) ≡ unless_ended (ended_by account registry s item)
+      → phase_of (after_item account registry s item) ≡ phase_by_item account registry s item
   going_on s on (asked (Err why)) = on
   going_on s on (asked (Ok (option None))) = on
   going_on s on (asked (Ok (option (Some setting)))) =
@@ -112,7 +112,7 @@ module _ (account : Account) (registry : Registry) where
   -- An accepted `go`: tracing begins, and ends at once where a clause of BEGIN exits.
   pub beginning : (s : SetUp) → phase_of s ≡ Inactive → has_room account registry s ≡ true
       → phase_of (after_item account registry s (asked (Ok go)))
-      ≡ unless_ended (ended_at account registry (since_then s []) began)
+      ≡ phase_by_event account registry (since_then s []) began
   beginning s quiet room =
       ap (λ p. phase_of (cond (is_inactive p && has_room account registry s)
       (happens account registry (since_then s []) began) s)) quiet

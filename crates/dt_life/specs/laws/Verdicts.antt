@@ -5,7 +5,7 @@ use Rattle.dt_aggstore.specs.declared.key.Aggregation.{Aggregation}
 use Rattle.dt_aggstore.specs.TableOf.{table_of}
 use Rattle.dt_life.specs.Stores.{stores_in}
 use Rattle.std.specs.Bool.{MatchBool, nat_lt}
-use Rattle.std.specs.Option.{MatchOption, option_map_or, is_none}
+use Rattle.std.specs.Option.{MatchOption, is_none}
 use Rattle.std.proofs.lemmas.Bool.{le-leb, lt-leb, le-ltb, lt-ltb}
 use Rattle.dt_cred.specs.declared.account.Account.{Account}
 use Rattle.dt_cred.specs.declared.probe.Probe.{Probe as AProbe}
@@ -77,9 +77,9 @@ module _ (account : Account) (registry : Registry) (life : List Item) where
   pub enable_busy : (reading : Reading) → is_inactive (phase account registry life) ≡ false
       → IsVerdictOnCommand account registry life (enable reading) (Some Busy)
   enable_busy (program clauses) on =
-      let P : Bool → Type 0 = λ b. MatchBool b (Some Busy ≡ Some Busy)
+      let P : Bool → Type 0 = λ b. MatchOption (cond b (Some Busy) None)
       ((v : Verdict) × IsVerdict account registry (shapes_in now) (next_epid account registry now) clauses v
-      × (Some Busy ≡ refusal_of v)) in
+      × (Some Busy ≡ refusal_of v)) (λ refusal. Some Busy ≡ Some refusal) in
       subst P (sym (late on)) refl
   enable_busy (fault at why) on = sym (ap (λ b. cond b (Some Busy) (Some (Program at why))) (late on))
   enable_busy (destructive at what) on =
@@ -112,9 +112,9 @@ module _ (account : Account) (registry : Registry) (life : List Item) where
       (next_epid account registry now) clauses v
       → IsVerdictOnCommand account registry life (enable (program clauses)) (refusal_of v)
   program_verdict clauses v off is =
-      let P : Bool → Type 0 = λ b. MatchBool b (refusal_of v ≡ Some Busy)
+      let P : Bool → Type 0 = λ b. MatchOption (cond b (Some Busy) None)
       ((w : Verdict) × IsVerdict account registry (shapes_in now) (next_epid account registry now) clauses w
-      × (refusal_of v ≡ refusal_of w)) in
+      × (refusal_of v ≡ refusal_of w)) (λ refusal. refusal_of v ≡ Some refusal) in
       subst P (sym (early off)) (v, is, refl)
 
   -- a program that is not enabled leaves the set-up
@@ -146,7 +146,7 @@ module _ (account : Account) (registry : Registry) (life : List Item) where
   pub option_busy : (setting : Option Setting) → is_inactive (phase account registry life) ≡ false
       → IsVerdictOnCommand account registry life (option setting) (Some Busy)
   option_busy setting on =
-      sym (ap (λ b. cond b (Some Busy) (option_map_or (λ _. None) setting (Some refusal.Option))) (late on))
+      sym (ap (λ b. cond b (Some Busy) (cond (is_none setting) (Some refusal.Option) None)) (late on))
 
   pub idle_option : (setting : Option Setting) → is_inactive (phase account registry life) ≡ false
       → set_up account registry (asked (Ok (option setting)) ∷ life) ≡ now
@@ -174,28 +174,25 @@ module _ (account : Account) (registry : Registry) (life : List Item) where
   set_by setting off = ap (λ b. cond b (with_options now (with_setting now.options setting)) now) (idle_is off)
 
   -- `go`
-  by_room : Bool → Option Refusal
-  by_room b = cond b None (Some Limit)
-
   pub go_busy : is_inactive (phase account registry life) ≡ false
       → IsVerdictOnCommand account registry life go (Some Busy)
-  go_busy on = sym (ap (λ b. cond b (Some Busy) (cond (has_room account registry now) None (Some Limit))) (late on))
+  go_busy on = sym (ap (λ b. cond b (Some Busy) (cond (not (has_room account registry now)) (Some Limit) None)) (late on))
 
   pub go_taken : phase account registry life ≡ Inactive
       → has_room account registry (set_up account registry life) ≡ true
       → IsVerdictOnCommand account registry life go None
   go_taken off room =
       sym
-      (ap (λ b. cond b (Some Busy) (cond (has_room account registry now) None (Some Limit))) (early off)
-      ∙ ap (λ b. cond b None (Some Limit)) room)
+      (ap (λ b. cond b (Some Busy) (cond (not (has_room account registry now)) (Some Limit) None)) (early off)
+      ∙ ap (λ b. cond (not b) (Some Limit) None) room)
 
   pub go_limited : phase account registry life ≡ Inactive
       → has_room account registry (set_up account registry life) ≡ false
       → IsVerdictOnCommand account registry life go (Some Limit)
   go_limited off room =
       sym
-      (ap (λ b. cond b (Some Busy) (cond (has_room account registry now) None (Some Limit))) (early off)
-      ∙ ap (λ b. cond b None (Some Limit)) room)
+      (ap (λ b. cond b (Some Busy) (cond (not (has_room account registry now)) (Some Limit) None)) (early off)
+      ∙ ap (λ b. cond (not b) (Some Limit) None) room)
 
   abbrev begun : SetUp
   begun = happens account registry (since_then now []) began
@@ -224,10 +221,10 @@ module _ (account : Account) (registry : Registry) (life : List Item) where
   -- `stop`
   pub stop_busy : is_active (phase account registry life) ≡ false
       → IsVerdictOnCommand account registry life stop (Some Busy)
-  stop_busy e = sym (ap (λ b. cond b None (Some Busy)) e)
+  stop_busy e = sym (ap (λ b. cond (not b) (Some Busy) None) e)
 
   pub stop_taken : phase account registry life ≡ Active → IsVerdictOnCommand account registry life stop None
-  stop_taken on = sym (ap (λ p. cond (is_active p) None (Some Busy)) on)
+  stop_taken on = sym (ap (λ p. cond (not (is_active p)) (Some Busy) None) on)
 
   pub idle_stop : is_active (phase account registry life) ≡ false
       → set_up account registry (asked (Ok stop) ∷ life) ≡ now
@@ -239,7 +236,7 @@ module _ (account : Account) (registry : Registry) (life : List Item) where
 
   -- `snap`
   abbrev by_phase : Bool → Option Refusal
-  by_phase b = cond b None (Some Busy)
+  by_phase b = cond (not b) (Some Busy) None
 
   pub no_cpu : (n : ℕ) → registry.cpus ≤ n → IsVerdictOnCommand account registry life (snap n) (Some NoCpu)
   no_cpu n past =
@@ -281,17 +278,17 @@ module _ (account : Account) (registry : Registry) (life : List Item) where
   idle_past n past = ap
       (λ b. cond (b && is_readable now (phase_of now)) (with_event now (snapped n)) now) (le-ltb n registry.cpus past)
 
-  pub read_by_snap : (n : ℕ) → n < registry.cpus
+  pub snapped_by : (n : ℕ) → n < registry.cpus
       → is_readable (set_up account registry life) (phase account registry life) ≡ true
       → set_up account registry (asked (Ok (snap n)) ∷ life) ≡ with_event (set_up account registry life) (snapped n)
-  read_by_snap n inside on =
+  snapped_by n inside on =
       ap (λ b. cond (b && is_readable now (phase_of now)) (with_event now (snapped n)) now)
       (lt-ltb n registry.cpus inside)
       ∙ ap (λ b. cond b (with_event now (snapped n)) now) on
 
   -- `agg` and `trunc`
   abbrev by_known : Option Aggregation → Option Refusal
-  by_known o = option_map_or (λ (a : Aggregation). None) o (Some NoAgg)
+  by_known o = cond (is_none o) (Some NoAgg) None
 
   pub no_agg : (name : List ℕ) → known account registry life name ≡ None
       → IsVerdictOnCommand account registry life (agg name) (Some NoAgg)
@@ -351,11 +348,11 @@ module _ (account : Account) (registry : Registry) (life : List Item) where
   -- `describe`
   pub no_ecb : (epid : ℕ) → ecb_of account registry life epid ≡ None
       → IsVerdictOnCommand account registry life (describe epid) (Some NoEpid)
-  no_ecb epid none = sym (ap (λ o. option_map_or (λ (found : AProbe × EcbForm). None) o (Some NoEpid)) none)
+  no_ecb epid none = sym (ap (λ (o : Option (AProbe × EcbForm)). cond (is_none o) (Some NoEpid) None) none)
 
   pub some_ecb : (epid : ℕ) (found : AProbe × EcbForm) → ecb_of account registry life epid ≡ Some found
       → IsVerdictOnCommand account registry life (describe epid) None
-  some_ecb epid found is = sym (ap (λ o. option_map_or (λ (found : AProbe × EcbForm). None) o (Some NoEpid)) is)
+  some_ecb epid found is = sym (ap (λ (o : Option (AProbe × EcbForm)). cond (is_none o) (Some NoEpid) None) is)
 
   pub described_by : (epid : ℕ) (found : AProbe × EcbForm) (answer : Answer)
       → ecb_of account registry life epid ≡ Some found

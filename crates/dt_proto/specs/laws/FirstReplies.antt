@@ -20,43 +20,43 @@ use Rattle.dt_proto.specs.Alone.{Reached, own_line, firing_made, Alone}
 use Rattle.dt_proto.specs.Line.{ask_in}
 use Rattle.dt_proto.specs.Lines.{LineForm, short_line, long_line}
 use Rattle.dt_proto.specs.Reply.{reply_text}
-use Rattle.dt_proto.specs.Trail.{TrailEntry, IsEntryOf, IsLineTold, IsToldFiring, IsTrailOf, replies_by, replies_of}
+use Rattle.dt_proto.specs.Trail.{WrittenItem, IsItemOf, IsLineTold, IsToldFiring, IsTrailOf, replies_by, replies_of}
 use Rattle.dt_proto.specs.Views.{life_of}
 use Rattle.dt_proto.specs.laws.Views.{one_life, reply_from}
 
 -- As many lines were answered as the life has, or more than the quota; and the trail tells the first of the answers.
-record IsTold (life : List Item) (entries : List TrailEntry) (answers : List Answer) : Type 0 where
+record IsTold (life : List Item) (items : List WrittenItem) (answers : List Answer) : Type 0 where
   full : is_over life ≡ true → lines_max ≤ length answers
   few : is_over life ≡ false → length answers ≡ lines life
-  told : replies_of entries ≡ map reply_text (take lines_max answers)
+  told : replies_of items ≡ map reply_text (take lines_max answers)
 
 module _ (one_reply : (account : Account) (registry : Registry) (life : List Item) (line : Result Ask Refusal)
     (a b : Answer) → Replies account registry life line a → Replies account registry life line b → a ≡ b) where
   module _ (account : Account) (registry : Registry) where
     -- a line over the quota is answered, and not told
-    told_over : (life : List Item) (line : LineForm) (entries : List TrailEntry) (answers : List Answer) (answer : Answer)
-        → is_over life ≡ true → IsTold life entries answers
-        → IsTold (cond true life (asked (ask_in line) ∷ life)) (entries ++ []) (answers ++ answer ∷ [])
-    told_over life line entries answers answer over before =
+    told_over : (life : List Item) (line : LineForm) (items : List WrittenItem) (answers : List Answer) (answer : Answer)
+        → is_over life ≡ true → IsTold life items answers
+        → IsTold (cond true life (asked (ask_in line) ∷ life)) (items ++ []) (answers ++ answer ∷ [])
+    told_over life line items answers answer over before =
         let long = before.full over in
         record {
           full = λ _. omega (arith, long, length-append answers (answer ∷ []));
           few = λ no. cc;
-          told = ap replies_of (append-nil entries) ∙ before.told
+          told = ap replies_of (append-nil items) ∙ before.told
               ∙ ap (map reply_text) (sym (take-append-le lines_max answers (answer ∷ []) long));
         }
 
-    reply_of_entry : (line : LineForm) (answer : Answer) (entry : TrailEntry) → IsEntryOf line answer entry
-        → replies_by entry ≡ reply_text answer ∷ []
-    reply_of_entry (short_line bytes) answer entry h = ap replies_by h.1 ∙ ap (λ (reply : List ℕ). reply ∷ []) h.2
-    reply_of_entry long_line answer entry h = ap replies_by h.1 ∙ ap (λ (reply : List ℕ). reply ∷ []) h.2
+    reply_of_item : (line : LineForm) (answer : Answer) (item : WrittenItem) → IsItemOf line answer item
+        → replies_by item ≡ reply_text answer ∷ []
+    reply_of_item (short_line bytes) answer item h = ap replies_by h.1 ∙ ap (λ (reply : List ℕ). reply ∷ []) h.2
+    reply_of_item long_line answer item h = ap replies_by h.1 ∙ ap (λ (reply : List ℕ). reply ∷ []) h.2
 
     -- a line within the quota is told with its answer
-    told_within : (life : List Item) (line : LineForm) (entries : List TrailEntry) (entry : TrailEntry)
-        (answers : List Answer) (answer : Answer) → is_over life ≡ false → IsEntryOf line answer entry
-        → IsTold life entries answers
-        → IsTold (asked (ask_in line) ∷ life) (entries ++ entry ∷ []) (answers ++ answer ∷ [])
-    told_within life line entries entry answers answer within is before =
+    told_within : (life : List Item) (line : LineForm) (items : List WrittenItem) (item : WrittenItem)
+        (answers : List Answer) (answer : Answer) → is_over life ≡ false → IsItemOf line answer item
+        → IsTold life items answers
+        → IsTold (asked (ask_in line) ∷ life) (items ++ item ∷ []) (answers ++ answer ∷ [])
+    told_within life line items item answers answer within is before =
         let many : length answers ≡ lines life = before.few within in
         let left : lines life < lines_max = quota_left life within in
         let more = length-append answers (answer ∷ []) in
@@ -64,8 +64,8 @@ module _ (one_reply : (account : Account) (registry : Registry) (life : List Ite
           full = λ over. let most = leb-true lines_max (lines (asked (ask_in line) ∷ life)) over in omega (arith, many, more, most);
           few = λ _. omega (arith, many, more);
           told =
-              flat_map-append replies_by entries (entry ∷ [])
-              ∙ ap (λ (new : List (List ℕ)). replies_of entries ++ (new ++ [])) (reply_of_entry line answer entry is)
+              flat_map-append replies_by items (item ∷ [])
+              ∙ ap (λ (new : List (List ℕ)). replies_of items ++ (new ++ [])) (reply_of_item line answer item is)
               ∙ ap (λ (old : List (List ℕ)). old ++ reply_text answer ∷ []) before.told
               ∙ ap (λ old. map reply_text old ++ reply_text answer ∷ [])
               (take_all lines_max answers (omega (arith, many, left)))
@@ -74,11 +74,11 @@ module _ (one_reply : (account : Account) (registry : Registry) (life : List Ite
               (sym (take_all lines_max (answers ++ answer ∷ []) (omega (arith, many, left, more))));
         }
 
-    told_line : (life : List Item) (line : LineForm) (over : Bool) (earlier new : List TrailEntry)
+    told_line : (life : List Item) (line : LineForm) (over : Bool) (earlier new : List WrittenItem)
         (answers : List Answer) (answer : Answer) → is_over life ≡ over
         → Replies account registry life (ask_in line) answer
-        → MatchBool over (new ≡ []) ((told : Answer) × (entry : TrailEntry)
-        × Replies account registry life (ask_in line) told × IsEntryOf line told entry × (new ≡ entry ∷ []))
+        → MatchBool over (new ≡ []) ((told : Answer) × (item : WrittenItem)
+        × Replies account registry life (ask_in line) told × IsItemOf line told item × (new ≡ item ∷ []))
         → IsTold life earlier answers
         → IsTold (cond over life (asked (ask_in line) ∷ life)) (earlier ++ new) (answers ++ answer ∷ [])
     told_line life line true earlier new answers answer is replies h before =
@@ -87,9 +87,9 @@ module _ (one_reply : (account : Account) (registry : Registry) (life : List Ite
     told_line life line false earlier new answers answer is replies h before =
         let same : h.0 ≡ answer = one_reply account registry life (ask_in line) h.0 answer h.2 replies in
         subst (λ more. IsTold (asked (ask_in line) ∷ life) (earlier ++ more) (answers ++ answer ∷ [])) (sym h.4)
-        (told_within life line earlier h.1 answers answer is (subst (λ a. IsEntryOf line a h.1) same h.3) before)
+        (told_within life line earlier h.1 answers answer is (subst (λ a. IsItemOf line a h.1) same h.3) before)
 
-    told_firing : (life : List Item) (firing : Firing) (seen : Bool) (earlier new : List TrailEntry)
+    told_firing : (life : List Item) (firing : Firing) (seen : Bool) (earlier new : List WrittenItem)
         (answers : List Answer) → IsToldFiring account registry life firing new → IsTold life earlier answers
         → IsTold (cond seen (fired firing ∷ life) life) (earlier ++ new) answers
     told_firing life firing seen earlier new answers h before =
@@ -104,30 +104,30 @@ module _ (one_reply : (account : Account) (registry : Registry) (life : List Ite
         either true told = record { full = before.full; few = before.few; told = told }
         either false told = record { full = before.full; few = before.few; told = told }
 
-    told_view : (view : List Reached) (entries : List TrailEntry) (answers : List Answer)
-        → IsTrailOf account registry view entries → Alone account registry view answers
-        → IsTold (life_of account registry view) entries answers
-    told_view [] entries answers h k =
-        let none : replies_of entries ≡ [] = ap replies_of h in
+    told_view : (view : List Reached) (items : List WrittenItem) (answers : List Answer)
+        → IsTrailOf account registry view items → Alone account registry view answers
+        → IsTold (life_of account registry view) items answers
+    told_view [] items answers h k =
+        let none : replies_of items ≡ [] = ap replies_of h in
         let nothing : map reply_text (take lines_max answers) ≡ [] =
         ap (λ (all : List Answer). map reply_text (take lines_max all)) k in
         record { full = λ over. cc; few = λ _. ap length k; told = none ∙ sym nothing }
-    told_view (own_line line ∷ view) entries answers h k =
+    told_view (own_line line ∷ view) items answers h k =
         let life = life_of account registry view in
         let before = told_view view h.1 k.0 h.4 k.2 in
         let due = reply_from account registry view line k.1 k.3 in
         let told = subst (λ l. IsLineTold account registry l line h.2) (one_life account registry view h.0 h.3) h.5 in
-        subst (λ all. IsTold (after_line life (ask_in line)) entries all) (sym k.4)
+        subst (λ all. IsTold (after_line life (ask_in line)) items all) (sym k.4)
         (subst (λ all. IsTold (after_line life (ask_in line)) all (k.0 ++ k.1 ∷ [])) (sym h.6)
         (told_line life line (is_over life) h.1 h.2 k.0 k.1 refl due told before))
-    told_view (firing_made firing ∷ view) entries answers h k =
+    told_view (firing_made firing ∷ view) items answers h k =
         let life = life_of account registry view in
         let told = subst (λ l. IsToldFiring account registry l firing h.2) (one_life account registry view h.0 h.3) h.5 in
         subst (λ all. IsTold (life_of account registry (firing_made firing ∷ view)) all answers) (sym h.6)
         (told_firing life firing (is_seen account registry life firing) h.1 h.2 answers told
         (told_view view h.1 answers h.4 k))
 
-    pub first_replies : (view : List Reached) (entries : List TrailEntry) (answers : List Answer)
-        → IsTrailOf account registry view entries → Alone account registry view answers
-        → replies_of entries ≡ map reply_text (take lines_max answers)
-    first_replies view entries answers h k = (told_view view entries answers h k).told
+    pub first_replies : (view : List Reached) (items : List WrittenItem) (answers : List Answer)
+        → IsTrailOf account registry view items → Alone account registry view answers
+        → replies_of items ≡ map reply_text (take lines_max answers)
+    first_replies view items answers h k = (told_view view items answers h k).told

@@ -1,4 +1,4 @@
--- The life and the replies that entries tell are those of the view that they tell: entries agree where they are legal
+-- The life and the replies that items tell are those of the view that they tell: items agree where they are legal
 -- and have the replies of that view. Each beginning of a legal trail is legal.
 use Rattle.std.proofs.Common.{◌≡◌, ℕ, ◌↔◌, List, [], ◌∷◌, ◌++◌, length, map, reverse, append_assoc, refl, sym, ap, ◌∙◌}
 use Rattle.std.proofs.Common.{subst, inl, arith, length-append}
@@ -13,7 +13,7 @@ use Rattle.dt_proto.specs.Line.{ask_in}
 use Rattle.dt_proto.specs.Lines.{LineForm, line_form, long_line}
 use Rattle.dt_proto.specs.Reply.{reply_text}
 use Rattle.dt_proto.specs.Splits.{with_newline}
-use Rattle.dt_proto.specs.Trail.{TrailEntry, line_asked, long_asked, fired_at, replies_by, replies_of}
+use Rattle.dt_proto.specs.Trail.{WrittenItem, line_asked, long_asked, fired_at, replies_by, replies_of}
 use Rattle.dt_proto.specs.Legal.{Agrees, IsLegal, life_of_trail}
 use Rattle.dt_proto.specs.Told.{AreRepliesAlone, view_told}
 use Rattle.dt_proto.specs.Views.{life_of}
@@ -36,12 +36,12 @@ same_last (w ∷ xs) (z ∷ ys) x y e =
     (whole, both.1)
 
 -- the replies that a past tells, the oldest first
-abbrev replies_told : List TrailEntry → List (List ℕ)
+abbrev replies_told : List WrittenItem → List (List ℕ)
 replies_told [] = []
-replies_told (entry ∷ past) = replies_told past ++ replies_by entry
+replies_told (item ∷ past) = replies_told past ++ replies_by item
 
 module _ (account : Account) (contents : Contents) where
-  abbrev lived : List TrailEntry → List Item
+  abbrev lived : List WrittenItem → List Item
   lived past = life_of_trail account contents past
 
   pub same_life : (view : List Reached) (a b : List Item) → IsLifeOf account contents.registry view a
@@ -49,8 +49,8 @@ module _ (account : Account) (contents : Contents) where
   same_life view a b h k =
       one_life account contents.registry view a h ∙ sym (one_life account contents.registry view b k)
 
-  -- the life that legal entries tell is that of the view that they tell
-  pub lives : (past : List TrailEntry) → IsLegal account contents past
+  -- the life that legal items tell is that of the view that they tell
+  pub lives : (past : List WrittenItem) → IsLegal account contents past
       → IsLifeOf account contents.registry (view_told contents past) (lived past)
   lives [] h = refl
   lives (line_asked line reply ∷ past) h = (lived past, lives past h.0, rw h.1 refl)
@@ -60,32 +60,32 @@ module _ (account : Account) (contents : Contents) where
       rw firing.1 (lived past, lives past h.0, inl (firing.2, refl))
 
   -- as a function
-  pub life_told : (past : List TrailEntry) → IsLegal account contents past
+  pub life_told : (past : List WrittenItem) → IsLegal account contents past
       → lived past ≡ life_of account contents.registry (view_told contents past)
   life_told past h = one_life account contents.registry (view_told contents past) (lived past) (lives past h)
 
   -- what stands before is legal by itself
-  pub legal_before : (later past : List TrailEntry) → IsLegal account contents (later ++ past)
+  pub legal_before : (later past : List WrittenItem) → IsLegal account contents (later ++ past)
       → IsLegal account contents past
   legal_before [] past h = h
-  legal_before (entry ∷ later) past h = legal_before later past h.0
+  legal_before (item ∷ later) past h = legal_before later past h.0
 
-  legal : (past : List TrailEntry) → Agrees account contents past → IsLegal account contents past
+  legal : (past : List WrittenItem) → Agrees account contents past → IsLegal account contents past
   legal [] h = tt
-  legal (entry ∷ past) h = (legal past h.0, h.1)
+  legal (item ∷ past) h = (legal past h.0, h.1)
 
   -- The replies of a past are those of the view that it tells.
-  record IsAnswered (past : List TrailEntry) : Type 0 where
+  record IsAnswered (past : List WrittenItem) : Type 0 where
     answers : List Answer
     alone : Alone account contents.registry (view_told contents past) answers
     told : replies_told past ≡ map reply_text answers
 
   -- what is said of a reply to a line
-  abbrev IsReply : List TrailEntry → LineForm → List ℕ → Type 0
+  abbrev IsReply : List WrittenItem → LineForm → List ℕ → Type 0
   IsReply past form reply = (answer : Answer) × Replies account contents.registry (lived past) (ask_in form) answer
       × (with_newline reply ≡ reply_text answer)
 
-  line_answered : (past : List TrailEntry) (form : LineForm) (reply : List ℕ) (before : IsAnswered past)
+  line_answered : (past : List WrittenItem) (form : LineForm) (reply : List ℕ) (before : IsAnswered past)
       → IsLegal account contents past → (here : IsReply past form reply)
       → Alone account contents.registry (own_line form ∷ view_told contents past) (before.answers ++ here.0 ∷ [])
       × (replies_told past ++ with_newline reply ∷ [] ≡ map reply_text (before.answers ++ here.0 ∷ []))
@@ -96,7 +96,7 @@ module _ (account : Account) (contents : Contents) where
         ∙ sym (map-append reply_text before.answers (here.0 ∷ [])),
   )
 
-  answered : (past : List TrailEntry) → Agrees account contents past → IsAnswered past
+  answered : (past : List WrittenItem) → Agrees account contents past → IsAnswered past
   answered [] h = record { answers = []; alone = refl; told = refl }
   answered (line_asked line reply ∷ past) h =
       let before = answered past h.0 in
@@ -116,7 +116,7 @@ module _ (account : Account) (contents : Contents) where
       }
 
   -- the last reply is the one that is due, and those before it are those of the view before
-  line_right : (past : List TrailEntry) (form : LineForm) (reply : List ℕ) (answers : List Answer)
+  line_right : (past : List WrittenItem) (form : LineForm) (reply : List ℕ) (answers : List Answer)
       → IsLegal account contents past
       → (k : Alone account contents.registry (own_line form ∷ view_told contents past) answers)
       → replies_told past ++ with_newline reply ∷ [] ≡ map reply_text answers
@@ -128,7 +128,7 @@ module _ (account : Account) (contents : Contents) where
       let due = subst (λ l. Replies account contents.registry l (ask_in form) k.1) life k.3.2 in
       (last.0, (k.1, due, last.1))
 
-  agrees : (past : List TrailEntry) (answers : List Answer) → IsLegal account contents past
+  agrees : (past : List WrittenItem) (answers : List Answer) → IsLegal account contents past
       → Alone account contents.registry (view_told contents past) answers → replies_told past ≡ map reply_text answers
       → Agrees account contents past
   agrees [] answers h k e = tt
@@ -142,24 +142,24 @@ module _ (account : Account) (contents : Contents) where
       let firing = h.1.1 in
       (agrees past answers h.0 (rw firing.1 at k) (sym (append-nil (replies_told past)) ∙ e), h.1, tt)
 
--- the replies of entries, told from the newest
-told_first : (past : List TrailEntry) (entry : TrailEntry) → replies_told (past ++ entry ∷ [])
-    ≡ replies_by entry ++ replies_told past
-told_first [] entry = sym (append-nil (replies_by entry))
-told_first (one ∷ past) entry = ap (λ told. told ++ replies_by one) (told_first past entry)
-    ∙ append_assoc (replies_by entry) (replies_told past) (replies_by one)
+-- the replies of items, told from the newest
+told_first : (past : List WrittenItem) (item : WrittenItem) → replies_told (past ++ item ∷ [])
+    ≡ replies_by item ++ replies_told past
+told_first [] item = sym (append-nil (replies_by item))
+told_first (one ∷ past) item = ap (λ told. told ++ replies_by one) (told_first past item)
+    ∙ append_assoc (replies_by item) (replies_told past) (replies_by one)
 
-told_all : (entries : List TrailEntry) → replies_told (reverse entries) ≡ replies_of entries
+told_all : (items : List WrittenItem) → replies_told (reverse items) ≡ replies_of items
 told_all [] = refl
-told_all (entry ∷ entries) = ap replies_told (reverse-append (entry ∷ []) entries)
-    ∙ told_first (reverse entries) entry ∙ ap (λ told. replies_by entry ++ told) (told_all entries)
+told_all (item ∷ items) = ap replies_told (reverse-append (item ∷ []) items)
+    ∙ told_first (reverse items) item ∙ ap (λ told. replies_by item ++ told) (told_all items)
 
-pub agreement : (account : Account) (contents : Contents) (entries : List TrailEntry)
-    → Agrees account contents (reverse entries)
-    ↔ (IsLegal account contents (reverse entries) × AreRepliesAlone account contents entries)
-agreement account contents entries = (
+pub agreement : (account : Account) (contents : Contents) (items : List WrittenItem)
+    → Agrees account contents (reverse items)
+    ↔ (IsLegal account contents (reverse items) × AreRepliesAlone account contents items)
+agreement account contents items = (
   λ h.
-      let all = answered account contents (reverse entries) h in
-      (legal account contents (reverse entries) h, (all.answers, all.alone, sym (told_all entries) ∙ all.told)),
-  λ h. agrees account contents (reverse entries) h.1.0 h.0 h.1.1 (told_all entries ∙ h.1.2),
+      let all = answered account contents (reverse items) h in
+      (legal account contents (reverse items) h, (all.answers, all.alone, sym (told_all items) ∙ all.told)),
+  λ h. agrees account contents (reverse items) h.1.0 h.0 h.1.1 (told_all items ∙ h.1.2),
 )

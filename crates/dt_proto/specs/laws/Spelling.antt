@@ -17,7 +17,7 @@ use Rattle.dt_proto.specs.Line.{ask_in}
 use Rattle.dt_proto.specs.Lines.{LineForm, short_line, long_line}
 use Rattle.dt_proto.specs.Reply.{reply_text}
 use Rattle.dt_proto.specs.Splits.{HasNoNewline, with_newline}
-use Rattle.dt_proto.specs.Trail.{TrailEntry, fired_at, IsWritable, IsEntryOf, IsToldFiring, IsTrailOf}
+use Rattle.dt_proto.specs.Trail.{WrittenItem, fired_at, IsWritable, IsItemOf, IsToldFiring, IsTrailOf}
 use Rattle.dt_proto.specs.Trail.{SpellsTrail, trail_text}
 use Rattle.dt_proto.specs.laws.OneLine.{reply_is_line}
 
@@ -34,15 +34,15 @@ told_line reply answer is =
     let same : reply ≡ line.0 = append_cancel_right reply line.0 (10 ∷ []) (is ∙ line.1) in
     subst HasNoNewline (sym same) line.2
 
-line_writable : (line : LineForm) (answer : Answer) (entry : TrailEntry) → IsOneLine line → IsEntryOf line answer entry
-    → IsWritable entry
-line_writable (short_line bytes) answer entry one h = subst IsWritable (sym h.1) (one, told_line h.0 answer h.2)
-line_writable long_line answer entry one h = subst IsWritable (sym h.1) (told_line h.0 answer h.2)
+line_writable : (line : LineForm) (answer : Answer) (item : WrittenItem) → IsOneLine line → IsItemOf line answer item
+    → IsWritable item
+line_writable (short_line bytes) answer item one h = subst IsWritable (sym h.1) (one, told_line h.0 answer h.2)
+line_writable long_line answer item one h = subst IsWritable (sym h.1) (told_line h.0 answer h.2)
 
-all_after : (entries new : List TrailEntry) → AllByRecursion IsWritable entries → AllByRecursion IsWritable new
-    → AllByRecursion IsWritable (entries ++ new)
+all_after : (items new : List WrittenItem) → AllByRecursion IsWritable items → AllByRecursion IsWritable new
+    → AllByRecursion IsWritable (items ++ new)
 all_after [] new h k = k
-all_after (entry ∷ entries) new h k = (h.0, all_after entries new h.1 k)
+all_after (item ∷ items) new h k = (h.0, all_after items new h.1 k)
 
 module _ (contents : Contents) (sound : IsSound contents) where
   -- the script of a firing's processor, and its place there
@@ -63,15 +63,15 @@ module _ (contents : Contents) (sound : IsSound contents) where
       (omega (arith, cpu, few), omega (arith, place))
 
   module _ (account : Account) where
-    told_writable : (life : List Item) (line : LineForm) (over : Bool) (new : List TrailEntry) → IsOneLine line
-        → MatchBool over (new ≡ []) ((answer : Answer) × (entry : TrailEntry)
-        × Replies account contents.registry life (ask_in line) answer × IsEntryOf line answer entry × (new ≡ entry ∷ []))
+    told_writable : (life : List Item) (line : LineForm) (over : Bool) (new : List WrittenItem) → IsOneLine line
+        → MatchBool over (new ≡ []) ((answer : Answer) × (item : WrittenItem)
+        × Replies account contents.registry life (ask_in line) answer × IsItemOf line answer item × (new ≡ item ∷ []))
         → AllByRecursion IsWritable new
     told_writable life line true new one h = subst (AllByRecursion IsWritable) (sym h) tt
     told_writable life line false new one h =
         subst (AllByRecursion IsWritable) (sym h.4) (line_writable line h.0 h.1 one h.3, tt)
 
-    seen_writable : (life : List Item) (firing : Firing) (new : List TrailEntry)
+    seen_writable : (life : List Item) (firing : Firing) (new : List WrittenItem)
         → firing_at contents.scripts firing.cpu firing.place ≡ Some firing
         → IsToldFiring account contents.registry life firing new → AllByRecursion IsWritable new
     seen_writable life firing new there h =
@@ -80,24 +80,24 @@ module _ (contents : Contents) (sound : IsSound contents) where
         (λ no. subst (AllByRecursion IsWritable) (sym no.1) tt)
         h
 
-    trail_writable : (view : List Reached) (entries : List TrailEntry) → IsBrought contents view → HasOnlyLines view
-        → IsTrailOf account contents.registry view entries → AllByRecursion IsWritable entries
-    trail_writable [] entries brought lines h = subst (AllByRecursion IsWritable) (sym h) tt
-    trail_writable (own_line line ∷ view) entries brought lines h =
+    trail_writable : (view : List Reached) (items : List WrittenItem) → IsBrought contents view → HasOnlyLines view
+        → IsTrailOf account contents.registry view items → AllByRecursion IsWritable items
+    trail_writable [] items brought lines h = subst (AllByRecursion IsWritable) (sym h) tt
+    trail_writable (own_line line ∷ view) items brought lines h =
         subst (AllByRecursion IsWritable) (sym h.6)
         (all_after h.1 h.2 (trail_writable view h.1 brought.0 lines.1 h.4)
         (told_writable h.0 line (is_over h.0) h.2 lines.0 h.5))
-    trail_writable (firing_made firing ∷ view) entries brought lines h =
+    trail_writable (firing_made firing ∷ view) items brought lines h =
         subst (AllByRecursion IsWritable) (sym h.6)
         (all_after h.1 h.2 (trail_writable view h.1 brought.0 lines.1 h.4)
         (seen_writable h.0 firing h.2 brought.1 h.5))
 
-    -- The text of such a trail tells the account's name and the entries.
-    pub trail_spelled : (view : List Reached) (entries : List TrailEntry) → HasNoNewline account.name
-        → IsBrought contents view → HasOnlyLines view → IsTrailOf account contents.registry view entries
-        → SpellsTrail (trail_text account.name entries) account.name entries
-    trail_spelled view entries named brought lines h = record {
+    -- The text of such a trail tells the account's name and the items.
+    pub trail_spelled : (view : List Reached) (items : List WrittenItem) → HasNoNewline account.name
+        → IsBrought contents view → HasOnlyLines view → IsTrailOf account contents.registry view items
+        → SpellsTrail (trail_text account.name items) account.name items
+    trail_spelled view items named brought lines h = record {
       spelled = refl;
       named = named;
-      writable = trail_writable view entries brought lines h;
+      writable = trail_writable view items brought lines h;
     }

@@ -11,19 +11,19 @@ use Rattle.dt_life.specs.Tests.{is_seen}
 use Rattle.dt_life.specs.laws.Seeing.{seen_from, seen_to}
 use Rattle.dt_machine.specs.Registry.{Registry}
 use Rattle.dt_proto.specs.Alone.{Reached, own_line, firing_made, IsLifeOf}
-use Rattle.dt_proto.specs.Trail.{TrailEntry, fired_at, IsLineTold, IsToldFiring, IsTrailOf}
+use Rattle.dt_proto.specs.Trail.{WrittenItem, fired_at, IsLineTold, IsToldFiring, IsTrailOf}
 use Rattle.dt_proto.specs.Views.{life_of, seen_view}
 use Rattle.dt_proto.specs.laws.Views.{is_life, one_life, life-seen_view}
 
 module _ (account : Account) (registry : Registry) where
   -- what a firing adds to a trail, by whether it is seen
-  told_seen : (life : List Item) (firing : Firing) (new : List TrailEntry)
+  told_seen : (life : List Item) (firing : Firing) (new : List WrittenItem)
       → is_seen account registry life firing ≡ true → IsToldFiring account registry life firing new
       → new ≡ fired_at firing.cpu firing.place ∷ []
   told_seen life firing new seen told =
       ⊎_elim (λ yes. yes.1) (λ no. absurd (no.0 (seen_from account registry life firing seen))) told
 
-  told_unseen : (life : List Item) (firing : Firing) (new : List TrailEntry)
+  told_unseen : (life : List Item) (firing : Firing) (new : List WrittenItem)
       → is_seen account registry life firing ≡ false → IsToldFiring account registry life firing new → new ≡ []
   told_unseen life firing new unseen told =
       ⊎_elim
@@ -36,13 +36,13 @@ module _ (account : Account) (registry : Registry) where
       both_ways (is_seen account registry life firing) unseen (seen_to account registry life firing sees)
 
   -- to the seen view
-  firing_kept : (view : List Reached) (firing : Firing) (seen : Bool) (entries earlier new : List TrailEntry)
+  firing_kept : (view : List Reached) (firing : Firing) (seen : Bool) (items earlier new : List WrittenItem)
       → is_seen account registry (life_of account registry view) firing ≡ seen
       → IsTrailOf account registry (seen_view account registry view) earlier
-      → IsToldFiring account registry (life_of account registry view) firing new → entries ≡ earlier ++ new
+      → IsToldFiring account registry (life_of account registry view) firing new → items ≡ earlier ++ new
       → IsTrailOf account registry
-      (cond seen (firing_made firing ∷ seen_view account registry view) (seen_view account registry view)) entries
-  firing_kept view firing true entries earlier new seen h told is = (
+      (cond seen (firing_made firing ∷ seen_view account registry view) (seen_view account registry view)) items
+  firing_kept view firing true items earlier new seen h told is = (
     life_of account registry view,
     earlier,
     new,
@@ -52,15 +52,15 @@ module _ (account : Account) (registry : Registry) where
     told,
     is,
   )
-  firing_kept view firing false entries earlier new seen h told is =
+  firing_kept view firing false items earlier new seen h told is =
       let nothing : new ≡ [] = told_unseen (life_of account registry view) firing new seen told in
-      let same : entries ≡ earlier = is ∙ ap (λ more. earlier ++ more) nothing ∙ append-nil earlier in
+      let same : items ≡ earlier = is ∙ ap (λ more. earlier ++ more) nothing ∙ append-nil earlier in
       subst (IsTrailOf account registry (seen_view account registry view)) (sym same) h
 
-  pub trail_seen : (view : List Reached) (entries : List TrailEntry) → IsTrailOf account registry view entries
-      → IsTrailOf account registry (seen_view account registry view) entries
-  trail_seen [] entries h = h
-  trail_seen (own_line line ∷ view) entries h = (
+  pub trail_seen : (view : List Reached) (items : List WrittenItem) → IsTrailOf account registry view items
+      → IsTrailOf account registry (seen_view account registry view) items
+  trail_seen [] items h = h
+  trail_seen (own_line line ∷ view) items h = (
     life_of account registry view,
     h.1,
     h.2,
@@ -70,20 +70,20 @@ module _ (account : Account) (registry : Registry) where
     subst (λ life. IsLineTold account registry life line h.2) (one_life account registry view h.0 h.3) h.5,
     h.6,
   )
-  trail_seen (firing_made firing ∷ view) entries h =
-      firing_kept view firing (is_seen account registry (life_of account registry view) firing) entries h.1 h.2 refl
+  trail_seen (firing_made firing ∷ view) items h =
+      firing_kept view firing (is_seen account registry (life_of account registry view) firing) items h.1 h.2 refl
       (trail_seen view h.1 h.4)
       (subst (λ life. IsToldFiring account registry life firing h.2) (one_life account registry view h.0 h.3) h.5) h.6
 
   -- from the seen view
-  firing_back : (view : List Reached) (firing : Firing) (seen : Bool) (entries : List TrailEntry)
+  firing_back : (view : List Reached) (firing : Firing) (seen : Bool) (items : List WrittenItem)
       → is_seen account registry (life_of account registry view) firing ≡ seen
-      → ((earlier : List TrailEntry) → IsTrailOf account registry (seen_view account registry view) earlier
+      → ((earlier : List WrittenItem) → IsTrailOf account registry (seen_view account registry view) earlier
       → IsTrailOf account registry view earlier)
       → IsTrailOf account registry
-      (cond seen (firing_made firing ∷ seen_view account registry view) (seen_view account registry view)) entries
-      → IsTrailOf account registry (firing_made firing ∷ view) entries
-  firing_back view firing true entries seen back h = (
+      (cond seen (firing_made firing ∷ seen_view account registry view) (seen_view account registry view)) items
+      → IsTrailOf account registry (firing_made firing ∷ view) items
+  firing_back view firing true items seen back h = (
     life_of account registry view,
     h.1,
     h.2,
@@ -93,20 +93,20 @@ module _ (account : Account) (registry : Registry) where
         (one_life account registry (seen_view account registry view) h.0 h.3 ∙ life-seen_view account registry view) h.5,
     h.6,
   )
-  firing_back view firing false entries seen back h = (
+  firing_back view firing false items seen back h = (
     life_of account registry view,
-    entries,
+    items,
     [],
     is_life account registry view,
-    back entries h,
+    back items h,
     inr (unseen_is (life_of account registry view) firing seen, refl),
-    sym (append-nil entries),
+    sym (append-nil items),
   )
 
-  pub trail_of_seen : (view : List Reached) (entries : List TrailEntry)
-      → IsTrailOf account registry (seen_view account registry view) entries → IsTrailOf account registry view entries
-  trail_of_seen [] entries h = h
-  trail_of_seen (own_line line ∷ view) entries h = (
+  pub trail_of_seen : (view : List Reached) (items : List WrittenItem)
+      → IsTrailOf account registry (seen_view account registry view) items → IsTrailOf account registry view items
+  trail_of_seen [] items h = h
+  trail_of_seen (own_line line ∷ view) items h = (
     life_of account registry view,
     h.1,
     h.2,
@@ -116,6 +116,6 @@ module _ (account : Account) (registry : Registry) where
         (one_life account registry (seen_view account registry view) h.0 h.3 ∙ life-seen_view account registry view) h.5,
     h.6,
   )
-  trail_of_seen (firing_made firing ∷ view) entries h =
-      firing_back view firing (is_seen account registry (life_of account registry view) firing) entries refl
+  trail_of_seen (firing_made firing ∷ view) items h =
+      firing_back view firing (is_seen account registry (life_of account registry view) firing) items refl
       (trail_of_seen view) h

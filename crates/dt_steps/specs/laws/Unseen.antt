@@ -7,7 +7,7 @@ use Rattle.dt_machine.specs.Registry.{Registry}
 use Rattle.dt_cred.specs.declared.firing.Firing.{Firing}
 use Rattle.dt_chain.specs.Writes.{Published}
 use Rattle.dt_life.specs.Life.{Item, phase, ecbs, is_active}
-use Rattle.dt_steps.specs.Sound.{publication_of, IsEntered}
+use Rattle.dt_steps.specs.Sound.{publication_of, IsSoundSession}
 use Rattle.dt_life.specs.Tests.{is_seen}
 use Rattle.dt_chain.specs.Tests.{is_named}
 use Rattle.dt_steps.specs.World.{Pending}
@@ -29,16 +29,16 @@ module _ (registry : Registry) (account : Account) (life : List Item) (n : ℕ) 
   seen_active h = (and_parts _ _ h).0
 
   abbrev pub named_by : Option Published → Option ℕ
-  named_by entry = option_and_then (λ one. cond (is_named registry one firing) (Some one.life) None) entry
+  named_by publication = option_and_then (λ one. cond (is_named registry one firing) (Some one.life) None) publication
 
-  pub unseen_unless_named : (go : Option Pending) (entry : Option Published)
-      → IsEntered registry account life go n entry
-      → option_map_or (λ own. own == n) (named_by entry) false ≡ false → is_seen account registry life firing ≡ false
-  unseen_unless_named go entry entered unnamed =
+  pub unseen_unless_named : (go : Option Pending) (publication : Option Published)
+      → IsSoundSession registry account life go n publication
+      → option_map_or (λ own. own == n) (named_by publication) false ≡ false → is_seen account registry life firing ≡ false
+  unseen_unless_named go publication is_sound unnamed =
       false_from_ne_true (is_seen account registry life firing) (λ seen.
-      let own : entry ≡ Some (publication_of registry account life n) = entered.traces (seen_active seen) in
-      let named : named_by entry ≡ Some n =
+      let own : publication ≡ Some (publication_of registry account life n) = is_sound.traces (seen_active seen) in
+      let named : named_by publication ≡ Some n =
       ap named_by own ∙ ap (λ b. cond b (Some n) None) (named_own seen) in
-      let yes : option_map_or (λ m. m == n) (named_by entry) false ≡ true =
+      let yes : option_map_or (λ m. m == n) (named_by publication) false ≡ true =
       ap (λ o. option_map_or (λ m. m == n) o false) named ∙ eq-eqb n n refl in
-      both_ways (option_map_or (λ m. m == n) (named_by entry) false) unnamed yes)
+      both_ways (option_map_or (λ m. m == n) (named_by publication) false) unnamed yes)

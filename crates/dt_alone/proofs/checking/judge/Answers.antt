@@ -1,13 +1,13 @@
 -- What is to be shown of `judge`.
 use Rattle.std.proofs.Common.{◌+◌, ◌<◌, [], length, get_or, take, drop, reverse, sym, ap, arith}
-use Rattle.dt_alone.specs.Lent.{form_of_lent, entries_of}
-use Rattle.dt_alone.specs.declared.entry.Entry.{Entry}
-use Rattle.dt_alone.specs.declared.entry.Entry.TheVariants.{Line}
+use Rattle.dt_alone.specs.Lent.{form_of_lent, forms_of_lent}
+use Rattle.dt_alone.specs.declared.lent_item.LentItem.{LentItem}
+use Rattle.dt_alone.specs.declared.lent_item.LentItem.TheVariants.{Line}
 use Rattle.dt_alone.proofs.SoFar.{so_far_more, cut_here, length_so_far}
 use Rattle.dt_alone.proofs.checking.judge.Goals as goal
 
--- what stands past the last entry, for a proof
-abbrev past_end : Entry
+-- what stands past the last item, for a proof
+abbrev past_end : LentItem
 past_end = Line (record { ref_ptr = (0, 0); now = [] }) (record { ref_ptr = (0, 0); now = [] })
 
 pub loop-index-init : goal.loop-index-init
@@ -15,27 +15,27 @@ loop-index-init c = record { agreed = tt; after = c.new-judge.ensures c.args.mac
 
 pub loop-index-preserved : goal.loop-index-preserved
 loop-index-preserved c =
-    let entries = c.args.entries.now in
+    let items = c.args.items.now in
     let here = c.loop-index.index in
     let before = c.loop-index.invariant in
-    let within : here < length entries = omega arith in
+    let within : here < length items = omega arith in
     let ruling = rw c.in-Right.is at (c.in_ok-take.ensures c.args.account.now
-    (reverse (entries_of (take here entries))) before.after) in
-    let more = so_far_more form_of_lent entries here past_end within in
+    (reverse (forms_of_lent (take here items))) before.after) in
+    let more = so_far_more form_of_lent items here past_end within in
     record { agreed = rw more (before.agreed, ruling.0, ruling.1); after = rw more ruling.2 }
 
 pub returns-in-Wrong : goal.returns-in-Wrong
 returns-in-Wrong c =
-    let entries = c.args.entries.now in
+    let items = c.args.items.now in
     let here = c.loop-index.index in
     let before = c.loop-index.invariant in
-    let within : here < length entries = omega arith in
+    let within : here < length items = omega arith in
     let ruling = rw c.in-Wrong.is at (c.in_ok-take.ensures c.args.account.now
-    (reverse (entries_of (take here entries))) before.after) in (
-      entries_of (take here entries),
-      entries_of (drop (here + 1) entries),
-      form_of_lent (get_or entries here past_end),
-      cut_here form_of_lent entries here past_end within,
+    (reverse (forms_of_lent (take here items))) before.after) in (
+      forms_of_lent (take here items),
+      forms_of_lent (drop (here + 1) items),
+      form_of_lent (get_or items here past_end),
+      cut_here form_of_lent items here past_end within,
       before.agreed,
       ruling.0,
       ruling.1,
@@ -44,17 +44,17 @@ returns-in-Wrong c =
 
 pub returns-in-OutOfPlace : goal.returns-in-OutOfPlace
 returns-in-OutOfPlace c =
-    let entries = c.args.entries.now in
+    let items = c.args.items.now in
     let here = c.loop-index.index in
     let before = c.loop-index.invariant in
-    let within : here < length entries = omega arith in
+    let within : here < length items = omega arith in
     let ruling = rw c.in-OutOfPlace.is at (c.in_ok-take.ensures c.args.account.now
-    (reverse (entries_of (take here entries))) before.after) in
-    let so_far = length_so_far form_of_lent entries here within in (
-      entries_of (take here entries),
-      entries_of (drop (here + 1) entries),
-      form_of_lent (get_or entries here past_end),
-      cut_here form_of_lent entries here past_end within,
+    (reverse (forms_of_lent (take here items))) before.after) in
+    let so_far = length_so_far form_of_lent items here within in (
+      forms_of_lent (take here items),
+      forms_of_lent (drop (here + 1) items),
+      form_of_lent (get_or items here past_end),
+      cut_here form_of_lent items here past_end within,
       before.agreed,
       ruling,
       ap (λ n. n + 1) (sym so_far),

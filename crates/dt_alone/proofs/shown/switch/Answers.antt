@@ -8,7 +8,7 @@ use Rattle.dt_buffer.specs.laws.Histories.{since-put, since-swap}
 use Rattle.dt_alone.proofs.Showing.{all_more, same_switch, switch_dropped, switch_kept, switch_nothing}
 use Rattle.dt_alone.proofs.shown.switch.Goals as goal
 use Rattle.dt_alone.proofs.shown.switch.Goals.{in-Put+then-more-size+in_ok-extend_from_slice-in-Put}
-use Rattle.dt_alone.proofs.shown.switch.Goals.{in-Put+else-more-size, in-Read, in-Nothing}
+use Rattle.dt_alone.proofs.shown.switch.Goals.{in-Put+else-more-size, in-Snapped, in-Nothing}
 
 pub loop-one-preserved : goal.loop-one-preserved
 loop-one-preserved c =
@@ -51,11 +51,11 @@ loop-one-preserved c =
             within = omega (arith, ap length same, held.within);
             few = omega (arith, w.drops-is, held.few);
           }
-      | in-Read w ↦
+      | in-Snapped w ↦
           let none = ap (λ (v : Vec ℕ). v.items) w.bytes-is ∙ w.clear.ensures.items in
           record {
             shows = same_switch size _ _ _ _ _ _
-                (sym (ap since_swap (more _ w.in-Read.ensures) ∙ since-swap events))
+                (sym (ap since_swap (more _ w.in-Snapped.ensures) ∙ since-swap events))
                 (sym none) (sym w.drops-is) (switch_nothing size);
             within = omega (arith, ap length none);
             few = omega (arith, w.drops-is);

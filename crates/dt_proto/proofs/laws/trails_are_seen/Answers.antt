@@ -3,7 +3,7 @@ use Rattle.dt_proto.specs.laws.Trails.{trail_seen, trail_of_seen}
 use Rattle.dt_proto.proofs.laws.trails_are_seen.Goals as goal
 
 pub returns : goal.returns
-returns c = λ account registry view entries. (
-  trail_seen account registry view entries,
-  trail_of_seen account registry view entries,
+returns c = λ account registry view items. (
+  trail_seen account registry view items,
+  trail_of_seen account registry view items,
 )

@@ -39,7 +39,7 @@ loop-statement-preserved c =
           elim w.match-of.branch [
             | in-Some+in_ok-push w' ↦
                 let made : ℤ → Contribution = λ n. record {
-                  aggregation = w'.in-Some.known.aggregation;
+                  aggregation = w'.in-Some.named.aggregation;
                   key = record { parts = w'.parts_at.result };
                   number = n;
                 } in
@@ -55,7 +55,7 @@ loop-statement-preserved c =
                       ∙ ap (λ es. split_by (uses_by (shapes_of c.args.shapes.now)
                       (map form_of_statement (take c.loop-statement.statement-index c.args.statements.now)))
                       c.args.values.now ++ es)
-                      (sym (given_one w'.in-Some.known.aggregation _ (length a.keys.items) place values _ _
+                      (sym (given_one w'.in-Some.named.aggregation _ (length a.keys.items) place values _ _
                       (sym name ∙ sym w'.in-Some.ensures.is)
                       (w'.parts_at.ensures
                       ∙ ap (λ n. key_at n (drop place values)) long)

@@ -1,6 +1,5 @@
 -- What was taken of the ECBs so far.
-use Rattle.std.proofs.Common.{◌≡◌, ◌≤◌, ◌<◌, ◌+◌, length, map, take}
-use Rattle.std.specs.List.{All}
+use Rattle.std.proofs.Common.{◌≡◌, ◌≤◌, ◌+◌, length, map, take}
 use Rattle.dt_ecb.specs.Forms.{shapes_of}
 use Rattle.dt_lang.specs.Program.{form_of_clause}
 use Rattle.dt_machine.specs.Moment.{form_of_moment}
@@ -10,12 +9,10 @@ use Rattle.dt_alone.proofs.programs.Programs.take.Given as goal
 
 abbrev pub invariant-loop-ecb : goal.invariant-loop-ecb
 invariant-loop-ecb l = record {
-  adds : All (λ ecb. ecb.clause < length l.self.clauses.items) l.self.ecbs.items
-      → AddsTakings (shapes_of l.self.shapes) (form_of_moment l.moment).firing.cpu
+  adds : AddsTakings (shapes_of l.self.shapes) (form_of_moment l.moment).firing.cpu
       (taken l.in_end (form_of_moment l.moment) (map form_of_clause l.self.clauses.items)
       (take l.ecb-index l.ecb-items)) l.fn.happened.items l.happened.items;
-  exit : All (λ ecb. ecb.clause < length l.self.clauses.items) l.self.ecbs.items
-      → l.exit ≡ exited l.in_end (form_of_moment l.moment) (map form_of_clause l.self.clauses.items)
+  exit : l.exit ≡ exited l.in_end (form_of_moment l.moment) (map form_of_clause l.self.clauses.items)
       (take l.ecb-index l.ecb-items);
   few : length l.happened.items ≤ length l.fn.happened.items + l.ecb-index;
 }

@@ -14,15 +14,15 @@ use Rattle.dt_life.specs.Takings.{scene_at}
 use Rattle.dt_alone.proofs.programs.Programs.take_one.Goals as goal
 
 pub returns-in_ok-push-in-Ok-Some-clause-taken : goal.returns-in_ok-push-in-Ok-Some-clause-taken
-returns-in_ok-push-in-Ok-Some-clause-taken c = λ inside.
+returns-in_ok-push-in-Ok-Some-clause-taken c =
     let m = form_of_moment c.args.moment.now in
     let shapes = shapes_of c.args.self.now.shapes in
     let clauses = c.args.self.now.clauses.items in
-    let clause = c.in-Some.clause.now in
+    let clause = c.index-clause.result.now in
+    let inside = c.requires in
     let left = c.in_ok-left-in-Ok-Some.left in
     let form = form_of_taken c.in-Ok-Some.taken in
-    let at = c.in-Some.ensures.lookup.3.1 clause
-    ∙ ap (λ cs. get_or cs c.args.ecb.clause clause) c.deref.ensures.value in
+    let at = c.index-clause.ensures in
     let comes : taking c.args.ecb.epid (scene_at m c.args.ecb.epid) (form_of_clause clause) ≡ leaves form =
     ap (λ (s : SceneForm). taking c.args.ecb.epid s (form_of_clause clause)) (sym c.scene_at.ensures)
     ∙ c.in-Ok-Some.ensures ∙ ap outcome_of c.in-Ok-Some.field-0-is in

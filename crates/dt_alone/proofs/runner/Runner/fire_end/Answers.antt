@@ -1,7 +1,7 @@
 -- END's ECBs were taken.
 use Rattle.std.proofs.Common.{Some, true, refl, sym, ap, ◌∙◌}
 use Rattle.std.specs.Option.{option_copied}
-use Rattle.dt_alone.proofs.Running.{has_since, own_adds, own_placed, told_firing}
+use Rattle.dt_alone.proofs.Running.{has_since, own_adds, told_firing}
 use Rattle.dt_life.specs.Takings.{ended, own_process}
 use Rattle.dt_life.specs.declared.phase.Phase.TheVariants as phases
 use Rattle.dt_life.specs.laws.Moments.{own_is}
@@ -19,5 +19,5 @@ returns-clause-ends c = λ account s end h.
     (Some end)) old _ h refl refl refl h.standing refl h.seen
     (told_firing account registry s (ended end) _ old.since.items c.take.new.happened.items tt m
     (own_adds account registry s (phases.Stopped (Some end)) old h true _ old.since.items c.take.new.happened.items
-    (c.in_ok-_exit.ensures.taken (own_placed account registry s (phases.Stopped (Some end)) old h)))
+    c.in_ok-_exit.ensures.taken)
     h.brings)

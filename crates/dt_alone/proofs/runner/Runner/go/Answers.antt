@@ -1,9 +1,11 @@
 -- Tracing begins.
-use Rattle.std.proofs.Common.{refl, sym, ap, ◌∙◌}
+use Rattle.std.proofs.Common.{map, refl, sym, ap, ◌∙◌, subst}
 use Rattle.std.specs.Option.{option_copied}
 use Rattle.dt_alone.proofs.Replying.{early, go_done, some_room}
 use Rattle.dt_life.specs.declared.limits.TheConstants.{BEGIN}
-use Rattle.dt_life.specs.Life.{has_room, set_up}
+use Rattle.dt_lang.specs.Program.{form_of_clause}
+use Rattle.dt_life.specs.Life.{ecbs_in, has_room, set_up}
+use Rattle.dt_life.specs.Placed.{AreEcbs}
 use Rattle.dt_life.specs.Takings.{began, own_process}
 use Rattle.dt_life.specs.laws.Moments.{own_is}
 use Rattle.dt_alone.proofs.runner.Runner.go.Goals as goal
@@ -13,8 +15,11 @@ returns c = λ account life k.
     let registry = c.args.machine.now.registry in
     let s = set_up account registry life in
     let off = early account registry life c.args.self.now k (sym c.is_inactive.ensures ∙ c.if-not-is_inactive.false) in
-    let room = some_room c.reserve.result (has_room account registry s) c.is_none.result _
-    (c.reserve.ensures.reserve account registry s k.has) c.is_none.ensures c.if-is_none.false in
+    let are = subst (AreEcbs s.clauses (ecbs_in account registry s)) (sym c.deref-2.ensures.value) k.has.ecbs in
+    let room = some_room c.end_reserve.result (has_room account registry s) c.is_none.result _
+    (c.end_reserve.ensures.reserve account registry s k.has.options
+    (ap (map form_of_clause) c.deref.ensures.value ∙ k.has.clauses) are)
+    c.is_none.ensures c.if-is_none.false in
     let m = own_is account registry BEGIN c.unwrap.result.now c.own_process-process.result c.own_firing-firing.result
     (sym (ap option_copied c.unwrap.ensures) ∙ c.probe.ensures.value)
     (c.own_process-process.ensures ∙ ap own_process k.has.same_account) c.own_firing-firing.ensures in

@@ -1,27 +1,17 @@
--- A description is listed as the one reading that it has.
-use Rattle.std.proofs.Common.{Some, None, Ok, Err, refl, ap, ◌∙◌}
-use Rattle.dt_lang.specs.Description.{form_of_description}
-use Rattle.dt_lang.specs.declared.fault.Why.TheVariants.{Probe}
-use Rattle.dt_ecb.specs.Matching as matching
-use Rattle.dt_life.specs.Answer.{listed}
-use Rattle.dt_life.specs.Ask.{description_of, is_described}
-use Rattle.dt_life.specs.declared.refusal.Refusal.TheVariants.{Program}
+-- The reply of a `list`, for the runner's own account.
+use Rattle.std.proofs.Common.{Ok, subst}
+use Rattle.dt_cred.specs.declared.account.Account.{Account}
+use Rattle.dt_life.specs.Answer.{answer_of}
+use Rattle.dt_life.specs.Ask.{list, description_of}
+use Rattle.dt_life.specs.Reply.{RepliesInQuota}
+use Rattle.dt_life.specs.laws.Options.{if_ok_map}
 use Rattle.dt_alone.proofs.runner.Runner.list.Goals as goal
 
-pub returns-in-Err : goal.returns-in-Err
-returns-in-Err c = λ account life h.
-    let text = c.args.text.now in
-    rw (c.one_description.ensures text (description_of text) (Err c.in-Err.field-0) (is_described text) c.in-Err.ensures.fault)
-    (Some (Program 0 Probe), refl, refl)
-
 pub returns : goal.returns
-returns c = λ account life h.
-    let text = c.args.text.now in
-    let form = form_of_description c.in-Ok.description in
-    rw (c.one_description.ensures text (description_of text) (Ok form) (is_described text) c.in-Ok.ensures.found) (
-      None,
-      refl,
-      ap listed (c.in_ok-probes.ensures
-          ∙ ap (λ a. matching.listed a c.args.machine.now.registry (form_of_description c.in-Ok.description))
-          h.same_account),
-    )
+returns c =
+    if_ok_map _ _ c.reply_to_list.result
+    (λ reply h. λ account life has.
+    subst
+    (λ (a : Account). RepliesInQuota a c.args.machine.now.registry life (Ok (list (description_of c.args.text.now)))
+    (answer_of reply)) has.same_account (h life))
+    c.reply_to_list.ensures

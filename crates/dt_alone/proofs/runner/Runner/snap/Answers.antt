@@ -1,8 +1,8 @@
 -- A buffer is read.
-use Rattle.std.proofs.Common.{◌≡◌, ◌-◌, refl, sym, ◌∙◌, arith}
+use Rattle.std.proofs.Common.{◌≡◌, ◌-◌, refl, sym, ap, ◌∙◌, arith}
 use Rattle.dt_alone.proofs.Replying.{room_on, room_other, shows_past, snap_done}
 use Rattle.dt_life.specs.Buffers.{reserve_on}
-use Rattle.dt_life.specs.Life.{set_up}
+use Rattle.dt_life.specs.Life.{is_readable, set_up}
 use Rattle.dt_alone.proofs.runner.Runner.snap.Goals as goal
 use Rattle.dt_alone.proofs.runner.Runner.snap.Goals.{then-cpu-eq0, else-cpu-eq0}
 
@@ -11,7 +11,8 @@ returns c = λ account life k.
     let registry = c.args.machine.now.registry in
     let s = set_up account registry life in
     let r = c.args.self.now in
-    let on = sym (c.is_readable.ensures account registry s k.has) ∙ c.if-not-is_readable.false in
+    let on = sym (c.is_readable.ensures s k.has.options ∙ ap (is_readable s) k.has.standing)
+    ∙ c.if-not-is_readable.false in
     let room : c.if-cpu-eq0.room ≡ c.args.self.now.options.bufsize
     - reserve_on account c.args.machine.now.registry (set_up account c.args.machine.now.registry life) c.args.cpu =
     elim c.if-cpu-eq0.branch [

@@ -1,6 +1,7 @@
 -- The room for tracing, and what is taken at BEGIN.
-use Rattle.std.proofs.Common.{◌≡◌, [], subst}
+use Rattle.std.proofs.Common.{◌≡◌, [], map, sym, ap, ◌∙◌, subst}
 use Rattle.dt_cred.specs.declared.account.Account.{Account}
+use Rattle.dt_lang.specs.Program.{form_of_clause}
 use Rattle.dt_life.specs.Buffers.{reserve_on}
 use Rattle.dt_life.specs.Placed.{AreEcbs}
 use Rattle.dt_consumer.specs.Keeps.{IsTracing}
@@ -16,7 +17,9 @@ returns-clause-drafted c = λ account life m.
     let s = set_up account registry life in
     let k = m.stands.keeps in
     let off = c.is_late.ensures.early account registry life m.stands c.if-is_late.false in
-    let room = c.in-Some.ensures.reserve account registry s k in
+    let are = subst (AreEcbs s.clauses (ecbs_in account registry s)) (sym c.ecbs-ecbs.ensures.value) k.ecbs in
+    let room = c.in-Some.ensures.reserve account registry s k.options
+    (ap (map form_of_clause) c.clauses-clauses.ensures.value ∙ k.clauses) are in
     let own = k.same_account in
     let begun = subst
     (λ (a : Account). AreEcbs s.clauses (ecbs_in a registry s) consumer.programs.ecbs.items

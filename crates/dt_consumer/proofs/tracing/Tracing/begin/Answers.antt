@@ -18,7 +18,7 @@ returns-in_default-clause-traces c = λ s same own kept shaped room.
     (happens_on account registry fresh began
     (end_is account registry (with_event fresh began) began c.in_ok-tracing.exit (0 == c.args.options.histsize) fired.1
     (ap (λ (o : OptionsForm). 0 == o.histsize) (sym same))
-    ∙ sym c.end_after.ensures ∙ c.in_default.is))
+    ∙ sym c.after.ensures ∙ c.in_default.is))
     fired.0
 
 pub returns-clause-traces : goal.returns-clause-traces
@@ -32,5 +32,5 @@ returns-clause-traces c = λ s same own kept shaped room.
     (happens_last account registry fresh began c.in-Some.end
     (end_is account registry next began c.in_ok-tracing.exit (0 == c.args.options.histsize) fired.1
     (ap (λ (o : OptionsForm). 0 == o.histsize) (sym same))
-    ∙ sym c.end_after.ensures ∙ c.in-Some.is))
+    ∙ sym c.after.ensures ∙ c.in-Some.is))
     (c.finish.ensures.ended next fired.0 (ap (map form_of_clause) c.clauses.ensures.value ∙ own))

@@ -1,7 +1,7 @@
 -- Tracing ends without a cause where it goes on.
 use Rattle.std.proofs.Common.{refl}
 use Rattle.dt_life.specs.Takings.{closed}
-use Rattle.dt_consumer.proofs.Reading.{untouched}
+use Rattle.dt_consumer.proofs.Snapping.{untouched}
 use Rattle.dt_life.specs.laws.Stores.{gave_none}
 use Rattle.dt_consumer.proofs.tracing.Tracing.close.Goals as goal
 

@@ -39,7 +39,7 @@ returns-in-Some-clause-seen c = λ s firing t own at.
     c.index-list-in-Some.ensures in
     let ends = end_is account registry next (seen firing) c.take-exit.result _ fired.exited
     (counted_is c.args.self.now.seen _ c.args.self.now.history _ t.seen t.history)
-    ∙ sym c.end_after.ensures ∙ c.in-Some.is in
+    ∙ sym c.after.ensures ∙ c.in-Some.is in
     becomes account registry _ _ _ (happens_last account registry s (seen firing) c.in-Some.end ends)
     (record {
       lists = t.lists;
@@ -75,7 +75,7 @@ returns-in_default-clause-seen c = λ s firing t own at.
     let next = with_event s (seen firing) in
     let stays = end_is account registry next (seen firing) c.take-exit.result _ fired.exited
     (counted_is c.args.self.now.seen _ c.args.self.now.history _ t.seen t.history)
-    ∙ sym c.end_after.ensures ∙ c.in_default.is in
+    ∙ sym c.after.ensures ∙ c.in_default.is in
     becomes account registry _ _ _ (happens_on account registry s (seen firing) stays)
     (record {
       lists = t.lists;
@@ -129,7 +129,7 @@ invariant_of-self-in_default-clause-in_history c =
     subst (λ e. (own.seen + 1) + must_be_left e ≤ own.history) (sym c.requires.going)
     (one_left c.take-exit.result own.seen own.history
     (left_on own.seen own.history own.course c.requires.going own.in_history)
-    (sym c.in_default.is ∙ c.end_after.ensures))
+    (sym c.in_default.is ∙ c.after.ensures))
 
 pub fire_end-requires-clause-gives : goal.fire_end-requires-clause-gives
 fire_end-requires-clause-gives c =

@@ -3,7 +3,7 @@ use Rattle.std.proofs.Common.{◌==◌, ◌∙◌, refl, arith}
 use Rattle.std.proofs.Math.ListN.{length-set}
 use Rattle.dt_life.specs.Buffers.{past_in}
 use Rattle.dt_life.specs.Takings.{snapped}
-use Rattle.dt_consumer.proofs.Reading.{still_with, taken_read, taken_read-past}
+use Rattle.dt_consumer.proofs.Snapping.{still_with, taken_snapped, taken_snapped-past}
 use Rattle.dt_life.specs.laws.Stores.{gave_none}
 use Rattle.dt_consumer.proofs.tracing.Tracing.snap.Goals as goal
 
@@ -13,7 +13,7 @@ returns-then-cpu-len-clause-snapped c = λ account registry s t.
     record {
       lists = t.lists;
       all_lists = t.all_lists;
-      processors = taken_read account registry s all c.args.cpu t.processors c.index_mut.result.now c.snap.new.self
+      processors = taken_snapped account registry s all c.args.cpu t.processors c.index_mut.result.now c.snap.new.self
           (omega arith) c.index_mut.ensures.value c.snap.ensures.stands;
       all_processors = length-set all c.args.cpu c.snap.new.self ∙ t.all_processors;
       uses = t.uses;
@@ -30,7 +30,7 @@ pub returns-else-cpu-len-clause-snapped : goal.returns-else-cpu-len-clause-snapp
 returns-else-cpu-len-clause-snapped c = λ account registry s t. record {
   lists = t.lists;
   all_lists = t.all_lists;
-  processors = taken_read-past account registry s c.args.self.now.processors.all.items c.args.cpu t.processors
+  processors = taken_snapped-past account registry s c.args.self.now.processors.all.items c.args.cpu t.processors
       (omega arith);
   all_processors = t.all_processors;
   uses = t.uses;

@@ -9,7 +9,7 @@ use Rattle.dt_life.specs.Stores.{given_in}
 use Rattle.dt_life.specs.Life.{with_event}
 use Rattle.dt_life.specs.Takings.{truncated}
 use Rattle.dt_consumer.specs.declared.processor.Processor.{Processor}
-use Rattle.dt_consumer.proofs.Reading.{untouched}
+use Rattle.dt_consumer.proofs.Snapping.{untouched}
 use Rattle.dt_life.specs.laws.Stores.{trunc_given}
 use Rattle.dt_consumer.proofs.tracing.Tracing.trunc.Goals as goal
 

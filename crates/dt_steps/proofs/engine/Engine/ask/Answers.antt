@@ -19,7 +19,7 @@ returns-clause-at c =
     IfOk-weaker c.ask.result _ _
     (λ reply does world at. (
       sound-asking registry world at.0 c.args.seat (form_lent c.args.line),
-      (kept-asking registry world seats c.args.self.now.entries c.args.self.now.processors.items at.1 c.number.result
+      (kept-asking registry world seats c.args.self.now.publications c.args.self.now.processors.items at.1 c.number.result
           c.args.seat c.index_mut.result.now found (form_lent c.args.line)
           (option_map (λ answered. answered.text.items) reply) c.ask.new.self does).0,
     ))
@@ -36,7 +36,7 @@ returns-clause-answer c =
     } in
     IfOk-weaker c.ask.result _ _
     (λ reply does world at.
-    (kept-asking registry world seats c.args.self.now.entries c.args.self.now.processors.items at.1 c.number.result
+    (kept-asking registry world seats c.args.self.now.publications c.args.self.now.processors.items at.1 c.number.result
     c.args.seat c.index_mut.result.now found (form_lent c.args.line)
     (option_map (λ answered. answered.text.items) reply) c.ask.new.self does).1)
     c.ask.ensures.asked
@@ -55,6 +55,6 @@ returns-clause-over c =
     some_weaker reply _ _
     (λ answered told world session at is.
     told (world.places c.args.seat) session
-    (held_at registry world seats c.args.self.now.entries c.args.self.now.processors.items at.1 c.number.result
+    (held_at registry world seats c.args.self.now.publications c.args.self.now.processors.items at.1 c.number.result
     c.args.seat c.index_mut.result.now found) is))
     c.ask.ensures.over

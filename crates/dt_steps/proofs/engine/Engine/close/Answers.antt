@@ -12,7 +12,7 @@ returns c = λ registry world few at.
       read = c.index_mut.ensures.value;
     } in (
       sound-closing registry world at.0 c.args.seat,
-      kept-closing registry world seats c.args.self.now.entries c.args.self.now.processors.items at.1 c.number.result
+      kept-closing registry world seats c.args.self.now.publications c.args.self.now.processors.items at.1 c.number.result
           c.args.seat c.index_mut.result.now found c.close.new.self
           (c.close.ensures registry) few,
     )

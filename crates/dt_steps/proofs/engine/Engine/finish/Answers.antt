@@ -15,7 +15,7 @@ returns-clause-at c = λ world at.
       read = c.index_mut.ensures.value;
     } in (
       sound-finishing registry world at.0 c.args.seat,
-      (kept-finishing registry world seats c.args.self.now.entries c.args.self.now.processors.items at.1
+      (kept-finishing registry world seats c.args.self.now.publications c.args.self.now.processors.items at.1
           c.number.result
           c.args.seat c.index_mut.result.now found
           (option_map (λ finished. finished.text.items) c.finish.result) c.finish.new.self c.finish.ensures.finished).0,
@@ -30,7 +30,7 @@ returns-clause-answer c = λ world at.
       low = c.number.ensures.small;
       read = c.index_mut.ensures.value;
     } in
-    (kept-finishing registry world seats c.args.self.now.entries c.args.self.now.processors.items at.1 c.number.result
+    (kept-finishing registry world seats c.args.self.now.publications c.args.self.now.processors.items at.1 c.number.result
     c.args.seat c.index_mut.result.now found
     (option_map (λ finished. finished.text.items) c.finish.result) c.finish.new.self c.finish.ensures.finished).1
 
@@ -46,6 +46,6 @@ returns-clause-line c =
     some_weaker c.finish.result _ _
     (λ finished told world session pending at is.
     told (world.places c.args.seat) session pending
-    (held_at registry world seats c.args.self.now.entries c.args.self.now.processors.items at.1 c.number.result
+    (held_at registry world seats c.args.self.now.publications c.args.self.now.processors.items at.1 c.number.result
     c.args.seat c.index_mut.result.now found) is)
     c.finish.ensures.line

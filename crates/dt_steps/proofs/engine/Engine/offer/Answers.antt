@@ -22,7 +22,7 @@ returns c = λ world at.
     let registry = c.args.machine.now.registry in
     let seats = c.args.self.now.seats.items in
     let processors = c.args.self.now.processors.items in
-    let entries = c.args.self.now.entries in
+    let publications = c.args.self.now.publications in
     let found : Found seats c.number.result c.args.seat c.index_mut-place.result.now = record {
       is = c.number.ensures.value;
       low = c.number.ensures.small;
@@ -35,14 +35,14 @@ returns c = λ world at.
     slice_get-get_or processors c.args.cpu before low ∙ ap Some (sym c.index_mut-due.ensures.value) in
     let due : DueOffer = record { life = c.in_ok-life.life; firing = c.in_ok-life.moment.firing.now } in
     let owes : due_of before c.args.seat ≡ Some due = c.in_ok-life.ensures.offer in
-    let lent = lent-looked registry world seats entries processors at.0 at.1 c.args.cpu before c.in_ok-life.moment is
+    let lent = lent-looked registry world seats publications processors at.0 at.1 c.args.cpu before c.in_ok-life.moment is
     c.in_ok-life.ensures.lent in
-    let seen = seen-offered registry world seats entries processors at.0 at.1 c.args.cpu c.number.result c.args.seat
+    let seen = seen-offered registry world seats publications processors at.0 at.1 c.args.cpu c.number.result c.args.seat
     c.index_mut-place.result.now before due found is owes c.deliver.result
     (λ place held. c.deliver.ensures.seen place held lent) in (
       (
         sound-offering registry world at.0 c.args.cpu c.args.seat,
-        kept-offering registry world seats entries processors at.0 at.1 c.args.cpu c.number.result c.args.seat
+        kept-offering registry world seats publications processors at.0 at.1 c.args.cpu c.number.result c.args.seat
             c.index_mut-place.result.now c.deliver.new.self before c.take.new.self due found is owes
             c.in_ok-life.ensures.taken c.in_ok-life.ensures.moment
             (λ place held. c.deliver.ensures.reached place held lent),
@@ -63,11 +63,11 @@ returns-in_err-life c = λ world at.
     let none : due_of before c.args.seat ≡ None = c.in_err-life.ensures.none in (
       (
         sound-offering registry world at.0 c.args.cpu c.args.seat,
-        kept-offering-none registry world seats c.args.self.now.entries processors at.0 at.1 c.args.cpu c.args.seat
+        kept-offering-none registry world seats c.args.self.now.publications processors at.0 at.1 c.args.cpu c.args.seat
             before c.take.new.self low c.index_mut-due.ensures.value c.in_err-life.ensures.same none,
       ),
       c.from_residual.ensures ∙ sym (ap (option_map place_of)
-          (seen-none registry world seats c.args.self.now.entries processors at.0 at.1
+          (seen-none registry world seats c.args.self.now.publications processors at.0 at.1
           c.args.cpu c.args.seat (ap (λ o. due_in o c.args.seat) is ∙ none))),
     )
 
@@ -80,9 +80,9 @@ returns-then-cpu-len c = λ world at.
     let high : length processors ≤ c.args.cpu = omega (arith, long, c.len.ensures, c.if-cpu-len.true) in (
       (
         sound-offering registry world at.0 c.args.cpu c.args.seat,
-        kept-offering-past registry world seats c.args.self.now.entries processors at.0 at.1 c.args.cpu
+        kept-offering-past registry world seats c.args.self.now.publications processors at.0 at.1 c.args.cpu
             c.args.seat high,
       ),
-      sym (ap (option_map place_of) (seen-none registry world seats c.args.self.now.entries processors at.0 at.1
+      sym (ap (option_map place_of) (seen-none registry world seats c.args.self.now.publications processors at.0 at.1
           c.args.cpu c.args.seat (ap (λ o. due_in o c.args.seat) (slice_get_past processors c.args.cpu high)))),
     )

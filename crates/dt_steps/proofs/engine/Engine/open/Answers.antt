@@ -16,7 +16,7 @@ returns c =
     on_ok_weaker c.open.result
     (λ opens world at. (
       sound-opening registry world at.0 c.args.seat c.args.name.now,
-      kept-opening registry world seats c.args.self.now.entries c.args.self.now.processors.items at.1 c.number.result
+      kept-opening registry world seats c.args.self.now.publications c.args.self.now.processors.items at.1 c.number.result
           c.args.seat c.index_mut.result.now found c.args.name.now c.open.new.self opens,
     ))
     c.open.ensures

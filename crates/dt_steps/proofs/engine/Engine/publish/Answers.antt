@@ -16,9 +16,9 @@ returns c =
     on_ok_weaker c.publish.result
     (λ publishes world at. (
       sound-publishing registry world at.0 c.args.seat,
-      kept-publishing registry world seats c.args.self.now.entries c.args.self.now.processors.items at.1
+      kept-publishing registry world seats c.args.self.now.publications c.args.self.now.processors.items at.1
           c.number.result
-          c.args.seat c.index_mut.result.now found c.publish.new.self c.publish.new.entries
+          c.args.seat c.index_mut.result.now found c.publish.new.self c.publish.new.publications
           (publishes registry),
     ))
     c.publish.ensures

@@ -14,7 +14,7 @@ returns-then-may_withdraw c = λ world at.
       read = c.index.ensures;
     } in (
       sound-withdrawing registry world at.0 c.args.seat,
-      kept-withdrawing registry world seats c.args.self.now.entries c.args.self.now.processors.items at.1
+      kept-withdrawing registry world seats c.args.self.now.publications c.args.self.now.processors.items at.1
           c.number.result
           c.args.seat c.index.result.now found c.may_withdraw.result c.withdraw.new.self
           (c.may_withdraw.ensures registry) (λ may. c.withdraw.ensures.stands)
@@ -31,8 +31,8 @@ returns-else-may_withdraw c = λ world at.
       read = c.index.ensures;
     } in (
       sound-withdrawing registry world at.0 c.args.seat,
-      kept-withdrawing registry world seats c.args.self.now.entries c.args.self.now.processors.items at.1
+      kept-withdrawing registry world seats c.args.self.now.publications c.args.self.now.processors.items at.1
           c.number.result
-          c.args.seat c.index.result.now found c.may_withdraw.result c.args.self.now.entries
+          c.args.seat c.index.result.now found c.may_withdraw.result c.args.self.now.publications
           (c.may_withdraw.ensures registry) (λ yes. let bad = sym c.if-may_withdraw.false ∙ yes in cc) (λ no. refl),
     )

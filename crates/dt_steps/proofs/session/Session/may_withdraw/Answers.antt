@@ -1,4 +1,4 @@
--- The entry may be withdrawn where the session is not active and no `go` is pending.
+-- The publication may be withdrawn where the session is not active and no `go` is pending.
 use Rattle.std.proofs.Common.{◌≡◌, ◌∙◌, sym, ap}
 use Rattle.dt_life.specs.Life.{is_active}
 use Rattle.dt_steps.specs.World.{life_in}
