@@ -22,10 +22,10 @@ named_to : (named shown : Bool) (own life : ℕ) → named ≡ true → shown �
 named_to named shown own life n s e = rw (n, s) (ap Some e)
 
 module _ (registry : Registry) (firing : Firing) (belongs : Belongs registry firing) where
-  seen_at : (named : Bool) (entry : Option Published)
-      → (IsTrue named ↔ IsSomeAnd entry (λ e. interest.Names e.probes firing.probe)) → (life : ℕ)
-      → (cond named (life_shown registry firing (option_map slot_of entry)) None ≡ Some life)
-      ↔ IsSomeAnd entry (λ e. (e.life ≡ life) × NamesFiring registry e firing)
+  seen_at : (named : Bool) (publication : Option Published)
+      → (IsTrue named ↔ IsSomeAnd publication (λ e. interest.Names e.probes firing.probe)) → (life : ℕ)
+      → (cond named (life_shown registry firing (option_map slot_of publication)) None ≡ Some life)
+      ↔ IsSomeAnd publication (λ e. (e.life ≡ life) × NamesFiring registry e firing)
   seen_at true None listed life = (λ h. cc, λ h. absurd h)
   seen_at false None listed life = (λ h. cc, λ h. absurd h)
   seen_at named (Some e) listed life = (
@@ -42,12 +42,12 @@ module _ (registry : Registry) (firing : Firing) (belongs : Belongs registry fir
         (shown_to e.account registry firing h.1.admitted) h.0,
   )
 
-  -- what a look names of a seat that is listed, and whose slot keeps its entry
-  pub look_at : (named : Bool) (slot : Option Slot) (entry : Option Published) → slot ≡ option_map slot_of entry
-      → (IsTrue named ↔ IsSomeAnd entry (λ e. interest.Names e.probes firing.probe)) → (life : ℕ)
+  -- what a look names of a seat that is listed, and whose slot keeps its publication
+  pub look_at : (named : Bool) (slot : Option Slot) (publication : Option Published) → slot ≡ option_map slot_of publication
+      → (IsTrue named ↔ IsSomeAnd publication (λ e. interest.Names e.probes firing.probe)) → (life : ℕ)
       → (cond named (life_shown registry firing slot) None ≡ Some life)
-      ↔ IsSomeAnd entry (λ e. (e.life ≡ life) × NamesFiring registry e firing)
-  look_at named slot entry kept listed life =
+      ↔ IsSomeAnd publication (λ e. (e.life ≡ life) × NamesFiring registry e firing)
+  look_at named slot publication kept listed life =
       let P : Option Slot → Type 0 = λ s. (cond named (life_shown registry firing s) None ≡ Some life)
-      ↔ IsSomeAnd entry (λ e. (e.life ≡ life) × NamesFiring registry e firing) in
-      subst P (sym kept) (seen_at named entry listed life)
+      ↔ IsSomeAnd publication (λ e. (e.life ≡ life) × NamesFiring registry e firing) in
+      subst P (sym kept) (seen_at named publication listed life)

@@ -1,4 +1,4 @@
--- What a contract sees of a copy of the entries.
+-- What a contract sees of a copy of what is published.
 use Rattle.std.specs.Prelude.{List}
 use Rattle.dt_chain.specs.Books.{Marked}
 use Rattle.dt_chain.specs.Writes.{Write}

@@ -1,4 +1,4 @@
--- How entries are kept.
+-- How publications are kept.
 use Rattle.std.specs.Prelude.{ℕ, Option, Some, None, option_and_then, if◌then◌else◌}
 use Rattle.dt_cred.specs.declared.firing.Firing.{Firing}
 use Rattle.dt_machine.specs.Registry.{Registry}
@@ -6,9 +6,9 @@ use Rattle.dt_machine.specs.Tests.{is_shown}
 use Rattle.dt_chain.specs.Writes.{Published}
 use Rattle.dt_chain.specs.declared.entries.Slot.{Slot}
 
--- what is kept of an entry beside the lists
+-- what is kept of a publication beside the lists
 abbrev pub slot_of : Published → Slot
-slot_of entry = record { life = entry.life; account = entry.account }
+slot_of publication = record { life = publication.life; account = publication.account }
 
 -- the life of a slot whose account is shown a firing
 abbrev pub life_shown : Registry → Firing → Option Slot → Option ℕ

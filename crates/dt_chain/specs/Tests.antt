@@ -6,13 +6,13 @@ use Rattle.dt_cred.specs.declared.firing.Firing.{Firing}
 use Rattle.dt_chain.specs.Writes.{Write, Published, published_on}
 use Rattle.dt_machine.specs.Tests.{belongs, is_shown}
 
--- the entry names the firing
+-- the publication names the firing
 unfoldable pub is_named : Registry → Published → Firing → Bool
-is_named registry entry firing =
-    belongs registry firing && (unwrap_or (slice_get entry.probes firing.probe) false
-    && is_shown entry.account registry firing)
+is_named registry publication firing =
+    belongs registry firing && (unwrap_or (slice_get publication.probes firing.probe) false
+    && is_shown publication.account registry firing)
 
--- what a look names after these writes: the life of each seat whose entry names the firing
+-- what a look names after these writes: the life of each seat whose publication names the firing
 unfoldable pub mask_of : Registry → List Write → Firing → ℕ → Option ℕ
 mask_of registry writes firing seat = option_and_then
-    (λ entry. if is_named registry entry firing then Some entry.life else None) (published_on writes seat)
+    (λ publication. if is_named registry publication firing then Some publication.life else None) (published_on writes seat)

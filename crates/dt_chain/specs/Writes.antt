@@ -1,9 +1,9 @@
--- What the seats have published, and the entries that they have by it.
+-- What the seats have written, and what is published of each by it.
 use Rattle.std.specs.Prelude.{◌≡◌, ℕ, Bool, List, [], ◌∷◌, Option, Some, None, ◌==◌, find, filter, if◌then◌else◌}
 use Rattle.dt_cred.specs.declared.account.Account.{Account}
 
--- A seat publishes an entry, for a life of its own: on whose behalf it traces, and in which probes it is interested,
--- as the flags of an `Interest`. Or it withdraws its entry.
+-- A seat publishes, for a life of its own, on whose behalf it traces and in which probes it is interested, as the
+-- flags of an `Interest`. Or it withdraws its publication.
 pub data Write : Type 0 where
   published : (seat life : ℕ) → (account : Account) → (probes : List Bool) → Write
   withdrawn : (seat : ℕ) → Write
@@ -14,7 +14,8 @@ pub record Published : Type 0 where
   pub account : Account
   pub probes : List Bool
 
--- A history of writes is a list, the newest first. The entry of a seat is its last write, if that is a publication.
+-- A history of writes is a list, the newest first. What is published of a seat is its last write, if that is a
+-- publication.
 abbrev pub published_on : List Write → ℕ → Option Published
 published_on [] seat = None
 published_on (published at life account probes ∷ earlier) seat =
@@ -26,7 +27,7 @@ abbrev pub seat_of : Write → ℕ
 seat_of (published seat life account probes) = seat
 seat_of (withdrawn seat) = seat
 
--- the entry that a write leaves to its seat
+-- what a write leaves published of its seat
 abbrev pub published_by : Write → Option Published
 published_by (published seat life account probes) = Some (record { life = life; account = account; probes = probes })
 published_by (withdrawn seat) = None

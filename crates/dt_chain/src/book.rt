@@ -118,7 +118,8 @@ impl Mark {
         requires book { self.old.book ≡ ledger.now }
         requires room { length self.old.log < 2 ^ 62 }
         ensures book { self.new.book ≡ self.old.book }
-        ensures grows { MatchBool result (self.new.log ≡ self.old.log ++ write.now ∷ []) (IsPrefix self.old.log self.new.log) }
+        ensures grows { MatchBool result (self.new.log ≡ self.old.log ++ write.now ∷ [])
+            (IsPrefix self.old.log self.new.log × (length self.old.log < length self.new.log)) }
     {
         let mut offer: Offer<Write, u64, Law, Nothing> = self
             .seen

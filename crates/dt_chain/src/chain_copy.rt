@@ -1,4 +1,4 @@
-//! One of the two copies of the entries, with the writes that are in it.
+//! One of the two copies of what is published, with the writes that are in it.
 ghost use Rattle.std.specs.Prelude.{◌≡◌, ℕ, [], None, IfNone, IfOk, IfSome};
 ghost use Rattle.dt_chain.specs.Chains.{IsMaskAfter, added_to};
 ghost use Rattle.dt_chain.specs.Seats.{life_at};

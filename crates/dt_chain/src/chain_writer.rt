@@ -61,7 +61,7 @@ impl<J: Site> ChainWriter<J> {
         result
     }
 
-    /// A seat withdraws its entry, if it has one: a write like any other.
+    /// A seat withdraws its publication, if it has one: a write like any other.
     ///
     /// `Err`: as of [`ChainWriter::publish`].
     pub fn withdraw<R: Wait>(&mut self, rt: &R, seat: Seat) -> Result<(), AllocError>

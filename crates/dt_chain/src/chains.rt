@@ -35,7 +35,7 @@ impl Chains {
         Chains { ledger, origin }
     }
 
-    /// Both copies of the entries, with all the room that these ever need (528 KB), and the places of so many readers.
+    /// Both copies of what is published, with all the room that these ever need (528 KB), and the places of so many readers.
     ///
     /// `Err`: there was no memory.
     pub fn writer<J: Site>(

@@ -1,4 +1,4 @@
-//! The entries of all seats.
+//! The publications of all seats.
 ghost use Rattle.std.specs.Prelude.{◌≡◌, ◌≤◌, ◌<◌, ℕ, List, [], ◌∷◌, false, None, IfNone, IfSome, IsOk, IsSome, IsTrue, IsNone, OnOk, OnErr, slice_index_or, if◌then◌else◌};
 ghost use Rattle.dt_chain.specs.declared.seat_set.TheConstants.{SEAT_WORDS};
 
@@ -6,12 +6,12 @@ use crate::lists::Lists;
 use crate::seat::{SEATS, Seat};
 use crate::seat_mask::SeatMask;
 use crate::seat_set::{SEAT_WORDS, SeatSet};
-use crate::write::{Kind, Write};
+use crate::write::{StoredWrite, Write};
 use dt_cred::Account;
 use dt_machine::{BitWord, Firing, Interest, Machine, Moment};
 use std::alloc::{AllocError, Global};
 
-/// The entries of all seats: for each the last that it published, if it didn't withdraw it since.
+/// The publications of all seats: for each its last, if it didn't withdraw that since.
 ///
 /// Contracts speak of the list of all writes, the newest first: `EntriesAreAt writes entries`.
 #[derive(Drop)]
@@ -20,7 +20,7 @@ pub struct Entries {
     pub(crate) lists: Lists,
 }
 
-/// What is kept of a seat's entry beside the lists.
+/// What is kept of a seat's publication beside the lists.
 #[derive(Clone, Copy)]
 pub(crate) struct Slot {
     pub(crate) life: u64,
@@ -38,7 +38,7 @@ impl Entries {
     ghost use Rattle.dt_machine.specs.Registry.{Registry};
     ghost use Rattle.dt_chain.specs.IsAt.{EntriesAreAt, HasListRoom};
 
-    /// No entry. It takes no memory yet.
+    /// No publication. It takes no memory yet.
     pub fn new(alloc: Global) -> Entries
         ensures { EntriesAreAt [] result }
     {
@@ -51,7 +51,7 @@ impl Entries {
     /// Takes the room for all that may be published (264 KB), if it isn't taken yet: no publication needs memory
     /// then.
     ///
-    /// `Err`: there was no memory. The entries are as they were, in both cases.
+    /// `Err`: there was no memory. What is published is as it was, in both cases.
     pub fn reserve(&mut self) -> Result<(), AllocError>
         ensures room { OnOk result (HasListRoom self.new) }
         ensures succeeds { HasListRoom self.old → IsOk result }
@@ -60,10 +60,10 @@ impl Entries {
         self.lists.reserve()
     }
 
-    /// A seat publishes an entry for one of its lives, in place of the one that it may have. It takes the room for
+    /// A seat publishes for one of its lives, in place of the publication that it may have. It takes the room for
     /// all that may be published, if that isn't taken yet.
     ///
-    /// `Err`: there was no memory, and the entries are as they were.
+    /// `Err`: there was no memory, and what is published is as it was.
     pub fn publish(
         &mut self,
         seat: Seat,
@@ -87,7 +87,7 @@ impl Entries {
         Ok(())
     }
 
-    /// A seat withdraws its entry, if it has one. It takes no memory.
+    /// A seat withdraws its publication, if it has one. It takes no memory.
     pub fn withdraw(&mut self, seat: Seat)
         ensures stands { (writes : List Write) → EntriesAreAt writes self.old → EntriesAreAt (withdrawn seat ∷ writes) self.new }
         ensures room { HasListRoom self.old → HasListRoom self.new }
@@ -99,7 +99,7 @@ impl Entries {
     /// Does what a write says. A publication takes the room for all that may be published, if that isn't taken yet; a
     /// withdrawal takes no memory.
     ///
-    /// `Err`: there was no memory, and the entries are as they were.
+    /// `Err`: there was no memory, and what is published is as it was.
     pub fn apply(&mut self, write: &Write) -> Result<(), AllocError>
         ensures ok { OnOk result ((writes : List Write) → EntriesAreAt writes self.old
             → EntriesAreAt (write.now ∷ writes) self.new) }
@@ -110,17 +110,22 @@ impl Entries {
         ensures succeeds { HasListRoom self.old → IsOk result }
         ensures withdraws { IsNone (published_by write.now) → IsOk result }
     {
-        match &write.kind {
-            Kind::Publication(it) => self.publish(it.seat, it.life, &it.account, &it.interest),
-            Kind::Withdrawal(seat) => {
+        match &write.stored {
+            StoredWrite::Publication(it) => self.publish(
+                it.seat,
+                it.life,
+                &it.account,
+                &it.interest,
+            ),
+            StoredWrite::Withdrawal(seat) => {
                 self.withdraw(*seat);
                 Ok(())
             }
         }
     }
 
-    /// The seats whose entries name a firing, each with the life of its entry: the firing belongs to the machine,
-    /// its probe is one of the entry's, and the entry's account is shown the firing. It takes no memory.
+    /// The seats whose publications name a firing, each with the life of its publication: the firing belongs to the machine,
+    /// its probe is one of the publication's, and the publication's account is shown the firing. It takes no memory.
     pub fn look(&self, machine: &Machine, firing: &Firing) -> SeatMask
         ensures { (writes : List Write) → EntriesAreAt writes self.now
             → IsLook machine.now.registry writes firing.now (life_at result) }

@@ -58,9 +58,9 @@ struct Two {
 }
 
 /// The list of both.
-struct Both;
+struct Joined;
 
-impl Opening<Two, Write> for Both {
+impl Opening<Two, Write> for Joined {
     ghost use Rattle.std.specs.Prelude.{◌++◌};
 
     ghost log = { λ count two. two.first.log ++ two.then.log };
@@ -84,7 +84,7 @@ impl History {
             first: self.shown.again(),
             then,
         };
-        let (shown, _pens) = Seen::open_row::<Two, Both>(&two, Start::alone(), 0);
+        let (shown, _pens) = Seen::open_row::<Two, Joined>(&two, Start::alone(), 0);
         History { shown }
     }
 }

@@ -15,26 +15,26 @@ pub fn one_look()
         → (seat : ℕ) → some seat ≡ other seat }
 {}
 
-/// The last write of a seat is its newest, and the seat's entry is what that write leaves: that of a publication; none
-/// after a withdrawal, or where the seat never wrote.
+/// The last write of a seat is its newest, and what is published of the seat is what that write leaves: nothing after a
+/// withdrawal, or where the seat never wrote.
 pub fn last_write_tells()
     ensures newest { (write : Write) (writes : List Write)
         → last_write_of (write ∷ writes) (seat_of write) ≡ Some write }
-    ensures entry { (writes : List Write) (seat : ℕ)
+    ensures published { (writes : List Write) (seat : ℕ)
         → published_on writes seat ≡ option_and_then published_by (last_write_of writes seat) }
 {}
 
-/// Writes of other seats don't matter: a seat has the last write, and the entry, that it has by its own writes alone.
+/// Writes of other seats don't matter: a seat has the last write, and the publication, that it has by its own writes alone.
 pub fn own_writes_tell()
     ensures other { (write : Write) (writes : List Write) (seat : ℕ) → seat_of write ≢ seat
         → last_write_of (write ∷ writes) seat ≡ last_write_of writes seat }
     ensures last { (writes : List Write) (seat : ℕ)
         → last_write_of (writes_of writes seat) seat ≡ last_write_of writes seat }
-    ensures entry { (writes : List Write) (seat : ℕ)
+    ensures published { (writes : List Write) (seat : ℕ)
         → published_on (writes_of writes seat) seat ≡ published_on writes seat }
 {}
 
-/// Two histories in which each seat has the same last write can't be told apart: entries at the end of one are at the
+/// Two histories in which each seat has the same last write can't be told apart: `Entries` at the end of one are at the
 /// end of the other, and a look after one is a look after the other.
 pub fn last_writes_suffice()
     ensures entries { (writes others : List Write) (entries : Entries) → SameLastWrites writes others
@@ -43,7 +43,7 @@ pub fn last_writes_suffice()
         → SameLastWrites writes others → IsLook registry writes firing lives → IsLook registry others firing lives }
 {}
 
-/// Two copies of the entries that are at the end of one history are at the end of the same histories.
+/// Two `Entries` that are at the end of one history are at the end of the same histories.
 pub fn copies_agree()
     ensures { (writes others : List Write) (some other : Entries)
         → EntriesAreAt writes some → EntriesAreAt writes other → EntriesAreAt others some → EntriesAreAt others other }

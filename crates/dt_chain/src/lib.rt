@@ -1,11 +1,11 @@
-//! The published entries of the seats: who is interested in which probes, and so whom a firing is offered to.
+//! What the seats have published: who is interested in which probes, and so whom a firing is offered to.
 //!
-//! Consumers trace one machine together, each on one of [`SEATS`] seats. A seat publishes an entry, which says on
-//! whose behalf it traces and in which probes it is interested, and withdraws it ([`Entries`]). A publication or a
-//! withdrawal is also a value, which can be kept and applied to several copies of the entries ([`Write`]). A processor
-//! that makes a firing looks which seats' entries name it, and offers it to these alone ([`SeatMask`]). What is named
+//! Consumers trace one machine together, each on one of [`SEATS`] seats. A seat's publication says on
+//! whose behalf it traces and in which probes it is interested; the seat can withdraw it ([`Entries`]). A publication or a
+//! withdrawal is also a value, which can be kept and applied to several copies of what is published ([`Write`]). A processor
+//! that makes a firing looks which seats' publications name it, and offers it to these alone ([`SeatMask`]). What is named
 //! is defined over the list of all publications and withdrawals (`specs/Writes.antt`, `specs/Look.antt`), and not over
-//! how entries are kept; `one_look` says that there is one answer, and `last_writes_suffice` that the last write of
+//! how they are kept; `one_look` says that there is one answer, and `last_writes_suffice` that the last write of
 //! each seat is all that counts. Looking takes no memory.
 //!
 //! Where threads run, one writer publishes its writes to readers that take no lock and wait for nobody ([`Chains`],

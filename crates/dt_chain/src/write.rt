@@ -1,4 +1,4 @@
-//! Writes as values: what a seat publishes, or that it withdraws its entry.
+//! Writes as values: what a seat publishes, or that it withdraws that.
 ghost use Rattle.std.specs.Prelude.{◌≡◌, IfOk};
 
 use crate::seat::Seat;
@@ -7,17 +7,17 @@ use dt_machine::Interest;
 use std::alloc::{AllocError, Global};
 use std::marker::Model;
 
-/// One write: a seat publishes an entry, or withdraws the one that it has. It can be kept, handed on, and applied to
+/// One write: a seat's publication, or the withdrawal of the one that it has. It can be kept, handed on, and applied to
 /// any number of `Entries`, by `Entries::apply`.
 ///
 /// Contracts see it as a `Write` of `specs/Writes.antt`.
 #[derive(Clone, Drop)]
 pub struct Write {
-    pub(crate) kind: Kind,
+    pub(crate) stored: StoredWrite,
 }
 
 #[derive(Clone, Drop)]
-pub(crate) enum Kind {
+pub(crate) enum StoredWrite {
     Publication(Publication),
     Withdrawal(Seat),
 }
@@ -39,14 +39,14 @@ impl Model for Write {
 
     ghost use Rattle.dt_chain.specs.Kinds.{write_of};
 
-    ghost view = { λ write. write_of write.kind };
+    ghost view = { λ write. write_of write.stored };
 }
 
 impl Write {
     ghost use Rattle.dt_chain.specs.Writes.{published, withdrawn, seat_of};
     ghost use Rattle.dt_machine.specs.Interest.{flags_of};
 
-    /// A seat publishes an entry for one of its lives, in place of the one that it may have. It takes the memory for
+    /// A seat publishes for one of its lives, in place of the publication that it may have. It takes the memory for
     /// the set of probes (520 bytes).
     ///
     /// `Err`: there was no memory.
@@ -61,7 +61,7 @@ impl Write {
     {
         let interest = Box::new(alloc, *interest)?;
         Ok(Write {
-            kind: Kind::Publication(Publication {
+            stored: StoredWrite::Publication(Publication {
                 seat,
                 life,
                 account: *account,
@@ -70,12 +70,12 @@ impl Write {
         })
     }
 
-    /// A seat withdraws its entry, if it has one. It takes no memory.
+    /// A seat withdraws its publication, if it has one. It takes no memory.
     pub fn withdrawal(seat: Seat) -> Write
         ensures { result ≡ withdrawn seat }
     {
         Write {
-            kind: Kind::Withdrawal(seat),
+            stored: StoredWrite::Withdrawal(seat),
         }
     }
 
@@ -83,9 +83,9 @@ impl Write {
     pub fn seat(&self) -> Seat
         ensures { result ≡ seat_of self.now }
     {
-        match &self.kind {
-            Kind::Publication(publication) => publication.seat,
-            Kind::Withdrawal(seat) => *seat,
+        match &self.stored {
+            StoredWrite::Publication(publication) => publication.seat,
+            StoredWrite::Withdrawal(seat) => *seat,
         }
     }
 }

@@ -1,15 +1,14 @@
 -- Which views fit, and that all still fit where one has changed.
 use Rattle.std.proofs.Common.{◌≡◌, ◌≢◌, ℕ, ◌<◌, List, [], ◌∷◌, ◌++◌, length, set, Bool, true, false, true≢false, cond, eqb, refl, sym, ap, ◌∙◌, subst, ⊎_elim, length-set, eq-eqb, ne_eqb}
-use mathlib.Core.List.{IsPrefix}
 use mathlib.Core.Option.{some}
 use lib.ListN.{get_elem?}
 use Rattle.atomic_table.proofs.Lists.{at_set}
-use Rattle.dt_chain.specs.Writes.{Write}
 use Rattle.dt_facts.specs.declared.fact.Fact.{Fact}
+use Rattle.dt_facts.specs.declared.fact.GrowingLists.{GrowingLists}
 use Rattle.dt_facts.specs.declared.rule.View.{View}
-use Rattle.dt_facts.specs.Facts.{writes_in}
-use Rattle.dt_facts.specs.Rule.{Roll, share, book, both, both_unchecked, writes_begun, writes_told, book_begun, maker_view, no_view, FitsRoll, EachFitsRoll}
-use Rattle.dt_facts.proofs.Lists.{at_snoc_at}
+use Rattle.dt_facts.specs.Facts.{lists_in, HaveGrown}
+use Rattle.dt_facts.specs.Rule.{Roll, share, book, both, both_unchecked, lists_begun, lists_told, book_begun, maker_view, no_view, FitsRoll, EachFitsRoll}
+use Rattle.dt_facts.proofs.Lists.{grown_from_none, at_snoc_at}
 
 off : false ≡ true → ⊥
 off e = true≢false (sym e)
@@ -33,8 +32,8 @@ module _ (w : Roll) where
   abbrev pub IsBookAt : ℕ → ℕ → Fact → Type 0
   IsBookAt by n x = (w.book_at n ≡ by) × (x ≡ w.held n) × (n < w.made)
 
-  abbrev pub IsBegunAt : ℕ → List Write → Type 0
-  IsBegunAt n ws = IsPrefix ws (writes_in (w.held n)) × (n < w.made)
+  abbrev pub IsBegunAt : ℕ → GrowingLists → Type 0
+  IsBegunAt n ws = HaveGrown ws (lists_in (w.held n)) × (n < w.made)
 
   pub fits_nobody : (by : ℕ) → FitsRoll w by no_view
   fits_nobody by = record { share = λ c. absurd (off c); book = λ c. absurd (off c); met = λ c. absurd (off c); begins = λ c. absurd (off c); told = λ c. absurd (off c); makes = λ c. absurd (off c) }
@@ -54,14 +53,14 @@ module _ (w : Roll) where
   pub fits_joined : (by n : ℕ) (x y : Fact) → IsShareAt by n x → IsBookAt by n x → y ≡ w.held n → FitsRoll w by (both_unchecked n x y)
   fits_joined by n x y s b h = record { share = λ _. s; book = λ _. b; met = λ _. (refl, h); begins = λ c. absurd (off c); told = λ c. absurd (off c); makes = λ c. absurd (off c) }
 
-  pub fits_beginning : (by n : ℕ) (ws : List Write) → IsBegunAt n ws → FitsRoll w by (writes_begun n ws)
-  fits_beginning by n ws h = record { share = λ c. absurd (off c); book = λ c. absurd (off c); met = λ c. absurd (off c); begins = λ _. h; told = λ _. (writes_in (w.held n), refl); makes = λ c. absurd (off c) }
+  pub fits_beginning : (by n : ℕ) (ws : GrowingLists) → IsBegunAt n ws → FitsRoll w by (lists_begun n ws)
+  fits_beginning by n ws h = record { share = λ c. absurd (off c); book = λ c. absurd (off c); met = λ c. absurd (off c); begins = λ _. h; told = λ _. grown_from_none (lists_in (w.held n)); makes = λ c. absurd (off c) }
 
-  pub fits_informed : (by n : ℕ) (ws us : List Write) → IsBegunAt n ws → IsPrefix us (writes_in (w.held n)) → FitsRoll w by (writes_told n ws us)
+  pub fits_informed : (by n : ℕ) (ws us : GrowingLists) → IsBegunAt n ws → HaveGrown us (lists_in (w.held n)) → FitsRoll w by (lists_told n ws us)
   fits_informed by n ws us h t = record { share = λ c. absurd (off c); book = λ c. absurd (off c); met = λ c. absurd (off c); begins = λ _. h; told = λ _. t; makes = λ c. absurd (off c) }
 
-  pub fits_opened : (by n : ℕ) (x : Fact) (ws : List Write) → IsBookAt by n x → IsBegunAt n ws → FitsRoll w by (book_begun n x ws)
-  fits_opened by n x ws b h = record { share = λ c. absurd (off c); book = λ _. b; met = λ c. absurd (off c); begins = λ _. h; told = λ _. (writes_in (w.held n), refl); makes = λ c. absurd (off c) }
+  pub fits_opened : (by n : ℕ) (x : Fact) (ws : GrowingLists) → IsBookAt by n x → IsBegunAt n ws → FitsRoll w by (book_begun n x ws)
+  fits_opened by n x ws b h = record { share = λ c. absurd (off c); book = λ _. b; met = λ c. absurd (off c); begins = λ _. h; told = λ _. grown_from_none (lists_in (w.held n)); makes = λ c. absurd (off c) }
 
   -- one view is changed, and the others still fit
   pub fits_set : (views : List View) (id : ℕ) (v : View)

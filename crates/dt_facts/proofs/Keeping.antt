@@ -1,16 +1,15 @@
 -- Each step of makers, shares and books keeps the rule.
 use Rattle.std.proofs.Common.{◌≡◌, ◌≢◌, ℕ, zero, suc, ◌+◌, List, [], ◌∷◌, length, Bool, true, cond, eqb, refl, sym, ap, ◌∙◌, subst, arith, eq-eqb}
-use mathlib.Core.List.{IsPrefix}
 use mathlib.Core.Option.{none, some, some-ne-none, some-injective}
 use native.Mathlib.Decide.{ℕ_discrete}
 use lib.ListN.{get_elem?}
 use Rattle.atomic_table.specs.Table.{step, keeps, Allows, Splits, Joins, opening}
-use Rattle.dt_chain.specs.Writes.{Write}
 use Rattle.dt_facts.specs.declared.fact.Fact.{Fact}
+use Rattle.dt_facts.specs.declared.fact.GrowingLists.{GrowingLists}
 use Rattle.dt_facts.specs.declared.rule.View.{View}
-use Rattle.dt_facts.specs.Facts.{nothing, writes_in, Follows}
+use Rattle.dt_facts.specs.Facts.{nothing, lists_in, HaveGrown, Follows}
 use Rattle.dt_facts.specs.Rule.{NoFactSlot, Roll, roll_of, share, book, both, both_unchecked, maker_view, no_view, FitsRoll, AllAgree, HasAgreed, HasGoneOn}
-use Rattle.dt_facts.proofs.Lists.{prefix_trans}
+use Rattle.dt_facts.proofs.Lists.{grown_trans}
 use Rattle.dt_facts.proofs.Fitting.{moved_off, moved_on, there_before, fits_maker, fits_share, fits_book, fits_both, fits_joined, fits_set, fits_split, fits_join}
 
 abbrev no_names : Roll
@@ -102,7 +101,7 @@ goes_on slots id n x z c follows s h _ at _ =
               book = λ c. let a = g.book c in (a.0, a.1 ∙ sym (moved_off w.held n u.name z (off_book j u apart e c)), a.2);
               met = λ c. let a = g.met c in (a.0, a.1 ∙ sym (moved_off w.held n u.name z (off_share j u apart e a.0)));
               begins = λ c. let a = g.begins c in (begun_still w.held u.name (ℕ_discrete u.name n) u.knows fs.1 a.0, a.1);
-              told = λ c. begun_still w.held u.name (ℕ_discrete u.name n) (writes_in u.had) fs.1 (g.told c);
+              told = λ c. begun_still w.held u.name (ℕ_discrete u.name n) u.told fs.1 (g.told c);
               makes = g.makes;
             })
             (fits_both next id n z (fs.0, sym (moved_on w.held n z), fs.2) (fb.0, sym (moved_on w.held n z), fb.2));
@@ -110,12 +109,12 @@ goes_on slots id n x z c follows s h _ at _ =
       (refl, refl),
     )
   where
-    begun_still : (at : ℕ → Fact) (k : ℕ) → Dec (k ≡ n) → (ws : List Write) → x ≡ at n → IsPrefix ws (writes_in (at k)) → IsPrefix ws (writes_in (cond (eqb k n) z (at k)))
+    begun_still : (at : ℕ → Fact) (k : ℕ) → Dec (k ≡ n) → (ws : GrowingLists) → x ≡ at n → HaveGrown ws (lists_in (at k)) → HaveGrown ws (lists_in (cond (eqb k n) z (at k)))
     begun_still at k (yes e) ws is a =
-        let before : writes_in (at k) ≡ writes_in x = ap (λ (q : ℕ). writes_in (at q)) e ∙ ap writes_in (sym is) in
-        let now : writes_in (cond (eqb k n) z (at k)) ≡ writes_in z = ap (λ (b : Bool). writes_in (cond b z (at k))) (eq-eqb k n e) in
-        subst (λ (l : List Write). IsPrefix ws l) (sym now) (prefix_trans ws (writes_in x) (writes_in z) (subst (λ (l : List Write). IsPrefix ws l) before a) follows)
-    begun_still at k (no ne) ws is a = subst (λ (q : Fact). IsPrefix ws (writes_in q)) (sym (moved_off at n k z ne)) a
+        let before : lists_in (at k) ≡ lists_in x = ap (λ (q : ℕ). lists_in (at q)) e ∙ ap lists_in (sym is) in
+        let now : lists_in (cond (eqb k n) z (at k)) ≡ lists_in z = ap (λ (b : Bool). lists_in (cond b z (at k))) (eq-eqb k n e) in
+        subst (λ (l : GrowingLists). HaveGrown ws l) (sym now) (grown_trans ws (lists_in x) (lists_in z) (subst (λ (l : GrowingLists). HaveGrown ws l) before a) follows)
+    begun_still at k (no ne) ws is a = subst (λ (q : Fact). HaveGrown ws (lists_in q)) (sym (moved_off at n k z ne)) a
 
 pub cuts : (id n : ℕ) (x : Fact) → Splits AllAgree id (both n x) (book n x) (share n x)
 cuts id n x s h at =

@@ -1,12 +1,12 @@
 -- The steps at views that are known.
-use Rattle.std.proofs.Common.{◌≡◌, ℕ, List, sym, subst}
+use Rattle.std.proofs.Common.{◌≡◌, ℕ, sym, subst}
 use mathlib.Core.Option.{none}
 use Rattle.atomic_table.specs.Table.{step, Allows, Splits, Joins}
-use Rattle.dt_chain.specs.Writes.{Write}
 use Rattle.dt_facts.specs.declared.fact.Fact.{Fact}
+use Rattle.dt_facts.specs.declared.fact.GrowingLists.{GrowingLists}
 use Rattle.dt_facts.specs.declared.rule.View.{View}
 use Rattle.dt_facts.specs.Facts.{Follows}
-use Rattle.dt_facts.specs.Rule.{Mine, share, book, both, both_unchecked, writes_begun, writes_told, book_begun, maker_view, no_view, next_maker, made_view, with_share, without_share, share_alone, beginning_of, with_told, with_beginning, AllAgree, HasAgreed, HasGoneOn, HasBegun, HasLearntWrites}
+use Rattle.dt_facts.specs.Rule.{Mine, share, book, both, both_unchecked, lists_begun, lists_told, book_begun, maker_view, no_view, next_maker, made_view, with_share, without_share, share_alone, beginning_of, with_told, with_beginning, AllAgree, HasAgreed, HasGoneOn, HasBegun, HasLearntLists}
 use Rattle.dt_facts.proofs.Keeping.{makes, joins, agrees, goes_on, cuts}
 use Rattle.dt_facts.proofs.Growing.{begins, tells, learns, opens, compares}
 
@@ -28,14 +28,14 @@ cuts_as id v n x e = subst (λ (u : View). Splits AllAgree id u (without_share u
 pub begins_as : (id : ℕ) (v : View) (n : ℕ) (x : Fact) → v ≡ book n x → Splits AllAgree id v v (beginning_of v)
 begins_as id v n x e = subst (λ (u : View). Splits AllAgree id u u (beginning_of u)) (sym e) (begins id n x)
 
-pub tells_as : (id : ℕ) (v : View) (n : ℕ) (xs : List Write) (other : ℕ) (w : View) (ys : List Write) → v ≡ writes_begun n xs → w ≡ writes_begun n ys → Joins AllAgree id v other w (with_told v w) no_view
+pub tells_as : (id : ℕ) (v : View) (n : ℕ) (xs : GrowingLists) (other : ℕ) (w : View) (ys : GrowingLists) → v ≡ lists_begun n xs → w ≡ lists_begun n ys → Joins AllAgree id v other w (with_told v w) no_view
 tells_as id v n xs other w ys e e' = subst (λ (p : View × View). Joins AllAgree id p.0 other p.1 (with_told p.0 p.1) no_view) (λ i. (sym e i, sym e' i)) (tells id n xs other ys)
 
-pub learns_as : (slots id : ℕ) (me : Mine) (n : ℕ) (xs ys : List Write) → me.0 ≡ writes_told n xs ys → Allows AllAgree slots id me 0 (λ n. n) (HasLearntWrites (step slots 0 0 0 none) me)
-learns_as slots id me n xs ys e = subst (λ (v : View). Allows AllAgree slots id (v, me.1) 0 (λ n. n) (HasLearntWrites (step slots 0 0 0 none) (v, me.1))) (sym e) (learns slots id n xs ys me.1)
+pub learns_as : (slots id : ℕ) (me : Mine) (n : ℕ) (xs ys : GrowingLists) → me.0 ≡ lists_told n xs ys → Allows AllAgree slots id me 0 (λ n. n) (HasLearntLists (step slots 0 0 0 none) me)
+learns_as slots id me n xs ys e = subst (λ (v : View). Allows AllAgree slots id (v, me.1) 0 (λ n. n) (HasLearntLists (step slots 0 0 0 none) (v, me.1))) (sym e) (learns slots id n xs ys me.1)
 
-pub opens_as : (id : ℕ) (v : View) (n : ℕ) (x : Fact) (other : ℕ) (w : View) (ys : List Write) → v ≡ book n x → w ≡ writes_begun n ys → Joins AllAgree id v other w (with_beginning v w) no_view
+pub opens_as : (id : ℕ) (v : View) (n : ℕ) (x : Fact) (other : ℕ) (w : View) (ys : GrowingLists) → v ≡ book n x → w ≡ lists_begun n ys → Joins AllAgree id v other w (with_beginning v w) no_view
 opens_as id v n x other w ys e e' = subst (λ (p : View × View). Joins AllAgree id p.0 other p.1 (with_beginning p.0 p.1) no_view) (λ i. (sym e i, sym e' i)) (opens id n x other ys)
 
-pub compares_as : (slots id : ℕ) (me : Mine) (n : ℕ) (x : Fact) (ys : List Write) → me.0 ≡ book_begun n x ys → Allows AllAgree slots id me 0 (λ n. n) (HasBegun (step slots 0 0 0 none) me)
+pub compares_as : (slots id : ℕ) (me : Mine) (n : ℕ) (x : Fact) (ys : GrowingLists) → me.0 ≡ book_begun n x ys → Allows AllAgree slots id me 0 (λ n. n) (HasBegun (step slots 0 0 0 none) me)
 compares_as slots id me n x ys e = subst (λ (v : View). Allows AllAgree slots id (v, me.1) 0 (λ n. n) (HasBegun (step slots 0 0 0 none) (v, me.1))) (sym e) (compares slots id n x ys me.1)

@@ -1,11 +1,13 @@
 -- What facts hold, and which fact may follow which.
-use Rattle.std.specs.Prelude.{ℕ, Bool, List, [], length, cond, nat_lt, Option}
+use Rattle.std.specs.Prelude.{ℕ, Bool, List, [], Option}
 use mathlib.Core.List.{IsPrefix}
 use Rattle.dt_chain.specs.Writes.{Write}
 use Rattle.dt_cred.specs.declared.account.Account.{Account}
+use Rattle.dt_trail.specs.Items.{TrailItem, longer}
 use Rattle.dt_trail.specs.declared.law.Named.{Named}
 use Rattle.dt_facts.specs.declared.fact.Fact.{Fact}
 use Rattle.dt_facts.specs.declared.fact.Fact.TheVariants as kinds
+use Rattle.dt_facts.specs.declared.fact.GrowingLists.{GrowingLists}
 use Rattle.dt_facts.specs.declared.fact.Knew.{Knew}
 use Rattle.dt_facts.specs.declared.fact.LastNote.{LastNote}
 
@@ -35,18 +37,33 @@ knew life items = record { life = life; items = items }
 abbrev pub writes_fact : List Write → Fact
 writes_fact writes = kinds.Writes writes
 
--- the writes that a fact has
-abbrev pub writes_in : Fact → List Write
-writes_in kinds.Nothing = []
-writes_in (kinds.Life life) = []
-writes_in (kinds.Processor processor) = []
-writes_in (kinds.Log log) = []
-writes_in (kinds.Writes writes) = writes
+-- of a life: the items of its trail, the oldest first
+abbrev pub items_fact : List TrailItem → Fact
+items_fact items = kinds.Items items
 
--- the longer of two lists
-abbrev pub longer_writes : List Write → List Write → List Write
-longer_writes xs ys = cond (nat_lt (length xs) (length ys)) ys xs
+abbrev pub growing_lists : List Write → List TrailItem → GrowingLists
+growing_lists writes items = record { writes = writes; items = items }
 
--- a fact may follow another: no write is lost, and none but the last are new
+abbrev pub no_lists : GrowingLists
+no_lists = growing_lists [] []
+
+-- what of a fact only grows: its writes, or its items
+abbrev pub lists_in : Fact → GrowingLists
+lists_in kinds.Nothing = no_lists
+lists_in (kinds.Life life) = no_lists
+lists_in (kinds.Processor processor) = no_lists
+lists_in (kinds.Log log) = no_lists
+lists_in (kinds.Writes writes) = growing_lists writes []
+lists_in (kinds.Items items) = growing_lists [] items
+
+-- what was there stays, and what is new comes after it
+abbrev pub HaveGrown : GrowingLists → GrowingLists → Type 0
+HaveGrown before after = IsPrefix before.writes after.writes × IsPrefix before.items after.items
+
+-- the longer of two, of each list
+abbrev pub longer_lists : GrowingLists → GrowingLists → GrowingLists
+longer_lists xs ys = growing_lists (longer xs.writes ys.writes) (longer xs.items ys.items)
+
+-- a fact may follow another: no write and no item is lost
 abbrev pub Follows : Fact → Fact → Type 0
-Follows before after = IsPrefix (writes_in before) (writes_in after)
+Follows before after = HaveGrown (lists_in before) (lists_in after)

@@ -1,13 +1,12 @@
 -- The rule of the word, what seats know, and what each step tells. The rule speaks of names and facts, and not of words.
-use Rattle.std.specs.Prelude.{◌≡◌, ℕ, ◌+◌, ◌<◌, ◌≤◌, List, [], Bool, true, false}
-use mathlib.Core.List.{IsPrefix}
+use Rattle.std.specs.Prelude.{◌≡◌, ℕ, ◌+◌, ◌<◌, ◌≤◌, List, Bool, true, false}
 use mathlib.Core.Option.{some}
 use lib.ListN.{get_elem?}
 use Rattle.atomic_table.specs.Table.{State, Step, Me}
-use Rattle.dt_chain.specs.Writes.{Write}
 use Rattle.dt_facts.specs.declared.fact.Fact.{Fact}
+use Rattle.dt_facts.specs.declared.fact.GrowingLists.{GrowingLists}
 use Rattle.dt_facts.specs.declared.rule.View.{View}
-use Rattle.dt_facts.specs.Facts.{nothing, writes_fact, writes_in, longer_writes}
+use Rattle.dt_facts.specs.Facts.{nothing, no_lists, lists_in, HaveGrown, longer_lists}
 
 abbrev pub NoFactSlot : Type 0
 NoFactSlot = Unit {0}
@@ -25,13 +24,13 @@ abbrev pub roll_of : (ℕ → Fact) → (ℕ → ℕ) → (ℕ → ℕ) → ℕ 
 roll_of held share_at book_at maker_at made = record { held = held; share_at = share_at; book_at = book_at; maker_at = maker_at; made = made }
 
 -- A seat's view fits. A name's share is at one seat and its book at one; both hold the name's fact, what a share held as it met its book is
--- that fact, and a beginning is one of the fact's writes, as is one that it was told
+-- that fact, and a beginning is one of the fact's lists, as is one that it was told
 pub record FitsRoll (w : Roll) (by : ℕ) (v : View) : Type 0 where
   pub share : v.share ≡ true → (w.share_at v.name ≡ by) × (v.fact ≡ w.held v.name) × (v.name < w.made)
   pub book : v.book ≡ true → (w.book_at v.name ≡ by) × (v.fact ≡ w.held v.name) × (v.name < w.made)
   pub met : v.met ≡ true → (v.share ≡ true) × (v.had ≡ w.held v.name)
-  pub begins : v.begins ≡ true → IsPrefix v.knows (writes_in (w.held v.name)) × (v.name < w.made)
-  pub told : v.begins ≡ true → IsPrefix (writes_in v.had) (writes_in (w.held v.name))
+  pub begins : v.begins ≡ true → HaveGrown v.knows (lists_in (w.held v.name)) × (v.name < w.made)
+  pub told : v.begins ≡ true → HaveGrown v.told (lists_in (w.held v.name))
   pub makes : v.makes ≡ true → (w.maker_at ≡ by) × (w.made ≡ v.name)
 
 abbrev pub EachFitsRoll : Roll → List View → Type 0
@@ -43,39 +42,39 @@ pub record AllAgree (s : State NoFactSlot View) : Type 0 where
   pub unmade : (n : ℕ) → roll.made ≤ n → roll.held n ≡ nothing
   pub each : EachFitsRoll roll s.views
 
-abbrev pub seat_view : ℕ → Bool → Bool → Bool → Bool → Bool → Fact → Fact → List Write → View
-seat_view n share book met begins makes fact had knows =
-    record { name = n; share = share; book = book; met = met; begins = begins; makes = makes; fact = fact; had = had; knows = knows }
+abbrev pub seat_view : ℕ → Bool → Bool → Bool → Bool → Bool → Fact → Fact → GrowingLists → GrowingLists → View
+seat_view n share book met begins makes fact had knows told =
+    record { name = n; share = share; book = book; met = met; begins = begins; makes = makes; fact = fact; had = had; knows = knows; told = told }
 
 abbrev pub share : ℕ → Fact → View
-share n x = seat_view n true false false false false x nothing []
+share n x = seat_view n true false false false false x nothing no_lists no_lists
 
 abbrev pub book : ℕ → Fact → View
-book n x = seat_view n false true false false false x nothing []
+book n x = seat_view n false true false false false x nothing no_lists no_lists
 
 abbrev pub both : ℕ → Fact → View
-both n x = seat_view n true true false false false x nothing []
+both n x = seat_view n true true false false false x nothing no_lists no_lists
 
 -- both, with what the share had held
 abbrev pub both_unchecked : ℕ → Fact → Fact → View
-both_unchecked n x y = seat_view n true true true false false x y []
+both_unchecked n x y = seat_view n true true true false false x y no_lists no_lists
 
-abbrev pub writes_begun : ℕ → List Write → View
-writes_begun n ws = seat_view n false false false true false nothing nothing ws
+abbrev pub lists_begun : ℕ → GrowingLists → View
+lists_begun n ws = seat_view n false false false true false nothing nothing ws no_lists
 
 -- a beginning, with another that it was told
-abbrev pub writes_told : ℕ → List Write → List Write → View
-writes_told n ws us = seat_view n false false false true false nothing (writes_fact us) ws
+abbrev pub lists_told : ℕ → GrowingLists → GrowingLists → View
+lists_told n ws us = seat_view n false false false true false nothing nothing ws us
 
 -- a book with a beginning
-abbrev pub book_begun : ℕ → Fact → List Write → View
-book_begun n x ws = seat_view n false true false true false x nothing ws
+abbrev pub book_begun : ℕ → Fact → GrowingLists → View
+book_begun n x ws = seat_view n false true false true false x nothing ws no_lists
 
 abbrev pub maker_view : ℕ → View
-maker_view n = seat_view n false false false false true nothing nothing []
+maker_view n = seat_view n false false false false true nothing nothing no_lists no_lists
 
 abbrev pub no_view : View
-no_view = seat_view 0 false false false false false nothing nothing []
+no_view = seat_view 0 false false false false false nothing nothing no_lists no_lists
 
 abbrev pub next_maker : View → View
 next_maker v = maker_view (v.name + 1)
@@ -93,10 +92,10 @@ abbrev pub share_alone : View → View
 share_alone v = share v.name v.fact
 
 abbrev pub beginning_of : View → View
-beginning_of v = writes_begun v.name (writes_in v.fact)
+beginning_of v = lists_begun v.name (lists_in v.fact)
 
 abbrev pub with_told : View → View → View
-with_told v w = writes_told v.name v.knows w.knows
+with_told v w = lists_told v.name v.knows w.knows
 
 abbrev pub with_beginning : View → View → View
 with_beginning v w = book_begun v.name v.fact w.knows
@@ -111,14 +110,14 @@ HasAgreed s v found w = (w.1 ≡ v.1) × (w.0 ≡ both v.0.name v.0.fact) × (v.
 abbrev pub HasGoneOn : Fact → Step NoFactSlot → Mine → ℕ → Mine → Type 0
 HasGoneOn x s v found w = (w.1 ≡ v.1) × (w.0 ≡ both v.0.name x)
 
--- the book's writes begin with the beginning
+-- the book's lists begin with the beginning
 abbrev pub HasBegun : Step NoFactSlot → Mine → ℕ → Mine → Type 0
-HasBegun s v found w = (w.1 ≡ v.1) × (w.0 ≡ book v.0.name v.0.fact) × IsPrefix v.0.knows (writes_in v.0.fact)
+HasBegun s v found w = (w.1 ≡ v.1) × (w.0 ≡ book v.0.name v.0.fact) × HaveGrown v.0.knows (lists_in v.0.fact)
 
 -- the longer of the two begins with both
-abbrev pub HasLearntWrites : Step NoFactSlot → Mine → ℕ → Mine → Type 0
-HasLearntWrites s v found w =
+abbrev pub HasLearntLists : Step NoFactSlot → Mine → ℕ → Mine → Type 0
+HasLearntLists s v found w =
     (w.1 ≡ v.1)
-    × (w.0 ≡ writes_begun v.0.name (longer_writes v.0.knows (writes_in v.0.had)))
-    × IsPrefix v.0.knows (longer_writes v.0.knows (writes_in v.0.had))
-    × IsPrefix (writes_in v.0.had) (longer_writes v.0.knows (writes_in v.0.had))
+    × (w.0 ≡ lists_begun v.0.name (longer_lists v.0.knows v.0.told))
+    × HaveGrown v.0.knows (longer_lists v.0.knows v.0.told)
+    × HaveGrown v.0.told (longer_lists v.0.knows v.0.told)

@@ -2,7 +2,7 @@
 
 use dt_chain::Write;
 use dt_cred::Account;
-use dt_trail::Named;
+use dt_trail::{Item, Named};
 use std::collections::LinkedList;
 
 /// What a name's share and its book hold.
@@ -17,6 +17,14 @@ pub enum Fact {
     Log(Log),
     /// Of a seat: what it published and withdrew, the oldest first.
     Writes(LinkedList<Write>),
+    /// Of a life: the items of its trail, the oldest first.
+    Items(LinkedList<Item>),
+}
+
+/// What of a fact only grows. A fact of writes has no items, one of items no writes, and any other neither.
+pub struct GrowingLists {
+    pub writes: LinkedList<Write>,
+    pub items: LinkedList<Item>,
 }
 
 /// The life that a seat is in, or was in last.

@@ -75,18 +75,18 @@ impl Model for Both {
     ghost invariant = { λ h. IsBoth h.seat };
 }
 
-/// A beginning of the writes that a name's fact has. A name may have many.
+/// A beginning of the writes or the items that a name's fact has. A name may have many.
 ///
-/// Contracts see it as a `BegunWrites` of `specs/Handles.antt`: which word it is of, its name, and the writes, the oldest first.
+/// Contracts see it as a `BegunLists` of `specs/Handles.antt`: which word it is of, its name, and the lists, the oldest first.
 #[derive(Drop)]
 pub struct Beginning {
     pub(crate) seat: Place,
 }
 
 impl Model for Beginning {
-    ghost use Rattle.dt_facts.specs.Handles.{BegunWrites, begun_seen, IsBeginning};
+    ghost use Rattle.dt_facts.specs.Handles.{BegunLists, begun_seen, IsBeginning};
 
-    ghost Value = { BegunWrites };
+    ghost Value = { BegunLists };
 
     ghost view = { λ h. begun_seen h.seat };
 

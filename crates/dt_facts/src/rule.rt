@@ -1,13 +1,11 @@
 //! The rule of the word. The types here are for the proofs.
 
-use crate::fact::Fact;
+use crate::fact::{Fact, GrowingLists};
 use atomic_table::{Join, Play, Seat, Split, Table, TableRule};
-use dt_chain::Write;
 use std::alloc::Global;
-use std::collections::LinkedList;
 use std::marker::{Brand, PhantomData};
 
-// What a seat has of a name: its share, its book, both at once, or a beginning of its writes. One that has just become both
+// What a seat has of a name: its share, its book, both at once, or a beginning of its lists. One that has just become both
 // remembers what the share held, until the two are compared, and a beginning that was told another remembers that, until it has
 // learnt it. The maker's has the next name. No value of it is made.
 pub struct View {
@@ -19,7 +17,8 @@ pub struct View {
     pub makes: bool,
     pub fact: Fact,
     pub had: Fact,
-    pub knows: LinkedList<Write>,
+    pub knows: GrowingLists,
+    pub told: GrowingLists,
 }
 
 /// A word that never changes.
@@ -121,9 +120,9 @@ impl Join<View> for Begins {
 }
 
 impl Play<(), View> for Begins {
-    ghost use Rattle.dt_facts.specs.Rule.{HasLearntWrites};
+    ghost use Rattle.dt_facts.specs.Rule.{HasLearntLists};
 
-    ghost then = { HasLearntWrites };
+    ghost then = { HasLearntLists };
 }
 
 // A beginning goes into its book, and is found to be one.

@@ -1,9 +1,8 @@
 //! What a seat does at the word.
 ghost use Rattle.std.specs.Prelude.{◌≡◌};
-ghost use mathlib.Core.List.{IsPrefix};
-ghost use Rattle.dt_facts.specs.Rule.{both, book, share, writes_begun};
+ghost use Rattle.dt_facts.specs.Rule.{both, book, share, lists_begun};
 ghost use Rattle.dt_facts.specs.Handles.{IsOf, IsShare, IsBook, IsBoth, IsBeginning};
-ghost use Rattle.dt_facts.specs.Facts.{Follows, writes_in, longer_writes};
+ghost use Rattle.dt_facts.specs.Facts.{Follows, HaveGrown, lists_in, longer_lists};
 
 use crate::rule::{Agrees, Begins, Compares, Given, GoesOn, Place, Shares};
 use crate::word::Facts;
@@ -39,11 +38,11 @@ impl Facts {
         self.table.shared.load::<GoesOn<G>>(seat, 0);
     }
 
-    // The writes so far are cut from the book.
+    // The lists so far are cut from the book.
     pub(crate) fn copy_out(&self, seat: &mut Place) -> Place
         requires book { IsBook seat.old × (seat.old.table_id ≡ self.now) }
         ensures book { IsOf self.now (book seat.old.me.0.name seat.old.me.0.fact) seat.new }
-        ensures beginning { IsOf self.now (writes_begun seat.old.me.0.name (writes_in seat.old.me.0.fact)) result }
+        ensures beginning { IsOf self.now (lists_begun seat.old.me.0.name (lists_in seat.old.me.0.fact)) result }
     {
         self.table.shared.split_seat::<Begins>(seat)
     }
@@ -52,8 +51,8 @@ impl Facts {
     pub(crate) fn take_in(&self, seat: &mut Place, other: Place)
         requires seat { IsBeginning seat.old × (seat.old.table_id ≡ self.now) }
         requires other { IsBeginning other × (other.table_id ≡ self.now) × (other.me.0.name ≡ seat.old.me.0.name) }
-        ensures longer { IsOf self.now (writes_begun seat.old.me.0.name (longer_writes seat.old.me.0.knows other.me.0.knows)) seat.new }
-        ensures begins { IsPrefix seat.old.me.0.knows (longer_writes seat.old.me.0.knows other.me.0.knows) × IsPrefix other.me.0.knows (longer_writes seat.old.me.0.knows other.me.0.knows) }
+        ensures longer { IsOf self.now (lists_begun seat.old.me.0.name (longer_lists seat.old.me.0.knows other.me.0.knows)) seat.new }
+        ensures begins { HaveGrown seat.old.me.0.knows (longer_lists seat.old.me.0.knows other.me.0.knows) × HaveGrown other.me.0.knows (longer_lists seat.old.me.0.knows other.me.0.knows) }
     {
         self.table.shared.join_seat::<Begins>(seat, other);
         self.table.shared.load::<Begins>(seat, 0);
@@ -63,7 +62,7 @@ impl Facts {
     pub(crate) fn look_up(&self, seat: &mut Place, other: Place)
         requires book { IsBook seat.old × (seat.old.table_id ≡ self.now) }
         requires beginning { IsBeginning other × (other.table_id ≡ self.now) × (other.me.0.name ≡ seat.old.me.0.name) }
-        ensures begins { IsPrefix other.me.0.knows (writes_in seat.old.me.0.fact) }
+        ensures begins { HaveGrown other.me.0.knows (lists_in seat.old.me.0.fact) }
         ensures book { IsOf self.now (book seat.old.me.0.name seat.old.me.0.fact) seat.new }
     {
         self.table.shared.join_seat::<Compares>(seat, other);

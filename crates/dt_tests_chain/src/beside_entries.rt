@@ -1,4 +1,4 @@
-//! Writes one after another, with looks that are compared with those of plain entries that had the same writes.
+//! Writes one after another, with looks that are compared with those of plain `Entries` that had the same writes.
 ghost use Rattle.std.specs.Prelude.{◌≡◌};
 
 use crate::calls::{
@@ -16,8 +16,8 @@ use std::test::Fail;
 /// How many writes are made.
 const WRITES: u64 = 300;
 
-/// After each write the chains name what the entries name. A write that is refused for memory changes nothing, and comes with
-/// the next one if it is in the list: where no allocation is refused, none is.
+/// After each write the chains name what the `Entries` name. A write that is refused for memory changes nothing, and comes with
+/// the next one if it is in the list. One is refused at most, as one allocation is.
 #[test]
 fn looks_are_those_of_entries(rt: HostRuntime) -> Result<(), Fail> {
     let machine = machine(rt.alloc())?;
@@ -51,6 +51,7 @@ fn compares<J: Site, R: Wait + Abort>(
     let mut entries = Entries::new(alloc);
     entries.reserve()?;
     let mut refused = None;
+    let mut was_refused = false;
     let mut count: u64 = 0;
     for number in 0..WRITES {
         let write = write_numbered(alloc, machine, number)?;
@@ -65,7 +66,11 @@ fn compares<J: Site, R: Wait + Abort>(
                 applied(&mut entries, &write)?;
                 count = count.wrapping_add(1);
             }
-            Err(_) => refused = Some(write),
+            Err(_) => {
+                assert!(rt; !was_refused);
+                was_refused = true;
+                refused = Some(write);
+            }
         }
         name_alike(rt, machine, &entries, &mut reader, count)?;
     }
@@ -95,7 +100,7 @@ fn write_numbered(alloc: Global, machine: &Machine, number: u64) -> Result<Write
     Ok(Write::publication(alloc, seat, number, account, &interest)?)
 }
 
-/// A look at each firing names what the entries name, after so many writes.
+/// A look at each firing names what the `Entries` name, after so many writes.
 fn name_alike<J: Site>(
     rt: &impl Abort,
     machine: &Machine,

@@ -1,4 +1,4 @@
-//! Tests of the published chains of `dt_chain`, by their public calls alone: in one thread beside plain entries, and with threads
+//! Tests of the published chains of `dt_chain`, by their public calls alone: in one thread beside plain `Entries`, and with threads
 //! that publish and look at the same time.
 //!
 //! The crate has no function of its own.

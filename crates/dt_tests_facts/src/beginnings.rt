@@ -1,7 +1,6 @@
 //! Beginnings of writes, learnt and compared.
 ghost use Rattle.std.specs.Prelude.{◌≡◌};
-ghost use mathlib.Core.List.{IsPrefix};
-ghost use Rattle.dt_facts.specs.Facts.{writes_in, longer_writes, Follows};
+ghost use Rattle.dt_facts.specs.Facts.{lists_in, longer_lists, HaveGrown, Follows};
 ghost use Rattle.dt_facts.specs.Handles.{begun, holding};
 
 use dt_facts::{Beginning, Book, Facts, Given, Share};
@@ -21,8 +20,8 @@ fn catches_up<G: Given>(facts: &Facts, book: &mut Book, share: &mut Share) -> Be
     requires book { book.old.word ≡ facts.now }
     requires share { (share.old.word ≡ facts.now) × (share.old.name ≡ book.old.name) }
     requires follows { Follows share.old.fact G.fact }
-    ensures beginning { result ≡ begun facts.now book.old.name (writes_in G.fact) }
-    ensures begins { IsPrefix (writes_in book.old.fact) (writes_in G.fact) }
+    ensures beginning { result ≡ begun facts.now book.old.name (lists_in G.fact) }
+    ensures begins { HaveGrown (lists_in book.old.fact) (lists_in G.fact) }
     ensures book { book.new ≡ holding facts.now book.old.name G.fact }
 {
     let mut early = facts.begin(book);
@@ -31,12 +30,12 @@ fn catches_up<G: Given>(facts: &Facts, book: &mut Book, share: &mut Share) -> Be
     early
 }
 
-// The longer of two beginnings begins the book's writes.
+// The longer of two beginnings begins what the book says.
 fn longer_begins(facts: &Facts, book: &mut Book, one: Beginning, other: Beginning)
     requires book { book.old.word ≡ facts.now }
     requires one { (one.word ≡ facts.now) × (one.name ≡ book.old.name) }
     requires other { (other.word ≡ facts.now) × (other.name ≡ book.old.name) }
-    ensures begins { IsPrefix (longer_writes one.writes other.writes) (writes_in book.old.fact) }
+    ensures begins { HaveGrown (longer_lists one.lists other.lists) (lists_in book.old.fact) }
     ensures same { book.new ≡ book.old }
 {
     let mut one = one;

@@ -1,6 +1,6 @@
 //! A number that lies under a lock, beside the book that says it.
-ghost use Rattle.std.specs.Prelude.{◌≡◌, ℕ, [], None};
-ghost use Rattle.dt_facts.specs.Facts.{processor_fact, writes_in};
+ghost use Rattle.std.specs.Prelude.{◌≡◌, ℕ, None};
+ghost use Rattle.dt_facts.specs.Facts.{processor_fact, lists_in, no_lists};
 
 use dt_facts::{Book, Facts, Share};
 use std::marker::{Brand, PhantomData};
@@ -61,7 +61,7 @@ impl<W: Which> Desk<W> {
     pub(crate) fn change(&mut self, facts: &Facts, share: &mut Share, number: u64)
         requires word { (facts.now ≡ W.word) × (share.old.word ≡ W.word) }
         requires name { share.old.name ≡ W.name }
-        requires empty { writes_in share.old.fact ≡ [] }
+        requires empty { lists_in share.old.fact ≡ no_lists }
         ensures word { share.new.word ≡ W.word }
         ensures name { share.new.name ≡ W.name }
         ensures changed { share.new.fact ≡ processor_fact None number }

@@ -8,4 +8,6 @@ mod desk;
 #[cfg(test)]
 mod one_thread;
 #[cfg(test)]
+mod receipts;
+#[cfg(test)]
 mod threads;

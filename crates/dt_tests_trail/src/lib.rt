@@ -2,6 +2,8 @@
 #![tactic(auto)]
 
 #[cfg(test)]
+mod again;
+#[cfg(test)]
 mod items;
 #[cfg(test)]
 mod lawful;
@@ -11,5 +13,7 @@ mod longest;
 mod rows;
 #[cfg(test)]
 mod threads;
+#[cfg(test)]
+mod widening;
 #[cfg(test)]
 mod writers;

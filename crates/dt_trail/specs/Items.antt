@@ -49,5 +49,5 @@ abbrev pub StartsWith : List TrailItem → List TrailItem → Type 0
 StartsWith row seen = (rest : List TrailItem) × (row ≡ seen ++ rest)
 
 -- the longer of two lists
-abbrev pub longer : List TrailItem → List TrailItem → List TrailItem
+abbrev pub longer : {A : Type 0} → List A → List A → List A
 longer xs ys = cond (nat_lt (length xs) (length ys)) ys xs

@@ -5,7 +5,7 @@ ghost use Rattle.dt_trail.specs.Placed.{in_block_prop};
 
 use crate::law::Law;
 use crate::limits::WIDENINGS_MAX;
-use crate::rule::{About, Row, View};
+use crate::rule::{About, AppendOnly, View};
 use atomic_blocks::rows::{Rows, Seat};
 use std::alloc::Global;
 
@@ -21,7 +21,7 @@ pub type RowSeat<K> = Seat<(), View<K>, Global>;
 
 /// The rows of cells, of which row 0 is the root and each other a block, and what is fixed of them.
 pub struct Inner<K, L: Law<K>> {
-    pub rows: Rows<(), View<K>, About<K>, Row<L>, Global>,
+    pub rows: Rows<(), View<K>, About<K>, AppendOnly<L>, Global>,
     pub about: About<K>,
     pub alloc: Global,
     ghost keyed: { (rows.key ≡ about) × (rows.heap ≡ alloc) },

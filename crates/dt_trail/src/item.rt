@@ -9,11 +9,11 @@ use std::marker::Model;
 /// Contracts see it as a `TrailItem` of `specs/Items.antt`.
 #[derive(Drop)]
 pub struct Item {
-    kind: Kind,
+    stored: StoredItem,
 }
 
 #[derive(Drop)]
-enum Kind {
+enum StoredItem {
     Line(Vec<u8>),
     LongLine,
     Fired { cpu: u32, place: u32 },
@@ -27,9 +27,9 @@ impl Model for Item {
     ghost use Rattle.dt_trail.specs.Items.{IsReal};
     ghost use Rattle.dt_trail.specs.Kinds.{item_of};
 
-    ghost view = { λ item. item_of item.kind };
+    ghost view = { λ item. item_of item.stored };
 
-    ghost invariant = { λ item. IsReal (item_of item.kind) };
+    ghost invariant = { λ item. IsReal (item_of item.stored) };
 }
 
 /// What an item is, lent by it.
@@ -52,7 +52,7 @@ impl Item {
         ensures { result ≡ line bytes.items }
     {
         Item {
-            kind: Kind::Line(bytes),
+            stored: StoredItem::Line(bytes),
         }
     }
 
@@ -61,7 +61,7 @@ impl Item {
         ensures { result ≡ long_line }
     {
         Item {
-            kind: Kind::LongLine,
+            stored: StoredItem::LongLine,
         }
     }
 
@@ -71,7 +71,7 @@ impl Item {
         ensures { result ≡ fired cpu place }
     {
         Item {
-            kind: Kind::Fired { cpu, place },
+            stored: StoredItem::Fired { cpu, place },
         }
     }
 
@@ -79,10 +79,10 @@ impl Item {
     pub fn kind(&self) -> ItemKind<'_>
         ensures { item_lent result ≡ self.now }
     {
-        match &self.kind {
-            Kind::Line(bytes) => ItemKind::Line(bytes),
-            Kind::LongLine => ItemKind::LongLine,
-            Kind::Fired { cpu, place } => ItemKind::Fired {
+        match &self.stored {
+            StoredItem::Line(bytes) => ItemKind::Line(bytes),
+            StoredItem::LongLine => ItemKind::LongLine,
+            StoredItem::Fired { cpu, place } => ItemKind::Fired {
                 cpu: *cpu,
                 place: *place,
             },
@@ -94,9 +94,11 @@ impl Item {
         ensures word { result ≡ code self.now }
         ensures real { IsReal self.now }
     {
-        match &self.kind {
-            Kind::Line(_) | Kind::LongLine => 1,
-            Kind::Fired { cpu, place } => 2 + u64::from(*cpu) * 0x1_0000_0000 + u64::from(*place),
+        match &self.stored {
+            StoredItem::Line(_) | StoredItem::LongLine => 1,
+            StoredItem::Fired { cpu, place } => 2
+                + u64::from(*cpu) * 0x1_0000_0000
+                + u64::from(*place),
         }
     }
 }

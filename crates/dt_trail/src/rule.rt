@@ -40,11 +40,11 @@ pub struct About<K> {
 }
 
 /// A root, and blocks of words, each 0 until it is set to an item.
-pub struct Row<L> {
+pub struct AppendOnly<L> {
     of: PhantomData<L>,
 }
 
-impl<K, L: Law<K>> RowRule<(), View<K>, About<K>> for Row<L> {
+impl<K, L: Law<K>> RowRule<(), View<K>, About<K>> for AppendOnly<L> {
     ghost use Rattle.dt_trail.specs.Rule.{Kept, maker, first_door, first_site};
     ghost use Rattle.std.specs.Prelude.{Some};
 

@@ -1,4 +1,4 @@
--- What the last write of a seat says of its entry, and what the last writes of all seats say of entries.
+-- What the last write of a seat says of its publication, and what the last writes of all seats say of `Entries`.
 use Rattle.std.proofs.Common.{◌≡◌, ◌≢◌, ◌↔◌, ℕ, ◌==◌, Bool, true, false, cond, List, [], ◌∷◌, Option, Some, IsSomeAnd}
 use Rattle.std.proofs.Common.{IsTrue, refl, sym, ap, subst, ◌∙◌, eqb}
 use Rattle.std.proofs.lemmas.Bool.{eq-eqb, ne_eqb}
@@ -15,21 +15,21 @@ use Rattle.dt_chain.specs.Writes.{Write, Published, published, withdrawn, publis
 use Rattle.dt_chain.specs.Writes.{seat_of, published_by, writes_of, last_write_of, SameLastWrites}
 use Rattle.dt_chain.specs.declared.entries.Entries.{Entries}
 
-entry_after : (own : Bool) (write : Write) (earlier : Option Write)
+left_after : (own : Bool) (write : Write) (earlier : Option Write)
     → option_and_then published_by (cond own (Some write) earlier)
     ≡ cond own (published_by write) (option_and_then published_by earlier)
-entry_after true write earlier = refl
-entry_after false write earlier = refl
+left_after true write earlier = refl
+left_after false write earlier = refl
 
--- The entry of a seat is what its last write leaves.
+-- What is published of a seat is what its last write leaves.
 pub published_on-last : (writes : List Write) (seat : ℕ)
     → published_on writes seat ≡ option_and_then published_by (last_write_of writes seat)
 published_on-last [] seat = refl
 published_on-last (published at life account probes ∷ earlier) seat =
     rw (published_on-last earlier seat)
-    (sym (entry_after (at == seat) (published at life account probes) (last_write_of earlier seat)))
+    (sym (left_after (at == seat) (published at life account probes) (last_write_of earlier seat)))
 published_on-last (withdrawn at ∷ earlier) seat =
-    rw (published_on-last earlier seat) (sym (entry_after (at == seat) (withdrawn at) (last_write_of earlier seat)))
+    rw (published_on-last earlier seat) (sym (left_after (at == seat) (withdrawn at) (last_write_of earlier seat)))
 
 -- A write is the last one of its seat.
 pub last_write_of-own : (write : Write) (writes : List Write)
@@ -51,7 +51,7 @@ found_among : {A : Type 0} (test : A → Bool) (xs : List A) → find test (filt
 found_among test [] = refl
 found_among test (x ∷ xs) = found_first test x xs (test x) refl (found_among test xs)
 
--- Of all writes those of one seat alone say which is its last, and so what its entry is.
+-- Of all writes those of one seat alone say which is its last, and so what is published of it.
 pub last_write_of-writes_of : (writes : List Write) (seat : ℕ)
     → last_write_of (writes_of writes seat) seat ≡ last_write_of writes seat
 last_write_of-writes_of writes seat = found_among (λ write. eqb (seat_of write) seat) writes
@@ -63,7 +63,7 @@ published_on-writes_of writes seat =
     ∙ ap (option_and_then published_by) (last_write_of-writes_of writes seat)
     ∙ sym (published_on-last writes seat)
 
--- Where each seat has the same last write, it has the same entry.
+-- Where each seat has the same last write, it has the same publication.
 pub same_published : (writes others : List Write) → SameLastWrites writes others
     → (seat : ℕ) → published_on writes seat ≡ published_on others seat
 same_published writes others same seat =
@@ -71,7 +71,7 @@ same_published writes others same seat =
     ∙ ap (option_and_then published_by) (same.each seat)
     ∙ sym (published_on-last others seat)
 
--- Entries at the end of one such history are at the end of the other.
+-- `Entries` at the end of one such history are at the end of the other.
 pub same_entries : (writes others : List Write) (entries : Entries) → SameLastWrites writes others
     → EntriesAreAt writes entries → EntriesAreAt others entries
 same_entries writes others entries same at =
@@ -79,9 +79,9 @@ same_entries writes others entries same at =
     record {
       kept = λ seat. at.kept seat ∙ ap (option_map slot_of) (alike seat);
       listed = λ probe seat.
-          let P : Option Published → Type 0 = λ entry.
+          let P : Option Published → Type 0 = λ publication.
           IsTrue (is_seat_listed entries.lists probe seat)
-          ↔ IsSomeAnd entry (λ one. interest.Names one.probes probe) in
+          ↔ IsSomeAnd publication (λ one. interest.Names one.probes probe) in
           subst P (alike seat) (at.listed probe seat);
     }
 
@@ -92,16 +92,16 @@ same_looks registry writes others firing lives same look =
     let alike = same_published writes others same in
     record {
       exactly = λ seat life.
-          let P : Option Published → Type 0 = λ entry.
+          let P : Option Published → Type 0 = λ publication.
           (lives seat ≡ Some life)
-          ↔ IsSomeAnd entry (λ one. (one.life ≡ life) × NamesFiring registry one firing) in
+          ↔ IsSomeAnd publication (λ one. (one.life ≡ life) × NamesFiring registry one firing) in
           subst P (alike seat) (look.exactly seat life);
     }
 
 through : {P Q R : Type 0} → (P ↔ Q) → (P ↔ R) → (Q ↔ R)
 through a b = (λ q. b.0 (a.1 q), λ r. a.0 (b.1 r))
 
--- Two entries at the end of one history go on alike: where one is, the other is too.
+-- Two `Entries` at the end of one history go on alike: where one is, the other is too.
 pub copies_agree : (writes others : List Write) (some other : Entries)
     → EntriesAreAt writes some → EntriesAreAt writes other → EntriesAreAt others some → EntriesAreAt others other
 copies_agree writes others some other a b c = record {

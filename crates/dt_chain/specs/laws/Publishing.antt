@@ -23,19 +23,19 @@ listed_at : (n : ℕ) (account : Account) (probes others : List Bool) (before : 
     (probe : ℕ)
     (listed : Bool) → interest.Names probes probe ↔ interest.Names others probe
     → IsTrue listed ↔ IsSomeAnd (cond same (Some (record { life = n; account = account; probes = probes })) before)
-    (λ (entry : Published). interest.Names entry.probes probe)
+    (λ (publication : Published). interest.Names publication.probes probe)
     → IsTrue listed ↔ IsSomeAnd (cond same (Some (record { life = n; account = account; probes = others })) before)
-    (λ (entry : Published). interest.Names entry.probes probe)
+    (λ (publication : Published). interest.Names publication.probes probe)
 listed_at n account probes others before true probe listed alike h =
     (λ e. alike.0 (h.0 e), λ names. h.1 (alike.1 names))
 listed_at n account probes others before false probe listed alike h = h
 
--- Entries see what was published by the probes that it names: two sets of the same probes are published alike.
-pub entered_alike : (seat n : ℕ) (account : Account) (probes others : List Bool) (writes : List Write) (entries : Entries)
+-- `Entries` see a publication by the probes that it names: two sets of the same probes are published alike.
+pub published_alike : (seat n : ℕ) (account : Account) (probes others : List Bool) (writes : List Write) (entries : Entries)
     → ((id : ℕ) → interest.Names probes id ↔ interest.Names others id)
     → EntriesAreAt (published seat n account probes ∷ writes) entries
     → EntriesAreAt (published seat n account others ∷ writes) entries
-entered_alike seat n account probes others writes entries alike h = record {
+published_alike seat n account probes others writes entries alike h = record {
   kept = λ at. slot_at n account probes others (published_on writes at) (seat == at)
       (slice_index_or entries.slots at None)
       (h.kept at);

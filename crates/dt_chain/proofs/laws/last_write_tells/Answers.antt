@@ -5,5 +5,5 @@ use Rattle.dt_chain.proofs.laws.last_write_tells.Goals as goal
 pub returns-clause-newest : goal.returns-clause-newest
 returns-clause-newest c = last_write_of-own
 
-pub returns-clause-entry : goal.returns-clause-entry
-returns-clause-entry c = published_on-last
+pub returns-clause-published : goal.returns-clause-published
+returns-clause-published c = published_on-last

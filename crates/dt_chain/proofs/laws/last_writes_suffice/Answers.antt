@@ -1,4 +1,4 @@
--- The same last writes leave the same entries and the same looks.
+-- The same last writes leave the same `Entries` and the same looks.
 use Rattle.dt_chain.specs.laws.LastWrites.{same_entries, same_looks}
 use Rattle.dt_chain.proofs.laws.last_writes_suffice.Goals as goal
 

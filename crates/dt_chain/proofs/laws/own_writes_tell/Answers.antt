@@ -8,5 +8,5 @@ returns-clause-other c = last_write_of-other
 pub returns-clause-last : goal.returns-clause-last
 returns-clause-last c = last_write_of-writes_of
 
-pub returns-clause-entry : goal.returns-clause-entry
-returns-clause-entry c = published_on-writes_of
+pub returns-clause-published : goal.returns-clause-published
+returns-clause-published c = published_on-writes_of

@@ -25,7 +25,7 @@ returns-clause-look c = λ writes at.
           (c.of-seats.ensures seat ∙ ap (λ (f : Firing). is_seat_listed lists f.probe seat) (sym is.1))
           (at.listed m.firing.now.probe seat) in
           let P : Option ℕ → Type 0 = λ o. (o ≡ Some life) ↔ IsSomeAnd (published_on writes seat)
-          (λ entry. (entry.life ≡ life) × NamesFiring registry entry m.firing.now) in
+          (λ publication. (publication.life ≡ life) × NamesFiring registry publication m.firing.now) in
           subst P (sym (c.show_all.ensures registry is.0 seat))
           (look_at registry m.firing.now is.0.belongs (has c.of-seats.result seat) (slot seat) (published_on writes seat)
           (at.kept seat) listed life);

@@ -1,4 +1,4 @@
--- The seat has the new entry, and the others have theirs.
+-- The seat has the new publication, and the others have theirs.
 use Rattle.std.proofs.Common.{◌≡◌, ◌≢◌, ◌↔◌, ℕ, ◌<◌, IsTrue, length, ◌∙◌, rules}
 use Rattle.dt_machine.specs.Interest.{Names, flags_of}
 use Rattle.dt_machine.specs.laws.Flags.{names_flags}
@@ -11,13 +11,13 @@ use Rattle.dt_chain.proofs.entries.Entries.publish.Goals as goal
 pub returns-clause-ok : goal.returns-clause-ok
 returns-clause-ok c = λ writes at.
     let old = c.args.self.now in
-    let entry : Published = record {
+    let publication : Published = record {
       life = c.args.life;
       account = c.args.account.now;
       probes = flags_of c.args.interest.now;
     } in
     let within : c.number.result < length old.slots = search rules in
-    let own : (probe : ℕ) → IsTrue (is_seat_listed c.set.new.self probe c.args.seat) ↔ Names entry.probes probe =
+    let own : (probe : ℕ) → IsTrue (is_seat_listed c.set.new.self probe c.args.seat) ↔ Names publication.probes probe =
     λ probe.
     let named = names_flags c.args.interest.now c.args.interest.now.bounded probe in
     along _ _ _ (c.set.ensures.own probe) (λ e. named.1 e, λ n. named.0 n) in
@@ -27,11 +27,11 @@ returns-clause-ok c = λ writes at.
     record {
       kept = λ seat.
           rw c.number.ensures.value
-          (kept_after old.slots c.args.seat seat entry (published_on writes seat)
+          (kept_after old.slots c.args.seat seat publication (published_on writes seat)
           (rw (← c.number.ensures.value) within)
           (at.kept seat));
       listed = λ probe seat.
           listed_after (λ other. is_seat_listed old.lists probe other)
           (λ other. is_seat_listed c.set.new.self probe other)
-          c.args.seat seat probe entry (published_on writes seat) (own probe) (others probe) (at.listed probe seat);
+          c.args.seat seat probe publication (published_on writes seat) (own probe) (others probe) (at.listed probe seat);
     }
