@@ -19,7 +19,7 @@ use Rattle.dt_steps.specs.declared.place.Place.{Place as HeldPlace}
 use Rattle.dt_steps.specs.declared.session.Session.{Session as HeldSession}
 use Rattle.dt_steps.proofs.Holding.{serves}
 use Rattle.dt_ecb.specs.laws.Interest.{interest_from, interest_to, wanted_from, wanted_to}
-use Rattle.dt_chain.specs.laws.Publishing.{entered_alike}
+use Rattle.dt_chain.specs.laws.Publishing.{published_alike}
 
 -- the probes that ECBs name are those of their interest
 interest_alike : (own : List EcbForm) (probes : Interest)
@@ -82,7 +82,7 @@ module _ (registry : Registry) (place : Place) (held : HeldPlace) (h : IsHeld re
       let now_published : chain.EntriesAreAt (published seat (length place.earlier) session.account
       (interest_of own) ∷ writes)
       later =
-      entered_alike seat (length place.earlier) session.account flags (interest_of own) writes later
+      published_alike seat (length place.earlier) session.account flags (interest_of own) writes later
       (interest_alike own probes bounded (named session s.kept))
       (subst (λ n. chain.EntriesAreAt (published seat n session.account flags ∷ writes) later) h.counted
       (subst (λ a. chain.EntriesAreAt (published seat held.earlier a flags ∷ writes) later) s.kept.owner at)) in
