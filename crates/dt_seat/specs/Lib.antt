@@ -1,0 +1,5 @@
+-- What the contracts of this crate cite.
+
+pub mod Trailed
+pub mod Names
+pub mod Keeps
