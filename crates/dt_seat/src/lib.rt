@@ -1,7 +1,16 @@
 //! What lies under the lock of a seat.
 #![tactic(auto)]
 
+mod asking;
+mod follower;
+mod held;
+mod keep;
 mod prepared;
+mod present;
+mod site;
 mod trailed;
 
+pub use follower::Follower;
+pub use held::Held;
+pub use site::HubSite;
 pub use trailed::{Note, Owner};
