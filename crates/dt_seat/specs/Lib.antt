@@ -4,3 +4,4 @@ pub mod Trailed
 pub mod Names
 pub mod Keeps
 pub mod Seats
+pub mod Sessions

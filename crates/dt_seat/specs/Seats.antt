@@ -1,5 +1,5 @@
 -- What a seat keeps under its lock, and what a processor finds there.
-use Rattle.std.specs.Prelude.{◌≡◌, ◌≤◌, ◌+◌, ◌++◌, ◌∷◌, ℕ, true, List, [], Option, Some, None, IfSome, MatchOption, length, slice_get}
+use Rattle.std.specs.Prelude.{◌≡◌, ◌<◌, ◌≤◌, ◌+◌, ◌^◌, ◌++◌, ◌∷◌, ℕ, true, List, [], Option, Some, None, IfSome, MatchOption, length, option_map, slice_get}
 use Rattle.atomic_table.specs.Seated.{TableId}
 use Rattle.dt_cred.specs.declared.account.Account.{Account}
 use Rattle.dt_cred.specs.declared.firing.Firing.{Firing}
@@ -15,8 +15,14 @@ use Rattle.dt_seat.specs.declared.held.Held.{Held}
 use Rattle.dt_seat.specs.declared.held.Held.TheVariants.{Kept as WasKept, Unseen, Gone}
 use Rattle.dt_seat.specs.declared.present.Present.{Present}
 use Rattle.dt_trail.specs.Items.{StartsWith, TrailItem, fired, own}
-use Rattle.dt_trail.specs.Known.{Noted}
+use Rattle.dt_trail.specs.Known.{Known, Noted}
 use Rattle.dt_trail.specs.Limits.{cpu_count}
+
+-- what contracts see of a seat under its lock
+pub record Seated : Type 0 where
+  pub number : ℕ
+  pub life : ℕ
+  pub trail : Option (Known Account)
 
 module _ {J : Type 0} where
   -- A seat with an open life: its book says which life, with its trail; the consumer stands for the trail; and what is kept for
@@ -29,6 +35,26 @@ module _ {J : Type 0} where
     pub trailed : IsTrailed contents present.account present.owner present.consumer
     pub each : (cpu : ℕ) → IfSome (slice_get keeps cpu)
       (IsKept word contents.registry.cpus number cpu life present.owner.row present.owner.knows)
+
+-- A seat without an open life, of which the next has this number: its book says nothing, and its share lies there.
+pub record IsFree (word : TableId) (contents : Contents) (number life : ℕ) (lives : HeldFact) (free : Option HeldFact)
+    (keeps : List Kept) : Type 0 where
+  pub few : contents.registry.cpus ≤ cpu_count
+  pub many : length keeps ≡ contents.registry.cpus
+  pub named : lives ≡ holding word (life_name contents.registry.cpus number) nothing
+  pub share : free ≡ Some (holding word (life_name contents.registry.cpus number) nothing)
+  pub each : (cpu : ℕ) → IfSome (slice_get keeps cpu) (IsLeft word contents.registry.cpus number cpu life)
+
+module _ {J : Type 0} where
+  -- What lies under a seat's lock: a session that is open, or none.
+  abbrev pub IsSeat : TableId → Contents → (number life : ℕ) → Option (Present J) → HeldFact → Option HeldFact → List Kept → Type 0
+  IsSeat word contents number life present lives free keeps = MatchOption present
+      (IsFree word contents number life lives free keeps)
+      (λ p. IsTaken word contents number life lives p keeps × (life + 1 < 2 ^ 64))
+
+  -- what contracts see of it: which seat it is, how many sessions were there before, and the trail of the present one
+  abbrev pub seated : ℕ → ℕ → Option (Present J) → Seated
+  seated number life present = record { number = number; life = life; trail = option_map (λ p. p.owner) present }
 
 -- A trail of the life begins with what was known of it, has no more of the processor's firings, and is legal.
 pub record Reaches (contents : Contents) (account : Account) (cpu : ℕ) (known trail : List TrailItem) : Type 0 where

@@ -5,12 +5,16 @@ mod asking;
 mod follower;
 mod held;
 mod keep;
+mod locked;
 mod prepared;
 mod present;
+mod session;
 mod site;
 mod trailed;
 
 pub use follower::Follower;
 pub use held::Held;
+pub use locked::LockedSeat;
+pub use session::Session;
 pub use site::HubSite;
 pub use trailed::{Note, Owner};
