@@ -20,6 +20,9 @@ pub record Kept : Type 0 where
 abbrev pub kept : Option (Noted Account) → HeldFact → Kept
 kept note book = record { note = note; book = book }
 
+abbrev pub without_note : Kept → Kept
+without_note k = kept None k.book
+
 -- what a processor has at a seat: which life's note it took last, below which number all lives are over, and that note
 pub record Followed : Type 0 where
   pub seat : ℕ

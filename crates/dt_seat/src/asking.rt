@@ -39,7 +39,7 @@ fn publish<J: HubSite, R: Wait>(
 }
 
 /// Withdraws what a seat published, and says whether it did. Where it didn't, for want of memory, the chains name a life that sees nothing.
-fn withdraw<J: HubSite, R: Wait>(rt: &R, chains: &Mutex<ChainWriter<J>>, number: Seat) -> bool {
+pub(crate) fn withdraw<J: HubSite, R: Wait>(rt: &R, chains: &Mutex<ChainWriter<J>>, number: Seat) -> bool {
     let mut writer = chains.lock(rt);
     let result = writer.withdraw(rt, number);
     MutexGuard::unlock(writer);

@@ -6,6 +6,8 @@ mod follower;
 mod held;
 mod keep;
 mod locked;
+mod notes;
+mod opening;
 mod prepared;
 mod present;
 mod session;
