@@ -31,6 +31,10 @@ pub record Followed : Type 0 where
   pub over : ℕ
   pub note : Option (Noted Account)
 
+-- what a processor has at a seat where it took nothing
+abbrev pub followed_at : (seat cpu : ℕ) → Followed
+followed_at seat cpu = record { seat = seat; cpu = cpu; took = None; over = 0; note = None }
+
 -- what a fact says that a processor took, and which lives are over
 abbrev pub took_in : Fact → Option LastNote
 took_in (kinds.Processor processor) = processor.took

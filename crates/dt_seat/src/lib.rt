@@ -6,6 +6,7 @@ mod follower;
 mod held;
 mod keep;
 mod locked;
+mod making;
 mod notes;
 mod opening;
 mod prepared;
