@@ -3,7 +3,6 @@ use Rattle.std.proofs.Common.{◌≡◌, ◌≢◌, ◌<◌, ◌+◌, ◌==◌, 
 use Rattle.std.proofs.lemmas.List.{length-set}
 use Rattle.std.proofs.lemmas.List.Elements.{filter-append}
 use Rattle.std.specs.List.{slice_get, slice_set}
-use Rattle.std.specs.Option.{IfSome}
 use Rattle.atomic_table.specs.Seated.{TableId}
 use Rattle.dt_consumer.specs.declared.consumer.Consumer.{Consumer}
 use Rattle.dt_cred.specs.declared.account.Account.{Account}
@@ -18,12 +17,12 @@ use Rattle.dt_life.specs.laws.Lists.{replaced}
 use Rattle.dt_life.specs.laws.Options.{if_some_map}
 use Rattle.dt_machine.specs.Registry.{Contents}
 use Rattle.dt_seat.specs.Keeps.{Carries, Followed, IsKept, Kept, known_by, known_in, known_of}
-use Rattle.dt_seat.specs.Seats.{Follows, IsAnswered, IsHeld, IsTaken, Reaches}
+use Rattle.dt_seat.specs.Seats.{IsAnswered, IsHeld, IsTaken, Reaches}
 use Rattle.dt_seat.specs.declared.held.Held.TheVariants.{Kept as WasKept, Unseen}
 use Rattle.dt_seat.specs.Trailed.{IsDue, IsTrailed, row_after, row_offered, with_items}
 use Rattle.dt_seat.specs.declared.present.Present.{Present}
 use Rattle.dt_trail.specs.Items.{StartsWith, TrailItem, fired, own, whose}
-use Rattle.dt_trail.specs.Known.{Grows, Known, Meets, Noted, noted}
+use Rattle.dt_trail.specs.Known.{Grows, Meets, Noted, noted}
 use Rattle.dt_trail.specs.declared.law.Named.{Named}
 
 -- an item of another note adds nothing to a note's own

@@ -1,18 +1,18 @@
 -- What a consumer and its trail become.
-use Rattle.std.proofs.Common.{◌≡◌, ◌≤◌, ◌<◌, ◌+◌, ◌&&◌, ℕ, Bool, true, false, List, [], ◌∷◌, ◌++◌, Result, Ok, Some, cond, length, refl, sym, ap, ◌∙◌, subst, arith, inl, inr}
+use Rattle.std.proofs.Common.{◌≡◌, ◌≤◌, ◌<◌, ◌+◌, ℕ, true, false, List, [], ◌∷◌, ◌++◌, Result, Some, refl, sym, ◌∙◌, subst, arith, inl, inr}
 use Rattle.std.specs.List.{AllByRecursion}
 use Rattle.std.proofs.lemmas.Bool.{and_parts}
 use Rattle.dt_cred.specs.declared.account.Account.{Account}
 use Rattle.dt_cred.specs.declared.firing.Firing.{Firing}
 use Rattle.dt_consumer.specs.StandsFor.{StandsFor}
 use Rattle.dt_consumer.specs.declared.consumer.Consumer.{Consumer}
-use Rattle.dt_legal.specs.Rows.{AreBelowPlace, IsBelow, IsLegalRow, Suffice, form_of, life_of_row, set_up_of}
+use Rattle.dt_legal.specs.Rows.{AreBelowPlace, IsBelow, Suffice, form_of, life_of_row, set_up_of}
 use Rattle.dt_legal.specs.laws.Following.{line_follows, firing_follows}
-use Rattle.dt_legal.specs.laws.Room.{Begins, suffices_after_line, suffices_after_firing, suffices_at_first}
+use Rattle.dt_legal.specs.laws.Room.{Begins, suffices_after_line, suffices_after_firing}
 use Rattle.dt_life.specs.Acceptance.{after_line}
 use Rattle.dt_life.specs.Ask.{Ask}
 use Rattle.dt_life.specs.declared.refusal.Refusal.{Refusal}
-use Rattle.dt_life.specs.Life.{Item, SetUp, asked, after_item, has_room, is_inactive, is_over, phase, set_up}
+use Rattle.dt_life.specs.Life.{Item, SetUp, asked, is_inactive, is_over, set_up}
 use Rattle.dt_life.specs.Life.{fired as fired_item}
 use Rattle.dt_life.specs.Sees.{Sees}
 use Rattle.dt_life.specs.declared.phase.Phase.{Phase}

@@ -2,7 +2,7 @@
 use Rattle.std.specs.Prelude.{◌≡◌, ◌≢◌, ◌≤◌, ◌<◌, ◌+◌, ◌==◌, ◌⊎◌, ℕ, List, [], Option, Some, None, IfSome, if◌then◌else◌}
 use Rattle.atomic_table.specs.Seated.{TableId}
 use Rattle.dt_cred.specs.declared.account.Account.{Account}
-use Rattle.dt_facts.specs.Facts.{life_fact, processor_fact, last_note, nothing}
+use Rattle.dt_facts.specs.Facts.{processor_fact, last_note, nothing}
 use Rattle.dt_facts.specs.Handles.{HeldFact, holding}
 use Rattle.dt_facts.specs.declared.fact.Fact.{Fact}
 use Rattle.dt_facts.specs.declared.fact.Fact.TheVariants as kinds
@@ -64,7 +64,7 @@ pub record IsKept (word : TableId) (cpus seat cpu life : ℕ) (row : Named Accou
   pub book : IsBookOf word cpus seat cpu k.book
   pub below : over_in k.book.fact ≤ life
   pub untaken : (n : Noted Account) → k.note ≡ Some n
-    → (n ≡ noted row (cpu + 1) []) × (own (cpu + 1) knows ≡ []) × IsEarlier life (took_in k.book.fact)
+      → (n ≡ noted row (cpu + 1) []) × (own (cpu + 1) knows ≡ []) × IsEarlier life (took_in k.book.fact)
   pub taken : k.note ≡ None → took_in k.book.fact ≡ Some (last_note life row)
 
 -- What is kept for a processor at a seat where no life is open, and the next is of this number.
@@ -77,7 +77,7 @@ pub record IsLeft (word : TableId) (cpus seat cpu life : ℕ) (k : Kept) : Type 
 pub record IsFollower (word : TableId) (cpus seat cpu life : ℕ) (share : HeldFact) (note : Option (Noted Account)) : Type 0 where
   pub share_is : IsBookOf word cpus seat cpu share
   pub one : (n : Noted Account) → note ≡ Some n
-    → (took_in share.fact ≡ Some (last_note life n.row)) × (n ≡ noted n.row (cpu + 1) n.knows)
+      → (took_in share.fact ≡ Some (last_note life n.row)) × (n ≡ noted n.row (cpu + 1) n.knows)
   pub none : note ≡ None → took_in share.fact ≡ None
 
 abbrev pub followed : (seat cpu : ℕ) → HeldFact → Option (Noted Account) → Followed

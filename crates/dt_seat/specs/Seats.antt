@@ -1,5 +1,5 @@
 -- What a seat keeps under its lock, and what a processor finds there.
-use Rattle.std.specs.Prelude.{◌≡◌, ◌<◌, ◌≤◌, ◌+◌, ◌^◌, ◌++◌, ◌∷◌, ℕ, true, List, [], Option, Some, None, IfSome, MatchOption, length, option_map, slice_get}
+use Rattle.std.specs.Prelude.{◌≡◌, ◌<◌, ◌≤◌, ◌+◌, ◌^◌, ◌++◌, ◌∷◌, ℕ, true, List, [], Option, Some, IfSome, MatchOption, length, option_map, slice_get}
 use Rattle.atomic_table.specs.Seated.{TableId}
 use Rattle.dt_cred.specs.declared.account.Account.{Account}
 use Rattle.dt_cred.specs.declared.firing.Firing.{Firing}
@@ -34,7 +34,7 @@ module _ {J : Type 0} where
     pub named : lives ≡ holding word (life_name contents.registry.cpus number) (life_fact life true present.owner.row)
     pub trailed : IsTrailed contents present.account present.owner present.consumer
     pub each : (cpu : ℕ) → IfSome (slice_get keeps cpu)
-      (IsKept word contents.registry.cpus number cpu life present.owner.row present.owner.knows)
+        (IsKept word contents.registry.cpus number cpu life present.owner.row present.owner.knows)
 
 -- A seat without an open life, of which the next has this number: its book says nothing, and its share lies there.
 pub record IsFree (word : TableId) (contents : Contents) (number life : ℕ) (lives : HeldFact) (free : Option HeldFact)

@@ -13,7 +13,6 @@ use Rattle.dt_life.specs.Life.{is_over}
 use Rattle.dt_life.specs.Limits.{lines_max}
 use Rattle.dt_life.specs.Reply.{Replies}
 use Rattle.dt_machine.specs.Registry.{Contents}
-use Rattle.dt_proto.specs.Asked.{form_asked}
 use Rattle.dt_proto.specs.Line.{ask_in}
 use Rattle.dt_proto.specs.Lines.{LineForm}
 use Rattle.dt_proto.specs.Reply.{reply_text}

@@ -39,7 +39,11 @@ fn publish<J: HubSite, R: Wait>(
 }
 
 /// Withdraws what a seat published, and says whether it did. Where it didn't, for want of memory, the chains name a life that sees nothing.
-pub(crate) fn withdraw<J: HubSite, R: Wait>(rt: &R, chains: &Mutex<ChainWriter<J>>, number: Seat) -> bool {
+pub(crate) fn withdraw<J: HubSite, R: Wait>(
+    rt: &R,
+    chains: &Mutex<ChainWriter<J>>,
+    number: Seat,
+) -> bool {
     let mut writer = chains.lock(rt);
     let result = writer.withdraw(rt, number);
     MutexGuard::unlock(writer);
@@ -78,12 +82,7 @@ fn make_ready<J: HubSite, R: Wait>(
     if !is_go {
         return Ok(());
     }
-    make_room(
-        present.account,
-        &mut present.owner,
-        &present.consumer,
-        note,
-    )?;
+    make_room(present.account, &mut present.owner, &present.consumer, note)?;
     publish(
         rt,
         alloc,

@@ -6,9 +6,7 @@ pub enum Held {
     /// The life's consumer saw it, and it is the last item of the trail.
     Kept,
     /// The life's consumer didn't see it. The processor then knows so many items of the trail.
-    Unseen {
-        known: u64,
-    },
+    Unseen { known: u64 },
     /// The life isn't there.
     Gone,
 }

@@ -15,7 +15,12 @@ use std::alloc::{AllocError, Global};
 use std::marker::Brand;
 
 /// What a seat keeps for a processor that took nothing there, and what the processor has there.
-fn first_keep<J: HubSite>(facts: &Facts, maker: &mut Maker, number: Seat, cpu: u32) -> (Keep<J>, Follower<J>)
+fn first_keep<J: HubSite>(
+    facts: &Facts,
+    maker: &mut Maker,
+    number: Seat,
+    cpu: u32,
+) -> (Keep<J>, Follower<J>)
     requires facts { facts.now ≡ J.word }
     requires maker { maker.old ≡ making J.word (processor_name J.contents.registry.cpus number cpu) }
     ensures keep { IsLeft J.word J.contents.registry.cpus number cpu 0 result.0 }

@@ -1,10 +1,9 @@
 -- A beginning of a legal row is legal.
-use Rattle.std.proofs.Common.{◌≡◌, List, [], ◌∷◌, ◌++◌, map, reverse, refl, ap, ◌∙◌, subst}
+use Rattle.std.proofs.Common.{◌≡◌, List, [], ◌∷◌, ◌++◌, map, reverse, ap, ◌∙◌, subst}
 use Rattle.std.proofs.lemmas.List.{map-append, reverse-append}
 use Rattle.dt_cred.specs.declared.account.Account.{Account}
 use Rattle.dt_machine.specs.Registry.{Contents}
 use Rattle.dt_proto.specs.Legal.{IsLegal}
-use Rattle.dt_proto.specs.Trail.{TrailEntry}
 use Rattle.dt_proto.specs.laws.Legal.{legal_before}
 use Rattle.dt_trail.specs.Items.{TrailItem}
 use Rattle.dt_legal.specs.Rows.{told_as, past_of, IsLegalRow}

@@ -1,6 +1,5 @@
 -- What may follow a legal row: a line within the quota, and a firing that is seen.
-use Rattle.std.proofs.Common.{◌≡◌, ◌<◌, ◌+◌, ◌==◌, ℕ, Bool, true, false, cond, List, [], ◌∷◌, ◌++◌, Some, map, reverse, filter, refl, sym, ap, subst, arith, eq-eqb}
-
+use Rattle.std.proofs.Common.{◌≡◌, ◌+◌, ◌==◌, ℕ, Bool, true, false, cond, List, [], ◌∷◌, ◌++◌, Some, map, filter, refl, sym, ap, subst, arith, eq-eqb}
 use Rattle.std.proofs.lemmas.List.{reverse-append}
 use Rattle.std.specs.List.{AllByRecursion}
 use Rattle.dt_cred.specs.declared.account.Account.{Account}
@@ -50,9 +49,9 @@ lower_in cpu place (long_line ∷ row) h =
     (tt, lower_in cpu place row (rest_of (IsBelow place) (0 == cpu + 1) long_line (filter (λ x. whose x == cpu + 1) row) h))
 lower_in cpu place (fired n earlier ∷ row) h = (
   λ same. head_of (IsBelow place) (n + 1 == cpu + 1) (fired n earlier) (filter (λ x. whose x == cpu + 1) row)
-  (eq-eqb (n + 1) (cpu + 1) (ap (λ m. m + 1) same)) h,
+      (eq-eqb (n + 1) (cpu + 1) (ap (λ m. m + 1) same)) h,
   lower_in cpu place row
-  (rest_of (IsBelow place) (n + 1 == cpu + 1) (fired n earlier) (filter (λ x. whose x == cpu + 1) row) h),
+      (rest_of (IsBelow place) (n + 1 == cpu + 1) (fired n earlier) (filter (λ x. whose x == cpu + 1) row) h),
 )
 
 above : (cpu place : ℕ) (row : List TrailItem) → AreBelowPlace cpu place row → IsAbove (past_of row) cpu place

@@ -1,5 +1,5 @@
 -- Cells that suffice go on to suffice: a `go` needs the room for the history, and nothing else needs more.
-use Rattle.std.proofs.Common.{◌≡◌, ◌≤◌, ◌<◌, ◌+◌, ◌⊎◌, ℕ, Bool, true, false, cond, List, [], ◌∷◌, ◌&&◌, ◌||◌, Option, Some, None, Result, Ok, Err, is_none, length, refl, sym, ap, ◌∙◌, inl, inr, arith}
+use Rattle.std.proofs.Common.{◌≡◌, ◌≤◌, ◌<◌, ◌+◌, ℕ, Bool, true, false, cond, List, [], ◌&&◌, ◌||◌, Option, Some, None, Result, Ok, Err, is_none, length, refl, sym, ◌∙◌, inl, inr, arith}
 use Rattle.std.specs.Bool.{nat_lt}
 use Rattle.std.specs.Option.{option_map_or}
 use Rattle.dt_cred.specs.declared.account.Account.{Account}
@@ -10,7 +10,7 @@ use Rattle.dt_life.specs.Aggregations.{aggregation_of}
 use Rattle.dt_life.specs.Ask.{Ask, option, enable, go, stop, snap, agg, trunc, status, list, describe, close}
 use Rattle.dt_life.specs.Life.{asked, SetUp, accepts, after_item, end_by, happens, has_room, is_active, is_inactive}
 use Rattle.dt_life.specs.Life.{fired as fired_item}
-use Rattle.dt_life.specs.Life.{is_over, is_readable, is_stopped, nothing_yet, phase_of, seen_count, shapes_in, since_then}
+use Rattle.dt_life.specs.Life.{is_over, is_readable, is_stopped, nothing_yet, phase_of, shapes_in, since_then}
 use Rattle.dt_life.specs.Life.{with_event, with_options, with_program}
 use Rattle.dt_life.specs.Limits.{lines_max}
 use Rattle.dt_life.specs.Options.{with_setting}
@@ -24,7 +24,7 @@ use Rattle.dt_life.specs.declared.refusal.Refusal.{Refusal}
 use Rattle.dt_life.specs.laws.Seeing.{active_to}
 use Rattle.dt_trail.specs.Items.{TrailItem}
 use Rattle.dt_legal.specs.Rows.{life_of_row, set_up_of, IsLegalRow, Suffice}
-use Rattle.dt_legal.specs.laws.Counting.{quiet, and_first, not_over, counted_row}
+use Rattle.dt_legal.specs.laws.Counting.{quiet, not_over, counted_row}
 
 quiet_is_idle : (phase : Phase) → is_inactive phase ≡ true → is_active phase ≡ false
 quiet_is_idle Inactive h = refl
@@ -45,7 +45,7 @@ same_history s None = refl
 same_history s (Some end) = refl
 
 least : (s : SetUp) (cells : ℕ) → Suffice cells s → lines_max ≤ cells
-least s cells h = elim h [ | inl room ↦ omega (arith, room) | inr idle ↦ idle.2 ]
+least s cells h = elim h [ inl room ↦ omega (arith, room) | inr idle ↦ idle.2 ]
 
 pub suffices_at_first : (cells : ℕ) → lines_max ≤ cells → Suffice cells nothing_yet
 suffices_at_first cells h = inr (refl, refl, h)
@@ -76,7 +76,7 @@ module _ (account : Account) (registry : Registry) where
       (λ is. let wide = room (is, refl) in inl (omega (arith, wide, keeps_history (since_then s []) began))) h
   suffices_after_line s (Ok stop) cells h room =
       both s (with_event s (ended Stop)) cells (is_active (phase_of s))
-      (λ is. elim h [ | inl wide ↦ inl wide | inr idle ↦ inr (idle.0, refl, idle.2) ]) h
+      (λ is. elim h [ inl wide ↦ inl wide | inr idle ↦ inr (idle.0, refl, idle.2) ]) h
   suffices_after_line s (Ok (snap cpu)) cells h room =
       both s (with_event s (snapped cpu)) cells (nat_lt cpu registry.cpus && is_readable s (phase_of s)) (λ is. h) h
   suffices_after_line s (Ok (agg name)) cells h room = h
@@ -87,7 +87,7 @@ module _ (account : Account) (registry : Registry) where
   suffices_after_line s (Ok (describe epid)) cells h room = h
   suffices_after_line s (Ok close) cells h room =
       both_not s (with_event s closed) cells (is_stopped (phase_of s))
-      (elim h [ | inl wide ↦ inl wide | inr idle ↦ inr (idle.0, refl, idle.2) ]) h
+      (elim h [ inl wide ↦ inl wide | inr idle ↦ inr (idle.0, refl, idle.2) ]) h
 
   pub suffices_after_firing : (s : SetUp) (firing : Firing) (cells : ℕ) → Suffice cells s
       → Suffice cells (after_item account registry s (fired_item firing))

@@ -1,7 +1,6 @@
 -- What is to be shown of `ask_at`.
-use Rattle.std.proofs.Common.{◌≡◌, ap, sym, ◌∙◌, subst}
+use Rattle.std.proofs.Common.{◌≡◌, ap, ◌∙◌}
 use Rattle.dt_cred.specs.declared.account.Account.{Account}
-use Rattle.dt_legal.specs.Rows.{IsLegalRow}
 use Rattle.dt_seat.proofs.Seats.{answered_from, taken_asked}
 use Rattle.dt_seat.proofs.asking.ask_at.Goals as goal
 use Rattle.dt_seat.specs.Trailed.{row_after}

@@ -1,5 +1,5 @@
 -- What is to be shown of `hold_at`.
-use Rattle.std.proofs.Common.{◌≡◌, ◌+◌, ℕ, true, false, true≢false, length, Some, ap, sym, ◌∙◌, subst}
+use Rattle.std.proofs.Common.{◌≡◌, ◌+◌, ℕ, true, false, true≢false, length, ap, sym, ◌∙◌, subst}
 use Rattle.dt_cred.specs.declared.account.Account.{Account}
 use Rattle.dt_legal.specs.Rows.{IsLegalRow, life_of_row}
 use Rattle.dt_life.specs.Sees.{Sees}
@@ -16,7 +16,7 @@ returns-clause-taken g c =
     let seat = c.lend.ensures.carried.seat ∙ c.requires.follower.0 in
     let cpu = c.lend.ensures.carried.cpu ∙ c.requires.follower.1 in
     let trailed = subst (λ (o : Known Account). IsTrailed g.J.Traced.contents c.args.present.now.account o c.offer-is_seen.new.consumer)
-        c.offer-is_seen.ensures.trail c.offer-is_seen.ensures.kept in
+    c.offer-is_seen.ensures.trail c.offer-is_seen.ensures.kept in
     rw c.offer-is_seen.ensures.trail
     (taken_offered _ g.J.Traced.contents _ _ _ c.args.present.now c.args.keeps.now.items c.requires.taken
     c.args.moment.now.firing.now c.offer-is_seen.result c.offer-is_seen.new.consumer c.lend.new.self trailed c.lend.ensures.lent
@@ -37,23 +37,23 @@ returns-clause-held g c =
     let known = ap (known_of c.args.life) view ∙ c.lend.ensures.known in
     let carried = subst (λ (f : Followed). Carries c.args.follower.now f c.args.life) (sym view) c.lend.ensures.carried in
     let legal = subst (λ (a : Account). IsLegalRow a contents c.args.present.now.owner.knows) (sym account)
-        c.requires.taken.trailed.legal in
+    c.requires.taken.trailed.legal in
     elim c.if-is_seen.branch [
       | then-is_seen w ↦
           let last = rw w.if-is_seen.true at c.offer-is_seen.ensures.note in
           let sees = subst (λ (a : Account). Sees a contents.registry (life_of_row a contents c.args.present.now.owner.knows)
-            c.args.moment.now.firing.now) (sym account) (c.offer-is_seen.ensures.seen.0 w.if-is_seen.true) in
+          c.args.moment.now.firing.now) (sym account) (c.offer-is_seen.ensures.seen.0 w.if-is_seen.true) in
           rw (w.result-is, w.follower-inside-is, last)
           (held_kept contents c.args.life c.args.moment.now.firing.now c.args.follower.now _ c.in-Some.note (rw (← row) at took) c.in-Some.is
           known carried c.args.present.now.owner.knows mine c.offer-is_seen.ensures.met legal sees)
       | else-is_seen w ↦
           let last = rw w.if-is_seen.false at c.offer-is_seen.ensures.note in
           let unseen = λ (sees : Sees c.in-Some.note.row.account contents.registry
-            (life_of_row c.in-Some.note.row.account contents c.args.present.now.owner.knows) c.args.moment.now.firing.now).
-            let theirs = subst (λ (a : Account). Sees a contents.registry (life_of_row a contents c.args.present.now.owner.knows)
-              c.args.moment.now.firing.now) account sees in
-            let bad : false ≡ true = sym w.if-is_seen.false ∙ c.offer-is_seen.ensures.seen.1 theirs in
-            absurd (true≢false (sym bad)) in
+          (life_of_row c.in-Some.note.row.account contents c.args.present.now.owner.knows) c.args.moment.now.firing.now).
+          let theirs = subst (λ (a : Account). Sees a contents.registry (life_of_row a contents c.args.present.now.owner.knows)
+          c.args.moment.now.firing.now) account sees in
+          let bad : false ≡ true = sym w.if-is_seen.false ∙ c.offer-is_seen.ensures.seen.1 theirs in
+          absurd (true≢false (sym bad)) in
           let count = sym (w.count.ensures ∙ ap (λ (n : Noted Account). length n.knows) last) in
           rw (w.result-is, w.follower-inside-is, last)
           (held_unseen contents c.args.life c.args.moment.now.firing.now c.args.follower.now _ c.in-Some.note (rw (← row) at took) c.in-Some.is
