@@ -27,9 +27,10 @@ pub struct Consumer {
 }
 
 impl Consumer {
-    ghost use Rattle.std.specs.Prelude.{◌≡◌, ◌≢◌, ◌↔◌, ℕ, List, [], ◌∷◌, Result, false, IsOk, IsTrue, IfOk};
+    ghost use Rattle.std.specs.Prelude.{◌≡◌, ◌≢◌, ◌↔◌, ◌≤◌, ℕ, List, [], ◌∷◌, Result, false, IsOk, IsTrue, IfOk};
     ghost use Rattle.dt_cred.specs.declared.account.Account.{Account};
-    ghost use Rattle.dt_life.specs.Life.{Item, fired, phase, ecbs as ecbs_after};
+    ghost use Rattle.dt_life.specs.Life.{Item, fired, phase, set_up, ecbs as ecbs_after};
+    ghost use Rattle.dt_life.specs.Limits.{history_max};
     ghost use Rattle.dt_ecb.specs.Ecbs.{of_probe};
     ghost use Rattle.dt_machine.specs.Interest.{has_probe};
     ghost use Rattle.dt_machine.specs.Moment.{IsMoment};
@@ -68,6 +69,16 @@ impl Consumer {
             None if self.closed => Phase::Stopped(None),
             None => Phase::Inactive,
         }
+    }
+
+    /// After how many seen firings its tracing ends: the option `histsize`, of at most [`HISTORY_MAX`](dt_life::HISTORY_MAX). It takes
+    /// no memory.
+    pub fn histsize(&self) -> u64
+        ensures value { (account : Account) (registry : Registry) (life : List Item)
+            → StandsFor account registry self.now life → result ≡ (set_up account registry life).options.histsize }
+        ensures few { result ≤ history_max }
+    {
+        u64::from(self.options.histsize)
     }
 
     /// The probes that its ECBs name, and no other: a firing of any other probe is never seen. The set lies in the value

@@ -1,0 +1,6 @@
+-- What the contracts of this crate cite.
+
+pub mod Rows
+-- What only proofs need.
+
+pub mod laws

@@ -1,0 +1,218 @@
+-- What a seat becomes as a firing is offered and a line is asked.
+use Rattle.std.proofs.Common.{◌≡◌, ◌≢◌, ◌<◌, ◌+◌, ◌==◌, ℕ, Bool, true, false, cond, List, [], ◌∷◌, ◌++◌, length, refl, sym, ap, ◌∙◌, subst, arith, ne_eqb, eq-eqb, append-nil, append_assoc, Option, Some, None, inl, inr, ⊎_elim, if◌then◌else◌}
+use Rattle.std.proofs.lemmas.List.{length-set}
+use Rattle.std.proofs.lemmas.List.Elements.{filter-append}
+use Rattle.std.specs.List.{slice_get, slice_set}
+use Rattle.atomic_table.specs.Seated.{TableId}
+use Rattle.dt_consumer.specs.declared.consumer.Consumer.{Consumer}
+use Rattle.dt_cred.specs.declared.account.Account.{Account}
+use Rattle.dt_cred.specs.declared.firing.Firing.{Firing}
+use Rattle.dt_facts.specs.Handles.{HeldFact}
+use Rattle.dt_facts.specs.Facts.{last_note}
+use Rattle.dt_facts.specs.declared.fact.LastNote.{LastNote}
+use Rattle.dt_legal.specs.Rows.{IsLegalRow, form_of, life_of_row}
+use Rattle.dt_life.specs.Life.{is_over}
+use Rattle.dt_life.specs.Sees.{Sees}
+use Rattle.dt_life.specs.laws.Lists.{replaced}
+use Rattle.dt_life.specs.laws.Options.{if_some_map}
+use Rattle.dt_machine.specs.Registry.{Contents}
+use Rattle.dt_seat.specs.Keeps.{Carries, Followed, IsKept, Kept, known_by, known_in, known_of}
+use Rattle.dt_seat.specs.Seats.{IsAnswered, IsHeld, IsTaken, Reaches}
+use Rattle.dt_seat.specs.declared.held.Held.TheVariants.{Kept as WasKept, Unseen}
+use Rattle.dt_seat.specs.Trailed.{IsDue, IsTrailed, row_after, row_offered, with_items}
+use Rattle.dt_seat.specs.declared.present.Present.{Present}
+use Rattle.dt_trail.specs.Items.{StartsWith, TrailItem, fired, own, whose}
+use Rattle.dt_trail.specs.Known.{Grows, Meets, Noted, noted}
+use Rattle.dt_trail.specs.declared.law.Named.{Named}
+
+-- an item of another note adds nothing to a note's own
+pub own_of_other : (note : ℕ) (row : List TrailItem) (item : TrailItem) → whose item ≢ note
+    → own note (row ++ item ∷ []) ≡ own note row
+own_of_other note row item other =
+    filter-append (λ x. whose x == note) row (item ∷ [])
+    ∙ ap (λ (b : Bool). own note row ++ cond b (item ∷ []) []) (ne_eqb (whose item) note other)
+    ∙ append-nil (own note row)
+
+own_offered : (row : List TrailItem) (firing : Firing) (is_seen : Bool) (cpu : ℕ) → cpu ≢ firing.cpu
+    → own (cpu + 1) (row_offered row firing is_seen) ≡ own (cpu + 1) row
+own_offered row firing true cpu other =
+    own_of_other (cpu + 1) row (fired firing.cpu firing.place) (λ e. other (omega (arith, e)))
+own_offered row firing false cpu other = refl
+
+-- what is kept for a processor stays right where the trail has no further item of it
+kept_still : (word : TableId) (cpus seat cpu life : ℕ) (row : Named Account) (knows more : List TrailItem) (k : Kept)
+    → own (cpu + 1) more ≡ own (cpu + 1) knows → IsKept word cpus seat cpu life row knows k
+    → IsKept word cpus seat cpu life row more k
+kept_still word cpus seat cpu life row knows more k same h = record {
+  book = h.book;
+  below = h.below;
+  untaken = λ n is. let u = h.untaken n is in (u.0, same ∙ u.1, u.2);
+  taken = h.taken;
+}
+
+-- and where its note isn't there
+kept_lent : (word : TableId) (cpus seat cpu life : ℕ) (row : Named Account) (knows more : List TrailItem) (k : Kept)
+    → k.note ≡ None → IsKept word cpus seat cpu life row knows k → IsKept word cpus seat cpu life row more k
+kept_lent word cpus seat cpu life row knows more k none h = record {
+  book = h.book;
+  below = h.below;
+  untaken = λ n is. absurd (let bad : None ≡ Some n = sym none ∙ is in cc);
+  taken = h.taken;
+}
+
+module _ {J : Type 0} (word : TableId) (contents : Contents) (number life : ℕ) (lives : HeldFact) (present : Present J)
+    (keeps : List Kept) (h : IsTaken word contents number life lives present keeps) where
+  abbrev cpus : ℕ
+  cpus = contents.registry.cpus
+
+  -- after a firing was offered on behalf of a processor whose note isn't there
+  pub taken_offered : (firing : Firing) (is_seen : Bool) (consumer : Consumer) (k : Kept)
+      → IsTrailed contents present.account (with_items present.owner (row_offered present.owner.knows firing is_seen)) consumer
+      → k.note ≡ None
+      → IsKept word cpus number firing.cpu life present.owner.row present.owner.knows k
+      → IsTaken {J = J} word contents number life lives
+      (record {
+        account = present.account;
+        owner = with_items present.owner (row_offered present.owner.knows firing is_seen);
+        consumer = consumer;
+        is_published = present.is_published;
+      }) (slice_set keeps firing.cpu k)
+  taken_offered firing is_seen consumer k trailed none right = record {
+    few = h.few;
+    many = length-set keeps firing.cpu k ∙ h.many;
+    named = h.named;
+    trailed = trailed;
+    each = replaced
+        (λ cpu. IsKept word cpus number cpu life present.owner.row (row_offered present.owner.knows firing is_seen))
+        keeps firing.cpu k
+        (kept_lent word cpus number firing.cpu life present.owner.row present.owner.knows
+        (row_offered present.owner.knows firing is_seen) k none right)
+        (λ cpu other. if_some_map
+        (IsKept word cpus number cpu life present.owner.row present.owner.knows)
+        (IsKept word cpus number cpu life present.owner.row (row_offered present.owner.knows firing is_seen))
+        (slice_get keeps cpu)
+        (λ one. kept_still word cpus number cpu life present.owner.row present.owner.knows
+        (row_offered present.owner.knows firing is_seen) one (own_offered present.owner.knows firing is_seen cpu other))
+        (h.each cpu));
+  }
+
+-- what is known of the life whose note was taken last, and of another
+known_here : (life : ℕ) (row : Named Account) (took : Option LastNote) (knows : List TrailItem)
+    → took ≡ Some (last_note life row) → known_in life took knows ≡ knows
+known_here life row took knows e =
+    ap (λ (t : Option LastNote). known_in life t knows) e ∙ ap (λ (b : Bool). cond b knows []) (eq-eqb life life refl)
+
+known_there : (life l : ℕ) (row : Named Account) (took : Option LastNote) (knows : List TrailItem)
+    → took ≡ Some (last_note life row) → l ≢ life → known_in l took knows ≡ []
+known_there life l row took knows e other =
+    ap (λ (t : Option LastNote). known_in l t knows) e
+    ∙ ap (λ (b : Bool). cond b knows []) (ne_eqb life l (λ same. other (sym same)))
+
+abbrev with_note : Followed → Noted Account → Followed
+with_note f note = record { seat = f.seat; cpu = f.cpu; took = f.took; over = f.over; note = Some note }
+
+module _ (contents : Contents) (life : ℕ) (firing : Firing) (old lent : Followed) (note : Noted Account)
+    (took : lent.took ≡ Some (last_note life note.row)) (has : lent.note ≡ Some note)
+    (known : known_of life lent ≡ known_of life old) (carried : Carries old lent life) where
+  carries_on : (new : Noted Account) → Carries old (with_note lent new) life
+  carries_on new = record {
+    seat = carried.seat;
+    cpu = carried.cpu;
+    over = carried.over;
+    same = λ l other. ⊎_elim
+        (λ (over : l < lent.over). inl over)
+        (λ (same : known_of l lent ≡ known_of l old). inr
+        (known_there life l note.row lent.took new.knows took other
+        ∙ sym (known_there life l note.row lent.took (known_by lent.note) took other) ∙ same))
+        (carried.same l other);
+  }
+
+  -- what was known of the life is what the note knows
+  known_before : known_of life old ≡ note.knows
+  known_before = sym known ∙ known_here life note.row lent.took (known_by lent.note) took ∙ ap known_by has
+
+  reaches : (trail : List TrailItem) → note.number ≡ firing.cpu + 1 → Meets trail note
+      → IsLegalRow note.row.account contents trail
+      → Reaches contents note.row.account firing.cpu (known_of life old) trail
+  reaches trail mine met legal = record {
+    begins = rw known_before met.0;
+    own_same = rw (known_before, ← mine) met.1;
+    legal = legal;
+  }
+
+  pub held_kept : (trail : List TrailItem) → note.number ≡ firing.cpu + 1 → Meets trail note
+      → IsLegalRow note.row.account contents trail
+      → Sees note.row.account contents.registry (life_of_row note.row.account contents trail) firing
+      → IsHeld contents life firing WasKept old
+      (with_note lent (noted note.row note.number (trail ++ fired firing.cpu firing.place ∷ [])))
+  held_kept trail mine met legal sees =
+      let new = noted note.row note.number (trail ++ fired firing.cpu firing.place ∷ []) in
+      (carries_on new, (new, trail, record { took = took; has = refl }, reaches trail mine met legal, sees, refl))
+
+  pub held_unseen : (trail : List TrailItem) (count : ℕ) → note.number ≡ firing.cpu + 1 → Meets trail note
+      → IsLegalRow note.row.account contents trail
+      → (Sees note.row.account contents.registry (life_of_row note.row.account contents trail) firing → ⊥)
+      → length trail ≡ count
+      → IsHeld contents life firing (Unseen count) old (with_note lent (noted note.row note.number trail))
+  held_unseen trail count mine met legal unseen all =
+      let new = noted note.row note.number trail in
+      (carries_on new, (new, record { took = took; has = refl }, reaches trail mine met legal, unseen, all))
+
+pub some_same : {X : Type 0} (x y : X) → Some x ≡ Some y → x ≡ y
+some_same x y e = cc
+
+-- what is kept for processors stays right where a line is appended
+own_line : (cpu : ℕ) (row : List TrailItem) (is_over : Bool) (item : TrailItem) → whose item ≡ 0
+    → own (cpu + 1) (if is_over then row else (row ++ item ∷ [])) ≡ own (cpu + 1) row
+own_line cpu row true item mine = refl
+own_line cpu row false item mine = own_of_other (cpu + 1) row item (λ e. absurd (omega (arith, mine, e)))
+
+module _ {J : Type 0} (word : TableId) (contents : Contents) (number life : ℕ) (lives : HeldFact) (present : Present J)
+    (keeps : List Kept) (h : IsTaken word contents number life lives present keeps) where
+  -- after a line was asked
+  pub taken_asked : (item : TrailItem) (new : Present J) → whose item ≡ 0
+      → new.owner.row ≡ present.owner.row
+      → new.owner.knows ≡ row_after present.account contents present.owner.knows item
+      → IsTrailed contents new.account new.owner new.consumer
+      → IsTaken word contents number life lives new keeps
+  taken_asked item new mine row knows trailed = record {
+    few = h.few;
+    many = h.many;
+    named = rw row h.named;
+    trailed = trailed;
+    each = λ cpu. if_some_map
+        (IsKept word contents.registry.cpus number cpu life present.owner.row present.owner.knows)
+        (IsKept word contents.registry.cpus number cpu life new.owner.row new.owner.knows)
+        (slice_get keeps cpu)
+        (λ one right. rw (row, knows)
+        (kept_still word contents.registry.cpus number cpu life present.owner.row present.owner.knows
+        (row_after present.account contents present.owner.knows item) one
+        (own_line cpu present.owner.knows (is_over (life_of_row present.account contents present.owner.knows)) item mine) right))
+        (h.each cpu);
+  }
+
+starts_trans : (row mid known : List TrailItem) → StartsWith row mid → StartsWith mid known → StartsWith row known
+starts_trans row mid known a b =
+    (b.0 ++ a.0, a.1 ∙ ap (λ (l : List TrailItem). l ++ a.0) b.1 ∙ append_assoc known b.0 a.0)
+
+-- what a note knew, as it grew and then met its trail
+pub grows_met : (old : Noted Account) (trail : List TrailItem) → Meets trail old → Grows old (noted old.row old.number trail)
+grows_met old trail met = record { row = refl; number = refl; longer = met.0; same_own = met.1 }
+
+pub grows_not : (old : Noted Account) → Grows old old
+grows_not old = record { row = refl; number = refl; longer = ([], sym (append-nil old.knows)); same_own = refl }
+
+pub answered_from : (contents : Contents) (account : Account) (old mid : Noted Account) (trail : List TrailItem) (item : TrailItem)
+    (text : List ℕ) (after : List TrailItem) → old.number ≡ 0 → Grows old mid → Meets trail mid
+    → IsLegalRow account contents trail → IsDue account contents trail (form_of item) text
+    → after ≡ row_after account contents trail item
+    → IsAnswered contents account old.knows item text after
+answered_from contents account old mid trail item text after zero grows met legal due is = record {
+  trail = trail;
+  begins = starts_trans trail mid.knows old.knows met.0 grows.longer;
+  lines = subst (λ (n : ℕ). own n trail ≡ own n old.knows) zero
+      (subst (λ (n : ℕ). own n trail ≡ own n mid.knows) grows.number met.1 ∙ grows.same_own);
+  legal = legal;
+  due = due;
+  after_is = is;
+}

@@ -1,0 +1,61 @@
+-- What is to be shown of `hold_at`.
+use Rattle.std.proofs.Common.{◌≡◌, ◌+◌, ℕ, true, false, true≢false, length, ap, sym, ◌∙◌, subst}
+use Rattle.dt_cred.specs.declared.account.Account.{Account}
+use Rattle.dt_legal.specs.Rows.{IsLegalRow, life_of_row}
+use Rattle.dt_life.specs.Sees.{Sees}
+use Rattle.dt_seat.proofs.Seats.{taken_offered, held_kept, held_unseen, some_same}
+use Rattle.dt_seat.proofs.present.hold_at.Goals as goal
+use Rattle.dt_seat.proofs.present.hold_at.Goals.{then-is_seen, else-is_seen}
+use Rattle.dt_seat.specs.Keeps.{Carries, Followed, known_by, known_of}
+use Rattle.dt_seat.specs.Trailed.{IsTrailed}
+use Rattle.dt_trail.specs.Known.{Known, Noted, noted}
+use Rattle.dt_trail.specs.declared.law.Named.{Named}
+
+pub returns-clause-taken : goal.returns-clause-taken
+returns-clause-taken g c =
+    let seat = c.lend.ensures.carried.seat ∙ c.requires.follower.0 in
+    let cpu = c.lend.ensures.carried.cpu ∙ c.requires.follower.1 in
+    let trailed = subst (λ (o : Known Account). IsTrailed g.J.Traced.contents c.args.present.now.account o c.offer-is_seen.new.consumer)
+    c.offer-is_seen.ensures.trail c.offer-is_seen.ensures.kept in
+    rw c.offer-is_seen.ensures.trail
+    (taken_offered _ g.J.Traced.contents _ _ _ c.args.present.now c.args.keeps.now.items c.requires.taken
+    c.args.moment.now.firing.now c.offer-is_seen.result c.offer-is_seen.new.consumer c.lend.new.self trailed c.lend.ensures.lent
+    (rw (seat, cpu) at c.lend.ensures.kept))
+
+pub returns-clause-held : goal.returns-clause-held
+returns-clause-held g c =
+    let contents = g.J.Traced.contents in
+    let view = c.follower.view_is in
+    let note : c.in-Some.note ≡ noted c.args.present.now.owner.row (c.args.follower.now.cpu + 1) (known_by c.lend.new.follower.note) =
+    some_same _ _ (sym c.in-Some.is ∙ ap (λ (f : Followed). f.note) view ∙ c.lend.ensures.note) in
+    let row : c.in-Some.note.row ≡ c.args.present.now.owner.row = ap (λ (n : Noted Account). n.row) note in
+    let account : c.in-Some.note.row.account ≡ c.args.present.now.account =
+    ap (λ (r : Named Account). r.account) row ∙ c.requires.taken.trailed.whose_is in
+    let mine : c.in-Some.note.number ≡ c.args.moment.now.firing.now.cpu + 1 =
+    ap (λ (n : Noted Account). n.number) note ∙ ap (λ (k : ℕ). k + 1) c.requires.follower.1 in
+    let took = ap (λ (f : Followed). f.took) view ∙ c.lend.ensures.took in
+    let known = ap (known_of c.args.life) view ∙ c.lend.ensures.known in
+    let carried = subst (λ (f : Followed). Carries c.args.follower.now f c.args.life) (sym view) c.lend.ensures.carried in
+    let legal = subst (λ (a : Account). IsLegalRow a contents c.args.present.now.owner.knows) (sym account)
+    c.requires.taken.trailed.legal in
+    elim c.if-is_seen.branch [
+      | then-is_seen w ↦
+          let last = rw w.if-is_seen.true at c.offer-is_seen.ensures.note in
+          let sees = subst (λ (a : Account). Sees a contents.registry (life_of_row a contents c.args.present.now.owner.knows)
+          c.args.moment.now.firing.now) (sym account) (c.offer-is_seen.ensures.seen.0 w.if-is_seen.true) in
+          rw (w.result-is, w.follower-inside-is, last)
+          (held_kept contents c.args.life c.args.moment.now.firing.now c.args.follower.now _ c.in-Some.note (rw (← row) at took) c.in-Some.is
+          known carried c.args.present.now.owner.knows mine c.offer-is_seen.ensures.met legal sees)
+      | else-is_seen w ↦
+          let last = rw w.if-is_seen.false at c.offer-is_seen.ensures.note in
+          let unseen = λ (sees : Sees c.in-Some.note.row.account contents.registry
+          (life_of_row c.in-Some.note.row.account contents c.args.present.now.owner.knows) c.args.moment.now.firing.now).
+          let theirs = subst (λ (a : Account). Sees a contents.registry (life_of_row a contents c.args.present.now.owner.knows)
+          c.args.moment.now.firing.now) account sees in
+          let bad : false ≡ true = sym w.if-is_seen.false ∙ c.offer-is_seen.ensures.seen.1 theirs in
+          absurd (true≢false (sym bad)) in
+          let count = sym (w.count.ensures ∙ ap (λ (n : Noted Account). length n.knows) last) in
+          rw (w.result-is, w.follower-inside-is, last)
+          (held_unseen contents c.args.life c.args.moment.now.firing.now c.args.follower.now _ c.in-Some.note (rw (← row) at took) c.in-Some.is
+          known carried c.args.present.now.owner.knows _ mine c.offer-is_seen.ensures.met legal unseen count)
+    ]

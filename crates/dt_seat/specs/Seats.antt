@@ -1,0 +1,96 @@
+-- What a seat keeps under its lock, and what a processor finds there.
+use Rattle.std.specs.Prelude.{◌≡◌, ◌<◌, ◌≤◌, ◌+◌, ◌^◌, ◌++◌, ◌∷◌, ℕ, true, List, [], Option, Some, IfSome, MatchOption, length, option_map, slice_get}
+use Rattle.atomic_table.specs.Seated.{TableId}
+use Rattle.dt_cred.specs.declared.account.Account.{Account}
+use Rattle.dt_cred.specs.declared.firing.Firing.{Firing}
+use Rattle.dt_facts.specs.Facts.{last_note, life_fact, nothing}
+use Rattle.dt_facts.specs.Handles.{HeldFact, holding}
+use Rattle.dt_legal.specs.Rows.{IsLegalRow, form_of, life_of_row}
+use Rattle.dt_life.specs.Sees.{Sees}
+use Rattle.dt_machine.specs.Registry.{Contents}
+use Rattle.dt_seat.specs.Keeps.{Carries, Followed, IsKept, IsLeft, Kept, known_of}
+use Rattle.dt_seat.specs.Names.{life_name}
+use Rattle.dt_seat.specs.Trailed.{IsDue, IsTrailed, row_after}
+use Rattle.dt_seat.specs.declared.held.Held.{Held}
+use Rattle.dt_seat.specs.declared.held.Held.TheVariants.{Kept as WasKept, Unseen, Gone}
+use Rattle.dt_seat.specs.declared.present.Present.{Present}
+use Rattle.dt_trail.specs.Items.{StartsWith, TrailItem, fired, own}
+use Rattle.dt_trail.specs.Known.{Known, Noted}
+use Rattle.dt_trail.specs.Limits.{cpu_count}
+
+-- what contracts see of a seat under its lock
+pub record Seated : Type 0 where
+  pub number : ℕ
+  pub life : ℕ
+  pub trail : Option (Known Account)
+
+module _ {J : Type 0} where
+  -- A seat with an open life: its book says which life, with its trail; the consumer stands for the trail; and what is kept for
+  -- each processor is right.
+  pub record IsTaken (word : TableId) (contents : Contents) (number life : ℕ) (lives : HeldFact) (present : Present J)
+      (keeps : List Kept) : Type 0 where
+    pub few : contents.registry.cpus ≤ cpu_count
+    pub many : length keeps ≡ contents.registry.cpus
+    pub named : lives ≡ holding word (life_name contents.registry.cpus number) (life_fact life true present.owner.row)
+    pub trailed : IsTrailed contents present.account present.owner present.consumer
+    pub each : (cpu : ℕ) → IfSome (slice_get keeps cpu)
+        (IsKept word contents.registry.cpus number cpu life present.owner.row present.owner.knows)
+
+-- A seat without an open life, of which the next has this number: its book says nothing, and its share lies there.
+pub record IsFree (word : TableId) (contents : Contents) (number life : ℕ) (lives : HeldFact) (free : Option HeldFact)
+    (keeps : List Kept) : Type 0 where
+  pub few : contents.registry.cpus ≤ cpu_count
+  pub many : length keeps ≡ contents.registry.cpus
+  pub named : lives ≡ holding word (life_name contents.registry.cpus number) nothing
+  pub share : free ≡ Some (holding word (life_name contents.registry.cpus number) nothing)
+  pub each : (cpu : ℕ) → IfSome (slice_get keeps cpu) (IsLeft word contents.registry.cpus number cpu life)
+
+module _ {J : Type 0} where
+  -- What lies under a seat's lock: a session that is open, or none.
+  abbrev pub IsSeat : TableId → Contents → (number life : ℕ) → Option (Present J) → HeldFact → Option HeldFact → List Kept → Type 0
+  IsSeat word contents number life present lives free keeps = MatchOption present
+      (IsFree word contents number life lives free keeps)
+      (λ p. IsTaken word contents number life lives p keeps × (life + 1 < 2 ^ 64))
+
+  -- what contracts see of it: which seat it is, how many sessions were there before, and the trail of the present one
+  abbrev pub seated : ℕ → ℕ → Option (Present J) → Seated
+  seated number life present = record { number = number; life = life; trail = option_map (λ p. p.owner) present }
+
+-- A trail of the life begins with what was known of it, has no more of the processor's firings, and is legal.
+pub record Reaches (contents : Contents) (account : Account) (cpu : ℕ) (known trail : List TrailItem) : Type 0 where
+  pub begins : StartsWith trail known
+  pub own_same : own (cpu + 1) trail ≡ own (cpu + 1) known
+  pub legal : IsLegalRow account contents trail
+
+-- The processor has the note of this life, which knows this.
+pub record Follows (life : ℕ) (f : Followed) (note : Noted Account) : Type 0 where
+  pub took : f.took ≡ Some (last_note life note.row)
+  pub has : f.note ≡ Some note
+
+-- What comes of a firing that is offered to a life. Kept: the life's account sees it after a trail that begins with what was known, and it is
+-- then the last item that is known. Unseen: it isn't seen after such a trail, which is then known. Gone: nothing changes.
+abbrev pub IsHeld : Contents → (life : ℕ) → Firing → Held → Followed → Followed → Type 0
+IsHeld contents life firing WasKept old new =
+    Carries old new life
+    × ((note : Noted Account) × (trail : List TrailItem) × Follows life new note
+    × Reaches contents note.row.account firing.cpu (known_of life old) trail
+    × Sees note.row.account contents.registry (life_of_row note.row.account contents trail) firing
+    × (note.knows ≡ trail ++ fired firing.cpu firing.place ∷ []))
+IsHeld contents life firing (Unseen known) old new =
+    Carries old new life
+    × ((note : Noted Account) × Follows life new note
+    × Reaches contents note.row.account firing.cpu (known_of life old) note.knows
+    × (Sees note.row.account contents.registry (life_of_row note.row.account contents note.knows) firing → ⊥)
+    × (length note.knows ≡ known))
+IsHeld contents life firing Gone old new = new ≡ old
+
+-- What a session is answered to a line: the reply that is due after a trail that begins with what it knew, has its lines and no further
+-- one, and is legal; the session then knows this trail and the line, which is no part of it where it is over the quota.
+pub record IsAnswered (contents : Contents) (account : Account) (known : List TrailItem) (item : TrailItem) (text : List ℕ)
+    (after : List TrailItem) : Type 0 where
+  pub trail : List TrailItem
+  pub begins : StartsWith trail known
+  pub lines : own 0 trail ≡ own 0 known
+  pub legal : IsLegalRow account contents trail
+  pub due : IsDue account contents trail (form_of item) text
+  pub after_is : after ≡ row_after account contents trail item

@@ -1,0 +1,160 @@
+//! How a session asks a line of the consumer on its seat.
+ghost use Rattle.std.specs.Prelude.{◌≡◌, true, IfOk, OnOk, OnErr};
+ghost use Rattle.dt_seat.specs.Seats.{IsAnswered, IsTaken};
+ghost use Rattle.dt_seat.specs.Trailed.{HasRoom, IsTrailed, item_of_line};
+ghost use Rattle.dt_trail.specs.Known.{Grows};
+
+use crate::keep::Keep;
+use crate::present::Present;
+use crate::site::HubSite;
+use crate::trailed::{Note, finish, make_room, prepare};
+use dt_chain::{ChainWriter, Seat, Write};
+use dt_consumer::Consumer;
+use dt_cred::Account;
+use dt_facts::Book;
+use dt_life::Phase;
+use dt_machine::Machine;
+use dt_proto::Asked;
+use std::alloc::{AllocError, Global};
+use std::sync::{Mutex, MutexGuard, Wait};
+
+/// Publishes the interest of a consumer for a life of its seat.
+///
+/// `Err`: there was no memory.
+fn publish<J: HubSite, R: Wait>(
+    rt: &R,
+    alloc: Global,
+    chains: &Mutex<ChainWriter<J>>,
+    number: Seat,
+    life: u64,
+    account: &Account,
+    consumer: &Consumer,
+) -> Result<(), AllocError> {
+    let interest = consumer.interest()?;
+    let write = Write::publication(alloc, number, life, account, &interest)?;
+    let mut writer = chains.lock(rt);
+    let result = writer.publish(rt, write);
+    MutexGuard::unlock(writer);
+    result
+}
+
+/// Withdraws what a seat published, and says whether it did. Where it didn't, for want of memory, the chains name a life that sees nothing.
+pub(crate) fn withdraw<J: HubSite, R: Wait>(
+    rt: &R,
+    chains: &Mutex<ChainWriter<J>>,
+    number: Seat,
+) -> bool {
+    let mut writer = chains.lock(rt);
+    let result = writer.withdraw(rt, number);
+    MutexGuard::unlock(writer);
+    result.is_ok()
+}
+
+/// Whether a consumer is tracing.
+fn is_active(consumer: &Consumer) -> bool {
+    match consumer.phase() {
+        Phase::Active => true,
+        Phase::Inactive | Phase::Stopped(_) => false,
+    }
+}
+
+/// Makes the room that a `go` takes in the trail, and publishes the session's interest. Where the line is none, nothing is to be done.
+///
+/// `Err`: there was no memory. The trail may be wider.
+fn make_ready<J: HubSite, R: Wait>(
+    rt: &R,
+    alloc: Global,
+    chains: &Mutex<ChainWriter<J>>,
+    number: Seat,
+    life: u64,
+    present: &mut Present<J>,
+    note: &mut Note<J>,
+    is_go: bool,
+) -> Result<(), AllocError>
+    requires trailed { IsTrailed J.contents present.old.account present.old.owner present.old.consumer }
+    requires note { note.old.row ≡ present.old.owner.row }
+    ensures trailed { IsTrailed J.contents present.new.account present.new.owner present.new.consumer }
+    ensures room { OnOk result (is_go ≡ true → HasRoom J.contents present.new.account present.new.owner) }
+    ensures same { (present.new.account ≡ present.old.account) × (present.new.consumer ≡ present.old.consumer) }
+    ensures row { (present.new.owner.row ≡ present.old.owner.row) × (present.new.owner.knows ≡ present.old.owner.knows) }
+    ensures note { Grows note.old note.new }
+{
+    if !is_go {
+        return Ok(());
+    }
+    make_room(present.account, &mut present.owner, &present.consumer, note)?;
+    publish(
+        rt,
+        alloc,
+        chains,
+        number,
+        life,
+        &present.account,
+        &present.consumer,
+    )?;
+    present.is_published = true;
+    Ok(())
+}
+
+/// Withdraws what the session published, once its consumer traces no more.
+fn retire<J: HubSite, R: Wait>(
+    rt: &R,
+    chains: &Mutex<ChainWriter<J>>,
+    number: Seat,
+    present: &mut Present<J>,
+)
+    ensures { (present.new.account ≡ present.old.account) × (present.new.owner ≡ present.old.owner)
+        × (present.new.consumer ≡ present.old.consumer) }
+{
+    if present.is_published && !is_active(&present.consumer) {
+        present.is_published = !withdraw(rt, chains, number);
+    }
+}
+
+/// Answers a line of the session on a seat: the text of its reply.
+///
+/// `Err`: there was no memory, and the line is no part of the trail.
+pub(crate) fn ask_at<J: HubSite, R: Wait>(
+    rt: &R,
+    alloc: Global,
+    machine: &Machine,
+    chains: &Mutex<ChainWriter<J>>,
+    number: Seat,
+    life: u64,
+    lives: &Book,
+    present: &mut Present<J>,
+    keeps: &Vec<Keep<J>>,
+    note: &mut Note<J>,
+    asked: &Asked,
+) -> Result<Vec<u8>, AllocError>
+    requires machine { machine.now ≡ J.contents }
+    requires taken { IsTaken J.word J.contents number life lives.now present.old keeps.now.items }
+    requires note { (note.old.row ≡ present.old.owner.row) × (note.old.number ≡ 0) }
+    ensures taken { IsTaken J.word J.contents number life lives.now present.new keeps.now.items }
+    ensures row { present.new.owner.row ≡ present.old.owner.row }
+    ensures answered { IfOk result (λ text. IsAnswered J.contents note.old.row.account note.old.knows (item_of_line asked.now) text.items
+        note.new.knows) }
+    ensures note { (note.new.row ≡ note.old.row) × (note.new.number ≡ note.old.number) }
+    ensures refused { OnErr result (Grows note.old note.new) }
+{
+    let prepared = prepare(
+        alloc,
+        machine,
+        present.account,
+        &present.owner,
+        &present.consumer,
+        asked,
+    )?;
+    let is_go = prepared.draft.publishes();
+    make_ready(rt, alloc, chains, number, life, present, note, is_go)?;
+    let text = finish(
+        machine,
+        present.account,
+        &mut present.owner,
+        &mut present.consumer,
+        note,
+        prepared,
+    );
+    retire(rt, chains, number, present);
+    Ok(text)
+}

@@ -1,0 +1,145 @@
+//! What lies under the lock of a seat.
+ghost use Rattle.std.specs.Prelude.{◌≡◌, ◌+◌, Some, None, IfOk, IsSome, MatchBool, OnErr};
+ghost use Rattle.dt_legal.specs.Rows.{AreBelowPlace};
+ghost use Rattle.dt_machine.specs.Moment.{IsMoment};
+ghost use Rattle.dt_machine.specs.Registry.{firing_at};
+ghost use Rattle.dt_seat.specs.Keeps.{known_of};
+ghost use Rattle.dt_seat.specs.Seats.{IsAnswered, IsHeld};
+ghost use Rattle.dt_seat.specs.Trailed.{item_of_line};
+ghost use Rattle.dt_trail.specs.Items.{StartsWith, own};
+
+use crate::asking::ask_at;
+use crate::follower::Follower;
+use crate::held::Held;
+use crate::keep::Keep;
+use crate::present::{Present, hold_at};
+use crate::session::Session;
+use crate::site::HubSite;
+use dt_chain::{ChainWriter, Seat};
+use dt_facts::{Book, Facts, Share};
+use dt_machine::{Machine, Moment};
+use dt_proto::Asked;
+use std::alloc::{AllocError, Global};
+use std::marker::Model;
+use std::sync::{Mutex, Wait};
+
+/// What lies under the lock of a seat: the session that is open there, if there is one, with its trail and the consumer that stands for it;
+/// how many sessions were there before; and what is kept for each processor.
+///
+/// Contracts see it as a `Seated` of `specs/Seats.antt`.
+#[derive(Drop)]
+pub struct LockedSeat<J: HubSite> {
+    pub(crate) number: Seat,
+    pub(crate) life: u64,
+    pub(crate) present: Option<Present<J>>,
+    pub(crate) lives: Book,
+    pub(crate) free: Option<Share>,
+    pub(crate) keeps: Vec<Keep<J>>,
+}
+
+impl<J: HubSite> Model for LockedSeat<J> {
+    ghost use Rattle.dt_seat.specs.Seats.{Seated, IsSeat, seated};
+
+    ghost Value = { Seated };
+
+    ghost view = { λ l. seated l.number l.life l.present };
+
+    ghost invariant = { λ l. IsSeat J.word J.contents l.number l.life l.present l.lives l.free l.keeps.items };
+}
+
+impl<J: HubSite> LockedSeat<J> {
+    /// Which seat it is.
+    pub fn number(&self) -> Seat
+        ensures { result ≡ self.now.number }
+    {
+        self.number
+    }
+
+    /// Whether no session is open.
+    pub fn is_free(&self) -> bool
+        ensures { MatchBool result (self.now.trail ≡ None) (IsSome self.now.trail) }
+    {
+        self.present.is_none()
+    }
+
+    /// Answers a line of the session: the text of its reply, with its newline. The session then knows its whole trail, with the line, if that
+    /// is within the quota.
+    ///
+    /// `Err`: there was no memory. The line is no part of the trail, and may be asked again.
+    pub fn ask<R: Wait>(
+        &mut self,
+        rt: &R,
+        alloc: Global,
+        machine: &Machine,
+        facts: &Facts,
+        chains: &Mutex<ChainWriter<J>>,
+        session: &mut Session<J>,
+        asked: &Asked,
+    ) -> Result<Vec<u8>, AllocError>
+        requires machine { machine.now ≡ J.contents }
+        requires facts { facts.now ≡ J.word }
+        requires seat { session.old.seat ≡ self.old.number }
+        ensures answered { IfOk result (λ text. IsAnswered J.contents session.old.account session.old.knows (item_of_line asked.now) text.items
+            session.new.knows) }
+        ensures refused { OnErr result (StartsWith session.new.knows session.old.knows × (own 0 session.new.knows ≡ own 0 session.old.knows)) }
+        ensures session { (session.new.seat ≡ session.old.seat) × (session.new.life ≡ session.old.life)
+            × (session.new.account ≡ session.old.account) }
+        ensures seat { (self.new.number ≡ self.old.number) × (self.new.life ≡ self.old.life) }
+    {
+        facts.agree(&mut self.lives, &mut session.share);
+        let Some(present) = &mut self.present else {
+            unreachable!()
+        };
+        ask_at(
+            rt,
+            alloc,
+            machine,
+            chains,
+            self.number,
+            self.life,
+            &self.lives,
+            present,
+            &self.keeps,
+            &mut session.note,
+            asked,
+        )
+    }
+
+    /// A processor offers a firing of its script to a life of the seat.
+    pub fn hold(
+        &mut self,
+        machine: &Machine,
+        facts: &Facts,
+        life: u64,
+        moment: &Moment,
+        follower: &mut Follower<J>,
+    ) -> Held
+        requires machine { machine.now ≡ J.contents }
+        requires facts { facts.now ≡ J.word }
+        requires moment { IsMoment J.contents.registry moment.now }
+        requires script { firing_at J.contents.scripts moment.now.firing.now.cpu moment.now.firing.now.place
+            ≡ Some moment.now.firing.now }
+        requires follower { (follower.old.seat ≡ self.old.number) × (follower.old.cpu ≡ moment.now.firing.now.cpu) }
+        requires below { AreBelowPlace moment.now.firing.now.cpu moment.now.firing.now.place (known_of life follower.old) }
+        ensures held { IsHeld J.contents life moment.now.firing.now result follower.old follower.new }
+        ensures seat { (self.new.number ≡ self.old.number) × (self.new.life ≡ self.old.life) }
+    {
+        if self.life != life {
+            return Held::Gone;
+        }
+        let Some(present) = &mut self.present else {
+            return Held::Gone;
+        };
+        hold_at(
+            machine,
+            facts,
+            self.number,
+            life,
+            &self.lives,
+            present,
+            &mut self.keeps,
+            moment,
+            follower,
+        )
+    }
+}

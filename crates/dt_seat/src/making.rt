@@ -1,0 +1,74 @@
+//! How a seat is made.
+ghost use Rattle.std.specs.Prelude.{◌≡◌, ◌+◌, ◌*◌, ℕ, None, IfOk, IfSome, OnOk, slice_get, vec_len};
+ghost use Rattle.dt_facts.specs.Handles.{making};
+ghost use Rattle.dt_seat.specs.Keeps.{IsLeft, followed_at};
+ghost use Rattle.dt_seat.specs.Names.{names_of_seat, processor_name};
+
+use crate::follower::Follower;
+use crate::keep::Keep;
+use crate::locked::LockedSeat;
+use crate::site::HubSite;
+use dt_chain::Seat;
+use dt_facts::{Facts, Maker};
+use dt_machine::Machine;
+use std::alloc::{AllocError, Global};
+use std::marker::Brand;
+
+/// What a seat keeps for a processor that took nothing there, and what the processor has there.
+fn first_keep<J: HubSite>(
+    facts: &Facts,
+    maker: &mut Maker,
+    number: Seat,
+    cpu: u32,
+) -> (Keep<J>, Follower<J>)
+    requires facts { facts.now ≡ J.word }
+    requires maker { maker.old ≡ making J.word (processor_name J.contents.registry.cpus number cpu) }
+    ensures keep { IsLeft J.word J.contents.registry.cpus number cpu 0 result.0 }
+    ensures follower { result.1 ≡ followed_at number cpu }
+    ensures maker { maker.new ≡ making J.word (processor_name J.contents.registry.cpus number cpu + 1) }
+{
+    let mut both = facts.make(maker);
+    facts.go_on::<Brand, ()>(&mut both, &());
+    let (book, share) = facts.cut(both);
+    (Keep::new(book), Follower::new(number, cpu, share))
+}
+
+impl<J: HubSite> LockedSeat<J> {
+    /// A seat on which no session was open yet, and what each processor has there.
+    ///
+    /// `Err`: there was no memory.
+    pub fn new(
+        alloc: Global,
+        machine: &Machine,
+        facts: &Facts,
+        maker: &mut Maker,
+        number: Seat,
+    ) -> Result<(LockedSeat<J>, Vec<Follower<J>>), AllocError>
+        requires machine { machine.now ≡ J.contents }
+        requires facts { facts.now ≡ J.word }
+        requires maker { maker.old ≡ making J.word (number * names_of_seat J.contents.registry.cpus) }
+        ensures seat { IfOk result (λ t. (t.0.number ≡ number) × (t.0.life ≡ 0) × (t.0.trail ≡ None)) }
+        ensures many { IfOk result (λ t. vec_len t.1 ≡ J.contents.registry.cpus) }
+        ensures followers { IfOk result (λ t. (cpu : ℕ) → IfSome (slice_get t.1.items cpu) (λ f. f ≡ followed_at number cpu)) }
+        ensures maker { OnOk result (maker.new ≡ making J.word ((number + 1) * names_of_seat J.contents.registry.cpus)) }
+    {
+        let cpus = machine.cpus();
+        let (lives, free) = facts.cut(facts.make(maker));
+        let mut keeps = Vec::with_capacity(alloc, cpus as usize)?;
+        let mut followers = Vec::with_capacity(alloc, cpus as usize)?;
+        'processors: for cpu in 0..cpus {
+            let (keep, follower) = first_keep::<J>(facts, maker, number, cpu);
+            keeps.push(keep)?;
+            followers.push(follower)?;
+        }
+        let seat = LockedSeat {
+            number,
+            life: 0,
+            present: None,
+            lives,
+            free: Some(free),
+            keeps,
+        };
+        Ok((seat, followers))
+    }
+}

@@ -1,0 +1,108 @@
+//! How a session comes to a seat, and leaves it.
+ghost use Rattle.std.specs.Prelude.{◌≡◌, ◌+◌, ◌<◌, ◌^◌, [], None, Some, IfOk, OnErr, OnOk, vec_len};
+ghost use Rattle.dt_seat.specs.Seats.{seated};
+ghost use Rattle.dt_trail.specs.Known.{known_row};
+ghost use Rattle.dt_trail.specs.Limits.{opening_cells};
+
+use crate::asking::withdraw;
+use crate::locked::LockedSeat;
+use crate::notes::{forget_notes, hand_out};
+use crate::present::Present;
+use crate::session::Session;
+use crate::site::HubSite;
+use crate::trailed::{Owner, new_trail};
+use dt_chain::ChainWriter;
+use dt_consumer::Consumer;
+use dt_cred::Account;
+use dt_facts::Facts;
+use dt_machine::Machine;
+use std::alloc::{AllocError, Global};
+use std::marker::Brand;
+use std::sync::{Mutex, Wait};
+
+/// A life that begins: its number, and who appends to its trail. The fact of a seat's life is picked from it.
+struct NewLife<J: HubSite> {
+    life: u64,
+    owner: Owner<J>,
+}
+
+impl<J: HubSite> LockedSeat<J> {
+    /// Opens a session of an account on the seat, which is free and has had fewer than the most sessions. The session knows nothing yet, and its
+    /// trail is empty.
+    ///
+    /// `Err`: there was no memory, and the seat is as it was.
+    pub fn open(
+        &mut self,
+        alloc: Global,
+        machine: &Machine,
+        facts: &Facts,
+        account: &Account,
+    ) -> Result<Session<J>, AllocError>
+        requires machine { machine.now ≡ J.contents }
+        requires facts { facts.now ≡ J.word }
+        requires free { self.old.trail ≡ None }
+        requires left { self.old.life + 1 < 2 ^ 64 }
+        ensures session { IfOk result (λ session. (session.seat ≡ self.old.number) × (session.life ≡ self.old.life)
+            × (session.account ≡ account.now) × (session.knows ≡ [])) }
+        ensures seat { (self.new.number ≡ self.old.number) × (self.new.life ≡ self.old.life) }
+        ensures same { OnErr result (self.new.trail ≡ None) }
+    {
+        let cpus = machine.cpus();
+        let consumer = Consumer::new(alloc, *account, machine)?;
+        let (owner, notes) = new_trail::<J>(alloc, *account, u64::from(cpus) + 1)?;
+        let Some(mut share) = self.free.take() else {
+            unreachable!()
+        };
+        let begun = NewLife {
+            life: self.life,
+            owner,
+        };
+        facts.go_on_apart::<Brand, NewLife<J>>(&mut self.lives, &mut share, &begun);
+        let NewLife { life: _, owner } = begun;
+        let note = hand_out(&mut self.keeps, &owner, notes);
+        self.present = Some(Present {
+            account: *account,
+            owner,
+            consumer,
+            is_published: false,
+        });
+        Ok(Session {
+            seat: self.number,
+            share,
+            note,
+        })
+    }
+
+    /// Ends the session on the seat, and withdraws what it published. Its consumer goes, and its trail with the last who has a note of it.
+    pub fn close<R: Wait>(
+        &mut self,
+        rt: &R,
+        facts: &Facts,
+        chains: &Mutex<ChainWriter<J>>,
+        session: Session<J>,
+    )
+        requires facts { facts.now ≡ J.word }
+        requires seat { session.seat ≡ self.old.number }
+        ensures free { self.new.trail ≡ None }
+        ensures seat { self.new.number ≡ self.old.number }
+        ensures life { (session.life ≡ self.old.life) × (self.new.life ≡ self.old.life + 1) }
+    {
+        let Session {
+            seat: _,
+            mut share,
+            note,
+        } = session;
+        facts.go_on_apart::<Brand, ()>(&mut self.lives, &mut share, &());
+        drop(note);
+        let Some(present) = self.present.take() else {
+            unreachable!()
+        };
+        if present.is_published {
+            let _withdrawn = withdraw(rt, chains, self.number);
+        }
+        drop(present);
+        forget_notes(&mut self.keeps);
+        self.free = Some(share);
+        self.life += 1;
+    }
+}

@@ -1,0 +1,74 @@
+//! The session on a seat, as long as it is open.
+ghost use Rattle.std.specs.Prelude.{◌≡◌, ◌+◌, Some, vec_len};
+ghost use Rattle.dt_legal.specs.Rows.{AreBelowPlace};
+ghost use Rattle.dt_machine.specs.Moment.{IsMoment};
+ghost use Rattle.dt_machine.specs.Registry.{firing_at};
+ghost use Rattle.dt_seat.specs.Keeps.{known_by, known_of};
+ghost use Rattle.dt_seat.specs.Seats.{IsHeld, IsTaken};
+
+use crate::follower::Follower;
+use crate::held::Held;
+use crate::keep::Keep;
+use crate::site::HubSite;
+use crate::trailed::{Owner, offer};
+use dt_chain::Seat;
+use dt_consumer::Consumer;
+use dt_cred::Account;
+use dt_facts::{Book, Facts};
+use dt_machine::{Machine, Moment};
+
+/// The session on a seat: its account, its consumer, and the trail that this stands for.
+#[derive(Drop)]
+pub(crate) struct Present<J: HubSite> {
+    pub(crate) account: Account,
+    pub(crate) owner: Owner<J>,
+    pub(crate) consumer: Consumer,
+    /// Whether its interest may stand in the chains.
+    pub(crate) is_published: bool,
+}
+
+/// A processor offers a firing to the session, having taken its note of the trail.
+pub(crate) fn hold_at<J: HubSite>(
+    machine: &Machine,
+    facts: &Facts,
+    number: Seat,
+    life: u64,
+    lives: &Book,
+    present: &mut Present<J>,
+    keeps: &mut Vec<Keep<J>>,
+    moment: &Moment,
+    follower: &mut Follower<J>,
+) -> Held
+    requires machine { machine.now ≡ J.contents }
+    requires facts { facts.now ≡ J.word }
+    requires taken { IsTaken J.word J.contents number life lives.now present.old keeps.old.items }
+    requires moment { IsMoment J.contents.registry moment.now }
+    requires script { firing_at J.contents.scripts moment.now.firing.now.cpu moment.now.firing.now.place
+        ≡ Some moment.now.firing.now }
+    requires follower { (follower.old.seat ≡ number) × (follower.old.cpu ≡ moment.now.firing.now.cpu) }
+    requires below { AreBelowPlace moment.now.firing.now.cpu moment.now.firing.now.place (known_of life follower.old) }
+    ensures taken { IsTaken J.word J.contents number life lives.now present.new keeps.new.items }
+    ensures held { IsHeld J.contents life moment.now.firing.now result follower.old follower.new }
+    ensures row { present.new.owner.row ≡ present.old.owner.row }
+{
+    let keep = &mut keeps[moment.firing.cpu as usize];
+    keep.lend(facts, lives, life, &present.owner, follower);
+    let Some(note) = &mut follower.note else {
+        unreachable!()
+    };
+    let is_seen = offer(
+        machine,
+        present.account,
+        &mut present.owner,
+        &mut present.consumer,
+        note,
+        moment,
+    );
+    if is_seen {
+        Held::Kept
+    } else {
+        Held::Unseen {
+            known: note.count(),
+        }
+    }
+}

@@ -1,0 +1,178 @@
+//! A consumer with its session's trail.
+ghost use Rattle.std.specs.Prelude.{◌≡◌, ◌≤◌, ◌↔◌, ◌+◌, [], IsTrue, IfOk, OnOk, Some};
+ghost use Rattle.dt_legal.specs.Rows.{AreBelowPlace, life_of_row};
+ghost use Rattle.dt_life.specs.Sees.{Sees};
+ghost use Rattle.dt_machine.specs.Moment.{IsMoment};
+ghost use Rattle.dt_machine.specs.Registry.{firing_at};
+ghost use Rattle.dt_seat.specs.Trailed.{HasRoom, IsGoAfter, IsPrepared, IsTrailed, item_of_line, row_after, row_offered, with_items};
+ghost use Rattle.dt_trail.specs.Known.{known_row, noted, AreNew, Meets};
+ghost use Rattle.dt_proto.specs.Asked.{form_asked, form_lent};
+ghost use Rattle.dt_trail.specs.Limits.{cpu_count, opening_cells};
+
+use crate::prepared::Prepared;
+use dt_consumer::Consumer;
+use dt_cred::Account;
+use dt_legal::{LegalIn, Traced};
+use dt_life::LINES_MAX;
+use dt_machine::{Machine, Moment};
+use dt_proto::{Asked, WholeLine, read_line, reply_bytes};
+use dt_trail::{BLOCK_CELLS, Item, TRAIL_CELLS, Trail, TrailNote, TrailOwner};
+use std::alloc::{AllocError, Global};
+
+/// Who appends to a session's trail.
+pub type Owner<J> = TrailOwner<Account, LegalIn<J>>;
+
+/// Who follows a session's trail.
+pub type Note<J> = TrailNote<Account, LegalIn<J>>;
+
+/// An empty trail of an account, with its notes: the session's, and then those of the processors.
+///
+/// `Err`: there was no memory.
+pub(crate) fn new_trail<J: Traced>(
+    alloc: Global,
+    account: Account,
+    notes: u64,
+) -> Result<(Owner<J>, Vec<Note<J>>), AllocError>
+    ensures owner { IfOk result (λ t. t.0 ≡ known_row t.0.row [] opening_cells 0) }
+    ensures account { IfOk result (λ t. t.0.row.account ≡ account) }
+    ensures notes { IfOk result (λ t. AreNew t.0.row notes t.1.items) }
+{
+    let (owner, made) = Trail::new::<Account, LegalIn<J>>(alloc, account, TRAIL_CELLS, notes)?;
+    Ok((owner, made))
+}
+
+/// The line that was asked, lent.
+fn lent(asked: &Asked) -> WholeLine<'_>
+    ensures { form_lent result ≡ form_asked asked.now }
+{
+    match asked {
+        Asked::Line(bytes) => WholeLine::Bytes(bytes.as_slice()),
+        Asked::Long => WholeLine::Long,
+    }
+}
+
+/// The item of a line that was asked, with bytes of its own. `Err`: there was no memory for them.
+fn item_of(alloc: Global, asked: &Asked) -> Result<Item, AllocError>
+    ensures { IfOk result (λ item. item ≡ item_of_line asked.now) }
+{
+    match asked {
+        Asked::Line(bytes) => Ok(Item::line(bytes.as_slice().to_vec(alloc)?)),
+        Asked::Long => Ok(Item::long_line()),
+    }
+}
+
+/// Makes all that a line takes. Nothing is changed.
+///
+/// `Err`: there was no memory.
+pub(crate) fn prepare<J: Traced>(
+    alloc: Global,
+    machine: &Machine,
+    account: Account,
+    owner: &Owner<J>,
+    consumer: &Consumer,
+    asked: &Asked,
+) -> Result<Prepared, AllocError>
+    requires machine { machine.now ≡ J.contents }
+    requires kept { IsTrailed J.contents account owner.now consumer.now }
+    ensures prepared { IfOk result (λ made. IsPrepared J.contents account owner.now.knows consumer.now made.draft made.item
+        made.text.items) }
+    ensures line { IfOk result (λ made. made.item ≡ item_of_line asked.now) }
+{
+    let item = item_of(alloc, asked)?;
+    let command = read_line(alloc, lent(asked))?;
+    let draft = consumer.draft(alloc, machine, &command)?;
+    let text = reply_bytes(alloc, draft.reply())?;
+    Ok(Prepared { draft, item, text })
+}
+
+/// Widens the trail until it has room for the history. The session's note then knows the whole trail.
+///
+/// `Err`: there was no memory. The blocks that were added stay.
+pub(crate) fn make_room<J: Traced>(
+    account: Account,
+    owner: &mut Owner<J>,
+    consumer: &Consumer,
+    note: &mut Note<J>,
+) -> Result<(), AllocError>
+    requires kept { IsTrailed J.contents account owner.old consumer.now }
+    requires note { note.old.row ≡ owner.old.row }
+    ensures room { OnOk result (HasRoom J.contents account owner.new) }
+    ensures kept { IsTrailed J.contents account owner.new consumer.now }
+    ensures same { (owner.new.row ≡ owner.old.row) × (owner.new.knows ≡ owner.old.knows) }
+    ensures note { note.new ≡ noted note.old.row note.old.number owner.old.knows }
+    ensures met { Meets owner.old.knows note.old }
+{
+    owner.meet(note);
+    let wanted = u64::from(LINES_MAX) + consumer.histsize();
+    'blocks: while owner.cells() < wanted {
+        owner.widen(note, BLOCK_CELLS)?;
+    }
+    Ok(())
+}
+
+/// Makes the change of a line that was prepared, and appends its item; answers the text of its reply. The session's note
+/// then knows the whole trail. A `go` that is accepted needs the room for the history. It takes no memory.
+pub(crate) fn finish<J: Traced>(
+    machine: &Machine,
+    account: Account,
+    owner: &mut Owner<J>,
+    consumer: &mut Consumer,
+    note: &mut Note<J>,
+    prepared: Prepared,
+) -> Vec<u8>
+    requires machine { machine.now ≡ J.contents }
+    requires kept { IsTrailed J.contents account owner.old consumer.old }
+    requires prepared { IsPrepared J.contents account owner.old.knows consumer.old prepared.draft prepared.item
+        prepared.text.items }
+    requires note { (note.old.row ≡ owner.old.row) × (note.old.number ≡ 0) }
+    requires room { IsGoAfter account J.contents owner.old.knows prepared.item → HasRoom J.contents account owner.old }
+    ensures kept { IsTrailed J.contents account owner.new consumer.new }
+    ensures trail { owner.new ≡ with_items owner.old (row_after account J.contents owner.old.knows prepared.item) }
+    ensures note { note.new ≡ noted note.old.row 0 (row_after account J.contents owner.old.knows prepared.item) }
+    ensures met { Meets owner.old.knows note.old }
+    ensures text { result.items ≡ prepared.text.items }
+{
+    let Prepared { draft, item, text } = prepared;
+    let is_over = draft.is_over_quota();
+    consumer.apply(machine, draft);
+    if is_over {
+        owner.meet(note);
+    } else {
+        owner.append(note, &item);
+    }
+    text
+}
+
+/// Offers a firing of a processor's script, on behalf of that processor's note, which then knows the whole trail. Answers whether
+/// the consumer saw it. It takes no memory.
+pub(crate) fn offer<J: Traced>(
+    machine: &Machine,
+    account: Account,
+    owner: &mut Owner<J>,
+    consumer: &mut Consumer,
+    note: &mut Note<J>,
+    moment: &Moment,
+) -> bool
+    requires machine { machine.now ≡ J.contents }
+    requires kept { IsTrailed J.contents account owner.old consumer.old }
+    requires moment { IsMoment J.contents.registry moment.now }
+    requires script { firing_at J.contents.scripts moment.now.firing.now.cpu moment.now.firing.now.place
+        ≡ Some moment.now.firing.now }
+    requires note { (note.old.row ≡ owner.old.row) × (note.old.number ≡ moment.now.firing.now.cpu + 1) }
+    requires few { J.contents.registry.cpus ≤ cpu_count }
+    requires below { AreBelowPlace moment.now.firing.now.cpu moment.now.firing.now.place note.old.knows }
+    ensures kept { IsTrailed J.contents account owner.new consumer.new }
+    ensures seen { IsTrue result ↔ Sees account J.contents.registry (life_of_row account J.contents owner.old.knows)
+        moment.now.firing.now }
+    ensures trail { owner.new ≡ with_items owner.old (row_offered owner.old.knows moment.now.firing.now result) }
+    ensures note { note.new ≡ noted note.old.row note.old.number (row_offered owner.old.knows moment.now.firing.now result) }
+    ensures met { Meets owner.old.knows note.old }
+{
+    owner.meet(note);
+    let is_seen = consumer.offer_moment(machine, moment);
+    if is_seen {
+        let item = Item::fired(moment.firing.cpu, moment.firing.place);
+        owner.append(note, &item);
+    }
+    is_seen
+}
