@@ -8,17 +8,17 @@ use Rattle.dt_life.specs.Limits.{lines_max}
 use Rattle.dt_proto.specs.Legal.{IsLegal, life_of_trail}
 use Rattle.dt_proto.specs.Lines.{LineForm, line_form}
 use Rattle.dt_proto.specs.Lines.{long_line as long_form}
-use Rattle.dt_proto.specs.Trail.{TrailEntry, line_asked, long_asked, fired_at}
+use Rattle.dt_proto.specs.Trail.{WrittenItem, line_asked, long_asked, fired_at}
 use Rattle.dt_trail.specs.Items.{TrailItem, line, long_line, fired, own}
 
 -- an item as a trail's text tells it, whatever was replied
-abbrev pub told_as : TrailItem → TrailEntry
+abbrev pub told_as : TrailItem → WrittenItem
 told_as (line bytes) = line_asked bytes []
 told_as long_line = long_asked []
 told_as (fired cpu place) = fired_at cpu place
 
 -- the items of a row as a trail tells them, the newest first
-abbrev pub past_of : List TrailItem → List TrailEntry
+abbrev pub past_of : List TrailItem → List WrittenItem
 past_of row = reverse (map told_as row)
 
 module _ (account : Account) (contents : Contents) where

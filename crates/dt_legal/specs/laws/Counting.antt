@@ -24,7 +24,7 @@ use Rattle.dt_life.specs.laws.Seeing.{active_to}
 use Rattle.dt_proto.specs.Legal.{IsLegal, life_of_trail}
 use Rattle.dt_proto.specs.Line.{ask_in}
 use Rattle.dt_proto.specs.Lines.{line_form, long_line}
-use Rattle.dt_proto.specs.Trail.{TrailEntry, line_asked, long_asked, fired_at}
+use Rattle.dt_proto.specs.Trail.{WrittenItem, line_asked, long_asked, fired_at}
 use Rattle.dt_trail.specs.Items.{TrailItem}
 use Rattle.dt_legal.specs.Rows.{told_as, past_of, life_of_row, set_up_of, IsLegalRow}
 
@@ -101,14 +101,14 @@ pub not_over : (life : List Item) → is_over life ≡ false → lines life < li
 not_over life h = grind (arith, nat_tests, h)
 
 module _ (account : Account) (contents : Contents) where
-  abbrev pub lived : List TrailEntry → List Item
+  abbrev pub lived : List WrittenItem → List Item
   lived past = life_of_trail account contents past
 
-  abbrev pub made : List TrailEntry → SetUp
+  abbrev pub made : List WrittenItem → SetUp
   made past = set_up account contents.registry (lived past)
 
   -- each item is a line or a firing that was seen
-  items : (past : List TrailEntry) → IsLegal account contents past → length past ≡ lines (lived past) + seen_in (made past)
+  items : (past : List WrittenItem) → IsLegal account contents past → length past ≡ lines (lived past) + seen_in (made past)
   items [] h = omega arith
   items (line_asked line reply ∷ past) h =
       let before = items past h.0 in
@@ -124,7 +124,7 @@ module _ (account : Account) (contents : Contents) where
       let more = firing_counts account contents.registry (made past) firing.0 (active_to _ firing.2.active) in
       rw firing.1 (omega (arith, before, more))
 
-  few_lines : (past : List TrailEntry) → IsLegal account contents past → lines (lived past) ≤ lines_max
+  few_lines : (past : List WrittenItem) → IsLegal account contents past → lines (lived past) ≤ lines_max
   few_lines [] h = omega arith
   few_lines (line_asked line reply ∷ past) h = let few = not_over (lived past) h.1 in omega (arith, few)
   few_lines (long_asked reply ∷ past) h = let few = not_over (lived past) h.1 in omega (arith, few)

@@ -11,7 +11,7 @@ use Rattle.dt_life.specs.Life.{fired as fired_item}
 use Rattle.dt_life.specs.Sees.{Sees}
 use Rattle.dt_proto.specs.Legal.{HasLowerPlace, IsAbove}
 use Rattle.dt_proto.specs.Line.{ask_in}
-use Rattle.dt_proto.specs.Trail.{TrailEntry}
+use Rattle.dt_proto.specs.Trail.{WrittenItem}
 use Rattle.dt_trail.specs.Items.{TrailItem, line, long_line, fired, whose}
 use Rattle.dt_legal.specs.Rows.{told_as, past_of, life_of_row, IsLegalRow, form_of, IsBelow, AreBelowPlace}
 use Rattle.dt_legal.specs.laws.Beginning.{past_of_last}
@@ -21,7 +21,7 @@ all_both P [] ys h k = k
 all_both P (x ∷ xs) ys h k = (h.0, all_both P xs ys h.1 k)
 
 -- what holds of all items of a row holds of what they tell, the newest first
-all_told : (P : TrailEntry → Type 0) (row : List TrailItem) → AllByRecursion (λ item. P (told_as item)) row
+all_told : (P : WrittenItem → Type 0) (row : List TrailItem) → AllByRecursion (λ item. P (told_as item)) row
     → AllByRecursion P (past_of row)
 all_told P [] h = tt
 all_told P (item ∷ row) h =
