@@ -58,9 +58,9 @@ struct Two {
 }
 
 /// The list of both.
-struct Joined;
+struct JoinedRow;
 
-impl Opening<Two, Write> for Joined {
+impl Opening<Two, Write> for JoinedRow {
     ghost use Rattle.std.specs.Prelude.{◌++◌};
 
     ghost log = { λ count two. two.first.log ++ two.then.log };
@@ -84,7 +84,7 @@ impl History {
             first: self.shown.again(),
             then,
         };
-        let (shown, _pens) = Seen::open_row::<Two, Joined>(&two, Start::alone(), 0);
+        let (shown, _pens) = Seen::open_row::<Two, JoinedRow>(&two, Start::alone(), 0);
         History { shown }
     }
 }

@@ -42,17 +42,17 @@ Suffice cells s =
     ⊎ ((seen_count s.since ≡ 0) × (is_active (phase_of s) ≡ false) × (lines_max ≤ cells))
 
 -- the form of a line's item
-abbrev pub form_of : TrailItem → LineForm
-form_of (line bytes) = line_form bytes
-form_of long_line = long_form
-form_of (fired cpu place) = long_form
+abbrev pub line_form_of : TrailItem → LineForm
+line_form_of (line bytes) = line_form bytes
+line_form_of long_line = long_form
+line_form_of (fired cpu place) = long_form
 
 -- an item of a processor stands at a lower place than this one
-abbrev pub IsBelow : (place : ℕ) → TrailItem → Type 0
-IsBelow place (fired cpu earlier) = earlier < place
-IsBelow place (line bytes) = Unit {0}
-IsBelow place long_line = Unit {0}
+abbrev pub IsAtLowerPlace : (place : ℕ) → TrailItem → Type 0
+IsAtLowerPlace place (fired cpu earlier) = earlier < place
+IsAtLowerPlace place (line bytes) = Unit {0}
+IsAtLowerPlace place long_line = Unit {0}
 
 -- all firings of the processor in the row stand at lower places than this one
 abbrev pub AreBelowPlace : (cpu place : ℕ) → List TrailItem → Type 0
-AreBelowPlace cpu place row = AllByRecursion (IsBelow place) (own (cpu + 1) row)
+AreBelowPlace cpu place row = AllByRecursion (IsAtLowerPlace place) (own (cpu + 1) row)

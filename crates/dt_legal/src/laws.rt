@@ -2,7 +2,7 @@
 ghost use Rattle.std.specs.Prelude.{◌≡◌, ◌<◌, ◌≤◌, ◌+◌, ◌++◌, ◌∷◌, ℕ, false, List, [], Some, length};
 ghost use Rattle.dt_cred.specs.declared.account.Account.{Account};
 ghost use Rattle.dt_cred.specs.declared.firing.Firing.{Firing};
-ghost use Rattle.dt_legal.specs.Rows.{AreBelowPlace, IsLegalRow, Suffice, form_of, life_of_row, set_up_of};
+ghost use Rattle.dt_legal.specs.Rows.{AreBelowPlace, IsLegalRow, Suffice, line_form_of, life_of_row, set_up_of};
 ghost use Rattle.dt_life.specs.Acceptance.{after_line};
 ghost use Rattle.dt_life.specs.Life.{is_over};
 ghost use Rattle.dt_life.specs.Life.{fired as fired_item};
@@ -22,7 +22,7 @@ pub fn rows_go_on()
         → IsLegalRow account contents row → is_over (life_of_row account contents row) ≡ false
         → IsLegalRow account contents (row ++ item ∷ [])
         × (life_of_row account contents (row ++ item ∷ [])
-        ≡ after_line (life_of_row account contents row) (ask_in (form_of item))) }
+        ≡ after_line (life_of_row account contents row) (ask_in (line_form_of item))) }
     ensures firing { (account : Account) (contents : Contents) (row : List TrailItem) (cpu place : ℕ) (firing : Firing)
         → IsLegalRow account contents row → firing_at contents.scripts cpu place ≡ Some firing
         → Sees account contents.registry (life_of_row account contents row) firing → AreBelowPlace cpu place row

@@ -10,14 +10,14 @@ use Rattle.dt_cred.specs.declared.firing.Firing.{Firing}
 use Rattle.dt_facts.specs.Handles.{HeldFact}
 use Rattle.dt_facts.specs.Facts.{last_note}
 use Rattle.dt_facts.specs.declared.fact.LastNote.{LastNote}
-use Rattle.dt_legal.specs.Rows.{IsLegalRow, form_of, life_of_row}
+use Rattle.dt_legal.specs.Rows.{IsLegalRow, line_form_of, life_of_row}
 use Rattle.dt_life.specs.Life.{is_over}
 use Rattle.dt_life.specs.Sees.{Sees}
 use Rattle.dt_life.specs.laws.Lists.{replaced}
 use Rattle.dt_life.specs.laws.Options.{if_some_map}
 use Rattle.dt_machine.specs.Registry.{Contents}
-use Rattle.dt_seat.specs.Keeps.{Carries, Followed, IsKept, Kept, known_by, known_in, known_of}
-use Rattle.dt_seat.specs.Seats.{IsAnswered, IsHeld, IsTaken, Reaches}
+use Rattle.dt_seat.specs.Keeps.{Carries, Followed, IsKeptFor, KeptNote, known_by, known_in, known_of}
+use Rattle.dt_seat.specs.Seats.{IsRepliedTo, ComesOfFiring, IsTaken, Reaches}
 use Rattle.dt_seat.specs.declared.held.Held.TheVariants.{Kept as WasKept, Unseen}
 use Rattle.dt_seat.specs.Trailed.{IsDue, IsTrailed, row_after, row_offered, with_items}
 use Rattle.dt_seat.specs.declared.present.Present.{Present}
@@ -40,9 +40,9 @@ own_offered row firing true cpu other =
 own_offered row firing false cpu other = refl
 
 -- what is kept for a processor stays right where the trail has no further item of it
-kept_still : (word : TableId) (cpus seat cpu life : ℕ) (row : Named Account) (knows more : List TrailItem) (k : Kept)
-    → own (cpu + 1) more ≡ own (cpu + 1) knows → IsKept word cpus seat cpu life row knows k
-    → IsKept word cpus seat cpu life row more k
+kept_still : (word : TableId) (cpus seat cpu life : ℕ) (row : Named Account) (knows more : List TrailItem) (k : KeptNote)
+    → own (cpu + 1) more ≡ own (cpu + 1) knows → IsKeptFor word cpus seat cpu life row knows k
+    → IsKeptFor word cpus seat cpu life row more k
 kept_still word cpus seat cpu life row knows more k same h = record {
   book = h.book;
   below = h.below;
@@ -51,8 +51,8 @@ kept_still word cpus seat cpu life row knows more k same h = record {
 }
 
 -- and where its note isn't there
-kept_lent : (word : TableId) (cpus seat cpu life : ℕ) (row : Named Account) (knows more : List TrailItem) (k : Kept)
-    → k.note ≡ None → IsKept word cpus seat cpu life row knows k → IsKept word cpus seat cpu life row more k
+kept_lent : (word : TableId) (cpus seat cpu life : ℕ) (row : Named Account) (knows more : List TrailItem) (k : KeptNote)
+    → k.note ≡ None → IsKeptFor word cpus seat cpu life row knows k → IsKeptFor word cpus seat cpu life row more k
 kept_lent word cpus seat cpu life row knows more k none h = record {
   book = h.book;
   below = h.below;
@@ -61,15 +61,15 @@ kept_lent word cpus seat cpu life row knows more k none h = record {
 }
 
 module _ {J : Type 0} (word : TableId) (contents : Contents) (number life : ℕ) (lives : HeldFact) (present : Present J)
-    (keeps : List Kept) (h : IsTaken word contents number life lives present keeps) where
+    (keeps : List KeptNote) (h : IsTaken word contents number life lives present keeps) where
   abbrev cpus : ℕ
   cpus = contents.registry.cpus
 
   -- after a firing was offered on behalf of a processor whose note isn't there
-  pub taken_offered : (firing : Firing) (is_seen : Bool) (consumer : Consumer) (k : Kept)
+  pub taken_offered : (firing : Firing) (is_seen : Bool) (consumer : Consumer) (k : KeptNote)
       → IsTrailed contents present.account (with_items present.owner (row_offered present.owner.knows firing is_seen)) consumer
       → k.note ≡ None
-      → IsKept word cpus number firing.cpu life present.owner.row present.owner.knows k
+      → IsKeptFor word cpus number firing.cpu life present.owner.row present.owner.knows k
       → IsTaken {J = J} word contents number life lives
       (record {
         account = present.account;
@@ -83,13 +83,13 @@ module _ {J : Type 0} (word : TableId) (contents : Contents) (number life : ℕ)
     named = h.named;
     trailed = trailed;
     each = replaced
-        (λ cpu. IsKept word cpus number cpu life present.owner.row (row_offered present.owner.knows firing is_seen))
+        (λ cpu. IsKeptFor word cpus number cpu life present.owner.row (row_offered present.owner.knows firing is_seen))
         keeps firing.cpu k
         (kept_lent word cpus number firing.cpu life present.owner.row present.owner.knows
         (row_offered present.owner.knows firing is_seen) k none right)
         (λ cpu other. if_some_map
-        (IsKept word cpus number cpu life present.owner.row present.owner.knows)
-        (IsKept word cpus number cpu life present.owner.row (row_offered present.owner.knows firing is_seen))
+        (IsKeptFor word cpus number cpu life present.owner.row present.owner.knows)
+        (IsKeptFor word cpus number cpu life present.owner.row (row_offered present.owner.knows firing is_seen))
         (slice_get keeps cpu)
         (λ one. kept_still word cpus number cpu life present.owner.row present.owner.knows
         (row_offered present.owner.knows firing is_seen) one (own_offered present.owner.knows firing is_seen cpu other))
@@ -143,7 +143,7 @@ module _ (contents : Contents) (life : ℕ) (firing : Firing) (old lent : Follow
   pub held_kept : (trail : List TrailItem) → note.number ≡ firing.cpu + 1 → Meets trail note
       → IsLegalRow note.row.account contents trail
       → Sees note.row.account contents.registry (life_of_row note.row.account contents trail) firing
-      → IsHeld contents life firing WasKept old
+      → ComesOfFiring contents life firing WasKept old
       (with_note lent (noted note.row note.number (trail ++ fired firing.cpu firing.place ∷ [])))
   held_kept trail mine met legal sees =
       let new = noted note.row note.number (trail ++ fired firing.cpu firing.place ∷ []) in
@@ -153,7 +153,7 @@ module _ (contents : Contents) (life : ℕ) (firing : Firing) (old lent : Follow
       → IsLegalRow note.row.account contents trail
       → (Sees note.row.account contents.registry (life_of_row note.row.account contents trail) firing → ⊥)
       → length trail ≡ count
-      → IsHeld contents life firing (Unseen count) old (with_note lent (noted note.row note.number trail))
+      → ComesOfFiring contents life firing (Unseen count) old (with_note lent (noted note.row note.number trail))
   held_unseen trail count mine met legal unseen all =
       let new = noted note.row note.number trail in
       (carries_on new, (new, record { took = took; has = refl }, reaches trail mine met legal, unseen, all))
@@ -168,7 +168,7 @@ own_line cpu row true item mine = refl
 own_line cpu row false item mine = own_of_other (cpu + 1) row item (λ e. absurd (omega (arith, mine, e)))
 
 module _ {J : Type 0} (word : TableId) (contents : Contents) (number life : ℕ) (lives : HeldFact) (present : Present J)
-    (keeps : List Kept) (h : IsTaken word contents number life lives present keeps) where
+    (keeps : List KeptNote) (h : IsTaken word contents number life lives present keeps) where
   -- after a line was asked
   pub taken_asked : (item : TrailItem) (new : Present J) → whose item ≡ 0
       → new.owner.row ≡ present.owner.row
@@ -181,8 +181,8 @@ module _ {J : Type 0} (word : TableId) (contents : Contents) (number life : ℕ)
     named = rw row h.named;
     trailed = trailed;
     each = λ cpu. if_some_map
-        (IsKept word contents.registry.cpus number cpu life present.owner.row present.owner.knows)
-        (IsKept word contents.registry.cpus number cpu life new.owner.row new.owner.knows)
+        (IsKeptFor word contents.registry.cpus number cpu life present.owner.row present.owner.knows)
+        (IsKeptFor word contents.registry.cpus number cpu life new.owner.row new.owner.knows)
         (slice_get keeps cpu)
         (λ one right. rw (row, knows)
         (kept_still word contents.registry.cpus number cpu life present.owner.row present.owner.knows
@@ -204,9 +204,9 @@ grows_not old = record { row = refl; number = refl; longer = ([], sym (append-ni
 
 pub answered_from : (contents : Contents) (account : Account) (old mid : Noted Account) (trail : List TrailItem) (item : TrailItem)
     (text : List ℕ) (after : List TrailItem) → old.number ≡ 0 → Grows old mid → Meets trail mid
-    → IsLegalRow account contents trail → IsDue account contents trail (form_of item) text
+    → IsLegalRow account contents trail → IsDue account contents trail (line_form_of item) text
     → after ≡ row_after account contents trail item
-    → IsAnswered contents account old.knows item text after
+    → IsRepliedTo contents account old.knows item text after
 answered_from contents account old mid trail item text after zero grows met legal due is = record {
   trail = trail;
   begins = starts_trans trail mid.knows old.knows met.0 grows.longer;

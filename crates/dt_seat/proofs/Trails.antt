@@ -6,7 +6,7 @@ use Rattle.dt_cred.specs.declared.account.Account.{Account}
 use Rattle.dt_cred.specs.declared.firing.Firing.{Firing}
 use Rattle.dt_consumer.specs.StandsFor.{StandsFor}
 use Rattle.dt_consumer.specs.declared.consumer.Consumer.{Consumer}
-use Rattle.dt_legal.specs.Rows.{AreBelowPlace, IsBelow, Suffice, form_of, life_of_row, set_up_of}
+use Rattle.dt_legal.specs.Rows.{AreBelowPlace, IsAtLowerPlace, Suffice, line_form_of, life_of_row, set_up_of}
 use Rattle.dt_legal.specs.laws.Following.{line_follows, firing_follows}
 use Rattle.dt_legal.specs.laws.Room.{Begins, suffices_after_line, suffices_after_firing}
 use Rattle.dt_life.specs.Acceptance.{after_line}
@@ -25,7 +25,7 @@ use Rattle.dt_trail.specs.Limits.{block_cells, longest}
 use Rattle.dt_proto.specs.Asked.{form_asked}
 use Rattle.dt_proto.specs.declared.asked.Asked.{Asked}
 use Rattle.dt_proto.specs.declared.asked.Asked.TheVariants as lines
-use Rattle.dt_seat.specs.Trailed.{item_of_line, HasRoom, IsGoAfter, IsTrailed, IsWide}
+use Rattle.dt_seat.specs.Trailed.{item_of_line, IsWideEnough, IsGoAfter, IsTrailed, IsWide}
 
 inactive_from : (p : Phase) → is_inactive p ≡ true → p ≡ Inactive
 inactive_from Inactive h = refl
@@ -37,7 +37,7 @@ counted : (life : List Item) (said : Result Ask Refusal) → is_over life ≡ fa
 counted life said over = rw over refl
 
 -- the line of an item is the one that was asked
-pub same_form : (asked : Asked) → form_of (item_of_line asked) ≡ form_asked asked
+pub same_form : (asked : Asked) → line_form_of (item_of_line asked) ≡ form_asked asked
 same_form (lines.Line bytes) = refl
 same_form lines.Long = refl
 
@@ -50,7 +50,7 @@ pub below_met : (cpu place number : ℕ) (row knows : List TrailItem) → number
     → AreBelowPlace cpu place knows → AreBelowPlace cpu place row
 below_met cpu place number row knows e same h =
     let mine : own (cpu + 1) row ≡ own (cpu + 1) knows = rw (← e) same in
-    subst (AllByRecursion (IsBelow place)) (sym mine) h
+    subst (AllByRecursion (IsAtLowerPlace place)) (sym mine) h
 
 more_suffice : (cells more : ℕ) (s : SetUp) → cells ≤ more → Suffice cells s → Suffice more s
 more_suffice cells more s le h = elim h [
@@ -68,28 +68,28 @@ module _ (contents : Contents) (account : Account) (trail : Known Account) (cons
   life = life_of_row account contents trail.knows
 
   go_from : (item : TrailItem) → is_over life ≡ false
-      → Begins account contents.registry (set_up_of account contents trail.knows) (ask_in (form_of item))
+      → Begins account contents.registry (set_up_of account contents trail.knows) (ask_in (line_form_of item))
       → IsGoAfter account contents trail.knows item
   go_from item over begins =
       let parts = and_parts _ _ begins.0 in
       (over, inactive_from _ parts.0, parts.1, begins.1)
 
   pub trailed_line : (new : Consumer) (item : TrailItem)
-      → StandsFor account contents.registry new (after_line life (ask_in (form_of item)))
+      → StandsFor account contents.registry new (after_line life (ask_in (line_form_of item)))
       → is_over life ≡ false → whose item ≡ 0
-      → (IsGoAfter account contents trail.knows item → HasRoom contents account trail)
+      → (IsGoAfter account contents trail.knows item → IsWideEnough contents account trail)
       → IsTrailed contents account (known_row trail.row (trail.knows ++ item ∷ []) trail.cells trail.widened) new
   trailed_line new item stands over mine room =
       let follows = line_follows account contents trail.knows item mine h.legal over in
-      let whole : life_of_row account contents (trail.knows ++ item ∷ []) ≡ asked (ask_in (form_of item)) ∷ life =
-      follows.1 ∙ counted life (ask_in (form_of item)) over in
+      let whole : life_of_row account contents (trail.knows ++ item ∷ []) ≡ asked (ask_in (line_form_of item)) ∷ life =
+      follows.1 ∙ counted life (ask_in (line_form_of item)) over in
       record {
         whose_is = h.whose_is;
         stands = subst (StandsFor account contents.registry new) (sym follows.1) stands;
         legal = follows.0;
         wide = record { blocks = h.wide.blocks; few = h.wide.few };
         suffice = subst (λ l. Suffice trail.cells (set_up account contents.registry l)) (sym whole)
-            (suffices_after_line account contents.registry (set_up_of account contents trail.knows) (ask_in (form_of item)) trail.cells
+            (suffices_after_line account contents.registry (set_up_of account contents trail.knows) (ask_in (line_form_of item)) trail.cells
             h.suffice (λ begins. room (go_from item over begins)));
       }
 
@@ -106,7 +106,7 @@ module _ (contents : Contents) (account : Account) (trail : Known Account) (cons
       }
 
   pub trailed_over : (new : Consumer) (item : TrailItem)
-      → StandsFor account contents.registry new (after_line life (ask_in (form_of item)))
+      → StandsFor account contents.registry new (after_line life (ask_in (line_form_of item)))
       → is_over life ≡ true
       → IsTrailed contents account trail new
   trailed_over new item stands over = record {

@@ -13,14 +13,14 @@ use Rattle.dt_trail.specs.Known.{Noted, noted}
 use Rattle.dt_trail.specs.declared.law.Named.{Named}
 
 -- what a seat keeps for a processor: its note, as long as it wasn't taken, and the book of what it took here
-pub record Kept : Type 0 where
+pub record KeptNote : Type 0 where
   pub note : Option (Noted Account)
   pub book : HeldFact
 
-abbrev pub kept : Option (Noted Account) → HeldFact → Kept
+abbrev pub kept : Option (Noted Account) → HeldFact → KeptNote
 kept note book = record { note = note; book = book }
 
-abbrev pub without_note : Kept → Kept
+abbrev pub without_note : KeptNote → KeptNote
 without_note k = kept None k.book
 
 -- what a processor has at a seat: which life's note it took last, below which number all lives are over, and that note
@@ -54,28 +54,28 @@ abbrev pub IsEarlier : ℕ → Option LastNote → Type 0
 IsEarlier life took = IfSome took (λ last. last.life < life)
 
 -- the book of what a processor took at a seat
-abbrev pub IsBookOf : TableId → (cpus seat cpu : ℕ) → HeldFact → Type 0
-IsBookOf word cpus seat cpu held =
+abbrev pub SaysTaken : TableId → (cpus seat cpu : ℕ) → HeldFact → Type 0
+SaysTaken word cpus seat cpu held =
     held ≡ holding word (processor_name cpus seat cpu) (processor_fact (took_in held.fact) (over_in held.fact))
 
 -- What is kept for a processor at a seat in this life, which is open. As long as its note lies there, it is new, no item of the trail is
 -- the processor's, and the processor took no note of this life; once it doesn't, the processor took it.
-pub record IsKept (word : TableId) (cpus seat cpu life : ℕ) (row : Named Account) (knows : List TrailItem) (k : Kept) : Type 0 where
-  pub book : IsBookOf word cpus seat cpu k.book
+pub record IsKeptFor (word : TableId) (cpus seat cpu life : ℕ) (row : Named Account) (knows : List TrailItem) (k : KeptNote) : Type 0 where
+  pub book : SaysTaken word cpus seat cpu k.book
   pub below : over_in k.book.fact ≤ life
   pub untaken : (n : Noted Account) → k.note ≡ Some n
       → (n ≡ noted row (cpu + 1) []) × (own (cpu + 1) knows ≡ []) × IsEarlier life (took_in k.book.fact)
   pub taken : k.note ≡ None → took_in k.book.fact ≡ Some (last_note life row)
 
 -- What is kept for a processor at a seat where no life is open, and the next is of this number.
-pub record IsLeft (word : TableId) (cpus seat cpu life : ℕ) (k : Kept) : Type 0 where
-  pub book : IsBookOf word cpus seat cpu k.book
+pub record IsLeft (word : TableId) (cpus seat cpu life : ℕ) (k : KeptNote) : Type 0 where
+  pub book : SaysTaken word cpus seat cpu k.book
   pub below : over_in k.book.fact ≤ life
   pub earlier : IsEarlier life (took_in k.book.fact)
 
 -- What a processor has at a seat: the share of what it took there, and the note of the life that it took last.
 pub record IsFollower (word : TableId) (cpus seat cpu life : ℕ) (share : HeldFact) (note : Option (Noted Account)) : Type 0 where
-  pub share_is : IsBookOf word cpus seat cpu share
+  pub share_is : SaysTaken word cpus seat cpu share
   pub one : (n : Noted Account) → note ≡ Some n
       → (took_in share.fact ≡ Some (last_note life n.row)) × (n ≡ noted n.row (cpu + 1) n.knows)
   pub none : note ≡ None → took_in share.fact ≡ None

@@ -5,10 +5,10 @@ use Rattle.dt_cred.specs.declared.account.Account.{Account}
 use Rattle.dt_cred.specs.declared.firing.Firing.{Firing}
 use Rattle.dt_facts.specs.Facts.{last_note, life_fact, nothing}
 use Rattle.dt_facts.specs.Handles.{HeldFact, holding}
-use Rattle.dt_legal.specs.Rows.{IsLegalRow, form_of, life_of_row}
+use Rattle.dt_legal.specs.Rows.{IsLegalRow, line_form_of, life_of_row}
 use Rattle.dt_life.specs.Sees.{Sees}
 use Rattle.dt_machine.specs.Registry.{Contents}
-use Rattle.dt_seat.specs.Keeps.{Carries, Followed, IsKept, IsLeft, Kept, known_of}
+use Rattle.dt_seat.specs.Keeps.{Carries, Followed, IsKeptFor, IsLeft, KeptNote, known_of}
 use Rattle.dt_seat.specs.Names.{life_name}
 use Rattle.dt_seat.specs.Trailed.{IsDue, IsTrailed, row_after}
 use Rattle.dt_seat.specs.declared.held.Held.{Held}
@@ -28,17 +28,17 @@ module _ {J : Type 0} where
   -- A seat with an open life: its book says which life, with its trail; the consumer stands for the trail; and what is kept for
   -- each processor is right.
   pub record IsTaken (word : TableId) (contents : Contents) (number life : ℕ) (lives : HeldFact) (present : Present J)
-      (keeps : List Kept) : Type 0 where
+      (keeps : List KeptNote) : Type 0 where
     pub few : contents.registry.cpus ≤ cpu_count
     pub many : length keeps ≡ contents.registry.cpus
     pub named : lives ≡ holding word (life_name contents.registry.cpus number) (life_fact life true present.owner.row)
     pub trailed : IsTrailed contents present.account present.owner present.consumer
     pub each : (cpu : ℕ) → IfSome (slice_get keeps cpu)
-        (IsKept word contents.registry.cpus number cpu life present.owner.row present.owner.knows)
+        (IsKeptFor word contents.registry.cpus number cpu life present.owner.row present.owner.knows)
 
 -- A seat without an open life, of which the next has this number: its book says nothing, and its share lies there.
 pub record IsFree (word : TableId) (contents : Contents) (number life : ℕ) (lives : HeldFact) (free : Option HeldFact)
-    (keeps : List Kept) : Type 0 where
+    (keeps : List KeptNote) : Type 0 where
   pub few : contents.registry.cpus ≤ cpu_count
   pub many : length keeps ≡ contents.registry.cpus
   pub named : lives ≡ holding word (life_name contents.registry.cpus number) nothing
@@ -47,7 +47,7 @@ pub record IsFree (word : TableId) (contents : Contents) (number life : ℕ) (li
 
 module _ {J : Type 0} where
   -- What lies under a seat's lock: a session that is open, or none.
-  abbrev pub IsSeat : TableId → Contents → (number life : ℕ) → Option (Present J) → HeldFact → Option HeldFact → List Kept → Type 0
+  abbrev pub IsSeat : TableId → Contents → (number life : ℕ) → Option (Present J) → HeldFact → Option HeldFact → List KeptNote → Type 0
   IsSeat word contents number life present lives free keeps = MatchOption present
       (IsFree word contents number life lives free keeps)
       (λ p. IsTaken word contents number life lives p keeps × (life + 1 < 2 ^ 64))
@@ -63,34 +63,34 @@ pub record Reaches (contents : Contents) (account : Account) (cpu : ℕ) (known 
   pub legal : IsLegalRow account contents trail
 
 -- The processor has the note of this life, which knows this.
-pub record Follows (life : ℕ) (f : Followed) (note : Noted Account) : Type 0 where
+pub record HasNote (life : ℕ) (f : Followed) (note : Noted Account) : Type 0 where
   pub took : f.took ≡ Some (last_note life note.row)
   pub has : f.note ≡ Some note
 
 -- What comes of a firing that is offered to a life. Kept: the life's account sees it after a trail that begins with what was known, and it is
 -- then the last item that is known. Unseen: it isn't seen after such a trail, which is then known. Gone: nothing changes.
-abbrev pub IsHeld : Contents → (life : ℕ) → Firing → Held → Followed → Followed → Type 0
-IsHeld contents life firing WasKept old new =
+abbrev pub ComesOfFiring : Contents → (life : ℕ) → Firing → Held → Followed → Followed → Type 0
+ComesOfFiring contents life firing WasKept old new =
     Carries old new life
-    × ((note : Noted Account) × (trail : List TrailItem) × Follows life new note
+    × ((note : Noted Account) × (trail : List TrailItem) × HasNote life new note
     × Reaches contents note.row.account firing.cpu (known_of life old) trail
     × Sees note.row.account contents.registry (life_of_row note.row.account contents trail) firing
     × (note.knows ≡ trail ++ fired firing.cpu firing.place ∷ []))
-IsHeld contents life firing (Unseen known) old new =
+ComesOfFiring contents life firing (Unseen known) old new =
     Carries old new life
-    × ((note : Noted Account) × Follows life new note
+    × ((note : Noted Account) × HasNote life new note
     × Reaches contents note.row.account firing.cpu (known_of life old) note.knows
     × (Sees note.row.account contents.registry (life_of_row note.row.account contents note.knows) firing → ⊥)
     × (length note.knows ≡ known))
-IsHeld contents life firing Gone old new = new ≡ old
+ComesOfFiring contents life firing Gone old new = new ≡ old
 
 -- What a session is answered to a line: the reply that is due after a trail that begins with what it knew, has its lines and no further
 -- one, and is legal; the session then knows this trail and the line, which is no part of it where it is over the quota.
-pub record IsAnswered (contents : Contents) (account : Account) (known : List TrailItem) (item : TrailItem) (text : List ℕ)
+pub record IsRepliedTo (contents : Contents) (account : Account) (known : List TrailItem) (item : TrailItem) (text : List ℕ)
     (after : List TrailItem) : Type 0 where
   pub trail : List TrailItem
   pub begins : StartsWith trail known
   pub lines : own 0 trail ≡ own 0 known
   pub legal : IsLegalRow account contents trail
-  pub due : IsDue account contents trail (form_of item) text
+  pub due : IsDue account contents trail (line_form_of item) text
   pub after_is : after ≡ row_after account contents trail item

@@ -18,14 +18,14 @@ pub record Sat : Type 0 where
   pub knows : List TrailItem
 
 -- the number of the life that a fact says
-abbrev pub life_in : Fact → ℕ
-life_in (kinds.Life life) = life.number
-life_in fact = 0
+abbrev pub life_number_in : Fact → ℕ
+life_number_in (kinds.Life life) = life.number
+life_number_in fact = 0
 
-abbrev pub sat : ℕ → HeldFact → Noted Account → Sat
-sat seat share note = record { seat = seat; life = life_in share.fact; account = note.row.account; knows = note.knows }
+abbrev pub session_seen : ℕ → HeldFact → Noted Account → Sat
+session_seen seat share note = record { seat = seat; life = life_number_in share.fact; account = note.row.account; knows = note.knows }
 
 -- A session has the share of its seat's life, which is open and has this trail, and the trail's first note.
-pub record IsSession (word : TableId) (cpus seat : ℕ) (share : HeldFact) (note : Noted Account) : Type 0 where
-  pub share_is : share ≡ holding word (life_name cpus seat) (life_fact (life_in share.fact) true note.row)
+pub record IsSessionOn (word : TableId) (cpus seat : ℕ) (share : HeldFact) (note : Noted Account) : Type 0 where
+  pub share_is : share ≡ holding word (life_name cpus seat) (life_fact (life_number_in share.fact) true note.row)
   pub first : note.number ≡ 0

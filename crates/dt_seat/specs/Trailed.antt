@@ -6,7 +6,7 @@ use Rattle.dt_consumer.specs.Draft.{CanApply, IsDraftOf}
 use Rattle.dt_consumer.specs.StandsFor.{StandsFor}
 use Rattle.dt_consumer.specs.declared.consumer.Consumer.{Consumer}
 use Rattle.dt_consumer.specs.declared.draft.Draft.{Draft}
-use Rattle.dt_legal.specs.Rows.{IsLegalRow, Suffice, form_of, life_of_row, set_up_of}
+use Rattle.dt_legal.specs.Rows.{IsLegalRow, Suffice, line_form_of, life_of_row, set_up_of}
 use Rattle.dt_life.specs.Answer.{Answer}
 use Rattle.dt_life.specs.Acceptance.{IsAcceptedGo}
 use Rattle.dt_life.specs.Life.{is_over}
@@ -28,8 +28,8 @@ item_of_line (asked.Line bytes) = line bytes.items
 item_of_line asked.Long = long_line
 
 -- The trail has room for the quota of lines and for the history.
-abbrev pub HasRoom : Contents → Account → Known Account → Type 0
-HasRoom contents account trail = lines_max + (set_up_of account contents trail.knows).options.histsize ≤ trail.cells
+abbrev pub IsWideEnough : Contents → Account → Known Account → Type 0
+IsWideEnough contents account trail = lines_max + (set_up_of account contents trail.knows).options.histsize ≤ trail.cells
 
 -- How wide a trail is: as it was opened, and then widened block by block.
 pub record IsWide (trail : Known Account) : Type 0 where
@@ -54,9 +54,9 @@ IsDue account contents row form text =
 pub record IsPrepared (contents : Contents) (account : Account) (knows : List TrailItem) (consumer : Consumer) (draft : Draft)
     (item : TrailItem) (text : List ℕ) : Type 0 where
   pub mine : whose item ≡ 0
-  pub drafted : IsDraftOf account contents.registry (life_of_row account contents knows) (ask_in (form_of item)) draft
+  pub drafted : IsDraftOf account contents.registry (life_of_row account contents knows) (ask_in (line_form_of item)) draft
   pub fits : CanApply consumer draft
-  pub due : IsDue account contents knows (form_of item) text
+  pub due : IsDue account contents knows (line_form_of item) text
 
 -- a row after a line: one over the quota is no part of it
 abbrev pub row_after : Account → Contents → List TrailItem → TrailItem → List TrailItem
@@ -65,7 +65,7 @@ row_after account contents row item = if is_over (life_of_row account contents r
 -- The line is a `go` that is accepted after the items of the row.
 abbrev pub IsGoAfter : Account → Contents → List TrailItem → TrailItem → Type 0
 IsGoAfter account contents row item =
-    IsAcceptedGo account contents.registry (life_of_row account contents row) (ask_in (form_of item))
+    IsAcceptedGo account contents.registry (life_of_row account contents row) (ask_in (line_form_of item))
 
 -- the trail with these items
 abbrev pub with_items : Known Account → List TrailItem → Known Account

@@ -1,7 +1,7 @@
 //! How a session asks a line of the consumer on its seat.
 ghost use Rattle.std.specs.Prelude.{◌≡◌, true, IfOk, OnOk, OnErr};
-ghost use Rattle.dt_seat.specs.Seats.{IsAnswered, IsTaken};
-ghost use Rattle.dt_seat.specs.Trailed.{HasRoom, IsTrailed, item_of_line};
+ghost use Rattle.dt_seat.specs.Seats.{IsRepliedTo, IsTaken};
+ghost use Rattle.dt_seat.specs.Trailed.{IsWideEnough, IsTrailed, item_of_line};
 ghost use Rattle.dt_trail.specs.Known.{Grows};
 
 use crate::keep::Keep;
@@ -74,7 +74,7 @@ fn make_ready<J: HubSite, R: Wait>(
     requires trailed { IsTrailed J.contents present.old.account present.old.owner present.old.consumer }
     requires note { note.old.row ≡ present.old.owner.row }
     ensures trailed { IsTrailed J.contents present.new.account present.new.owner present.new.consumer }
-    ensures room { OnOk result (is_go ≡ true → HasRoom J.contents present.new.account present.new.owner) }
+    ensures room { OnOk result (is_go ≡ true → IsWideEnough J.contents present.new.account present.new.owner) }
     ensures same { (present.new.account ≡ present.old.account) × (present.new.consumer ≡ present.old.consumer) }
     ensures row { (present.new.owner.row ≡ present.old.owner.row) × (present.new.owner.knows ≡ present.old.owner.knows) }
     ensures note { Grows note.old note.new }
@@ -132,7 +132,7 @@ pub(crate) fn ask_at<J: HubSite, R: Wait>(
     requires note { (note.old.row ≡ present.old.owner.row) × (note.old.number ≡ 0) }
     ensures taken { IsTaken J.word J.contents number life lives.now present.new keeps.now.items }
     ensures row { present.new.owner.row ≡ present.old.owner.row }
-    ensures answered { IfOk result (λ text. IsAnswered J.contents note.old.row.account note.old.knows (item_of_line asked.now) text.items
+    ensures answered { IfOk result (λ text. IsRepliedTo J.contents note.old.row.account note.old.knows (item_of_line asked.now) text.items
         note.new.knows) }
     ensures note { (note.new.row ≡ note.old.row) × (note.new.number ≡ note.old.number) }
     ensures refused { OnErr result (Grows note.old note.new) }

@@ -2,7 +2,7 @@
 ghost use Rattle.std.specs.Prelude.{◌≡◌, ◌≤◌, None, Some};
 ghost use Rattle.dt_facts.specs.Facts.{life_fact, last_note};
 ghost use Rattle.dt_facts.specs.Handles.{holding};
-ghost use Rattle.dt_seat.specs.Keeps.{Carries, IsKept, kept, known_by, known_of};
+ghost use Rattle.dt_seat.specs.Keeps.{Carries, IsKeptFor, kept, known_by, known_of};
 ghost use Rattle.dt_trail.specs.Known.{noted};
 
 use crate::follower::Follower;
@@ -14,7 +14,7 @@ use std::mem;
 
 /// What a seat keeps for one processor: its note of the present trail, as long as it wasn't taken, and the book of what it took here.
 ///
-/// Contracts see it as a `Kept` of `specs/Keeps.antt`.
+/// Contracts see it as a `KeptNote` of `specs/Keeps.antt`.
 #[derive(Drop)]
 pub(crate) struct Keep<J: HubSite> {
     pub(crate) note: Option<Note<J>>,
@@ -22,9 +22,9 @@ pub(crate) struct Keep<J: HubSite> {
 }
 
 impl<J: HubSite> Model for Keep<J> {
-    ghost use Rattle.dt_seat.specs.Keeps.{Kept, kept};
+    ghost use Rattle.dt_seat.specs.Keeps.{KeptNote, kept};
 
-    ghost Value = { Kept };
+    ghost Value = { KeptNote };
 
     ghost view = { λ k. kept k.note k.book };
 }
@@ -50,8 +50,8 @@ impl<J: HubSite> Keep<J> {
     )
         requires facts { facts.now ≡ J.word }
         requires lives { lives.now.fact ≡ life_fact life true owner.now.row }
-        requires kept { IsKept J.word J.contents.registry.cpus follower.old.seat follower.old.cpu life owner.now.row owner.now.knows self.old }
-        ensures kept { IsKept J.word J.contents.registry.cpus follower.new.seat follower.new.cpu life owner.now.row owner.now.knows self.new }
+        requires kept { IsKeptFor J.word J.contents.registry.cpus follower.old.seat follower.old.cpu life owner.now.row owner.now.knows self.old }
+        ensures kept { IsKeptFor J.word J.contents.registry.cpus follower.new.seat follower.new.cpu life owner.now.row owner.now.knows self.new }
         ensures lent { self.new.note ≡ None }
         ensures note { follower.new.note ≡ Some (noted owner.now.row (follower.old.cpu + 1) (known_by follower.new.note)) }
         ensures took { follower.new.took ≡ Some (last_note life owner.now.row) }

@@ -4,7 +4,7 @@ ghost use Rattle.dt_legal.specs.Rows.{AreBelowPlace};
 ghost use Rattle.dt_machine.specs.Moment.{IsMoment};
 ghost use Rattle.dt_machine.specs.Registry.{firing_at};
 ghost use Rattle.dt_seat.specs.Keeps.{known_of};
-ghost use Rattle.dt_seat.specs.Seats.{IsAnswered, IsHeld};
+ghost use Rattle.dt_seat.specs.Seats.{IsRepliedTo, ComesOfFiring};
 ghost use Rattle.dt_seat.specs.Trailed.{item_of_line};
 ghost use Rattle.dt_trail.specs.Items.{StartsWith, own};
 
@@ -79,7 +79,7 @@ impl<J: HubSite> LockedSeat<J> {
         requires machine { machine.now ≡ J.contents }
         requires facts { facts.now ≡ J.word }
         requires seat { session.old.seat ≡ self.old.number }
-        ensures answered { IfOk result (λ text. IsAnswered J.contents session.old.account session.old.knows (item_of_line asked.now) text.items
+        ensures answered { IfOk result (λ text. IsRepliedTo J.contents session.old.account session.old.knows (item_of_line asked.now) text.items
             session.new.knows) }
         ensures refused { OnErr result (StartsWith session.new.knows session.old.knows × (own 0 session.new.knows ≡ own 0 session.old.knows)) }
         ensures session { (session.new.seat ≡ session.old.seat) × (session.new.life ≡ session.old.life)
@@ -121,7 +121,7 @@ impl<J: HubSite> LockedSeat<J> {
             ≡ Some moment.now.firing.now }
         requires follower { (follower.old.seat ≡ self.old.number) × (follower.old.cpu ≡ moment.now.firing.now.cpu) }
         requires below { AreBelowPlace moment.now.firing.now.cpu moment.now.firing.now.place (known_of life follower.old) }
-        ensures held { IsHeld J.contents life moment.now.firing.now result follower.old follower.new }
+        ensures held { ComesOfFiring J.contents life moment.now.firing.now result follower.old follower.new }
         ensures seat { (self.new.number ≡ self.old.number) × (self.new.life ≡ self.old.life) }
     {
         if self.life != life {

@@ -4,7 +4,7 @@ ghost use Rattle.dt_legal.specs.Rows.{AreBelowPlace};
 ghost use Rattle.dt_machine.specs.Moment.{IsMoment};
 ghost use Rattle.dt_machine.specs.Registry.{firing_at};
 ghost use Rattle.dt_seat.specs.Keeps.{known_by, known_of};
-ghost use Rattle.dt_seat.specs.Seats.{IsHeld, IsTaken};
+ghost use Rattle.dt_seat.specs.Seats.{ComesOfFiring, IsTaken};
 
 use crate::follower::Follower;
 use crate::held::Held;
@@ -48,7 +48,7 @@ pub(crate) fn hold_at<J: HubSite>(
     requires follower { (follower.old.seat ≡ number) × (follower.old.cpu ≡ moment.now.firing.now.cpu) }
     requires below { AreBelowPlace moment.now.firing.now.cpu moment.now.firing.now.place (known_of life follower.old) }
     ensures taken { IsTaken J.word J.contents number life lives.now present.new keeps.new.items }
-    ensures held { IsHeld J.contents life moment.now.firing.now result follower.old follower.new }
+    ensures held { ComesOfFiring J.contents life moment.now.firing.now result follower.old follower.new }
     ensures row { present.new.owner.row ≡ present.old.owner.row }
 {
     let keep = &mut keeps[moment.firing.cpu as usize];

@@ -17,13 +17,13 @@ pub struct Session<J: HubSite> {
 }
 
 impl<J: HubSite> Model for Session<J> {
-    ghost use Rattle.dt_seat.specs.Sessions.{Sat, IsSession, sat};
+    ghost use Rattle.dt_seat.specs.Sessions.{Sat, IsSessionOn, session_seen};
 
     ghost Value = { Sat };
 
-    ghost view = { λ s. sat s.seat s.share s.note };
+    ghost view = { λ s. session_seen s.seat s.share s.note };
 
-    ghost invariant = { λ s. IsSession J.word J.contents.registry.cpus s.seat s.share s.note };
+    ghost invariant = { λ s. IsSessionOn J.word J.contents.registry.cpus s.seat s.share s.note };
 }
 
 impl<J: HubSite> Session<J> {

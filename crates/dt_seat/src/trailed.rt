@@ -4,7 +4,7 @@ ghost use Rattle.dt_legal.specs.Rows.{AreBelowPlace, life_of_row};
 ghost use Rattle.dt_life.specs.Sees.{Sees};
 ghost use Rattle.dt_machine.specs.Moment.{IsMoment};
 ghost use Rattle.dt_machine.specs.Registry.{firing_at};
-ghost use Rattle.dt_seat.specs.Trailed.{HasRoom, IsGoAfter, IsPrepared, IsTrailed, item_of_line, row_after, row_offered, with_items};
+ghost use Rattle.dt_seat.specs.Trailed.{IsWideEnough, IsGoAfter, IsPrepared, IsTrailed, item_of_line, row_after, row_offered, with_items};
 ghost use Rattle.dt_trail.specs.Known.{known_row, noted, AreNew, Meets};
 ghost use Rattle.dt_proto.specs.Asked.{form_asked, form_lent};
 ghost use Rattle.dt_trail.specs.Limits.{cpu_count, opening_cells};
@@ -96,7 +96,7 @@ pub(crate) fn make_room<J: Traced>(
 ) -> Result<(), AllocError>
     requires kept { IsTrailed J.contents account owner.old consumer.now }
     requires note { note.old.row ≡ owner.old.row }
-    ensures room { OnOk result (HasRoom J.contents account owner.new) }
+    ensures room { OnOk result (IsWideEnough J.contents account owner.new) }
     ensures kept { IsTrailed J.contents account owner.new consumer.now }
     ensures same { (owner.new.row ≡ owner.old.row) × (owner.new.knows ≡ owner.old.knows) }
     ensures note { note.new ≡ noted note.old.row note.old.number owner.old.knows }
@@ -125,7 +125,7 @@ pub(crate) fn finish<J: Traced>(
     requires prepared { IsPrepared J.contents account owner.old.knows consumer.old prepared.draft prepared.item
         prepared.text.items }
     requires note { (note.old.row ≡ owner.old.row) × (note.old.number ≡ 0) }
-    requires room { IsGoAfter account J.contents owner.old.knows prepared.item → HasRoom J.contents account owner.old }
+    requires room { IsGoAfter account J.contents owner.old.knows prepared.item → IsWideEnough J.contents account owner.old }
     ensures kept { IsTrailed J.contents account owner.new consumer.new }
     ensures trail { owner.new ≡ with_items owner.old (row_after account J.contents owner.old.knows prepared.item) }
     ensures note { note.new ≡ noted note.old.row 0 (row_after account J.contents owner.old.knows prepared.item) }

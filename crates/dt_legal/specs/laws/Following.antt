@@ -13,7 +13,7 @@ use Rattle.dt_proto.specs.Legal.{HasLowerPlace, IsAbove}
 use Rattle.dt_proto.specs.Line.{ask_in}
 use Rattle.dt_proto.specs.Trail.{WrittenItem}
 use Rattle.dt_trail.specs.Items.{TrailItem, line, long_line, fired, whose}
-use Rattle.dt_legal.specs.Rows.{told_as, past_of, life_of_row, IsLegalRow, form_of, IsBelow, AreBelowPlace}
+use Rattle.dt_legal.specs.Rows.{told_as, past_of, life_of_row, IsLegalRow, line_form_of, IsAtLowerPlace, AreBelowPlace}
 use Rattle.dt_legal.specs.laws.Beginning.{past_of_last}
 
 all_both : {X : Type 0} (P : X → Type 0) (xs ys : List X) → AllByRecursion P xs → AllByRecursion P ys → AllByRecursion P (xs ++ ys)
@@ -44,14 +44,14 @@ lower_in : (cpu place : ℕ) (row : List TrailItem) → AreBelowPlace cpu place 
     → AllByRecursion (λ item. HasLowerPlace cpu place (told_as item)) row
 lower_in cpu place [] h = tt
 lower_in cpu place (line bytes ∷ row) h =
-    (tt, lower_in cpu place row (rest_of (IsBelow place) (0 == cpu + 1) (line bytes) (filter (λ x. whose x == cpu + 1) row) h))
+    (tt, lower_in cpu place row (rest_of (IsAtLowerPlace place) (0 == cpu + 1) (line bytes) (filter (λ x. whose x == cpu + 1) row) h))
 lower_in cpu place (long_line ∷ row) h =
-    (tt, lower_in cpu place row (rest_of (IsBelow place) (0 == cpu + 1) long_line (filter (λ x. whose x == cpu + 1) row) h))
+    (tt, lower_in cpu place row (rest_of (IsAtLowerPlace place) (0 == cpu + 1) long_line (filter (λ x. whose x == cpu + 1) row) h))
 lower_in cpu place (fired n earlier ∷ row) h = (
-  λ same. head_of (IsBelow place) (n + 1 == cpu + 1) (fired n earlier) (filter (λ x. whose x == cpu + 1) row)
+  λ same. head_of (IsAtLowerPlace place) (n + 1 == cpu + 1) (fired n earlier) (filter (λ x. whose x == cpu + 1) row)
       (eq-eqb (n + 1) (cpu + 1) (ap (λ m. m + 1) same)) h,
   lower_in cpu place row
-      (rest_of (IsBelow place) (n + 1 == cpu + 1) (fired n earlier) (filter (λ x. whose x == cpu + 1) row) h),
+      (rest_of (IsAtLowerPlace place) (n + 1 == cpu + 1) (fired n earlier) (filter (λ x. whose x == cpu + 1) row) h),
 )
 
 above : (cpu place : ℕ) (row : List TrailItem) → AreBelowPlace cpu place row → IsAbove (past_of row) cpu place
@@ -62,7 +62,7 @@ module _ (account : Account) (contents : Contents) where
   pub line_follows : (row : List TrailItem) (item : TrailItem) → whose item ≡ 0
       → IsLegalRow account contents row → is_over (life_of_row account contents row) ≡ false
       → IsLegalRow account contents (row ++ item ∷ [])
-      × (life_of_row account contents (row ++ item ∷ []) ≡ after_line (life_of_row account contents row) (ask_in (form_of item)))
+      × (life_of_row account contents (row ++ item ∷ []) ≡ after_line (life_of_row account contents row) (ask_in (line_form_of item)))
   line_follows row (line bytes) mine legal over = (rw (past_of_last row (line bytes)) (legal, over), rw (past_of_last row (line bytes), over) refl)
   line_follows row long_line mine legal over = (rw (past_of_last row long_line) (legal, over), rw (past_of_last row long_line, over) refl)
   line_follows row (fired cpu place) mine legal over = absurd (omega (arith, mine))

@@ -2,7 +2,7 @@
 use Rattle.std.proofs.Common.{◌≡◌, ◌<◌, ◌≤◌, ◌+◌, ℕ, [], Some, length}
 use Rattle.std.specs.List.{slice_get}
 use Rattle.std.specs.Option.{option_map}
-use Rattle.dt_seat.specs.Keeps.{Kept, kept}
+use Rattle.dt_seat.specs.Keeps.{KeptNote, kept}
 use Rattle.dt_trail.specs.Known.{noted}
 use Rattle.dt_seat.proofs.notes.hand_out.Given as goal
 
@@ -12,7 +12,7 @@ invariant-notes g l = record {
   new : length l.notes.items ≡ l.left + 1;
   each : (k : ℕ) → k ≤ l.left → slice_get l.notes.items k ≡ Some (noted l.fn.owner.row k []);
   done : (k : ℕ) → l.left ≤ k → slice_get l.keeps.items k
-      ≡ option_map (λ (one : Kept). kept (Some (noted l.fn.owner.row (k + 1) [])) one.book) (slice_get l.fn.keeps.items k);
+      ≡ option_map (λ (one : KeptNote). kept (Some (noted l.fn.owner.row (k + 1) [])) one.book) (slice_get l.fn.keeps.items k);
   rest : (k : ℕ) → k < l.left → slice_get l.keeps.items k ≡ slice_get l.fn.keeps.items k;
   low : l.left ≤ length l.fn.keeps.items;
 }

@@ -1,6 +1,6 @@
 -- What is to be shown of `prepare`.
 use Rattle.std.proofs.Common.{◌≡◌, ap, sym, ◌∙◌}
-use Rattle.dt_legal.specs.Rows.{form_of, life_of_row}
+use Rattle.dt_legal.specs.Rows.{line_form_of, life_of_row}
 use Rattle.dt_life.specs.Answer.{answer_of}
 use Rattle.dt_life.specs.Ask.{line_asks}
 use Rattle.dt_proto.specs.Line.{ask_in}
@@ -11,9 +11,9 @@ pub returns-clause-prepared : goal.returns-clause-prepared
 returns-clause-prepared g c =
     let contents = g.J.Traced.contents in
     let life = life_of_row c.args.account contents c.args.owner.now.knows in
-    let asks : line_asks c.in_ok-command.command ≡ ask_in (form_of c.in_ok-item.item) =
+    let asks : line_asks c.in_ok-command.command ≡ ask_in (line_form_of c.in_ok-item.item) =
     c.in_ok-command.ensures.asks
-    ∙ ap ask_in (c.lent.ensures ∙ sym (same_form c.args.asked.now) ∙ ap form_of (sym c.in_ok-item.ensures)) in
+    ∙ ap ask_in (c.lent.ensures ∙ sym (same_form c.args.asked.now) ∙ ap line_form_of (sym c.in_ok-item.ensures)) in
     let told = rw (c.requires.machine, asks) at c.in_ok-draft.ensures.drafted in
     let drafted = told c.args.account life c.requires.kept.stands in
     record {
