@@ -1,4 +1,4 @@
--- The uses of aggregations, as a consumer keeps them for its firings. Only proofs need these definitions.
+-- The uses of aggregations, as a consumer keeps them for its firings. `StandsFor` is made of them; who uses a consumer needs no part of it.
 use Rattle.std.specs.Prelude.{◌≡◌, List, map}
 use Rattle.dt_ecb.specs.Shapes.{ShapeForm}
 use Rattle.dt_lang.specs.Program.{ClauseForm}

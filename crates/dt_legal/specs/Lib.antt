@@ -1,6 +1,8 @@
--- What the contracts of this crate cite.
+-- Which rows a session's trail may have.
+
+-- What is promised.
 
 pub mod Rows
--- What only proofs need.
+-- The laws of these.
 
 pub mod laws

@@ -1,4 +1,6 @@
--- What the contracts of this crate cite.
+-- What lies under the lock of a seat, and what a session and a processor have there.
+
+-- What is promised, and what the types keep.
 
 pub mod Trailed
 pub mod Names

@@ -38,7 +38,7 @@ fn publish<J: HubSite, R: Wait>(
     result
 }
 
-/// Withdraws what a seat published, and says whether it did. Where it didn't, for want of memory, the chains name a life that sees nothing.
+/// Withdraws what a seat published, and says whether it did. Where it didn't, as memory ran out, the chains name a life that sees nothing.
 pub(crate) fn withdraw<J: HubSite, R: Wait>(
     rt: &R,
     chains: &Mutex<ChainWriter<J>>,
