@@ -83,6 +83,8 @@ fn make_ready<J: HubSite, R: Wait>(
         return Ok(());
     }
     make_room(present.account, &mut present.owner, &present.consumer, note)?;
+    // a publication that is refused may come with the next write of any seat
+    present.is_published = true;
     publish(
         rt,
         alloc,
@@ -91,9 +93,7 @@ fn make_ready<J: HubSite, R: Wait>(
         life,
         &present.account,
         &present.consumer,
-    )?;
-    present.is_published = true;
-    Ok(())
+    )
 }
 
 /// Withdraws what the session published, once its consumer traces no more.
