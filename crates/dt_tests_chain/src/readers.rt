@@ -1,5 +1,5 @@
 //! How many readers there are, and what they are answered once the chains have ended.
-ghost use Rattle.std.specs.Prelude.{◌≡◌};
+ghost use Rattle.std.specs.Prelude.{◌≡◌, ◌<◌, ◌^◌};
 
 use crate::calls::{
     firing, life_of, looked, looked_anew, machine, published, seat_numbered, told, withdrawn,
@@ -45,6 +45,54 @@ fn ends<J: Site, R: Wait + Abort>(
     let seen = looked(&mut reader, machine, &firing, &mut mask);
     assert!(rt; seen.is_none() && mask.is_empty());
     assert!(rt; looked_anew(&mut reader, machine, &firing).is_none());
+    Ok(())
+}
+
+/// As many readers as were asked for are given, all at the same time, and no more: one, two, and one for each processor that a machine
+/// may have.
+#[test]
+fn as_many_readers_as_were_asked_for(rt: HostRuntime) -> Result<(), Fail> {
+    has_places(&rt, rt.alloc(), 1)?;
+    has_places(&rt, rt.alloc(), 2)?;
+    has_places(&rt, rt.alloc(), 64)
+}
+
+fn has_places<R: Wait + Abort>(rt: &R, alloc: Global, readers: usize) -> Result<(), Fail>
+    requires { (0 < readers) × (readers < 2 ^ 32) }
+{
+    fills_places::<Brand, _>(rt, alloc, Chains::new(), readers)
+}
+
+fn fills_places<J: Site, R: Wait + Abort>(
+    rt: &R,
+    alloc: Global,
+    chains: Chains,
+    readers: usize,
+) -> Result<(), Fail>
+    requires site { chains ≡ J.book }
+    requires readers { (0 < readers) × (readers < 2 ^ 32) }
+{
+    let writer = chains.writer::<J>(alloc, readers)?;
+    let result = fills(rt, alloc, &writer, readers);
+    writer.end(rt);
+    result
+}
+
+/// Each reader is kept while the next one is asked for.
+fn fills<J: Site>(
+    rt: &impl Abort,
+    alloc: Global,
+    writer: &ChainWriter<J>,
+    readers: usize,
+) -> Result<(), Fail> {
+    let mut kept = Vec::with_capacity(alloc, readers)?;
+    for _ in 0..readers {
+        let reader = writer.reader();
+        assert!(rt; reader.is_ok());
+        kept.push(reader?)?;
+    }
+    let too_many = writer.reader();
+    assert!(rt; too_many.is_err());
     Ok(())
 }
 
