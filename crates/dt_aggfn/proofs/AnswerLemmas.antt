@@ -12,7 +12,7 @@ use Rattle.dt_aggfn.specs.declared.function.AggFn.{AggFn}
 use Rattle.dt_aggfn.specs.declared.function.AggFn.TheVariants.{Count, Sum, Avg, Min, Max, Quantize, Lquantize}
 use Rattle.dt_aggfn.specs.declared.levels.Bounds.{Bounds}
 use Rattle.dt_aggfn.specs.declared.answer.CountedRow.{CountedRow}
-use Rattle.dt_aggfn.specs.Rows.{Row, zero_row, quantize_rows, lquantize_rows, name_at, counts_of, counted_words}
+use Rattle.dt_aggfn.specs.Rows.{CountingRow, zero_row, quantize_rows, lquantize_rows, name_at, counts_of, counted_words}
 use Rattle.dt_aggfn.specs.Answers.{number, rows as row_form, answer_of_bag, form_of_counted_row, counted_rows}
 use Rattle.dt_aggfn.specs.Cells.{rows_of, cell_of, sum_of, least_of, greatest_of, IsBag}
 use Rattle.dt_aggfn.proofs.RowLemmas.{named}
@@ -21,12 +21,12 @@ use Rattle.dt_aggfn.proofs.LeastLemmas.{least_fits, greatest_fits}
 use Rattle.dt_aggfn.proofs.CountLemmas.{length_counts, count_at_row}
 
 -- the rows before an index whose word is above 0
-abbrev pub counted_to : List Row → List ℕ → ℕ → List (Option ℤ × ℕ)
+abbrev pub counted_to : List CountingRow → List ℕ → ℕ → List (Option ℤ × ℕ)
 counted_to rows cell n =
     filter (λ counted. ltb 0 counted.1) (map (λ k. (name_at rows k, get_or cell k 0)) (range_with_len 0 n))
 
 -- one row more
-counted_next : (rows : List Row) (cell : List ℕ) (n : ℕ)
+counted_next : (rows : List CountingRow) (cell : List ℕ) (n : ℕ)
     → counted_to rows cell (n + 1)
     ≡ counted_to rows cell n ++ cond (ltb 0 (get_or cell n 0)) ((name_at rows n, get_or cell n 0) ∷ []) []
 counted_next rows cell n =
@@ -34,7 +34,7 @@ counted_next rows cell n =
     (λ k. (name_at rows k, get_or cell k 0)) 0 n n (omega arith)
 
 -- a row whose word is above 0 comes to them
-pub one_counted : (rows : List Row) (cell : List ℕ) (n : ℕ) (told : List CountedRow) (row : CountedRow)
+pub one_counted : (rows : List CountingRow) (cell : List ℕ) (n : ℕ) (told : List CountedRow) (row : CountedRow)
     → map form_of_counted_row told ≡ counted_to rows cell n → row.least ≡ name_at rows n → row.count ≡ get_or cell n 0
     → 0 < get_or cell n 0 → map form_of_counted_row (told ++ row ∷ []) ≡ counted_to rows cell (n + 1)
 one_counted rows cell n told row before name count some =
@@ -48,7 +48,7 @@ one_counted rows cell n told row before name count some =
     (lt-ltb 0 (get_or cell n 0) some))
 
 -- one whose word is 0 doesn't
-pub none_counted : (rows : List Row) (cell : List ℕ) (n : ℕ) (told : List CountedRow)
+pub none_counted : (rows : List CountingRow) (cell : List ℕ) (n : ℕ) (told : List CountedRow)
     → map form_of_counted_row told ≡ counted_to rows cell n → get_or cell n 0 ≤ 0
     → map form_of_counted_row told ≡ counted_to rows cell (n + 1)
 none_counted rows cell n told before none =
@@ -60,20 +60,20 @@ none_counted rows cell n told before none =
 -- ---- what is answered of a bag
 
 -- a row with its count, by the row and by its place
-abbrev pair_of : List ℤ → Row → Option ℤ × ℕ
+abbrev pair_of : List ℤ → CountingRow → Option ℤ × ℕ
 pair_of bag row = (row.name, count_by row.counts bag)
 
-abbrev pair_at : List Row → List ℤ → ℕ → Option ℤ × ℕ
+abbrev pair_at : List CountingRow → List ℤ → ℕ → Option ℤ × ℕ
 pair_at rows bag k = (name_at rows k, get_or (counts_of rows bag) k 0)
 
-same_pair : (rows : List Row) (bag : List ℤ) (k : ℕ) → k < length rows
+same_pair : (rows : List CountingRow) (bag : List ℤ) (k : ℕ) → k < length rows
     → pair_of bag (get_or rows k zero_row) ≡ pair_at rows bag k
 same_pair rows bag k h =
     let name = named rows (get_or rows k zero_row) k h (λ d. get_or_default rows k d zero_row h) in
     let count = count_at_row rows bag k zero_row h in
     rw (name, count) refl
 
-row_pairs : (rows : List Row) (bag : List ℤ)
+row_pairs : (rows : List CountingRow) (bag : List ℤ)
     → map (pair_at rows bag) (range_with_len 0 (length (counts_of rows bag))) ≡ map (pair_of bag) rows
 row_pairs rows bag =
     let nothing : Option ℤ × ℕ = (None, 0) in
@@ -84,7 +84,7 @@ row_pairs rows bag =
     let within : k < length rows = omega arith in
     get_or-map (pair_of bag) rows k zero_row nothing within ∙ same_pair rows bag k within))
 
-pub counted_of_bag : (rows : List Row) (bag : List ℤ)
+pub counted_of_bag : (rows : List CountingRow) (bag : List ℤ)
     → counted_words rows (counts_of rows bag) ≡ counted_rows rows bag
 counted_of_bag rows bag = ap (filter (λ (counted : Option ℤ × ℕ). ltb 0 counted.1)) (row_pairs rows bag)
 
@@ -131,7 +131,7 @@ HasRows Quantize = Unit {0}
 HasRows (Lquantize bounds) = Unit {0}
 HasRows f = ⊥
 
-told_rows : (all : List Row) (cell : List ℕ) (bag : List ℤ) (told : List (Option ℤ × ℕ)) → cell ≡ counts_of all bag
+told_rows : (all : List CountingRow) (cell : List ℕ) (bag : List ℤ) (told : List (Option ℤ × ℕ)) → cell ≡ counts_of all bag
     → told ≡ counted_words all cell → row_form told ≡ row_form (counted_rows all bag)
 told_rows all cell bag told h e = ap row_form (e ∙ ap (counted_words all) h ∙ counted_of_bag all bag)
 

@@ -7,22 +7,22 @@ use Rattle.std.proofs.lemmas.List.{get_or-map, length-map, get_or-set_same, get_
 use Rattle.std.proofs.lemmas.List.{get_or-replicate, length-replicate}
 use Rattle.std.proofs.lemmas.Grind.{same_number_lists}
 use Rattle.std.proofs.lemmas.List.Sums.{sum_by_push, sum_by-append, count_by-le-length}
-use Rattle.dt_aggfn.specs.Rows.{Row, zero_row, counts_of, IsRowOf}
+use Rattle.dt_aggfn.specs.Rows.{CountingRow, zero_row, counts_of, IsRowOf}
 
-pub length_counts : (rows : List Row) (bag : List ℤ) → length (counts_of rows bag) ≡ length rows
-length_counts rows bag = length-map rows (λ (row : Row). count_by row.counts bag)
+pub length_counts : (rows : List CountingRow) (bag : List ℤ) → length (counts_of rows bag) ≡ length rows
+length_counts rows bag = length-map rows (λ (row : CountingRow). count_by row.counts bag)
 
 -- the count of the row at an index
-pub count_at_row : (rows : List Row) (bag : List ℤ) (k : ℕ) (d : Row) → k < length rows
+pub count_at_row : (rows : List CountingRow) (bag : List ℤ) (k : ℕ) (d : CountingRow) → k < length rows
     → get_or (counts_of rows bag) k 0 ≡ count_by (get_or rows k d).counts bag
-count_at_row rows bag k d h = get_or-map (λ (row : Row). count_by row.counts bag) rows k d 0 h
+count_at_row rows bag k d h = get_or-map (λ (row : CountingRow). count_by row.counts bag) rows k d 0 h
 
-pub count_few : (rows : List Row) (bag : List ℤ) (k : ℕ) → k < length rows
+pub count_few : (rows : List CountingRow) (bag : List ℤ) (k : ℕ) → k < length rows
     → get_or (counts_of rows bag) k 0 ≤ length bag
 count_few rows bag k h =
     omega (arith, count_at_row rows bag k zero_row h, count_by-le-length (get_or rows k zero_row).counts bag)
 
-pub count_joined : (rows : List Row) (a b : List ℤ) (k : ℕ) → k < length rows
+pub count_joined : (rows : List CountingRow) (a b : List ℤ) (k : ℕ) → k < length rows
     → get_or (counts_of rows (a ++ b)) k 0 ≡ get_or (counts_of rows a) k 0 + get_or (counts_of rows b) k 0
 count_joined rows a b k h =
     let test = (get_or rows k zero_row).counts in
@@ -33,7 +33,7 @@ count_joined rows a b k h =
     whole ∙ join ∙ ap (λ n. n + count_by test b) (sym left) ∙ ap (λ n. get_or (counts_of rows a) k 0 + n) (sym right)
 
 -- one value more at the index of its row
-count_pushed : (rows : List Row) (bag : List ℤ) (z : ℤ) (k : ℕ) → k < length rows
+count_pushed : (rows : List CountingRow) (bag : List ℤ) (z : ℤ) (k : ℕ) → k < length rows
     → get_or (counts_of rows (bag ++ z ∷ [])) k 0
     ≡ get_or (counts_of rows bag) k 0 + cond {A = ℕ} ((get_or rows k zero_row).counts z) 1 0
 count_pushed rows bag z k h =
@@ -42,7 +42,7 @@ count_pushed rows bag z k h =
     ∙ sum_by_push (λ (y : ℤ). cond (test y) 1 0) bag z
     ∙ ap (λ n. n + cond (test z) 1 0) (sym (count_at_row rows bag k zero_row h))
 
-pub counts_more : (rows : List Row) (bag : List ℤ) (z : ℤ) (index : ℕ) → IsRowOf rows z index
+pub counts_more : (rows : List CountingRow) (bag : List ℤ) (z : ℤ) (index : ℕ) → IsRowOf rows z index
     → length bag + 1 < 2 ^ 64
     → set (counts_of rows bag) index ((get_or (counts_of rows bag) index 0 + 1) % 2 ^ 64)
     ≡ counts_of rows (bag ++ z ∷ [])
@@ -76,7 +76,7 @@ counts_more rows bag z index of small =
     (cases_eq k index))
 
 -- no value
-pub counts_none : (rows : List Row) → counts_of rows [] ≡ replicate (length rows) 0
+pub counts_none : (rows : List CountingRow) → counts_of rows [] ≡ replicate (length rows) 0
 counts_none rows =
     let long = length_counts rows [] in
     let zeros : length (replicate {A = ℕ} (length rows) 0) ≡ length rows = length-replicate (length rows) 0 in

@@ -5,7 +5,7 @@ use Rattle.std.specs.Int.{w64}
 use Rattle.dt_aggfn.specs.declared.levels.Bounds.{Bounds}
 use Rattle.dt_aggfn.specs.declared.function.AggFn.{AggFn}
 use Rattle.dt_aggfn.specs.declared.function.AggFn.TheVariants.{Count, Sum, Avg, Min, Max, Quantize, Lquantize}
-use Rattle.dt_aggfn.specs.Rows.{Row, quantize_rows, lquantize_rows, counts_of, IsRowOf}
+use Rattle.dt_aggfn.specs.Rows.{CountingRow, quantize_rows, lquantize_rows, counts_of, IsRowOf}
 use Rattle.dt_aggfn.specs.Cells.{cell_words, cell_of, word_of}
 use Rattle.dt_aggfn.proofs.CountLemmas.{counts_more, counts_none}
 use Rattle.dt_aggfn.proofs.SumLemmas.{sum_of_one}
@@ -46,7 +46,7 @@ first_word Max cell z f a b c d h = one_word cell (word_of z) h
 first_word Quantize cell z f a b c d h = absurd (c refl)
 first_word (Lquantize bounds) cell z f a b c d h = absurd (d bounds refl)
 
-first_row : (rows : List Row) (cell : List ℕ) (z : ℤ) (index n : ℕ) → IsRowOf rows z index → cell ≡ replicate n 0
+first_row : (rows : List CountingRow) (cell : List ℕ) (z : ℤ) (index n : ℕ) → IsRowOf rows z index → cell ≡ replicate n 0
     → n ≡ length rows → set cell index ((get_or cell index 0 + 1) % 2 ^ 64) ≡ counts_of rows (z ∷ [])
 first_row rows cell z index n of zeros long =
     let empty : cell ≡ counts_of rows [] =

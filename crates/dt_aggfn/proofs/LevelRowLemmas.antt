@@ -9,7 +9,7 @@ use Rattle.std.specs.List.{range_with_len}
 use Rattle.std.proofs.lemmas.Int.{ints, to_z-of_z}
 use Rattle.std.proofs.lemmas.Bool.{cases_lt, cases_eq, eq-eqb, ne_eqb, lt-ltb, le-ltb, le-leb, lt-leb}
 use Rattle.dt_aggfn.specs.declared.levels.Bounds.{Bounds}
-use Rattle.dt_aggfn.specs.Rows.{Row, name_at, level_from, level_row, below_row, upper_row, levels_of, lquantize_rows}
+use Rattle.dt_aggfn.specs.Rows.{CountingRow, name_at, level_from, level_row, below_row, upper_row, levels_of, lquantize_rows}
 use Rattle.dt_aggfn.specs.Rows.{IsRowOf}
 use Rattle.dt_aggfn.proofs.RowLemmas.{each_part, parted, named, length_parts, first_part, middle_part}
 
@@ -122,14 +122,14 @@ below_at : (bounds : Bounds) (a : ℕ) → (below_row bounds).counts (bounds.low
 below_at bounds a = grind (arith, ints)
 
 -- a row in front of the others
-front_only : (row : Row) (rows : List Row) (z : ℤ) → row.counts z ≡ true
-    → ((k : ℕ) (d : Row) → k < length rows → (get_or rows k d).counts z ≡ false)
-    → (k : ℕ) (d : Row) → k < length (row ∷ rows) → (get_or (row ∷ rows) k d).counts z ≡ eqb k 0
+front_only : (row : CountingRow) (rows : List CountingRow) (z : ℤ) → row.counts z ≡ true
+    → ((k : ℕ) (d : CountingRow) → k < length rows → (get_or rows k d).counts z ≡ false)
+    → (k : ℕ) (d : CountingRow) → k < length (row ∷ rows) → (get_or (row ∷ rows) k d).counts z ≡ eqb k 0
 front_only row rows z h none zero d l = h
 front_only row rows z h none (suc k) d l = none k d (omega arith) ∙ sym (ne_eqb (suc k) 0 (omega arith))
 
-front : (row : Row) (rows : List Row) (z : ℤ) → row.counts z ≡ true
-    → ((k : ℕ) (d : Row) → k < length rows → (get_or rows k d).counts z ≡ false) → IsRowOf (row ∷ rows) z 0
+front : (row : CountingRow) (rows : List CountingRow) (z : ℤ) → row.counts z ≡ true
+    → ((k : ℕ) (d : CountingRow) → k < length rows → (get_or rows k d).counts z ≡ false) → IsRowOf (row ∷ rows) z 0
 front row rows z h none = record { within = omega arith; only = front_only row rows z h none }
 
 same_test : (k i : ℕ) → eqb k i ≡ eqb (suc k) (suc i)
@@ -137,12 +137,12 @@ same_test k i =
     ⊎_elim (λ e. eq-eqb k i e ∙ sym (eq-eqb (suc k) (suc i) (ap suc e)))
     (λ n. ne_eqb k i n ∙ sym (ne_eqb (suc k) (suc i) (λ e. n (omega arith)))) (cases_eq k i)
 
-behind_only : (row : Row) (rows : List Row) (z : ℤ) (index : ℕ) → row.counts z ≡ false → IsRowOf rows z index
-    → (k : ℕ) (d : Row) → k < length (row ∷ rows) → (get_or (row ∷ rows) k d).counts z ≡ eqb k (suc index)
+behind_only : (row : CountingRow) (rows : List CountingRow) (z : ℤ) (index : ℕ) → row.counts z ≡ false → IsRowOf rows z index
+    → (k : ℕ) (d : CountingRow) → k < length (row ∷ rows) → (get_or (row ∷ rows) k d).counts z ≡ eqb k (suc index)
 behind_only row rows z index h of zero d l = h ∙ sym (ne_eqb 0 (suc index) (omega arith))
 behind_only row rows z index h of (suc k) d l = of.only k d (omega arith) ∙ same_test k index
 
-behind : (row : Row) (rows : List Row) (z : ℤ) (index : ℕ) → row.counts z ≡ false → IsRowOf rows z index
+behind : (row : CountingRow) (rows : List CountingRow) (z : ℤ) (index : ℕ) → row.counts z ≡ false → IsRowOf rows z index
     → IsRowOf (row ∷ rows) z (suc index)
 behind row rows z index h of = record {
   within = let l : index < length rows = of.within in omega arith;
@@ -257,7 +257,7 @@ pub name_below : (bounds : Bounds) → name_at (lquantize_rows bounds) 0 ≡ Non
 unfolding lquantize_rows
 name_below bounds = refl
 
-later_name : (row : Row) (rows : List Row) (k : ℕ) → name_at (row ∷ rows) (suc k) ≡ name_at rows k
+later_name : (row : CountingRow) (rows : List CountingRow) (k : ℕ) → name_at (row ∷ rows) (suc k) ≡ name_at rows k
 later_name row rows k = refl
 
 -- the name of a level, and that of the last row, which is where one level more would begin
@@ -265,7 +265,7 @@ name_above : (bounds : Bounds) (k : ℕ) → k < levels_of bounds + 1
     → name_at (lquantize_rows bounds) (suc k) ≡ Some (bounds.lower +ℤ pos (k * step_of bounds))
 unfolding lquantize_rows
 name_above bounds k h =
-    let rows : List Row = map (level_row bounds) (range_with_len 0 (levels_of bounds)) ++ upper_row bounds ∷ [] in
+    let rows : List CountingRow = map (level_row bounds) (range_with_len 0 (levels_of bounds)) ++ upper_row bounds ∷ [] in
     let l : length rows ≡ levels_of bounds + (1 + 0) =
     length_parts (level_row bounds) (level_row bounds) (upper_row bounds) (levels_of bounds) 0 in
     ⊎_elim (λ (lt : k < levels_of bounds).

@@ -7,7 +7,7 @@ use Rattle.std.proofs.lemmas.Grind.{same_number_lists}
 use Rattle.std.proofs.lemmas.Int.{to_z-of_z}
 use Rattle.dt_aggfn.specs.declared.function.AggFn.{AggFn}
 use Rattle.dt_aggfn.specs.declared.function.AggFn.TheVariants.{Count, Sum, Avg, Min, Max, Quantize, Lquantize}
-use Rattle.dt_aggfn.specs.Rows.{Row, quantize_rows, lquantize_rows, counts_of}
+use Rattle.dt_aggfn.specs.Rows.{CountingRow, quantize_rows, lquantize_rows, counts_of}
 use Rattle.dt_aggfn.specs.Cells.{cell_of, word_of, least_of, greatest_of, IsBag}
 use Rattle.dt_aggfn.proofs.CountLemmas.{length_counts, count_few, count_joined}
 use Rattle.dt_aggfn.proofs.SumLemmas.{sum_joined}
@@ -61,7 +61,7 @@ at_cells cell other x y new h k added =
     let Q : List ℕ → Type 0 = λ l. Added x l new in
     subst Q k (subst P h added)
 
-merged_rows : (rows : List Row) (new : List ℕ) (a b : List ℤ) → IsBag a → IsBag b
+merged_rows : (rows : List CountingRow) (new : List ℕ) (a b : List ℤ) → IsBag a → IsBag b
     → Added (counts_of rows a) (counts_of rows b) new → new ≡ counts_of rows (a ++ b)
 merged_rows rows new a b is isb added =
     let long = added.long in

@@ -14,7 +14,7 @@ use Rattle.std.proofs.lemmas.List.Sorted.{length_permutation, sum_by-IsPermutati
 use Rattle.std.proofs.lemmas.List.Sorted.{Contains-permutation}
 use Rattle.dt_aggfn.specs.declared.function.AggFn.{AggFn}
 use Rattle.dt_aggfn.specs.declared.function.AggFn.TheVariants.{Count, Sum, Avg, Min, Max, Quantize, Lquantize}
-use Rattle.dt_aggfn.specs.Rows.{Row, quantize_rows, lquantize_rows, counts_of, counted_words}
+use Rattle.dt_aggfn.specs.Rows.{CountingRow, quantize_rows, lquantize_rows, counts_of, counted_words}
 use Rattle.dt_aggfn.specs.Cells.{cell_of, word_of, sum_of, least_of, greatest_of}
 use Rattle.dt_aggfn.specs.Answers.{number, rows as row_form, counted_rows, answer_of_bag}
 use Rattle.dt_aggfn.proofs.SumLemmas.{sum_from}
@@ -104,14 +104,14 @@ same_greatest a b p =
     (is_empty a)
 
 -- the counts of rows
-same_counts : (all : List Row) (a b : List ℤ) → IsPermutation a b → counts_of all a ≡ counts_of all b
+same_counts : (all : List CountingRow) (a b : List ℤ) → IsPermutation a b → counts_of all a ≡ counts_of all b
 same_counts [] a b p = refl
 same_counts (row ∷ all) a b p =
     let one : count_by row.counts a ≡ count_by row.counts b =
     sym (sum_by-IsPermutation (λ z. cond {A = ℕ} (row.counts z) 1 0) a b p) in
     ap (λ n. n ∷ counts_of all a) one ∙ ap (λ ns. count_by row.counts b ∷ ns) (same_counts all a b p)
 
-same_rows : (all : List Row) (a b : List ℤ) → IsPermutation a b → counted_rows all a ≡ counted_rows all b
+same_rows : (all : List CountingRow) (a b : List ℤ) → IsPermutation a b → counted_rows all a ≡ counted_rows all b
 same_rows all a b p =
     sym (counted_of_bag all a) ∙ ap (counted_words all) (same_counts all a b p) ∙ counted_of_bag all b
 

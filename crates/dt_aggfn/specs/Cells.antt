@@ -5,7 +5,7 @@ use Rattle.std.specs.List.{fold, AllByRecursion}
 use Rattle.dt_aggfn.specs.declared.function.AggFn.{AggFn}
 use Rattle.dt_aggfn.specs.declared.function.AggFn.TheVariants.{Count, Sum, Avg, Min, Max, Quantize, Lquantize}
 use Rattle.dt_aggfn.specs.Limits.{bag_limit, quantize_row_count}
-use Rattle.dt_aggfn.specs.Rows.{Row, levels_of, quantize_rows, lquantize_rows, counts_of}
+use Rattle.dt_aggfn.specs.Rows.{CountingRow, levels_of, quantize_rows, lquantize_rows, counts_of}
 
 -- how many words a cell has
 abbrev pub cell_words : AggFn → ℕ
@@ -18,7 +18,7 @@ cell_words Quantize = quantize_row_count
 cell_words (Lquantize bounds) = levels_of bounds + 2
 
 -- the rows of a function, of which some have none
-abbrev pub rows_of : AggFn → List Row
+abbrev pub rows_of : AggFn → List CountingRow
 rows_of Quantize = quantize_rows
 rows_of (Lquantize bounds) = lquantize_rows bounds
 rows_of f = []

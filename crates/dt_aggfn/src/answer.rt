@@ -2,7 +2,7 @@
 
 /// What a cell answers: a number, or the rows that count something, by rising row.
 #[derive(Drop)]
-pub enum Answer {
+pub enum CellAnswer {
     Number(i64),
     Rows(Vec<CountedRow>),
 }

@@ -1,7 +1,7 @@
 //! The aggregating functions, over cells.
 ghost use Rattle.std.specs.Prelude.{◌≡◌, ◌^◌, ◌<◌, ◌≤◌, List, [], ◌∷◌, ◌++◌, length, map, ℤ, pos, int_div, IfOk};
 
-use crate::answer::{Answer, CountedRow};
+use crate::answer::{CellAnswer, CountedRow};
 use crate::levels::Bounds;
 use crate::limits::{CELL_WORDS_MAX, QUANTIZE_ROWS};
 use crate::powers;
@@ -113,18 +113,18 @@ impl AggFn {
 
     /// What a cell says of its bag, which has fewer than [`BAG_LIMIT`] values. `Err`: there was no memory for the
     /// rows; a number takes none.
-    pub fn answer(self, alloc: Global, cell: &[u64]) -> Result<Answer, AllocError>
+    pub fn answer(self, alloc: Global, cell: &[u64]) -> Result<CellAnswer, AllocError>
         requires { length cell.now ≡ cell_words self }
         ensures { (bag : List ℤ) → IsBag bag → cell.now ≡ cell_of self bag
             → IfOk result (λ answer. form_of_answer answer ≡ answer_of_bag self bag) }
     {
         match self {
-            AggFn::Avg => Ok(Answer::Number(average(cell[0], cell[1].cast_signed()))),
+            AggFn::Avg => Ok(CellAnswer::Number(average(cell[0], cell[1].cast_signed()))),
             AggFn::Quantize | AggFn::Lquantize(_) => {
                 let counted = self.counted_rows(alloc, cell)?;
-                Ok(Answer::Rows(counted))
+                Ok(CellAnswer::Rows(counted))
             }
-            _ => Ok(Answer::Number(cell[0].cast_signed())),
+            _ => Ok(CellAnswer::Number(cell[0].cast_signed())),
         }
     }
 

@@ -16,7 +16,7 @@ mod limits;
 mod powers;
 mod words;
 
-pub use answer::{Answer, CountedRow};
+pub use answer::{CellAnswer, CountedRow};
 pub use function::AggFn;
 pub use laws::{any_order, cell_length, extremes, one_row};
 pub use levels::Bounds;

@@ -7,7 +7,7 @@ use Rattle.std.proofs.lemmas.List.Sums.{sum_by-append}
 use Rattle.dt_aggfn.specs.declared.function.AggFn.{AggFn}
 use Rattle.dt_aggfn.specs.Cells.{cell_words}
 use Rattle.dt_aggstore.specs.Keys.{Entry, same_aggregation, entry_cost, cost_of, without}
-use Rattle.dt_aggstore.specs.Entries.{words_of, cells_without}
+use Rattle.dt_aggstore.specs.EntryNames.{words_of, cells_without}
 use Rattle.dt_aggstore.specs.declared.limits.TheConstants.{COST_MIN}
 use Rattle.dt_aggstore.specs.declared.key.Aggregation.{Aggregation}
 use Rattle.dt_aggstore.proofs.Filters.{yes_or_no, filter_yes, filter_no}

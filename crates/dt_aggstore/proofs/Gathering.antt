@@ -9,7 +9,7 @@ use Rattle.dt_aggfn.specs.Cells.{cell_words, cell_of, IsBag}
 use Rattle.dt_aggstore.specs.Keys.{Entry, same_entry, same_aggregation, same_key}
 use Rattle.dt_aggstore.specs.History.{Past}
 use Rattle.dt_aggstore.specs.Held.{entry_of, counted, held_after, bag}
-use Rattle.dt_aggstore.specs.Entries.{entry_named, entries_named, words_of}
+use Rattle.dt_aggstore.specs.EntryNames.{entry_named, entries_named, words_of}
 use Rattle.dt_aggstore.specs.IsAt.{IsAt}
 use Rattle.dt_aggstore.specs.Joining.{AreShares, joined_at, shared_key}
 use Rattle.dt_aggstore.specs.declared.key.Aggregation.{Aggregation}

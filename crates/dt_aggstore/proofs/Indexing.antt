@@ -11,7 +11,7 @@ use Rattle.std.proofs.lemmas.List.Elements.{filter-append}
 use Rattle.indexmap.specs.IndexMap.{IndexMap, insert_entry}
 use Rattle.indexmap.proofs.CallerLemmas.{insert_entry-new}
 use Rattle.dt_aggfn.specs.Cells.{cell_words}
-use Rattle.dt_aggstore.specs.Entries.{entry_named, entries_named, words_of, LiesAt}
+use Rattle.dt_aggstore.specs.EntryNames.{entry_named, entries_named, words_of, LiesAt}
 use Rattle.dt_aggstore.specs.Indexed.{places_from}
 use Rattle.dt_aggstore.specs.Keys.{Entry, same_entry, same_aggregation, without}
 use Rattle.dt_aggstore.specs.declared.entry_name.EntryName.{EntryName}

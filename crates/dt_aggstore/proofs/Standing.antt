@@ -14,7 +14,7 @@ use Rattle.dt_aggfn.specs.Cells.{cell_words, cell_of, IsBag}
 use Rattle.dt_aggstore.specs.Keys.{Entry, same_entry}
 use Rattle.dt_aggstore.specs.History.{Event, given, truncated, contribution_count}
 use Rattle.dt_aggstore.specs.Held.{Contribution, entry_of, truncates, counted, held_after, values_of, bag}
-use Rattle.dt_aggstore.specs.Entries.{words_of}
+use Rattle.dt_aggstore.specs.EntryNames.{words_of}
 use Rattle.dt_aggstore.specs.IsAt.{GivesWord}
 use Rattle.dt_aggstore.specs.declared.limits.TheConstants.{ADDED_LIMIT}
 use Rattle.dt_aggstore.specs.declared.key.Aggregation.{Aggregation}

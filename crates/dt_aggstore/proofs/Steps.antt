@@ -14,7 +14,7 @@ use Rattle.dt_aggstore.specs.History.{Event, given, truncated, Past, after, cont
 use Rattle.dt_aggstore.specs.Held.{Contribution, entry_of, counted, distinct, held_after, values_of}
 use Rattle.dt_aggstore.specs.Choice.{IsKept, KeepsContribution}
 use Rattle.dt_aggstore.specs.Chosen.{drops}
-use Rattle.dt_aggstore.specs.Entries.{entries_named, words_of, LiesAt, cells_without}
+use Rattle.dt_aggstore.specs.EntryNames.{entries_named, words_of, LiesAt, cells_without}
 use Rattle.dt_aggstore.specs.IsAt.{IsAt}
 use Rattle.dt_aggstore.specs.declared.limits.TheConstants.{ADDED_LIMIT}
 use Rattle.dt_aggstore.specs.declared.key.Aggregation.{Aggregation}

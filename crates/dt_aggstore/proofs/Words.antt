@@ -10,7 +10,7 @@ use Rattle.std.proofs.lemmas.List.Sums.{sum_by-append}
 use Rattle.std.proofs.lemmas.List.Folds.{list_any-append}
 use Rattle.dt_aggfn.specs.Cells.{cell_words}
 use Rattle.dt_aggstore.specs.Keys.{Entry, same_entry, same_aggregation}
-use Rattle.dt_aggstore.specs.Entries.{entry_named, entries_named, words_of, LiesAt, cells_without}
+use Rattle.dt_aggstore.specs.EntryNames.{entry_named, entries_named, words_of, LiesAt, cells_without}
 use Rattle.dt_aggstore.specs.declared.entry_name.EntryName.{EntryName}
 use Rattle.dt_aggstore.specs.declared.key.Aggregation.{Aggregation}
 use Rattle.dt_aggstore.proofs.Same.{entry_is, entry_back}

@@ -8,7 +8,7 @@ use Rattle.dt_aggstore.specs.Keys.{Entry, entry_cost, cost_of}
 use Rattle.dt_aggstore.specs.Held.{entry_of, held_after, bag}
 use Rattle.dt_aggstore.specs.Choice.{IsChoice}
 use Rattle.dt_aggstore.specs.Chosen.{drops}
-use Rattle.dt_aggstore.specs.Entries.{entries_named}
+use Rattle.dt_aggstore.specs.EntryNames.{entries_named}
 use Rattle.dt_aggstore.specs.declared.key.Aggregation.{Aggregation}
 use Rattle.dt_aggstore.specs.declared.key.KeyPart.{KeyPart}
 use Rattle.dt_aggstore.specs.declared.store.AggStore.{AggStore}

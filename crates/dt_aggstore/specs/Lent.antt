@@ -5,7 +5,7 @@ use Rattle.dt_aggfn.specs.Cells.{cell_words, cell_of}
 use Rattle.dt_aggstore.specs.History.{Past}
 use Rattle.dt_aggstore.specs.Held.{held_after, bag}
 use Rattle.dt_aggstore.specs.Choice.{IsChoice}
-use Rattle.dt_aggstore.specs.Entries.{entry_named}
+use Rattle.dt_aggstore.specs.EntryNames.{entry_named}
 use Rattle.dt_aggstore.specs.Indexed.{places_from}
 use Rattle.dt_aggstore.specs.IsAt.{cells_of}
 use Rattle.dt_aggstore.specs.declared.entry_name.EntryName.{EntryName}

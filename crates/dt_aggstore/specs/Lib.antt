@@ -9,7 +9,7 @@ pub mod Choice
 pub mod Chosen
 pub mod Table
 pub mod TableOf
-pub mod Entries
+pub mod EntryNames
 pub mod Fed
 pub mod Indexed
 pub mod IsAt

@@ -3,7 +3,7 @@ ghost use Rattle.std.specs.Prelude.{◌≡◌, ◌+◌, ◌<◌, ◌≤◌, [], 
 ghost use Rattle.std.specs.List.{IsDistinct};
 ghost use Rattle.std.specs.Map.{lookup};
 ghost use Rattle.indexmap.specs.IndexMap.{keys, values, index_map_len, spare, IsEmpty};
-ghost use Rattle.dt_aggstore.specs.Entries.{entry_named, entries_named, words_of, LiesAt};
+ghost use Rattle.dt_aggstore.specs.EntryNames.{entry_named, entries_named, words_of, LiesAt};
 ghost use Rattle.dt_aggstore.specs.Held.{entry_of};
 ghost use Rattle.dt_aggstore.specs.Indexed.{places_from};
 ghost use Rattle.dt_aggstore.specs.Keys.{same_entry, without};

@@ -1,6 +1,6 @@
 //! By which name a store finds an entry.
 ghost use Rattle.std.specs.Prelude.{◌≡◌, ◌≤◌};
-ghost use Rattle.dt_aggstore.specs.Entries.{entry_named, entries_named};
+ghost use Rattle.dt_aggstore.specs.EntryNames.{entry_named, entries_named};
 ghost use Rattle.dt_aggstore.specs.Held.{entry_of};
 ghost use Rattle.dt_aggstore.specs.Keys.{same_entry, entry_cost, cost_of};
 ghost use Rattle.dt_aggstore.specs.declared.limits.TheConstants.{AGGSIZE_MAX, COST_MIN};

@@ -2,7 +2,7 @@
 ghost use Rattle.std.specs.Prelude.{◌≡◌, ◌≤◌, ◌<◌, ◌+◌, ℕ, ℤ, List, [], ◌++◌, map, length, All, IfOk, OnOk};
 ghost use Rattle.std.specs.List.{AllZip};
 ghost use Rattle.dt_aggfn.specs.declared.limits.TheConstants.{BAG_LIMIT};
-ghost use Rattle.dt_aggstore.specs.Entries.{form_of_row};
+ghost use Rattle.dt_aggstore.specs.EntryNames.{form_of_row};
 ghost use Rattle.dt_aggstore.specs.History.{Past};
 ghost use Rattle.dt_aggstore.specs.Held.{bag};
 ghost use Rattle.dt_aggstore.specs.IsAt.{IsAt};
@@ -20,14 +20,14 @@ use crate::key::{Aggregation, Key};
 use crate::limits::STORES_MAX;
 use crate::share::{KeyShare, sort};
 use crate::store::AggStore;
-use dt_aggfn::{Answer, cell_length};
+use dt_aggfn::{CellAnswer, cell_length};
 use std::alloc::{AllocError, Global};
 
 /// A row of a table: a key, and what the aggregation's function makes of all its values.
 #[derive(Drop)]
 pub struct Row {
     pub key: Key,
-    pub value: Answer,
+    pub value: CellAnswer,
 }
 
 impl AggStore {

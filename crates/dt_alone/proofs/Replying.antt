@@ -17,7 +17,7 @@ use Rattle.dt_lang.specs.Refused.{because, destroys}
 use Rattle.dt_lang.specs.declared.word.Destructive.{Destructive}
 use Rattle.dt_program.specs.declared.clause.Clause.{Clause}
 use Rattle.dt_ecb.specs.Ecbs.{EcbForm, added, ecbs_of}
-use Rattle.dt_ecb.specs.Enable.{Verdict, IsVerdict, is_enabled}
+use Rattle.dt_ecb.specs.Enable.{EnableVerdict, IsVerdict, is_enabled}
 use Rattle.dt_ecb.specs.Enable as enabling
 use Rattle.dt_ecb.specs.Forms.{form_of_ecb, shapes_of}
 use Rattle.dt_ecb.specs.Shapes.{ShapeForm, uses_of}
@@ -375,7 +375,7 @@ module _ (account : Account) (registry : Registry) (life : List Item) (r : Runne
   )
 
   -- what is said of a program by the runner's parts is said by its set-up
-  pub program_asked : (clauses : List ClauseForm) (first : ℕ) (o : Option Verdict)
+  pub program_asked : (clauses : List ClauseForm) (first : ℕ) (o : Option EnableVerdict)
       → first ≡ next_epid account registry (set_up account registry life)
       → IfSome o (IsVerdict r.account registry (shapes_of r.programs.shapes) first clauses)
       → IfSome o (IsVerdict account registry (shapes_in (set_up account registry life))
@@ -439,9 +439,9 @@ module _ (account : Account) (registry : Registry) (life : List Item) (r : Runne
 
   -- a program that is refused
   pub program_refused : ((account : Account) (registry : Registry) (accepted : List ShapeForm) (epid : ℕ)
-      (clauses : List ClauseForm) (a b : Verdict) → IsVerdict account registry accepted epid clauses a
+      (clauses : List ClauseForm) (a b : EnableVerdict) → IsVerdict account registry accepted epid clauses a
       → IsVerdict account registry accepted epid clauses b → a ≡ b)
-      → (clauses : List ClauseForm) (o : Option Verdict) (refusal : Refusal)
+      → (clauses : List ClauseForm) (o : Option EnableVerdict) (refusal : Refusal)
       → phase account registry life ≡ Inactive
       → IfSome o (IsVerdict account registry (shapes_in (set_up account registry life))
       (next_epid account registry (set_up account registry life)) clauses)
@@ -459,7 +459,7 @@ module _ (account : Account) (registry : Registry) (life : List Item) (r : Runne
       (λ fails. fails)
       (cases_Bool (is_enabled account registry (shapes_in now) (next_epid account registry now) clauses))))
     where
-      never : (v : Verdict) → v ≡ enabling.enabled → Some refusal ≡ refusal_of v → ⊥
+      never : (v : EnableVerdict) → v ≡ enabling.enabled → Some refusal ≡ refusal_of v → ⊥
       never v same x = let no : Some refusal ≡ None = x ∙ ap refusal_of same in cc
 
   -- a text that is no program

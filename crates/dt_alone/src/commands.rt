@@ -215,7 +215,7 @@ impl Runner {
             return Ok(Reply::Refused(Refusal::NoCpu));
         }
         let cpu = cpu as u32;
-        // before `go` there is nothing to read, and a ring isn't read while it is written
+        // before `go` there is nothing to show, and a ring isn't shown while it is written
         if !self.options.is_readable(self.phase) {
             return Ok(Reply::Refused(Refusal::Busy));
         }

@@ -20,7 +20,7 @@ pub(crate) enum Happened {
     Failed { cpu: u32 },
     /// A clause left something on a processor; `in_end` says that it was taken as END fired.
     Left { cpu: u32, in_end: bool, left: Left },
-    /// The buffer of a processor was read, by a `snap`.
+    /// A `snap` of a processor's buffer was answered.
     Snapped { cpu: u32 },
     /// An aggregation was truncated.
     Truncated { aggregation: Aggregation },

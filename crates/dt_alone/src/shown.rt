@@ -84,7 +84,7 @@ pub(crate) fn shown_on(
     }
 }
 
-/// Under switch: since the last reading each record that fits after those that were kept before it.
+/// Under switch: since the last `snap` each record that fits after those that were kept before it.
 fn switch(alloc: Global, size: usize, happened: &[Happened], cpu: u32) -> Result<Shown, AllocError>
     ensures shows { IfOk result (λ shown.
         ShowsSwitch size (since_swap (all_to cpu happened.now)) shown.bytes.items shown.drops) }

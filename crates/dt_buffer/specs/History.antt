@@ -2,7 +2,7 @@
 use Rattle.std.specs.Prelude.{ℕ, Bool, true, false, List, [], ◌∷◌, ◌++◌, if◌then◌else◌}
 use Rattle.dt_buffer.specs.declared.policy.Policy.{Policy}
 
--- What comes to a buffer: a record is put, by the probe END or another, or a snap has read the buffer.
+-- What comes to a buffer: a record is put, by the probe END or another, or a snap swaps it.
 pub data BufferEvent : Type 0 where
   attempt : (bytes : List ℕ) → (in_end : Bool) → BufferEvent
   swap : BufferEvent

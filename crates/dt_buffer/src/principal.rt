@@ -84,8 +84,8 @@ impl Principal {
         }
     }
 
-    /// What a snap does when it has read the buffer: under switch the buffer is empty again and forgets its drops, under
-    /// fill and ring nothing changes. It takes no memory.
+    /// What a snap leaves: under switch the buffer is empty again and forgets its drops, under fill and ring it is as it was.
+    /// It takes no memory.
     pub fn swap(&mut self)
         ensures stands { (past : BufferPast) → BufferIsAt past self.old → BufferIsAt (buffer_after past swap) self.new }
         ensures drops { drops_of self.new ≤ drops_of self.old }

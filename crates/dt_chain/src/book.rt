@@ -7,9 +7,9 @@ use logbook::{Gain, Offer, Plain, Play, Rule, Seen, Start, Word};
 use std::marker::{Brand, Model};
 
 /// The rule of the book: its word is the length of the list.
-pub(crate) struct Law;
+pub(crate) struct BookRule;
 
-impl Rule<Write, u64> for Law {
+impl Rule<Write, u64> for BookRule {
     ghost use Rattle.std.specs.Prelude.{[]};
     ghost use base.Fml.{ftrue};
     ghost use Rattle.dt_chain.specs.Books.{IsBookOf};
@@ -69,7 +69,7 @@ impl Site for Brand {
 #[derive(Drop)]
 pub(crate) struct Mark {
     count: u64,
-    seen: Seen<Write, u64, Law>,
+    seen: Seen<Write, u64, BookRule>,
 }
 
 impl Model for Mark {
@@ -121,7 +121,7 @@ impl Mark {
         ensures grows { MatchBool result (self.new.log ≡ self.old.log ++ write.now ∷ [])
             (IsPrefix self.old.log self.new.log × (length self.old.log < length self.new.log)) }
     {
-        let mut offer: Offer<Write, u64, Law, Nothing> = self
+        let mut offer: Offer<Write, u64, BookRule, Nothing> = self
             .seen
             .plain::<Nothing, Write, Add>(write);
         let mut pen = self.seen.no_pen();
@@ -143,7 +143,7 @@ impl Mark {
 /// The word that has the length of the list. Contracts see its book.
 #[derive(Drop)]
 pub(crate) struct Ledger {
-    head: Word<Write, u64, Law>,
+    head: Word<Write, u64, BookRule>,
 }
 
 impl Model for Ledger {

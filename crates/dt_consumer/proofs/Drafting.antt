@@ -19,7 +19,7 @@ use Rattle.dt_lang.specs.Refused.{because, destroys}
 use Rattle.dt_lang.specs.declared.word.Destructive.{Destructive}
 use Rattle.dt_program.specs.declared.clause.Clause.{Clause}
 use Rattle.dt_ecb.specs.Ecbs.{added}
-use Rattle.dt_ecb.specs.Enable.{Verdict, IsVerdict, is_enabled}
+use Rattle.dt_ecb.specs.Enable.{EnableVerdict, IsVerdict, is_enabled}
 use Rattle.dt_ecb.specs.Enable as enabling
 use Rattle.dt_ecb.specs.Forms.{form_of_ecb, shapes_of}
 use Rattle.dt_ecb.specs.Shapes.{ShapeForm, uses_of}
@@ -157,9 +157,9 @@ module _ (account : Account) (registry : Registry) (life : List Item) where
 
   -- a program that is refused
   pub program_refused : ((account : Account) (registry : Registry) (accepted : List ShapeForm) (epid : ℕ)
-      (clauses : List ClauseForm) (a b : Verdict) → IsVerdict account registry accepted epid clauses a
+      (clauses : List ClauseForm) (a b : EnableVerdict) → IsVerdict account registry accepted epid clauses a
       → IsVerdict account registry accepted epid clauses b → a ≡ b)
-      → (clauses : List ClauseForm) (o : Option Verdict) (refusal : Refusal) (draft : Draft)
+      → (clauses : List ClauseForm) (o : Option EnableVerdict) (refusal : Refusal) (draft : Draft)
       → draft.reply ≡ Refused refusal → draft.change ≡ Counted → is_over life ≡ false
       → phase account registry life ≡ Inactive
       → IfSome o (IsVerdict account registry (shapes_in (set_up account registry life))
@@ -179,7 +179,7 @@ module _ (account : Account) (registry : Registry) (life : List Item) where
       (cases_Bool (is_enabled account registry (shapes_in now) (next_epid account registry now) clauses))))
       refl
     where
-      never : (v : Verdict) → v ≡ enabling.enabled → Some refusal ≡ refusal_of v → ⊥
+      never : (v : EnableVerdict) → v ≡ enabling.enabled → Some refusal ≡ refusal_of v → ⊥
       never v same r = let no : Some refusal ≡ None = r ∙ ap refusal_of same in cc
 
   -- a text that is no program
@@ -233,7 +233,7 @@ module _ (account : Account) (registry : Registry) (s : SetUp) (consumer : Consu
     ap length k.ecbs.forms,
   )
 
-  pub program_asked : (clauses : List ClauseForm) (first : ℕ) (o : Option Verdict)
+  pub program_asked : (clauses : List ClauseForm) (first : ℕ) (o : Option EnableVerdict)
       → first ≡ next_epid account registry s
       → IfSome o (IsVerdict consumer.account registry (shapes_of consumer.programs.shapes) first clauses)
       → IfSome o (IsVerdict account registry (shapes_in s) (next_epid account registry s) clauses)

@@ -1,6 +1,6 @@
 //! The drafts of a consumer's lines.
 ghost use Rattle.std.specs.Prelude.{◌≡◌, ◌≤◌, ◌+◌, ◌<◌, List, Option, Result, Ok, Err, Some, None, true, false, length, map, All, IfOk, IfErr, MatchOption, is_some, vec_len};
-ghost use Rattle.dt_aggstore.specs.Entries.{form_of_row};
+ghost use Rattle.dt_aggstore.specs.EntryNames.{form_of_row};
 ghost use Rattle.dt_aggstore.specs.TableOf.{table_of};
 ghost use Rattle.dt_cred.specs.declared.account.Account.{Account};
 ghost use Rattle.dt_machine.specs.Registry.{Registry};

@@ -4,7 +4,7 @@ use Rattle.std.specs.List.{list_any}
 use Rattle.dt_cred.specs.declared.account.Account.{Account}
 use Rattle.dt_machine.specs.Registry.{Registry}
 use Rattle.dt_program.specs.Program.{ClauseForm}
-use Rattle.dt_ecb.specs.Enable.{Verdict, enabled, privilege, clash, unmatched, limit, IsVerdict, has_stack, may_do_all}
+use Rattle.dt_ecb.specs.Enable.{EnableVerdict, enabled, privilege, clash, unmatched, limit, IsVerdict, has_stack, may_do_all}
 use Rattle.dt_ecb.specs.Enable.{is_unmatched, is_too_much}
 use Rattle.dt_ecb.specs.Shapes.{ShapeForm, uses_of, any_clash}
 use Rattle.dt_ecb.proofs.ClashLaws.{some_clash, any_from_clash, same_clash}
@@ -18,7 +18,7 @@ stage_by true false true much = 2
 stage_by true false false true = 3
 stage_by true false false false = 4
 
-abbrev stage : Verdict → ℕ
+abbrev stage : EnableVerdict → ℕ
 stage (privilege n) = 0
 stage (clash name) = 1
 stage (unmatched n) = 2
@@ -86,10 +86,10 @@ module _ (account : Account) (registry : Registry) (accepted : List ShapeForm) (
   abbrev much : Bool
   much = is_too_much account registry accepted epid clauses
 
-  abbrev IsIt : Verdict → Type 0
+  abbrev IsIt : EnableVerdict → Type 0
   IsIt = IsVerdict account registry accepted epid clauses
 
-  staged : (v : Verdict) → IsIt v → stage_by may clashing failing much ≡ stage v
+  staged : (v : EnableVerdict) → IsIt v → stage_by may clashing failing much ≡ stage v
   staged (privilege n) h =
       ap (λ b. stage_by b clashing failing much)
       (not_allowed account.privs.dtrace_kernel (list_any has_stack clauses) h.0
@@ -102,7 +102,7 @@ module _ (account : Account) (registry : Registry) (accepted : List ShapeForm) (
   staged limit h = stage_3 may clashing failing much h.0 h.1 h.2 h.3
   staged enabled h = whole may clashing failing much h
 
-  same_by : (v w : Verdict) → IsIt v → IsIt w → stage v ≡ stage w → v ≡ w
+  same_by : (v w : EnableVerdict) → IsIt v → IsIt w → stage v ≡ stage w → v ≡ w
   same_by (privilege n) (privilege m) h k e = ap privilege (same_first has_stack clauses n m h.1 k.1)
   same_by (clash n) (clash m) h k e = ap clash (same_clash accepted (uses_of clauses) n m h.1 k.1)
   same_by (unmatched n) (unmatched m) h k e =
@@ -111,10 +111,10 @@ module _ (account : Account) (registry : Registry) (accepted : List ShapeForm) (
   same_by enabled enabled h k e = refl
   same_by _ _ h k e = absurd (omega arith)
 
-  pub same_verdict : (v w : Verdict) → IsIt v → IsIt w → v ≡ w
+  pub same_verdict : (v w : EnableVerdict) → IsIt v → IsIt w → v ≡ w
   same_verdict v w h k = same_by v w h k (sym (staged v h) ∙ staged w k)
 
-  verdict_by : (a c f m : Bool) → may ≡ a → clashing ≡ c → failing ≡ f → much ≡ m → (v : Verdict) × IsIt v
+  verdict_by : (a c f m : Bool) → may ≡ a → clashing ≡ c → failing ≡ f → much ≡ m → (v : EnableVerdict) × IsIt v
   verdict_by false c f m ae ce fe me =
       let why = lacks account.privs.dtrace_kernel (list_any has_stack clauses) ae in
       let first = some_first has_stack clauses why.1 in
@@ -126,5 +126,5 @@ module _ (account : Account) (registry : Registry) (accepted : List ShapeForm) (
   verdict_by true false false true ae ce fe me = (limit, (ae, ce, fe, me))
   verdict_by true false false false ae ce fe me = (enabled, all_pass may clashing failing much ae ce fe me)
 
-  pub some_verdict : (v : Verdict) × IsIt v
+  pub some_verdict : (v : EnableVerdict) × IsIt v
   some_verdict = verdict_by may clashing failing much refl refl refl refl

@@ -27,12 +27,12 @@ abbrev pub has_stack : ClauseForm → Bool
 has_stack clause = list_any is_stack clause.statements
 
 -- what becomes of a program: it is enabled, or refused for its first fault
-pub data Verdict : Type 0 where
-  enabled : Verdict
-  privilege : (clause : ℕ) → Verdict
-  clash : (name : List ℕ) → Verdict
-  unmatched : (clause : ℕ) → Verdict
-  limit : Verdict
+pub data EnableVerdict : Type 0 where
+  enabled : EnableVerdict
+  privilege : (clause : ℕ) → EnableVerdict
+  clash : (name : List ℕ) → EnableVerdict
+  unmatched : (clause : ℕ) → EnableVerdict
+  limit : EnableVerdict
 
 module _ (account : Account) (registry : Registry) where
   -- the clause takes effect on no probe
@@ -56,7 +56,7 @@ module _ (account : Account) (registry : Registry) where
         && (not (list_any is_unmatched clauses) && not is_too_much))
 
     -- It is refused for the first of these that holds, in this order.
-    abbrev pub IsVerdict : Verdict → Type 0
+    abbrev pub IsVerdict : EnableVerdict → Type 0
     IsVerdict (privilege number) = (account.privs.dtrace_kernel ≡ false) × IsFirstSuch has_stack clauses number
     IsVerdict (clash name) = (may_do_all ≡ true) × IsFirstClash accepted (uses_of clauses) name
     IsVerdict (unmatched number) =

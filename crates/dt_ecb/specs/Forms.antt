@@ -4,7 +4,7 @@ use Rattle.dt_aggfn.specs.declared.function.AggFn.{AggFn}
 use Rattle.dt_aggfn.specs.declared.function.AggFn.TheVariants as function
 use Rattle.dt_program.specs.Program.{ClauseForm}
 use Rattle.dt_ecb.specs.Ecbs.{EcbForm}
-use Rattle.dt_ecb.specs.Enable.{Verdict, privilege, clash, unmatched, limit}
+use Rattle.dt_ecb.specs.Enable.{EnableVerdict, privilege, clash, unmatched, limit}
 use Rattle.dt_ecb.specs.Shapes.{KeyKind, number, text, FunctionForm, count, sum, avg, min, max, quantize, lquantize, ShapeForm}
 use Rattle.dt_ecb.specs.declared.fault.EnableFault.{EnableFault}
 use Rattle.dt_ecb.specs.declared.fault.EnableFault.TheVariants.{Privilege, AggClash, NoMatch, Limit, Memory}
@@ -53,7 +53,7 @@ abbrev pub form_of_named : Named → ℕ × (List ℕ × FunctionForm)
 form_of_named one = (one.number, (one.name, form_of_function one.function))
 
 -- what a fault says of the program; that memory ran out says nothing of it
-abbrev pub verdict_of : EnableFault → Option Verdict
+abbrev pub verdict_of : EnableFault → Option EnableVerdict
 verdict_of (Privilege clause what) = Some (privilege clause)
 verdict_of (AggClash what) = Some (clash what)
 verdict_of (NoMatch clause) = Some (unmatched clause)

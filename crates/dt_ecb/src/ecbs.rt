@@ -3,7 +3,7 @@ ghost use Rattle.std.specs.Prelude.{◌≡◌, ℕ, ◌+◌, ◌<◌, ◌≤◌,
 ghost use Rattle.std.specs.List.{list_any};
 ghost use Rattle.dt_machine.specs.declared.limits.TheConstants.{PROBE_ID_MAX};
 ghost use Rattle.dt_program.specs.Program.{form_of_clause, form_of_program};
-ghost use Rattle.dt_ecb.specs.Enable.{IsFirstSuch, Verdict, is_unmatched};
+ghost use Rattle.dt_ecb.specs.Enable.{IsFirstSuch, EnableVerdict, is_unmatched};
 ghost use Rattle.dt_ecb.specs.Forms.{verdict_of};
 ghost use Rattle.dt_ecb.specs.Places.{keys_at, keys_from, kept_from, kept_in};
 
@@ -32,7 +32,7 @@ pub(crate) fn ecbs_of(
     ensures matched { IfOk result (λ _.
         list_any (is_unmatched account.now machine.now.registry) (form_of_program program.now) ≡ false) }
     ensures unmatched { IfErr result (λ fault. IfSome (verdict_of fault) (λ verdict. (clause : ℕ)
-        × (verdict ≡ Verdict.unmatched clause)
+        × (verdict ≡ EnableVerdict.unmatched clause)
         × IsFirstSuch (is_unmatched account.now machine.now.registry) (form_of_program program.now) clause)) }
 {
     let mut ecbs = Vec::new(alloc);

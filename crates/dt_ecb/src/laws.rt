@@ -6,14 +6,14 @@ ghost use Rattle.dt_machine.specs.Registry.{Registry};
 ghost use Rattle.dt_program.specs.Program.{ArgForm, CallForm, ClauseForm, aggregate};
 ghost use Rattle.dt_machine.specs.Interest as interest;
 ghost use Rattle.dt_ecb.specs.Ecbs.{EcbForm, added, ecbs_of, of_probe};
-ghost use Rattle.dt_ecb.specs.Enable.{Verdict, IsVerdict};
+ghost use Rattle.dt_ecb.specs.Enable.{EnableVerdict, IsVerdict};
 ghost use Rattle.dt_ecb.specs.Interest.{interest_of};
 ghost use Rattle.dt_ecb.specs.Shapes.{ShapeForm, named, uses_of};
 
 /// Law: two verdicts on one program are the same.
 pub fn one_verdict()
     ensures { (account : Account) (registry : Registry) (accepted : List ShapeForm) (epid : ℕ)
-        (clauses : List ClauseForm) (a b : Verdict)
+        (clauses : List ClauseForm) (a b : EnableVerdict)
         → IsVerdict account registry accepted epid clauses a → IsVerdict account registry accepted epid clauses b
         → a ≡ b }
 {}
@@ -21,7 +21,7 @@ pub fn one_verdict()
 /// Law: each program has a verdict.
 pub fn some_verdict()
     ensures { (account : Account) (registry : Registry) (accepted : List ShapeForm) (epid : ℕ)
-        (clauses : List ClauseForm) → (verdict : Verdict) × IsVerdict account registry accepted epid clauses verdict }
+        (clauses : List ClauseForm) → (verdict : EnableVerdict) × IsVerdict account registry accepted epid clauses verdict }
 {}
 
 /// Law: the ECBs of accepted clauses and further ones are those of the accepted, and after them those that the

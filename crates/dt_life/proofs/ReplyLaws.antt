@@ -10,7 +10,7 @@ use Rattle.dt_machine.specs.Registry.{Registry}
 use Rattle.dt_lang.specs.Program.{ClauseForm}
 use Rattle.dt_lang.specs.Reads.{program, fault, destructive}
 use Rattle.dt_record.specs.Layout.{layout_of}
-use Rattle.dt_ecb.specs.Enable.{Verdict, IsVerdict}
+use Rattle.dt_ecb.specs.Enable.{EnableVerdict, IsVerdict}
 use Rattle.dt_ecb.specs.Shapes.{ShapeForm}
 use Rattle.dt_life.specs.Answer.{Answer, done, enabled, snapped, listed, described, refused, aggregated}
 use Rattle.dt_life.specs.Answer as answers
@@ -71,7 +71,7 @@ told_so None P r v = cc
 told_so (Some f) P r v = (P f, refl)
 
 module _ (one_verdict : (account : Account) (registry : Registry) (accepted : List ShapeForm) (epid : ℕ)
-    (clauses : List ClauseForm) (a b : Verdict) → IsVerdict account registry accepted epid clauses a
+    (clauses : List ClauseForm) (a b : EnableVerdict) → IsVerdict account registry accepted epid clauses a
     → IsVerdict account registry accepted epid clauses b → a ≡ b)
     (one_shown : (past : BufferPast) (bytes other : List ℕ) (drops count : ℕ) (filled full : Bool)
     → Shows past bytes drops filled → Shows past other count full
@@ -84,7 +84,7 @@ module _ (one_verdict : (account : Account) (registry : Registry) (accepted : Li
   now = set_up account registry life
 
   abbrev OfProgram : List ClauseForm → Option Refusal → Type 0
-  OfProgram clauses verdict = (v : Verdict)
+  OfProgram clauses verdict = (v : EnableVerdict)
       × IsVerdict account registry (shapes_in now) (next_epid account registry now) clauses v
       × (verdict ≡ refusal_of v)
 
@@ -155,7 +155,7 @@ module _ (one_verdict : (account : Account) (registry : Registry) (accepted : Li
       ha hb
 
 module _ (some_verdict : (account : Account) (registry : Registry) (accepted : List ShapeForm) (epid : ℕ)
-    (clauses : List ClauseForm) → (v : Verdict) × IsVerdict account registry accepted epid clauses v)
+    (clauses : List ClauseForm) → (v : EnableVerdict) × IsVerdict account registry accepted epid clauses v)
     (some_shown : (past : BufferPast) → (bytes : List ℕ) × (drops : ℕ) × (filled : Bool)
     × Shows past bytes drops filled)
     (account : Account) (registry : Registry) (life : List Item) where
@@ -166,7 +166,7 @@ module _ (some_verdict : (account : Account) (registry : Registry) (accepted : L
   verdict_of (enable (program clauses)) =
       let v = some_verdict account registry (shapes_in s) (next_epid account registry s) clauses in
       some_by_cause (is_asked_late account registry life)
-      (λ verdict. (w : Verdict) × IsVerdict account registry (shapes_in s) (next_epid account registry s) clauses w
+      (λ verdict. (w : EnableVerdict) × IsVerdict account registry (shapes_in s) (next_epid account registry s) clauses w
       × (verdict ≡ refusal_of w)) Busy (refusal_of v.0, (v.0, v.1, refl))
   verdict_of (enable (fault at why)) = (_, refl)
   verdict_of (enable (destructive at what)) = (_, refl)

@@ -1,7 +1,7 @@
 -- What is answered to a line, without where it lies in memory.
 use Rattle.std.specs.Prelude.{ℕ, List, Bool, Option, map}
 use Rattle.dt_aggfn.specs.declared.function.AggFn.{AggFn}
-use Rattle.dt_aggstore.specs.Entries.{form_of_row}
+use Rattle.dt_aggstore.specs.EntryNames.{form_of_row}
 use Rattle.dt_aggstore.specs.Table.{RowForm}
 use Rattle.dt_cred.specs.declared.probe.Probe.{Probe}
 use Rattle.dt_record.specs.Layout.{FieldForm}

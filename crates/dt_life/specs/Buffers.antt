@@ -18,7 +18,7 @@ attempts_of takings =
 
 module _ (account : Account) (registry : Registry) where
   module _ (ecbs : List EcbForm) (cpu : ℕ) where
-    -- what comes to a processor's buffer by an event: attempts, or a swap where the buffer is read
+    -- what comes to a processor's buffer by an event: attempts, or, by a snap, a swap
     abbrev pub comes_by : TracingEvent → List buffer.BufferEvent
     comes_by (snapped n) = if n == cpu then swap ∷ [] else []
     comes_by event = attempts_of (taken_on account registry ecbs cpu event)

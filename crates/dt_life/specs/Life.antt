@@ -104,7 +104,7 @@ seen_count (truncated name ∷ events) = seen_count events
 seen_count (ended end ∷ events) = seen_count events
 seen_count (closed ∷ events) = seen_count events
 
--- A processor's buffer can be read from `go` on, under ring only after tracing ended.
+-- A snap of a processor's buffer is answered from `go` on, under ring only after tracing ended.
 abbrev pub is_readable : SetUp → Phase → Bool
 is_readable s Inactive = false
 is_readable s Active = not (is_ring s.options.bufpolicy)
@@ -142,7 +142,7 @@ module _ (account : Account) (registry : Registry) where
       (λ end. with_event (with_event s event) (ended end)) (end_by (with_event s event) event) (with_event s event)
 
   -- Only what has an effect changes the set-up: options and programs before tracing begins, the first `go`, and then
-  -- readings that are answered, truncations of aggregations, firings, one `stop`, and a `close` where it hasn't stopped.
+  -- snaps that are answered, truncations of aggregations, firings, one `stop`, and a `close` where it hasn't stopped.
   abbrev pub after_item : SetUp → Item → SetUp
   after_item s (asked (Ok (option (Some setting)))) =
       if is_inactive (phase_of s) then with_options s (with_setting s.options setting) else s

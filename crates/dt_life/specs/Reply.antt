@@ -14,7 +14,7 @@ use Rattle.dt_lang.specs.Reads.{program, fault, destructive}
 use Rattle.dt_lang.specs.declared.fault.Why.TheVariants.{Probe}
 use Rattle.dt_record.specs.Layout.{layout_of}
 use Rattle.dt_ecb.specs.Ecbs.{EcbForm, added}
-use Rattle.dt_ecb.specs.Enable.{Verdict, privilege, clash, unmatched, limit, IsVerdict}
+use Rattle.dt_ecb.specs.Enable.{EnableVerdict, privilege, clash, unmatched, limit, IsVerdict}
 use Rattle.dt_ecb.specs.Enable as enabling
 use Rattle.dt_ecb.specs.Matching as matching
 use Rattle.dt_ecb.specs.declared.fault.RestrictedAction.TheVariants.{Stack}
@@ -32,7 +32,7 @@ use Rattle.dt_life.specs.declared.refusal.Refusal.TheVariants.{Limit, Busy, NoCp
 use Rattle.dt_life.specs.declared.refusal.Refusal.TheVariants as refusal
 
 -- for what a program is refused, if it is
-abbrev pub refusal_of : Verdict → Option Refusal
+abbrev pub refusal_of : EnableVerdict → Option Refusal
 refusal_of enabling.enabled = None
 refusal_of (privilege clause) = Some (Privilege clause Stack)
 refusal_of (clash name) = Some (AggClash name)
@@ -98,7 +98,7 @@ module _ (account : Account) (registry : Registry) (life : List Item) where
   abbrev pub IsVerdictOnCommand : Ask → Option Refusal → Type 0
   IsVerdictOnCommand (enable (program clauses)) verdict =
       MatchOption (first_refusal (causes (enable (program clauses))))
-      ((v : Verdict) × IsVerdict account registry (shapes_in now) (next_epid account registry now) clauses v
+      ((v : EnableVerdict) × IsVerdict account registry (shapes_in now) (next_epid account registry now) clauses v
       × (verdict ≡ refusal_of v)) (λ refusal. verdict ≡ Some refusal)
   IsVerdictOnCommand ask verdict = verdict ≡ first_refusal (causes ask)
 

@@ -16,8 +16,8 @@ use Rattle.dt_record.specs.Taking.{Outcome, TakenForm, is_abandoned, left_in, ta
 use Rattle.dt_life.specs.Limits.{begin_id, end_id}
 use Rattle.dt_life.specs.declared.phase.End.{End}
 
--- what happens to a consumer's tracing: it begins, a firing is seen, the buffer of a processor is read, the aggregation of
--- a name is truncated, it ends, or the session is closed
+-- what happens to a consumer's tracing: it begins, a firing is seen, a snap of a processor's buffer is answered, the
+-- aggregation of a name is truncated, it ends, or the session is closed
 pub data TracingEvent : Type 0 where
   began : TracingEvent
   seen : Firing → TracingEvent

@@ -71,7 +71,7 @@ impl Options {
         }
     }
 
-    /// Whether a buffer can be read in this phase: from `go` on, under ring only after tracing ended.
+    /// Whether a snap of a buffer is answered in this phase: from `go` on, under ring only after tracing ended.
     pub fn is_readable(self, phase: Phase) -> bool
         ensures { (s : SetUp) → form_of_options self ≡ s.options → result ≡ is_readable s phase }
     {

@@ -7,9 +7,7 @@ use Rattle.dt_machine.specs.declared.fault.FaultNumber.{FaultNumber}
 use Rattle.dt_machine.specs.declared.fault.FaultNumber.TheVariants.{Json, Shape, Cpus, Account, Process, Probe, Script}
 use Rattle.dt_machine.specs.declared.fault.FaultNumber.TheVariants.{Firing, Foreign, Memory}
 use Rattle.dt_machine.specs.declared.fault.MachineFault.{MachineFault}
-use Rattle.dt_machine.specs.Reading.{AllRight, AllRightIn, IsFirstWrong, IsFirstWrongIn, Passes, Finds, Registers}
-use Rattle.dt_machine.specs.Reading.{IsJson, IsFirstFinding, IsFaultOf, IsDescribed, IsScriptFault, rank_of, FaultTells, IsFoundOfScripts}
-use Rattle.dt_machine.specs.Reading.{processes_in, scripts_in}
+use Rattle.dt_machine.specs.Reading.{AllRight, AllRightIn, IsFirstWrong, IsFirstWrongIn, Passes, Finds, Registers, IsJson, IsFirstFinding, IsFaultOf, IsDescribed, IsScriptFault, rank_of, FaultTells, IsFoundOfScripts, processes_in, scripts_in}
 use Rattle.dt_machine.specs.Registry.{Registry, Contents, Belongs}
 use Rattle.dt_cred.specs.declared.account.Process.{Process as ProcessType}
 use Rattle.dt_machine.specs.declared.found.Found.{Found}

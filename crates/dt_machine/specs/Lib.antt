@@ -14,7 +14,7 @@ pub mod Found
 pub mod Reading
 pub mod Tests
 pub mod Bounds
--- Private to the proofs: no promise names them, but of `Sections` the words by which `Machine::read` speaks of a lack of memory.
+-- Private to the proofs: no promise names them.
 pub mod Inside
 pub mod ByPid
 pub mod Sections

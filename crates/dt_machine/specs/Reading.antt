@@ -1,5 +1,5 @@
 -- What a machine file describes, or the first fault that it shows.
-use Rattle.std.specs.Prelude.{◌≡◌, ℕ, ◌<◌, ◌≤◌, List, ◌∷◌, Option, Some, None, IsSomeAnd, IsUtf8, length, take, map, slice_get, codes, true, false, ◌⊎◌}
+use Rattle.std.specs.Prelude.{◌≡◌, ◌≢◌, ℕ, ◌<◌, ◌≤◌, List, ◌∷◌, Option, Some, None, IsSomeAnd, IsUtf8, length, take, map, slice_get, codes, true, false, ◌⊎◌}
 use Rattle.serde_json.specs.Data.{Data}
 use Rattle.serde_json.specs.Read.{read}
 use Rattle.dt_machine.specs.declared.fault.FaultNumber.{FaultNumber}
@@ -153,3 +153,11 @@ pub record IsDescribed (text : List ℕ) (contents : Contents) : Type 0 where
   pub right : (number : FaultNumber) → Passes number data_of
   pub registry : Registers data_of contents.registry
   pub firings : contents.scripts ≡ scripts 0 (scripts_in data_of)
+
+-- the fault is that memory ran out, or it is as said
+abbrev pub UnlessMemory : MachineFault → Type 0 → Type 0
+UnlessMemory fault P = fault.number ≢ Memory → P
+
+-- a fault for memory names no processor and no row, and tells no key
+abbrev pub NowhereIfMemory : MachineFault → Type 0
+NowhereIfMemory fault = fault.number ≡ Memory → Nowhere fault.cpu fault.row × (fault.found ≡ None)

@@ -24,14 +24,6 @@ use Rattle.dt_machine.specs.declared.by_pid.ByPid.{ByPid}
 use Rattle.dt_machine.specs.declared.sections.Sections.{Sections}
 use Rattle.dt_machine.specs.Limits.{probe_id_max}
 
--- the fault is that memory ran out, or it is as said
-abbrev pub UnlessMemory : MachineFault → Type 0 → Type 0
-UnlessMemory fault P = fault.number ≢ Memory → P
-
--- a fault for memory names no processor and no row, and tells no key
-abbrev pub NowhereIfMemory : MachineFault → Type 0
-NowhereIfMemory fault = fault.number ≡ Memory → Nowhere fault.cpu fault.row × (fault.found ≡ None)
-
 -- the fault of a number at the first row that is not right, which tells what is wrong with it
 pub record IsMiss {A : Type 0} (wanted : FaultNumber) (IsRight : List A → A → Type 0)
     (IsFoundOf : ℕ → List A → A → Found → Type 0) (rows : List A) (fault : MachineFault) : Type 0 where

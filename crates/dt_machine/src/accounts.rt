@@ -6,8 +6,8 @@ ghost use Rattle.serde_json.specs.View.{view};
 ghost use Rattle.dt_machine.specs.Given.{text_of};
 ghost use Rattle.dt_machine.specs.Rows.{AccountRow, account_row, account, privs, lists, IsAccountByte, IsAccountName, IsPriv, IsRightAccount};
 ghost use Rattle.dt_machine.specs.Found.{IsFoundOfAccount};
-ghost use Rattle.dt_machine.specs.Reading.{AllRight};
-ghost use Rattle.dt_machine.specs.Sections.{NowhereIfMemory, UnlessMemory, IsMiss, account_rows, texts};
+ghost use Rattle.dt_machine.specs.Reading.{AllRight, NowhereIfMemory, UnlessMemory};
+ghost use Rattle.dt_machine.specs.Sections.{IsMiss, account_rows, texts};
 
 use crate::fault::{FaultNumber, MachineFault};
 use crate::found::{FileKey, Found, Part};

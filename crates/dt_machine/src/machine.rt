@@ -3,8 +3,7 @@ ghost use Rattle.std.specs.Prelude.{◌≡◌, ◌≢◌, None, IfOk, IfErr, Mat
 ghost use Rattle.std.specs.Option.{option_copied};
 ghost use Rattle.serde_json.specs.Data.{Data};
 ghost use Rattle.serde_json.specs.View.{view};
-ghost use Rattle.dt_machine.specs.Reading.{IsJson};
-ghost use Rattle.dt_machine.specs.Sections.{NowhereIfMemory};
+ghost use Rattle.dt_machine.specs.Reading.{IsJson, NowhereIfMemory};
 
 use crate::belonging::first_foreign;
 use crate::fault::{FaultNumber, MachineFault};
@@ -43,8 +42,8 @@ impl Model for Machine {
 impl Machine {
     ghost use Rattle.dt_machine.specs.Moment.{IsMoment};
     ghost use Rattle.dt_machine.specs.Registry.{IsSound, IsForeign, account_of, process_of, probe_of, firing_at};
-    ghost use Rattle.dt_machine.specs.Reading.{IsDescribed, IsFaultOf, IsFirstFinding};
-    ghost use Rattle.dt_machine.specs.Sections.{UnlessMemory, IsReady, registry_of, contents_with};
+    ghost use Rattle.dt_machine.specs.Reading.{IsDescribed, IsFaultOf, IsFirstFinding, UnlessMemory};
+    ghost use Rattle.dt_machine.specs.Sections.{IsReady, registry_of, contents_with};
 
     /// Reads a machine file: a JSON object with the keys `cpus`, `accounts`, `processes`, `probes` and `scripts`.
     ///

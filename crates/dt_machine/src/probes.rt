@@ -7,8 +7,8 @@ ghost use Rattle.dt_cred.specs.declared.probe.Probe.{Probe};
 ghost use Rattle.dt_machine.specs.declared.limits.TheConstants.{FIRST_PROBE_ID};
 ghost use Rattle.dt_machine.specs.Rows.{AreProbes, IsRightProbe};
 ghost use Rattle.dt_machine.specs.Found.{IsFoundOfProbe};
-ghost use Rattle.dt_machine.specs.Reading.{AllRight};
-ghost use Rattle.dt_machine.specs.Sections.{NowhereIfMemory, UnlessMemory, IsMiss, IsTraced, eq_tuples, texts};
+ghost use Rattle.dt_machine.specs.Reading.{AllRight, NowhereIfMemory, UnlessMemory};
+ghost use Rattle.dt_machine.specs.Sections.{IsMiss, IsTraced, eq_tuples, texts};
 
 use crate::fault::{FaultNumber, MachineFault};
 use crate::found::{FileKey, Found, Part};

@@ -3,8 +3,8 @@ ghost use Rattle.std.specs.Prelude.{◌≡◌, ◌≢◌, ◌^◌, ◌+◌, ◌�
 ghost use Rattle.serde_json.specs.View.{view};
 ghost use Rattle.dt_machine.specs.Rows.{ProcessRow, process_row, process, number_in, IsGivenBelow, IsExecname, IsRightProcess};
 ghost use Rattle.dt_machine.specs.Found.{IsFoundOfProcess};
-ghost use Rattle.dt_machine.specs.Reading.{AllRight};
-ghost use Rattle.dt_machine.specs.Sections.{NowhereIfMemory, UnlessMemory, IsMiss, Indexes, process_rows};
+ghost use Rattle.dt_machine.specs.Reading.{AllRight, NowhereIfMemory, UnlessMemory};
+ghost use Rattle.dt_machine.specs.Sections.{IsMiss, Indexes, process_rows};
 
 use crate::by_pid::ByPid;
 use crate::fault::{FaultNumber, MachineFault};

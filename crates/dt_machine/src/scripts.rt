@@ -5,8 +5,8 @@ ghost use Rattle.dt_machine.specs.Given.{items_of};
 ghost use Rattle.dt_machine.specs.Found.{IsFoundOfFiring, IsFoundAt, IsFoundIn};
 ghost use Rattle.dt_machine.specs.Registry.{process_of};
 ghost use Rattle.dt_machine.specs.Rows.{FiringRow, firing_row, firing, script, scripts as scripts_of, mode, number_in, IsGivenBelow, IsMode, HasRoom, IsGivenProbe, IsRightFiring};
-ghost use Rattle.dt_machine.specs.Reading.{AllRight, AllRightIn, IsFirstWrong, IsFirstWrongIn};
-ghost use Rattle.dt_machine.specs.Sections.{NowhereIfMemory, UnlessMemory, IsReady, firing_rows, scripts_rows, registry_of};
+ghost use Rattle.dt_machine.specs.Reading.{AllRight, AllRightIn, IsFirstWrong, IsFirstWrongIn, NowhereIfMemory, UnlessMemory};
+ghost use Rattle.dt_machine.specs.Sections.{IsReady, firing_rows, scripts_rows, registry_of};
 
 use crate::fault::{FaultNumber, MachineFault};
 use crate::found::{FileKey, Found, Part};

@@ -34,7 +34,8 @@ pub(crate) struct Sections {
 impl Sections {
     ghost use Rattle.dt_machine.specs.Moment.{IsMoment};
     ghost use Rattle.dt_machine.specs.Registry.{IsForeign, probe_of, process_of};
-    ghost use Rattle.dt_machine.specs.Sections.{NowhereIfMemory, UnlessMemory, AreSections, IsReady, registry_of};
+    ghost use Rattle.dt_machine.specs.Sections.{AreSections, IsReady, registry_of};
+    ghost use Rattle.dt_machine.specs.Reading.{NowhereIfMemory, UnlessMemory};
 
     /// The sections of a file, or the first fault of those that go before the firings.
     pub(crate) fn read(alloc: Global, file: &Value) -> Result<Sections, MachineFault>

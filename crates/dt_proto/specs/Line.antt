@@ -19,14 +19,14 @@ use Rattle.dt_life.specs.declared.refusal.Refusal.{Refusal}
 use Rattle.dt_life.specs.declared.refusal.Refusal.TheVariants.{Json, Request as NoRequest, LineLong}
 
 -- a value that a line gives for an option: a number from 0 on, a text, or anything else
-pub data Value : Type 0 where
-  of_number : ℕ → Value
-  of_text : List ℕ → Value
-  of_another : Value
+pub data GivenValue : Type 0 where
+  of_number : ℕ → GivenValue
+  of_text : List ℕ → GivenValue
+  of_another : GivenValue
 
 -- what a line says, before a program is read in it
 pub data Request : Type 0 where
-  to_set : (name : List ℕ) → Value → Request
+  to_set : (name : List ℕ) → GivenValue → Request
   to_enable : (text : List ℕ) → Request
   to_go : Request
   to_stop : Request
@@ -39,7 +39,7 @@ pub data Request : Type 0 where
   to_close : Request
 
 -- a value without where its text lies in memory
-abbrev pub value_of : OptionValue → Value
+abbrev pub value_of : OptionValue → GivenValue
 value_of (Number n) = of_number n
 value_of (Text text) = of_text (string_bytes text)
 value_of Other = of_another
@@ -68,7 +68,7 @@ field_number key d = option_and_then as_u64 (option_and_then as_number (get key 
 
 -- The value that a JSON value is: a number without a sign and a fraction, which fits 64 bits, a text, or another. A
 -- negative number, one with a fraction or an exponent, a truth value, null, a list and an object are others.
-abbrev pub value_in : Data → Value
+abbrev pub value_in : Data → GivenValue
 value_in (number (unsigned n)) = of_number n
 value_in (string text) = of_text text
 value_in _ = of_another
@@ -109,7 +109,7 @@ requested line = requested_or_no_json (if is_utf8 line then read line else None)
 
 -- what a name and a value set, as a consumer says of a command's: nothing where there is no such option, or the value
 -- isn't one of it
-abbrev pub setting_by : List ℕ → Value → Option Setting
+abbrev pub setting_by : List ℕ → GivenValue → Option Setting
 setting_by name (of_number n) = number_set name n
 setting_by name (of_text word) =
     if bytes_eq name (codes "bufpolicy") then option_map policy (policy_of word) else None

@@ -3,7 +3,7 @@ ghost use Rattle.std.specs.Prelude.{◌≡◌, ℕ, ◌<◌, ℤ, List, [], ◌+
 ghost use Rattle.std.specs.Fmt.{signed_decimal};
 ghost use Rattle.std.specs.List.{AllByRecursion, join_with_byte};
 ghost use Rattle.dt_aggfn.specs.declared.function.AggFn.{AggFn};
-ghost use Rattle.dt_aggstore.specs.Entries.{form_of_row};
+ghost use Rattle.dt_aggstore.specs.EntryNames.{form_of_row};
 ghost use Rattle.dt_aggstore.specs.Table.{RowForm};
 ghost use Rattle.dt_cred.specs.declared.probe.Probe.{Probe};
 ghost use Rattle.serde_json.specs.Data.{object, string};

@@ -2,11 +2,11 @@
 ghost use Rattle.std.specs.Prelude.{◌≡◌, IfOk, map};
 ghost use Rattle.serde_json.specs.View.{view};
 ghost use Rattle.dt_aggfn.specs.Answers.{form_of_answer, form_of_counted_row};
-ghost use Rattle.dt_aggstore.specs.Entries.{form_of_row};
+ghost use Rattle.dt_aggstore.specs.EntryNames.{form_of_row};
 ghost use Rattle.dt_proto.specs.Rows.{counted_data, function_word, least_data, part_data, row_data, value_data};
 
 use crate::text::{before_zeros, text_of};
-use dt_aggfn::{AggFn, Answer, CountedRow};
+use dt_aggfn::{AggFn, CellAnswer, CountedRow};
 use dt_aggstore::{KeyPart, Row};
 use serde_json::{Value, json};
 use std::alloc::{AllocError, Global};
@@ -64,12 +64,12 @@ fn part_value(alloc: Global, part: &KeyPart) -> Result<Value, AllocError>
     }
 }
 
-fn answer_value(alloc: Global, answer: &Answer) -> Result<Value, AllocError>
+fn answer_value(alloc: Global, answer: &CellAnswer) -> Result<Value, AllocError>
     ensures { IfOk result (λ value. view value ≡ value_data (form_of_answer answer.now)) }
 {
     match answer {
-        Answer::Number(number) => Ok(Value::from(*number)),
-        Answer::Rows(rows) => Ok(Value::Array(counted_values(alloc, rows)?)),
+        CellAnswer::Number(number) => Ok(Value::from(*number)),
+        CellAnswer::Rows(rows) => Ok(Value::Array(counted_values(alloc, rows)?)),
     }
 }
 

@@ -15,7 +15,7 @@ use Rattle.dt_proto.specs.Alone.{Reached, own_line, firing_made, Alone, IsText}
 use Rattle.dt_proto.specs.Lines.{LineForm}
 use Rattle.dt_proto.specs.Reply.{reply_text}
 use Rattle.dt_proto.specs.Session.{session_account}
-use Rattle.dt_steps.specs.Ran.{Told, IsReply, AreReplies, is_of, told_to, IsAnsweredAlone}
+use Rattle.dt_steps.specs.Ran.{SeatReply, IsReply, AreReplies, is_of, told_to, IsAnsweredAlone}
 use Rattle.dt_steps.specs.Steps.{StepForm, opens, asks, publishes, finishes, withdraws, looks, offers, closes, after_step}
 use Rattle.dt_steps.specs.Steps.{with_session, question_of, answering, opening, asking, publishing, finishing}
 use Rattle.dt_steps.specs.Steps.{withdrawing, passed, looking, is_done, offered, offering, closing, world_after}
@@ -276,13 +276,13 @@ AreTexts registry (question ∷ questions) (text ∷ texts) =
     IsTextOf registry question text × AreTexts registry questions texts
 
 module _ (registry : Registry) (seat n : ℕ) where
-  texts_more : (question : Question) (questions : List Question) (told : Told) (texts : List (List ℕ)) (same : Bool)
+  texts_more : (question : Question) (questions : List Question) (told : SeatReply) (texts : List (List ℕ)) (same : Bool)
       → IsReply registry question told → AreTexts registry questions texts
       → AreTexts registry (cond same (question ∷ questions) questions) (cond same (told.1 ∷ texts) texts)
   texts_more question questions told texts true h more = (h.1, more)
   texts_more question questions told texts false h more = more
 
-  texts_of : (questions : List Question) (told : List Told) → AreReplies registry questions told
+  texts_of : (questions : List Question) (told : List SeatReply) → AreReplies registry questions told
       → AreTexts registry (filter (is_of seat n) questions) (told_to seat n questions told)
   texts_of [] [] h = refl
   texts_of [] (one ∷ told) h = absurd h
@@ -344,7 +344,7 @@ module _ (registry : Registry) (seat n : ℕ) where
   alone_at (Some session) texts h = answers_of session.account session.view texts h
 
 -- What was told to a session is what its view is answered alone.
-pub told_alone : (registry : Registry) (steps : List StepForm) (told : List Told)
+pub told_alone : (registry : Registry) (steps : List StepForm) (told : List SeatReply)
     → AreReplies registry (world_after registry steps).questions told → (seat n : ℕ)
     → IsAnsweredAlone registry (session_of (world_after registry steps) seat n)
     (told_to seat n (world_after registry steps).questions told)

@@ -10,7 +10,7 @@ use Rattle.dt_chain.specs.declared.seat.TheConstants.{SEATS}
 use Rattle.dt_chain.specs.declared.seat_mask.SeatMask.{SeatMask}
 use Rattle.dt_proto.specs.Lines.{LineForm}
 use Rattle.dt_proto.specs.Session.{session_account}
-use Rattle.dt_steps.specs.Ran.{Told, IsReply, AreReplies, AreMasks, HasTold}
+use Rattle.dt_steps.specs.Ran.{SeatReply, IsReply, AreReplies, AreMasks, HasTold}
 use Rattle.dt_steps.specs.Stands.{IsAnswered, IsLooked}
 use Rattle.dt_steps.specs.Steps.{StepForm, opens, asks, publishes, finishes, withdraws, looks, offers, closes, after_step}
 use Rattle.dt_steps.specs.Steps.{world_after, with_session, answering, opening, asking, publishing, publishing_of}
@@ -20,7 +20,7 @@ use Rattle.dt_steps.specs.Telling.{IsTelling}
 use Rattle.dt_chain.specs.Tests.{mask_of}
 use Rattle.dt_steps.specs.World.{World, Place, DueOffer, Question, new_world, number_on, new_session, answered, waiting}
 use Rattle.dt_steps.specs.World.{may_ask, accepts_go, may_withdraw}
-use Rattle.dt_steps.specs.declared.outcome.Outcome.TheVariants.{Quiet, Replied, Looked}
+use Rattle.dt_steps.specs.declared.outcome.StepAnswer.TheVariants.{Quiet, Replied, Looked}
 use Rattle.dt_steps.proofs.Soundness.{updated, option_case}
 
 module _ (registry : Registry) (world : World) where
@@ -258,7 +258,7 @@ telling_replied text_of registry before after seat None h same = (h, same)
 telling_replied text_of registry before after seat (Some a) h same = (h, same)
 
 -- one reply more, one mask more
-replies_more : (registry : Registry) (questions : List Question) (question : Question) (told : List Told) (one : Told)
+replies_more : (registry : Registry) (questions : List Question) (question : Question) (told : List SeatReply) (one : SeatReply)
     → AreReplies registry questions told → IsReply registry question one
     → AreReplies registry (questions ++ question ∷ []) (told ++ one ∷ [])
 replies_more registry [] question [] one h last = (last, tt)
@@ -275,7 +275,7 @@ masks_more [] look (m ∷ masks) mask h last = absurd h
 masks_more (l ∷ named) look [] mask h last = absurd h
 masks_more (l ∷ named) look (m ∷ masks) mask h last = (h.0, masks_more named look masks mask h.1 last)
 
-module _ (registry : Registry) (before after : World) (told : List Told) (masks : List SeatMask)
+module _ (registry : Registry) (before after : World) (told : List SeatReply) (masks : List SeatMask)
     (h : HasTold registry before told masks) where
   pub told-quiet : IsTelling registry before after Quiet → HasTold registry after told masks
   told-quiet same = record {

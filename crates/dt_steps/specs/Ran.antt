@@ -9,16 +9,16 @@ use Rattle.dt_proto.specs.Reply.{reply_text}
 use Rattle.dt_steps.specs.World.{World, Session, Question}
 
 -- a reply as the number of its seat and its bytes
-abbrev pub Told : Type 0
-Told = ℕ × List ℕ
+abbrev pub SeatReply : Type 0
+SeatReply = ℕ × List ℕ
 
 -- The reply to a question, at its seat.
-abbrev pub IsReply : Registry → Question → Told → Type 0
+abbrev pub IsReply : Registry → Question → SeatReply → Type 0
 IsReply registry question told =
     (told.0 ≡ question.seat) × IsText question.account registry question.view question.line told.1
 
 -- The replies to questions, one to each, in order.
-abbrev pub AreReplies : Registry → List Question → List Told → Type 0
+abbrev pub AreReplies : Registry → List Question → List SeatReply → Type 0
 AreReplies registry [] [] = Unit {0}
 AreReplies registry [] (told ∷ more) = ⊥
 AreReplies registry (question ∷ questions) [] = ⊥
@@ -33,7 +33,7 @@ AreMasks (look ∷ looks) [] = ⊥
 AreMasks (look ∷ looks) (mask ∷ masks) = ((seat : ℕ) → life_at mask seat ≡ look seat) × AreMasks looks masks
 
 -- What a run told so far: the replies to the world's questions, and the masks of its looks.
-pub record HasTold (registry : Registry) (world : World) (told : List Told) (named : List SeatMask) : Type 0 where
+pub record HasTold (registry : Registry) (world : World) (told : List SeatReply) (named : List SeatMask) : Type 0 where
   pub replies : AreReplies registry world.questions told
   pub masks : AreMasks world.looks named
 
@@ -42,7 +42,7 @@ abbrev pub is_of : (seat n : ℕ) → Question → Bool
 is_of seat n question = (question.seat == seat) && (question.number == n)
 
 -- what was told to a session, of replies that answer these questions
-abbrev pub told_to : (seat n : ℕ) → List Question → List Told → List (List ℕ)
+abbrev pub told_to : (seat n : ℕ) → List Question → List SeatReply → List (List ℕ)
 told_to seat n (question ∷ questions) (told ∷ more) =
     if is_of seat n question then told.1 ∷ told_to seat n questions more else told_to seat n questions more
 told_to seat n _ _ = []

@@ -3,11 +3,11 @@ use Rattle.std.specs.Prelude.{◌≡◌, Some}
 use Rattle.dt_machine.specs.Registry.{Registry}
 use Rattle.dt_steps.specs.Stands.{IsAnswered, IsLooked}
 use Rattle.dt_steps.specs.World.{World}
-use Rattle.dt_steps.specs.declared.outcome.Outcome.{Outcome}
-use Rattle.dt_steps.specs.declared.outcome.Outcome.TheVariants.{Quiet, Replied, Looked}
+use Rattle.dt_steps.specs.declared.outcome.StepAnswer.{StepAnswer}
+use Rattle.dt_steps.specs.declared.outcome.StepAnswer.TheVariants.{Quiet, Replied, Looked}
 
 -- Nothing: no question more and no look more. A reply: one question more. A mask: one look more.
-abbrev pub IsTelling : Registry → (before after : World) → Outcome → Type 0
+abbrev pub IsTelling : Registry → (before after : World) → StepAnswer → Type 0
 IsTelling registry before after Quiet = (after.questions ≡ before.questions) × (after.looks ≡ before.looks)
 IsTelling registry before after (Replied seat text) =
     IsAnswered registry before after seat (Some text.items) × (after.looks ≡ before.looks)

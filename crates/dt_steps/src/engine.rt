@@ -3,7 +3,7 @@ ghost use Rattle.std.specs.Prelude.{◌≡◌, vec_len};
 ghost use Rattle.dt_chain.specs.declared.seat.TheConstants.{SEATS};
 
 use crate::due::{DueOffers, ScriptPlace, idle_processors};
-use crate::outcome::Outcome;
+use crate::outcome::StepAnswer;
 use crate::place::{Place, free_seats};
 use crate::session::{Answered, Finished};
 use crate::step::Step;
@@ -227,7 +227,7 @@ impl<'m> Engine<'m> {
         alloc: Global,
         machine: &'m Machine,
         step: &'m Step,
-    ) -> Result<Outcome, AllocError>
+    ) -> Result<StepAnswer, AllocError>
         ensures { IfOk result (λ outcome. (world : World) → ((seat : ℕ) → number_on world seat + 1 < 2 ^ 64)
             → EngineIsAt machine.now.registry world self.old
             → EngineIsAt machine.now.registry (after_step machine.now.registry world (form_of_step step.now)) self.new
@@ -236,38 +236,38 @@ impl<'m> Engine<'m> {
         match step {
             Step::Open(seat, name) => {
                 self.open(alloc, machine, *seat, name)?;
-                Ok(Outcome::Quiet)
+                Ok(StepAnswer::Quiet)
             }
             Step::Ask(seat, line) => {
                 let reply = self.ask(alloc, machine, *seat, line.lent())?;
-                Ok(Outcome::replied(*seat, reply))
+                Ok(StepAnswer::replied(*seat, reply))
             }
             Step::Publish(seat) => {
                 self.publish(machine, *seat)?;
-                Ok(Outcome::Quiet)
+                Ok(StepAnswer::Quiet)
             }
             Step::Finish(seat) => {
                 let reply = self.finish(machine, *seat);
-                Ok(Outcome::finished(*seat, reply))
+                Ok(StepAnswer::finished(*seat, reply))
             }
             Step::Withdraw(seat) => {
                 self.withdraw(machine, *seat);
-                Ok(Outcome::Quiet)
+                Ok(StepAnswer::Quiet)
             }
             Step::Look(cpu, firing) => Ok(self.named(machine, *cpu, firing)),
             Step::Offer(cpu, seat) => {
                 self.offer(machine, *cpu, *seat);
-                Ok(Outcome::Quiet)
+                Ok(StepAnswer::Quiet)
             }
             Step::Close(seat) => {
                 self.close(*seat);
-                Ok(Outcome::Quiet)
+                Ok(StepAnswer::Quiet)
             }
         }
     }
 
     /// Looks, and tells all that the look named, if it was enabled.
-    fn named(&mut self, machine: &'m Machine, cpu: u32, firing: &'m Firing) -> Outcome
+    fn named(&mut self, machine: &'m Machine, cpu: u32, firing: &'m Firing) -> StepAnswer
         ensures at { (world : World) → EngineIsAt machine.now.registry world self.old
             → EngineIsAt machine.now.registry (looking machine.now.registry world cpu firing.now) self.new }
         ensures telling { (world : World) → EngineIsAt machine.now.registry world self.old
@@ -275,8 +275,8 @@ impl<'m> Engine<'m> {
     {
         match self.look(machine, cpu, firing) {
             // no offer was taken yet
-            Some(_) => Outcome::Looked(self.left(cpu)),
-            None => Outcome::Quiet,
+            Some(_) => StepAnswer::Looked(self.left(cpu)),
+            None => StepAnswer::Quiet,
         }
     }
 }

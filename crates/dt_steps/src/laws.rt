@@ -8,7 +8,7 @@ ghost use Rattle.dt_life.specs.Answer.{Answer};
 ghost use Rattle.dt_life.specs.Life.{Item};
 ghost use Rattle.dt_life.specs.Sees.{Sees};
 ghost use Rattle.dt_proto.specs.Alone.{Alone};
-ghost use Rattle.dt_steps.specs.Ran.{Told, AreReplies, told_to, IsAnsweredAlone};
+ghost use Rattle.dt_steps.specs.Ran.{SeatReply, AreReplies, told_to, IsAnsweredAlone};
 ghost use Rattle.dt_steps.specs.Sound.{IsSoundWorld, publication_of};
 ghost use Rattle.dt_steps.specs.Steps.{StepForm, world_after};
 ghost use Rattle.dt_proto.specs.Views.{seen_view};
@@ -36,7 +36,7 @@ pub fn agree_alike()
 /// Law: the questions of a session are the lines of its view, so replies that answer the questions of a world are,
 /// session by session, those that the session's view is answered alone: none missing and none more.
 pub fn told_alone()
-    ensures { (registry : Registry) (steps : List StepForm) (told : List Told)
+    ensures { (registry : Registry) (steps : List StepForm) (told : List SeatReply)
         → AreReplies registry (world_after registry steps).questions told → (seat n : ℕ)
         → IsAnsweredAlone registry (session_of (world_after registry steps) seat n)
         (told_to seat n (world_after registry steps).questions told) }

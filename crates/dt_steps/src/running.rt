@@ -5,7 +5,7 @@ ghost use Rattle.dt_steps.specs.Steps.{form_of_step, world_after};
 ghost use Rattle.dt_steps.specs.World.{session_of};
 
 use crate::engine::Engine;
-use crate::outcome::Outcome;
+use crate::outcome::StepAnswer;
 use crate::step::Step;
 use dt_chain::{Seat, SeatMask};
 use dt_machine::Machine;
@@ -58,16 +58,16 @@ impl Ran {
     ghost use Rattle.dt_steps.specs.World.{World};
 
     /// Tells what a step answered.
-    fn tell(&mut self, outcome: Outcome) -> Result<(), AllocError>
+    fn tell(&mut self, outcome: StepAnswer) -> Result<(), AllocError>
         ensures { OnOk result ((registry : Registry) (before after : World)
             → IsTelling registry before after outcome
             → HasTold registry before (map (λ reply. (reply.0, reply.1.items)) self.old.replies.items) self.old.masks.items
             → HasTold registry after (map (λ reply. (reply.0, reply.1.items)) self.new.replies.items) self.new.masks.items) }
     {
         match outcome {
-            Outcome::Quiet => {}
-            Outcome::Replied(seat, text) => self.replies.push((seat, text))?,
-            Outcome::Looked(mask) => self.masks.push(mask)?,
+            StepAnswer::Quiet => {}
+            StepAnswer::Replied(seat, text) => self.replies.push((seat, text))?,
+            StepAnswer::Looked(mask) => self.masks.push(mask)?,
         }
         Ok(())
     }

@@ -1,5 +1,5 @@
 //! Consumers: what each line is answered, and which firings are seen.
-use dt_aggfn::{AggFn, Answer};
+use dt_aggfn::{AggFn, CellAnswer};
 use dt_aggstore::{KeyPart, Row};
 use dt_consumer::{Consumer, Draft};
 use dt_life::{Command, OptionValue, Refusal, Reply};
@@ -182,7 +182,7 @@ fn table(alloc: Global, function: AggFn, rows: &[Row]) -> Result<String, Fail> {
     let mut text = format!(in alloc; "{function:?}")?;
     for row in rows {
         if let Some(KeyPart::Number(key)) = row.key.parts.as_slice().first() {
-            if let Answer::Number(sum) = &row.value {
+            if let CellAnswer::Number(sum) = &row.value {
                 text.push_str(format!(in alloc; " {key}={sum}")?.as_str())?;
             }
         }

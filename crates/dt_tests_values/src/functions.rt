@@ -1,5 +1,5 @@
 //! The functions, as a table of values with what their cell answers.
-use dt_aggfn::{AggFn, Answer, Bounds, CELL_WORDS_MAX};
+use dt_aggfn::{AggFn, Bounds, CELL_WORDS_MAX, CellAnswer};
 use std::alloc::{AllocError, Global};
 use std::process::Abort;
 use std::str::SplitWhitespace;
@@ -234,7 +234,7 @@ fn merged(function: AggFn, mut cell: Cell, other: &Cell) -> Cell {
     cell
 }
 
-fn answer_of(alloc: Global, function: AggFn, cell: &Cell) -> Result<Answer, AllocError> {
+fn answer_of(alloc: Global, function: AggFn, cell: &Cell) -> Result<CellAnswer, AllocError> {
     function.answer(alloc, &cell[..function.cell_words()])
 }
 
@@ -260,10 +260,10 @@ fn bounds_of(words: &mut SplitWhitespace) -> Option<Bounds> {
 }
 
 /// An answer as the table writes it.
-fn text_of(alloc: Global, answer: &Answer) -> Result<String, AllocError> {
+fn text_of(alloc: Global, answer: &CellAnswer) -> Result<String, AllocError> {
     let rows = match answer {
-        Answer::Number(value) => return format!(in alloc; "{value}"),
-        Answer::Rows(rows) => rows,
+        CellAnswer::Number(value) => return format!(in alloc; "{value}"),
+        CellAnswer::Rows(rows) => rows,
     };
     let mut text = String::new(alloc);
     for row in rows {

@@ -1,7 +1,7 @@
 //! Stores, as a table of contributions and truncations with what is answered and what the table then shows.
 
 use arrayvec::ArrayVec;
-use dt_aggfn::{AggFn, Answer, Bounds};
+use dt_aggfn::{AggFn, Bounds, CellAnswer};
 use dt_aggstore::{ADDED_LIMIT, AGGSIZE_MAX, AggStore, Aggregation, KEYS_MAX, Key, KeyPart, Row};
 use std::alloc::{AllocError, Global};
 use std::process::Abort;
@@ -272,8 +272,8 @@ fn row_text(alloc: Global, row: &Row) -> Result<String, AllocError> {
     let mut text = key_text(alloc, &row.key)?;
     text.push(':')?;
     match &row.value {
-        Answer::Number(value) => text.push_str(format!(in alloc; "{value}")?.as_str())?,
-        Answer::Rows(rows) => {
+        CellAnswer::Number(value) => text.push_str(format!(in alloc; "{value}")?.as_str())?,
+        CellAnswer::Rows(rows) => {
             for (place, counted) in rows.iter().enumerate() {
                 let between = if place == 0 { "" } else { "&" };
                 let one = match counted.least {

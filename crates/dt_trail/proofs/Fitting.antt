@@ -45,7 +45,7 @@ fits_nobody w by = record {
   had = (w.items, refl);
   had_own = λ c _. absurd (off c);
   stands = λ h. absurd (omega arith);
-  site = λ c. absurd (off c);
+  extent = λ c. absurd (off c);
   plan = λ c _. absurd (off c);
 }
 

@@ -6,7 +6,7 @@ use lib.ListN.{get_elem?}
 use denote.RawPtr.{Ptr}
 use Rattle.atomic_blocks.specs.Cells.{Cell, Row, State, step, cell, me, row_at, row, link_of, home_of, with_cell, with_word, keeps, Allows}
 use Rattle.dt_trail.specs.declared.door.Door.{Door}
-use Rattle.dt_trail.specs.declared.rule.Site.{Site}
+use Rattle.dt_trail.specs.declared.rule.Extent.{Extent}
 use Rattle.dt_trail.specs.declared.rule.View.{View}
 use Rattle.dt_trail.specs.Items.{TrailItem, whose, code, IsReal, AllReal, own, code_at, StartsWith}
 use Rattle.dt_trail.specs.Blocks.{flat, before, BlockLiesAt}
@@ -20,7 +20,7 @@ module _ {K : Type 0} (lawful : K → List TrailItem → Type 0) (root : Ptr) (a
   H = Kept lawful root acct
 
   -- the first empty cell is set
-  pub sets : (id : ℕ) (a : Option K) (n : ℕ) (had ks : List TrailItem) (d : Door) (t : Site) (hand : Option (Ptr × ℕ × NoSlot)) (spare : Option (Row NoSlot)) (i : ℕ) (x : TrailItem)
+  pub sets : (id : ℕ) (a : Option K) (n : ℕ) (had ks : List TrailItem) (d : Door) (t : Extent) (hand : Option (Ptr × ℕ × NoSlot)) (spare : Option (Row NoSlot)) (i : ℕ) (x : TrailItem)
       → 0 < d.len → d.from + i ≡ length ks → i < d.len → whose x ≡ n → IsReal x → lawful acct (ks ++ x ∷ [])
       → Allows H id (me (appender a n had ks d t) hand spare) (suc d.block) d.link.ptr i (λ _. code x) (λ _. IsSet x (step (suc d.block) d.link.ptr i (code x) 0) (me (appender a n had ks d t) hand spare) (code x))
   sets id a n had ks d t hand spare i x pos here near mine real ok s h at = (
@@ -98,7 +98,7 @@ module _ {K : Type 0} (lawful : K → List TrailItem → Type 0) (root : Ptr) (a
             had = starts_trans items u.had ks (x ∷ [], refl) (subst (λ l. StartsWith l u.had) whole.1 g.had);
             had_own = (λ o _. absurd (apart (sym (g.owns o).0 ∙ whole.0)));
             stands = (λ p. stands_alike bs new u.door alike (g.stands p));
-            site = (λ o. absurd (apart (sym (g.owns o).0 ∙ whole.0)));
+            extent = (λ o. absurd (apart (sym (g.owns o).0 ∙ whole.0)));
             plan = (λ o _. absurd (apart (sym (g.owns o).0 ∙ whole.0)));
           }
 
@@ -112,7 +112,7 @@ module _ {K : Type 0} (lawful : K → List TrailItem → Type 0) (root : Ptr) (a
         had = starts_self items;
         had_own = (λ _ _. refl);
         stands = (λ _. stands_alike bs new d alike st);
-        site = (λ _. ((f.site refl).0 ∙ sym alike.count, (f.site refl).1 ∙ sym alike.long));
+        extent = (λ _. ((f.extent refl).0 ∙ sym alike.count, (f.extent refl).1 ∙ sym alike.long));
         plan = f.plan;
       }
 

@@ -11,7 +11,7 @@ use Rattle.dt_trail.specs.declared.rule.About.{About}
 use Rattle.dt_trail.specs.declared.rule.View.{View}
 use Rattle.dt_trail.specs.Items.{TrailItem}
 use Rattle.dt_trail.specs.Blocks.{flat, Blank, Rooted}
-use Rattle.dt_trail.specs.Rule.{NoSlot, RowWorld, FitsRow, Kept, maker, first_door, first_site}
+use Rattle.dt_trail.specs.Rule.{NoSlot, RowWorld, FitsRow, Kept, maker, first_door, first_extent}
 use Rattle.dt_trail.proofs.Fitting.{off}
 
 module _ {S : Type 0} where
@@ -31,7 +31,7 @@ module _ {S : Type 0} where
 
 pub begins : {K : Type 0} (lawful : K → List TrailItem → Type 0) (key : About K) (p q : Ptr) (cs ds : List (Cell NoSlot)) → p ≡ key.root.ptr → q ≡ key.first.ptr → Rooted key.first.ptr key.size 33 cs
     → length ds ≡ key.size → Blank ds → 0 < key.size → key.size < 2 ^ 40 → InBlock q → lawful key.account []
-    → Kept lawful key.root.ptr key.account record { rows = row_at p cs ∷ row_at q ds ∷ []; views = maker (Some key.account) 0 (first_door key.size key.first.ptr) (first_site key.size) ∷ [] }
+    → Kept lawful key.root.ptr key.account record { rows = row_at p cs ∷ row_at q ds ∷ []; views = maker (Some key.account) 0 (first_door key.size key.first.ptr) (first_extent key.size) ∷ [] }
 begins {K = K} lawful key p q cs ds ep eq rooted long blank pos small placed ok = record {
   world = world;
   keyed = refl;
@@ -66,7 +66,7 @@ begins {K = K} lawful key p q cs ds ep eq rooted long blank pos small placed ok 
     words : (k : ℕ) → (cell_in (flat (row_at q ds ∷ [])) k).word ≡ 0
     words k = ap (λ (l : List (Cell NoSlot)). (cell_in l k).word) (append-nil ds) ∙ blank k
 
-    each : (by : ℕ) (v : View K) → get_elem? (maker (Some key.account) 0 (first_door key.size key.first.ptr) (first_site key.size) ∷ []) by ≡ some v → FitsRow world by v
+    each : (by : ℕ) (v : View K) → get_elem? (maker (Some key.account) 0 (first_door key.size key.first.ptr) (first_extent key.size) ∷ []) by ≡ some v → FitsRow world by v
     each zero v e = subst (FitsRow world 0) (some-injective _ _ e) record {
       account = (λ x a. cc);
       begins = ([], refl);
@@ -76,7 +76,7 @@ begins {K = K} lawful key p q cs ds ep eq rooted long blank pos small placed ok 
       had = ([], refl);
       had_own = (λ _ l. absurd (off l));
       stands = (λ _. record { near = omega arith; from = refl; len = sym long; at = eq });
-      site = (λ _. (refl, sym flat_long));
+      extent = (λ _. (refl, sym flat_long));
       plan = (λ _ c. absurd (off c));
     }
     each (suc by) v e = absurd (some-ne-none v (sym e))

@@ -7,7 +7,7 @@ use denote.RawPtr.{Ptr}
 use Rattle.atomic_blocks.specs.Cells.{State, Splits, Joins}
 use Rattle.atomic_table.proofs.Lists.{at_set}
 use Rattle.dt_trail.specs.declared.door.Door.{Door}
-use Rattle.dt_trail.specs.declared.rule.Site.{Site}
+use Rattle.dt_trail.specs.declared.rule.Extent.{Extent}
 use Rattle.dt_trail.specs.declared.rule.View.{View}
 use Rattle.dt_trail.specs.Items.{TrailItem, own, StartsWith}
 use Rattle.dt_trail.specs.Blocks.{BlockLiesAt}
@@ -19,7 +19,7 @@ module _ {K : Type 0} (lawful : K → List TrailItem → Type 0) (root : Ptr) (a
   H = Kept lawful root acct
 
   -- the maker makes a note
-  pub makes : (id : ℕ) (a : Option K) (n : ℕ) (d : Door) (t : Site) → Splits H 0 root id (maker a n d t) (maker a (n + 1) d t) (note a n [] d)
+  pub makes : (id : ℕ) (a : Option K) (n : ℕ) (d : Door) (t : Extent) → Splits H 0 root id (maker a n d t) (maker a (n + 1) d t) (note a n [] d)
   makes id a n d t s h at =
       let f = h.each id (maker a n d t) at in
       let all = f.owns refl in
@@ -44,10 +44,10 @@ module _ {K : Type 0} (lawful : K → List TrailItem → Type 0) (root : Ptr) (a
                 had = g.had;
                 had_own = g.had_own;
                 stands = g.stands;
-                site = g.site;
+                extent = g.extent;
                 plan = g.plan;
               })
-              record { account = f.account; begins = f.begins; live = (λ c. absurd (off c)); owns = f.owns; makes = (λ _. (refl, refl)); had = f.had; had_own = (λ _ l. absurd (off l)); stands = f.stands; site = f.site; plan = f.plan }
+              record { account = f.account; begins = f.begins; live = (λ c. absurd (off c)); owns = f.owns; makes = (λ _. (refl, refl)); had = f.had; had_own = (λ _ l. absurd (off l)); stands = f.stands; extent = f.extent; plan = f.plan }
               record {
                 account = f.account;
                 begins = (h.world.items, refl);
@@ -57,14 +57,14 @@ module _ {K : Type 0} (lawful : K → List TrailItem → Type 0) (root : Ptr) (a
                 had = (h.world.items, refl);
                 had_own = (λ c _. absurd (off c));
                 stands = f.stands;
-                site = (λ c. absurd (off c));
+                extent = (λ c. absurd (off c));
                 plan = (λ c _. absurd (off c));
               };
         },
       )
 
   -- the maker ends, and the owner begins
-  pub opens : (id : ℕ) (a : Option K) (n : ℕ) (d : Door) (t : Site) → Splits H 0 root id (maker a n d t) nobody (owner a [] d t)
+  pub opens : (id : ℕ) (a : Option K) (n : ℕ) (d : Door) (t : Extent) → Splits H 0 root id (maker a n d t) nobody (owner a [] d t)
   opens id a n d t s h at =
       let f = h.each id (maker a n d t) at in
       let all = f.owns refl in
@@ -87,16 +87,16 @@ module _ {K : Type 0} (lawful : K → List TrailItem → Type 0) (root : Ptr) (a
                 had = g.had;
                 had_own = g.had_own;
                 stands = g.stands;
-                site = g.site;
+                extent = g.extent;
                 plan = g.plan;
               })
               (fits_nobody world id)
-              record { account = f.account; begins = f.begins; live = (λ c. absurd (off c)); owns = (λ _. (refl, all.1)); makes = (λ c. absurd (off c)); had = f.had; had_own = (λ _ l. absurd (off l)); stands = f.stands; site = f.site; plan = f.plan };
+              record { account = f.account; begins = f.begins; live = (λ c. absurd (off c)); owns = (λ _. (refl, all.1)); makes = (λ c. absurd (off c)); had = f.had; had_own = (λ _ l. absurd (off l)); stands = f.stands; extent = f.extent; plan = f.plan };
         },
       )
 
   -- the owner's right goes into a note
-  pub lends : (id : ℕ) (a : Option K) (n : ℕ) (ks : List TrailItem) (d : Door) (other : ℕ) (xs : List TrailItem) (d' : Door) (t : Site) → Joins H 0 root id (note a n ks d) other (owner a xs d' t) (appender a n ks xs d' t) nobody
+  pub lends : (id : ℕ) (a : Option K) (n : ℕ) (ks : List TrailItem) (d : Door) (other : ℕ) (xs : List TrailItem) (d' : Door) (t : Extent) → Joins H 0 root id (note a n ks d) other (owner a xs d' t) (appender a n ks xs d' t) nobody
   lends id a n ks d other xs d' t s h = (in_root lawful root acct s h 0 (omega arith), kept)
     where
       v : View K
@@ -134,7 +134,7 @@ module _ {K : Type 0} (lawful : K → List TrailItem → Type 0) (root : Ptr) (a
                   had = f.begins;
                   had_own = (λ _ _. live.2);
                   stands = g.stands;
-                  site = g.site;
+                  extent = g.extent;
                   plan = g.plan;
                 })
                 (λ (x : (j ≢ id) × (get_elem? s.views j ≡ some u)). let k = h.each j u x.1 in record {
@@ -146,7 +146,7 @@ module _ {K : Type 0} (lawful : K → List TrailItem → Type 0) (root : Ptr) (a
                   had = k.had;
                   had_own = k.had_own;
                   stands = k.stands;
-                  site = k.site;
+                  extent = k.extent;
                   plan = k.plan;
                 })
                 (at_set s.views id j w u e))
@@ -154,7 +154,7 @@ module _ {K : Type 0} (lawful : K → List TrailItem → Type 0) (root : Ptr) (a
           }
 
   -- and out again
-  pub returns_right : (id : ℕ) (a : Option K) (n : ℕ) (had ks : List TrailItem) (d : Door) (t : Site) → Splits H 0 root id (appender a n had ks d t) (note a n ks d) (owner a ks d t)
+  pub returns_right : (id : ℕ) (a : Option K) (n : ℕ) (had ks : List TrailItem) (d : Door) (t : Extent) → Splits H 0 root id (appender a n had ks d t) (note a n ks d) (owner a ks d t)
   returns_right id a n had ks d t s h at =
       let f = h.each id (appender a n had ks d t) at in
       let whole = f.owns refl in
@@ -177,11 +177,11 @@ module _ {K : Type 0} (lawful : K → List TrailItem → Type 0) (root : Ptr) (a
                 had = g.had;
                 had_own = g.had_own;
                 stands = g.stands;
-                site = g.site;
+                extent = g.extent;
                 plan = g.plan;
               })
-              record { account = f.account; begins = f.begins; live = f.live; owns = (λ c. absurd (off c)); makes = (λ c. absurd (off c)); had = (h.world.items, refl); had_own = (λ c _. absurd (off c)); stands = f.stands; site = (λ c. absurd (off c)); plan = (λ c _. absurd (off c)) }
-              record { account = f.account; begins = f.begins; live = (λ c. absurd (off c)); owns = (λ _. (refl, whole.1)); makes = (λ c. absurd (off c)); had = (h.world.items, refl); had_own = (λ _ l. absurd (off l)); stands = f.stands; site = f.site; plan = f.plan };
+              record { account = f.account; begins = f.begins; live = f.live; owns = (λ c. absurd (off c)); makes = (λ c. absurd (off c)); had = (h.world.items, refl); had_own = (λ c _. absurd (off c)); stands = f.stands; extent = (λ c. absurd (off c)); plan = (λ c _. absurd (off c)) }
+              record { account = f.account; begins = f.begins; live = (λ c. absurd (off c)); owns = (λ _. (refl, whole.1)); makes = (λ c. absurd (off c)); had = (h.world.items, refl); had_own = (λ _ l. absurd (off l)); stands = f.stands; extent = f.extent; plan = f.plan };
         },
       )
 
@@ -195,7 +195,7 @@ module _ {K : Type 0} (lawful : K → List TrailItem → Type 0) (root : Ptr) (a
     had = (w.items, refl);
     had_own = (λ c _. absurd (off c));
     stands = f.stands;
-    site = (λ c. absurd (off c));
+    extent = (λ c. absurd (off c));
     plan = (λ c _. absurd (off c));
   }
 
@@ -224,7 +224,7 @@ module _ {K : Type 0} (lawful : K → List TrailItem → Type 0) (root : Ptr) (a
     had = begins;
     had_own = (λ o _. not_mine o);
     stands = by_door (is_longer v u);
-    site = not_mine;
+    extent = not_mine;
     plan = (λ o _. not_mine o);
   }
     where

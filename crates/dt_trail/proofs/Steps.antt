@@ -6,7 +6,7 @@ use lib.ListN.{get_elem?}
 use denote.RawPtr.{Ptr, InBlock}
 use Rattle.atomic_blocks.specs.Cells.{Row, State, Step, step, no_row, row, cell_in, word_of, link_of, with_word, Goes, Allows, AllowsLink}
 use Rattle.dt_trail.specs.declared.door.Door.{Door}
-use Rattle.dt_trail.specs.declared.rule.Site.{Site}
+use Rattle.dt_trail.specs.declared.rule.Extent.{Extent}
 use Rattle.dt_trail.specs.declared.rule.View.{View}
 use Rattle.dt_trail.specs.Items.{TrailItem, code, IsReal, AllReal, own, code_at, StartsWith, longer, IsWordAt}
 use Rattle.dt_trail.specs.Blocks.{flat, before, BlockLiesAt}
@@ -73,7 +73,7 @@ module _ {K : Type 0} (lawful : K → List TrailItem → Type 0) (root : Ptr) (a
             had = f.had;
             had_own = f.had_own;
             stands = f.stands;
-            site = f.site;
+            extent = f.extent;
             plan = f.plan;
           }) (
             legal_begun lawful root acct s h id v w.knows f next,
@@ -133,7 +133,7 @@ module _ {K : Type 0} (lawful : K → List TrailItem → Type 0) (root : Ptr) (a
             had = f.had;
             had_own = f.had_own;
             stands = (λ _. record { near = omega arith; from = sym from_is; len = found_is; at = refl });
-            site = f.site;
+            extent = f.extent;
             plan = f.plan;
           }) (
             legal_begun lawful root acct s h id v v.knows f f.begins,
@@ -146,7 +146,7 @@ module _ {K : Type 0} (lawful : K → List TrailItem → Type 0) (root : Ptr) (a
           quiet lawful root acct s h 0 i id m v (IsTurned lawful st0 m found) (fits_again lawful root acct s h id v f) (
             legal_begun lawful root acct s h id v v.knows f f.begins,
             subst (λ b. MatchBool b (IsLast m m) (Next v)) (sym (eq-eqb found 0 empty))
-                (refl, (λ o. (f.site o).1 ∙ whole), known),
+                (refl, (λ o. (f.extent o).1 ∙ whole), known),
           )
         where
           whole : length (flat h.world.blocks) ≡ m.view.door.from + m.view.door.len
@@ -175,7 +175,7 @@ module _ {K : Type 0} (lawful : K → List TrailItem → Type 0) (root : Ptr) (a
               had = f.had;
               had_own = f.had_own;
               stands = (λ _. record { near = h.laid.some; from = sym (before_first bs); len = found_is; at = refl });
-              site = f.site;
+              extent = f.extent;
               plan = f.plan;
             })
             ((row bs 0).at, pl.1, subst (λ (n : ℕ). 0 < n) (sym found_is) pl.2, subst (λ (n : ℕ). n < 2 ^ 40) (sym found_is) pl.3, refl),
@@ -209,7 +209,7 @@ module _ {K : Type 0} (lawful : K → List TrailItem → Type 0) (root : Ptr) (a
       )
 
   -- a note that has the owner's right compares
-  pub compares : (id : ℕ) (a : Option K) (n : ℕ) (had ks : List TrailItem) (d : Door) (t : Site) (m : Turn K) → m.view ≡ appender a n had ks d t → Allows H id m 0 root 0 (λ x. x) (HasCompared (step 0 root 0 0 0) m)
+  pub compares : (id : ℕ) (a : Option K) (n : ℕ) (had ks : List TrailItem) (d : Door) (t : Extent) (m : Turn K) → m.view ≡ appender a n had ks d t → Allows H id m 0 root 0 (λ x. x) (HasCompared (step 0 root 0 0 0) m)
   compares id a n had ks d t m e s h at =
       let f = h.each id m.view at in
       let own_is = f.had_own (ap (λ (v : View K). v.owns) e) (ap (λ (v : View K). v.live) e) in
@@ -252,7 +252,7 @@ module _ {K : Type 0} (lawful : K → List TrailItem → Type 0) (root : Ptr) (a
             had = (items, refl);
             had_own = (λ o _. not_mine o);
             stands = f.stands;
-            site = not_mine;
+            extent = not_mine;
             plan = (λ o _. not_mine o);
           }) (
             legal_begun lawful root acct s h id v w.knows f all.0,

@@ -9,11 +9,11 @@ use denote.RawPtr.{Ptr, null_ptr, InBlock}
 use Rattle.atomic_blocks.specs.Cells.{Cell, Row, State, step, cell, row_at, no_row, row, cell_in, word_of, link_of, home_of, with_word, with_link, keeps, lays, Allows, AllowsLink}
 use Rattle.atomic_blocks.proofs.After.{row_before, row_last}
 use Rattle.dt_trail.specs.declared.door.Door.{Door}
-use Rattle.dt_trail.specs.declared.rule.Site.{Site}
+use Rattle.dt_trail.specs.declared.rule.Extent.{Extent}
 use Rattle.dt_trail.specs.declared.rule.View.{View}
 use Rattle.dt_trail.specs.Items.{TrailItem, own, StartsWith}
 use Rattle.dt_trail.specs.Blocks.{flat, Laid, BlockLiesAt}
-use Rattle.dt_trail.specs.Rule.{NoSlot, RowWorld, FitsRow, Kept, Turn, site_of, wider, planned_at, HadAll, IsPlanned, IsLaid}
+use Rattle.dt_trail.specs.Rule.{NoSlot, RowWorld, FitsRow, Kept, Turn, extent_of, wider, planned_at, HadAll, IsPlanned, IsLaid}
 use Rattle.dt_trail.proofs.Flats.{flat_push, before_push, words_more}
 use Rattle.dt_trail.proofs.Fitting.{off, fits_set, root_is, in_root}
 
@@ -25,7 +25,7 @@ module _ {K : Type 0} (lawful : K → List TrailItem → Type 0) (root : Ptr) (a
   H = Kept lawful root acct
 
   -- the place of the next block is written into the root
-  pub plans : (id : ℕ) (m : Turn K) (i : ℕ) (q : Ptr) → m.view.owns ≡ true → i ≡ m.view.site.blocks → i < 32
+  pub plans : (id : ℕ) (m : Turn K) (i : ℕ) (q : Ptr) → m.view.owns ≡ true → i ≡ m.view.extent.blocks → i < 32
       → AllowsLink H id m 0 root i (λ _. q) (λ _. IsPlanned 0 i m q)
   plans id m i q owns ei few s h at = (in_root lawful root acct s h i (omega arith), (w, keeps, tt, kept, refl))
     where
@@ -39,7 +39,7 @@ module _ {K : Type 0} (lawful : K → List TrailItem → Type 0) (root : Ptr) (a
       f = h.each id m.view at
 
       count_is : i ≡ length h.world.blocks
-      count_is = ei ∙ (f.site owns).0
+      count_is = ei ∙ (f.extent owns).0
 
       c : Cell NoSlot
       c = cell (word_of s.rows 0 i) q (home_of s.rows 0 i)
@@ -81,7 +81,7 @@ module _ {K : Type 0} (lawful : K → List TrailItem → Type 0) (root : Ptr) (a
         had = g.had;
         had_own = g.had_own;
         stands = g.stands;
-        site = g.site;
+        extent = g.extent;
         plan = (λ o _. absurd (apart (sym (g.owns o).0 ∙ (f.owns owns).0)));
       }
 
@@ -101,16 +101,16 @@ module _ {K : Type 0} (lawful : K → List TrailItem → Type 0) (root : Ptr) (a
           had = f.had;
           had_own = f.had_own;
           stands = f.stands;
-          site = f.site;
+          extent = f.extent;
           plan = (λ _ _. ap (λ (z : ℕ). (cell_in base.cells z).link) (sym ei) ∙ ap (λ (y : Cell NoSlot). y.link) (get_or-set_same h.world.base.cells i c cell_none near));
         };
       }
 
   -- the block is set
-  pub widens : (id : ℕ) (blocks total : ℕ) (m : Turn K) (i size : ℕ) (q : Ptr) (cs : List (Cell NoSlot)) → m.view.owns ≡ true → m.view.site ≡ site_of blocks total true q → m.spare ≡ Some (row_at q cs)
+  pub widens : (id : ℕ) (blocks total : ℕ) (m : Turn K) (i size : ℕ) (q : Ptr) (cs : List (Cell NoSlot)) → m.view.owns ≡ true → m.view.extent ≡ extent_of blocks total true q → m.spare ≡ Some (row_at q cs)
       → i ≡ blocks → i < 32 → length cs ≡ size → 0 < size → size < 2 ^ 40 → InBlock q → ((k : ℕ) → (cell_in cs k).word ≡ 0) → total + size < 2 ^ 60
       → Allows H id m 0 root i (λ _. size) (λ _. IsLaid (step 0 root i size 0) m size)
-  widens id blocks total m i size q cs owns site_is carried ei few long pos small placed empty room s h at = (in_root lawful root acct s h i (omega arith), λ _. (w, lays x, carried, kept, (refl, had)))
+  widens id blocks total m i size q cs owns extent_is carried ei few long pos small placed empty room s h at = (in_root lawful root acct s h i (omega arith), λ _. (w, lays x, carried, kept, (refl, had)))
     where
       w : View K
       w = wider m.view size
@@ -125,7 +125,7 @@ module _ {K : Type 0} (lawful : K → List TrailItem → Type 0) (root : Ptr) (a
       bs = h.world.blocks
 
       count_is : i ≡ length h.world.blocks
-      count_is = ei ∙ (sym (ap (λ (u : Site). u.blocks) site_is) ∙ (f.site owns).0)
+      count_is = ei ∙ (sym (ap (λ (u : Extent). u.blocks) extent_is) ∙ (f.extent owns).0)
 
       c : Cell NoSlot
       c = cell size (link_of s.rows 0 i) (home_of s.rows 0 i)
@@ -156,8 +156,8 @@ module _ {K : Type 0} (lawful : K → List TrailItem → Type 0) (root : Ptr) (a
 
       link_here : link_of s.rows 0 i ≡ q
       link_here = ap (λ (r : Row NoSlot). (cell_in r.cells i).link) (root_is lawful root acct s h)
-          ∙ (ap (λ (z : ℕ). (cell_in h.world.base.cells z).link) (ei ∙ sym (ap (λ (u : Site). u.blocks) site_is))
-          ∙ (f.plan owns (ap (λ (u : Site). u.planned) site_is) ∙ ap (λ (u : Site). u.plan.ptr) site_is))
+          ∙ (ap (λ (z : ℕ). (cell_in h.world.base.cells z).link) (ei ∙ sym (ap (λ (u : Extent). u.blocks) extent_is))
+          ∙ (f.plan owns (ap (λ (u : Extent). u.planned) extent_is) ∙ ap (λ (u : Extent). u.plan.ptr) extent_is))
 
       here : cell_in base.cells i ≡ c
       here = get_or-set_same h.world.base.cells i c cell_none near
@@ -169,7 +169,7 @@ module _ {K : Type 0} (lawful : K → List TrailItem → Type 0) (root : Ptr) (a
       long_new = ap length (flat_push bs x) ∙ (length-append (flat bs) cs ∙ ap (λ (z : ℕ). length (flat bs) + z) long)
 
       total_is : total ≡ length (flat bs)
-      total_is = sym (ap (λ (u : Site). u.cells) site_is) ∙ (f.site owns).1
+      total_is = sym (ap (λ (u : Extent). u.cells) extent_is) ∙ (f.extent owns).1
 
       laid : Laid root base new
       laid = record {
@@ -211,7 +211,7 @@ module _ {K : Type 0} (lawful : K → List TrailItem → Type 0) (root : Ptr) (a
         had = g.had;
         had_own = g.had_own;
         stands = (λ p. stands_more u.door (g.stands p));
-        site = (λ o. absurd (apart (sym (g.owns o).0 ∙ (f.owns owns).0)));
+        extent = (λ o. absurd (apart (sym (g.owns o).0 ∙ (f.owns owns).0)));
         plan = (λ o _. absurd (apart (sym (g.owns o).0 ∙ (f.owns owns).0)));
       }
 
@@ -236,7 +236,7 @@ module _ {K : Type 0} (lawful : K → List TrailItem → Type 0) (root : Ptr) (a
           had = f.had;
           had_own = f.had_own;
           stands = (λ p. stands_more m.view.door (f.stands p));
-          site = (λ o. let g = f.site owns in ((let a = g.0 in let b = count_new in let c' = count_is in omega arith), (let a = g.1 in let b = long_new in omega arith)));
+          extent = (λ o. let g = f.extent owns in ((let a = g.0 in let b = count_new in let c' = count_is in omega arith), (let a = g.1 in let b = long_new in omega arith)));
           plan = (λ _ c'. absurd (off c'));
         };
       }

@@ -7,7 +7,7 @@ use Rattle.std.specs.declared.alloc.Global.{Global}
 use Rattle.dt_trail.specs.declared.door.Door.{Door}
 use Rattle.dt_trail.specs.declared.rule.View.{View}
 use Rattle.dt_trail.specs.declared.inner.Inner.{Inner}
-use Rattle.dt_trail.specs.Rule.{NoSlot, note, appender, owner, claim, site_of, Turn}
+use Rattle.dt_trail.specs.Rule.{NoSlot, note, appender, owner, claim, extent_of, Turn}
 use Rattle.dt_trail.specs.declared.law.Named.{Named}
 use Rattle.dt_trail.specs.Limits.{block_bound, widenings}
 use Rattle.dt_trail.specs.Items.{TrailItem}
@@ -43,13 +43,13 @@ module _ {K A : Type 0} where
   Note s = s.me ≡ me (note s.me.view.account s.me.view.note s.me.view.knows s.me.view.door) None None
 
   abbrev pub Appender : RowSeat K A → Type 0
-  Appender s = s.me ≡ me (appender s.me.view.account s.me.view.note s.me.view.had s.me.view.knows s.me.view.door s.me.view.site) None None
+  Appender s = s.me ≡ me (appender s.me.view.account s.me.view.note s.me.view.had s.me.view.knows s.me.view.door s.me.view.extent) None None
 
   abbrev pub Claim : RowSeat K A → Type 0
   Claim s = s.me ≡ me (claim s.me.view.account s.me.view.knows s.me.view.door) None None
 
   abbrev pub Owner : RowSeat K A → Type 0
-  Owner s = s.me ≡ me (owner s.me.view.account s.me.view.knows s.me.view.door s.me.view.site) None None
+  Owner s = s.me ≡ me (owner s.me.view.account s.me.view.knows s.me.view.door s.me.view.extent) None None
 
 abbrev pub id_of : {K A : Type 0} → Option (RowSeat K A) → ℕ
 id_of (Some s) = s.id
@@ -69,7 +69,7 @@ module _ {K L : Type 0} where
 
   -- the owner's right, when the row was widened so often
   abbrev pub right : Inner K L → List TrailItem → Door → ℕ → ℕ → Turn K
-  right i knows d widened cells = me (owner (Some i.about.account) knows d (site_of (widened + 1) cells false null_ptr)) None None
+  right i knows d widened cells = me (owner (Some i.about.account) knows d (extent_of (widened + 1) cells false null_ptr)) None None
 
   abbrev pub owner_known : Inner K L → Option (RowSeat K Global) → ℕ → ℕ → Known K
   owner_known i s cells widened = known_row (row_of i) (knows_of s) cells widened

@@ -6,7 +6,7 @@ use denote.RawPtr.{Ptr, null_ptr, InBlock}
 use Rattle.atomic_blocks.specs.Cells.{Cell, Row, State, Step, Me, me, cell_in}
 use Rattle.atomic_blocks.specs.declared.rows.loose.Link.{Link}
 use Rattle.dt_trail.specs.declared.door.Door.{Door}
-use Rattle.dt_trail.specs.declared.rule.Site.{Site}
+use Rattle.dt_trail.specs.declared.rule.Extent.{Extent}
 use Rattle.dt_trail.specs.declared.rule.View.{View}
 use Rattle.dt_trail.specs.Items.{TrailItem, whose, code, IsReal, AllReal, own, code_at, StartsWith, longer, IsWordAt}
 use Rattle.dt_trail.specs.Blocks.{flat, Laid, BlockLiesAt}
@@ -23,17 +23,17 @@ door_at b from len p = record { block = b; from = from; len = len; link = link_a
 abbrev pub no_door : Door
 no_door = door_at 0 0 0 null_ptr
 
-abbrev pub site_of : ℕ → ℕ → Bool → Ptr → Site
-site_of blocks cells planned p = record { blocks = blocks; cells = cells; planned = planned; plan = link_at p }
+abbrev pub extent_of : ℕ → ℕ → Bool → Ptr → Extent
+extent_of blocks cells planned p = record { blocks = blocks; cells = cells; planned = planned; plan = link_at p }
 
-abbrev pub no_site : Site
-no_site = site_of 0 0 false null_ptr
+abbrev pub no_extent : Extent
+no_extent = extent_of 0 0 false null_ptr
 
 abbrev pub first_door : ℕ → Ptr → Door
 first_door size p = door_at 0 0 size p
 
-abbrev pub first_site : ℕ → Site
-first_site size = site_of 1 size false null_ptr
+abbrev pub first_extent : ℕ → Extent
+first_extent size = extent_of 1 size false null_ptr
 
 -- what the rule speaks of: the root and the blocks, the items, the seat of each note and of the owner, and how many notes there are
 pub record RowWorld (K : Type 0) : Type 0 where
@@ -56,48 +56,48 @@ abbrev pub Turn : Type 0 → Type 0
 Turn K = Me NoSlot (View K)
 
 module _ {K : Type 0} where
-  abbrev pub viewed : Option K → Bool → Bool → Bool → ℕ → List TrailItem → List TrailItem → Door → Site → View K
-  viewed a live owns makes n knows had d t = record { account = a; live = live; owns = owns; makes = makes; note = n; knows = knows; had = had; door = d; site = t }
+  abbrev pub viewed : Option K → Bool → Bool → Bool → ℕ → List TrailItem → List TrailItem → Door → Extent → View K
+  viewed a live owns makes n knows had d t = record { account = a; live = live; owns = owns; makes = makes; note = n; knows = knows; had = had; door = d; extent = t }
 
   -- a note's view
   abbrev pub note : Option K → ℕ → List TrailItem → Door → View K
-  note a n knows d = viewed a true false false n knows [] d no_site
+  note a n knows d = viewed a true false false n knows [] d no_extent
 
   -- the view of a note that has the owner's right
-  abbrev pub appender : Option K → ℕ → List TrailItem → List TrailItem → Door → Site → View K
+  abbrev pub appender : Option K → ℕ → List TrailItem → List TrailItem → Door → Extent → View K
   appender a n had knows d t = viewed a true true false n knows had d t
 
-  abbrev pub owner : Option K → List TrailItem → Door → Site → View K
+  abbrev pub owner : Option K → List TrailItem → Door → Extent → View K
   owner a knows d t = viewed a false true false 0 knows [] d t
 
   -- the owner of an empty row, of which this many notes were made
-  abbrev pub maker : Option K → ℕ → Door → Site → View K
+  abbrev pub maker : Option K → ℕ → Door → Extent → View K
   maker a n d t = viewed a false true true n [] [] d t
 
   abbrev pub nobody : View K
-  nobody = viewed None false false false 0 [] [] no_door no_site
+  nobody = viewed None false false false 0 [] [] no_door no_extent
 
   abbrev pub maker_after : View K → View K
-  maker_after v = maker v.account (v.note + 1) v.door v.site
+  maker_after v = maker v.account (v.note + 1) v.door v.extent
 
   abbrev pub made : View K → View K
   made v = note v.account v.note [] v.door
 
   abbrev pub with_right : View K → View K → View K
-  with_right v w = viewed v.account v.live w.owns false v.note w.knows v.knows w.door w.site
+  with_right v w = viewed v.account v.live w.owns false v.note w.knows v.knows w.door w.extent
 
   abbrev pub without_right : View K → View K
   without_right v = note v.account v.note v.knows v.door
 
   abbrev pub right_of : View K → View K
-  right_of v = owner v.account v.knows v.door v.site
+  right_of v = owner v.account v.knows v.door v.extent
 
   abbrev pub row_ended : View K → View K
   row_ended v = nobody
 
   -- the view, with another door
   abbrev pub through : View K → Door → View K
-  through v d = viewed v.account v.live v.owns v.makes v.note v.knows v.had d v.site
+  through v d = viewed v.account v.live v.owns v.makes v.note v.knows v.had d v.extent
 
   -- each view is a beginning of the row; a note's has all of the row that is its own; one seat at most is the owner's, and knows the whole row
   pub record FitsRow (w : RowWorld K) (by : ℕ) (v : View K) : Type 0 where
@@ -109,8 +109,8 @@ module _ {K : Type 0} where
     pub had : StartsWith w.items v.had
     pub had_own : v.owns ≡ true → v.live ≡ true → own v.note w.items ≡ own v.note v.had
     pub stands : 0 < v.door.len → BlockLiesAt w.blocks v.door
-    pub site : v.owns ≡ true → (v.site.blocks ≡ length w.blocks) × (v.site.cells ≡ length (flat w.blocks))
-    pub plan : v.owns ≡ true → v.site.planned ≡ true → (cell_in w.base.cells v.site.blocks).link ≡ v.site.plan.ptr
+    pub extent : v.owns ≡ true → (v.extent.blocks ≡ length w.blocks) × (v.extent.cells ≡ length (flat w.blocks))
+    pub plan : v.owns ≡ true → v.extent.planned ≡ true → (cell_in w.base.cells v.extent.blocks).link ≡ v.extent.plan.ptr
 
   abbrev pub FitsEach : RowWorld K → List (View K) → Type 0
   FitsEach w views = (by : ℕ) (v : View K) → get_elem? views by ≡ some v → FitsRow w by v
@@ -132,11 +132,11 @@ module _ {K : Type 0} where
 
   -- the view, once it knows one item more
   abbrev pub pushed : View K → TrailItem → View K
-  pushed v item = viewed v.account v.live v.owns v.makes v.note (v.knows ++ item ∷ []) v.had v.door v.site
+  pushed v item = viewed v.account v.live v.owns v.makes v.note (v.knows ++ item ∷ []) v.had v.door v.extent
 
   -- the same, of a note that has the owner's right
   abbrev pub appended : View K → TrailItem → View K
-  appended v item = viewed v.account v.live v.owns v.makes v.note (v.knows ++ item ∷ []) (v.knows ++ item ∷ []) v.door v.site
+  appended v item = viewed v.account v.live v.owns v.makes v.note (v.knows ++ item ∷ []) (v.knows ++ item ∷ []) v.door v.extent
 
   -- the cell of the first item that is not known was set to it
   abbrev pub IsSet : TrailItem → Step → Turn K → ℕ → Turn K → Type 0
@@ -166,7 +166,7 @@ module _ {K : Type 0} where
 
   -- the seat's door leads to the last block: nothing that it knows lies behind
   abbrev pub IsLast : Turn K → Turn K → Type 0
-  IsLast m n = (n ≡ m) × (m.view.owns ≡ true → m.view.site.cells ≡ m.view.door.from + m.view.door.len) × (length m.view.knows ≤ m.view.door.from + m.view.door.len)
+  IsLast m n = (n ≡ m) × (m.view.owns ≡ true → m.view.extent.cells ≡ m.view.door.from + m.view.door.len) × (length m.view.knows ≤ m.view.door.from + m.view.door.len)
 
   -- there is no further block yet, or it has so many cells, and lies somewhere
   abbrev pub IsTurned : (K → List TrailItem → Type 0) → Step → Turn K → ℕ → Turn K → Type 0
@@ -187,20 +187,20 @@ module _ {K : Type 0} where
   IsFoundAgain st m found n = (n ≡ m) × IsWordAt m.view.knows (m.view.door.from + st.index) found
 
   abbrev pub planned_at : View K → Ptr → View K
-  planned_at v p = viewed v.account v.live v.owns v.makes v.note v.knows v.had v.door (site_of v.site.blocks v.site.cells true p)
+  planned_at v p = viewed v.account v.live v.owns v.makes v.note v.knows v.had v.door (extent_of v.extent.blocks v.extent.cells true p)
 
   abbrev pub IsPlanned : ℕ → ℕ → Turn K → Ptr → Turn K → Type 0
   IsPlanned k i m q n = n ≡ reviewed m (planned_at m.view q)
 
   abbrev pub wider : View K → ℕ → View K
-  wider v size = viewed v.account v.live v.owns v.makes v.note v.knows v.had v.door (site_of (v.site.blocks + 1) (v.site.cells + size) false null_ptr)
+  wider v size = viewed v.account v.live v.owns v.makes v.note v.knows v.had v.door (extent_of (v.extent.blocks + 1) (v.extent.cells + size) false null_ptr)
 
   abbrev pub IsLaid : Step → Turn K → ℕ → Turn K → Type 0
   IsLaid st m found n = (n ≡ me (wider m.view st.first) m.hand None) × (m.view.live ≡ true → HadAll m.view)
 
   -- a seat that knows a beginning, and no more
   abbrev pub claim : Option K → List TrailItem → Door → View K
-  claim a knows d = viewed a false false false 0 knows [] d no_site
+  claim a knows d = viewed a false false false 0 knows [] d no_extent
 
   abbrev pub claim_of : View K → View K
   claim_of v = claim v.account v.knows v.door
@@ -210,11 +210,11 @@ module _ {K : Type 0} where
 
   -- the view, with what was told beside what it knows, and with the door of the longer of the two
   abbrev pub informed : View K → View K → View K
-  informed v w = viewed v.account v.live v.owns v.makes v.note v.knows w.knows (cond (is_longer v w) w.door v.door) v.site
+  informed v w = viewed v.account v.live v.owns v.makes v.note v.knows w.knows (cond (is_longer v w) w.door v.door) v.extent
 
   -- the view, once it knows the longer of the two
   abbrev pub learnt : View K → View K
-  learnt v = viewed v.account v.live v.owns v.makes v.note (longer v.knows v.had) [] v.door v.site
+  learnt v = viewed v.account v.live v.owns v.makes v.note (longer v.knows v.had) [] v.door v.extent
 
   -- the longer of the two begins with both, and has no more items of the note's own
   abbrev pub HasLearnt : (K → List TrailItem → Type 0) → Step → Turn K → ℕ → Turn K → Type 0

@@ -5,7 +5,7 @@ ghost use Rattle.atomic_blocks.specs.Cells.{me, AllHome};
 ghost use Rattle.dt_trail.specs.Blocks.{Blank};
 ghost use Rattle.dt_trail.specs.Limits.{block_bound};
 ghost use Rattle.dt_trail.specs.Items.{whose, own, StartsWith};
-ghost use Rattle.dt_trail.specs.Rule.{note, owner, appender, FindsItem, site_of, through, reviewed, claim_of, learnt, informed, wider, HadAll};
+ghost use Rattle.dt_trail.specs.Rule.{note, owner, appender, FindsItem, extent_of, through, reviewed, claim_of, learnt, informed, wider, HadAll};
 ghost use Rattle.dt_trail.specs.Insides.{OfRow, SameSeat, IsDoor, IsDoorAt, Owner, Note, Appender, Claim};
 
 use crate::door::Door;
@@ -22,7 +22,7 @@ pub fn turn<K, L: Law<K>>(inner: &Inner<K, L>, seat: &mut RowSeat<K>, door: Door
     requires door { (seat.old.me.view.door ≡ door) × IsDoor door }
     ensures same { SameSeat seat.old seat.new }
     ensures lawful { L.lawful inner.now.about.account seat.new.me.view.knows }
-    ensures next { MatchOption result ((seat.new.me ≡ seat.old.me) × (seat.old.me.view.owns ≡ true → seat.old.me.view.site.cells ≡ door.from + door.len) × (length seat.old.me.view.knows ≤ door.from + door.len)) (λ d. (seat.new.me ≡ reviewed seat.old.me (through seat.old.me.view d)) × IsDoor d × (d.from ≡ door.from + door.len)) }
+    ensures next { MatchOption result ((seat.new.me ≡ seat.old.me) × (seat.old.me.view.owns ≡ true → seat.old.me.view.extent.cells ≡ door.from + door.len) × (length seat.old.me.view.knows ≤ door.from + door.len)) (λ d. (seat.new.me ≡ reviewed seat.old.me (through seat.old.me.view d)) × IsDoor d × (d.from ≡ door.from + door.len)) }
 {
     let next = door.block + 1;
     let root = inner.about.root;
@@ -61,7 +61,7 @@ fn lend<K, L: Law<K>>(inner: &Inner<K, L>, seat: &mut RowSeat<K>, right: RowSeat
     requires seat { OfRow inner.now seat.old × Note seat.old }
     requires right { OfRow inner.now right × Owner right × (right.me.view.account ≡ seat.old.me.view.account) }
     ensures same { SameSeat seat.old seat.new }
-    ensures seat { seat.new.me ≡ me (appender seat.old.me.view.account seat.old.me.view.note seat.old.me.view.knows right.me.view.knows right.me.view.door right.me.view.site) None None }
+    ensures seat { seat.new.me ≡ me (appender seat.old.me.view.account seat.old.me.view.note seat.old.me.view.knows right.me.view.knows right.me.view.door right.me.view.extent) None None }
 {
     let root = inner.about.root;
     inner.rows.join_seat::<Lends>(seat, right, ROOT, root);
@@ -71,7 +71,7 @@ fn lend<K, L: Law<K>>(inner: &Inner<K, L>, seat: &mut RowSeat<K>, right: RowSeat
 fn hand_back<K, L: Law<K>>(inner: &Inner<K, L>, seat: &mut RowSeat<K>) -> RowSeat<K>
     requires { OfRow inner.now seat.old × Appender seat.old }
     ensures seat { SameSeat seat.old seat.new × (seat.new.me ≡ me (note seat.old.me.view.account seat.old.me.view.note seat.old.me.view.knows seat.old.me.view.door) None None) }
-    ensures right { (result.rows ≡ seat.old.rows) × (result.heap ≡ seat.old.heap) × (result.me ≡ me (owner seat.old.me.view.account seat.old.me.view.knows seat.old.me.view.door seat.old.me.view.site) None None) }
+    ensures right { (result.rows ≡ seat.old.rows) × (result.heap ≡ seat.old.heap) × (result.me ≡ me (owner seat.old.me.view.account seat.old.me.view.knows seat.old.me.view.door seat.old.me.view.extent) None None) }
 {
     let root = inner.about.root;
     inner.rows.split_seat::<Lends>(seat, ROOT, root)
@@ -94,7 +94,7 @@ pub fn set_next<P: Picked, K, L: Law<K>>(
     requires item { whose item.now ≡ seat.old.me.view.note }
     requires lawful { (seat.old.me.view.account ≡ Some inner.now.about.account) × L.lawful inner.now.about.account (right.me.view.knows ++ item.now ∷ []) }
     ensures seat { (seat.new.rows ≡ seat.old.rows) × (seat.new.heap ≡ seat.old.heap) × (seat.new.me ≡ me (note seat.old.me.view.account seat.old.me.view.note (right.me.view.knows ++ item.now ∷ []) door) None None) }
-    ensures right { (result.rows ≡ seat.old.rows) × (result.heap ≡ seat.old.heap) × (result.me ≡ me (owner seat.old.me.view.account (right.me.view.knows ++ item.now ∷ []) door right.me.view.site) None None) }
+    ensures right { (result.rows ≡ seat.old.rows) × (result.heap ≡ seat.old.heap) × (result.me ≡ me (owner seat.old.me.view.account (right.me.view.knows ++ item.now ∷ []) door right.me.view.extent) None None) }
     ensures met { StartsWith right.me.view.knows seat.old.me.view.knows × (own seat.old.me.view.note right.me.view.knows ≡ own seat.old.me.view.note seat.old.me.view.knows) }
 {
     lend(inner, seat, right);
@@ -115,7 +115,7 @@ pub fn show_all<K, L: Law<K>>(
     requires seat { OfRow inner.now seat.old × Note seat.old }
     requires right { OfRow inner.now right × Owner right × (right.me.view.account ≡ seat.old.me.view.account) }
     ensures seat { (seat.new.rows ≡ seat.old.rows) × (seat.new.heap ≡ seat.old.heap) × (seat.new.me ≡ me (note seat.old.me.view.account seat.old.me.view.note right.me.view.knows right.me.view.door) None None) }
-    ensures right { (result.rows ≡ seat.old.rows) × (result.heap ≡ seat.old.heap) × (result.me ≡ me (owner seat.old.me.view.account right.me.view.knows right.me.view.door right.me.view.site) None None) }
+    ensures right { (result.rows ≡ seat.old.rows) × (result.heap ≡ seat.old.heap) × (result.me ≡ me (owner seat.old.me.view.account right.me.view.knows right.me.view.door right.me.view.extent) None None) }
     ensures met { StartsWith right.me.view.knows seat.old.me.view.knows × (own seat.old.me.view.note right.me.view.knows ≡ own seat.old.me.view.note seat.old.me.view.knows) }
 {
     lend(inner, seat, right);
@@ -132,7 +132,7 @@ pub fn arrive<K, L: Law<K>>(
 ) -> Door
     requires seat { OfRow inner.now seat.old × (seat.old.me.view.account ≡ Some inner.now.about.account) × (seat.old.me.view.owns ≡ true) }
     requires door { (seat.old.me.view.door ≡ door) × IsDoorAt door count }
-    requires room { count < seat.old.me.view.site.cells }
+    requires room { count < seat.old.me.view.extent.cells }
     ensures same { SameSeat seat.old seat.new }
     ensures view { seat.new.me ≡ reviewed seat.old.me (through seat.old.me.view result) }
     ensures door { IsDoor result × (result.from ≤ count) × (count < result.from + result.len) }
@@ -156,8 +156,8 @@ pub fn lay<K, L: Law<K>>(
     block: Loose<(), Global>,
 )
     requires seat { OfRow inner.now seat.old × (seat.old.me.view.owns ≡ true) × (seat.old.me.spare ≡ None) }
-    requires site { seat.old.me.view.site ≡ site_of blocks seat.old.me.view.site.cells false null_ptr }
-    requires room { (blocks < 32) × (seat.old.me.view.site.cells + cells < 2 ^ 60) }
+    requires extent { seat.old.me.view.extent ≡ extent_of blocks seat.old.me.view.extent.cells false null_ptr }
+    requires room { (blocks < 32) × (seat.old.me.view.extent.cells + cells < 2 ^ 60) }
     requires block { (block.heap ≡ inner.now.rows.heap) × (block.at ≡ link.ptr) × InBlock link.ptr × (block.left ≡ 0) × AllHome block.cells × (length block.cells ≡ cells) × Blank block.cells }
     requires wide { (0 < cells) × (cells < block_bound) }
     ensures same { SameSeat seat.old seat.new }
@@ -186,12 +186,12 @@ pub fn lay_in<K, L: Law<K>>(
 ) -> RowSeat<K>
     requires seat { OfRow inner.now seat.old × Note seat.old }
     requires right { OfRow inner.now right × Owner right × (right.me.view.account ≡ seat.old.me.view.account) }
-    requires site { right.me.view.site ≡ site_of blocks right.me.view.site.cells false null_ptr }
-    requires room { (blocks < 32) × (right.me.view.site.cells + cells < 2 ^ 60) }
+    requires extent { right.me.view.extent ≡ extent_of blocks right.me.view.extent.cells false null_ptr }
+    requires room { (blocks < 32) × (right.me.view.extent.cells + cells < 2 ^ 60) }
     requires block { (block.heap ≡ inner.now.rows.heap) × (block.at ≡ link.ptr) × InBlock link.ptr × (block.left ≡ 0) × AllHome block.cells × (length block.cells ≡ cells) × Blank block.cells }
     requires wide { (0 < cells) × (cells < block_bound) }
     ensures seat { (seat.new.rows ≡ seat.old.rows) × (seat.new.heap ≡ seat.old.heap) × (seat.new.me ≡ me (note seat.old.me.view.account seat.old.me.view.note right.me.view.knows right.me.view.door) None None) }
-    ensures right { (result.rows ≡ seat.old.rows) × (result.heap ≡ seat.old.heap) × (result.me ≡ me (owner seat.old.me.view.account right.me.view.knows right.me.view.door (site_of (blocks + 1) (right.me.view.site.cells + cells) false null_ptr)) None None) }
+    ensures right { (result.rows ≡ seat.old.rows) × (result.heap ≡ seat.old.heap) × (result.me ≡ me (owner seat.old.me.view.account right.me.view.knows right.me.view.door (extent_of (blocks + 1) (right.me.view.extent.cells + cells) false null_ptr)) None None) }
     ensures met { StartsWith right.me.view.knows seat.old.me.view.knows × (own seat.old.me.view.note right.me.view.knows ≡ own seat.old.me.view.note seat.old.me.view.knows) }
 {
     lend(inner, seat, right);

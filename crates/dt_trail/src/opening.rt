@@ -2,7 +2,7 @@
 ghost use Rattle.std.specs.Prelude.{◌≡◌, ◌<◌, ◌+◌, ◌^◌, [], IfOk, OnOk, Some, None};
 ghost use Rattle.std.specs.Arc.{arc_value};
 ghost use Rattle.atomic_blocks.specs.Cells.{me};
-ghost use Rattle.dt_trail.specs.Rule.{maker as maker_view, owner, first_door, first_site};
+ghost use Rattle.dt_trail.specs.Rule.{maker as maker_view, owner, first_door, first_extent};
 ghost use Rattle.dt_trail.specs.Insides.{OfRow, IsDoor, row_of as name_of};
 ghost use Rattle.dt_trail.specs.Known.{noted};
 ghost use Rattle.dt_trail.specs.Limits.{block_bound};
@@ -58,7 +58,7 @@ fn row_of<K: Drop, L: Law<K>>(
     requires wide { (0 < cells) × (cells < block_bound) }
     requires lawful { L.lawful account [] }
     ensures inner { IfOk result (λ t. ((arc_value t.0).about.account ≡ account) × OfRow (arc_value t.0) t.1) }
-    ensures maker { IfOk result (λ t. IsDoor t.2 × (t.2.from ≡ 0) × (t.2.len ≡ cells) × (t.1.me ≡ me (maker_view (Some account) 0 t.2 (first_site cells)) None None)) }
+    ensures maker { IfOk result (λ t. IsDoor t.2 × (t.2.from ≡ 0) × (t.2.len ≡ cells) × (t.1.me ≡ me (maker_view (Some account) 0 t.2 (first_extent cells)) None None)) }
 {
     let (first, block) = storage::block(&alloc, cells)?;
     let Ok((root, base)) = storage::root(&alloc, first, cells) else {
@@ -89,9 +89,9 @@ fn next_note<K: Drop, L: Law<K>>(
     door: Door,
 ) -> Result<TrailNote<K, L>, AllocError>
     requires row { OfRow (arc_value inner.now) maker.old }
-    requires view { maker.old.me ≡ me (maker_view (Some (arc_value inner.now).about.account) maker.old.me.view.note door maker.old.me.view.site) None None }
+    requires view { maker.old.me ≡ me (maker_view (Some (arc_value inner.now).about.account) maker.old.me.view.note door maker.old.me.view.extent) None None }
     requires door { IsDoor door × (door.from ≡ 0) }
-    ensures maker { (maker.new.rows ≡ maker.old.rows) × (maker.new.heap ≡ maker.old.heap) × OnOk result (maker.new.me ≡ me (maker_view (Some (arc_value inner.now).about.account) (maker.old.me.view.note + 1) door maker.old.me.view.site) None None) }
+    ensures maker { (maker.new.rows ≡ maker.old.rows) × (maker.new.heap ≡ maker.old.heap) × OnOk result (maker.new.me ≡ me (maker_view (Some (arc_value inner.now).about.account) (maker.old.me.view.note + 1) door maker.old.me.view.extent) None None) }
     ensures note { IfOk result (λ n. n ≡ noted (name_of (arc_value inner.now)) maker.old.me.view.note []) }
 {
     let mine = Arc::try_clone(inner)?;
@@ -104,9 +104,9 @@ fn next_note<K: Drop, L: Law<K>>(
 // The maker ends, and the owner begins.
 fn end_maker<K, L: Law<K>>(inner: &Inner<K, L>, maker: &mut RowSeat<K>, door: Door) -> RowSeat<K>
     requires row { OfRow inner.now maker.old }
-    requires view { maker.old.me ≡ me (maker_view (Some inner.now.about.account) maker.old.me.view.note door maker.old.me.view.site) None None }
+    requires view { maker.old.me ≡ me (maker_view (Some inner.now.about.account) maker.old.me.view.note door maker.old.me.view.extent) None None }
     ensures row { (result.rows ≡ maker.old.rows) × (result.heap ≡ maker.old.heap) }
-    ensures view { result.me ≡ me (owner (Some inner.now.about.account) [] door maker.old.me.view.site) None None }
+    ensures view { result.me ≡ me (owner (Some inner.now.about.account) [] door maker.old.me.view.extent) None None }
 {
     let root = inner.about.root;
     inner.rows.split_seat::<Opens>(maker, ROOT, root)

@@ -4,7 +4,7 @@ ghost use Rattle.std.specs.Arc.{arc_value};
 ghost use Rattle.atomic_blocks.specs.Cells.{me};
 ghost use Rattle.dt_trail.specs.Insides.{row_of, IsDoor, OfRow};
 ghost use Rattle.dt_trail.specs.Limits.{block_bound, widenings};
-ghost use Rattle.dt_trail.specs.Rule.{owner, first_site};
+ghost use Rattle.dt_trail.specs.Rule.{owner, first_extent};
 
 use crate::door::Door;
 use crate::inner::{Inner, RowSeat};
@@ -70,7 +70,7 @@ impl<K, L: Law<K>> TrailOwner<K, L> {
         width: u64,
     ) -> TrailOwner<K, L>
         requires row { OfRow (arc_value cells) right }
-        requires view { right.me ≡ me (owner (Some (arc_value cells).about.account) [] door (first_site width)) None None }
+        requires view { right.me ≡ me (owner (Some (arc_value cells).about.account) [] door (first_extent width)) None None }
         requires door { IsDoor door × (door.from ≡ 0) × (width < block_bound) }
         ensures { result ≡ known_row (row_of (arc_value cells)) [] width 0 }
     {

@@ -9,7 +9,7 @@ use std::collections::LinkedList;
 use std::marker::{Brand, PhantomData};
 
 // What the owner knows of the blocks: how many there are, with how many cells, and the place of the next, once it stands in the root.
-pub struct Site {
+pub struct Extent {
     pub blocks: u64,
     pub cells: u64,
     pub planned: bool,
@@ -28,7 +28,7 @@ pub struct View<K> {
     pub knows: LinkedList<Item>,
     pub had: LinkedList<Item>,
     pub door: Door,
-    pub site: Site,
+    pub extent: Extent,
 }
 
 /// What is fixed at the start: the root, the first block and its cells, and the account that the law is about.
@@ -45,12 +45,12 @@ pub struct AppendOnly<L> {
 }
 
 impl<K, L: Law<K>> RowRule<(), View<K>, About<K>> for AppendOnly<L> {
-    ghost use Rattle.dt_trail.specs.Rule.{Kept, maker, first_door, first_site};
+    ghost use Rattle.dt_trail.specs.Rule.{Kept, maker, first_door, first_extent};
     ghost use Rattle.std.specs.Prelude.{Some};
 
     ghost holds = { λ about. Kept L.lawful about.root.ptr about.account };
 
-    ghost first = { λ about. maker (Some about.account) 0 (first_door about.size about.first.ptr) (first_site about.size) };
+    ghost first = { λ about. maker (Some about.account) 0 (first_door about.size about.first.ptr) (first_extent about.size) };
 }
 
 /// An item that a call picks: what it appends.

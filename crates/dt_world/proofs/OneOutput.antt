@@ -20,7 +20,7 @@ use Rattle.dt_proto.specs.Reply.{reply_text}
 use Rattle.dt_proto.specs.Splits.{with_newline}
 use Rattle.dt_proto.specs.Trail.{WrittenItem, line_asked, long_asked, IsItemOf, IsLineTold, IsToldFiring, IsTrailOf}
 use Rattle.dt_proto.specs.Trail.{trail_text}
-use Rattle.dt_steps.specs.Ran.{Told, IsReply, AreReplies}
+use Rattle.dt_steps.specs.Ran.{SeatReply, IsReply, AreReplies}
 use Rattle.dt_world.specs.Replay as replay
 use Rattle.dt_world.specs.Replay.{Replayed, IsReplay, IsTrailReplay, IsTrailText, replayed, steps_of_line, steps_from}
 use Rattle.dt_world.specs.Replay.{beginning, told_line}
@@ -125,7 +125,7 @@ module _ (one_reply : (account : Account) (registry : Registry) (life : List Ite
         told_firing_same h.0 firing h.2 k.2 h.5 (subst (λ l. IsToldFiring account registry l firing k.2) life k.5) in
         h.6 ∙ ap (λ before. before ++ h.2) earlier ∙ ap (λ more. k.1 ++ more) new ∙ sym k.6
 
-  same_reply_to : (registry : Registry) (question : Question) (a b : Told) → IsReply registry question a
+  same_reply_to : (registry : Registry) (question : Question) (a b : SeatReply) → IsReply registry question a
       → IsReply registry question b → a ≡ b
   same_reply_to registry question (seat, text) (other, more) h k =
       let seats : seat ≡ other = h.0 ∙ sym k.0 in
@@ -133,7 +133,7 @@ module _ (one_reply : (account : Account) (registry : Registry) (life : List Ite
       let texts : text ≡ more = h.1.2 ∙ ap reply_text answers ∙ sym k.1.2 in
       rw (seats, texts) refl
 
-  same_replies : (registry : Registry) (questions : List Question) (a b : List Told) → AreReplies registry questions a
+  same_replies : (registry : Registry) (questions : List Question) (a b : List SeatReply) → AreReplies registry questions a
       → AreReplies registry questions b → a ≡ b
   same_replies registry [] [] [] h k = refl
   same_replies registry [] [] (y ∷ b) h k = absurd k

@@ -9,7 +9,7 @@ use Rattle.dt_cred.specs.declared.firing.Firing.{Firing}
 use Rattle.dt_proto.specs.Lines.{line_form}
 use Rattle.dt_proto.specs.Trail.{WrittenItem, IsTrailOf, trail_text}
 use Rattle.dt_world.specs.Input.{AreStepLines, input_lines}
-use Rattle.dt_steps.specs.Ran.{Told, AreReplies}
+use Rattle.dt_steps.specs.Ran.{SeatReply, AreReplies}
 use Rattle.dt_world.specs.StepLine.{StepLineForm, open_line, close_line, withdraw_line, ask_line, publish_line}
 use Rattle.dt_world.specs.StepLine.{finish_line, look_line, offer_line, call_line, fire_line}
 use Rattle.dt_steps.specs.Steps.{StepForm, opens, asks, publishes, finishes, withdraws, looks, offers, closes, after_step}
@@ -81,7 +81,7 @@ module _ (contents : Contents) where
   steps_from now (line ∷ forms) = steps_of_line now line ++ steps_from (after_step_line now line) forms
 
 -- the line that is written for a reply: the seat, a blank, the reply
-abbrev pub told_line : Told → List ℕ
+abbrev pub told_line : SeatReply → List ℕ
 told_line told = decimal told.0 ++ (codes " " ++ told.1)
 
 -- the trail of a session; without one there is nothing
@@ -93,7 +93,7 @@ IsTrailText registry session output = MatchOption session (output ≡ [])
 -- What is written for an input on a machine: the replies, each on a line of its own.
 pub record IsReplay (contents : Contents) (text output : List ℕ) : Type 0 where
   pub forms : List StepLineForm
-  pub told : List Told
+  pub told : List SeatReply
   pub lines : AreStepLines contents.registry (input_lines text) forms
   pub replies : AreReplies contents.registry (replayed contents forms).world.questions told
   pub written : output ≡ flat_map told_line told

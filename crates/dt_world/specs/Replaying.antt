@@ -1,9 +1,8 @@
 -- What a replay writes, and why it fails: from the bytes of a machine file and of an input to those that are written.
 use Rattle.std.specs.Prelude.{◌≡◌, ◌≢◌, ℕ, List, Option, Result, IfErr, IfSome, OnOk, take}
 use Rattle.std.specs.Io.KnownBytes.{Appends, Keeps}
-use Rattle.dt_machine.specs.Reading.{IsDescribed, IsFaultOf}
+use Rattle.dt_machine.specs.Reading.{IsDescribed, IsFaultOf, NowhereIfMemory, UnlessMemory}
 use Rattle.dt_machine.specs.Registry.{Contents}
-use Rattle.dt_machine.specs.Sections.{NowhereIfMemory, UnlessMemory}
 use Rattle.dt_machine.specs.declared.fault.MachineFault.{MachineFault}
 use Rattle.dt_world.specs.Faults.{IsOfMachine}
 use Rattle.dt_world.specs.Input.{input_lines, IsRefused}

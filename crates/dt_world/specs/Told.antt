@@ -6,7 +6,7 @@ use Rattle.dt_machine.specs.Registry.{Registry, Contents}
 use Rattle.dt_proto.specs.Lines.{LineForm, short_line, long_line}
 use Rattle.dt_proto.specs.Splits.{with_newline}
 use Rattle.dt_proto.specs.Trail.{fired_at, item_text}
-use Rattle.dt_steps.specs.Ran.{Told as Reply, AreReplies}
+use Rattle.dt_steps.specs.Ran.{SeatReply as Reply, AreReplies}
 use Rattle.dt_world.specs.Replay.{IsReplay, IsTrailReplay, IsTrailText, told_line}
 use Rattle.dt_steps.specs.World.{World, Question, session_of}
 use Rattle.dt_world.specs.declared.output.Output.{Output}

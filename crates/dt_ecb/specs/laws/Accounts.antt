@@ -12,7 +12,7 @@ use Rattle.dt_machine.specs.Registry.{Registry}
 use Rattle.dt_program.specs.Description.{DescForm}
 use Rattle.dt_program.specs.Program.{ClauseForm}
 use Rattle.dt_ecb.specs.Ecbs.{EcbForm, numbered, added, ecbs_of}
-use Rattle.dt_ecb.specs.Enable.{Verdict, enabled, privilege, clash, unmatched, limit, IsFirstSuch}
+use Rattle.dt_ecb.specs.Enable.{EnableVerdict, enabled, privilege, clash, unmatched, limit, IsFirstSuch}
 use Rattle.dt_ecb.specs.Enable.{is_unmatched, may_do_all, is_too_much, is_enabled, IsVerdict}
 use Rattle.dt_ecb.specs.Limits.{ecbs_max, aggregations_max}
 use Rattle.dt_ecb.specs.Matching.{asks_for, traced_process, listed, matched}
@@ -65,7 +65,7 @@ module _ (account : Account) (name : List ℕ) (registry : Registry) where
         && (not (any_clash accepted (uses_of clauses))
         && (not (list_any (is_unmatched account registry) clauses) && not much))) too_much_alike
 
-    pub verdict_renamed : (verdict : Verdict) → IsVerdict other registry accepted epid clauses verdict
+    pub verdict_renamed : (verdict : EnableVerdict) → IsVerdict other registry accepted epid clauses verdict
         → IsVerdict account registry accepted epid clauses verdict
     verdict_renamed (privilege number) h = h
     verdict_renamed (clash word) h = h

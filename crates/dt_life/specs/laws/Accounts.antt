@@ -15,7 +15,7 @@ use Rattle.dt_cred.specs.declared.firing.Firing.{Firing}
 use Rattle.dt_cred.specs.declared.probe.Probe.{Probe as AProbe}
 use Rattle.dt_cred.specs.laws.Accounts.{renamed}
 use Rattle.dt_ecb.specs.Ecbs.{EcbForm, added, of_probe}
-use Rattle.dt_ecb.specs.Enable.{Verdict, IsVerdict, is_enabled}
+use Rattle.dt_ecb.specs.Enable.{EnableVerdict, IsVerdict, is_enabled}
 use Rattle.dt_ecb.specs.Interest.{is_wanted}
 use Rattle.dt_ecb.specs.Shapes.{ShapeForm}
 use Rattle.dt_ecb.specs.laws.Accounts.{ecbs_alike, added_alike, listed_alike, enabled_alike, verdict_renamed}
@@ -246,10 +246,10 @@ module _ (account : Account) (name : List ℕ) (registry : Registry) where
         (λ s. ap drops (given_alike s cpu))))
 
     enabled_too : (late : Bool) (clauses : List ClauseForm) (s : SetUp) (verdict : Option Refusal)
-        → MatchOption (cond late (Some refusal.Busy) None) ((v : Verdict)
+        → MatchOption (cond late (Some refusal.Busy) None) ((v : EnableVerdict)
         × IsVerdict other registry (shapes_in s) (next_epid other registry s) clauses v × (verdict ≡ refusal_of v))
         (λ why. verdict ≡ Some why)
-        → MatchOption (cond late (Some refusal.Busy) None) ((v : Verdict)
+        → MatchOption (cond late (Some refusal.Busy) None) ((v : EnableVerdict)
         × IsVerdict account registry (shapes_in s) (next_epid account registry s) clauses v × (verdict ≡ refusal_of v))
         (λ why. verdict ≡ Some why)
     enabled_too true clauses s verdict h = h
@@ -267,7 +267,7 @@ module _ (account : Account) (name : List ℕ) (registry : Registry) where
         (cond (is_none setting) (Some refusal.Option) None)) (set_up_alike life) h
     verdict_too (enable (program clauses)) verdict h =
         enabled_too (not (is_inactive (phase_of now))) clauses now verdict
-        (subst (λ s. MatchOption (cond (not (is_inactive (phase_of s))) (Some refusal.Busy) None) ((v : Verdict)
+        (subst (λ s. MatchOption (cond (not (is_inactive (phase_of s))) (Some refusal.Busy) None) ((v : EnableVerdict)
         × IsVerdict other registry (shapes_in s) (next_epid other registry s) clauses v × (verdict ≡ refusal_of v))
         (λ why. verdict ≡ Some why)) (set_up_alike life) h)
     verdict_too (enable (fault at why)) verdict h =

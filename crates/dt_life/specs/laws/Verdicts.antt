@@ -16,7 +16,7 @@ use Rattle.dt_lang.specs.declared.fault.Why.{Why}
 use Rattle.dt_lang.specs.declared.word.Destructive.{Destructive}
 use Rattle.dt_record.specs.Layout.{layout_of}
 use Rattle.dt_ecb.specs.Ecbs.{EcbForm}
-use Rattle.dt_ecb.specs.Enable.{Verdict, IsVerdict, is_enabled}
+use Rattle.dt_ecb.specs.Enable.{EnableVerdict, IsVerdict, is_enabled}
 use Rattle.dt_life.specs.Answer.{Answer, described, refused, aggregated}
 use Rattle.dt_life.specs.Ask.{Ask, option, enable, go, stop, snap, describe, agg, trunc, close}
 use Rattle.dt_life.specs.Life.{Item, asked, SetUp, is_active, is_over, is_inactive, is_stopped, is_readable, set_up}
@@ -78,7 +78,7 @@ module _ (account : Account) (registry : Registry) (life : List Item) where
       → IsVerdictOnCommand account registry life (enable reading) (Some Busy)
   enable_busy (program clauses) on =
       let P : Bool → Type 0 = λ b. MatchOption (cond b (Some Busy) None)
-      ((v : Verdict) × IsVerdict account registry (shapes_in now) (next_epid account registry now) clauses v
+      ((v : EnableVerdict) × IsVerdict account registry (shapes_in now) (next_epid account registry now) clauses v
       × (Some Busy ≡ refusal_of v)) (λ refusal. Some Busy ≡ Some refusal) in
       subst P (sym (late on)) refl
   enable_busy (fault at why) on = sym (ap (λ b. cond b (Some Busy) (Some (Program at why))) (late on))
@@ -107,13 +107,13 @@ module _ (account : Account) (registry : Registry) (life : List Item) where
       sym (ap (λ b. cond b (Some Busy) (Some (refusal.Destructive at what))) (early off))
 
   -- a program's verdict is the command's
-  pub program_verdict : (clauses : List ClauseForm) (v : Verdict) → phase account registry life ≡ Inactive
+  pub program_verdict : (clauses : List ClauseForm) (v : EnableVerdict) → phase account registry life ≡ Inactive
       → IsVerdict account registry (shapes_in (set_up account registry life))
       (next_epid account registry now) clauses v
       → IsVerdictOnCommand account registry life (enable (program clauses)) (refusal_of v)
   program_verdict clauses v off is =
       let P : Bool → Type 0 = λ b. MatchOption (cond b (Some Busy) None)
-      ((w : Verdict) × IsVerdict account registry (shapes_in now) (next_epid account registry now) clauses w
+      ((w : EnableVerdict) × IsVerdict account registry (shapes_in now) (next_epid account registry now) clauses w
       × (refusal_of v ≡ refusal_of w)) (λ refusal. refusal_of v ≡ Some refusal) in
       subst P (sym (early off)) (v, is, refl)
 

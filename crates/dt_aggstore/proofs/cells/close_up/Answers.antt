@@ -3,7 +3,7 @@ use Rattle.std.proofs.Common.{◌≡◌, ℕ, List, ◌+◌, ◌-◌, ◌++◌, 
 use Rattle.std.specs.Vec.{vec_capacity}
 use Rattle.std.proofs.lemmas.List.{with_items_is}
 use Rattle.dt_aggstore.proofs.Words.{words_more_at, words_fit_at, close_gone_at, close_kept_at}
-use Rattle.dt_aggstore.specs.Entries.{entries_named, cells_without}
+use Rattle.dt_aggstore.specs.EntryNames.{entries_named, cells_without}
 use Rattle.dt_aggstore.specs.declared.entry_name.EntryName.{EntryName}
 use Rattle.dt_aggstore.specs.declared.key.Aggregation.{Aggregation}
 use Rattle.dt_aggstore.proofs.cells.close_up.Goals as goal

@@ -1,7 +1,7 @@
 -- The cells so far are closed up, and those of the entries left come after.
 use Rattle.std.proofs.Common.{◌≡◌, ◌≤◌, ◌++◌, take, drop, length}
 use Rattle.std.specs.Vec.{vec_capacity}
-use Rattle.dt_aggstore.specs.Entries.{entries_named, words_of, cells_without}
+use Rattle.dt_aggstore.specs.EntryNames.{entries_named, words_of, cells_without}
 use Rattle.dt_aggstore.proofs.cells.close_up.Given as goal
 
 abbrev pub invariant-loop-name : goal.invariant-loop-name

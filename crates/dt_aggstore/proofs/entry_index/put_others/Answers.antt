@@ -3,12 +3,12 @@ use Rattle.std.proofs.Common.{ℕ, length, take, sym, ap, ◌∙◌, subst, refl
 use Rattle.std.specs.Prelude.{Contains}
 use Rattle.std.proofs.lemmas.List.{length_push}
 use Rattle.indexmap.specs.IndexMap.{spare}
-use Rattle.dt_aggstore.specs.Entries.{entry_named, entries_named}
+use Rattle.dt_aggstore.specs.EntryNames.{entry_named, entries_named}
 use Rattle.dt_aggstore.specs.Keys.{without}
 use Rattle.dt_aggstore.specs.declared.entry_name.EntryName.{EntryName}
 use Rattle.dt_aggstore.proofs.Indexing.{put_gone, put_copy, names_more, not_before, words_left}
 use Rattle.std.specs.Map.{keys_of, values_of}
-use Rattle.dt_aggstore.specs.Entries.{words_of}
+use Rattle.dt_aggstore.specs.EntryNames.{words_of}
 use Rattle.dt_aggstore.specs.Indexed.{places_from}
 use Rattle.std.proofs.Common.{HashMap, BuildHasherDefault, FoldHasher}
 use Rattle.dt_aggstore.proofs.entry_index.put_others.Goals as goal

@@ -1,7 +1,7 @@
 -- The entries so far that stay are in the index, each with its place.
 use Rattle.std.proofs.Common.{◌+◌, ◌≤◌, take}
 use Rattle.indexmap.specs.IndexMap.{index_map_len, spare}
-use Rattle.dt_aggstore.specs.Entries.{entries_named}
+use Rattle.dt_aggstore.specs.EntryNames.{entries_named}
 use Rattle.dt_aggstore.proofs.Indexing.{ArePut}
 use Rattle.dt_aggstore.proofs.entry_index.put_others.Given as goal
 

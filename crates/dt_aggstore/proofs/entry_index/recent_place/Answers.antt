@@ -1,7 +1,7 @@
 -- An entry with the name is the one that is looked for.
 use Rattle.std.proofs.Common.{sym, ap, ◌∙◌}
 use Rattle.std.specs.Map.{lookup}
-use Rattle.dt_aggstore.specs.Entries.{entry_named}
+use Rattle.dt_aggstore.specs.EntryNames.{entry_named}
 use Rattle.dt_aggstore.specs.Held.{entry_of}
 use Rattle.dt_aggstore.proofs.Same.{entry_is}
 use Rattle.dt_aggstore.proofs.Indexing.{is_named, tests_alike}

@@ -6,7 +6,7 @@ use Rattle.std.specs.List.{AllZip}
 use Rattle.std.proofs.lemmas.List.{map-append, take_more}
 use Rattle.dt_aggfn.specs.declared.function.AggFn.{AggFn}
 use Rattle.dt_aggfn.specs.Answers.{answer_of_bag}
-use Rattle.dt_aggstore.specs.Entries.{form_of_row}
+use Rattle.dt_aggstore.specs.EntryNames.{form_of_row}
 use Rattle.dt_aggstore.specs.Joining.{key_of, MakesRows}
 use Rattle.dt_aggstore.specs.declared.joining.Joined.{Joined}
 use Rattle.dt_aggstore.specs.declared.table.Row.{Row}

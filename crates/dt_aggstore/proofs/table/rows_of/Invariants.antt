@@ -2,7 +2,7 @@
 use Rattle.std.proofs.Common.{◌<◌, ℤ, List, length, take}
 use Rattle.std.specs.Prelude.{map}
 use Rattle.dt_aggfn.specs.declared.limits.TheConstants.{BAG_LIMIT}
-use Rattle.dt_aggstore.specs.Entries.{form_of_row}
+use Rattle.dt_aggstore.specs.EntryNames.{form_of_row}
 use Rattle.dt_aggstore.specs.Joining.{AreJoined, MakesRows}
 use Rattle.dt_aggstore.proofs.Rising.{Key}
 use Rattle.dt_aggstore.proofs.table.rows_of.Given as goal

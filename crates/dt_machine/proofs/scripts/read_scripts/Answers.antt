@@ -3,9 +3,9 @@ use Rattle.std.proofs.Common.{◌≡◌, ◌∙◌, ap, sym, map, length, subst,
 use Rattle.std.proofs.lemmas.List.{map_push}
 use Rattle.serde_json.specs.View.{view}
 use Rattle.dt_machine.specs.Found.{IsFoundAt, IsFoundIn, IsFoundOfFiring}
-use Rattle.dt_machine.specs.Reading.{AllRight, IsFirstWrong, IsFirstWrongIn}
+use Rattle.dt_machine.specs.Reading.{AllRight, IsFirstWrong, IsFirstWrongIn, UnlessMemory}
 use Rattle.dt_machine.specs.Rows.{FiringRow, firing_row, script_rows, script, IsRightFiring}
-use Rattle.dt_machine.specs.Sections.{UnlessMemory, firing_rows, scripts_rows, registry_of}
+use Rattle.dt_machine.specs.Sections.{firing_rows, scripts_rows, registry_of}
 use Rattle.dt_machine.specs.declared.fault.FaultNumber.TheVariants.{Firing as FiringNumber}
 use Rattle.dt_cred.specs.declared.firing.Firing.{Firing}
 use Rattle.dt_machine.proofs.Exits.{passed_on}

@@ -12,8 +12,8 @@ store-requires g c =
     let r = c.requires in let k = c.args.inner.now in let j = c.lend.ensures in
     let v : View g.row.K.Denot = c.args.seat.now.me.view in
     let w : View g.row.K.Denot = c.args.right.me.view in
-    let is : c.lend.new.seat.me.view ≡ appender v.account v.note v.knows w.knows c.args.door w.site =
-    ap (λ m. m.view) j.seat ∙ ap (λ (d : Door). appender v.account v.note v.knows w.knows d w.site) r.door.0 in
+    let is : c.lend.new.seat.me.view ≡ appender v.account v.note v.knows w.knows c.args.door w.extent =
+    ap (λ m. m.view) j.seat ∙ ap (λ (d : Door). appender v.account v.note v.knows w.knows d w.extent) r.door.0 in
     let x : TrailItem = g.P.Picked.item in
     let ok = subst (λ (q : About g.row.K.Denot × TrailItem). g.L.Law.lawful q.0.account (w.knows ++ q.1 ∷ [])) (λ i. (sym k.keyed.0 i, sym r.picked i)) r.lawful.1 in (
       j.same.0 ∙ r.seat.0.0,

@@ -2,7 +2,7 @@
 use Rattle.std.proofs.Common.{◌≡◌, ℕ, List, zip, sym, ap, ◌∙◌, subst, is_some}
 use Rattle.std.specs.Prelude.{IfSome, IfNone, Contains}
 use Rattle.std.specs.Map.{lookup, keys_of, values_of}
-use Rattle.dt_aggstore.specs.Entries.{entries_named, LiesAt}
+use Rattle.dt_aggstore.specs.EntryNames.{entries_named, LiesAt}
 use Rattle.dt_aggstore.specs.Held.{entry_of}
 use Rattle.dt_aggstore.specs.Indexed.{Indexed, places_from}
 use Rattle.dt_aggstore.specs.Keys.{Entry}

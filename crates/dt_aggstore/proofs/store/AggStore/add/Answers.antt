@@ -11,7 +11,7 @@ use Rattle.dt_aggstore.specs.Indexed.{Indexed}
 use Rattle.dt_aggstore.specs.Keys.{Entry, entry_cost, cost_of}
 use Rattle.dt_aggstore.specs.History.{Past, after, given, contribution_count}
 use Rattle.dt_aggstore.specs.Held.{entry_of, bag}
-use Rattle.dt_aggstore.specs.Entries.{entries_named}
+use Rattle.dt_aggstore.specs.EntryNames.{entries_named}
 use Rattle.dt_aggstore.specs.IsAt.{IsAt, Makes}
 use Rattle.dt_aggstore.specs.declared.limits.TheConstants.{ADDED_LIMIT}
 use Rattle.dt_aggstore.specs.declared.key.Aggregation.{Aggregation}

@@ -6,7 +6,7 @@ use Rattle.std.specs.Map.{keys_of, values_of}
 use Rattle.std.proofs.lemmas.Map.Made.{keys_of-zip}
 use Rattle.dt_aggfn.specs.Cells.{cell_words, cell_of}
 use Rattle.dt_aggstore.specs.Held.{bag}
-use Rattle.dt_aggstore.specs.Entries.{entry_named, entries_named, LiesAt}
+use Rattle.dt_aggstore.specs.EntryNames.{entry_named, entries_named, LiesAt}
 use Rattle.dt_aggstore.specs.Indexed.{places_from}
 use Rattle.dt_aggstore.specs.declared.entry_name.EntryName.{EntryName}
 use Rattle.dt_aggstore.proofs.Indexing.{all_lie, all_also, length-places_from, values_of-zip, names_beside}

@@ -1,7 +1,7 @@
 -- A new entry has room where its cost fits.
 use Rattle.std.proofs.Common.{◌≡◌, ◌+◌, List, ◌++◌, ◌∷◌, [], sym, ap, ◌∙◌, arith}
 use Rattle.std.proofs.lemmas.List.{length-map, map-append}
-use Rattle.dt_aggstore.specs.Entries.{entry_named, entries_named, words_of}
+use Rattle.dt_aggstore.specs.EntryNames.{entry_named, entries_named, words_of}
 use Rattle.dt_aggfn.specs.Cells.{cell_words}
 use Rattle.dt_aggstore.specs.Keys.{entry_cost, cost_of}
 use Rattle.dt_aggstore.specs.declared.entry_name.EntryName.{EntryName}

@@ -3,7 +3,7 @@ use Rattle.std.proofs.Common.{◌≡◌, ◌<◌, ℤ, List, length, Result, ref
 use Rattle.std.specs.Prelude.{All, map, IfOk}
 use Rattle.dt_aggfn.specs.declared.limits.TheConstants.{BAG_LIMIT}
 use Rattle.dt_aggfn.specs.declared.function.AggFn.{AggFn}
-use Rattle.dt_aggstore.specs.Entries.{form_of_row}
+use Rattle.dt_aggstore.specs.EntryNames.{form_of_row}
 use Rattle.dt_aggstore.specs.Table.{joined_bag}
 use Rattle.dt_aggstore.specs.Joining.{AreJoined, AreShares, MakesRows}
 use Rattle.dt_aggstore.specs.declared.share.KeyShare.{KeyShare}

@@ -1,6 +1,6 @@
 -- A new store has nothing, and dropped nothing.
 use Rattle.std.proofs.Common.{[], refl, sym, ap}
-use Rattle.dt_aggstore.specs.Entries.{entries_named}
+use Rattle.dt_aggstore.specs.EntryNames.{entries_named}
 use Rattle.dt_aggstore.proofs.Choices.{no_choice}
 use Rattle.dt_aggstore.proofs.Drops.{drops-new_past}
 use Rattle.dt_aggstore.proofs.store.AggStore.new.Goals as goal

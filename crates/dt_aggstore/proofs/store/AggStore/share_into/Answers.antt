@@ -5,7 +5,7 @@ use Rattle.std.specs.Prelude.{slice_range, All}
 use Rattle.std.proofs.lemmas.List.{take_all, length-take-le, length-drop}
 use Rattle.std.proofs.lemmas.List.Elements.{All-push}
 use Rattle.dt_aggfn.specs.Cells.{cell_words}
-use Rattle.dt_aggstore.specs.Entries.{entries_named, words_of}
+use Rattle.dt_aggstore.specs.EntryNames.{entries_named, words_of}
 use Rattle.dt_aggstore.specs.Joining.{AreShares}
 use Rattle.dt_aggstore.specs.declared.key.Aggregation.{Aggregation}
 use Rattle.dt_aggstore.specs.declared.share.KeyShare.{KeyShare}

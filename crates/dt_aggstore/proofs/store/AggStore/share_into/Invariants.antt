@@ -2,7 +2,7 @@
 use Rattle.std.proofs.Common.{◌≡◌, List, take, ℤ, length}
 use Rattle.std.specs.Prelude.{All}
 use Rattle.dt_aggfn.specs.Cells.{cell_words}
-use Rattle.dt_aggstore.specs.Entries.{entries_named, words_of}
+use Rattle.dt_aggstore.specs.EntryNames.{entries_named, words_of}
 use Rattle.dt_aggstore.specs.History.{Past}
 use Rattle.dt_aggstore.specs.IsAt.{IsAt}
 use Rattle.dt_aggstore.specs.Joining.{AreShares}

@@ -1,7 +1,7 @@
 -- The entries of an aggregation go.
 use Rattle.std.proofs.Common.{length, refl, sym, ap, ◌∙◌, arith}
 use Rattle.dt_aggstore.specs.Keys.{cost_of}
-use Rattle.dt_aggstore.specs.Entries.{entries_named, words_of, cells_without}
+use Rattle.dt_aggstore.specs.EntryNames.{entries_named, words_of, cells_without}
 use Rattle.dt_aggstore.proofs.Costs.{words_cost, cost_without, length-cells_without}
 use Rattle.dt_aggstore.proofs.Steps.{after_truncated}
 use Rattle.dt_aggstore.proofs.store.AggStore.trunc.Goals as goal

@@ -1,7 +1,7 @@
 -- The table over the stores of all processors; where the consumer never traced it has no rows.
 use Rattle.std.proofs.Common.{map, sym, ap, ◌∙◌, subst}
 use Rattle.std.specs.List.{AllZip}
-use Rattle.dt_aggstore.specs.Entries.{form_of_row}
+use Rattle.dt_aggstore.specs.EntryNames.{form_of_row}
 use Rattle.dt_aggstore.specs.IsAt.{IsAt}
 use Rattle.dt_life.specs.Life.{set_up}
 use Rattle.dt_life.specs.Stores.{stores_in}

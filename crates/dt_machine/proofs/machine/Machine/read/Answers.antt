@@ -5,10 +5,10 @@ use Rattle.serde_json.specs.View.{view}
 use Rattle.dt_machine.specs.declared.fault.FaultNumber.TheVariants.{Firing, Foreign}
 use Rattle.dt_cred.specs.declared.firing.Firing.{Firing as FiringType}
 use Rattle.dt_machine.specs.Found.{IsFoundIn, IsFoundOfFiring}
-use Rattle.dt_machine.specs.Reading.{AllRightIn, IsFaultOf, IsFirstWrongIn, IsDescribed, scripts_in}
+use Rattle.dt_machine.specs.Reading.{AllRightIn, IsFaultOf, IsFirstWrongIn, IsDescribed, scripts_in, UnlessMemory}
 use Rattle.dt_machine.specs.Registry.{Belongs, Contents, IsSound}
 use Rattle.dt_machine.specs.Rows.{FiringRow, HasRoom, IsRightFiring, script_rows, scripts}
-use Rattle.dt_machine.specs.Sections.{UnlessMemory, registry_of, scripts_rows}
+use Rattle.dt_machine.specs.Sections.{registry_of, scripts_rows}
 use Rattle.dt_machine.proofs.Exits.{passed_on}
 use Rattle.dt_machine.proofs.Faults.{one_more, first_fault, all_pass}
 use Rattle.dt_machine.proofs.Searching.{length-rows}

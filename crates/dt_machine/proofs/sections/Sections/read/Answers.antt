@@ -5,11 +5,10 @@ use Rattle.dt_cred.specs.declared.account.Process.{Process as ProcessType}
 use Rattle.dt_machine.specs.declared.fault.FaultNumber.TheVariants.{Shape, Cpus, Account, Process, Probe, Script}
 use Rattle.dt_machine.specs.Found.{IsFoundAt, IsFoundOfAccount, IsFoundOfProcess, IsFoundOfProbe}
 use Rattle.dt_machine.specs.Given.{text_of}
-use Rattle.dt_machine.specs.Reading.{AllRight, AllRightIn, IsFirstFinding, IsFirstWrong, IsScriptFault, IsFoundOfScripts, Passes}
-use Rattle.dt_machine.specs.Reading.{accounts_in, processes_in, probes_in, scripts_in}
+use Rattle.dt_machine.specs.Reading.{AllRight, AllRightIn, IsFirstFinding, IsFirstWrong, IsScriptFault, IsFoundOfScripts, Passes, accounts_in, processes_in, probes_in, scripts_in, UnlessMemory}
 use Rattle.dt_machine.specs.Rows.{AccountRow, ProcessRow, FiringRow, account_row, process_row, script_rows, account}
 use Rattle.dt_machine.specs.Rows.{process, AreProbes, IsRightAccount, IsRightProcess, IsRightProbe, HasRoom}
-use Rattle.dt_machine.specs.Sections.{UnlessMemory, account_rows, process_rows, texts}
+use Rattle.dt_machine.specs.Sections.{account_rows, process_rows, texts}
 use Rattle.dt_machine.proofs.Exits.{passed_on}
 use Rattle.dt_machine.proofs.Faults.{json_passes, one_more, first_fault}
 use Rattle.dt_machine.specs.laws.Scripts.{few_rows}

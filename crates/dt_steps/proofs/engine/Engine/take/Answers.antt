@@ -4,7 +4,7 @@ use Rattle.dt_proto.specs.Asked.{form_asked}
 use Rattle.dt_steps.specs.Stands.{EngineIsAt, IsAnswered}
 use Rattle.dt_steps.specs.Steps.{form_of_step, after_step, opening, asking, finishing}
 use Rattle.dt_steps.specs.Telling.{IsTelling}
-use Rattle.dt_steps.specs.declared.outcome.Outcome.TheVariants.{Quiet}
+use Rattle.dt_steps.specs.declared.outcome.StepAnswer.TheVariants.{Quiet}
 use Rattle.dt_steps.specs.declared.session.Answered.{Answered}
 use Rattle.dt_steps.specs.declared.session.Finished.{Finished}
 use Rattle.dt_steps.proofs.Taking.{quiet-opening, looks-asking, quiet-publishing, looks-finishing, quiet-withdrawing}

@@ -22,5 +22,5 @@ invariant_of-self g c =
     let knows : c.in-Some.right.me.view.knows ≡ ks = ap (λ (m : Turn g.row.K.Denot). m.view.knows) t.2 in
     owning inner c.show_all-right.result c.self.inside.door ks c.self.inside.count c.self.inside.widened c.self.inside.width
     (x.right.0 ∙ (n.rows ∙ ap (λ (r : Named g.row.K.Denot). r.id) row)) refl
-    (x.right.2 ∙ (λ j. me (owner (acc j) (knows j) ((ap (λ (m : Turn g.row.K.Denot). m.view.door) t.2) j) ((ap (λ (m : Turn g.row.K.Denot). m.view.site) t.2) j)) None None))
+    (x.right.2 ∙ (λ j. me (owner (acc j) (knows j) ((ap (λ (m : Turn g.row.K.Denot). m.view.door) t.2) j) ((ap (λ (m : Turn g.row.K.Denot). m.view.extent) t.2) j)) None None))
     i.at i.counted i.full i.few i.wide
