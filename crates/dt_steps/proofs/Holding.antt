@@ -5,13 +5,16 @@ use Rattle.std.proofs.lemmas.Bool.{eq-eqb}
 use Rattle.dt_life.specs.Life.{fired}
 use Rattle.dt_life.specs.Tests.{is_seen}
 use Rattle.dt_machine.specs.Registry.{Registry}
+use Rattle.dt_machine.specs.Shown.{IsShown}
 use Rattle.dt_proto.specs.Lines.{LineForm}
+use Rattle.dt_steps.specs.Sound.{IsDueToShown}
 use Rattle.dt_steps.specs.Stands.{IsServed, IsSession, IsPresent, IsHeld, IsAsked, IsAskedOn, IsFinishing, IsFinishedOn}
 use Rattle.dt_steps.specs.Stands.{closed_on, sees_on}
 use Rattle.dt_steps.specs.Steps.{offered}
 use Rattle.dt_steps.specs.World.{DueOffer, Session, Place, life_in, may_ask}
 use Rattle.dt_steps.specs.declared.place.Place.{Place as HeldPlace}
 use Rattle.dt_steps.specs.declared.session.Session.{Session as HeldSession}
+use Rattle.dt_steps.proofs.Accounts.{shown_present}
 
 module _ (registry : Registry) where
   present_known : (session : Option Session) (served : Option HeldSession) → IsPresent registry session served
@@ -66,23 +69,29 @@ module _ (registry : Registry) where
     own_life due own = eq-eqb due.life (length place.earlier) (own ∙ h.counted)
 
     pub seen-session : (due : DueOffer) (seen : Bool) (served : HeldSession) → held.present ≡ Some served
-        → due.life ≡ held.earlier
-        → ((session : Session) → IsSession registry session served
+        → due.life ≡ held.earlier → IsDueToShown registry place due
+        → ((session : Session) → IsSession registry session served → IsShown session.account registry due.firing
         → seen ≡ is_seen session.account registry (life_in registry session) due.firing)
         → seen ≡ sees_on registry due place
-    seen-session due seen served is own sees =
+    seen-session due seen served is own shown sees =
         let s = serves served is in
-        rw (s.is, own_life due own) (sees s.session s.kept)
+        rw (s.is, own_life due own)
+        (sees s.session s.kept (shown_present registry place s.session due s.is (own ∙ h.counted) shown))
 
     pub offered-session : (due : DueOffer) (served after : HeldSession) → held.present ≡ Some served
-        → due.life ≡ held.earlier
-        → ((session : Session) → IsSession registry session served → IsServed registry session.account
+        → due.life ≡ held.earlier → IsDueToShown registry place due
+        → ((session : Session) → IsSession registry session served → IsShown session.account registry due.firing
+        → IsServed registry session.account
         (cond (is_seen session.account registry (life_in registry session) due.firing)
         (fired due.firing ∷ life_in registry session) (life_in registry session)) session.go after)
         → IsHeld registry (offered due place) (record { present = Some after; earlier = held.earlier })
-    offered-session due served after is own reaches =
+    offered-session due served after is own shown reaches =
         let s = serves served is in
-        rw (s.is, own_life due own) (record { counted = h.counted; present = reaches s.session s.kept })
+        rw (s.is, own_life due own) (record {
+          counted = h.counted;
+          present = reaches s.session s.kept
+              (shown_present registry place s.session due s.is (own ∙ h.counted) shown);
+        })
 
     -- its session ends
     pub closed-session : (earlier : ℕ) → is_some held.present ≡ true → earlier ≡ held.earlier + 1

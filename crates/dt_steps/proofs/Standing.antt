@@ -24,7 +24,7 @@ use Rattle.dt_life.specs.Life.{ecbs}
 use Rattle.dt_proto.specs.Alone.{firing_made}
 use Rattle.dt_proto.specs.Lines.{LineForm}
 use Rattle.dt_proto.specs.Session.{session_account}
-use Rattle.dt_steps.specs.Sound.{IsSoundSeat, IsSoundWorld}
+use Rattle.dt_steps.specs.Sound.{IsDueToShown, IsSoundSeat, IsSoundWorld}
 use Rattle.dt_steps.specs.Stands.{IsSession, IsPresent, IsHeld, IsAsked, IsAskedOn, IsFinishing, IsFinishedOn}
 use Rattle.dt_steps.specs.Stands.{IsPublishedOn, WorldIsKept, IsAnswered, IsNaming, with_present, opened_on, closed_on}
 use Rattle.dt_steps.specs.Stands.{due_of, due_in, sees_on, seen_in}
@@ -668,15 +668,21 @@ module _ (registry : Registry) where
         → seen_in registry world cpu seat ≡ None
     seen-none cpu seat none = let is : world.due cpu seat ≡ None = kept.due cpu seat ∙ none in rw is refl
 
+    -- what a processor owes to a seat is a firing that the session is shown
+    pub shown-due : (cpu seat : ℕ) (before : DueOffers) (due : DueOffer) → slice_get processors cpu ≡ Some before
+        → due_of before seat ≡ Some due → IsDueToShown registry (world.places seat) due
+    shown-due cpu seat before due is owes =
+        let own : world.due cpu seat ≡ Some due = kept.due cpu seat ∙ ap (λ o. due_in o seat) is ∙ owes in
+        subst (λ o. IfSome o (IsDueToShown registry (world.places seat))) own (sound.shown cpu seat)
+
     -- the session on the seat tells whether the firing is seen
     pub seen-offered : (cpu at seat : ℕ) (held : HeldPlace) (before : DueOffers) (due : DueOffer) → Found seats at seat held
         → slice_get processors cpu ≡ Some before → due_of before seat ≡ Some due → (seen : Bool)
-        → ((place : Place) → IsHeld registry place held → seen ≡ sees_on registry due place)
+        → (IsHeld registry (world.places seat) held → seen ≡ sees_on registry due (world.places seat))
         → seen_in registry world cpu seat ≡ cond seen (Some due.firing) None
     seen-offered cpu at seat held before due found is owes seen tells =
         let own : world.due cpu seat ≡ Some due = kept.due cpu seat ∙ ap (λ o. due_in o seat) is ∙ owes in
-        let told = tells (world.places seat)
-        (held_at registry world seats publications processors kept at seat held found) in
+        let told = tells (held_at registry world seats publications processors kept at seat held found) in
         rw own (ap (λ b. cond b (Some due.firing) None) (sym told))
 
     due_taken : (cpu seat other at : ℕ) (before after : DueOffers) → slice_get processors cpu ≡ Some before
@@ -702,13 +708,12 @@ module _ (registry : Registry) where
         → due_of before seat ≡ Some due
         → ((one : ℕ) → due_of left one ≡ cond (one == seat) None (due_of before one))
         → left.moment ≡ before.moment
-        → ((place : Place) → IsHeld registry place held → IsHeld registry (offered due place) after)
+        → (IsHeld registry (world.places seat) held → IsHeld registry (offered due (world.places seat)) after)
         → WorldIsKept registry (offering world cpu seat) (set seats at after) publications (set processors cpu left)
     unfolding offering
     kept-offering cpu at seat held after before left due found is owes taken stays delivers =
         let own : world.due cpu seat ≡ Some due = kept.due cpu seat ∙ ap (λ o. due_in o seat) is ∙ owes in
-        let h = delivers (world.places seat)
-        (held_at registry world seats publications processors kept at seat held found) in
+        let h = delivers (held_at registry world seats publications processors kept at seat held found) in
         rw own (record {
           all = length-set seats at after ∙ kept.all;
           held = kept_seat registry world seats publications processors kept at seat held found world.places

@@ -27,6 +27,7 @@ impl Place {
     ghost use Rattle.dt_life.specs.Life.{is_over};
     ghost use Rattle.dt_machine.specs.Moment.{IsMoment};
     ghost use Rattle.dt_proto.specs.Asked.{form_lent, form_asked};
+    ghost use Rattle.dt_steps.specs.Sound.{IsDueToShown};
     ghost use Rattle.dt_steps.specs.Stands.{IsAskedOn, IsFinishedOn, IsPublishedOn, opened_on, closed_on, first_account, sees_on};
     ghost use Rattle.dt_steps.specs.Steps as steps;
     ghost use Rattle.dt_steps.specs.World as world;
@@ -129,13 +130,16 @@ impl Place {
         }
     }
 
-    /// A firing reaches its session, if that has this life. Answers whether the session saw the firing.
+    /// A firing reaches its session, if that has this life. Answers whether the session saw the firing. It is due to a session
+    /// that is shown it: the look asked for that, so the offer doesn't.
     pub(crate) fn deliver(&mut self, machine: &Machine, life: u64, moment: &Moment) -> bool
         ensures seen { (place : world.Place) → IsHeld machine.now.registry place self.old
             → IsMoment machine.now.registry moment.now
+            → IsDueToShown machine.now.registry place (record { life = life; firing = moment.now.firing.now })
             → result ≡ sees_on machine.now.registry (record { life = life; firing = moment.now.firing.now }) place }
         ensures reached { (place : world.Place) → IsHeld machine.now.registry place self.old
             → IsMoment machine.now.registry moment.now
+            → IsDueToShown machine.now.registry place (record { life = life; firing = moment.now.firing.now })
             → IsHeld machine.now.registry
             (steps.offered (record { life = life; firing = moment.now.firing.now }) place) self.new }
     {
@@ -144,7 +148,7 @@ impl Place {
             return false;
         }
         match &mut self.present {
-            Some(session) => session.consumer.offer_moment(machine, moment),
+            Some(session) => session.consumer.offer_shown(machine, moment),
             None => false,
         }
     }
