@@ -1,5 +1,5 @@
 -- Which firings a consumer that traces sees.
-use Rattle.std.proofs.Common.{◌≡◌, ◌≢◌, ◌<◌, ℕ, zero, suc, ◌+◌, true, List, [], Some, length, refl, sym}
+use Rattle.std.proofs.Common.{◌≡◌, ◌≢◌, ◌<◌, ℕ, zero, suc, ◌+◌, List, [], Some, length, refl, sym}
 use Rattle.std.proofs.Common.{ap, ◌∙◌, arith}
 use Rattle.std.proofs.lemmas.Option.{slice_get_within}
 use Rattle.dt_cred.specs.declared.account.Account.{Account}
@@ -7,9 +7,8 @@ use Rattle.dt_cred.specs.declared.firing.Firing.{Firing}
 use Rattle.dt_cred.specs.declared.probe.Probe.{Probe}
 use Rattle.dt_machine.specs.Moment.{IsMoment, form_of_moment, moment_of}
 use Rattle.dt_machine.specs.Registry.{Registry, probe_of}
-use Rattle.dt_machine.specs.Tests.{is_shown}
+use Rattle.dt_machine.specs.Shown.{IsShown}
 use Rattle.dt_machine.specs.declared.moment.Moment.{Moment}
-use Rattle.dt_machine.specs.laws.Tests.{shown_from, shown_to}
 use Rattle.dt_ecb.specs.Ecbs.{of_probe}
 use Rattle.dt_life.specs.Life.{Item, ecbs}
 use Rattle.dt_life.specs.Sees.{Sees}
@@ -42,12 +41,12 @@ module _ (account : Account) (registry : Registry) (life : List Item) (moment : 
   firing = moment.firing.now
 
   pub sees_its : tracing.course ≡ Running → of_probe firing.probe (ecbs account registry life) ≢ []
-      → is_shown account registry firing ≡ true → Sees account registry life firing
+      → IsShown account registry firing → Sees account registry life firing
   sees_its going named shown = record {
     active = t.standing ∙ ap phase_by going;
     belongs = is.belongs;
     named = named;
-    admitted = shown_from account registry firing shown;
+    admitted = shown;
   }
 
   -- what sees a firing goes on, on a processor and with a list of ECBs that are there
@@ -59,6 +58,3 @@ module _ (account : Account) (registry : Registry) (life : List Item) (moment : 
 
   pub seen_probe : firing.probe < length tracing.lists.items
   seen_probe = omega (arith, t.all_lists, known_probe registry firing.probe moment.probe.now is.probe)
-
-  pub seen_shown : Sees account registry life firing → is_shown account registry firing ≡ true
-  seen_shown sees = shown_to account registry firing sees.admitted

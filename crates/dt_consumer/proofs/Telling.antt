@@ -1,5 +1,5 @@
 -- What `status` and `describe` tell.
-use Rattle.std.proofs.Common.{◌≡◌, ℕ, suc, ◌+◌, ◌<◌, ◌==◌, true, List, [], ◌∷◌, length, map}
+use Rattle.std.proofs.Common.{◌≡◌, ℕ, suc, ◌+◌, true, List, [], ◌∷◌, length, map}
 use Rattle.std.proofs.Common.{replicate, refl, sym, ap, ◌∙◌, subst, arith}
 use Rattle.std.specs.List.{slice_get, range_with_len}
 use Rattle.std.specs.Option.{IfSome}

@@ -35,6 +35,7 @@ impl Consumer {
     ghost use Rattle.dt_machine.specs.Interest.{has_probe};
     ghost use Rattle.dt_machine.specs.Moment.{IsMoment};
     ghost use Rattle.dt_machine.specs.Registry.{Registry};
+    ghost use Rattle.dt_machine.specs.Shown.{IsShown};
     ghost use Rattle.dt_life.specs.Ask.{Ask};
     ghost use Rattle.dt_consumer.specs.Draft.{CanApply, Drafted, ChangeFits, IsDraftOf};
     ghost use Rattle.dt_life.specs.Acceptance.{after_line};
@@ -113,8 +114,8 @@ impl Consumer {
         }
     }
 
-    /// The same for a firing whose probe and process were looked up, which is all the work of an offer: so who offers a firing to
-    /// many consumers looks them up once. The moment is one of the machine's.
+    /// The same for a firing whose probe and process were looked up: so who offers a firing to many consumers looks them up
+    /// once. The moment is one of the machine's.
     pub fn offer_moment(&mut self, machine: &Machine, moment: &Moment) -> bool
         ensures sees { (account : Account) (life : List Item)
             → StandsFor account machine.now.registry self.old life → IsMoment machine.now.registry moment.now
@@ -126,13 +127,31 @@ impl Consumer {
         ensures unseen { result ≡ false → self.new ≡ self.old }
         ensures drafts { (draft : Draft) → CanApply self.old draft → CanApply self.new draft }
     {
+        // a firing that its account isn't shown changes nothing for a consumer
+        moment.is_shown(&self.account) && self.offer_shown(machine, moment)
+    }
+
+    /// The same for a firing that the consumer's account is shown, which is all the work of an offer: who looked whom to offer the
+    /// firing to has asked for that, so it is asked once.
+    pub fn offer_shown(&mut self, machine: &Machine, moment: &Moment) -> bool
+        ensures sees { (account : Account) (life : List Item)
+            → StandsFor account machine.now.registry self.old life → IsMoment machine.now.registry moment.now
+            → IsShown account machine.now.registry moment.now.firing.now
+            → (IsTrue result ↔ Sees account machine.now.registry life moment.now.firing.now) }
+        ensures seen { (account : Account) (life : List Item)
+            → StandsFor account machine.now.registry self.old life → IsMoment machine.now.registry moment.now
+            → IsShown account machine.now.registry moment.now.firing.now → IsTrue result
+            → StandsFor account machine.now.registry self.new (fired moment.now.firing.now ∷ life) }
+        ensures unseen { result ≡ false → self.new ≡ self.old }
+        ensures drafts { (draft : Draft) → CanApply self.old draft → CanApply self.new draft }
+    {
         // before tracing begins nothing is seen
         let Some(tracing) = &mut self.tracing else {
             return false;
         };
         let firing = moment.firing;
-        // a firing of a probe that this consumer never enabled, or that its account isn't shown, changes nothing for it
-        if !tracing.wants(firing.cpu, firing.probe) || !moment.is_shown(&self.account) {
+        // a firing of a probe that this consumer never enabled changes nothing for it
+        if !tracing.wants(firing.cpu, firing.probe) {
             return false;
         }
         tracing.see(&self.account, machine, self.programs.clauses(), moment);

@@ -1,6 +1,7 @@
 -- The lemmas of the crate, lowest first.
 
 pub mod Beginning
+pub mod Accounts
 pub mod Soundness
 pub mod Questions
 pub mod Serving

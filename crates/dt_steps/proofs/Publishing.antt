@@ -12,11 +12,12 @@ use Rattle.dt_chain.specs.Writes.{Write, published}
 use Rattle.dt_chain.specs.declared.entries.Entries.{Entries}
 use Rattle.dt_ecb.specs.Ecbs.{EcbForm, of_probe}
 use Rattle.dt_life.specs.Life.{ecbs}
-use Rattle.dt_steps.specs.Stands.{IsSession, IsHeld, IsPublishedOn, is_unpublished, with_present}
+use Rattle.dt_steps.specs.Stands.{IsSession, IsPlace, IsPublishedOn, is_unpublished, with_present}
 use Rattle.dt_ecb.specs.Interest.{interest_of}
-use Rattle.dt_steps.specs.World.{Session, Place, Pending, life_in, waiting}
-use Rattle.dt_steps.specs.declared.place.Place.{Place as HeldPlace}
-use Rattle.dt_steps.specs.declared.session.Session.{Session as HeldSession}
+use Rattle.dt_steps.specs.World as world
+use Rattle.dt_steps.specs.World.{life_in, waiting}
+use Rattle.dt_steps.specs.declared.place.Place.{Place}
+use Rattle.dt_steps.specs.declared.session.Session.{Session}
 use Rattle.dt_steps.proofs.Holding.{serves}
 use Rattle.dt_ecb.specs.laws.Interest.{interest_from, interest_to, wanted_from, wanted_to}
 use Rattle.dt_chain.specs.laws.Publishing.{published_alike}
@@ -33,22 +34,22 @@ interest_alike own probes bounded named id =
     )
 
 -- the pending `go` of a session is to be published
-module _ (Same : Type 0) (Later : Session → Pending → Type 0) where
-  pending_does : (session : Session) (pending : Pending) (done : Bool) → not done ≡ true → Later session pending
+module _ (Same : Type 0) (Later : world.Session → world.Pending → Type 0) where
+  pending_does : (session : world.Session) (pending : world.Pending) (done : Bool) → not done ≡ true → Later session pending
       → MatchBool done Same (Later session pending)
   pending_does session pending true is h = cc
   pending_does session pending false is h = h
 
-  go_does : (session : Session) (waits : Option Pending)
-      → option_map_or (λ (pending : Pending). not pending.published) waits false ≡ true
-      → ((pending : Pending) → waits ≡ Some pending → Later session pending)
+  go_does : (session : world.Session) (waits : Option world.Pending)
+      → option_map_or (λ (pending : world.Pending). not pending.published) waits false ≡ true
+      → ((pending : world.Pending) → waits ≡ Some pending → Later session pending)
       → MatchOption waits Same (λ pending. MatchBool pending.published Same (Later session pending))
   go_does session None is h = cc
   go_does session (Some pending) is h = pending_does session pending pending.published is (h pending refl)
 
-  present_does : (present : Option Session) (session : Session) → present ≡ Some session
+  present_does : (present : Option world.Session) (session : world.Session) → present ≡ Some session
       → is_unpublished session ≡ true
-      → ((pending : Pending) → session.go ≡ Some pending → Later session pending)
+      → ((pending : world.Pending) → session.go ≡ Some pending → Later session pending)
       → MatchOption present Same (λ own. MatchOption own.go Same
       (λ pending. MatchBool pending.published Same (Later own pending)))
   present_does present session at is h =
@@ -56,20 +57,20 @@ module _ (Same : Type 0) (Later : Session → Pending → Type 0) where
       (λ pending. MatchBool pending.published Same (Later own pending)))) (sym at)
       (go_does session session.go is h)
 
-module _ (registry : Registry) (place : Place) (held : HeldPlace) (h : IsHeld registry place held) (seat : ℕ)
+module _ (registry : Registry) (place : world.Place) (held : Place) (h : IsPlace registry place held) (seat : ℕ)
     (writes : List Write) where
-  abbrev Later : HeldPlace → Entries → Session → Pending → Type 0
+  abbrev Later : Place → Entries → world.Session → world.Pending → Type 0
   Later after later session pending =
-      IsHeld registry (with_present place (waiting session pending.line true)) after
+      IsPlace registry (with_present place (waiting session pending.line true)) after
       × chain.EntriesAreAt (published seat (length place.earlier) session.account
       (interest_of (ecbs session.account registry (life_in registry session))) ∷ writes) later
 
-  pub published-now : (later : Entries) (served after : HeldSession) (probes : Interest)
+  pub published-now : (later : Entries) (served after : Session) (probes : Interest)
       → ((id : ℕ) → probe_id_max < id → interest.has_probe probes id ≡ false) → held.present ≡ Some served
-      → ((session : Session) → IsSession registry session served → is_unpublished session ≡ true)
-      → ((session : Session) (pending : Pending) → IsSession registry session served → session.go ≡ Some pending
+      → ((session : world.Session) → IsSession registry session served → is_unpublished session ≡ true)
+      → ((session : world.Session) (pending : world.Pending) → IsSession registry session served → session.go ≡ Some pending
       → IsSession registry (waiting session pending.line true) after)
-      → ((session : Session) → IsSession registry session served → (id : ℕ)
+      → ((session : world.Session) → IsSession registry session served → (id : ℕ)
       → IsTrue (interest.has_probe probes id)
       ↔ (of_probe id (ecbs session.account registry (life_in registry session)) ≢ []))
       → chain.EntriesAreAt (published seat held.earlier served.account (interest.flags_of probes) ∷ writes) later
@@ -87,7 +88,7 @@ module _ (registry : Registry) (place : Place) (held : HeldPlace) (h : IsHeld re
       (subst (λ n. chain.EntriesAreAt (published seat n session.account flags ∷ writes) later) h.counted
       (subst (λ a. chain.EntriesAreAt (published seat held.earlier a flags ∷ writes) later) s.kept.owner at)) in
       present_does
-      (IsHeld registry place (record { present = Some after; earlier = held.earlier })
+      (IsPlace registry place (record { present = Some after; earlier = held.earlier })
       × chain.EntriesAreAt writes later)
       (Later (record { present = Some after; earlier = held.earlier }) later) place.present session s.is
       (due session s.kept)

@@ -1,6 +1,6 @@
 -- A session after each of its calls.
 use Rattle.std.proofs.Common.{◌≡◌, ℕ, ◌&&◌, ◌||◌, Bool, true, false, cond, not, List, ◌∷◌, Option, Some, None, is_some}
-use Rattle.std.proofs.Common.{is_none, Result, Ok, Err, IsTrue, ◌↔◌, refl, sym, ap, ◌∙◌, subst}
+use Rattle.std.proofs.Common.{is_none, Result, Ok, IsTrue, ◌↔◌, refl, sym, ap, ◌∙◌, subst}
 use Rattle.std.proofs.lemmas.Bool.{both_ways, and_parts, not-true, false_from_ne_true}
 use Rattle.std.specs.List.{list_any}
 use Rattle.std.specs.Option.{option_map_or}
@@ -18,42 +18,43 @@ use Rattle.dt_life.specs.Sees.{Sees}
 use Rattle.dt_consumer.specs.StandsFor.{StandsFor}
 use Rattle.dt_consumer.specs.declared.consumer.Consumer.{Consumer}
 use Rattle.dt_life.specs.declared.phase.Phase.{Phase}
-use Rattle.dt_life.specs.declared.phase.Phase.TheVariants.{Inactive, Active, Stopped}
+use Rattle.dt_life.specs.declared.phase.Phase.TheVariants.{Inactive, Active}
 use Rattle.dt_life.specs.declared.refusal.Refusal.{Refusal}
 use Rattle.dt_proto.specs.Asked.{form_asked}
 use Rattle.dt_proto.specs.Line.{ask_in}
 use Rattle.dt_proto.specs.Lines.{LineForm}
 use Rattle.dt_proto.specs.Reply.{reply_text}
 use Rattle.dt_steps.specs.Ready.{GoIsReady}
-use Rattle.dt_steps.specs.Stands.{IsWaiting, IsPending, IsServed, IsSession, IsAsked, IsFinishing}
+use Rattle.dt_steps.specs.Stands.{IsPending, IsPendingGo, IsSessionOf, IsSession, IsAsked, IsFinishing}
 use Rattle.dt_life.specs.Tests.{is_seen}
-use Rattle.dt_steps.specs.World.{Session, Pending, life_in, is_closing, is_tracing, may_ask, accepts_go, may_withdraw}
-use Rattle.dt_steps.specs.declared.session.Session.{Session as HeldSession}
-use Rattle.dt_steps.specs.declared.session.Pending.{Pending as HeldPending}
+use Rattle.dt_steps.specs.World as world
+use Rattle.dt_steps.specs.World.{life_in, is_closing, is_tracing, may_ask, accepts_go, may_withdraw}
+use Rattle.dt_steps.specs.declared.session.Session.{Session}
+use Rattle.dt_steps.specs.declared.session.Pending.{Pending}
 use Rattle.dt_steps.proofs.Beginning.{accepts_from, accepts_to}
 use Rattle.dt_proto.specs.laws.Views.{reply_to}
 use Rattle.dt_life.specs.laws.Seeing.{seen_to, unseen_to}
 
 module _ (registry : Registry) (account : Account) (life : List Item) where
   -- where one has a pending `go`, so has the other
-  pending_known : (pending : Option Pending) (held : Option HeldPending) → IsPending registry account life pending held
+  pending_known : (pending : Option world.Pending) (held : Option Pending) → IsPendingGo registry account life pending held
       → is_some held ≡ is_some pending
   pending_known None None h = refl
   pending_known None (Some held) h = absurd h
   pending_known (Some pending) None h = absurd h
   pending_known (Some pending) (Some held) h = refl
 
-  pending_none : (held : Option HeldPending) → IsPending registry account life None held → held ≡ None
+  pending_none : (held : Option Pending) → IsPendingGo registry account life None held → held ≡ None
   pending_none None h = refl
   pending_none (Some held) h = absurd h
 
   -- the pending `go` of which this is kept
-  record Waits (pending : Option Pending) (held : HeldPending) : Type 0 where
-    pub own : Pending
+  record Waits (pending : Option world.Pending) (held : Pending) : Type 0 where
+    pub own : world.Pending
     pub is : pending ≡ Some own
-    pub kept : IsWaiting registry account life own held
+    pub kept : IsPending registry account life own held
 
-  waits_for : (pending : Option Pending) (held : HeldPending) → IsPending registry account life pending (Some held)
+  waits_for : (pending : Option world.Pending) (held : Pending) → IsPendingGo registry account life pending (Some held)
       → Waits pending held
   waits_for None held h = absurd h
   waits_for (Some own) held h = record { own = own; is = refl; kept = h }
@@ -62,16 +63,16 @@ none_without : {A B : Type 0} (a : Option A) (b : Option B) → is_some b ≡ is
 none_without a None h is = refl
 none_without a (Some b) h is = let bad : true ≡ false = h ∙ ap is_some is in cc
 
-none_pending : (pending : Option Pending) → is_none pending ≡ true → pending ≡ None
+none_pending : (pending : Option world.Pending) → is_none pending ≡ true → pending ≡ None
 none_pending None h = refl
 none_pending (Some own) h = cc
 
-no_line_kept : (registry : Registry) (account : Account) (life later : List Item) (held : Option HeldPending)
-    → IsPending registry account life None held → IsPending registry account later None held
+no_line_kept : (registry : Registry) (account : Account) (life later : List Item) (held : Option Pending)
+    → IsPendingGo registry account life None held → IsPendingGo registry account later None held
 no_line_kept registry account life later None h = h
 no_line_kept registry account life later (Some held) h = h
 
-module _ (registry : Registry) (session : Session) (served : HeldSession) (h : IsSession registry session served) where
+module _ (registry : Registry) (session : world.Session) (served : Session) (h : IsSession registry session served) where
   known : is_some served.go ≡ is_some session.go
   known = pending_known registry session.account (life_in registry session) session.go served.go h.pending
 
@@ -96,23 +97,12 @@ module _ (registry : Registry) (session : Session) (served : HeldSession) (h : I
   withdraws_not some = ap (λ b. not b && not (is_tracing registry session)) (sym some ∙ known)
 
 pub not_active : (phase : Phase) → (phase ≡ Active → ⊥) → is_active phase ≡ false
-not_active Inactive h = refl
 not_active Active h = absurd (h refl)
-not_active (Stopped cause) h = refl
+not_active _ h = refl
 
 close_from : (line : Result Ask Refusal) → is_close line ≡ true → line ≡ Ok ask.close
-close_from (Err refusal) h = cc
-close_from (Ok (ask.option setting)) h = cc
-close_from (Ok (ask.enable reading)) h = cc
-close_from (Ok ask.go) h = cc
-close_from (Ok ask.stop) h = cc
-close_from (Ok (ask.snap cpu)) h = cc
-close_from (Ok (ask.agg name)) h = cc
-close_from (Ok (ask.trunc name)) h = cc
-close_from (Ok ask.status) h = cc
-close_from (Ok (ask.list desc)) h = cc
-close_from (Ok (ask.describe epid)) h = cc
 close_from (Ok ask.close) h = refl
+close_from _ h = cc
 
 pub same_test : (a b : Bool) → (a ≡ true → b ≡ true) → (b ≡ true → a ≡ true) → a ≡ b
 same_test true b h k = sym (h refl)
@@ -139,10 +129,10 @@ module _ (registry : Registry) (account : Account) (life : List Item) where
   go_open_at line true is = refl
   go_open_at line false is = ap (λ own. is_close own || list_any is_closing life) (sym is)
 
-module _ (registry : Registry) (session : Session) (line : LineForm) (served : HeldSession)
+module _ (registry : Registry) (session : world.Session) (line : LineForm) (served : Session)
     (h : IsSession registry session served) where
   -- an accepted `go` is kept
-  pub asked_go : (held : HeldPending) (answer : Answer) → form_asked held.line ≡ line
+  pub asked_go : (held : Pending) (answer : Answer) → form_asked held.line ≡ line
       → IsDraftOf session.account registry (life_in registry session) (ask_in line) held.draft
       → IsAcceptedGo session.account registry (life_in registry session) (ask_in line)
       → Replies session.account registry (life_in registry session) (ask_in line) answer
@@ -197,7 +187,7 @@ module _ (registry : Registry) (session : Session) (line : LineForm) (served : H
       })
   asked_other consumer closes answer text may none closing stands replies is ready =
       let parts = may_ask_parts may in
-      let idle : IsPending registry session.account (life_in registry session) None served.go =
+      let idle : IsPendingGo registry session.account (life_in registry session) None served.go =
       rw parts.0 at h.pending in (
         false_from_ne_true (accepts_go registry session line) (λ go. none (accepts_from registry session line go)),
         record {
@@ -212,8 +202,8 @@ module _ (registry : Registry) (session : Session) (line : LineForm) (served : H
       )
 
 -- what is pending of a session, as it is kept
-pub record Finishes (registry : Registry) (session : Session) (held : HeldPending) : Type 0 where
-  pub own : Pending
+pub record Finishes (registry : Registry) (session : world.Session) (held : Pending) : Type 0 where
+  pub own : world.Pending
   pub is : session.go ≡ Some own
   pub line : form_asked held.line ≡ own.line
   pub published : held.is_published ≡ own.published
@@ -223,17 +213,17 @@ pub record Finishes (registry : Registry) (session : Session) (held : HeldPendin
   pub replies : Replies session.account registry (life_in registry session) (ask_in own.line) answer
   pub text : held.text.items ≡ reply_text answer
 
-not_published_at : (registry : Registry) (account : Account) (life : List Item) (pending : Option Pending)
-    (held : Option HeldPending) → IsPending registry account life pending held
-    → option_map_or (λ (one : HeldPending). one.is_published) held false ≡ false
-    → option_map_or (λ (own : Pending). own.published) pending false ≡ false
+not_published_at : (registry : Registry) (account : Account) (life : List Item) (pending : Option world.Pending)
+    (held : Option Pending) → IsPendingGo registry account life pending held
+    → option_map_or (λ (one : Pending). one.is_published) held false ≡ false
+    → option_map_or (λ (own : world.Pending). own.published) pending false ≡ false
 not_published_at registry account life None None h not_yet = refl
 not_published_at registry account life None (Some held) h not_yet = refl
 not_published_at registry account life (Some own) None h not_yet = absurd h
 not_published_at registry account life (Some own) (Some held) h not_yet = sym h.published ∙ not_yet
 
-module _ (registry : Registry) (session : Session) (served : HeldSession) (h : IsSession registry session served) where
-  pub finishes : (held : HeldPending) → served.go ≡ Some held → Finishes registry session held
+module _ (registry : Registry) (session : world.Session) (served : Session) (h : IsSession registry session served) where
+  pub finishes : (held : Pending) → served.go ≡ Some held → Finishes registry session held
   finishes held is =
       let w = waits_for registry session.account (life_in registry session) session.go held (rw is at h.pending) in
       record {
@@ -249,16 +239,16 @@ module _ (registry : Registry) (session : Session) (served : HeldSession) (h : I
       }
 
   -- the line that is kept is that of the pending `go`
-  pub kept_line : (held : HeldPending) → served.go ≡ Some held → (pending : Pending) → session.go ≡ Some pending
+  pub kept_line : (held : Pending) → served.go ≡ Some held → (pending : world.Pending) → session.go ≡ Some pending
       → form_asked held.line ≡ pending.line
   kept_line held is pending waits =
       let f = finishes held is in
       let own : Some f.own ≡ Some pending = sym f.is ∙ waits in
       let same : f.own ≡ pending = cc in
-      f.line ∙ ap (λ (p : Pending). p.line) same
+      f.line ∙ ap (λ (p : world.Pending). p.line) same
 
   -- nothing is pending, or it isn't published
-  pub not_finishing : option_map_or (λ (held : HeldPending). held.is_published) served.go false ≡ false
+  pub not_finishing : option_map_or (λ (held : Pending). held.is_published) served.go false ≡ false
       → IsFinishing registry session None served
   not_finishing unpublished = (
     not_published_at registry session.account (life_in registry session) session.go served.go h.pending unpublished,
@@ -266,7 +256,7 @@ module _ (registry : Registry) (session : Session) (served : HeldSession) (h : I
   )
 
   -- it takes effect, and is answered
-  pub finishing : (held : HeldPending) (consumer : Consumer) (kept : Option HeldPending)
+  pub finishing : (held : Pending) (consumer : Consumer) (kept : Option Pending)
       → served.go ≡ Some held → kept ≡ None
       → held.is_published ≡ true
       → ((line : LineForm) → IsDraftOf session.account registry (life_in registry session) (ask_in line) held.draft
@@ -303,18 +293,18 @@ pub record IsOffered (account : Account) (registry : Registry) (consumer after :
 
 module _ (registry : Registry) (account : Account) (life : List Item) (firing : Firing) where
   -- nothing is pending of a session that sees a firing
-  kept_seen : (pending : Option Pending) (held : Option HeldPending) → Sees account registry life firing
-      → IsPending registry account life pending held → IsPending registry account (fired firing ∷ life) pending held
+  kept_seen : (pending : Option world.Pending) (held : Option Pending) → Sees account registry life firing
+      → IsPendingGo registry account life pending held → IsPendingGo registry account (fired firing ∷ life) pending held
   kept_seen None None sees h = h
   kept_seen None (Some held) sees h = h
   kept_seen (Some own) None sees h = h
   kept_seen (Some own) (Some held) sees h =
       let both : Active ≡ Inactive = sym sees.active ∙ h.accepted.1 in cc
 
-  pub served_offered : (pending : Option Pending) (served : HeldSession) (consumer : Consumer) (seen : Bool)
-      → (ready : GoIsReady consumer served.go) → IsServed registry account life pending served
+  pub served_offered : (pending : Option world.Pending) (served : Session) (consumer : Consumer) (seen : Bool)
+      → (ready : GoIsReady consumer served.go) → IsSessionOf registry account life pending served
       → IsOffered account registry served.consumer consumer firing seen life
-      → IsServed registry account (cond (is_seen account registry life firing) (fired firing ∷ life) life) pending
+      → IsSessionOf registry account (cond (is_seen account registry life firing) (fired firing ∷ life) life) pending
       (record {
         account = served.account;
         consumer = consumer;

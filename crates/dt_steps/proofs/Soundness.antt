@@ -1,11 +1,14 @@
 -- Each step keeps what is published sound.
 use Rattle.std.proofs.Common.{◌≡◌, ℕ, ◌<◌, ◌≤◌, ◌&&◌, ◌==◌, Bool, true, false, cond, List, [], ◌∷◌, Option, Some, None}
-use Rattle.std.proofs.Common.{Result, Ok, is_none, nat_lt, fold, length, refl, sym, ap, ◌∙◌, subst, arith}
-use Rattle.std.proofs.lemmas.Bool.{eqb-true, ltb-true, and_parts, not-true, both_ways, cond_both, false_from_ne_true}
+use Rattle.std.proofs.Common.{IfSome, IsSomeAnd, Result, Ok, is_none, nat_lt, fold, length, refl, sym, ap, ◌∙◌, subst}
+use Rattle.std.proofs.Common.{arith}
+use Rattle.std.proofs.lemmas.Bool.{eqb-true, eq-eqb, ltb-true, and_parts, not-true, both_ways, cond_both, false_from_ne_true}
 use Rattle.std.specs.Option.{option_map, option_map_or}
 use Rattle.dt_cred.specs.declared.account.Account.{Account}
 use Rattle.dt_machine.specs.Registry.{Registry}
+use Rattle.dt_machine.specs.Shown.{IsShown}
 use Rattle.dt_cred.specs.declared.firing.Firing.{Firing}
+use Rattle.dt_chain.specs.Look.{NamesFiring}
 use Rattle.dt_chain.specs.Writes.{Published, published_on}
 use Rattle.dt_chain.specs.declared.seat.TheConstants.{SEATS}
 use Rattle.dt_ecb.specs.Ecbs.{EcbForm, ecbs_of}
@@ -18,7 +21,8 @@ use Rattle.dt_proto.specs.Alone.{firing_made}
 use Rattle.dt_proto.specs.Line.{ask_in}
 use Rattle.dt_proto.specs.Lines.{LineForm}
 use Rattle.dt_proto.specs.Session.{session_account}
-use Rattle.dt_steps.specs.Sound.{publication_of, IsSoundSession, IsSoundSeat, IsSoundWorld}
+use Rattle.dt_steps.specs.Sound.{IsOfSession, IsDueToShown, publication_of, IsSoundSession, IsSoundSeat}
+use Rattle.dt_steps.specs.Sound.{IsSoundWorld}
 use Rattle.dt_steps.specs.Steps.{StepForm, opens, asks, publishes, finishes, withdraws, looks, offers, closes, after_step}
 use Rattle.dt_steps.specs.Steps.{world_after, with_session, answering, opening, asking, publishing, finishing}
 use Rattle.dt_steps.specs.Steps.{withdrawing, passed, looking, is_done, offered, offering, closing}
@@ -26,8 +30,12 @@ use Rattle.dt_life.specs.Tests.{is_seen}
 use Rattle.dt_ecb.specs.Interest.{interest_of}
 use Rattle.dt_chain.specs.Tests.{mask_of}
 use Rattle.dt_steps.specs.World.{World, Session, Place, Pending, DueOffer, new_world, number_on, life_in, is_tracing}
-use Rattle.dt_steps.specs.World.{new_session, reached, answered, waiting, may_ask, accepts_go, may_withdraw}
+use Rattle.dt_steps.specs.World.{new_session, account_numbered, reached, answered, waiting, may_ask, accepts_go}
+use Rattle.dt_steps.specs.World.{may_withdraw}
+use Rattle.dt_chain.specs.laws.Tests.{mask_is_look}
 use Rattle.dt_life.specs.laws.Beginning.{inactive_from}
+use Rattle.dt_steps.proofs.Accounts.{KeepsAccounts, keeps_all, keeps_changed, keeps_opened, keeps_closed, keeps_offered}
+use Rattle.dt_steps.proofs.Accounts.{keeps_passed, own_number, of_later, due_later}
 use Rattle.dt_steps.proofs.Beginning.{accepts_from, accepts_to}
 use Rattle.dt_life.specs.laws.Keeping.{Keeps, may_begin, life-after_line, life-fired, ecbs-go}
 use Rattle.dt_life.specs.laws.Seeing.{seen_from}
@@ -88,6 +96,10 @@ pub option_case : {A B : Type 0} (P : B → Type 0) (f : A → B) (b : B) (o : O
 option_case P f b None h k = h
 option_case P f b (Some a) h k = k a refl
 
+none_of : {A : Type 0} (o : Option A) → is_none o ≡ true → o ≡ None
+none_of None h = refl
+none_of (Some a) h = cc
+
 is_published : Option Pending → Bool
 is_published pending = option_map_or (λ p. p.published) pending false
 
@@ -95,6 +107,11 @@ none_published : (line other : LineForm) → ◌≡◌ {A = Option Pending} (Som
     (Some (record { line = other; published = true })) → ⊥
 unfolding is_published
 none_published line other e = let bad : false ≡ true = ap is_published e in cc
+
+-- what is published under the number of the session on a seat is of it
+of_own : (seat : ℕ) (places : ℕ → Place) (place : Place) (one : Published)
+    → IsOfSession place one → IsOfSession (cond (seat == seat) place (places seat)) one
+of_own seat places place one is = rw (eq-eqb seat seat refl) is
 
 -- a session on a seat, and nothing else, changes
 module _ (registry : Registry) (account : Account) (n : ℕ) (publication : Option Published) where
@@ -242,24 +259,48 @@ module _ (registry : Registry) where
         (number_on world seat) (published_on world.writes seat)
     at_session seat session is = rw is at (h.seats seat)
 
+    -- where the sessions of each seat keep their accounts, what is published and due is of the same ones
+    keeps_on : (seat : ℕ) (place : Place) → KeepsAccounts (world.places seat) place
+        → (other : ℕ) → KeepsAccounts (world.places other) (cond (seat == other) place (world.places other))
+    keeps_on seat place keeps =
+        updated (λ other at. KeepsAccounts (world.places other) at) world.places seat place
+        (λ other. keeps_all (world.places other)) keeps
+
+    of_after : (later : ℕ → Place) → ((seat : ℕ) → KeepsAccounts (world.places seat) (later seat))
+        → (seat : ℕ) → IfSome (published_on world.writes seat) (IsOfSession (later seat))
+    of_after later keeps seat =
+        of_later (world.places seat) (later seat) (published_on world.writes seat) (keeps seat) (h.publications seat)
+
+    shown_after : (later : ℕ → Place) → ((seat : ℕ) → KeepsAccounts (world.places seat) (later seat))
+        → (cpu seat : ℕ) → IfSome (world.due cpu seat) (IsDueToShown registry (later seat))
+    shown_after later keeps cpu seat =
+        due_later registry (world.places seat) (later seat) (world.due cpu seat) (keeps seat) (h.shown cpu seat)
+
     sound-with_session : (seat : ℕ) (session : Session) → seat < SEATS
         → IsSoundSession registry session.account (life_in registry session) session.go (number_on world seat)
         (published_on world.writes seat)
+        → KeepsAccounts (world.places seat) (record { present = Some session; earlier = (world.places seat).earlier })
         → IsSoundWorld registry (with_session world seat session)
-    sound-with_session seat session low own = record {
-      seats = updated (λ other place. IsSoundSeat registry other (published_on world.writes other) place)
-          world.places seat
-          (record { present = Some session; earlier = (world.places seat).earlier }) h.seats (low, own);
-      due = h.due;
-    }
+    sound-with_session seat session low own keeps =
+        let place : Place = record { present = Some session; earlier = (world.places seat).earlier } in
+        let all = keeps_on seat place keeps in
+        record {
+          seats = updated (λ other at. IsSoundSeat registry other (published_on world.writes other) at)
+              world.places seat place h.seats (low, own);
+          publications = of_after (λ other. cond (seat == other) place (world.places other)) all;
+          due = h.due;
+          shown = shown_after (λ other. cond (seat == other) place (world.places other)) all;
+        }
 
-    sound-answering : (seat : ℕ) (session : Session) (line : LineForm) → seat < SEATS
+    sound-answering : (seat : ℕ) (session : Session) (line : LineForm) → (world.places seat).present ≡ Some session
+        → seat < SEATS
         → IsSoundSession registry session.account (life_in registry (answered session line)) None (number_on world seat)
         (published_on world.writes seat)
         → IsSoundWorld registry (answering world seat session line)
-    sound-answering seat session line low own =
-        let one = sound-with_session seat (answered session line) low own in
-        record { seats = one.seats; due = one.due }
+    sound-answering seat session line is low own =
+        let one = sound-with_session seat (answered session line) low own
+        (keeps_changed (world.places seat) session (answered session line) is refl) in
+        record { seats = one.seats; publications = one.publications; due = one.due; shown = one.shown }
 
     pub sound-opening : (seat : ℕ) (name : List ℕ) → IsSoundWorld registry (opening registry world seat name)
     unfolding opening
@@ -267,16 +308,14 @@ module _ (registry : Registry) where
         cond_both (nat_lt seat SEATS && is_none (world.places seat).present) _ world (IsSoundWorld registry)
         (λ may. option_case (IsSoundWorld registry) _ world (session_account registry name) h (λ account is.
         sound-with_session seat (new_session account) (ltb-true seat SEATS ((and_parts _ _ may).0))
-        (session-new registry account (number_on world seat) (published_on world.writes seat))))
+        (session-new registry account (number_on world seat) (published_on world.writes seat))
+        (keeps_opened (world.places seat) (new_session account)
+        (none_of (world.places seat).present ((and_parts _ _ may).1)))))
         (λ no. h)
-
-    none_pending : (go : Option Pending) → is_none go ≡ true → go ≡ None
-    none_pending None h = refl
-    none_pending (Some pending) h = cc
 
     may_ask_none : (session : Session) → may_ask registry session ≡ true → session.go ≡ None
     unfolding may_ask
-    may_ask_none session may = none_pending session.go ((and_parts _ _ may).0)
+    may_ask_none session may = none_of session.go ((and_parts _ _ may).0)
 
     pub sound-asking : (seat : ℕ) (line : LineForm) → IsSoundWorld registry (asking registry world seat line)
     unfolding asking
@@ -290,8 +329,9 @@ module _ (registry : Registry) where
         cond_both (accepts_go registry session line) _ _ (IsSoundWorld registry)
         (λ begun. sound-with_session seat (waiting session line false) at.0
         (session-waiting registry session.account (number_on world seat) (published_on world.writes seat)
-        (life_in registry session) line (accepts_from registry session line begun) idle))
-        (λ no. sound-answering seat session line at.0
+        (life_in registry session) line (accepts_from registry session line begun) idle)
+        (keeps_changed (world.places seat) session (waiting session line false) is refl))
+        (λ no. sound-answering seat session line is at.0
         (session-answered registry session.account (number_on world seat) (published_on world.writes seat)
         (life_in registry session) (ask_in line)
         (λ is_go. both_ways (accepts_go registry session line) no (accepts_to registry session line is_go)) idle)))
@@ -310,16 +350,25 @@ module _ (registry : Registry) where
         subst (λ waits. IsSoundSession registry session.account (life_in registry session) waits (number_on world seat)
         (published_on world.writes seat))
         (pends ∙ ap (λ b. Some (record { line = pending.line; published = b })) due) at.1 in
+        let place : Place = record { present = Some (waiting session pending.line true); earlier = (world.places seat).earlier } in
+        let publication = publication_of registry session.account (life_in registry session) (number_on world seat) in
+        let all = keeps_on seat place (keeps_changed (world.places seat) session (waiting session pending.line true) is refl) in
         record {
-          seats = both_updated (IsSoundSeat registry) world.places (published_on world.writes) seat
-              (record { present = Some (waiting session pending.line true); earlier = (world.places seat).earlier })
-              (Some (publication_of registry session.account (life_in registry session) (number_on world seat)))
-              h.seats (
+          seats = both_updated (IsSoundSeat registry) world.places (published_on world.writes) seat place
+              (Some publication) h.seats (
                 at.0,
                 session-published registry session.account (number_on world seat)
                     (published_on world.writes seat) (life_in registry session) pending.line before,
               );
+          publications = λ other. publication_updated
+              (λ one named. IfSome named (IsOfSession (cond (seat == one) place (world.places one))))
+              (published_on world.writes) seat (Some publication)
+              (of_after (λ one. cond (seat == one) place (world.places one)) all)
+              (of_own seat world.places place publication
+              (own_number (waiting session pending.line true) (world.places seat).earlier))
+              other;
           due = h.due;
+          shown = shown_after (λ one. cond (seat == one) place (world.places one)) all;
         })))
 
     pub sound-finishing : (seat : ℕ) → IsSoundWorld registry (finishing world seat)
@@ -335,7 +384,7 @@ module _ (registry : Registry) where
         subst (λ waits. IsSoundSession registry session.account (life_in registry session) waits (number_on world seat)
         (published_on world.writes seat))
         (pends ∙ ap (λ b. Some (record { line = pending.line; published = b })) due) at.1 in
-        sound-answering seat session pending.line at.0
+        sound-answering seat session pending.line is at.0
         (session-finished registry session.account (number_on world seat) (published_on world.writes seat)
         (life_in registry session) pending.line before))
         (λ no. h)))
@@ -349,7 +398,7 @@ module _ (registry : Registry) where
     withdrawn_seat seat place publication (Some session) is may at =
         let before = rw is at at in
         let parts = and_parts _ _ (rw is at may) in
-        let none : session.go ≡ None = none_pending session.go parts.0 in
+        let none : session.go ≡ None = none_of session.go parts.0 in
         let quiet : is_tracing registry session ≡ false = not-true (is_tracing registry session) parts.1 in
         rw is (
           before.0,
@@ -368,7 +417,10 @@ module _ (registry : Registry) where
               (withdrawn_seat seat (world.places seat) (published_on world.writes seat) (world.places seat).present
               refl may
               (h.seats seat));
+          publications = publication_updated (λ other publication. IfSome publication (IsOfSession (world.places other)))
+              (published_on world.writes) seat None h.publications tt;
           due = h.due;
+          shown = h.shown;
         })
         (λ no. h)
 
@@ -384,6 +436,36 @@ module _ (registry : Registry) where
     due_at true cpu seat firing named none past = rw none refl
     due_at false cpu seat firing named none past = h.due cpu seat past
 
+    -- what a look names is shown the firing
+    named_shown : (place : Place) (firing : Firing) (life : ℕ) (publication : Option Published)
+        → IfSome publication (IsOfSession place)
+        → IsSomeAnd publication (λ one. (one.life ≡ life) × NamesFiring registry one firing)
+        → IsDueToShown registry place (record { life = life; firing = firing })
+    named_shown place firing life None of_one names = absurd names
+    named_shown place firing life (Some one) of_one names =
+        subst (λ o. IsSomeAnd o (λ account. IsShown account registry firing))
+        (sym (ap (account_numbered place) (sym names.0) ∙ of_one)) names.1.admitted
+
+    looked_shown : (seat : ℕ) (firing : Firing) (named : Option ℕ) → mask_of registry world.writes firing seat ≡ named
+        → IfSome (option_map (λ life. record { life = life; firing = firing }) named)
+        (IsDueToShown registry (world.places seat))
+    looked_shown seat firing None is = tt
+    looked_shown seat firing (Some life) is =
+        named_shown (world.places seat) firing life (published_on world.writes seat) (h.publications seat)
+        (((mask_is_look registry world.writes firing).exactly seat life).0 is)
+
+    shown_looking : (same : Bool) (cpu seat : ℕ) (firing : Firing) (named : Option ℕ)
+        → mask_of registry world.writes firing seat ≡ named
+        → IfSome (cond same (option_map (λ life. record { life = life; firing = firing }) named) (world.due cpu seat))
+        (IsDueToShown registry (passed firing named (world.places seat)))
+    shown_looking true cpu seat firing named is =
+        due_later registry (world.places seat) (passed firing named (world.places seat))
+        (option_map (λ life. record { life = life; firing = firing }) named)
+        (keeps_passed firing named (world.places seat)) (looked_shown seat firing named is)
+    shown_looking false cpu seat firing named is =
+        due_later registry (world.places seat) (passed firing named (world.places seat)) (world.due cpu seat)
+        (keeps_passed firing named (world.places seat)) (h.shown cpu seat)
+
     pub sound-looking : (cpu : ℕ) (firing : Firing) → IsSoundWorld registry (looking registry world cpu firing)
     unfolding looking
     sound-looking cpu firing =
@@ -392,8 +474,12 @@ module _ (registry : Registry) where
         (λ may. record {
           seats = λ seat. sound-passed seat (published_on world.writes seat) (world.places seat) firing
               (mask_of registry world.writes firing seat) (h.seats seat);
+          publications = of_after (λ seat. passed firing (mask_of registry world.writes firing seat) (world.places seat))
+              (λ seat. keeps_passed firing (mask_of registry world.writes firing seat) (world.places seat));
           due = λ other seat past. due_at (other == cpu) other seat firing (mask_of registry world.writes firing seat)
               (none_named firing seat past) past;
+          shown = λ other seat. shown_looking (other == cpu) other seat firing
+              (mask_of registry world.writes firing seat) refl;
         })
         (λ no. h)
 
@@ -401,31 +487,51 @@ module _ (registry : Registry) where
     no_due_at true cpu seat past = refl
     no_due_at false cpu seat past = h.due cpu seat past
 
+    shown_taken : (taken : Bool) (cpu seat : ℕ) (later : Place) → KeepsAccounts (world.places seat) later
+        → IfSome (cond taken None (world.due cpu seat)) (IsDueToShown registry later)
+    shown_taken true cpu seat later keeps = tt
+    shown_taken false cpu seat later keeps =
+        due_later registry (world.places seat) later (world.due cpu seat) keeps (h.shown cpu seat)
+
     pub sound-offering : (cpu seat : ℕ) → IsSoundWorld registry (offering world cpu seat)
     unfolding offering
     sound-offering cpu seat =
-        option_case (IsSoundWorld registry) _ world (world.due cpu seat) h (λ due is. record {
-          seats = updated (λ other place. IsSoundSeat registry other (published_on world.writes other) place)
-              world.places seat
-              (offered due (world.places seat)) h.seats
+        option_case (IsSoundWorld registry) _ world (world.due cpu seat) h (λ due is.
+        let place = offered due (world.places seat) in
+        let all = keeps_on seat place (keeps_offered due (world.places seat)) in
+        record {
+          seats = updated (λ other at. IsSoundSeat registry other (published_on world.writes other) at)
+              world.places seat place h.seats
               (sound-offered seat (published_on world.writes seat) (world.places seat) due (h.seats seat));
+          publications = of_after (λ other. cond (seat == other) place (world.places other)) all;
           due = λ other at past. no_due_at (other == cpu && at == seat) other at past;
+          shown = λ other at. shown_taken (other == cpu && at == seat) other at
+              (cond (seat == at) place (world.places at)) (all at);
         })
 
     pub sound-closing : (seat : ℕ) → IsSoundWorld registry (closing world seat)
     unfolding closing
     sound-closing seat =
-        option_case (IsSoundWorld registry) _ world (world.places seat).present h (λ session is. record {
-          seats = updated (λ other place. IsSoundSeat registry other (published_on world.writes other) place)
-              world.places seat
-              (record { present = None; earlier = session ∷ (world.places seat).earlier }) h.seats
+        option_case (IsSoundWorld registry) _ world (world.places seat).present h (λ session is.
+        let place : Place = record { present = None; earlier = session ∷ (world.places seat).earlier } in
+        let all = keeps_on seat place (keeps_closed (world.places seat) session is) in
+        record {
+          seats = updated (λ other at. IsSoundSeat registry other (published_on world.writes other) at)
+              world.places seat place h.seats
               (no_publication seat (published_on world.writes seat) (world.places seat) (world.places seat).present refl
               (h.seats seat));
+          publications = of_after (λ other. cond (seat == other) place (world.places other)) all;
           due = h.due;
+          shown = shown_after (λ other. cond (seat == other) place (world.places other)) all;
         })
 
   pub sound-start : IsSoundWorld registry new_world
-  sound-start = record { seats = λ seat past. refl; due = λ cpu seat past. refl }
+  sound-start = record {
+    seats = λ seat past. refl;
+    publications = λ seat. tt;
+    due = λ cpu seat past. refl;
+    shown = λ cpu seat. tt;
+  }
 
   pub sound-happens : (world : World) (step : StepForm) → IsSoundWorld registry world
       → IsSoundWorld registry (after_step registry world step)

@@ -1,6 +1,6 @@
 -- The seats with their consumers after each step.
 use Rattle.std.proofs.Common.{◌≡◌, ◌≢◌, ℕ, zero, suc, ◌+◌, ◌^◌, ◌<◌, ◌≤◌, ◌&&◌, ◌==◌, Bool, true, false, cond, not}
-use Rattle.std.proofs.Common.{List, ◌∷◌, Option, Some, None, is_none, is_some, IfSome, IsTrue, ◌↔◌, nat_lt, length}
+use Rattle.std.proofs.Common.{List, ◌∷◌, Option, Some, None, is_none, is_some, IfSome, ◌↔◌, nat_lt, length}
 use Rattle.std.proofs.Common.{get_or, set, MatchBool, MatchOption, ⊎_elim, refl, sym, ap, ◌∙◌, subst, arith}
 use Rattle.std.proofs.lemmas.Bool.{eqb-true, eqb-false, eq-eqb, ne_eqb, ltb-true, lt-ltb, and_parts, and_from}
 use Rattle.std.proofs.lemmas.Bool.{and_right, false_from_ne_true, cases_lt, cases_eq}
@@ -24,8 +24,8 @@ use Rattle.dt_life.specs.Life.{ecbs}
 use Rattle.dt_proto.specs.Alone.{firing_made}
 use Rattle.dt_proto.specs.Lines.{LineForm}
 use Rattle.dt_proto.specs.Session.{session_account}
-use Rattle.dt_steps.specs.Sound.{IsSoundSeat, IsSoundWorld}
-use Rattle.dt_steps.specs.Stands.{IsSession, IsPresent, IsHeld, IsAsked, IsAskedOn, IsFinishing, IsFinishedOn}
+use Rattle.dt_steps.specs.Sound.{IsDueToShown, IsSoundSeat, IsSoundWorld}
+use Rattle.dt_steps.specs.Stands.{IsSession, IsPresent, IsPlace, IsAsked, IsAskedOn, IsFinishing, IsFinishedOn}
 use Rattle.dt_steps.specs.Stands.{IsPublishedOn, WorldIsKept, IsAnswered, IsNaming, with_present, opened_on, closed_on}
 use Rattle.dt_steps.specs.Stands.{due_of, due_in, sees_on, seen_in}
 use Rattle.dt_steps.specs.Steps.{with_place, with_session, question_of, answering, opening, asking, publishing}
@@ -34,11 +34,12 @@ use Rattle.dt_steps.specs.Steps.{closing}
 use Rattle.dt_life.specs.Tests.{is_seen}
 use Rattle.dt_chain.specs.Tests.{is_named, mask_of}
 use Rattle.dt_ecb.specs.Interest.{interest_of}
-use Rattle.dt_steps.specs.World.{World, Session, Pending, Place, DueOffer, number_on, life_in, new_session, reached}
+use Rattle.dt_steps.specs.World as worlds
+use Rattle.dt_steps.specs.World.{World, DueOffer, number_on, life_in, new_session, reached}
 use Rattle.dt_steps.specs.World.{answered, waiting, may_ask, accepts_go, may_withdraw}
-use Rattle.dt_steps.specs.declared.place.Place.{Place as HeldPlace}
+use Rattle.dt_steps.specs.declared.place.Place.{Place}
 use Rattle.dt_steps.specs.declared.due.DueOffers.{DueOffers}
-use Rattle.dt_steps.specs.declared.session.Session.{Session as HeldSession}
+use Rattle.dt_steps.specs.declared.session.Session.{Session}
 use Rattle.dt_chain.specs.laws.Tests.{mask_is_look}
 use Rattle.dt_steps.specs.laws.Unseen.{unseen_unless_named}
 
@@ -82,68 +83,68 @@ read_at xs ys i found value same low read is =
     ap (λ list. slice_get list i) (sym same) ∙ slice_get-get_or ys i found within ∙ ap Some (sym read) ∙ ap Some is
 
 -- what a call found on a seat
-pub record Found (seats : List HeldPlace) (at seat : ℕ) (held : HeldPlace) : Type 0 where
+pub record Found (seats : List Place) (at seat : ℕ) (held : Place) : Type 0 where
   pub is : at ≡ seat
   pub low : at < SEATS
   pub read : held ≡ get_or seats at held
 
 module _ (registry : Registry) where
   -- what is on a seat after the calls on it, in the words of its session
-  held_session : (place : Place) (session : Session) (held : HeldPlace) (served : HeldSession)
+  held_session : (place : worlds.Place) (session : worlds.Session) (held : Place) (served : Session)
       → held.earlier ≡ length place.earlier → held.present ≡ Some served → IsSession registry session served
-      → IsHeld registry (with_present place session) held
+      → IsPlace registry (with_present place session) held
   held_session place session held served counted is kept = record { counted = counted; present = rw is kept }
 
   -- the same session is served
-  held_same : (place : Place) (session : Session) (held : HeldPlace) (served : HeldSession) → place.present ≡ Some session
+  held_same : (place : worlds.Place) (session : worlds.Session) (held : Place) (served : Session) → place.present ≡ Some session
       → held.earlier ≡ length place.earlier → held.present ≡ Some served → IsSession registry session served
-      → IsHeld registry place held
+      → IsPlace registry place held
   held_same place session held served at counted is kept = record {
     counted = counted;
     present = present_same place.present held.present at is kept;
   } where
-    present_same : (present : Option Session) (served_ : Option HeldSession) → present ≡ Some session
+    present_same : (present : Option worlds.Session) (served_ : Option Session) → present ≡ Some session
         → served_ ≡ Some served → IsSession registry session served → IsPresent registry present served_
     present_same present served_ e f kept = rw (e, f) kept
 
-  module _ (world : World) (seats : List HeldPlace) (publications : Entries) (processors : List DueOffers)
+  module _ (world : World) (seats : List Place) (publications : Entries) (processors : List DueOffers)
       (kept : WorldIsKept registry world seats publications processors) where
-    module _ (at seat : ℕ) (held : HeldPlace) (found : Found seats at seat held) where
+    module _ (at seat : ℕ) (held : Place) (found : Found seats at seat held) where
       seat_low : seat < SEATS
       seat_low = let is = found.is in let low = found.low in omega arith
 
-      pub held_at : IsHeld registry (world.places seat) held
+      pub held_at : IsPlace registry (world.places seat) held
       held_at =
           let long = kept.all in
           let low = found.low in
           let there : slice_get seats at ≡ Some held =
           slice_get_read seats (length seats) at held refl (omega arith) found.read in
           let same : slice_get seats seat ≡ Some held = sym (ap (slice_get seats) found.is) ∙ there in
-          rw same at (kept.held seat)
+          rw same at (kept.places seat)
 
       -- what is kept after something changed on this seat
-      kept_seat : (places : ℕ → Place) (place : Place) (after : HeldPlace)
-          → ((other : ℕ) → IfSome (slice_get seats other) (IsHeld registry (places other)))
-          → IsHeld registry place after → (other : ℕ)
-          → IfSome (slice_get (set seats at after) other) (IsHeld registry (cond (seat == other) place (places other)))
+      kept_seat : (places : ℕ → worlds.Place) (place : worlds.Place) (after : Place)
+          → ((other : ℕ) → IfSome (slice_get seats other) (IsPlace registry (places other)))
+          → IsPlace registry place after → (other : ℕ)
+          → IfSome (slice_get (set seats at after) other) (IsPlace registry (cond (seat == other) place (places other)))
       kept_seat places place after before now other =
           let long = kept.all in
           let low = found.low in
-          get_set_at (λ o. IfSome o (IsHeld registry (cond (seat == other) place (places other)))) seats at other after
+          get_set_at (λ o. IfSome o (IsPlace registry (cond (seat == other) place (places other)))) seats at other after
           (at == other) refl (omega arith)
           (λ same. let own : (seat == other) ≡ true = ap (λ n. n == other) (sym found.is) ∙ same in rw own now)
           (λ same. let own : (seat == other) ≡ false = ap (λ n. n == other) (sym found.is)
           ∙ same in rw own (before other))
 
-      set_all : (after : HeldPlace) → length (set seats at after) ≡ SEATS
+      set_all : (after : Place) → length (set seats at after) ≡ SEATS
       set_all after = length-set seats at after ∙ kept.all
 
       -- the session on this seat is another, or what is on it
-      kept-with_place : (place : Place) (after : HeldPlace) → IsHeld registry place after
+      kept-with_place : (place : worlds.Place) (after : Place) → IsPlace registry place after
           → WorldIsKept registry (with_place world seat place) (set seats at after) publications processors
       kept-with_place place after h = record {
         all = set_all after;
-        held = kept_seat world.places place after kept.held h;
+        places = kept_seat world.places place after kept.places h;
         published = kept.published;
         cpus = kept.cpus;
         due = kept.due;
@@ -151,39 +152,39 @@ module _ (registry : Registry) where
       }
 
       -- nothing changed there
-      kept_same_at : (after : HeldPlace) (other : ℕ) → IsHeld registry (world.places seat) after
-          → IfSome (slice_get (set seats at after) other) (IsHeld registry (world.places other))
+      kept_same_at : (after : Place) (other : ℕ) → IsPlace registry (world.places seat) after
+          → IfSome (slice_get (set seats at after) other) (IsPlace registry (world.places other))
       kept_same_at after other h =
           let long = kept.all in
           let low = found.low in
-          get_set_at (λ o. IfSome o (IsHeld registry (world.places other))) seats at other after (at == other) refl
+          get_set_at (λ o. IfSome o (IsPlace registry (world.places other))) seats at other after (at == other) refl
           (omega arith)
           (λ same.
           let own : seat ≡ other = sym found.is ∙ eqb-true at other same in
-          subst (λ n. IsHeld registry (world.places n) after) own h)
-          (λ same. kept.held other)
+          subst (λ n. IsPlace registry (world.places n) after) own h)
+          (λ same. kept.places other)
 
-      kept_same : (after : HeldPlace) → IsHeld registry (world.places seat) after
+      kept_same : (after : Place) → IsPlace registry (world.places seat) after
           → WorldIsKept registry world (set seats at after) publications processors
       kept_same after h = record {
         all = set_all after;
-        held = λ other. kept_same_at after other h;
+        places = λ other. kept_same_at after other h;
         published = kept.published;
         cpus = kept.cpus;
         due = kept.due;
         moments = kept.moments;
       }
 
-      kept-answering : (session : Session) (line : LineForm) (after : HeldPlace)
-          → IsHeld registry (with_present (world.places seat) (answered session line)) after
+      kept-answering : (session : worlds.Session) (line : LineForm) (after : Place)
+          → IsPlace registry (with_present (world.places seat) (answered session line)) after
           → WorldIsKept registry (answering world seat session line) (set seats at after) publications processors
       kept-answering session line after h =
           let one = kept-with_place (with_present (world.places seat) (answered session line)) after h in
-          record { all = one.all; held = one.held; published = one.published; cpus = one.cpus; due = one.due; moments = one.moments }
+          record { all = one.all; places = one.places; published = one.published; cpus = one.cpus; due = one.due; moments = one.moments }
 
       -- Open
-      pub kept-opening : (name : List ℕ) (after : HeldPlace)
-          → ((place : Place) → IsHeld registry place held → IsHeld registry (opened_on registry place name) after)
+      pub kept-opening : (name : List ℕ) (after : Place)
+          → ((place : worlds.Place) → IsPlace registry place held → IsPlace registry (opened_on registry place name) after)
           → WorldIsKept registry (opening registry world seat name) (set seats at after) publications processors
       unfolding opening
       kept-opening name after opens =
@@ -191,8 +192,8 @@ module _ (registry : Registry) where
           opened_at (is_some (world.places seat).present) (session_account registry name) refl refl here after
           (opens (world.places seat) held_at) where
             opened_at : (taken : Bool) (account : Option Account) → is_some (world.places seat).present ≡ taken
-                → session_account registry name ≡ account → nat_lt seat SEATS ≡ true → (after : HeldPlace)
-                → IsHeld registry (opened_on registry (world.places seat) name) after
+                → session_account registry name ≡ account → nat_lt seat SEATS ≡ true → (after : Place)
+                → IsPlace registry (opened_on registry (world.places seat) name) after
                 → WorldIsKept registry (cond (nat_lt seat SEATS && not (is_some (world.places seat).present))
                 (option_map_or (λ own. with_session world seat (new_session own))
                 (session_account registry name) world)
@@ -206,12 +207,12 @@ module _ (registry : Registry) where
                 (rw (taken, is) at h))
 
       -- Ask
-      Asked : LineForm → Option (List ℕ) → HeldPlace → World → Type 0
+      Asked : LineForm → Option (List ℕ) → Place → World → Type 0
       Asked line reply after later =
           WorldIsKept registry later (set seats at after) publications processors
           × IsAnswered registry world later seat reply
 
-      asked_begun : (session : Session) (line : LineForm) (reply : Option (List ℕ)) (after : HeldPlace) (served : HeldSession)
+      asked_begun : (session : worlds.Session) (line : LineForm) (reply : Option (List ℕ)) (after : Place) (served : Session)
           → after.earlier ≡ length (world.places seat).earlier → after.present ≡ Some served
           → IsAsked registry session line reply served
           → Asked line reply after (cond (accepts_go registry session line)
@@ -228,31 +229,31 @@ module _ (registry : Registry) where
         rw h.0 (question_of world seat session line, refl, (refl, h.2)),
       )
 
-      pub kept-asking : (line : LineForm) (reply : Option (List ℕ)) (after : HeldPlace)
-          → ((place : Place) → IsHeld registry place held → IsAskedOn registry place line reply after)
+      pub kept-asking : (line : LineForm) (reply : Option (List ℕ)) (after : Place)
+          → ((place : worlds.Place) → IsPlace registry place held → IsAskedOn registry place line reply after)
           → WorldIsKept registry (asking registry world seat line) (set seats at after) publications processors
           × IsAnswered registry world (asking registry world seat line) seat reply
       unfolding asking Asked
       kept-asking line reply after asks =
           asked_case (world.places seat).present (asks (world.places seat) held_at) where
-            may_case : (session : Session) (may : Bool)
+            may_case : (session : worlds.Session) (may : Bool)
                 → MatchBool may
-                ((served : HeldSession) × (after.earlier ≡ length (world.places seat).earlier)
+                ((served : Session) × (after.earlier ≡ length (world.places seat).earlier)
                 × (after.present ≡ Some served)
                 × IsAsked registry session line reply served)
-                ((reply ≡ None) × IsHeld registry (world.places seat) after)
+                ((reply ≡ None) × IsPlace registry (world.places seat) after)
                 → Asked line reply after (cond may (cond (accepts_go registry session line)
                 (with_session world seat (waiting session line false)) (answering world seat session line)) world)
             may_case session true h = asked_begun session line reply after h.0 h.1 h.2 h.3
             may_case session false h = (kept_same after h.1, rw h.0 refl)
 
-            asked_case : (present : Option Session)
-                → MatchOption present ((reply ≡ None) × IsHeld registry (world.places seat) after)
+            asked_case : (present : Option worlds.Session)
+                → MatchOption present ((reply ≡ None) × IsPlace registry (world.places seat) after)
                 (λ session. MatchBool (may_ask registry session)
-                ((served : HeldSession) × (after.earlier ≡ length (world.places seat).earlier)
+                ((served : Session) × (after.earlier ≡ length (world.places seat).earlier)
                 × (after.present ≡ Some served)
                 × IsAsked registry session line reply served)
-                ((reply ≡ None) × IsHeld registry (world.places seat) after))
+                ((reply ≡ None) × IsPlace registry (world.places seat) after))
                 → Asked line reply after (option_map_or (λ session. cond (may_ask registry session)
                 (cond (accepts_go registry session line) (with_session world seat (waiting session line false))
                 (answering world seat session line)) world) present world)
@@ -260,12 +261,12 @@ module _ (registry : Registry) where
             asked_case (Some session) h = may_case session (may_ask registry session) h
 
       -- Finish
-      Finished : Option (List ℕ) → HeldPlace → World → Type 0
+      Finished : Option (List ℕ) → Place → World → Type 0
       Finished reply after later =
           WorldIsKept registry later (set seats at after) publications processors
           × IsAnswered registry world later seat reply
 
-      finished_on : (session : Session) (reply : Option (List ℕ)) (after : HeldPlace) (served : HeldSession)
+      finished_on : (session : worlds.Session) (reply : Option (List ℕ)) (after : Place) (served : Session)
           → (world.places seat).present ≡ Some session
           → after.earlier ≡ length (world.places seat).earlier → after.present ≡ Some served
           → IsFinishing registry session reply served
@@ -273,10 +274,10 @@ module _ (registry : Registry) where
           (answering world seat session pending.line) world) session.go world)
       unfolding Finished
       finished_on session None after served at_ counted is h =
-          let same : IsHeld registry (world.places seat) after =
+          let same : IsPlace registry (world.places seat) after =
           held_same (world.places seat) session after served at_ counted is h.1 in
           not_at session.go h.0 (kept_same after same, refl) where
-            not_at : (pending : Option Pending) → option_map_or (λ (p : Pending). p.published) pending false ≡ false
+            not_at : (pending : Option worlds.Pending) → option_map_or (λ (p : worlds.Pending). p.published) pending false ≡ false
                 → Finished None after world
                 → Finished None after (option_map_or
                 (λ p. cond p.published (answering world seat session p.line) world) pending world)
@@ -289,16 +290,16 @@ module _ (registry : Registry) where
             (question_of world seat session h.0.line, refl, (refl, h.3)),
           )
 
-      pub kept-finishing : (reply : Option (List ℕ)) (after : HeldPlace)
-          → ((place : Place) → IsHeld registry place held → IsFinishedOn registry place reply after)
+      pub kept-finishing : (reply : Option (List ℕ)) (after : Place)
+          → ((place : worlds.Place) → IsPlace registry place held → IsFinishedOn registry place reply after)
           → WorldIsKept registry (finishing world seat) (set seats at after) publications processors
           × IsAnswered registry world (finishing world seat) seat reply
       unfolding finishing Finished
       kept-finishing reply after finishes =
           finished_case (world.places seat).present refl (finishes (world.places seat) held_at) where
-            finished_case : (present : Option Session) → (world.places seat).present ≡ present
-                → MatchOption present ((reply ≡ None) × IsHeld registry (world.places seat) after)
-                (λ session. (served : HeldSession) × (after.earlier ≡ length (world.places seat).earlier)
+            finished_case : (present : Option worlds.Session) → (world.places seat).present ≡ present
+                → MatchOption present ((reply ≡ None) × IsPlace registry (world.places seat) after)
+                (λ session. (served : Session) × (after.earlier ≡ length (world.places seat).earlier)
                 × (after.present ≡ Some served) × IsFinishing registry session reply served)
                 → Finished reply after (option_map_or (λ session. option_map_or (λ pending. cond pending.published
                 (answering world seat session pending.line) world) session.go world) present world)
@@ -306,50 +307,50 @@ module _ (registry : Registry) where
             finished_case (Some session) is h = finished_on session reply after h.0 is h.1 h.2 h.3
 
       -- Close
-      pub kept-closing : (after : HeldPlace)
-          → ((place : Place) → length place.earlier + 1 < 2 ^ 64 → IsHeld registry place held
-          → IsHeld registry (closed_on place) after)
+      pub kept-closing : (after : Place)
+          → ((place : worlds.Place) → length place.earlier + 1 < 2 ^ 64 → IsPlace registry place held
+          → IsPlace registry (closed_on place) after)
           → number_on world seat + 1 < 2 ^ 64
           → WorldIsKept registry (closing world seat) (set seats at after) publications processors
       unfolding closing
       kept-closing after closes few =
           closed_case (λ session. record { present = None; earlier = session ∷ (world.places seat).earlier })
           (world.places seat).present (closes (world.places seat) few held_at) where
-            closed_case : (f : Session → Place) (present : Option Session)
-                → IsHeld registry (option_map_or f present (world.places seat)) after
+            closed_case : (f : worlds.Session → worlds.Place) (present : Option worlds.Session)
+                → IsPlace registry (option_map_or f present (world.places seat)) after
                 → WorldIsKept registry (option_map_or (λ session. with_place world seat (f session)) present world)
                 (set seats at after) publications processors
             closed_case f None h = kept_same after h
             closed_case f (Some session) h = kept-with_place (f session) after h
 
       -- Publish
-      kept_published : (session : Session) (pending : Pending) (after : HeldPlace) (later : Entries)
-          → IsHeld registry (with_present (world.places seat) (waiting session pending.line true)) after
+      kept_published : (session : worlds.Session) (pending : worlds.Pending) (after : Place) (later : Entries)
+          → IsPlace registry (with_present (world.places seat) (waiting session pending.line true)) after
           → chain.EntriesAreAt (published seat (number_on world seat) session.account
           (interest_of (ecbs session.account registry (life_in registry session))) ∷ world.writes) later
           → WorldIsKept registry (publishing_of registry world seat session pending) (set seats at after) later
           processors
       kept_published session pending after later h now_published =
           let one = kept-with_place (with_present (world.places seat) (waiting session pending.line true)) after h in
-          record { all = one.all; held = one.held; published = now_published; cpus = one.cpus; due = one.due; moments = one.moments }
+          record { all = one.all; places = one.places; published = now_published; cpus = one.cpus; due = one.due; moments = one.moments }
 
-      kept_publications : (after : HeldPlace) (later : Entries) → IsHeld registry (world.places seat) after
+      kept_publications : (after : Place) (later : Entries) → IsPlace registry (world.places seat) after
           → chain.EntriesAreAt world.writes later → WorldIsKept registry world (set seats at after) later processors
       kept_publications after later h now_published =
           let one = kept_same after h in
-          record { all = one.all; held = one.held; published = now_published; cpus = one.cpus; due = one.due; moments = one.moments }
+          record { all = one.all; places = one.places; published = now_published; cpus = one.cpus; due = one.due; moments = one.moments }
 
-      pub kept-publishing : (after : HeldPlace) (later : Entries)
-          → ((place : Place) (writes : List Write) → IsHeld registry place held → chain.EntriesAreAt writes publications
+      pub kept-publishing : (after : Place) (later : Entries)
+          → ((place : worlds.Place) (writes : List Write) → IsPlace registry place held → chain.EntriesAreAt writes publications
           → IsPublishedOn registry seat place writes after later)
           → WorldIsKept registry (publishing registry world seat) (set seats at after) later processors
       unfolding publishing
       kept-publishing after later publishes =
           published_case (world.places seat).present
           (publishes (world.places seat) world.writes held_at kept.published) where
-            pending_case : (session : Session) (pending : Pending) (done : Bool)
-                → MatchBool done (IsHeld registry (world.places seat) after × chain.EntriesAreAt world.writes later)
-                (IsHeld registry (with_present (world.places seat) (waiting session pending.line true)) after
+            pending_case : (session : worlds.Session) (pending : worlds.Pending) (done : Bool)
+                → MatchBool done (IsPlace registry (world.places seat) after × chain.EntriesAreAt world.writes later)
+                (IsPlace registry (with_present (world.places seat) (waiting session pending.line true)) after
                 × chain.EntriesAreAt (published seat (number_on world seat) session.account
                 (interest_of (ecbs session.account registry (life_in registry session))) ∷ world.writes) later)
                 → WorldIsKept registry (cond done world (publishing_of registry world seat session pending))
@@ -357,11 +358,11 @@ module _ (registry : Registry) where
             pending_case session pending true h = kept_publications after later h.0 h.1
             pending_case session pending false h = kept_published session pending after later h.0 h.1
 
-            go_case : (session : Session) (go : Option Pending)
-                → MatchOption go (IsHeld registry (world.places seat) after × chain.EntriesAreAt world.writes later)
+            go_case : (session : worlds.Session) (go : Option worlds.Pending)
+                → MatchOption go (IsPlace registry (world.places seat) after × chain.EntriesAreAt world.writes later)
                 (λ pending. MatchBool pending.published
-                (IsHeld registry (world.places seat) after × chain.EntriesAreAt world.writes later)
-                (IsHeld registry (with_present (world.places seat) (waiting session pending.line true)) after
+                (IsPlace registry (world.places seat) after × chain.EntriesAreAt world.writes later)
+                (IsPlace registry (with_present (world.places seat) (waiting session pending.line true)) after
                 × chain.EntriesAreAt (published seat (number_on world seat) session.account
                 (interest_of (ecbs session.account registry (life_in registry session))) ∷ world.writes) later))
                 → WorldIsKept registry (option_map_or (λ pending. cond pending.published world
@@ -369,14 +370,14 @@ module _ (registry : Registry) where
             go_case session None h = kept_publications after later h.0 h.1
             go_case session (Some pending) h = pending_case session pending pending.published h
 
-            published_case : (present : Option Session)
-                → MatchOption present (IsHeld registry (world.places seat) after
+            published_case : (present : Option worlds.Session)
+                → MatchOption present (IsPlace registry (world.places seat) after
                 × chain.EntriesAreAt world.writes later)
                 (λ session. MatchOption session.go
-                (IsHeld registry (world.places seat) after × chain.EntriesAreAt world.writes later)
+                (IsPlace registry (world.places seat) after × chain.EntriesAreAt world.writes later)
                 (λ pending. MatchBool pending.published
-                (IsHeld registry (world.places seat) after × chain.EntriesAreAt world.writes later)
-                (IsHeld registry (with_present (world.places seat) (waiting session pending.line true)) after
+                (IsPlace registry (world.places seat) after × chain.EntriesAreAt world.writes later)
+                (IsPlace registry (with_present (world.places seat) (waiting session pending.line true)) after
                 × chain.EntriesAreAt (published seat (number_on world seat) session.account
                 (interest_of (ecbs session.account registry (life_in registry session))) ∷ world.writes) later)))
                 → WorldIsKept registry (option_map_or
@@ -388,7 +389,7 @@ module _ (registry : Registry) where
 
       -- Withdraw
       pub kept-withdrawing : (told : Bool) (later : Entries)
-          → ((place : Place) → IsHeld registry place held → told
+          → ((place : worlds.Place) → IsPlace registry place held → told
           ≡ option_map_or (may_withdraw registry) place.present true)
           → (told ≡ true → (writes : List Write) → chain.EntriesAreAt writes publications
           → chain.EntriesAreAt (withdrawn seat ∷ writes) later)
@@ -406,7 +407,7 @@ module _ (registry : Registry) where
                 later processors
             may_case told_ true is does_ none_ = record {
               all = kept.all;
-              held = kept.held;
+              places = kept.places;
               published = does_ is world.writes kept.published;
               cpus = kept.cpus;
               due = kept.due;
@@ -414,7 +415,7 @@ module _ (registry : Registry) where
             }
             may_case told_ false is does_ none_ = record {
               all = kept.all;
-              held = kept.held;
+              places = kept.places;
               published = subst (λ e. chain.EntriesAreAt world.writes e) (sym (none_ is)) kept.published;
               cpus = kept.cpus;
               due = kept.due;
@@ -437,7 +438,7 @@ one_named registry writes firing lives is seat =
     ))
 
 -- a seat after a firing reached its session, which didn't see it
-unseen_present : (registry : Registry) (session : Session) (firing : Firing) (served : Option HeldSession)
+unseen_present : (registry : Registry) (session : worlds.Session) (firing : Firing) (served : Option Session)
     → is_seen session.account registry (life_in registry session) firing ≡ false
     → IsPresent registry (Some session) served
     → IsPresent registry (Some (reached session (firing_made firing))) served
@@ -445,18 +446,18 @@ unseen_present registry session firing None unseen h = h
 unseen_present registry session firing (Some served) unseen h = rw unseen h
 
 module _ (registry : Registry) where
-  passed_held : (seat : ℕ) (publication : Option Published) (place : Place) (held : HeldPlace) (firing : Firing)
-      → IsSoundSeat registry seat publication place → IsHeld registry place held
-      → IsHeld registry (passed firing (option_and_then
+  passed_held : (seat : ℕ) (publication : Option Published) (place : worlds.Place) (held : Place) (firing : Firing)
+      → IsSoundSeat registry seat publication place → IsPlace registry place held
+      → IsPlace registry (passed firing (option_and_then
       (λ one. cond (is_named registry one firing) (Some one.life) None) publication) place) held
   passed_held seat publication place held firing sound h =
-      option_both (λ p. IsHeld registry p held) _ place place.present (λ none. h) (λ session is.
+      option_both (λ p. IsPlace registry p held) _ place place.present (λ none. h) (λ session is.
       cond_case session is (option_map_or (λ life. life == length place.earlier) (option_and_then
       (λ one. cond (is_named registry one firing) (Some one.life) None) publication) false) refl) where
-        cond_case : (session : Session) → place.present ≡ Some session → (named : Bool)
+        cond_case : (session : worlds.Session) → place.present ≡ Some session → (named : Bool)
             → option_map_or (λ life. life == length place.earlier) (option_and_then
             (λ one. cond (is_named registry one firing) (Some one.life) None) publication) false ≡ named
-            → IsHeld registry (cond named place
+            → IsPlace registry (cond named place
             (record place { present = Some (reached session (firing_made firing)) })) held
         cond_case session is true named = h
         cond_case session is false named =
@@ -469,14 +470,14 @@ module _ (registry : Registry) where
               present = unseen_present registry session firing held.present unseen (rw is at h.present);
             }
 
-  held_each : (seats : List HeldPlace) (places later : ℕ → Place) (seat : ℕ) (found : Option HeldPlace)
+  held_each : (seats : List Place) (places later : ℕ → worlds.Place) (seat : ℕ) (found : Option Place)
       → slice_get seats seat ≡ found
-      → ((held : HeldPlace) → IsHeld registry (places seat) held → IsHeld registry (later seat) held)
-      → IfSome found (IsHeld registry (places seat)) → IfSome found (IsHeld registry (later seat))
+      → ((held : Place) → IsPlace registry (places seat) held → IsPlace registry (later seat) held)
+      → IfSome found (IsPlace registry (places seat)) → IfSome found (IsPlace registry (later seat))
   held_each seats places later seat None is keeps h = h
   held_each seats places later seat (Some held) is keeps h = keeps held h
 
-  module _ (world : World) (seats : List HeldPlace) (publications : Entries) (processors : List DueOffers)
+  module _ (world : World) (seats : List Place) (publications : Entries) (processors : List DueOffers)
       (sound : IsSoundWorld registry world) (kept : WorldIsKept registry world seats publications processors) where
     -- whether a look is enabled
     done_all : (due : ℕ → Option DueOffer) (from count : ℕ) → ((seat : ℕ) → due seat ≡ None)
@@ -602,12 +603,12 @@ module _ (registry : Registry) where
         and_from _ _ parts.0 (and_from _ _ own parts.1) in
         rw may (record {
           all = kept.all;
-          held = λ seat. held_each seats world.places
+          places = λ seat. held_each seats world.places
               (λ at. passed firing (mask_of registry world.writes firing at) (world.places at)) seat
               (slice_get seats seat) refl
               (λ held h. passed_held seat (published_on world.writes seat) (world.places seat) held firing
               (sound.seats seat) h)
-              (kept.held seat);
+              (kept.places seat);
           published = kept.published;
           cpus = length-set processors cpu looked ∙ kept.cpus;
           due = λ other seat. due_after cpu other seat firing looked
@@ -668,15 +669,21 @@ module _ (registry : Registry) where
         → seen_in registry world cpu seat ≡ None
     seen-none cpu seat none = let is : world.due cpu seat ≡ None = kept.due cpu seat ∙ none in rw is refl
 
+    -- what a processor owes to a seat is a firing that the session is shown
+    pub shown-due : (cpu seat : ℕ) (before : DueOffers) (due : DueOffer) → slice_get processors cpu ≡ Some before
+        → due_of before seat ≡ Some due → IsDueToShown registry (world.places seat) due
+    shown-due cpu seat before due is owes =
+        let own : world.due cpu seat ≡ Some due = kept.due cpu seat ∙ ap (λ o. due_in o seat) is ∙ owes in
+        subst (λ o. IfSome o (IsDueToShown registry (world.places seat))) own (sound.shown cpu seat)
+
     -- the session on the seat tells whether the firing is seen
-    pub seen-offered : (cpu at seat : ℕ) (held : HeldPlace) (before : DueOffers) (due : DueOffer) → Found seats at seat held
+    pub seen-offered : (cpu at seat : ℕ) (held : Place) (before : DueOffers) (due : DueOffer) → Found seats at seat held
         → slice_get processors cpu ≡ Some before → due_of before seat ≡ Some due → (seen : Bool)
-        → ((place : Place) → IsHeld registry place held → seen ≡ sees_on registry due place)
+        → (IsPlace registry (world.places seat) held → seen ≡ sees_on registry due (world.places seat))
         → seen_in registry world cpu seat ≡ cond seen (Some due.firing) None
     seen-offered cpu at seat held before due found is owes seen tells =
         let own : world.due cpu seat ≡ Some due = kept.due cpu seat ∙ ap (λ o. due_in o seat) is ∙ owes in
-        let told = tells (world.places seat)
-        (held_at registry world seats publications processors kept at seat held found) in
+        let told = tells (held_at registry world seats publications processors kept at seat held found) in
         rw own (ap (λ b. cond b (Some due.firing) None) (sym told))
 
     due_taken : (cpu seat other at : ℕ) (before after : DueOffers) → slice_get processors cpu ≡ Some before
@@ -697,22 +704,21 @@ module _ (registry : Registry) where
         let own : (other == cpu) ≡ false = ne_eqb other cpu (λ e. eqb-false cpu other same (sym e)) in
         rw own (kept.due other at))
 
-    pub kept-offering : (cpu at seat : ℕ) (held after : HeldPlace) (before left : DueOffers) (due : DueOffer)
+    pub kept-offering : (cpu at seat : ℕ) (held after : Place) (before left : DueOffers) (due : DueOffer)
         → Found seats at seat held → slice_get processors cpu ≡ Some before
         → due_of before seat ≡ Some due
         → ((one : ℕ) → due_of left one ≡ cond (one == seat) None (due_of before one))
         → left.moment ≡ before.moment
-        → ((place : Place) → IsHeld registry place held → IsHeld registry (offered due place) after)
+        → (IsPlace registry (world.places seat) held → IsPlace registry (offered due (world.places seat)) after)
         → WorldIsKept registry (offering world cpu seat) (set seats at after) publications (set processors cpu left)
     unfolding offering
     kept-offering cpu at seat held after before left due found is owes taken stays delivers =
         let own : world.due cpu seat ≡ Some due = kept.due cpu seat ∙ ap (λ o. due_in o seat) is ∙ owes in
-        let h = delivers (world.places seat)
-        (held_at registry world seats publications processors kept at seat held found) in
+        let h = delivers (held_at registry world seats publications processors kept at seat held found) in
         rw own (record {
           all = length-set seats at after ∙ kept.all;
-          held = kept_seat registry world seats publications processors kept at seat held found world.places
-              (offered due (world.places seat)) after kept.held h;
+          places = kept_seat registry world seats publications processors kept at seat held found world.places
+              (offered due (world.places seat)) after kept.places h;
           published = kept.published;
           cpus = length-set processors cpu left ∙ kept.cpus;
           due = λ other one. due_taken cpu seat other one before left is taken;

@@ -6,11 +6,11 @@ use Rattle.std.specs.Option.{ForSome}
 use Rattle.dt_consumer.specs.Draft.{CanApply}
 use Rattle.dt_consumer.specs.declared.consumer.Consumer.{Consumer}
 use Rattle.dt_consumer.specs.laws.Applying.{can_apply_prop}
-use Rattle.dt_steps.specs.declared.session.Pending.{Pending as HeldPending}
+use Rattle.dt_steps.specs.declared.session.Pending.{Pending}
 
 -- The draft of a pending `go`, if there is one, can be applied to the consumer.
-abbrev pub GoIsReady : Consumer → Option HeldPending → Type 0
+abbrev pub GoIsReady : Consumer → Option Pending → Type 0
 GoIsReady consumer go = ForSome go (λ waiting. CanApply consumer waiting.draft)
 
-pub ready_prop : (consumer : Consumer) (go : Option HeldPending) → IsProp (GoIsReady consumer go)
+pub ready_prop : (consumer : Consumer) (go : Option Pending) → IsProp (GoIsReady consumer go)
 ready_prop consumer go = hlevel (can_apply_prop, props)

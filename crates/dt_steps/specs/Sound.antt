@@ -1,8 +1,10 @@
 -- What holds of every world, by its steps alone: what is published of a session that traces is its own interest. So a
--- session that a look doesn't name doesn't see the firing.
-use Rattle.std.specs.Prelude.{◌≡◌, ℕ, ◌<◌, ◌≤◌, true, List, Option, Some, None, length, MatchOption}
+-- session that a look doesn't name doesn't see the firing. And what is published under a session's number has its account.
+-- So a session that a look names is shown the firing.
+use Rattle.std.specs.Prelude.{◌≡◌, ℕ, ◌<◌, ◌≤◌, true, List, Option, Some, None, length, MatchOption, IfSome, IsSomeAnd}
 use Rattle.dt_cred.specs.declared.account.Account.{Account}
 use Rattle.dt_machine.specs.Registry.{Registry}
+use Rattle.dt_machine.specs.Shown.{IsShown}
 use Rattle.dt_chain.specs.Writes.{Published, published_on}
 use Rattle.dt_chain.specs.Limits.{seat_count}
 use Rattle.dt_life.specs.Acceptance.{IsAcceptedGo}
@@ -10,9 +12,17 @@ use Rattle.dt_life.specs.Life.{Item, phase, ecbs, is_active}
 use Rattle.dt_proto.specs.Line.{ask_in}
 use Rattle.dt_proto.specs.Lines.{LineForm}
 use Rattle.dt_ecb.specs.Interest.{interest_of}
-use Rattle.dt_steps.specs.World.{World, Place, Pending, life_in}
+use Rattle.dt_steps.specs.World.{World, Place, Pending, DueOffer, life_in, account_numbered}
+
+-- A publication is of one of the seat's sessions: it has that one's number and account.
+abbrev pub IsOfSession : Place → Published → Type 0
+IsOfSession place publication = account_numbered place publication.life ≡ Some publication.account
 
 module _ (registry : Registry) where
+  -- An offer is due to one of the seat's sessions, whose account is shown the firing.
+  abbrev pub IsDueToShown : Place → DueOffer → Type 0
+  IsDueToShown place due = IsSomeAnd (account_numbered place due.life) (λ account. IsShown account registry due.firing)
+
   -- what a session of this number and this life publishes
   abbrev pub publication_of : Account → List Item → (n : ℕ) → Published
   publication_of account life n = record { life = n; account = account; probes = interest_of (ecbs account registry life) }
@@ -34,4 +44,6 @@ module _ (registry : Registry) where
 
   pub record IsSoundWorld (world : World) : Type 0 where
     pub seats : (seat : ℕ) → IsSoundSeat seat (published_on world.writes seat) (world.places seat)
+    pub publications : (seat : ℕ) → IfSome (published_on world.writes seat) (IsOfSession (world.places seat))
     pub due : (cpu seat : ℕ) → seat_count ≤ seat → world.due cpu seat ≡ None
+    pub shown : (cpu seat : ℕ) → IfSome (world.due cpu seat) (IsDueToShown (world.places seat))

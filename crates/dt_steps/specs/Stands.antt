@@ -32,33 +32,34 @@ use Rattle.dt_steps.specs.Sound.{IsSoundWorld}
 use Rattle.dt_steps.specs.Steps.{may_look, looking}
 use Rattle.dt_life.specs.Tests.{is_seen}
 use Rattle.dt_ecb.specs.Interest.{interest_of}
-use Rattle.dt_steps.specs.World.{World, Session, Place, Pending, DueOffer, Question, life_in, is_closing, new_session}
+use Rattle.dt_steps.specs.World as world
+use Rattle.dt_steps.specs.World.{World, DueOffer, Question, life_in, is_closing, new_session}
 use Rattle.dt_steps.specs.World.{answered, waiting, may_ask, accepts_go}
 use Rattle.dt_steps.specs.declared.engine.Engine.{Engine}
-use Rattle.dt_steps.specs.declared.place.Place.{Place as HeldPlace}
+use Rattle.dt_steps.specs.declared.place.Place.{Place}
 use Rattle.dt_steps.specs.declared.due.DueOffers.{DueOffers}
 use Rattle.dt_steps.specs.declared.due.ScriptPlace.{ScriptPlace}
-use Rattle.dt_steps.specs.declared.session.Session.{Session as HeldSession}
-use Rattle.dt_steps.specs.declared.session.Pending.{Pending as HeldPending}
+use Rattle.dt_steps.specs.declared.session.Session.{Session}
+use Rattle.dt_steps.specs.declared.session.Pending.{Pending}
 
 -- a `go` is pending, and its interest is published; or it isn't yet
-abbrev pub is_published : Session → Bool
+abbrev pub is_published : world.Session → Bool
 is_published session = option_map_or (λ pending. pending.published) session.go false
 
-abbrev pub is_unpublished : Session → Bool
+abbrev pub is_unpublished : world.Session → Bool
 is_unpublished session = option_map_or (λ pending. not pending.published) session.go false
 
 -- the seat with this session
-abbrev pub with_present : Place → Session → Place
+abbrev pub with_present : world.Place → world.Session → world.Place
 with_present place session = record place { present = Some session }
 
 -- what is on a seat after its session was closed
-abbrev pub closed_on : Place → Place
+abbrev pub closed_on : world.Place → world.Place
 closed_on place = option_map_or
     (λ session. record { present = None; earlier = session ∷ place.earlier }) place.present place
 
 -- the account of the session on a seat, where that is the first there
-abbrev pub first_account : Place → Option Account
+abbrev pub first_account : world.Place → Option Account
 first_account place = option_and_then
     (λ session. if length place.earlier == 0 then Some session.account else None) place.present
 
@@ -81,30 +82,30 @@ due_in None seat = None
 module _ (registry : Registry) where
   -- What is kept of a pending `go`, which is an accepted one: its line, whether it is published, the draft, and the text of
   -- the reply that is due to it.
-  pub record IsWaiting (account : Account) (life : List Item) (pending : Pending) (waiting : HeldPending) : Type 0 where
-    pub line : form_asked waiting.line ≡ pending.line
-    pub published : waiting.is_published ≡ pending.published
+  pub record IsPending (account : Account) (life : List Item) (pending : world.Pending) (kept : Pending) : Type 0 where
+    pub line : form_asked kept.line ≡ pending.line
+    pub published : kept.is_published ≡ pending.published
     pub accepted : IsAcceptedGo account registry life (ask_in pending.line)
-    pub drafted : IsDraftOf account registry life (ask_in pending.line) waiting.draft
+    pub drafted : IsDraftOf account registry life (ask_in pending.line) kept.draft
     pub answer : Answer
     pub replies : Replies account registry life (ask_in pending.line) answer
-    pub text : waiting.text.items ≡ reply_text answer
+    pub text : kept.text.items ≡ reply_text answer
 
-  abbrev pub IsPending : Account → List Item → Option Pending → Option HeldPending → Type 0
-  IsPending account life None None = Unit {0}
-  IsPending account life None (Some waiting) = ⊥
-  IsPending account life (Some pending) None = ⊥
-  IsPending account life (Some pending) (Some waiting) = IsWaiting account life pending waiting
+  abbrev pub IsPendingGo : Account → List Item → Option world.Pending → Option Pending → Type 0
+  IsPendingGo account life None None = Unit {0}
+  IsPendingGo account life None (Some kept) = ⊥
+  IsPendingGo account life (Some pending) None = ⊥
+  IsPendingGo account life (Some pending) (Some kept) = IsPending account life pending kept
 
   -- What is kept of a session of this account, this life and this pending `go`: its consumer stands for the life.
-  pub record IsServed (account : Account) (life : List Item) (go : Option Pending) (served : HeldSession) : Type 0 where
-    pub owner : served.account ≡ account
-    pub stands : StandsFor account registry served.consumer life
-    pub closed : served.is_closed ≡ list_any is_closing life
-    pub pending : IsPending account life go served.go
+  pub record IsSessionOf (account : Account) (life : List Item) (go : Option world.Pending) (kept : Session) : Type 0 where
+    pub owner : kept.account ≡ account
+    pub stands : StandsFor account registry kept.consumer life
+    pub closed : kept.is_closed ≡ list_any is_closing life
+    pub pending : IsPendingGo account life go kept.go
 
   -- the session on a seat sees the firing that is due to it
-  abbrev pub sees_on : DueOffer → Place → Bool
+  abbrev pub sees_on : DueOffer → world.Place → Bool
   sees_on due place = option_map_or
       (λ session. (due.life == length place.earlier)
       && is_seen session.account registry (life_in registry session) due.firing) place.present false
@@ -114,70 +115,70 @@ module _ (registry : Registry) where
   seen_in world cpu seat = option_and_then
       (λ due. if sees_on due (world.places seat) then Some due.firing else None) (world.due cpu seat)
 
-  abbrev pub IsSession : Session → HeldSession → Type 0
-  IsSession session served = IsServed session.account (life_in registry session) session.go served
+  abbrev pub IsSession : world.Session → Session → Type 0
+  IsSession session kept = IsSessionOf session.account (life_in registry session) session.go kept
 
-  abbrev pub IsPresent : Option Session → Option HeldSession → Type 0
+  abbrev pub IsPresent : Option world.Session → Option Session → Type 0
   IsPresent None None = Unit {0}
-  IsPresent None (Some served) = ⊥
+  IsPresent None (Some kept) = ⊥
   IsPresent (Some session) None = ⊥
-  IsPresent (Some session) (Some served) = IsSession session served
+  IsPresent (Some session) (Some kept) = IsSession session kept
 
   -- What is kept of a seat: its session, and how many were there before it.
-  pub record IsHeld (place : Place) (held : HeldPlace) : Type 0 where
-    pub counted : held.earlier ≡ length place.earlier
-    pub present : IsPresent place.present held.present
+  pub record IsPlace (place : world.Place) (kept : Place) : Type 0 where
+    pub counted : kept.earlier ≡ length place.earlier
+    pub present : IsPresent place.present kept.present
 
   -- A line was asked of a session that may ask: an accepted `go` is pending without a reply, any other is answered.
-  abbrev pub IsAsked : Session → LineForm → (reply : Option (List ℕ)) → HeldSession → Type 0
-  IsAsked session line None served =
-      (accepts_go registry session line ≡ true) × IsSession (waiting session line false) served
-  IsAsked session line (Some text) served =
-      (accepts_go registry session line ≡ false) × IsSession (answered session line) served
+  abbrev pub IsAsked : world.Session → LineForm → (reply : Option (List ℕ)) → Session → Type 0
+  IsAsked session line None kept =
+      (accepts_go registry session line ≡ true) × IsSession (waiting session line false) kept
+  IsAsked session line (Some text) kept =
+      (accepts_go registry session line ≡ false) × IsSession (answered session line) kept
       × IsText session.account registry session.view line text
 
   -- A published `go` took effect, and is answered; or none is pending, and nothing happened.
-  abbrev pub IsFinishing : Session → (reply : Option (List ℕ)) → HeldSession → Type 0
-  IsFinishing session None served = (is_published session ≡ false) × IsSession session served
-  IsFinishing session (Some text) served =
-      (pending : Pending) × (session.go ≡ Some pending) × (pending.published ≡ true)
+  abbrev pub IsFinishing : world.Session → (reply : Option (List ℕ)) → Session → Type 0
+  IsFinishing session None kept = (is_published session ≡ false) × IsSession session kept
+  IsFinishing session (Some text) kept =
+      (pending : world.Pending) × (session.go ≡ Some pending) × (pending.published ≡ true)
       × IsText session.account registry session.view pending.line text
-      × IsSession (answered session pending.line) served
+      × IsSession (answered session pending.line) kept
 
   -- what is on a seat after an account opens a session there
-  abbrev pub opened_on : Place → (name : List ℕ) → Place
+  abbrev pub opened_on : world.Place → (name : List ℕ) → world.Place
   opened_on place name =
       if is_some place.present then place else
       option_map_or (λ account. with_present place (new_session account)) (session_account registry name) place
 
   -- A line was asked on a seat.
-  abbrev pub IsAskedOn : Place → LineForm → (reply : Option (List ℕ)) → HeldPlace → Type 0
-  IsAskedOn place line reply held = MatchOption place.present ((reply ≡ None) × IsHeld place held)
+  abbrev pub IsAskedOn : world.Place → LineForm → (reply : Option (List ℕ)) → Place → Type 0
+  IsAskedOn place line reply kept = MatchOption place.present ((reply ≡ None) × IsPlace place kept)
       (λ session. MatchBool (may_ask registry session)
-      ((served : HeldSession) × (held.earlier ≡ length place.earlier) × (held.present ≡ Some served)
-      × IsAsked session line reply served)
-      ((reply ≡ None) × IsHeld place held))
+      ((own : Session) × (kept.earlier ≡ length place.earlier) × (kept.present ≡ Some own)
+      × IsAsked session line reply own)
+      ((reply ≡ None) × IsPlace place kept))
 
   -- A published `go` took effect on a seat, if there was one.
-  abbrev pub IsFinishedOn : Place → (reply : Option (List ℕ)) → HeldPlace → Type 0
-  IsFinishedOn place reply held = MatchOption place.present ((reply ≡ None) × IsHeld place held)
-      (λ session. (served : HeldSession) × (held.earlier ≡ length place.earlier) × (held.present ≡ Some served)
-      × IsFinishing session reply served)
+  abbrev pub IsFinishedOn : world.Place → (reply : Option (List ℕ)) → Place → Type 0
+  IsFinishedOn place reply kept = MatchOption place.present ((reply ≡ None) × IsPlace place kept)
+      (λ session. (own : Session) × (kept.earlier ≡ length place.earlier) × (kept.present ≡ Some own)
+      × IsFinishing session reply own)
 
   -- The interest of the session on a seat was published, if its pending `go` wasn't yet.
-  abbrev pub IsPublishedOn : (seat : ℕ) → Place → List Write → HeldPlace → Entries → Type 0
-  IsPublishedOn seat place writes held publications =
-      let same = IsHeld place held × chain.EntriesAreAt writes publications in
+  abbrev pub IsPublishedOn : (seat : ℕ) → world.Place → List Write → Place → Entries → Type 0
+  IsPublishedOn seat place writes kept publications =
+      let same = IsPlace place kept × chain.EntriesAreAt writes publications in
       MatchOption place.present same (λ session. MatchOption session.go same (λ pending. MatchBool pending.published same
-      (IsHeld (with_present place (waiting session pending.line true)) held
+      (IsPlace (with_present place (waiting session pending.line true)) kept
       × chain.EntriesAreAt (published seat (length place.earlier) session.account
       (interest_of (ecbs session.account registry (life_in registry session))) ∷ writes) publications)))
 
   -- What is kept is that of a world: of each seat, of each processor, and the publications.
-  pub record WorldIsKept (world : World) (seats : List HeldPlace) (publications : Entries) (processors : List DueOffers)
+  pub record WorldIsKept (world : World) (seats : List Place) (publications : Entries) (processors : List DueOffers)
       : Type 0 where
     pub all : length seats ≡ seat_count
-    pub held : (seat : ℕ) → IfSome (slice_get seats seat) (IsHeld (world.places seat))
+    pub places : (seat : ℕ) → IfSome (slice_get seats seat) (IsPlace (world.places seat))
     pub published : chain.EntriesAreAt world.writes publications
     pub cpus : length processors ≡ registry.cpus
     pub due : (cpu seat : ℕ) → world.due cpu seat ≡ due_in (slice_get processors cpu) seat

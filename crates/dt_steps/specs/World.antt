@@ -2,7 +2,7 @@
 use Rattle.std.specs.Prelude.{ℕ, ◌==◌, ◌&&◌, Bool, false, not, List, [], ◌∷◌, Option, Some, None, is_none, is_some}
 use Rattle.std.specs.Prelude.{length, if◌then◌else◌}
 use Rattle.std.specs.List.{list_any}
-use Rattle.std.specs.Option.{option_map_or}
+use Rattle.std.specs.Option.{option_map, option_map_or}
 use Rattle.dt_cred.specs.declared.account.Account.{Account}
 use Rattle.dt_machine.specs.Registry.{Registry}
 use Rattle.dt_cred.specs.declared.firing.Firing.{Firing}
@@ -78,6 +78,10 @@ sessions_on place = option_map_or (λ session. session ∷ place.earlier) place.
 -- the session of a seat and a number, if there was one
 abbrev pub session_of : World → (seat n : ℕ) → Option Session
 session_of world seat n = session_numbered (sessions_on (world.places seat)) n
+
+-- the account of the session of a number on a seat, if there was one
+abbrev pub account_numbered : Place → (n : ℕ) → Option Account
+account_numbered place n = option_map (λ session. session.account) (session_numbered (sessions_on place) n)
 
 abbrev pub new_session : Account → Session
 new_session account = record { account = account; view = []; go = None }

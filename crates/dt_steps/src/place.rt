@@ -2,7 +2,7 @@
 ghost use Rattle.std.specs.Prelude.{◌≡◌, ℕ, [], None, IfOk, IfSome, vec_len, slice_get};
 ghost use Rattle.dt_chain.specs.declared.seat.TheConstants.{SEATS};
 ghost use Rattle.dt_machine.specs.Registry.{Registry};
-ghost use Rattle.dt_steps.specs.Stands.{IsHeld};
+ghost use Rattle.dt_steps.specs.Stands.{IsPlace};
 
 use crate::session::{Answered, Finished, Session};
 use dt_chain::{Entries, SEATS, Seat};
@@ -27,13 +27,14 @@ impl Place {
     ghost use Rattle.dt_life.specs.Life.{is_over};
     ghost use Rattle.dt_machine.specs.Moment.{IsMoment};
     ghost use Rattle.dt_proto.specs.Asked.{form_lent, form_asked};
+    ghost use Rattle.dt_steps.specs.Sound.{IsDueToShown};
     ghost use Rattle.dt_steps.specs.Stands.{IsAskedOn, IsFinishedOn, IsPublishedOn, opened_on, closed_on, first_account, sees_on};
     ghost use Rattle.dt_steps.specs.Steps as steps;
     ghost use Rattle.dt_steps.specs.World as world;
 
     /// A seat on which there was no session yet.
     pub(crate) fn new() -> Place
-        ensures { (registry : Registry) → IsHeld registry (record { present = None; earlier = [] }) result }
+        ensures { (registry : Registry) → IsPlace registry (record { present = None; earlier = [] }) result }
     {
         Place {
             present: None,
@@ -48,8 +49,8 @@ impl Place {
         machine: &Machine,
         name: &[u8],
     ) -> Result<(), AllocError>
-        ensures { OnOk result ((place : world.Place) → IsHeld machine.now.registry place self.old
-            → IsHeld machine.now.registry (opened_on machine.now.registry place name.now) self.new) }
+        ensures { OnOk result ((place : world.Place) → IsPlace machine.now.registry place self.old
+            → IsPlace machine.now.registry (opened_on machine.now.registry place name.now) self.new) }
     {
         // on a taken seat, or without an account that may trace, the step isn't enabled
         if self.present.is_some() {
@@ -71,10 +72,10 @@ impl Place {
         machine: &Machine,
         line: WholeLine<'_>,
     ) -> Result<Option<Answered>, AllocError>
-        ensures asked { IfOk result (λ reply. (place : world.Place) → IsHeld machine.now.registry place self.old
+        ensures asked { IfOk result (λ reply. (place : world.Place) → IsPlace machine.now.registry place self.old
             → IsAskedOn machine.now.registry place (form_lent line.entry) (option_map (λ answered. answered.text.items) reply) self.new) }
         ensures over { IfOk result (λ reply. IfSome reply (λ answered. (place : world.Place) (session : world.Session)
-            → IsHeld machine.now.registry place self.old → place.present ≡ Some session
+            → IsPlace machine.now.registry place self.old → place.present ≡ Some session
             → answered.is_over ≡ is_over (world.life_in machine.now.registry session))) }
     {
         match &mut self.present {
@@ -85,10 +86,10 @@ impl Place {
 
     /// Lets the published `go` of its session take effect, and answers the reply's bytes.
     pub(crate) fn finish(&mut self, machine: &Machine) -> Option<Finished>
-        ensures finished { (place : world.Place) → IsHeld machine.now.registry place self.old
+        ensures finished { (place : world.Place) → IsPlace machine.now.registry place self.old
             → IsFinishedOn machine.now.registry place (option_map (λ finished. finished.text.items) result) self.new }
         ensures line { IfSome result (λ finished. (place : world.Place) (session : world.Session) (pending : world.Pending)
-            → IsHeld machine.now.registry place self.old → place.present ≡ Some session → session.go ≡ Some pending
+            → IsPlace machine.now.registry place self.old → place.present ≡ Some session → session.go ≡ Some pending
             → form_asked finished.line ≡ pending.line) }
     {
         match &mut self.present {
@@ -104,7 +105,7 @@ impl Place {
         seat: Seat,
     ) -> Result<(), AllocError>
         ensures { OnOk result ((registry : Registry) (place : world.Place) (writes : List Write)
-            → IsHeld registry place self.old → EntriesAreAt writes publications.old
+            → IsPlace registry place self.old → EntriesAreAt writes publications.old
             → IsPublishedOn registry seat place writes self.new publications.new) }
     {
         match &mut self.present {
@@ -120,7 +121,7 @@ impl Place {
 
     /// Whether its publication may be withdrawn: no consumer on it is active, and no `go` is pending.
     pub(crate) fn may_withdraw(&self) -> bool
-        ensures { (registry : Registry) (place : world.Place) → IsHeld registry place self.now
+        ensures { (registry : Registry) (place : world.Place) → IsPlace registry place self.now
             → result ≡ option_map_or (world.may_withdraw registry) place.present true }
     {
         match &self.present {
@@ -129,14 +130,17 @@ impl Place {
         }
     }
 
-    /// A firing reaches its session, if that has this life. Answers whether the session saw the firing.
+    /// A firing reaches its session, if that has this life. Answers whether the session saw the firing. It is due to a session
+    /// that is shown it: the look asked for that, so the offer doesn't.
     pub(crate) fn deliver(&mut self, machine: &Machine, life: u64, moment: &Moment) -> bool
-        ensures seen { (place : world.Place) → IsHeld machine.now.registry place self.old
+        ensures seen { (place : world.Place) → IsPlace machine.now.registry place self.old
             → IsMoment machine.now.registry moment.now
+            → IsDueToShown machine.now.registry place (record { life = life; firing = moment.now.firing.now })
             → result ≡ sees_on machine.now.registry (record { life = life; firing = moment.now.firing.now }) place }
-        ensures reached { (place : world.Place) → IsHeld machine.now.registry place self.old
+        ensures reached { (place : world.Place) → IsPlace machine.now.registry place self.old
             → IsMoment machine.now.registry moment.now
-            → IsHeld machine.now.registry
+            → IsDueToShown machine.now.registry place (record { life = life; firing = moment.now.firing.now })
+            → IsPlace machine.now.registry
             (steps.offered (record { life = life; firing = moment.now.firing.now }) place) self.new }
     {
         // the mask was made for a session that was here before
@@ -144,14 +148,14 @@ impl Place {
             return false;
         }
         match &mut self.present {
-            Some(session) => session.consumer.offer_moment(machine, moment),
+            Some(session) => session.consumer.offer_shown(machine, moment),
             None => false,
         }
     }
 
     /// Whether its session is there, and the first on the seat.
     pub(crate) fn is_first(&self) -> bool
-        ensures { (registry : Registry) (place : world.Place) → IsHeld registry place self.now
+        ensures { (registry : Registry) (place : world.Place) → IsPlace registry place self.now
             → result ≡ is_some (first_account place) }
     {
         match &self.present {
@@ -162,7 +166,7 @@ impl Place {
 
     /// The account of its session, where that is the first on the seat.
     pub(crate) fn first(&self) -> Option<Account>
-        ensures { (registry : Registry) (place : world.Place) → IsHeld registry place self.now → result ≡ first_account place }
+        ensures { (registry : Registry) (place : world.Place) → IsPlace registry place self.now → result ≡ first_account place }
     {
         match &self.present {
             Some(session) if self.earlier == 0 => Some(session.account),
@@ -172,8 +176,8 @@ impl Place {
 
     /// Ends its session.
     pub(crate) fn close(&mut self)
-        ensures { (registry : Registry) (place : world.Place) → length place.earlier + 1 < 2 ^ 64 → IsHeld registry place self.old
-            → IsHeld registry (closed_on place) self.new }
+        ensures { (registry : Registry) (place : world.Place) → length place.earlier + 1 < 2 ^ 64 → IsPlace registry place self.old
+            → IsPlace registry (closed_on place) self.new }
     {
         if self.present.is_some() {
             self.present = None;
@@ -186,7 +190,7 @@ impl Place {
 pub(crate) fn free_seats(alloc: Global) -> Result<Vec<Place>, AllocError>
     ensures all { IfOk result (λ seats. vec_len seats ≡ SEATS) }
     ensures free { IfOk result (λ seats. (registry : Registry) (seat : ℕ)
-        → IfSome (slice_get seats.items seat) (IsHeld registry (record { present = None; earlier = [] }))) }
+        → IfSome (slice_get seats.items seat) (IsPlace registry (record { present = None; earlier = [] }))) }
 {
     let mut seats = Vec::with_capacity(alloc, SEATS)?;
     for _seat in 0..SEATS {

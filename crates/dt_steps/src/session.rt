@@ -54,7 +54,7 @@ impl Session {
     ghost use Rattle.dt_machine.specs.Registry.{Registry};
     ghost use Rattle.dt_life.specs.Life.{is_over};
     ghost use Rattle.dt_proto.specs.Asked.{form_lent, form_asked};
-    ghost use Rattle.dt_steps.specs.Stands.{IsServed, IsSession, IsAsked, IsFinishing, is_unpublished};
+    ghost use Rattle.dt_steps.specs.Stands.{IsSessionOf, IsSession, IsAsked, IsFinishing, is_unpublished};
     ghost use Rattle.dt_steps.specs.World as world;
 
     /// A session of an account that has asked nothing.
@@ -63,7 +63,7 @@ impl Session {
         account: Account,
         machine: &Machine,
     ) -> Result<Session, AllocError>
-        ensures { IfOk result (IsServed machine.now.registry account [] None) }
+        ensures { IfOk result (IsSessionOf machine.now.registry account [] None) }
     {
         Ok(Session {
             account,

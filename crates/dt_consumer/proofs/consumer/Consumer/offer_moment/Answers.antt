@@ -1,72 +1,41 @@
--- A firing that is seen is taken, and tracing may end by it.
-use Rattle.std.proofs.Common.{◌≡◌, true, false, cond, map, refl, sym, ap, ◌∙◌, subst, arith}
+-- A firing that the account isn't shown is unseen, and any other is offered.
+use Rattle.std.proofs.Common.{◌≡◌, Bool, true, false, sym, ◌∙◌, subst}
+use Rattle.std.proofs.lemmas.Bool.{both_ways}
 use Rattle.dt_cred.specs.declared.account.Account.{Account}
-use Rattle.dt_lang.specs.Program.{form_of_clause}
+use Rattle.dt_cred.specs.declared.firing.Firing.{Firing}
+use Rattle.dt_machine.specs.Registry.{Registry}
 use Rattle.dt_machine.specs.Tests.{is_shown}
-use Rattle.dt_consumer.specs.Keeps.{IsTracing, phase_by}
-use Rattle.dt_life.specs.Life.{set_up, happens, is_active, phase_of}
-use Rattle.dt_life.specs.Takings.{seen}
-use Rattle.dt_life.specs.laws.Happening.{same_options, same_clauses}
-use Rattle.dt_consumer.proofs.Seeing.{names_its, seen_cpu, seen_probe, seen_runs, seen_shown, sees_its}
-use Rattle.dt_consumer.proofs.Stands.{keeps_same, keeps_traced, traced}
+use Rattle.dt_machine.specs.laws.Tests.{shown_from, shown_to}
 use Rattle.dt_consumer.proofs.consumer.Consumer.offer_moment.Goals as goal
-use Rattle.dt_consumer.proofs.consumer.Consumer.offer_moment.Goals.{then-not-wants-via-then-not-wants, then-not-wants-via-else-not-wants+then-not-is_shown}
 
-pub returns-clause-seen : goal.returns-clause-seen
-returns-clause-seen c = λ account life s is holds.
+-- what the consumer's own account is shown is what its life's account is
+told : (own account : Account) (registry : Registry) (firing : Firing) (answer shown : Bool) → own ≡ account
+    → answer ≡ is_shown own registry firing → answer ≡ shown → is_shown account registry firing ≡ shown
+told own account registry firing answer shown same asked is =
+    subst (λ a. is_shown a registry firing ≡ shown) same (sym asked ∙ is)
+
+pub returns-then-is_shown-clause-sees : goal.returns-then-is_shown-clause-sees
+returns-then-is_shown-clause-sees c = λ account life s is.
     let registry = c.args.machine.now.registry in
-    let own = set_up account registry life in
     let firing = c.args.moment.now.firing.now in
-    let next = happens account registry own (seen firing) in
-    let t = traced account registry own c.args.self.now s.keeps c.in-Some.tracing c.in-Some.is in
-    let going = (c.if-not-wants.ensures.going refl).0 in
-    let active : is_active (phase_of own) ≡ true =
-    ap is_active t.standing ∙ ap (λ e. is_active (phase_by e)) going in
-    let saw = subst
-    (λ (a : Account). IsTracing a registry own c.in-Some.tracing
-    → IsTracing a registry (happens a registry own (seen firing)) c.see.new.self)
-    s.keeps.same_account
-    (λ h. c.see.ensures.seen own firing h (ap (map form_of_clause) c.clauses.ensures.value ∙ s.keeps.clauses)
-    (names_its registry c.args.moment.now is)) in
-    record {
-      keeps = keeps_same account registry next _ _ (ap (λ b. cond b next own) active)
-          (keeps_traced account registry c.args.self.now own next c.args.self.now.lines c.see.new.self s.keeps
-          (same_options account registry own (seen firing)) (same_clauses account registry own (seen firing))
-          (saw t) refl);
-      counted = s.counted;
-    }
+    c.offer_shown.ensures.sees account life s is (shown_from account registry firing
+    (told c.args.self.now.account account registry firing c.is_shown.result true s.keeps.same_account
+    (c.is_shown.ensures registry is) c.if-is_shown.true))
 
-pub returns-then-not-wants-clause-sees : goal.returns-then-not-wants-clause-sees
-returns-then-not-wants-clause-sees c = λ account life s is.
+pub returns-then-is_shown-clause-seen : goal.returns-then-is_shown-clause-seen
+returns-then-is_shown-clause-seen c = λ account life s is.
     let registry = c.args.machine.now.registry in
-    let moment = c.args.moment.now in
-    let t = traced account registry (set_up account registry life) c.args.self.now s.keeps c.in-Some.tracing c.in-Some.is in (
-      λ no. cc,
-      λ sees. elim c.then-not-wants.branch [
-        | then-not-wants-via-then-not-wants w ↦
-            absurd (sees.named (c.wants.ensures.unnamed account registry (set_up account registry life) t
-            w.if-not-wants.true
-            (seen_runs account registry life moment is c.in-Some.tracing t sees)
-            (omega (arith, seen_cpu account registry life moment is c.in-Some.tracing t sees))
-            (omega (arith, seen_probe account registry life moment is c.in-Some.tracing t))))
-        | then-not-wants-via-else-not-wants+then-not-is_shown w ↦
-            let shown : is_shown account registry moment.firing.now ≡ false =
-            subst (λ a. is_shown a registry moment.firing.now ≡ false) s.keeps.same_account
-            (sym (w.is_shown.ensures registry is) ∙ w.if-not-is_shown.true) in
-            let no : true ≡ false = sym (seen_shown account registry life moment is c.in-Some.tracing t sees) ∙ shown in
-            cc
-      ],
-    )
+    let firing = c.args.moment.now.firing.now in
+    c.offer_shown.ensures.seen account life s is (shown_from account registry firing
+    (told c.args.self.now.account account registry firing c.is_shown.result true s.keeps.same_account
+    (c.is_shown.ensures registry is) c.if-is_shown.true))
 
-pub returns-clause-sees : goal.returns-clause-sees
-returns-clause-sees c = λ account life s is.
+pub returns-else-is_shown-clause-sees : goal.returns-else-is_shown-clause-sees
+returns-else-is_shown-clause-sees c = λ account life s is.
     let registry = c.args.machine.now.registry in
-    let own = set_up account registry life in
-    let moment = c.args.moment.now in
-    let t = traced account registry own c.args.self.now s.keeps c.in-Some.tracing c.in-Some.is in (
-      λ yes. sees_its account registry life moment is c.in-Some.tracing t (c.if-not-wants.ensures.going refl).0
-          (c.if-not-wants.ensures.named account registry own t refl)
-          (subst (λ a. is_shown a registry moment.firing.now ≡ true) s.keeps.same_account
-          (sym (c.is_shown.ensures registry is) ∙ c.if-not-is_shown.false)),
-      λ sees. refl,
+    let firing = c.args.moment.now.firing.now in
+    let unshown = told c.args.self.now.account account registry firing c.is_shown.result false s.keeps.same_account
+    (c.is_shown.ensures registry is) c.if-is_shown.false in (
+      λ yes. absurd (both_ways c.is_shown.result c.if-is_shown.false yes),
+      λ sees. absurd (both_ways (is_shown account registry firing) unshown (shown_to account registry firing sees.admitted)),
     )

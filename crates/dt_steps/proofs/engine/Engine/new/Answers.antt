@@ -9,7 +9,7 @@ returns c = (
   sound-start c.args.machine.now.registry,
   record {
     all = sym c.in_ok-free_seats.field-0.ok.0 ∙ c.in_ok-free_seats.ensures.all;
-    held = c.in_ok-free_seats.ensures.free c.args.machine.now.registry;
+    places = c.in_ok-free_seats.ensures.free c.args.machine.now.registry;
     published = c.new.ensures;
     cpus = sym c.in_ok-idle_processors.field-0.ok.0 ∙ c.in_ok-idle_processors.ensures.all ∙ c.cpus.ensures.value;
     due = λ cpu. idle_due (slice_get c.in_ok-idle_processors.field-0.items cpu) (c.in_ok-idle_processors.ensures.idle cpu);

@@ -5,11 +5,12 @@ use Rattle.std.proofs.lemmas.Option.{slice_get-get_or, slice_get_past}
 use Rattle.std.specs.List.{slice_get}
 use Rattle.std.specs.Bool.{then_some}
 use Rattle.dt_cred.specs.declared.firing.Firing.{Firing}
+use Rattle.dt_steps.specs.Sound.{IsDueToShown}
 use Rattle.dt_steps.specs.Stands.{due_of, due_in, place_of}
 use Rattle.dt_steps.specs.World.{DueOffer}
 use Rattle.dt_steps.proofs.Soundness.{sound-offering}
 use Rattle.dt_steps.proofs.Standing.{Found, kept-offering, kept-offering-none, kept-offering-past}
-use Rattle.dt_steps.proofs.Standing.{lent-looked, seen-offered, seen-none}
+use Rattle.dt_steps.proofs.Standing.{lent-looked, shown-due, seen-offered, seen-none}
 use Rattle.dt_steps.proofs.engine.Engine.offer.Goals as goal
 
 place_if : (b : Bool) (firing : Firing) → then_some b (place_of firing)
@@ -37,15 +38,17 @@ returns c = λ world at.
     let owes : due_of before c.args.seat ≡ Some due = c.in_ok-life.ensures.offer in
     let lent = lent-looked registry world seats publications processors at.0 at.1 c.args.cpu before c.in_ok-life.moment is
     c.in_ok-life.ensures.lent in
+    let shown : IsDueToShown registry (world.places c.args.seat) due =
+    shown-due registry world seats publications processors at.0 at.1 c.args.cpu c.args.seat before due is owes in
     let seen = seen-offered registry world seats publications processors at.0 at.1 c.args.cpu c.number.result c.args.seat
     c.index_mut-place.result.now before due found is owes c.deliver.result
-    (λ place held. c.deliver.ensures.seen place held lent) in (
+    (λ held. c.deliver.ensures.seen (world.places c.args.seat) held lent shown) in (
       (
         sound-offering registry world at.0 c.args.cpu c.args.seat,
         kept-offering registry world seats publications processors at.0 at.1 c.args.cpu c.number.result c.args.seat
             c.index_mut-place.result.now c.deliver.new.self before c.take.new.self due found is owes
             c.in_ok-life.ensures.taken c.in_ok-life.ensures.moment
-            (λ place held. c.deliver.ensures.reached place held lent),
+            (λ held. c.deliver.ensures.reached (world.places c.args.seat) held lent shown),
       ),
       c.then_some.ensures ∙ place_if c.deliver.result due.firing ∙ sym (ap (option_map place_of) seen),
     )
