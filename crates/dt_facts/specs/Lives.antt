@@ -20,12 +20,12 @@ abbrev pub lives_over : List LifeStep → ℕ
 lives_over steps = length steps / 2
 
 -- the life of this number opened with this trail
-abbrev pub IsRowOf : ℕ → Named Account → List LifeStep → Type 0
-IsRowOf life row steps = slice_get steps (2 * life) ≡ Some (opened row)
+abbrev pub IsRowOfLife : ℕ → Named Account → List LifeStep → Type 0
+IsRowOfLife life row steps = slice_get steps (2 * life) ≡ Some (opened row)
 
 -- the life of this number opened with this trail, and didn't close
 abbrev pub IsOpenAs : ℕ → Named Account → List LifeStep → Type 0
-IsOpenAs life row steps = (length steps ≡ 2 * life + 1) × IsRowOf life row steps
+IsOpenAs life row steps = (length steps ≡ 2 * life + 1) × IsRowOfLife life row steps
 
 -- this many lives opened, and all of them closed
 abbrev pub AreClosed : ℕ → List LifeStep → Type 0
@@ -35,9 +35,9 @@ abbrev pub life_item : ℕ → TrailItem → LifeItem
 life_item life item = record { life = life; item = item }
 
 -- the items of one life, in order
-abbrev pub items_of : ℕ → List LifeItem → List TrailItem
-items_of life list = map (λ one. one.item) (filter (λ one. one.life == life) list)
+abbrev pub items_of_life : ℕ → List LifeItem → List TrailItem
+items_of_life life list = map (λ one. one.item) (filter (λ one. one.life == life) list)
 
 -- the list, once all these items of a life are known
 abbrev pub known_more : ℕ → List TrailItem → List LifeItem → List LifeItem
-known_more life knows list = list ++ map (life_item life) (drop (length (items_of life list)) knows)
+known_more life knows list = list ++ map (life_item life) (drop (length (items_of_life life list)) knows)

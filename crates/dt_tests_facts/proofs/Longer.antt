@@ -4,7 +4,7 @@ use Rattle.std.proofs.lemmas.List.{length-append}
 use Rattle.std.proofs.lemmas.Bool.{ltb-true}
 use Rattle.std.proofs.lemmas.Bool.Decides.{nat_tests}
 use mathlib.Core.List.{IsPrefix}
-use Rattle.dt_facts.specs.Lives.{items_of}
+use Rattle.dt_facts.specs.Lives.{items_of_life}
 use Rattle.dt_facts.specs.declared.fact.LifeItem.{LifeItem}
 use Rattle.dt_facts.specs.laws.Beginnings.{prefix_shorter}
 use Rattle.dt_facts.specs.laws.Items.{items_begin}
@@ -37,18 +37,18 @@ longer_earlier xs ys p = by_case (ltb (length xs) (length ys)) refl
 
 -- the items of a life in the longer of two beginnings are the longer of theirs
 pub items_of_longer : (life : ℕ) (xs ys all : List LifeItem) → IsPrefix xs all → IsPrefix ys all
-    → items_of life (longer xs ys) ≡ longer (items_of life xs) (items_of life ys)
+    → items_of_life life (longer xs ys) ≡ longer (items_of_life life xs) (items_of_life life ys)
 items_of_longer life xs ys all a b = by_case (ltb (length xs) (length ys)) refl
   where
     by_case : (t : Bool) → ltb (length xs) (length ys) ≡ t
-        → items_of life (cond (ltb (length xs) (length ys)) ys xs) ≡ longer (items_of life xs) (items_of life ys)
+        → items_of_life life (cond (ltb (length xs) (length ys)) ys xs) ≡ longer (items_of_life life xs) (items_of_life life ys)
     by_case true e =
         let lt : length xs < length ys = ltb-true (length xs) (length ys) e in
         let shorter = prefix_shorter xs ys all a b (omega (arith, lt)) in
-        ap (λ (t : Bool). items_of life (cond t ys xs)) e
-        ∙ sym (longer_later (items_of life xs) (items_of life ys) (items_begin life xs ys shorter))
+        ap (λ (t : Bool). items_of_life life (cond t ys xs)) e
+        ∙ sym (longer_later (items_of_life life xs) (items_of_life life ys) (items_begin life xs ys shorter))
     by_case false e =
         let ge : length ys ≤ length xs = grind (arith, nat_tests, e) in
         let shorter = prefix_shorter ys xs all b a ge in
-        ap (λ (t : Bool). items_of life (cond t ys xs)) e
-        ∙ sym (longer_earlier (items_of life xs) (items_of life ys) (items_begin life ys xs shorter))
+        ap (λ (t : Bool). items_of_life life (cond t ys xs)) e
+        ∙ sym (longer_earlier (items_of_life life xs) (items_of_life life ys) (items_begin life ys xs shorter))

@@ -2,7 +2,7 @@
 ghost use Rattle.std.specs.Prelude.{◌≡◌, ◌<◌, [], length};
 ghost use mathlib.Core.List.{IsPrefix};
 ghost use Rattle.dt_facts.specs.Facts.{nothing, items_fact, lists_in};
-ghost use Rattle.dt_facts.specs.Lives.{items_of};
+ghost use Rattle.dt_facts.specs.Lives.{items_of_life};
 
 use dt_facts::{Beginning, Book, Facts, Share};
 use dt_trail::{Item, Law, Told, Trail, TrailNote, TrailOwner};
@@ -34,7 +34,7 @@ struct Session {
     ghost numbered: { note.number ≡ 0 },
     ghost agree: { book ≡ share },
     ghost says: { share.fact ≡ items_fact (lists_in share.fact).items },
-    ghost knows: { items_of 0 (lists_in share.fact).items ≡ note.knows },
+    ghost knows: { items_of_life 0 (lists_in share.fact).items ≡ note.knows },
 }
 
 /// What was told, beside a beginning of the fact of the items, which has the same items of life 0.
@@ -42,7 +42,7 @@ struct Session {
 struct Receipt {
     told: Told<u64>,
     beginning: Beginning,
-    ghost same: { items_of 0 beginning.lists.items ≡ told.knows },
+    ghost same: { items_of_life 0 beginning.lists.items ≡ told.knows },
 }
 
 // The session's note has lost nothing.

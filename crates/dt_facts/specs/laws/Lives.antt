@@ -5,7 +5,7 @@ use mathlib.Core.List.{IsPrefix}
 use Rattle.dt_cred.specs.declared.account.Account.{Account}
 use Rattle.dt_trail.specs.declared.law.Named.{Named}
 use Rattle.dt_facts.specs.declared.fact.LifeStep.{LifeStep}
-use Rattle.dt_facts.specs.Lives.{opened, closed, lives_over, IsRowOf, IsOpenAs, AreClosed}
+use Rattle.dt_facts.specs.Lives.{opened, closed, lives_over, IsRowOfLife, IsOpenAs, AreClosed}
 
 got_still : {A : Type 0} (xs rest : List A) (k : ℕ) (x : A) → slice_get xs k ≡ Some x → slice_get (xs ++ rest) k ≡ Some x
 got_still [] rest k x e = cc
@@ -17,10 +17,10 @@ got_last [] x = refl
 got_last (y ∷ xs) x = got_last xs x
 
 -- A longer list says of a life what a beginning of it said.
-pub row_stays : (steps later : List LifeStep) (life : ℕ) (row : Named Account) → IsPrefix steps later → IsRowOf life row steps
-    → IsRowOf life row later
+pub row_stays : (steps later : List LifeStep) (life : ℕ) (row : Named Account) → IsPrefix steps later → IsRowOfLife life row steps
+    → IsRowOfLife life row later
 row_stays steps later life row begins is =
-    subst (λ (all : List LifeStep). IsRowOf life row all) begins.1 (got_still steps begins.0 (2 * life) (opened row) is)
+    subst (λ (all : List LifeStep). IsRowOfLife life row all) begins.1 (got_still steps begins.0 (2 * life) (opened row) is)
 
 -- No life that was over isn't.
 pub over_stays : (steps later : List LifeStep) → IsPrefix steps later → lives_over steps ≤ lives_over later
@@ -29,7 +29,7 @@ over_stays steps later begins =
     omega (arith, longer)
 
 -- A life has one trail.
-pub one_row : (steps : List LifeStep) (life : ℕ) (row other : Named Account) → IsRowOf life row steps → IsRowOf life other steps → row ≡ other
+pub one_row : (steps : List LifeStep) (life : ℕ) (row other : Named Account) → IsRowOfLife life row steps → IsRowOfLife life other steps → row ≡ other
 one_row steps life row other a b = cc
 
 -- The next life opens.
