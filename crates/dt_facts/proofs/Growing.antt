@@ -20,6 +20,16 @@ begins id n x s h at =
           (fits_beginning h.roll (length s.views) n (lists_in x) (subst (λ (q : Fact). HaveGrown (lists_in x) (lists_in q)) fb.1 (grown_self (lists_in x)), fb.2));
     }
 
+pub repeats : (id n : ℕ) (xs : GrowingLists) → Splits AllAgree id (lists_begun n xs) (lists_begun n xs) (lists_begun n xs)
+repeats id n xs s h at =
+    let f = h.each id (lists_begun n xs) at in
+    record {
+      roll = h.roll;
+      unmade = h.unmade;
+      each = fits_split h.roll s.views id (lists_begun n xs) (lists_begun n xs) (λ j u _ e. h.each j u e) f
+          (fits_beginning h.roll (length s.views) n xs (f.begins refl));
+    }
+
 pub tells : (id n : ℕ) (xs : GrowingLists) (other : ℕ) (ys : GrowingLists) → Joins AllAgree id (lists_begun n xs) other (lists_begun n ys) (lists_told n xs ys) no_view
 tells id n xs other ys s h at apart there =
     let f = (h.each id (lists_begun n xs) at).begins refl in

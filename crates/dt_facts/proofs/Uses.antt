@@ -6,9 +6,9 @@ use Rattle.dt_facts.specs.declared.fact.Fact.{Fact}
 use Rattle.dt_facts.specs.declared.fact.GrowingLists.{GrowingLists}
 use Rattle.dt_facts.specs.declared.rule.View.{View}
 use Rattle.dt_facts.specs.Facts.{Follows}
-use Rattle.dt_facts.specs.Rule.{Mine, share, book, both, both_unchecked, lists_begun, lists_told, book_begun, maker_view, no_view, next_maker, made_view, with_share, without_share, share_alone, beginning_of, with_told, with_beginning, AllAgree, HasAgreed, HasGoneOn, HasBegun, HasLearntLists}
+use Rattle.dt_facts.specs.Rule.{Mine, share, book, both, both_unchecked, lists_begun, lists_told, book_begun, maker_view, no_view, next_maker, made_view, with_share, without_share, share_alone, beginning_of, same_beginning, with_told, with_beginning, AllAgree, HasAgreed, HasGoneOn, HasBegun, HasLearntLists}
 use Rattle.dt_facts.proofs.Keeping.{makes, joins, agrees, goes_on, cuts}
-use Rattle.dt_facts.proofs.Growing.{begins, tells, learns, opens, compares}
+use Rattle.dt_facts.proofs.Growing.{begins, repeats, tells, learns, opens, compares}
 
 pub makes_as : (id : ℕ) (v : View) (m : ℕ) → v ≡ maker_view m → Splits AllAgree id v (next_maker v) (made_view v)
 makes_as id v m e = subst (λ (u : View). Splits AllAgree id u (next_maker u) (made_view u)) (sym e) (makes id m)
@@ -27,6 +27,9 @@ cuts_as id v n x e = subst (λ (u : View). Splits AllAgree id u (without_share u
 
 pub begins_as : (id : ℕ) (v : View) (n : ℕ) (x : Fact) → v ≡ book n x → Splits AllAgree id v v (beginning_of v)
 begins_as id v n x e = subst (λ (u : View). Splits AllAgree id u u (beginning_of u)) (sym e) (begins id n x)
+
+pub repeats_as : (id : ℕ) (v : View) (n : ℕ) (xs : GrowingLists) → v ≡ lists_begun n xs → Splits AllAgree id v v (same_beginning v)
+repeats_as id v n xs e = subst (λ (u : View). Splits AllAgree id u u (same_beginning u)) (sym e) (repeats id n xs)
 
 pub tells_as : (id : ℕ) (v : View) (n : ℕ) (xs : GrowingLists) (other : ℕ) (w : View) (ys : GrowingLists) → v ≡ lists_begun n xs → w ≡ lists_begun n ys → Joins AllAgree id v other w (with_told v w) no_view
 tells_as id v n xs other w ys e e' = subst (λ (p : View × View). Joins AllAgree id p.0 other p.1 (with_told p.0 p.1) no_view) (λ i. (sym e i, sym e' i)) (tells id n xs other ys)

@@ -94,6 +94,10 @@ share_alone v = share v.name v.fact
 abbrev pub beginning_of : View → View
 beginning_of v = lists_begun v.name (lists_in v.fact)
 
+-- the same beginning, for another seat
+abbrev pub same_beginning : View → View
+same_beginning v = lists_begun v.name v.knows
+
 abbrev pub with_told : View → View → View
 with_told v w = lists_told v.name v.knows w.knows
 

@@ -8,13 +8,23 @@ use crate::word::Facts;
 use std::mem;
 
 impl Facts {
-    /// The writes or the items so far, cut from a book. They stay a beginning of what the book says.
+    /// The writes, the items or the lives so far, cut from a book. They stay a beginning of what the book says.
     pub fn begin(&self, book: &mut Book) -> Beginning
         requires { book.old.word ≡ self.now }
         ensures beginning { result ≡ begun self.now book.old.name (lists_in book.old.fact) }
         ensures same { book.new ≡ book.old }
     {
         let seat = self.copy_out(&mut book.seat);
+        Beginning { seat }
+    }
+
+    /// The same beginning once more, for another who is to know of it.
+    pub fn again(&self, beginning: &mut Beginning) -> Beginning
+        requires { beginning.old.word ≡ self.now }
+        ensures again { result ≡ beginning.old }
+        ensures same { beginning.new ≡ beginning.old }
+    {
+        let seat = self.repeat(&mut beginning.seat);
         Beginning { seat }
     }
 

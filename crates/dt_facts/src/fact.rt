@@ -9,40 +9,43 @@ use std::collections::LinkedList;
 pub enum Fact {
     /// Of a name that was just made.
     Nothing,
-    /// Of a seat: its life.
-    Life(Life),
+    /// Of a seat: how its lives opened and closed, the oldest first.
+    Life(LinkedList<LifeStep>),
     /// Of a processor at a seat: what it took there.
     Processor(Processor),
-    /// Of a processor at a seat: what it knew as it fired.
+    /// Of a processor: what it knew as it fired.
     Log(Log),
     /// Of a seat: what it published and withdrew, the oldest first.
     Writes(LinkedList<Write>),
-    /// Of a life: the items of its trail, the oldest first.
-    Items(LinkedList<Item>),
+    /// Of a seat: the items that its sessions knew, the oldest first.
+    Items(LinkedList<LifeItem>),
 }
 
-/// What of a fact only grows. A fact of writes has no items, one of items no writes, and any other neither.
+/// What of a fact only grows. A fact of writes has no items and no lives, one of items or of lives that alone, and any other nothing.
 pub struct GrowingLists {
     pub writes: LinkedList<Write>,
-    pub items: LinkedList<Item>,
+    pub items: LinkedList<LifeItem>,
+    pub lives: LinkedList<LifeStep>,
 }
 
-/// The life that a seat is in, or was in last.
-pub struct Life {
-    /// The lives of a seat rise by one.
-    pub number: u64,
-    /// Whether it is open.
-    pub lives: bool,
-    /// Its trail, and whose it is.
-    pub row: Named<Account>,
+/// What became of the lives of a seat, which has one at a time. The first is number 0.
+pub enum LifeStep {
+    /// The next life opened, with this trail, whose it is said beside it.
+    Opened(Named<Account>),
+    /// The life that was open closed.
+    Closed,
+}
+
+/// An item of the trail of one of a seat's lives.
+pub struct LifeItem {
+    pub life: u64,
+    pub item: Item,
 }
 
 /// What a processor took at a seat.
 pub struct Processor {
     /// The last life whose note it took, if it took any.
     pub took: Option<LastNote>,
-    /// The lives below this one are over.
-    pub over: u64,
 }
 
 /// A life whose note a processor took.
@@ -52,7 +55,7 @@ pub struct LastNote {
     pub row: Named<Account>,
 }
 
-/// What a processor knew of a seat's lives at each place of its script so far.
+/// What a processor knew at each place of its script so far: of which life at each seat, in the order of seats, how many items.
 pub struct Log {
     pub places: LinkedList<LinkedList<Knew>>,
 }

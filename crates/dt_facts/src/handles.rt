@@ -75,7 +75,7 @@ impl Model for Both {
     ghost invariant = { λ h. IsBoth h.seat };
 }
 
-/// A beginning of the writes or the items that a name's fact has. A name may have many.
+/// A beginning of the writes, the items or the lives that a name's fact has. A name may have many.
 ///
 /// Contracts see it as a `BegunLists` of `specs/Handles.antt`: which word it is of, its name, and the lists, the oldest first.
 #[derive(Drop)]

@@ -125,6 +125,17 @@ impl Play<(), View> for Begins {
     ghost then = { HasLearntLists };
 }
 
+// A beginning is cut into two that are the same.
+pub struct Repeats;
+
+impl Split<View> for Repeats {
+    ghost use Rattle.dt_facts.specs.Rule.{same_beginning};
+
+    ghost left = { λ v. v };
+
+    ghost right = { same_beginning };
+}
+
 // A beginning goes into its book, and is found to be one.
 pub struct Compares;
 

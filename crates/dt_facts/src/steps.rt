@@ -4,7 +4,7 @@ ghost use Rattle.dt_facts.specs.Rule.{both, book, share, lists_begun};
 ghost use Rattle.dt_facts.specs.Handles.{IsOf, IsShare, IsBook, IsBoth, IsBeginning};
 ghost use Rattle.dt_facts.specs.Facts.{Follows, HaveGrown, lists_in, longer_lists};
 
-use crate::rule::{Agrees, Begins, Compares, Given, GoesOn, Place, Shares};
+use crate::rule::{Agrees, Begins, Compares, Given, GoesOn, Place, Repeats, Shares};
 use crate::word::Facts;
 use std::mem;
 
@@ -45,6 +45,15 @@ impl Facts {
         ensures beginning { IsOf self.now (lists_begun seat.old.me.0.name (lists_in seat.old.me.0.fact)) result }
     {
         self.table.shared.split_seat::<Begins>(seat)
+    }
+
+    // The same beginning is cut from another.
+    pub(crate) fn repeat(&self, seat: &mut Place) -> Place
+        requires { IsBeginning seat.old × (seat.old.table_id ≡ self.now) }
+        ensures same { IsOf self.now (lists_begun seat.old.me.0.name seat.old.me.0.knows) seat.new }
+        ensures again { IsOf self.now (lists_begun seat.old.me.0.name seat.old.me.0.knows) result }
+    {
+        self.table.shared.split_seat::<Repeats>(seat)
     }
 
     // A beginning is told another, and goes on to the longer of the two.

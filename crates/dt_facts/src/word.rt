@@ -60,7 +60,8 @@ impl Facts {
         Both { seat }
     }
 
-    /// Lets both go on to the fact that the call picks, from what is handed over. Writes and items may only be added.
+    /// Lets both go on to the fact that the call picks, from what is handed over. Writes, items and lives may
+    /// only be added.
     pub fn go_on<G: Given, T>(&self, both: &mut Both, _from: &T)
         requires word { both.old.word ≡ self.now }
         requires follows { Follows both.old.fact G.fact }
@@ -92,8 +93,8 @@ impl Facts {
         share.seat = self.take_out(&mut book.seat);
     }
 
-    /// A share and its book, which hold the same fact, go on to the one that the call picks, from what is handed over. Writes
-    /// and items may only be added.
+    /// A share and its book, which hold the same fact, go on to the one that the call picks, from what is handed over. Writes,
+    /// items and lives may only be added.
     pub fn go_on_apart<G: Given, T>(&self, book: &mut Book, share: &mut Share, _from: &T)
         requires book { book.old.word ≡ self.now }
         requires share { (share.old.word ≡ self.now) × (share.old.name ≡ book.old.name) }

@@ -1,5 +1,5 @@
 -- What a seat becomes as a firing is offered and a line is asked.
-use Rattle.std.proofs.Common.{◌≡◌, ◌≢◌, ◌<◌, ◌+◌, ◌==◌, ℕ, Bool, true, false, cond, List, [], ◌∷◌, ◌++◌, length, refl, sym, ap, ◌∙◌, subst, arith, ne_eqb, eq-eqb, append-nil, append_assoc, Option, Some, None, inl, inr, ⊎_elim, if◌then◌else◌}
+use Rattle.std.proofs.Common.{◌≡◌, ◌≢◌, ◌<◌, ◌+◌, ◌==◌, ℕ, Bool, true, false, cond, List, [], ◌∷◌, ◌++◌, length, refl, sym, ap, ◌∙◌, subst, arith, ne_eqb, append-nil, Option, Some, None, inl, inr, ⊎_elim, if◌then◌else◌}
 use Rattle.std.proofs.lemmas.List.{length-set}
 use Rattle.std.proofs.lemmas.List.Elements.{filter-append}
 use Rattle.std.specs.List.{slice_get, slice_set}
@@ -16,12 +16,14 @@ use Rattle.dt_life.specs.Sees.{Sees}
 use Rattle.dt_life.specs.laws.Lists.{replaced}
 use Rattle.dt_life.specs.laws.Options.{if_some_map}
 use Rattle.dt_machine.specs.Registry.{Contents}
-use Rattle.dt_seat.specs.Keeps.{Carries, Followed, IsKeptFor, KeptNote, known_by, known_in, known_of}
+use Rattle.dt_seat.proofs.Begins.{starts_trans}
+use Rattle.dt_seat.proofs.Known.{by_note, not_by_note}
+use Rattle.dt_seat.specs.Keeps.{Carries, Followed, IsKeptFor, KeptNote, known_by, known_in, known_of, told_in}
 use Rattle.dt_seat.specs.Seats.{IsRepliedTo, ComesOfFiring, IsTaken, Reaches}
 use Rattle.dt_seat.specs.declared.held.Held.TheVariants.{Kept as WasKept, Unseen}
 use Rattle.dt_seat.specs.Trailed.{IsDue, IsTrailed, row_after, row_offered, with_items}
 use Rattle.dt_seat.specs.declared.present.Present.{Present}
-use Rattle.dt_trail.specs.Items.{StartsWith, TrailItem, fired, own, whose}
+use Rattle.dt_trail.specs.Items.{TrailItem, fired, own, whose}
 use Rattle.dt_trail.specs.Known.{Grows, Meets, Noted, noted}
 use Rattle.dt_trail.specs.declared.law.Named.{Named}
 
@@ -45,7 +47,6 @@ kept_still : (word : TableId) (cpus seat cpu life : ℕ) (row : Named Account) (
     → IsKeptFor word cpus seat cpu life row more k
 kept_still word cpus seat cpu life row knows more k same h = record {
   book = h.book;
-  below = h.below;
   untaken = λ n is. let u = h.untaken n is in (u.0, same ∙ u.1, u.2);
   taken = h.taken;
 }
@@ -55,7 +56,6 @@ kept_lent : (word : TableId) (cpus seat cpu life : ℕ) (row : Named Account) (k
     → k.note ≡ None → IsKeptFor word cpus seat cpu life row knows k → IsKeptFor word cpus seat cpu life row more k
 kept_lent word cpus seat cpu life row knows more k none h = record {
   book = h.book;
-  below = h.below;
   untaken = λ n is. absurd (let bad : None ≡ Some n = sym none ∙ is in cc);
   taken = h.taken;
 }
@@ -80,7 +80,8 @@ module _ {J : Type 0} (word : TableId) (contents : Contents) (number life : ℕ)
   taken_offered firing is_seen consumer k trailed none right = record {
     few = h.few;
     many = length-set keeps firing.cpu k ∙ h.many;
-    named = h.named;
+    lives_are = h.lives_are;
+    is_open = h.is_open;
     trailed = trailed;
     each = replaced
         (λ cpu. IsKeptFor word cpus number cpu life present.owner.row (row_offered present.owner.knows firing is_seen))
@@ -96,24 +97,17 @@ module _ {J : Type 0} (word : TableId) (contents : Contents) (number life : ℕ)
         (h.each cpu));
   }
 
--- what is known of the life whose note was taken last, and of another
-known_here : (life : ℕ) (row : Named Account) (took : Option LastNote) (knows : List TrailItem)
-    → took ≡ Some (last_note life row) → known_in life took knows ≡ knows
-known_here life row took knows e =
-    ap (λ (t : Option LastNote). known_in life t knows) e ∙ ap (λ (b : Bool). cond b knows []) (eq-eqb life life refl)
-
-known_there : (life l : ℕ) (row : Named Account) (took : Option LastNote) (knows : List TrailItem)
-    → took ≡ Some (last_note life row) → l ≢ life → known_in l took knows ≡ []
-known_there life l row took knows e other =
-    ap (λ (t : Option LastNote). known_in l t knows) e
-    ∙ ap (λ (b : Bool). cond b knows []) (ne_eqb life l (λ same. other (sym same)))
-
 abbrev with_note : Followed → Noted Account → Followed
-with_note f note = record { seat = f.seat; cpu = f.cpu; took = f.took; over = f.over; note = Some note }
+with_note f note = record { seat = f.seat; cpu = f.cpu; took = f.took; over = f.over; note = Some note; told = f.told }
 
 module _ (contents : Contents) (life : ℕ) (firing : Firing) (old lent : Followed) (note : Noted Account)
     (took : lent.took ≡ Some (last_note life note.row)) (has : lent.note ≡ Some note)
     (known : known_of life lent ≡ known_of life old) (carried : Carries old lent life) where
+  elsewhere : (l : ℕ) (knows : List TrailItem) → l ≢ life → known_in l lent.took knows lent.told ≡ told_in l lent.told
+  elsewhere l knows other =
+      ap (λ (t : Option LastNote). known_in l t knows lent.told) took
+      ∙ not_by_note life l note.row knows lent.told (λ e. other (sym e))
+
   carries_on : (new : Noted Account) → Carries old (with_note lent new) life
   carries_on new = record {
     seat = carried.seat;
@@ -122,14 +116,17 @@ module _ (contents : Contents) (life : ℕ) (firing : Firing) (old lent : Follow
     same = λ l other. ⊎_elim
         (λ (over : l < lent.over). inl over)
         (λ (same : known_of l lent ≡ known_of l old). inr
-        (known_there life l note.row lent.took new.knows took other
-        ∙ sym (known_there life l note.row lent.took (known_by lent.note) took other) ∙ same))
+        (elsewhere l new.knows other ∙ sym (elsewhere l (known_by lent.note) other) ∙ same))
         (carried.same l other);
   }
 
   -- what was known of the life is what the note knows
   known_before : known_of life old ≡ note.knows
-  known_before = sym known ∙ known_here life note.row lent.took (known_by lent.note) took ∙ ap known_by has
+  known_before =
+      sym known
+      ∙ ap (λ (t : Option LastNote). known_in life t (known_by lent.note) lent.told) took
+      ∙ by_note life note.row (known_by lent.note) lent.told
+      ∙ ap known_by has
 
   reaches : (trail : List TrailItem) → note.number ≡ firing.cpu + 1 → Meets trail note
       → IsLegalRow note.row.account contents trail
@@ -178,7 +175,8 @@ module _ {J : Type 0} (word : TableId) (contents : Contents) (number life : ℕ)
   taken_asked item new mine row knows trailed = record {
     few = h.few;
     many = h.many;
-    named = rw row h.named;
+    lives_are = h.lives_are;
+    is_open = rw row h.is_open;
     trailed = trailed;
     each = λ cpu. if_some_map
         (IsKeptFor word contents.registry.cpus number cpu life present.owner.row present.owner.knows)
@@ -190,10 +188,6 @@ module _ {J : Type 0} (word : TableId) (contents : Contents) (number life : ℕ)
         (own_line cpu present.owner.knows (is_over (life_of_row present.account contents present.owner.knows)) item mine) right))
         (h.each cpu);
   }
-
-starts_trans : (row mid known : List TrailItem) → StartsWith row mid → StartsWith mid known → StartsWith row known
-starts_trans row mid known a b =
-    (b.0 ++ a.0, a.1 ∙ ap (λ (l : List TrailItem). l ++ a.0) b.1 ∙ append_assoc known b.0 a.0)
 
 -- what a note knew, as it grew and then met its trail
 pub grows_met : (old : Noted Account) (trail : List TrailItem) → Meets trail old → Grows old (noted old.row old.number trail)

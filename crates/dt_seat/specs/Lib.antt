@@ -4,6 +4,10 @@
 
 pub mod Trailed
 pub mod Names
+pub mod Knowledge
+pub mod Publications
 pub mod Keeps
 pub mod Seats
 pub mod Sessions
+pub mod Places
+pub mod Receipts

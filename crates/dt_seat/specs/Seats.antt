@@ -1,18 +1,21 @@
 -- What a seat keeps under its lock, and what a processor finds there.
-use Rattle.std.specs.Prelude.{◌≡◌, ◌<◌, ◌≤◌, ◌+◌, ◌^◌, ◌++◌, ◌∷◌, ℕ, true, List, [], Option, Some, IfSome, MatchOption, length, option_map, slice_get}
+use Rattle.std.specs.Prelude.{◌≡◌, ◌<◌, ◌≤◌, ◌+◌, ◌^◌, ◌++◌, ◌∷◌, ℕ, List, [], Option, Some, None, IfSome, IsSomeAnd, MatchOption, length, option_map, slice_get}
 use Rattle.atomic_table.specs.Seated.{TableId}
 use Rattle.dt_cred.specs.declared.account.Account.{Account}
 use Rattle.dt_cred.specs.declared.firing.Firing.{Firing}
-use Rattle.dt_facts.specs.Facts.{last_note, life_fact, nothing}
-use Rattle.dt_facts.specs.Handles.{HeldFact, holding}
+use Rattle.dt_facts.specs.Facts.{last_note}
+use Rattle.dt_facts.specs.Handles.{HeldFact}
+use Rattle.dt_facts.specs.Lives.{AreClosed, IsOpenAs}
 use Rattle.dt_legal.specs.Rows.{IsLegalRow, line_form_of, life_of_row}
 use Rattle.dt_life.specs.Sees.{Sees}
 use Rattle.dt_machine.specs.Registry.{Contents}
 use Rattle.dt_seat.specs.Keeps.{Carries, Followed, IsKeptFor, IsLeft, KeptNote, known_of}
-use Rattle.dt_seat.specs.Names.{life_name}
+use Rattle.dt_seat.specs.Knowledge.{AreUnknownFrom, SaysLives, known_items, steps_in}
+use Rattle.dt_seat.specs.Names.{known_name}
 use Rattle.dt_seat.specs.Trailed.{IsDue, IsTrailed, row_after}
 use Rattle.dt_seat.specs.declared.held.Held.{Held}
 use Rattle.dt_seat.specs.declared.held.Held.TheVariants.{Kept as WasKept, Unseen, Gone}
+use Rattle.dt_seat.specs.declared.idle.Idle.{Idle}
 use Rattle.dt_seat.specs.declared.present.Present.{Present}
 use Rattle.dt_trail.specs.Items.{StartsWith, TrailItem, fired, own}
 use Rattle.dt_trail.specs.Known.{Known, Noted}
@@ -25,29 +28,37 @@ pub record Seated : Type 0 where
   pub trail : Option (Known Account)
 
 module _ {J : Type 0} where
-  -- A seat with an open life: its book says which life, with its trail; the consumer stands for the trail; and what is kept for
+  -- A seat with an open life: its book says that this one is the last and open, with its trail; the consumer stands for the trail; and what is kept for
   -- each processor is right.
   pub record IsTaken (word : TableId) (contents : Contents) (number life : ℕ) (lives : HeldFact) (present : Present J)
       (keeps : List KeptNote) : Type 0 where
     pub few : contents.registry.cpus ≤ cpu_count
     pub many : length keeps ≡ contents.registry.cpus
-    pub named : lives ≡ holding word (life_name contents.registry.cpus number) (life_fact life true present.owner.row)
+    pub lives_are : SaysLives word contents.registry.cpus number lives
+    pub is_open : IsOpenAs life present.owner.row (steps_in lives.fact)
     pub trailed : IsTrailed contents present.account present.owner present.consumer
     pub each : (cpu : ℕ) → IfSome (slice_get keeps cpu)
         (IsKeptFor word contents.registry.cpus number cpu life present.owner.row present.owner.knows)
 
--- A seat without an open life, of which the next has this number: its book says nothing, and its share lies there.
-pub record IsFree (word : TableId) (contents : Contents) (number life : ℕ) (lives : HeldFact) (free : Option HeldFact)
+-- What the next session of a seat gets: the share of the seat's lives, and what its sessions knew, which is nothing of a life to come.
+pub record IsIdle (word : TableId) (contents : Contents) (number life : ℕ) (lives : HeldFact) (idle : Idle) : Type 0 where
+  pub share : idle.share ≡ lives
+  pub known_is : idle.known ≡ known_items word (known_name contents.registry.cpus number) idle.known.list
+  pub later : AreUnknownFrom life idle.known.list
+
+-- A seat without an open life, of which the next has this number: its book says that all lives are closed, and what the next session gets lies there.
+pub record IsFree (word : TableId) (contents : Contents) (number life : ℕ) (lives : HeldFact) (free : Option Idle)
     (keeps : List KeptNote) : Type 0 where
   pub few : contents.registry.cpus ≤ cpu_count
   pub many : length keeps ≡ contents.registry.cpus
-  pub named : lives ≡ holding word (life_name contents.registry.cpus number) nothing
-  pub share : free ≡ Some (holding word (life_name contents.registry.cpus number) nothing)
+  pub lives_are : SaysLives word contents.registry.cpus number lives
+  pub all_closed : AreClosed life (steps_in lives.fact)
+  pub idle : IsSomeAnd free (IsIdle word contents number life lives)
   pub each : (cpu : ℕ) → IfSome (slice_get keeps cpu) (IsLeft word contents.registry.cpus number cpu life)
 
 module _ {J : Type 0} where
   -- What lies under a seat's lock: a session that is open, or none.
-  abbrev pub IsSeat : TableId → Contents → (number life : ℕ) → Option (Present J) → HeldFact → Option HeldFact → List KeptNote → Type 0
+  abbrev pub IsSeat : TableId → Contents → (number life : ℕ) → Option (Present J) → HeldFact → Option Idle → List KeptNote → Type 0
   IsSeat word contents number life present lives free keeps = MatchOption present
       (IsFree word contents number life lives free keeps)
       (λ p. IsTaken word contents number life lives p keeps × (life + 1 < 2 ^ 64))
@@ -55,6 +66,16 @@ module _ {J : Type 0} where
   -- what contracts see of it: which seat it is, how many sessions were there before, and the trail of the present one
   abbrev pub seated : ℕ → ℕ → Option (Present J) → Seated
   seated number life present = record { number = number; life = life; trail = option_map (λ p. p.owner) present }
+
+-- A trail goes on: it is the same row, which has lost nothing and no cell.
+pub record TrailGoesOn (old new : Known Account) : Type 0 where
+  pub row : new.row ≡ old.row
+  pub longer : StartsWith new.knows old.knows
+  pub cells : old.cells ≤ new.cells
+
+-- A seat's trail goes on, if a session is open there; and none is where none was.
+abbrev pub StaysOn : Option (Known Account) → Option (Known Account) → Type 0
+StaysOn old new = MatchOption old (new ≡ None) (λ o. IsSomeAnd new (TrailGoesOn o))
 
 -- A trail of the life begins with what was known of it, has no more of the processor's firings, and is legal.
 pub record Reaches (contents : Contents) (account : Account) (cpu : ℕ) (known trail : List TrailItem) : Type 0 where

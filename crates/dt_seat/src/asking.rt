@@ -1,14 +1,21 @@
 //! How a session asks a line of the consumer on its seat.
-ghost use Rattle.std.specs.Prelude.{◌≡◌, true, IfOk, OnOk, OnErr};
-ghost use Rattle.dt_seat.specs.Seats.{IsRepliedTo, IsTaken};
+ghost use Rattle.std.specs.Prelude.{◌≡◌, ◌≤◌, true, IfOk, OnOk, OnErr, Contains};
+ghost use mathlib.Core.List.{IsPrefix};
+ghost use Rattle.dt_chain.specs.Writes.{Write as ChainWrite};
+ghost use Rattle.dt_life.specs.declared.phase.Phase.TheVariants.{Active};
+ghost use Rattle.dt_seat.specs.Publications.{IsPublicationAfter, writes_seen};
+ghost use Rattle.dt_seat.specs.Seats.{TrailGoesOn, IsRepliedTo, IsTaken};
+ghost use Rattle.dt_seat.specs.Sessions.{IsNotebook};
 ghost use Rattle.dt_seat.specs.Trailed.{IsWideEnough, IsTrailed, item_of_line};
+ghost use Rattle.dt_trail.specs.Items.{StartsWith};
 ghost use Rattle.dt_trail.specs.Known.{Grows};
 
 use crate::keep::Keep;
+use crate::notebook::{Notebook, take_down};
 use crate::present::Present;
 use crate::site::HubSite;
 use crate::trailed::{Note, finish, make_room, prepare};
-use dt_chain::{ChainWriter, Seat, Write};
+use dt_chain::{ChainWriter, Front, Seat, Write};
 use dt_consumer::Consumer;
 use dt_cred::Account;
 use dt_facts::Book;
@@ -18,7 +25,7 @@ use dt_proto::Asked;
 use std::alloc::{AllocError, Global};
 use std::sync::{Mutex, MutexGuard, Wait};
 
-/// Publishes the interest of a consumer for a life of its seat.
+/// Publishes the interest of a consumer for a life of its seat, and answers what is then published.
 ///
 /// `Err`: there was no memory.
 fn publish<J: HubSite, R: Wait>(
@@ -27,15 +34,22 @@ fn publish<J: HubSite, R: Wait>(
     chains: &Mutex<ChainWriter<J>>,
     number: Seat,
     life: u64,
-    account: &Account,
-    consumer: &Consumer,
-) -> Result<(), AllocError> {
-    let interest = consumer.interest()?;
-    let write = Write::publication(alloc, number, life, account, &interest)?;
+    present: &Present<J>,
+) -> Result<Front<J>, AllocError>
+    requires { IsTrailed J.contents present.now.account present.now.owner present.now.consumer }
+    ensures { IfOk result (λ front. (write : ChainWrite) × Contains front write
+        × IsPublicationAfter J.contents number life present.now.account present.now.owner.knows write) }
+{
+    let interest = present.consumer.interest()?;
+    let write = Write::publication(alloc, number, life, &present.account, &interest)?;
     let mut writer = chains.lock(rt);
     let result = writer.publish(rt, write);
+    let front = writer.published();
     MutexGuard::unlock(writer);
-    result
+    match result {
+        Ok(()) => Ok(front),
+        Err(error) => Err(error),
+    }
 }
 
 /// Withdraws what a seat published, and says whether it did. Where it didn't, as memory ran out, the chains name a life that sees nothing.
@@ -58,7 +72,8 @@ fn is_active(consumer: &Consumer) -> bool {
     }
 }
 
-/// Makes the room that a `go` takes in the trail, and publishes the session's interest. Where the line is none, nothing is to be done.
+/// Makes the room that a `go` takes in the trail, and publishes the session's interest: what is published then is answered. Where the line is
+/// none, nothing is to be done.
 ///
 /// `Err`: there was no memory. The trail may be wider.
 fn make_ready<J: HubSite, R: Wait>(
@@ -70,30 +85,26 @@ fn make_ready<J: HubSite, R: Wait>(
     present: &mut Present<J>,
     note: &mut Note<J>,
     is_go: bool,
-) -> Result<(), AllocError>
+) -> Result<Option<Front<J>>, AllocError>
     requires trailed { IsTrailed J.contents present.old.account present.old.owner present.old.consumer }
     requires note { note.old.row ≡ present.old.owner.row }
     ensures trailed { IsTrailed J.contents present.new.account present.new.owner present.new.consumer }
     ensures room { OnOk result (is_go ≡ true → IsWideEnough J.contents present.new.account present.new.owner) }
+    ensures published { IfOk result (λ front. is_go ≡ true → (write : ChainWrite) × Contains (writes_seen front) write
+        × IsPublicationAfter J.contents number life present.old.account present.old.owner.knows write) }
     ensures same { (present.new.account ≡ present.old.account) × (present.new.consumer ≡ present.old.consumer) }
-    ensures row { (present.new.owner.row ≡ present.old.owner.row) × (present.new.owner.knows ≡ present.old.owner.knows) }
+    ensures row { (present.new.owner.row ≡ present.old.owner.row) × (present.new.owner.knows ≡ present.old.owner.knows)
+        × (present.old.owner.cells ≤ present.new.owner.cells) }
     ensures note { Grows note.old note.new }
 {
     if !is_go {
-        return Ok(());
+        return Ok(None);
     }
     make_room(present.account, &mut present.owner, &present.consumer, note)?;
     // a publication that is refused may come with the next write of any seat
     present.is_published = true;
-    publish(
-        rt,
-        alloc,
-        chains,
-        number,
-        life,
-        &present.account,
-        &present.consumer,
-    )
+    let front = publish(rt, alloc, chains, number, life, present)?;
+    Ok(Some(front))
 }
 
 /// Withdraws what the session published, once its consumer traces no more.
@@ -124,18 +135,21 @@ pub(crate) fn ask_at<J: HubSite, R: Wait>(
     lives: &Book,
     present: &mut Present<J>,
     keeps: &Vec<Keep<J>>,
-    note: &mut Note<J>,
+    notebook: &mut Notebook<J>,
     asked: &Asked,
 ) -> Result<Vec<u8>, AllocError>
     requires machine { machine.now ≡ J.contents }
     requires taken { IsTaken J.word J.contents number life lives.now present.old keeps.now.items }
-    requires note { (note.old.row ≡ present.old.owner.row) × (note.old.number ≡ 0) }
+    requires row { notebook.old.note.row ≡ present.old.owner.row }
+    requires notebook { IsNotebook J.contents number life notebook.old.note notebook.old.lines.items notebook.old.front }
     ensures taken { IsTaken J.word J.contents number life lives.now present.new keeps.now.items }
-    ensures row { present.new.owner.row ≡ present.old.owner.row }
-    ensures answered { IfOk result (λ text. IsRepliedTo J.contents note.old.row.account note.old.knows (item_of_line asked.now) text.items
-        note.new.knows) }
-    ensures note { (note.new.row ≡ note.old.row) × (note.new.number ≡ note.old.number) }
-    ensures refused { OnErr result (Grows note.old note.new) }
+    ensures notebook { IsNotebook J.contents number life notebook.new.note notebook.new.lines.items notebook.new.front }
+    ensures trail { TrailGoesOn present.old.owner present.new.owner }
+    ensures answered { IfOk result (λ text. IsRepliedTo J.contents notebook.old.note.row.account notebook.old.note.knows
+        (item_of_line asked.now) text.items notebook.new.note.knows) }
+    ensures note { (notebook.new.note.row ≡ notebook.old.note.row) × StartsWith notebook.new.note.knows notebook.old.note.knows }
+    ensures refused { OnErr result (Grows notebook.old.note notebook.new.note) }
+    ensures front { IsPrefix (writes_seen notebook.old.front) (writes_seen notebook.new.front) }
 {
     let prepared = prepare(
         alloc,
@@ -145,16 +159,20 @@ pub(crate) fn ask_at<J: HubSite, R: Wait>(
         &present.consumer,
         asked,
     )?;
+    notebook.lines.reserve(1)?;
     let is_go = prepared.draft.publishes();
-    make_ready(rt, alloc, chains, number, life, present, note, is_go)?;
+    let note = &mut notebook.note;
+    let published = make_ready(rt, alloc, chains, number, life, present, note, is_go)?;
     let text = finish(
         machine,
         present.account,
         &mut present.owner,
         &mut present.consumer,
-        note,
+        &mut notebook.note,
+        &mut notebook.lines,
         prepared,
     );
+    take_down(&mut notebook.front, published);
     retire(rt, chains, number, present);
     Ok(text)
 }

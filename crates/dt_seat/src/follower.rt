@@ -1,16 +1,18 @@
 //! What a processor has at one seat.
 ghost use Rattle.std.specs.Prelude.{◌≡◌, None};
-ghost use Rattle.dt_facts.specs.Facts.{processor_fact};
-ghost use Rattle.dt_facts.specs.Handles.{holding};
-ghost use Rattle.dt_seat.specs.Names.{processor_name};
+ghost use Rattle.dt_facts.specs.Facts.{no_lists, processor_fact};
+ghost use Rattle.dt_facts.specs.Handles.{begun, holding};
+ghost use Rattle.dt_seat.specs.Keeps.{followed_at};
+ghost use Rattle.dt_seat.specs.Names.{known_name, life_name, processor_name};
 
 use crate::site::HubSite;
+use crate::told_of::ToldOf;
 use crate::trailed::Note;
 use dt_chain::Seat;
-use dt_facts::Share;
+use dt_facts::{Beginning, Share};
 use std::marker::Model;
 
-/// What a processor has at one seat: the note of the trail of the life that it took last, if it took any.
+/// What a processor has at one seat: the note of the trail of the life that it took last, if it took any, and what it was told of a later one.
 ///
 /// Contracts see it as a `Followed` of `specs/Keeps.antt`.
 #[derive(Drop)]
@@ -18,8 +20,11 @@ pub struct Follower<J: HubSite> {
     pub(crate) seat: Seat,
     pub(crate) cpu: u32,
     pub(crate) share: Share,
+    pub(crate) lives: Beginning,
+    pub(crate) known: Beginning,
     pub(crate) life: u64,
     pub(crate) note: Option<Note<J>>,
+    pub(crate) told: Option<ToldOf>,
 }
 
 impl<J: HubSite> Model for Follower<J> {
@@ -27,24 +32,41 @@ impl<J: HubSite> Model for Follower<J> {
 
     ghost Value = { Followed };
 
-    ghost view = { λ f. followed f.seat f.cpu f.share f.note };
+    ghost view = { λ f. followed f.seat f.cpu f.share f.lives f.note f.told };
 
-    ghost invariant = { λ f. IsFollower J.word J.contents.registry.cpus f.seat f.cpu f.life f.share f.note };
+    ghost invariant = { λ f. IsFollower J.word J.contents.registry.cpus f.seat f.cpu f.life f.share f.lives f.known f.note f.told };
 }
 
 impl<J: HubSite> Follower<J> {
-    /// A processor that took no note at the seat.
-    pub(crate) fn new(seat: Seat, cpu: u32, share: Share) -> Follower<J>
-        requires { share ≡ holding J.word (processor_name J.contents.registry.cpus seat cpu) (processor_fact None 0) }
-        ensures place { (result.seat ≡ seat) × (result.cpu ≡ cpu) }
-        ensures nothing { (result.took ≡ None) × (result.over ≡ 0) × (result.note ≡ None) }
+    /// A processor that took no note at the seat, on which no session was open yet.
+    pub(crate) fn new(
+        seat: Seat,
+        cpu: u32,
+        share: Share,
+        lives: Beginning,
+        known: Beginning,
+    ) -> Follower<J>
+        requires share { share ≡ holding J.word (processor_name J.contents.registry.cpus seat cpu) (processor_fact None) }
+        requires lives { lives ≡ begun J.word (life_name J.contents.registry.cpus seat) no_lists }
+        requires known { (known.word ≡ J.word) × (known.name ≡ known_name J.contents.registry.cpus seat) }
+        ensures { result ≡ followed_at seat cpu }
     {
         Follower {
             seat,
             cpu,
             share,
+            lives,
+            known,
             life: 0,
             note: None,
+            told: None,
         }
+    }
+
+    /// Which seat it is at.
+    pub fn seat(&self) -> Seat
+        ensures { result ≡ self.now.seat }
+    {
+        self.seat
     }
 }

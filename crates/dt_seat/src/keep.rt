@@ -1,14 +1,18 @@
 //! What a seat keeps for one processor.
-ghost use Rattle.std.specs.Prelude.{◌≡◌, ◌≤◌, None, Some};
-ghost use Rattle.dt_facts.specs.Facts.{life_fact, last_note};
-ghost use Rattle.dt_facts.specs.Handles.{holding};
-ghost use Rattle.dt_seat.specs.Keeps.{Carries, IsKeptFor, kept, known_by, known_of};
+ghost use Rattle.std.specs.Prelude.{◌≡◌, ◌⊎◌, [], None, Some, IfSome};
+ghost use Rattle.dt_facts.specs.Facts.{last_note};
+ghost use Rattle.dt_facts.specs.Lives.{IsOpenAs};
+ghost use Rattle.dt_seat.specs.Keeps.{Carries, IsKeptFor, kept, known_by, known_of, told_in};
+ghost use Rattle.dt_seat.specs.Knowledge.{SaysLives, steps_in};
+ghost use Rattle.dt_trail.specs.Items.{own};
 ghost use Rattle.dt_trail.specs.Known.{noted};
 
 use crate::follower::Follower;
 use crate::site::HubSite;
+use crate::told_of::ToldOf;
 use crate::trailed::{Note, Owner};
 use dt_facts::{Book, Facts};
+use dt_legal::Traced;
 use std::marker::{Brand, Model};
 use std::mem;
 
@@ -29,8 +33,24 @@ impl<J: HubSite> Model for Keep<J> {
     ghost view = { λ k. kept k.note k.book };
 }
 
+/// A new note of a life learns what was told of it.
+fn informed<J: Traced>(note: Note<J>, life: u64, told: Option<ToldOf>) -> Note<J>
+    requires new { note.knows ≡ [] }
+    requires row { IfSome told (λ t. t.life ≡ life → t.told.row ≡ note.row.id) }
+    ensures knows { result ≡ noted note.row note.number (told_in life told) }
+    ensures own_none { own note.number result.knows ≡ [] }
+{
+    let mut note = note;
+    if let Some(ToldOf { life: of, told }) = told {
+        if of == life {
+            note.learn(told);
+        }
+    }
+    note
+}
+
 impl<J: HubSite> Keep<J> {
-    ghost use Rattle.std.specs.Prelude.{◌+◌, true};
+    ghost use Rattle.std.specs.Prelude.{◌+◌};
 
     /// What is kept as long as no life was open.
     pub(crate) fn new(book: Book) -> Keep<J>
@@ -39,29 +59,40 @@ impl<J: HubSite> Keep<J> {
         Keep { note: None, book }
     }
 
-    /// The processor's note, if it wasn't taken, goes to the processor, which then knows that all earlier lives are over.
+    /// The processor's note, if it wasn't taken, goes to the processor, and knows what that was told of the life. The processor then knows that
+    /// all earlier lives are over.
     pub(crate) fn lend(
         &mut self,
         facts: &Facts,
-        lives: &Book,
+        lives: &mut Book,
         life: u64,
         owner: &Owner<J>,
         follower: &mut Follower<J>,
     )
         requires facts { facts.now ≡ J.word }
-        requires lives { lives.now.fact ≡ life_fact life true owner.now.row }
+        requires lives { SaysLives J.word J.contents.registry.cpus follower.old.seat lives.old }
+        requires is_open { IsOpenAs life owner.now.row (steps_in lives.old.fact) }
         requires kept { IsKeptFor J.word J.contents.registry.cpus follower.old.seat follower.old.cpu life owner.now.row owner.now.knows self.old }
+        ensures lives { lives.new ≡ lives.old }
         ensures kept { IsKeptFor J.word J.contents.registry.cpus follower.new.seat follower.new.cpu life owner.now.row owner.now.knows self.new }
         ensures lent { self.new.note ≡ None }
         ensures note { follower.new.note ≡ Some (noted owner.now.row (follower.old.cpu + 1) (known_by follower.new.note)) }
         ensures took { follower.new.took ≡ Some (last_note life owner.now.row) }
         ensures known { known_of life follower.new ≡ known_of life follower.old }
+        ensures own_known { (own (follower.old.cpu + 1) (known_by follower.new.note) ≡ [])
+            ⊎ (known_by follower.new.note ≡ known_by follower.old.note) }
         ensures carried { Carries follower.old follower.new life }
     {
+        facts.catch_up(lives, &mut follower.lives);
+        let told = follower.told.take();
         match mem::replace(&mut self.note, None) {
             Some(fresh) => {
-                facts.go_on_apart::<Brand, Book>(&mut self.book, &mut follower.share, lives);
-                follower.note = Some(fresh);
+                facts.go_on_apart::<Brand, (u64, &Owner<J>)>(
+                    &mut self.book,
+                    &mut follower.share,
+                    &(life, owner),
+                );
+                follower.note = Some(informed(fresh, life, told));
                 follower.life = life;
             }
             None => facts.agree(&mut self.book, &mut follower.share),

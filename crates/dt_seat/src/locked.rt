@@ -1,22 +1,25 @@
 //! What lies under the lock of a seat.
-ghost use Rattle.std.specs.Prelude.{◌≡◌, ◌+◌, Some, None, IfOk, IsSome, MatchBool, OnErr};
+ghost use Rattle.std.specs.Prelude.{◌≡◌, ◌+◌, Some, None, IfOk, IsSome, IsSomeAnd, MatchBool, OnErr};
 ghost use Rattle.dt_legal.specs.Rows.{AreBelowPlace};
 ghost use Rattle.dt_machine.specs.Moment.{IsMoment};
 ghost use Rattle.dt_machine.specs.Registry.{firing_at};
-ghost use Rattle.dt_seat.specs.Keeps.{known_of};
-ghost use Rattle.dt_seat.specs.Seats.{IsRepliedTo, ComesOfFiring};
+ghost use Rattle.dt_seat.specs.Keeps.{known_by};
+ghost use Rattle.dt_seat.specs.Publications.{IsPublished};
+ghost use mathlib.Core.List.{IsPrefix};
+ghost use Rattle.dt_seat.specs.Seats.{IsRepliedTo, ComesOfFiring, StaysOn};
 ghost use Rattle.dt_seat.specs.Trailed.{item_of_line};
 ghost use Rattle.dt_trail.specs.Items.{StartsWith, own};
 
 use crate::asking::ask_at;
 use crate::follower::Follower;
 use crate::held::Held;
+use crate::idle::Idle;
 use crate::keep::Keep;
 use crate::present::{Present, hold_at};
 use crate::session::Session;
 use crate::site::HubSite;
 use dt_chain::{ChainWriter, Seat};
-use dt_facts::{Book, Facts, Share};
+use dt_facts::{Book, Facts};
 use dt_machine::{Machine, Moment};
 use dt_proto::Asked;
 use std::alloc::{AllocError, Global};
@@ -33,7 +36,7 @@ pub struct LockedSeat<J: HubSite> {
     pub(crate) life: u64,
     pub(crate) present: Option<Present<J>>,
     pub(crate) lives: Book,
-    pub(crate) free: Option<Share>,
+    pub(crate) free: Option<Idle>,
     pub(crate) keeps: Vec<Keep<J>>,
 }
 
@@ -53,6 +56,13 @@ impl<J: HubSite> LockedSeat<J> {
         ensures { result ≡ self.now.number }
     {
         self.number
+    }
+
+    /// How many sessions were there before the present one, or before the next.
+    pub fn life(&self) -> u64
+        ensures { result ≡ self.now.life }
+    {
+        self.life
     }
 
     /// Whether no session is open.
@@ -82,15 +92,19 @@ impl<J: HubSite> LockedSeat<J> {
         ensures answered { IfOk result (λ text. IsRepliedTo J.contents session.old.account session.old.knows (item_of_line asked.now) text.items
             session.new.knows) }
         ensures refused { OnErr result (StartsWith session.new.knows session.old.knows × (own 0 session.new.knows ≡ own 0 session.old.knows)) }
+        ensures published { IsPublished J.contents session.new.seat session.new.life session.new.account session.new.knows session.new.published }
         ensures session { (session.new.seat ≡ session.old.seat) × (session.new.life ≡ session.old.life)
-            × (session.new.account ≡ session.old.account) }
-        ensures seat { (self.new.number ≡ self.old.number) × (self.new.life ≡ self.old.life) }
+            × (session.new.row ≡ session.old.row) }
+        ensures fronts { IsPrefix session.old.published session.new.published }
+        ensures seat { (self.new.number ≡ self.old.number) × (self.new.life ≡ self.old.life) × (self.old.life ≡ session.old.life) }
+        ensures trail { StaysOn self.old.trail self.new.trail }
+        ensures own { IsSomeAnd self.new.trail (λ trail. trail.row ≡ session.old.row) }
     {
         facts.agree(&mut self.lives, &mut session.share);
         let Some(present) = &mut self.present else {
             unreachable!()
         };
-        ask_at(
+        let result = ask_at(
             rt,
             alloc,
             machine,
@@ -100,12 +114,16 @@ impl<J: HubSite> LockedSeat<J> {
             &self.lives,
             present,
             &self.keeps,
-            &mut session.note,
+            &mut session.notebook,
             asked,
-        )
+        );
+        session
+            .known
+            .go_on(facts, session.life, &session.notebook.note);
+        result
     }
 
-    /// A processor offers a firing of its script to a life of the seat.
+    /// A processor offers a firing of its script to a life of the seat. Its note, if it has one, has no firing of it at this place or a later one.
     pub fn hold(
         &mut self,
         machine: &Machine,
@@ -120,9 +138,10 @@ impl<J: HubSite> LockedSeat<J> {
         requires script { firing_at J.contents.scripts moment.now.firing.now.cpu moment.now.firing.now.place
             ≡ Some moment.now.firing.now }
         requires follower { (follower.old.seat ≡ self.old.number) × (follower.old.cpu ≡ moment.now.firing.now.cpu) }
-        requires below { AreBelowPlace moment.now.firing.now.cpu moment.now.firing.now.place (known_of life follower.old) }
+        requires below { AreBelowPlace moment.now.firing.now.cpu moment.now.firing.now.place (known_by follower.old.note) }
         ensures held { ComesOfFiring J.contents life moment.now.firing.now result follower.old follower.new }
         ensures seat { (self.new.number ≡ self.old.number) × (self.new.life ≡ self.old.life) }
+        ensures trail { StaysOn self.old.trail self.new.trail }
     {
         if self.life != life {
             return Held::Gone;
@@ -135,7 +154,7 @@ impl<J: HubSite> LockedSeat<J> {
             facts,
             self.number,
             life,
-            &self.lives,
+            &mut self.lives,
             present,
             &mut self.keeps,
             moment,

@@ -1,18 +1,34 @@
 //! How a seat is made.
-ghost use Rattle.std.specs.Prelude.{◌≡◌, ◌+◌, ◌*◌, ℕ, None, IfOk, IfSome, OnOk, slice_get, vec_len};
-ghost use Rattle.dt_facts.specs.Handles.{making};
+ghost use Rattle.std.specs.Prelude.{◌≡◌, ◌+◌, ◌*◌, ℕ, [], None, IfOk, IfSome, OnOk, slice_get, vec_len};
+ghost use Rattle.dt_facts.specs.Facts.{life_fact};
+ghost use Rattle.dt_facts.specs.Handles.{holding, making};
 ghost use Rattle.dt_seat.specs.Keeps.{IsLeft, followed_at};
-ghost use Rattle.dt_seat.specs.Names.{names_of_seat, processor_name};
+ghost use Rattle.dt_seat.specs.Knowledge.{known_items};
+ghost use Rattle.dt_seat.specs.Names.{known_name, life_name, names_of_seat, processor_name};
 
 use crate::follower::Follower;
+use crate::idle::Idle;
 use crate::keep::Keep;
+use crate::knowledge::Knowledge;
 use crate::locked::LockedSeat;
 use crate::site::HubSite;
 use dt_chain::Seat;
-use dt_facts::{Facts, Maker};
+use dt_facts::{Book, Facts, Maker, Share};
 use dt_machine::Machine;
 use std::alloc::{AllocError, Global};
 use std::marker::Brand;
+
+/// The book and the share of the lives of a seat that had none.
+fn no_lives(facts: &Facts, maker: &mut Maker) -> (Book, Share)
+    requires { maker.old.word ≡ facts.now }
+    ensures book { result.0 ≡ holding facts.now maker.old.name (life_fact []) }
+    ensures share { result.1 ≡ result.0 }
+    ensures maker { maker.new ≡ making facts.now (maker.old.name + 1) }
+{
+    let mut both = facts.make(maker);
+    facts.go_on::<Brand, ()>(&mut both, &());
+    facts.cut(both)
+}
 
 /// What a seat keeps for a processor that took nothing there, and what the processor has there.
 fn first_keep<J: HubSite>(
@@ -20,17 +36,23 @@ fn first_keep<J: HubSite>(
     maker: &mut Maker,
     number: Seat,
     cpu: u32,
+    lives: &mut Book,
+    known: &mut Knowledge,
 ) -> (Keep<J>, Follower<J>)
     requires facts { facts.now ≡ J.word }
+    requires lives { lives.old ≡ holding J.word (life_name J.contents.registry.cpus number) (life_fact []) }
+    requires known { known.old ≡ known_items J.word (known_name J.contents.registry.cpus number) [] }
     requires maker { maker.old ≡ making J.word (processor_name J.contents.registry.cpus number cpu) }
     ensures keep { IsLeft J.word J.contents.registry.cpus number cpu 0 result.0 }
+    ensures same { (lives.new ≡ lives.old) × (known.new ≡ known.old) }
     ensures follower { result.1 ≡ followed_at number cpu }
     ensures maker { maker.new ≡ making J.word (processor_name J.contents.registry.cpus number cpu + 1) }
 {
     let mut both = facts.make(maker);
     facts.go_on::<Brand, ()>(&mut both, &());
     let (book, share) = facts.cut(both);
-    (Keep::new(book), Follower::new(number, cpu, share))
+    let follower = Follower::new(number, cpu, share, facts.begin(lives), known.begin(facts));
+    (Keep::new(book), follower)
 }
 
 impl<J: HubSite> LockedSeat<J> {
@@ -53,11 +75,14 @@ impl<J: HubSite> LockedSeat<J> {
         ensures maker { OnOk result (maker.new ≡ making J.word ((number + 1) * names_of_seat J.contents.registry.cpus)) }
     {
         let cpus = machine.cpus();
-        let (lives, free) = facts.cut(facts.make(maker));
+        let (mut lives, share) = no_lives(facts, maker);
+        let mut known = Knowledge::new(facts, maker);
         let mut keeps = Vec::with_capacity(alloc, cpus as usize)?;
         let mut followers = Vec::with_capacity(alloc, cpus as usize)?;
         'processors: for cpu in 0..cpus {
-            let (keep, follower) = first_keep::<J>(facts, maker, number, cpu);
+            let (keep, follower) = first_keep::<J>(
+                facts, maker, number, cpu, &mut lives, &mut known,
+            );
             keeps.push(keep)?;
             followers.push(follower)?;
         }
@@ -66,7 +91,7 @@ impl<J: HubSite> LockedSeat<J> {
             life: 0,
             present: None,
             lives,
-            free: Some(free),
+            free: Some(Idle { share, known }),
             keeps,
         };
         Ok((seat, followers))

@@ -5,7 +5,9 @@ ghost use Rattle.dt_trail.specs.Known.{known_row};
 ghost use Rattle.dt_trail.specs.Limits.{opening_cells};
 
 use crate::asking::withdraw;
+use crate::idle::Idle;
 use crate::locked::LockedSeat;
+use crate::notebook::Notebook;
 use crate::notes::{forget_notes, hand_out};
 use crate::present::Present;
 use crate::session::Session;
@@ -19,12 +21,6 @@ use dt_machine::Machine;
 use std::alloc::{AllocError, Global};
 use std::marker::Brand;
 use std::sync::{Mutex, Wait};
-
-/// A life that begins: its number, and who appends to its trail. The fact of a seat's life is picked from it.
-struct NewLife<J: HubSite> {
-    life: u64,
-    owner: Owner<J>,
-}
 
 impl<J: HubSite> LockedSeat<J> {
     /// Opens a session of an account on the seat, which is free and has had fewer than the most sessions. The session knows nothing yet, and its
@@ -43,22 +39,18 @@ impl<J: HubSite> LockedSeat<J> {
         requires free { self.old.trail ≡ None }
         requires left { self.old.life + 1 < 2 ^ 64 }
         ensures session { IfOk result (λ session. (session.seat ≡ self.old.number) × (session.life ≡ self.old.life)
-            × (session.account ≡ account.now) × (session.knows ≡ [])) }
+            × (session.account ≡ account.now) × (session.knows ≡ []) × (session.published ≡ [])) }
+        ensures trail { IfOk result (λ session. self.new.trail ≡ Some (known_row session.row [] opening_cells 0)) }
         ensures seat { (self.new.number ≡ self.old.number) × (self.new.life ≡ self.old.life) }
         ensures same { OnErr result (self.new.trail ≡ None) }
     {
         let cpus = machine.cpus();
         let consumer = Consumer::new(alloc, *account, machine)?;
         let (owner, notes) = new_trail::<J>(alloc, *account, u64::from(cpus) + 1)?;
-        let Some(mut share) = self.free.take() else {
+        let Some(Idle { mut share, known }) = self.free.take() else {
             unreachable!()
         };
-        let begun = NewLife {
-            life: self.life,
-            owner,
-        };
-        facts.go_on_apart::<Brand, NewLife<J>>(&mut self.lives, &mut share, &begun);
-        let NewLife { life: _, owner } = begun;
+        facts.go_on_apart::<Brand, Owner<J>>(&mut self.lives, &mut share, &owner);
         let note = hand_out(&mut self.keeps, &owner, notes);
         self.present = Some(Present {
             account: *account,
@@ -68,8 +60,16 @@ impl<J: HubSite> LockedSeat<J> {
         });
         Ok(Session {
             seat: self.number,
+            life: self.life,
+            account: *account,
             share,
-            note,
+            lives: facts.begin(&mut self.lives),
+            known,
+            notebook: Notebook {
+                note,
+                lines: Vec::new(alloc),
+                front: None,
+            },
         })
     }
 
@@ -89,11 +89,16 @@ impl<J: HubSite> LockedSeat<J> {
     {
         let Session {
             seat: _,
+            life: _,
+            account: _,
             mut share,
-            note,
+            lives,
+            known,
+            notebook,
         } = session;
         facts.go_on_apart::<Brand, ()>(&mut self.lives, &mut share, &());
-        drop(note);
+        drop(lives);
+        drop(notebook);
         let Some(present) = self.present.take() else {
             unreachable!()
         };
@@ -102,7 +107,7 @@ impl<J: HubSite> LockedSeat<J> {
         }
         drop(present);
         forget_notes(&mut self.keeps);
-        self.free = Some(share);
+        self.free = Some(Idle { share, known });
         self.life += 1;
     }
 }

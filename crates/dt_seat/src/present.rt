@@ -3,8 +3,8 @@ ghost use Rattle.std.specs.Prelude.{◌≡◌, ◌+◌, Some, vec_len};
 ghost use Rattle.dt_legal.specs.Rows.{AreBelowPlace};
 ghost use Rattle.dt_machine.specs.Moment.{IsMoment};
 ghost use Rattle.dt_machine.specs.Registry.{firing_at};
-ghost use Rattle.dt_seat.specs.Keeps.{known_by, known_of};
-ghost use Rattle.dt_seat.specs.Seats.{ComesOfFiring, IsTaken};
+ghost use Rattle.dt_seat.specs.Keeps.{known_by};
+ghost use Rattle.dt_seat.specs.Seats.{ComesOfFiring, TrailGoesOn, IsTaken};
 
 use crate::follower::Follower;
 use crate::held::Held;
@@ -33,7 +33,7 @@ pub(crate) fn hold_at<J: HubSite>(
     facts: &Facts,
     number: Seat,
     life: u64,
-    lives: &Book,
+    lives: &mut Book,
     present: &mut Present<J>,
     keeps: &mut Vec<Keep<J>>,
     moment: &Moment,
@@ -41,15 +41,15 @@ pub(crate) fn hold_at<J: HubSite>(
 ) -> Held
     requires machine { machine.now ≡ J.contents }
     requires facts { facts.now ≡ J.word }
-    requires taken { IsTaken J.word J.contents number life lives.now present.old keeps.old.items }
+    requires taken { IsTaken J.word J.contents number life lives.old present.old keeps.old.items }
     requires moment { IsMoment J.contents.registry moment.now }
     requires script { firing_at J.contents.scripts moment.now.firing.now.cpu moment.now.firing.now.place
         ≡ Some moment.now.firing.now }
     requires follower { (follower.old.seat ≡ number) × (follower.old.cpu ≡ moment.now.firing.now.cpu) }
-    requires below { AreBelowPlace moment.now.firing.now.cpu moment.now.firing.now.place (known_of life follower.old) }
-    ensures taken { IsTaken J.word J.contents number life lives.now present.new keeps.new.items }
+    requires below { AreBelowPlace moment.now.firing.now.cpu moment.now.firing.now.place (known_by follower.old.note) }
+    ensures taken { IsTaken J.word J.contents number life lives.new present.new keeps.new.items }
     ensures held { ComesOfFiring J.contents life moment.now.firing.now result follower.old follower.new }
-    ensures row { present.new.owner.row ≡ present.old.owner.row }
+    ensures trail { TrailGoesOn present.old.owner present.new.owner }
 {
     let keep = &mut keeps[moment.firing.cpu as usize];
     keep.lend(facts, lives, life, &present.owner, follower);

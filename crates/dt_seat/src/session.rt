@@ -1,29 +1,37 @@
 //! A session on a seat.
 
+use crate::knowledge::Knowledge;
+use crate::notebook::Notebook;
 use crate::site::HubSite;
-use crate::trailed::Note;
 use dt_chain::Seat;
-use dt_facts::Share;
+use dt_cred::Account;
+use dt_facts::{Beginning, Facts, Share};
 use std::marker::Model;
 
 /// A session: who has it may ask lines of the consumer on its seat.
 ///
-/// Contracts see it as a `Sat` of `specs/Sessions.antt`: its seat, its number there, its account, and what it knows of its trail.
+/// Contracts see it as a `Sat` of `specs/Sessions.antt`: its seat, its number there, its trail with its account, what it knows of that trail, and
+/// which writes it knows to be published.
 #[derive(Drop)]
 pub struct Session<J: HubSite> {
     pub(crate) seat: Seat,
+    pub(crate) life: u64,
+    pub(crate) account: Account,
     pub(crate) share: Share,
-    pub(crate) note: Note<J>,
+    pub(crate) lives: Beginning,
+    pub(crate) known: Knowledge,
+    pub(crate) notebook: Notebook<J>,
 }
 
 impl<J: HubSite> Model for Session<J> {
-    ghost use Rattle.dt_seat.specs.Sessions.{Sat, IsSessionOn, session_seen};
+    ghost use Rattle.dt_seat.specs.Sessions.{Sat, IsNotebook, IsSessionOn, session_seen};
 
     ghost Value = { Sat };
 
-    ghost view = { λ s. session_seen s.seat s.share s.note };
+    ghost view = { λ s. session_seen s.seat s.life s.notebook.note s.notebook.front };
 
-    ghost invariant = { λ s. IsSessionOn J.word J.contents.registry.cpus s.seat s.share s.note };
+    ghost invariant = { λ s. IsSessionOn J.word J.contents.registry.cpus s.seat s.life s.account s.share s.lives s.known s.notebook.note
+        × IsNotebook J.contents s.seat s.life s.notebook.note s.notebook.lines.items s.notebook.front };
 }
 
 impl<J: HubSite> Session<J> {
@@ -38,14 +46,25 @@ impl<J: HubSite> Session<J> {
         self.seat
     }
 
+    /// How many sessions were on the seat before it.
+    pub fn life(&self) -> u64
+        ensures { result ≡ self.now.life }
+    {
+        self.life
+    }
+
     /// Catches up with its trail, and says how many items it then knows. It takes no lock and waits for nobody.
-    pub fn seen(&mut self) -> u64
+    pub fn seen(&mut self, facts: &Facts) -> u64
+        requires { facts.now ≡ J.word }
         ensures count { result ≡ length self.new.knows }
         ensures longer { StartsWith self.new.knows self.old.knows }
         ensures lines { own 0 self.new.knows ≡ own 0 self.old.knows }
         ensures legal { IsLegalRow self.new.account J.contents self.new.knows }
-        ensures same { (self.new.seat ≡ self.old.seat) × (self.new.life ≡ self.old.life) × (self.new.account ≡ self.old.account) }
+        ensures same { (self.new.seat ≡ self.old.seat) × (self.new.life ≡ self.old.life) × (self.new.row ≡ self.old.row)
+            × (self.new.published ≡ self.old.published) }
     {
-        self.note.catch_up()
+        let count = self.notebook.note.catch_up();
+        self.known.go_on(facts, self.life, &self.notebook.note);
+        count
     }
 }

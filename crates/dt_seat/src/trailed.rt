@@ -1,14 +1,16 @@
 //! A consumer with its session's trail.
-ghost use Rattle.std.specs.Prelude.{◌≡◌, ◌≤◌, ◌↔◌, ◌+◌, [], IsTrue, IfOk, OnOk, Some};
+ghost use Rattle.std.specs.Prelude.{◌≡◌, ◌≤◌, ◌<◌, ◌↔◌, ◌+◌, [], IsTrue, IfOk, OnOk, Some, vec_len, vec_capacity};
 ghost use Rattle.dt_legal.specs.Rows.{AreBelowPlace, life_of_row};
 ghost use Rattle.dt_life.specs.Sees.{Sees};
 ghost use Rattle.dt_machine.specs.Moment.{IsMoment};
 ghost use Rattle.dt_machine.specs.Registry.{firing_at};
+ghost use Rattle.dt_seat.specs.Sessions.{lines_from};
 ghost use Rattle.dt_seat.specs.Trailed.{IsWideEnough, IsGoAfter, IsPrepared, IsTrailed, item_of_line, row_after, row_offered, with_items};
 ghost use Rattle.dt_trail.specs.Known.{known_row, noted, AreNew, Meets};
 ghost use Rattle.dt_proto.specs.Asked.{form_asked, form_lent};
 ghost use Rattle.dt_trail.specs.Limits.{cpu_count, opening_cells};
 
+use crate::line_kept::LineKept;
 use crate::prepared::Prepared;
 use dt_consumer::Consumer;
 use dt_cred::Account;
@@ -98,7 +100,7 @@ pub(crate) fn make_room<J: Traced>(
     requires note { note.old.row ≡ owner.old.row }
     ensures room { OnOk result (IsWideEnough J.contents account owner.new) }
     ensures kept { IsTrailed J.contents account owner.new consumer.now }
-    ensures same { (owner.new.row ≡ owner.old.row) × (owner.new.knows ≡ owner.old.knows) }
+    ensures same { (owner.new.row ≡ owner.old.row) × (owner.new.knows ≡ owner.old.knows) × (owner.old.cells ≤ owner.new.cells) }
     ensures note { note.new ≡ noted note.old.row note.old.number owner.old.knows }
     ensures met { Meets owner.old.knows note.old }
 {
@@ -111,13 +113,14 @@ pub(crate) fn make_room<J: Traced>(
 }
 
 /// Makes the change of a line that was prepared, and appends its item; answers the text of its reply. The session's note
-/// then knows the whole trail. A `go` that is accepted needs the room for the history. It takes no memory.
+/// then knows the whole trail, and the line is kept among its own. A `go` that is accepted needs the room for the history. It takes no memory.
 pub(crate) fn finish<J: Traced>(
     machine: &Machine,
     account: Account,
     owner: &mut Owner<J>,
     consumer: &mut Consumer,
     note: &mut Note<J>,
+    lines: &mut Vec<LineKept>,
     prepared: Prepared,
 ) -> Vec<u8>
     requires machine { machine.now ≡ J.contents }
@@ -125,11 +128,14 @@ pub(crate) fn finish<J: Traced>(
     requires prepared { IsPrepared J.contents account owner.old.knows consumer.old prepared.draft prepared.item
         prepared.text.items }
     requires note { (note.old.row ≡ owner.old.row) × (note.old.number ≡ 0) }
+    requires lines { lines.old.items ≡ lines_from 0 note.old.knows }
+    requires line_room { vec_len lines.old < vec_capacity lines.old }
     requires room { IsGoAfter account J.contents owner.old.knows prepared.item → IsWideEnough J.contents account owner.old }
     ensures kept { IsTrailed J.contents account owner.new consumer.new }
     ensures trail { owner.new ≡ with_items owner.old (row_after account J.contents owner.old.knows prepared.item) }
     ensures note { note.new ≡ noted note.old.row 0 (row_after account J.contents owner.old.knows prepared.item) }
     ensures met { Meets owner.old.knows note.old }
+    ensures lines { lines.new.items ≡ lines_from 0 note.new.knows }
     ensures text { result.items ≡ prepared.text.items }
 {
     let Prepared { draft, item, text } = prepared;
@@ -139,6 +145,8 @@ pub(crate) fn finish<J: Traced>(
         owner.meet(note);
     } else {
         owner.append(note, &item);
+        let place = note.count() - 1;
+        lines.push_reserved(LineKept { place, item });
     }
     text
 }

@@ -1,0 +1,2 @@
+-- Facts of which the tests speak.
+pub mod Numbers

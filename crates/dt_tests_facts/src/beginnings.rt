@@ -30,6 +30,18 @@ fn catches_up<G: Given>(facts: &Facts, book: &mut Book, share: &mut Share) -> Be
     early
 }
 
+// Of a beginning that was told twice, each begins what the book says.
+fn both_begin(facts: &Facts, book: &mut Book, beginning: Beginning)
+    requires book { book.old.word ≡ facts.now }
+    requires beginning { (beginning.word ≡ facts.now) × (beginning.name ≡ book.old.name) }
+    ensures begins { HaveGrown beginning.lists (lists_in book.old.fact) }
+    ensures same { book.new ≡ book.old }
+{
+    let mut beginning = beginning;
+    let other = facts.again(&mut beginning);
+    longer_begins(facts, book, beginning, other);
+}
+
 // The longer of two beginnings begins what the book says.
 fn longer_begins(facts: &Facts, book: &mut Book, one: Beginning, other: Beginning)
     requires book { book.old.word ≡ facts.now }
@@ -49,6 +61,8 @@ fn beginnings_are_learnt_and_compared(rt: HostRuntime) -> Result<(), Fail> {
     let (mut book, mut share) = facts.cut(facts.make(&mut maker));
     let early = facts.begin(&mut book);
     let late = catches_up::<NoWrites>(&facts, &mut book, &mut share);
+    let again = facts.begin(&mut book);
     longer_begins(&facts, &mut book, early, late);
+    both_begin(&facts, &mut book, again);
     Ok(())
 }

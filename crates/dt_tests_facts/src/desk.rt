@@ -1,6 +1,7 @@
 //! A number that lies under a lock, beside the book that says it.
-ghost use Rattle.std.specs.Prelude.{◌≡◌, ℕ, None};
-ghost use Rattle.dt_facts.specs.Facts.{processor_fact, lists_in, no_lists};
+ghost use Rattle.std.specs.Prelude.{◌≡◌, ℕ};
+ghost use Rattle.dt_facts.specs.Facts.{lists_in, no_lists};
+ghost use Rattle.dt_tests_facts.specs.Numbers.{number_fact};
 
 use dt_facts::{Book, Facts, Share};
 use std::marker::{Brand, PhantomData};
@@ -30,14 +31,14 @@ pub(crate) struct Desk<W: Which> {
     of: PhantomData<W>,
     ghost word: { book.word ≡ W.word },
     ghost name: { book.name ≡ W.name },
-    ghost says: { book.fact ≡ processor_fact None number },
+    ghost says: { book.fact ≡ number_fact number },
 }
 
 impl<W: Which> Desk<W> {
     pub(crate) fn new(number: u64, book: Book) -> Desk<W>
         requires word { book.word ≡ W.word }
         requires name { book.name ≡ W.name }
-        requires says { book.fact ≡ processor_fact None number }
+        requires says { book.fact ≡ number_fact number }
     {
         Desk {
             number,
@@ -50,7 +51,7 @@ impl<W: Which> Desk<W> {
     pub(crate) fn find(&mut self, facts: &Facts, share: &mut Share) -> u64
         requires word { (facts.now ≡ W.word) × (share.old.word ≡ W.word) }
         requires name { share.old.name ≡ W.name }
-        ensures found { share.old.fact ≡ processor_fact None result }
+        ensures found { share.old.fact ≡ number_fact result }
         ensures share { share.new ≡ share.old }
     {
         facts.agree(&mut self.book, share);
@@ -64,7 +65,7 @@ impl<W: Which> Desk<W> {
         requires empty { lists_in share.old.fact ≡ no_lists }
         ensures word { share.new.word ≡ W.word }
         ensures name { share.new.name ≡ W.name }
-        ensures changed { share.new.fact ≡ processor_fact None number }
+        ensures changed { share.new.fact ≡ number_fact number }
     {
         facts.go_on_apart::<Brand, _>(&mut self.book, share, &number);
         self.number = number;

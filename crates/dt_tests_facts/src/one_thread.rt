@@ -1,7 +1,7 @@
 //! Names, and their shares and books, in one thread.
-ghost use Rattle.std.specs.Prelude.{◌≡◌, ◌+◌, None};
-ghost use Rattle.dt_facts.specs.Facts.{processor_fact};
+ghost use Rattle.std.specs.Prelude.{◌≡◌, ◌+◌};
 ghost use Rattle.dt_facts.specs.Handles.{holding, making};
+ghost use Rattle.dt_tests_facts.specs.Numbers.{number_fact};
 
 use dt_facts::{Beginning, Book, Both, Facts, Given, Maker, Share};
 use std::mem;
@@ -10,16 +10,15 @@ use std::test::*;
 struct Seven;
 
 impl Given for Seven {
-    ghost use Rattle.std.specs.Prelude.{None};
-    ghost use Rattle.dt_facts.specs.Facts.{processor_fact};
+    ghost use Rattle.dt_tests_facts.specs.Numbers.{number_fact};
 
-    ghost fact = { processor_fact None 7 };
+    ghost fact = { number_fact 7 };
 }
 
 // A new name's fact goes on, is cut into book and share, which agree, and is put together again.
 fn goes_round(facts: &Facts, maker: &mut Maker) -> Both
     requires { maker.old.word ≡ facts.now }
-    ensures both { result ≡ holding facts.now maker.old.name (processor_fact None 7) }
+    ensures both { result ≡ holding facts.now maker.old.name (number_fact 7) }
     ensures maker { maker.new ≡ making facts.now (maker.old.name + 1) }
 {
     let mut both = facts.make(maker);

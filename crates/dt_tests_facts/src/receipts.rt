@@ -1,7 +1,8 @@
 //! Who is told twice what a session knows, has no note of its trail, and is shown to have lost nothing.
 ghost use Rattle.std.specs.Prelude.{◌≡◌, ◌<◌, [], length};
 ghost use mathlib.Core.List.{IsPrefix};
-ghost use Rattle.dt_facts.specs.Facts.{nothing, items_fact, growing_lists};
+ghost use Rattle.dt_facts.specs.Facts.{nothing, items_fact, lists_in};
+ghost use Rattle.dt_facts.specs.Lives.{items_of_life};
 
 use dt_facts::{Beginning, Book, Facts, Share};
 use dt_trail::{Item, Law, Told, Trail, TrailNote, TrailOwner};
@@ -22,7 +23,7 @@ type Owner = TrailOwner<u64, Any>;
 
 type Note = TrailNote<u64, Any>;
 
-/// A session: its trail, and the fact of the items that its note knows.
+/// A session: its trail, and the fact of the items that its note knows, as those of life 0.
 #[derive(Drop)]
 struct Session {
     owner: Owner,
@@ -32,15 +33,16 @@ struct Session {
     ghost one_row: { owner.row ≡ note.row },
     ghost numbered: { note.number ≡ 0 },
     ghost agree: { book ≡ share },
-    ghost says: { share.fact ≡ items_fact note.knows },
+    ghost says: { share.fact ≡ items_fact (lists_in share.fact).items },
+    ghost knows: { items_of_life 0 (lists_in share.fact).items ≡ note.knows },
 }
 
-/// What was told, beside a beginning of the fact of the items, which has the same items.
+/// What was told, beside a beginning of the fact of the items, which has the same items of life 0.
 #[derive(Drop)]
 struct Receipt {
     told: Told<u64>,
     beginning: Beginning,
-    ghost same: { beginning.lists ≡ growing_lists [] told.knows },
+    ghost same: { items_of_life 0 beginning.lists.items ≡ told.knows },
 }
 
 // The session's note has lost nothing.

@@ -1,6 +1,7 @@
 //! A share goes to another thread, while its book lies under a lock.
-ghost use Rattle.std.specs.Prelude.{◌≡◌, None};
-ghost use Rattle.dt_facts.specs.Facts.{nothing, processor_fact};
+ghost use Rattle.std.specs.Prelude.{◌≡◌};
+ghost use Rattle.dt_facts.specs.Facts.{nothing};
+ghost use Rattle.dt_tests_facts.specs.Numbers.{number_fact};
 
 use crate::desk::{Desk, Which};
 use dt_facts::{Book, Facts, Given, Share};
@@ -13,7 +14,7 @@ use std::thread::{Threads, join};
 fn visit<W: Which, R: Wait>(rt: &R, facts: &Facts, desk: &Mutex<Desk<W>>, share: Share) -> u64
     requires word { (facts.now ≡ W.word) × (share.word ≡ W.word) }
     requires name { share.name ≡ W.name }
-    requires fact { share.fact ≡ processor_fact None 3 }
+    requires fact { share.fact ≡ number_fact 3 }
     ensures { result ≡ 4 }
 {
     let mut share = share;
@@ -40,7 +41,7 @@ fn visited<W: Which + Send, R: Threads + Wait + Sync>(
 ) -> u64
     requires word { (facts.now ≡ W.word) × (book.word ≡ W.word) × (share.word ≡ W.word) }
     requires name { (book.name ≡ W.name) × (share.name ≡ W.name) }
-    requires fact { (book.fact ≡ processor_fact None 3) × (share.fact ≡ processor_fact None 3) }
+    requires fact { (book.fact ≡ number_fact 3) × (share.fact ≡ number_fact 3) }
 {
     let desk = Mutex::new(Desk::<W>::new(3, book));
     let (found, _) = join(
@@ -48,7 +49,7 @@ fn visited<W: Which + Send, R: Threads + Wait + Sync>(
         || -> u64
             requires word { (facts.now ≡ W.word) × (share.word ≡ W.word) }
             requires name { share.name ≡ W.name }
-            requires fact { share.fact ≡ processor_fact None 3 }
+            requires fact { share.fact ≡ number_fact 3 }
         { visit(rt, facts, &desk, share) },
         || look(rt, &desk),
     );
@@ -58,10 +59,9 @@ fn visited<W: Which + Send, R: Threads + Wait + Sync>(
 struct Three;
 
 impl Given for Three {
-    ghost use Rattle.std.specs.Prelude.{None};
-    ghost use Rattle.dt_facts.specs.Facts.{processor_fact};
+    ghost use Rattle.dt_tests_facts.specs.Numbers.{number_fact};
 
-    ghost fact = { processor_fact None 3 };
+    ghost fact = { number_fact 3 };
 }
 
 #[test]

@@ -1,15 +1,34 @@
 -- What is to be shown of `ask_at`.
-use Rattle.std.proofs.Common.{◌≡◌, ap, ◌∙◌}
+use Rattle.std.proofs.Common.{◌≡◌, ap, sym, ◌∙◌, subst}
+use Rattle.std.specs.List.{Contains}
+use Rattle.dt_chain.specs.Writes.{Write}
 use Rattle.dt_cred.specs.declared.account.Account.{Account}
+use Rattle.dt_seat.proofs.Begins.{starts_trans}
+use Rattle.dt_seat.proofs.Offering.{goes_on_asked, goes_on_wider, starts_after}
+use Rattle.dt_seat.proofs.Published.{contained_still}
 use Rattle.dt_seat.proofs.Seats.{answered_from, taken_asked}
+use Rattle.dt_seat.proofs.Sitting.{lines_grown, notebook_asked, notebook_goes_on}
 use Rattle.dt_seat.proofs.asking.ask_at.Goals as goal
-use Rattle.dt_seat.specs.Trailed.{row_after}
-use Rattle.dt_trail.specs.Known.{Known, Noted}
+use Rattle.dt_seat.specs.Publications.{IsPublicationAfter, writes_seen}
+use Rattle.dt_seat.specs.Trailed.{IsGoAfter, row_after}
+use Rattle.dt_trail.specs.Items.{StartsWith}
+use Rattle.dt_trail.specs.Known.{Known, Noted, noted}
 use Rattle.dt_trail.specs.declared.law.Named.{Named}
 
-pub finish-text-requires-clause-prepared : goal.finish-text-requires-clause-prepared
-finish-text-requires-clause-prepared g c =
-    rw (c.make_ready.ensures.same.0, c.make_ready.ensures.row.1, c.make_ready.ensures.same.1) c.in_ok-prepared.ensures.prepared
+pub returns-in_err-published-clause-notebook : goal.returns-in_err-published-clause-notebook
+returns-in_err-published-clause-notebook g c =
+    rw c.reserve.ensures.items
+    (notebook_goes_on _ _ _ c.args.notebook.now.note c.make_ready.new.note _ _ c.requires.notebook c.make_ready.ensures.note)
+
+pub returns-in_err-published-clause-trail : goal.returns-in_err-published-clause-trail
+returns-in_err-published-clause-trail g c =
+    let row = c.make_ready.ensures.row in
+    goes_on_wider c.args.present.now.owner c.make_ready.new.present.owner row.0 row.1 row.2
+
+pub finish-text-requires-clause-lines : goal.finish-text-requires-clause-lines
+finish-text-requires-clause-lines g c =
+    c.reserve.ensures.items
+    ∙ lines_grown _ _ _ c.args.notebook.now.note c.make_ready.new.note _ _ c.requires.notebook c.make_ready.ensures.note
 
 pub returns-clause-taken : goal.returns-clause-taken
 returns-clause-taken g c =
@@ -30,14 +49,55 @@ pub returns-clause-answered : goal.returns-clause-answered
 returns-clause-answered g c =
     let contents = g.J.Traced.contents in
     let prepared = c.in_ok-prepared.ensures.prepared in
-    let account : c.args.note.now.row.account ≡ c.args.present.now.account =
-    ap (λ (r : Named Account). r.account) c.requires.note.0 ∙ c.requires.taken.trailed.whose_is in
+    let account : c.args.notebook.now.note.row.account ≡ c.args.present.now.account =
+    ap (λ (r : Named Account). r.account) c.requires.row ∙ c.requires.taken.trailed.whose_is in
     let after : c.finish-text.new.note.knows
     ≡ row_after c.make_ready.new.present.account contents c.make_ready.new.present.owner.knows c.in_ok-prepared.prepared.item =
     ap (λ (n : Noted Account). n.knows) c.finish-text.ensures.note in
     let met = rw c.make_ready.ensures.row.1 at c.finish-text.ensures.met in
     rw (account, ← c.in_ok-prepared.ensures.line, c.finish-text.ensures.text)
-    (answered_from contents c.args.present.now.account c.args.note.now c.make_ready.new.note c.args.present.now.owner.knows
-    c.in_ok-prepared.prepared.item c.in_ok-prepared.prepared.text.items c.finish-text.new.note.knows c.requires.note.1
+    (answered_from contents c.args.present.now.account c.args.notebook.now.note c.make_ready.new.note c.args.present.now.owner.knows
+    c.in_ok-prepared.prepared.item c.in_ok-prepared.prepared.text.items c.finish-text.new.note.knows c.requires.notebook.first
     c.make_ready.ensures.note met c.requires.taken.trailed.legal prepared.due
     (rw (c.make_ready.ensures.same.0, c.make_ready.ensures.row.1) at after))
+
+pub returns-clause-notebook : goal.returns-clause-notebook
+returns-clause-notebook g c =
+    let contents = g.J.Traced.contents in
+    let item = c.in_ok-prepared.prepared.item in
+    let old = c.args.notebook.now.note in
+    let account : old.row.account ≡ c.args.present.now.account =
+    ap (λ (r : Named Account). r.account) c.requires.row ∙ c.requires.taken.trailed.whose_is in
+    let met = rw c.make_ready.ensures.row.1 at c.finish-text.ensures.met in
+    let after : c.finish-text.new.note ≡ noted old.row 0 (row_after c.args.present.now.account contents c.args.present.now.owner.knows item) =
+    rw (c.make_ready.ensures.same.0, c.make_ready.ensures.row.1, c.make_ready.ensures.note.row) at c.finish-text.ensures.note in
+    let announced : IsGoAfter c.args.present.now.account contents c.args.present.now.owner.knows item → (write : Write)
+    × Contains (writes_seen c.take_down.new.front) write
+    × IsPublicationAfter contents c.args.number c.args.life c.args.present.now.account c.args.present.now.owner.knows write = λ go.
+    let is_go = (c.publishes-is_go.ensures _ _ _ _ c.in_ok-prepared.ensures.prepared.drafted).1 go in
+    let found = c.in_ok-published.ensures.published is_go in
+    (found.0, contained_still _ _ found.0 c.take_down.ensures.now found.1, found.2) in
+    notebook_asked contents c.args.number c.args.life c.args.present.now.account old c.make_ready.new.note c.args.notebook.now.lines.items
+    c.args.notebook.now.front c.take_down.new.front account c.requires.notebook c.make_ready.ensures.note c.args.present.now.owner.knows met item
+    c.finish-text.new.note c.finish-text.new.lines.items c.take_down.ensures.before announced after c.finish-text.ensures.lines
+
+pub returns-clause-trail : goal.returns-clause-trail
+returns-clause-trail g c =
+    let row = c.make_ready.ensures.row in
+    rw (c.retire.ensures.1, c.finish-text.ensures.trail)
+    (goes_on_asked c.make_ready.new.present.account g.J.Traced.contents c.args.present.now.owner c.make_ready.new.present.owner
+    c.in_ok-prepared.prepared.item (goes_on_wider c.args.present.now.owner c.make_ready.new.present.owner row.0 row.1 row.2))
+
+pub returns-clause-note : goal.returns-clause-note
+returns-clause-note g c =
+    let contents = g.J.Traced.contents in
+    let item = c.in_ok-prepared.prepared.item in
+    let old = c.args.notebook.now.note in
+    let row = c.args.present.now.owner.knows in
+    let met = rw c.make_ready.ensures.row.1 at c.finish-text.ensures.met in
+    let after : c.finish-text.new.note ≡ noted old.row 0 (row_after c.args.present.now.account contents row item) =
+    rw (c.make_ready.ensures.same.0, c.make_ready.ensures.row.1, c.make_ready.ensures.note.row) at c.finish-text.ensures.note in
+    let starts : StartsWith (row_after c.args.present.now.account contents row item) old.knows =
+    starts_trans (row_after c.args.present.now.account contents row item) row old.knows (starts_after c.args.present.now.account contents row item)
+    (starts_trans row c.make_ready.new.note.knows old.knows met.0 c.make_ready.ensures.note.longer) in
+    (ap (λ (n : Noted Account). n.row) after, subst (λ (n : Noted Account). StartsWith n.knows old.knows) (sym after) starts)

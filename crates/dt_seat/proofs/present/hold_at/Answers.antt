@@ -3,6 +3,7 @@ use Rattle.std.proofs.Common.{◌≡◌, ◌+◌, ℕ, true, false, true≢false
 use Rattle.dt_cred.specs.declared.account.Account.{Account}
 use Rattle.dt_legal.specs.Rows.{IsLegalRow, life_of_row}
 use Rattle.dt_life.specs.Sees.{Sees}
+use Rattle.dt_seat.proofs.Offering.{goes_on_offered}
 use Rattle.dt_seat.proofs.Seats.{taken_offered, held_kept, held_unseen, some_same}
 use Rattle.dt_seat.proofs.present.hold_at.Goals as goal
 use Rattle.dt_seat.proofs.present.hold_at.Goals.{then-is_seen, else-is_seen}
@@ -17,10 +18,14 @@ returns-clause-taken g c =
     let cpu = c.lend.ensures.carried.cpu ∙ c.requires.follower.1 in
     let trailed = subst (λ (o : Known Account). IsTrailed g.J.Traced.contents c.args.present.now.account o c.offer-is_seen.new.consumer)
     c.offer-is_seen.ensures.trail c.offer-is_seen.ensures.kept in
-    rw c.offer-is_seen.ensures.trail
+    rw (c.lend.ensures.lives, c.offer-is_seen.ensures.trail)
     (taken_offered _ g.J.Traced.contents _ _ _ c.args.present.now c.args.keeps.now.items c.requires.taken
     c.args.moment.now.firing.now c.offer-is_seen.result c.offer-is_seen.new.consumer c.lend.new.self trailed c.lend.ensures.lent
     (rw (seat, cpu) at c.lend.ensures.kept))
+
+pub returns-clause-trail : goal.returns-clause-trail
+returns-clause-trail g c =
+    rw c.offer-is_seen.ensures.trail (goes_on_offered c.args.present.now.owner c.args.moment.now.firing.now c.offer-is_seen.result)
 
 pub returns-clause-held : goal.returns-clause-held
 returns-clause-held g c =

@@ -10,6 +10,7 @@ invariant-blocks-2 g l = record {
   kept : IsTrailed g.J.Traced.contents l.fn.account l.owner l.fn.consumer;
   row : l.owner.row ≡ l.fn.owner.row;
   knows : l.owner.knows ≡ l.fn.owner.knows;
+  cells : l.fn.owner.cells ≤ l.owner.cells;
   note : l.note ≡ noted l.fn.note.row l.fn.note.number l.fn.owner.knows;
   consumer : l.consumer ≡ l.fn.consumer;
   wanted : l.wanted ≤ lines_max + history_max;

@@ -17,5 +17,7 @@ processors-preserved g c = record {
       (pushed (λ (cpu : ℕ) (f : Followed). f ≡ followed_at c.args.number cpu)
       c.processors.followers.items c.first_keep-keep.result.1 c.processors.invariant.first
       (rw c.processors.invariant.followers c.first_keep-keep.ensures.follower));
+  lives = grind (arith, common_steps);
+  known = grind (arith, common_steps);
   maker = grind (arith, common_steps);
 }

@@ -1,7 +1,9 @@
--- The fact of the life that begins.
-use Rattle.std.proofs.Common.{true}
+-- The next life opens, with this trail.
+use Rattle.std.proofs.Common.{[], ◌∷◌, ◌++◌}
 use Rattle.dt_facts.specs.Facts.{life_fact}
+use Rattle.dt_facts.specs.Lives.{opened}
+use Rattle.dt_seat.specs.Knowledge.{steps_in}
 use Rattle.dt_seat.proofs.locked.LockedSeat.open.Given as goal
 
 abbrev pub ghosts-go_on_apart : goal.ghosts-go_on_apart
-ghosts-go_on_apart g a = record { fact = life_fact a._from.now.life true a._from.now.owner.row }
+ghosts-go_on_apart g a = record { fact = life_fact (steps_in a.share.now.fact ++ opened a._from.now.row ∷ []) }

@@ -1,0 +1,28 @@
+-- What is to be shown of `ask`.
+use Rattle.std.proofs.Common.{◌≡◌, List, Some, ap, sym, ◌∙◌, subst}
+use Rattle.dt_facts.specs.Lives.{IsOpenAs}
+use Rattle.dt_facts.specs.declared.fact.LifeStep.{LifeStep}
+use Rattle.dt_seat.specs.Knowledge.{steps_in}
+use Rattle.dt_seat.specs.Seats.{Seated}
+use Rattle.dt_seat.specs.Sessions.{Sat}
+use Rattle.dt_seat.proofs.Sitting.{one_open, session_goes_on}
+use Rattle.dt_seat.proofs.locked.LockedSeat.ask.Goals as goal
+
+pub invariant_of-session : goal.invariant_of-session
+invariant_of-session g c =
+    let inside = c.self.inside in
+    let s = c.session.inside in
+    let h = c.session.invariant in
+    let made = c.ask_at-result.ensures in
+    let present_is : inside.present ≡ Some c.in-Some.present = c.in-Some.is in
+    let taken = (rw present_is at c.self.invariant).0 in
+    let open_now : IsOpenAs inside.life c.in-Some.present.owner.row (steps_in s.share.fact) =
+    subst (λ (l : List LifeStep). IsOpenAs inside.life c.in-Some.present.owner.row l) (ap steps_in c.agree.ensures.agree) taken.is_open in
+    let life_is : s.life ≡ inside.life =
+    (one_open (steps_in s.share.fact) s.life inside.life s.notebook.note.row c.in-Some.present.owner.row h.0.is_open open_now).0 in
+    let seat_is : s.seat ≡ inside.number =
+    ap (λ (x : Sat). x.seat) c.session.view_is ∙ c.requires.seat ∙ ap (λ (x : Seated). x.number) (sym c.self.view_is) in (
+      rw (c.go_on.ensures, c.agree.ensures.share)
+          (session_goes_on _ _ _ _ _ _ _ _ s.notebook.note c.ask_at-result.new.notebook.note h.0 made.note.0 made.note.1),
+      rw (seat_is, life_is) made.notebook,
+    )
