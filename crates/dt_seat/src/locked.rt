@@ -55,6 +55,13 @@ impl<J: HubSite> LockedSeat<J> {
         self.number
     }
 
+    /// How many sessions were there before: the number of the one that is open, or of the next.
+    pub fn life(&self) -> u64
+        ensures { result ≡ self.now.life }
+    {
+        self.life
+    }
+
     /// Whether no session is open.
     pub fn is_free(&self) -> bool
         ensures { MatchBool result (self.now.trail ≡ None) (IsSome self.now.trail) }
