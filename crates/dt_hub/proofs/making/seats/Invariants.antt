@@ -5,7 +5,7 @@ use Rattle.dt_hub.specs.Hubs.{AreDealt}
 use Rattle.dt_seat.specs.Names.{names_of_seat}
 use Rattle.dt_hub.proofs.making.seats.Given as goal
 
-abbrev pub invariant-seats : goal.invariant-seats-2
+abbrev pub invariant-seats : goal.invariant-seats
 invariant-seats g l = record {
   many : length l.seats.items ≡ l.number;
   dealt : AreDealt g.J.Traced.contents.registry.cpus l.number l.hands.items;
