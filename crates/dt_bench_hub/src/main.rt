@@ -110,11 +110,28 @@ fn played<J: HubSite, R: Wait>(
     steps: &Vec<u8>,
 ) -> Option<Vec<u8>> {
     let steps = str::from_utf8(steps.as_slice()).ok()?;
-    let mut player = Player::new(alloc);
+    let mut player = Player::new();
+    let mut text = Vec::new(alloc);
     let mut is_well = true;
     for line in steps.lines() {
-        is_well = is_well && player.take(rt, alloc, hub, tokens, line).is_some();
+        is_well = is_well && takes(rt, alloc, hub, tokens, &mut player, line, &mut text);
     }
-    let text = player.end(rt, hub);
+    player.end(rt, hub);
     if is_well { Some(text) } else { None }
+}
+
+/// Plays a line, and adds what is answered. False: it can't be played.
+fn takes<J: HubSite, R: Wait>(
+    rt: &R,
+    alloc: Global,
+    hub: &Hub<J>,
+    tokens: &mut Vec<CpuSeat<J>>,
+    player: &mut Player<J>,
+    line: &str,
+    text: &mut Vec<u8>,
+) -> bool {
+    match player.take(rt, alloc, hub, tokens, line) {
+        Some(answer) => text.extend_from_slice(&answer).is_ok(),
+        None => false,
+    }
 }

@@ -8,6 +8,8 @@ mod calls;
 #[cfg(test)]
 mod gates;
 #[cfg(test)]
+mod histories;
+#[cfg(test)]
 mod meeting;
 #[cfg(test)]
 mod paths;
