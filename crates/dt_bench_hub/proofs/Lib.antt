@@ -1,0 +1,1 @@
+-- The program needs no lemmas.

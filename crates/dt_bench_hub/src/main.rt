@@ -1,0 +1,137 @@
+//! Plays step lines on a hub, which `examples/test` compares, and has sessions and processors at work on one, which `bench/hub` measures.
+//!
+//! `play MACHINE STEPS` plays the lines one after the other, in one thread, and writes the replies as `dtraced replay` does. Lines are `open SEAT ACCOUNT`,
+//! `call SEAT LINE`, `fire CPU` and `close SEAT`; the seats are the first three. `measure MACHINE INTERESTED OTHERS THREADS` opens so many sessions that enable
+//! the probe of the scripts, and so many that enable another, and lets the last two processors fire their whole scripts; with a word for threads, at the
+//! same time. It writes how many firings were made. With no word the program does nothing.
+#![tactic(auto)]
+
+ghost use Rattle.std.specs.Prelude.{◌≡◌};
+
+mod measuring;
+mod player;
+
+use dt_hub::{CpuSeat, Hub, HubParts, HubSite};
+use dt_machine::Machine;
+use measuring::{Scene, opens};
+use player::Player;
+use std::alloc::Global;
+use std::marker::Brand;
+use std::sync::Wait;
+use std::thread::Threads;
+use std::{env, fs, io};
+
+/// What is to be done.
+#[derive(Drop)]
+enum Work {
+    /// Lines are played.
+    Play { steps: Vec<u8> },
+    /// Sessions and processors are at work.
+    Measure(Scene),
+}
+
+fn main(rt: HostRuntime) -> io::Result<()> {
+    let Some((machine, work)) = asked(&rt) else {
+        return Ok(());
+    };
+    let Ok(machine) = Machine::read(rt.alloc(), &machine) else {
+        return println!(rt; "no machine");
+    };
+    let Ok(parts) = HubParts::new(rt.alloc(), machine) else {
+        return println!(rt; "out of memory");
+    };
+    match staged::<Brand, _>(&rt, rt.alloc(), parts, &work) {
+        Some(text) => match str::from_utf8(&text) {
+            Ok(text) => print!(rt; "{text}"),
+            Err(_) => println!(rt; "no text"),
+        },
+        None => println!(rt; "this can't be played"),
+    }
+}
+
+/// The machine's text, and the work, that the program's words name.
+fn asked(rt: &HostRuntime) -> Option<(Vec<u8>, Work)> {
+    let words = env::args(rt).ok()?.collect::<Vec<String>>(rt.alloc()).ok()?;
+    let machine = fs::read(rt, words.get(2)?.as_str()).ok()?;
+    let third = words.get(3)?.as_str();
+    match words.get(1)?.as_str() {
+        "play" => {
+            let steps = fs::read(rt, third).ok()?;
+            Some((machine, Work::Play { steps }))
+        }
+        "measure" => {
+            let scene = Scene {
+                interested: third.parse().ok()?,
+                others: words.get(4)?.as_str().parse().ok()?,
+                threads: words.get(5).is_some(),
+            };
+            Some((machine, Work::Measure(scene)))
+        }
+        _ => None,
+    }
+}
+
+/// Makes a hub, does the work on it, and ends it.
+fn staged<J: HubSite + Send + Sync, R: Threads + Wait + Sync>(
+    rt: &R,
+    alloc: Global,
+    parts: HubParts,
+    work: &Work,
+) -> Option<Vec<u8>>
+    requires contents { parts.contents ≡ J.contents }
+    requires chains { parts.book ≡ J.book }
+    requires facts { parts.word ≡ J.word }
+{
+    let Ok((hub, tokens)) = Hub::<J>::new(rt, alloc, parts) else {
+        return None;
+    };
+    let mut tokens = tokens;
+    let text = match work {
+        Work::Play { steps } => played(rt, alloc, &hub, &mut tokens, steps),
+        Work::Measure(scene) => {
+            let count = opens(rt, alloc, &hub, &mut tokens, *scene);
+            counted(alloc, count)
+        }
+    };
+    hub.end(rt);
+    text
+}
+
+fn counted(alloc: Global, count: u64) -> Option<Vec<u8>> {
+    Some(format!(in alloc; "{count}\n").ok()?.into_bytes())
+}
+
+/// Plays the lines.
+fn played<J: HubSite, R: Wait>(
+    rt: &R,
+    alloc: Global,
+    hub: &Hub<J>,
+    tokens: &mut Vec<CpuSeat<J>>,
+    steps: &Vec<u8>,
+) -> Option<Vec<u8>> {
+    let steps = str::from_utf8(steps.as_slice()).ok()?;
+    let mut player = Player::new();
+    let mut text = Vec::new(alloc);
+    let mut is_well = true;
+    for line in steps.lines() {
+        is_well = is_well && takes(rt, alloc, hub, tokens, &mut player, line, &mut text);
+    }
+    player.end(rt, hub);
+    if is_well { Some(text) } else { None }
+}
+
+/// Plays a line, and adds what is answered. False: it can't be played.
+fn takes<J: HubSite, R: Wait>(
+    rt: &R,
+    alloc: Global,
+    hub: &Hub<J>,
+    tokens: &mut Vec<CpuSeat<J>>,
+    player: &mut Player<J>,
+    line: &str,
+    text: &mut Vec<u8>,
+) -> bool {
+    match player.take(rt, alloc, hub, tokens, line) {
+        Some(answer) => text.extend_from_slice(&answer).is_ok(),
+        None => false,
+    }
+}

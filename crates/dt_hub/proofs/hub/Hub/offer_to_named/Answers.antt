@@ -1,0 +1,55 @@
+-- What is to be shown of `offer_to_named`.
+use Rattle.std.proofs.Common.{◌≡◌, ◌≤◌, ◌<◌, ◌+◌, ◌==◌, ℕ, true, false, Some, length, sym, ap, ◌∙◌, subst, arith, if◌then◌else◌}
+use Rattle.std.proofs.lemmas.List.{length-set}
+use Rattle.std.proofs.lemmas.Option.{slice_get-get_or}
+use Rattle.std.specs.List.{slice_get}
+use Rattle.dt_chain.specs.Seats.{has, life_at}
+use Rattle.dt_hub.proofs.Offers.{all_at_next, at_more, below_taken, done_more, from_next, from_taken, rest_less}
+use Rattle.dt_hub.proofs.hub.Hub.offer_to_named.Goals as goal
+
+pub seats-preserved : goal.seats-preserved
+seats-preserved g c =
+    let contents = g.J.Traced.contents in
+    let firing = c.args.moment.now.firing.now in
+    let mask = c.args.mask.now in
+    let start = c.args.followers.now.items in
+    let n = c.number-at.result in
+    let value : n ≡ c.in-Some.seat = c.number-at.ensures.value in
+    let inv = c.seats.invariant in
+    let first_is : has c.seats.left n ≡ true = subst (λ (k : ℕ). has c.seats.left k ≡ true) (sym value) c.in-Some.ensures.0 in
+    let before : (seat : ℕ) → seat < n → has c.seats.left seat ≡ false =
+    λ seat lt. c.in-Some.ensures.1 seat (omega (arith, lt, value)) in
+    let taken : (other : ℕ) → has c.remove.new.self other ≡ (if other == n then false else has c.seats.left other) =
+    λ other. rw value (c.remove.ensures other) in
+    let le = from_next contents firing mask start c.seats.held.items c.seats.followers.items c.seats.left c.remove.new.self c.seats.next n
+    inv.many inv.held c.number-at.ensures.small c.requires.seats inv.left_below inv.left_from inv.done inv.rest inv.at_below first_is before in
+    let named : life_at mask n ≡ Some c.in-Some-life_of.life =
+    subst (λ (k : ℕ). life_at mask k ≡ Some c.in-Some-life_of.life) (sym value) (sym c.in-Some-life_of.ensures) in
+    let small : n < length c.seats.followers.items = omega (arith, inv.many, c.number-at.ensures.small) in
+    let is : slice_get start n ≡ Some c.index_mut.result.now =
+    sym (inv.rest n le) ∙ slice_get-get_or c.seats.followers.items n c.index_mut.result.now small ∙ ap (λ f. Some f) (sym c.index_mut.ensures.value) in
+    record {
+      low = omega (arith, c.number-at.ensures.small);
+      left_below = below_taken contents firing mask start c.seats.held.items c.seats.followers.items c.seats.left c.remove.new.self c.seats.next n
+          inv.many inv.held c.number-at.ensures.small c.requires.seats inv.left_below inv.left_from inv.done inv.rest inv.at_below first_is before taken;
+      left_from = from_taken contents firing mask start c.seats.held.items c.seats.followers.items c.seats.left c.remove.new.self c.seats.next n
+          inv.many inv.held c.number-at.ensures.small c.requires.seats inv.left_below inv.left_from inv.done inv.rest inv.at_below first_is before taken;
+      done = done_more contents firing mask start c.seats.held.items c.seats.followers.items c.seats.left c.remove.new.self c.seats.next n
+          inv.many inv.held c.number-at.ensures.small c.requires.seats inv.left_below inv.left_from inv.done inv.rest inv.at_below first_is before
+          c.in-Some-life_of.life c.offer_at.result c.index_mut.result.now c.offer_at.new.follower named is c.offer_at.ensures;
+      rest = rest_less contents firing mask start c.seats.held.items c.seats.followers.items c.seats.left c.remove.new.self c.seats.next n
+          inv.many inv.held c.number-at.ensures.small c.requires.seats inv.left_below inv.left_from inv.done inv.rest inv.at_below first_is before
+          c.in-Some-life_of.life c.offer_at.result c.index_mut.result.now c.offer_at.new.follower named is c.offer_at.ensures;
+      many = length-set c.seats.followers.items n c.offer_at.new.follower ∙ inv.many;
+      held = length-set c.seats.held.items n c.offer_at.result ∙ inv.held;
+      at_below = at_more contents firing mask start c.seats.held.items c.seats.followers.items c.seats.left c.remove.new.self c.seats.next n
+          inv.many inv.held c.number-at.ensures.small c.requires.seats inv.left_below inv.left_from inv.done inv.rest inv.at_below first_is before
+          c.in-Some-life_of.life c.offer_at.result c.index_mut.result.now c.offer_at.new.follower named is c.offer_at.ensures;
+    }
+
+pub returns-clause-seats : goal.returns-clause-seats
+returns-clause-seats g c =
+    let firing = c.args.moment.now.firing.now in
+    let inv = c.seats.invariant in
+    all_at_next firing.cpu firing.place c.seats.next c.args.followers.now.items c.seats.followers.items inv.many c.requires.seats inv.rest
+    inv.at_below

@@ -1,0 +1,24 @@
+-- What a session is answered to a line.
+use Rattle.std.specs.Prelude.{◌≡◌, ℕ, List}
+use Rattle.dt_hub.specs.declared.answered.LineAnswer.{LineAnswer}
+use Rattle.dt_hub.specs.declared.answered.LineAnswer.TheVariants as answers
+use Rattle.dt_life.specs.Answer.{refused}
+use Rattle.dt_life.specs.declared.refusal.Refusal.TheVariants as refusals
+use Rattle.dt_machine.specs.Registry.{Contents}
+use Rattle.dt_proto.specs.Reply.{reply_text}
+use Rattle.dt_seat.specs.Seats.{IsRepliedTo}
+use Rattle.dt_seat.specs.Sessions.{Sat}
+use Rattle.dt_trail.specs.Items.{StartsWith, TrailItem, own}
+
+-- the bytes that are answered
+abbrev pub text_of : LineAnswer → List ℕ
+text_of (answers.Reply text) = text.items
+text_of answers.Memory = reply_text (refused refusals.Memory)
+
+-- What a session is answered: the reply that is due after a trail that begins with what it knew and has its lines, and it then knows that trail and the line; or
+-- that there was no memory, and the session knows at least what it knew, and no further line of its own.
+abbrev pub IsAnswered : Contents → Sat → TrailItem → LineAnswer → Sat → Type 0
+IsAnswered contents old item (answers.Reply text) new =
+    IsRepliedTo contents old.account old.knows item text.items new.knows
+IsAnswered contents old item answers.Memory new =
+    StartsWith new.knows old.knows × (own 0 new.knows ≡ own 0 old.knows)

@@ -1,0 +1,9 @@
+-- A hub of seats, and what a processor has there.
+
+-- What is promised, and what the types keep.
+
+pub mod Names
+pub mod Processors
+pub mod Hubs
+pub mod Firings
+pub mod Asking

@@ -1,0 +1,61 @@
+//! How sessions ask, and see.
+ghost use Rattle.std.specs.Prelude.{◌≡◌, length};
+ghost use Rattle.dt_hub.specs.Asking.{IsAnswered};
+ghost use Rattle.dt_legal.specs.Rows.{IsLegalRow};
+ghost use Rattle.dt_seat.specs.Trailed.{item_of_line};
+ghost use Rattle.dt_trail.specs.Items.{StartsWith, own};
+
+use crate::answered::LineAnswer;
+use crate::hub::Hub;
+use dt_proto::Asked;
+use dt_seat::{HubSite, Session};
+use std::alloc::Global;
+use std::sync::{MutexGuard, Wait};
+
+impl<J: HubSite> Hub<J> {
+    /// Asks a line of a session's consumer. It waits for those that have the lock of the session's seat, and a `go` and what ends tracing for those that
+    /// publish.
+    pub fn ask<R: Wait>(
+        &self,
+        rt: &R,
+        alloc: Global,
+        session: &mut Session<J>,
+        asked: &Asked,
+    ) -> LineAnswer
+        ensures answered { IsAnswered J.contents session.old (item_of_line asked.now) result session.new }
+        ensures session { (session.new.seat ≡ session.old.seat) × (session.new.life ≡ session.old.life)
+            × (session.new.account ≡ session.old.account) }
+    {
+        let number = session.seat().number();
+        'lock: for _ in rt.forever() {
+            let mut locked = self.seats[number as usize].lock(rt);
+            if locked.number().number() == number {
+                let result = locked.ask(
+                    rt,
+                    alloc,
+                    &self.machine,
+                    &self.facts,
+                    &self.chains,
+                    session,
+                    asked,
+                );
+                MutexGuard::unlock(locked);
+                return LineAnswer::of(result);
+            }
+            MutexGuard::unlock(locked);
+        }
+        unreachable!()
+    }
+
+    /// Lets a session catch up with its trail, and says how many items it then knows. It takes no lock and waits for nobody.
+    pub fn seen(&self, session: &mut Session<J>) -> u64
+        ensures count { result ≡ length session.new.knows }
+        ensures longer { StartsWith session.new.knows session.old.knows }
+        ensures lines { own 0 session.new.knows ≡ own 0 session.old.knows }
+        ensures legal { IsLegalRow session.new.account J.contents session.new.knows }
+        ensures same { (session.new.seat ≡ session.old.seat) × (session.new.life ≡ session.old.life)
+            × (session.new.account ≡ session.old.account) }
+    {
+        session.seen()
+    }
+}

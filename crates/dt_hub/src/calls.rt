@@ -1,0 +1,56 @@
+//! How a processor looks and fires.
+ghost use Rattle.dt_hub.specs.Firings.{ComesOfCall, ComesOfLook};
+
+use crate::cpu_seat::{CpuSeat, note_down};
+use crate::firing::Fired;
+use crate::gate::Gate;
+use crate::hub::Hub;
+use crate::looking::Looked;
+use dt_seat::HubSite;
+use std::sync::Wait;
+
+impl<J: HubSite> Hub<J> {
+    /// Where a processor's next firing stands, and the seats that it would be offered to if it fired now. It takes nothing from the script: the next firing looks
+    /// again. It takes no lock and waits for nobody.
+    pub fn look(&self, cpu_seat: &mut CpuSeat<J>) -> Looked
+        ensures { ComesOfLook J.contents result cpu_seat.old cpu_seat.new }
+    {
+        let Some(firing) = self.machine.firing(cpu_seat.cpu, cpu_seat.place) else {
+            return Looked::End;
+        };
+        match cpu_seat.reader.look(&self.machine, firing) {
+            Some(mask) => Looked::At {
+                place: cpu_seat.place,
+                mask,
+            },
+            None => Looked::Refused,
+        }
+    }
+
+    /// A processor makes the next firing of its script: it looks which seats are named, and offers the firing to these and to no others, one after the other, each under
+    /// its lock. What it came to at each seat, the token tells. It takes no memory. It waits for those that have the locks of these seats.
+    pub fn fire<R: Wait, G: Gate>(&self, rt: &R, cpu_seat: &mut CpuSeat<J>, gate: &G) -> Fired
+        ensures { ComesOfCall J.contents result cpu_seat.old cpu_seat.new }
+    {
+        let Some(firing) = self.machine.firing(cpu_seat.cpu, cpu_seat.place) else {
+            return Fired::End;
+        };
+        let Ok(found) = cpu_seat.reader.look_into(&self.machine, firing, &mut cpu_seat.mask) else {
+            return Fired::Refused;
+        };
+        note_down(&self.facts, &mut cpu_seat.log, &cpu_seat.followers);
+        if let Some(moment) = found {
+            self.offer_to_named(
+                rt,
+                &moment,
+                &cpu_seat.mask,
+                &mut cpu_seat.followers,
+                &mut cpu_seat.held,
+                gate,
+            );
+        }
+        let place = cpu_seat.place;
+        cpu_seat.place = place + 1;
+        Fired::At(place)
+    }
+}

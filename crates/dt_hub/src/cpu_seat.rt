@@ -1,0 +1,117 @@
+//! What a processor has.
+ghost use Rattle.std.specs.Prelude.{◌≡◌, ◌<◌, ◌+◌, ◌++◌, ◌∷◌, [], ℕ, IfOk, IfSome, slice_get, vec_len};
+ghost use Rattle.dt_chain.specs.Seats.{life_at};
+ghost use Rattle.dt_chain.specs.declared.seat.TheConstants.{SEATS as SEAT_COUNT};
+ghost use Rattle.dt_facts.specs.Facts.{log_fact, nothing};
+ghost use Rattle.dt_facts.specs.Handles.{holding};
+ghost use Rattle.dt_hub.specs.Names.{log_name};
+ghost use Rattle.dt_hub.specs.Processors.{knew_at_seats, places_in};
+ghost use Rattle.dt_seat.specs.Keeps.{followed_at};
+
+use crate::offered::Offered;
+use dt_chain::{ChainReader, SEATS, Seat, SeatMask};
+use dt_facts::{Both, Facts};
+use dt_seat::{Follower, Held, HubSite};
+use std::alloc::{AllocError, Global};
+use std::marker::{Brand, Model};
+
+/// What a processor has: who has it fires for that processor. It may go to another thread.
+///
+/// Contracts see it as a `Processing` of `specs/Processors.antt`: the place of its script that it fires next; the writes that it saw and those that it was
+/// told of; what it has at each seat; for each place that it fired, what it knew before; and what came of its last firing.
+#[derive(Drop)]
+pub struct CpuSeat<J: HubSite> {
+    pub(crate) cpu: u32,
+    pub(crate) place: u32,
+    pub(crate) reader: ChainReader<J>,
+    pub(crate) followers: Vec<Follower<J>>,
+    pub(crate) log: Both,
+    /// The seats that the last firing named.
+    pub(crate) mask: SeatMask,
+    /// What it came to there. What lies at a seat that wasn't named means nothing.
+    pub(crate) held: Vec<Held>,
+}
+
+impl<J: HubSite> Model for CpuSeat<J> {
+    ghost use Rattle.dt_hub.specs.Processors.{IsProcessor, Processing, processing};
+
+    ghost Value = { Processing };
+
+    ghost view = { λ c. processing c.cpu c.place c.reader c.followers.items c.log c.mask c.held.items };
+
+    ghost invariant = { λ c. IsProcessor J.word J.contents c.cpu c.place c.followers.items c.held.items c.log };
+}
+
+/// A log goes on by a place: what is known at each seat.
+pub(crate) fn note_down<J: HubSite>(facts: &Facts, log: &mut Both, followers: &Vec<Follower<J>>)
+    requires facts { facts.now ≡ J.word }
+    requires log { log.old ≡ holding J.word log.old.name (log_fact (places_in log.old.fact)) }
+    ensures { log.new ≡ holding J.word log.old.name (log_fact (places_in log.old.fact ++ knew_at_seats followers.now.items ∷ [])) }
+{
+    facts.go_on::<Brand, Vec<Follower<J>>>(log, followers);
+}
+
+impl<J: HubSite> CpuSeat<J> {
+    ghost use Rattle.dt_hub.specs.Processors.{offered_at};
+    ghost use Rattle.dt_hub.specs.Hubs.{IsFresh};
+
+    /// A processor that fired nothing and knows nothing.
+    ///
+    /// `Err`: there was no memory.
+    pub(crate) fn new(
+        alloc: Global,
+        facts: &Facts,
+        cpu: u32,
+        reader: ChainReader<J>,
+        followers: Vec<Follower<J>>,
+        log: Both,
+    ) -> Result<CpuSeat<J>, AllocError>
+        requires facts { facts.now ≡ J.word }
+        requires there { cpu < J.contents.registry.cpus }
+        requires reader { (reader.seen ≡ []) × (reader.told ≡ []) }
+        requires many { vec_len followers ≡ SEAT_COUNT }
+        requires followers { (seat : ℕ) → IfSome (slice_get followers.items seat) (λ f. f ≡ followed_at seat cpu) }
+        requires log { log ≡ holding J.word (log_name J.contents.registry.cpus cpu) nothing }
+        ensures { IfOk result (IsFresh cpu) }
+    {
+        let mut log = log;
+        facts.go_on::<Brand, ()>(&mut log, &());
+        let held = vec![in alloc; Held::Gone; SEATS]?;
+        Ok(CpuSeat {
+            cpu,
+            place: 0,
+            reader,
+            followers,
+            log,
+            mask: SeatMask::new(),
+            held,
+        })
+    }
+
+    /// Which processor it is.
+    pub fn cpu(&self) -> u32
+        ensures { result ≡ self.now.cpu }
+    {
+        self.cpu
+    }
+
+    /// The seats that the last firing named, each with the life that was named.
+    pub fn named(&self) -> &SeatMask
+        ensures { result.now ≡ self.now.mask }
+    {
+        &self.mask
+    }
+
+    /// What the last firing came to at a seat. Before the first, and after a refused one, no seat was named.
+    pub fn offered(&self, seat: Seat) -> Offered
+        ensures { result ≡ offered_at self.now seat }
+    {
+        if self.mask.life_of(seat).is_none() {
+            return Offered::NotNamed;
+        }
+        match self.held.get(seat.number() as usize) {
+            Some(held) => Offered::of(*held),
+            None => Offered::NotNamed,
+        }
+    }
+}

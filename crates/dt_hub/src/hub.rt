@@ -1,0 +1,73 @@
+//! The hub.
+ghost use Rattle.std.specs.Prelude.{◌≡◌, ℕ, IfOk, IfSome, slice_get, vec_len};
+
+use dt_chain::{ChainWriter, Chains, SEATS};
+use dt_facts::{Facts, Maker};
+use dt_machine::Machine;
+use dt_seat::{HubSite, LockedSeat};
+use std::alloc::{AllocError, Global};
+use std::marker::Model;
+use std::sync::{Mutex, Wait};
+
+/// All that a hub is made of but for its seats, before a program picks its site: its machine, its chains and the word of its facts.
+///
+/// Contracts see it as a `HubNames` of `specs/Hubs.antt`.
+#[derive(Drop)]
+pub struct HubParts {
+    pub(crate) machine: Machine,
+    pub(crate) chains: Chains,
+    pub(crate) facts: Facts,
+    pub(crate) maker: Maker,
+}
+
+impl Model for HubParts {
+    ghost use Rattle.std.specs.Prelude.{◌≡◌};
+    ghost use Rattle.dt_facts.specs.Handles.{making};
+    ghost use Rattle.dt_hub.specs.Hubs.{HubNames};
+
+    ghost Value = { HubNames };
+
+    ghost view = { λ p. record { contents = p.machine; book = p.chains; word = p.facts } };
+
+    ghost invariant = { λ p. p.maker ≡ making p.facts 0 };
+}
+
+impl HubParts {
+    /// What a hub of this machine is made of.
+    ///
+    /// `Err`: there was no memory.
+    pub fn new(alloc: Global, machine: Machine) -> Result<HubParts, AllocError>
+        ensures { IfOk result (λ parts. parts.contents ≡ machine) }
+    {
+        let (facts, maker) = Facts::new(alloc)?;
+        Ok(HubParts {
+            machine,
+            chains: Chains::new(),
+            facts,
+            maker,
+        })
+    }
+}
+
+/// A machine whose processors fire on threads of their own, and [`SEATS`] seats, each under a lock of its own, for the sessions that
+/// trace it. Threads share it by a `&`.
+///
+/// It is not `Drop`: end it by [`Hub::end`]. Contracts see it as its machine.
+pub struct Hub<J: HubSite> {
+    pub(crate) machine: Machine,
+    pub(crate) facts: Facts,
+    pub(crate) chains: Mutex<ChainWriter<J>>,
+    pub(crate) seats: Vec<Mutex<LockedSeat<J>>>,
+}
+
+impl<J: HubSite> Model for Hub<J> {
+    ghost use Rattle.std.specs.Prelude.{◌≡◌, vec_len};
+    ghost use Rattle.dt_chain.specs.declared.seat.TheConstants.{SEATS as SEAT_COUNT};
+    ghost use Rattle.dt_machine.specs.Registry.{Contents};
+
+    ghost Value = { Contents };
+
+    ghost view = { λ h. h.machine };
+
+    ghost invariant = { λ h. (h.machine ≡ J.contents) × (h.facts ≡ J.word) × (vec_len h.seats ≡ SEAT_COUNT) };
+}

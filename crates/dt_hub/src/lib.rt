@@ -1,0 +1,31 @@
+//! Consumers and processors on threads of their own.
+//!
+//! A [`Hub`] has a machine and 256 seats, each under a lock of its own. Sessions are opened on seats, ask lines and close; processors fire, each by its
+//! [`CpuSeat`], and offer what they fire to the sessions that the published chains name. All calls take the hub by a `&`, from any thread.
+//! What a session is answered is due after one legal trail, which it knows then (`IsRepliedTo` of dt_seat); what a processor's call comes to is in
+//! `specs/Firings.antt`. What each of them knows of a trail is a beginning of it.
+#![tactic(auto)]
+
+mod answered;
+mod asking;
+mod calls;
+mod cpu_seat;
+mod fault;
+mod firing;
+mod gate;
+mod hub;
+mod looking;
+mod making;
+mod offered;
+mod offering;
+mod opening;
+
+pub use answered::LineAnswer;
+pub use cpu_seat::CpuSeat;
+pub use dt_seat::{HubSite, Session};
+pub use fault::OpenFault;
+pub use firing::Fired;
+pub use gate::{Gate, Moment, NoGate};
+pub use hub::{Hub, HubParts};
+pub use looking::Looked;
+pub use offered::Offered;

@@ -1,0 +1,166 @@
+//! How a hub is made, and ended.
+ghost use Rattle.std.specs.Prelude.{◌≡◌, ◌<◌, ◌+◌, ◌*◌, [], ℕ, IfOk, IfSome, OnOk, slice_get, vec_len};
+ghost use Rattle.dt_chain.specs.declared.seat.TheConstants.{SEATS as SEAT_COUNT};
+ghost use Rattle.dt_facts.specs.Handles.{making};
+ghost use Rattle.dt_hub.specs.Hubs.{AreDealt, IsFresh};
+ghost use Rattle.dt_hub.specs.Names.{log_name};
+ghost use Rattle.dt_seat.specs.Keeps.{followed_at};
+ghost use Rattle.dt_seat.specs.Names.{names_of_seat};
+
+use crate::cpu_seat::CpuSeat;
+use crate::hub::{Hub, HubParts};
+use dt_chain::{ChainWriter, SEATS, Seat};
+use dt_facts::{Facts, Maker};
+use dt_machine::Machine;
+use dt_seat::{Follower, HubSite, LockedSeat};
+use std::alloc::{AllocError, Global};
+use std::mem;
+use std::sync::{Mutex, Wait};
+
+/// For each processor no followers yet, with room for one at each seat.
+fn empty_hands<J: HubSite>(
+    alloc: Global,
+    cpus: u32,
+) -> Result<Vec<Vec<Follower<J>>>, AllocError>
+    ensures { IfOk result (λ hands. AreDealt cpus 0 hands.items) }
+{
+    let mut hands = Vec::with_capacity(alloc, cpus as usize)?;
+    'hands: while hands.len() < cpus as usize {
+        hands.push(Vec::with_capacity(alloc, SEATS)?)?;
+    }
+    Ok(hands)
+}
+
+/// Gives each processor what it has at one seat more.
+///
+/// `Err`: there was no memory.
+fn deal<J: HubSite>(
+    hands: &mut Vec<Vec<Follower<J>>>,
+    seat: Seat,
+    followers: Vec<Follower<J>>,
+) -> Result<(), AllocError>
+    requires hands { AreDealt (vec_len followers) seat hands.old.items }
+    requires followers { (cpu : ℕ) → IfSome (slice_get followers.items cpu) (λ f. f ≡ followed_at seat cpu) }
+    ensures { OnOk result (AreDealt (vec_len followers) (seat + 1) hands.new.items) }
+{
+    let mut followers = followers;
+    'processors: while let Some(follower) = followers.pop() {
+        let cpu = followers.len();
+        hands[cpu].push(follower)?;
+    }
+    Ok(())
+}
+
+/// All seats, under their locks, and for each processor what it has at them.
+///
+/// `Err`: there was no memory.
+fn seats<J: HubSite>(
+    alloc: Global,
+    machine: &Machine,
+    facts: &Facts,
+    maker: &mut Maker,
+) -> Result<(Vec<Mutex<LockedSeat<J>>>, Vec<Vec<Follower<J>>>), AllocError>
+    requires machine { machine.now ≡ J.contents }
+    requires facts { facts.now ≡ J.word }
+    requires maker { maker.old ≡ making J.word 0 }
+    ensures many { IfOk result (λ t. vec_len t.0 ≡ SEAT_COUNT) }
+    ensures dealt { IfOk result (λ t. AreDealt J.contents.registry.cpus SEAT_COUNT t.1.items) }
+    ensures maker { OnOk result (maker.new ≡ making J.word (SEAT_COUNT * names_of_seat J.contents.registry.cpus)) }
+{
+    let mut hands = empty_hands(alloc, machine.cpus())?;
+    let mut seats = Vec::with_capacity(alloc, SEATS)?;
+    'seats: for number in 0..SEATS as u32 {
+        let Some(seat) = Seat::new(number) else {
+            unreachable!()
+        };
+        let (locked, followers) = LockedSeat::new(alloc, machine, facts, maker, seat)?;
+        deal(&mut hands, seat, followers)?;
+        seats.push(Mutex::new(locked))?;
+    }
+    Ok((seats, hands))
+}
+
+/// The tokens of all processors.
+///
+/// `Err`: there was no memory, or the chains gave no reader.
+fn tokens<J: HubSite>(
+    alloc: Global,
+    machine: &Machine,
+    facts: &Facts,
+    maker: &mut Maker,
+    writer: &ChainWriter<J>,
+    hands: Vec<Vec<Follower<J>>>,
+) -> Result<Vec<CpuSeat<J>>, AllocError>
+    requires machine { machine.now ≡ J.contents }
+    requires facts { facts.now ≡ J.word }
+    requires maker { maker.old ≡ making J.word (SEAT_COUNT * names_of_seat J.contents.registry.cpus) }
+    requires dealt { AreDealt J.contents.registry.cpus SEAT_COUNT hands.items }
+    ensures many { IfOk result (λ tokens. vec_len tokens ≡ J.contents.registry.cpus) }
+    ensures each { IfOk result (λ tokens. (cpu : ℕ) → IfSome (slice_get tokens.items cpu) (IsFresh cpu)) }
+{
+    let mut hands = hands;
+    let mut made = Vec::with_capacity(alloc, hands.len())?;
+    'processors: for cpu in 0..machine.cpus() {
+        let followers = mem::replace(&mut hands[cpu as usize], Vec::new(alloc));
+        let reader = writer.reader()?;
+        let log = facts.make(maker);
+        made.push(CpuSeat::new(alloc, facts, cpu, reader, followers, log)?)?;
+    }
+    Ok(made)
+}
+
+impl<J: HubSite> Hub<J> {
+    /// A hub with all seats free and nothing published, and the token of each processor, in order.
+    ///
+    /// `Err`: there was no memory, or the chains gave no reader to a processor.
+    pub fn new<R: Wait>(
+        rt: &R,
+        alloc: Global,
+        parts: HubParts,
+    ) -> Result<(Hub<J>, Vec<CpuSeat<J>>), AllocError>
+        requires contents { parts.contents ≡ J.contents }
+        requires chains { parts.book ≡ J.book }
+        requires facts { parts.word ≡ J.word }
+        ensures hub { IfOk result (λ t. t.0 ≡ J.contents) }
+        ensures many { IfOk result (λ t. vec_len t.1 ≡ J.contents.registry.cpus) }
+        ensures each { IfOk result (λ t. (cpu : ℕ) → IfSome (slice_get t.1.items cpu) (IsFresh cpu)) }
+    {
+        let HubParts {
+            machine,
+            chains,
+            facts,
+            mut maker,
+        } = parts;
+        let (seats, hands) = seats::<J>(alloc, &machine, &facts, &mut maker)?;
+        let writer = chains.writer::<J>(alloc, machine.cpus() as usize)?;
+        match tokens(alloc, &machine, &facts, &mut maker, &writer, hands) {
+            Ok(tokens) => {
+                let hub = Hub {
+                    machine,
+                    facts,
+                    chains: Mutex::new(writer),
+                    seats,
+                };
+                Ok((hub, tokens))
+            }
+            Err(fault) => {
+                writer.end(rt);
+                Err(fault)
+            }
+        }
+    }
+
+    /// Ends the hub, and gives its memory back. It waits for the processors that are looking; later looks are refused.
+    pub fn end<R: Wait>(self, rt: &R) {
+        let Hub {
+            machine,
+            facts,
+            chains,
+            seats,
+        } = self;
+        chains.into_inner().end(rt);
+        drop(seats);
+        drop(facts);
+        drop(machine);
+    }
+}

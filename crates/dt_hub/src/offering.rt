@@ -1,0 +1,86 @@
+//! How a firing is offered to the seats that are named.
+ghost use Rattle.std.specs.Prelude.{◌≡◌, ◌+◌, ℕ, Some, vec_len};
+ghost use Rattle.dt_chain.specs.declared.seat.TheConstants.{SEATS as SEAT_COUNT};
+ghost use Rattle.dt_hub.specs.Firings.{ComesToSeat};
+ghost use Rattle.dt_hub.specs.Processors.{AreAtSeats};
+ghost use Rattle.dt_legal.specs.Rows.{AreBelowPlace};
+ghost use Rattle.dt_machine.specs.Moment.{IsMoment};
+ghost use Rattle.dt_machine.specs.Registry.{firing_at};
+ghost use Rattle.dt_seat.specs.Keeps.{known_by};
+ghost use Rattle.dt_seat.specs.Seats.{ComesOfFiring};
+
+use crate::gate::{Gate, Moment as Passing};
+use crate::hub::Hub;
+use dt_chain::{Seat, SeatMask};
+use dt_machine::Moment;
+use dt_seat::{Follower, Held, HubSite};
+use std::sync::{MutexGuard, Wait};
+
+impl<J: HubSite> Hub<J> {
+    /// A processor takes the lock of a seat, and offers a firing to a life there.
+    pub(crate) fn offer_at<R: Wait, G: Gate>(
+        &self,
+        rt: &R,
+        seat: Seat,
+        life: u64,
+        moment: &Moment,
+        follower: &mut Follower<J>,
+        gate: &G,
+    ) -> Held
+        requires moment { IsMoment J.contents.registry moment.now }
+        requires script { firing_at J.contents.scripts moment.now.firing.now.cpu moment.now.firing.now.place
+            ≡ Some moment.now.firing.now }
+        requires follower { (follower.old.seat ≡ seat) × (follower.old.cpu ≡ moment.now.firing.now.cpu) }
+        requires below { AreBelowPlace moment.now.firing.now.cpu moment.now.firing.now.place (known_by follower.old.note) }
+        ensures { ComesOfFiring J.contents life moment.now.firing.now result follower.old follower.new }
+    {
+        let cpu = moment.firing.cpu;
+        let number = seat.number();
+        gate.at(cpu, number, Passing::Before);
+        'lock: for _ in rt.forever() {
+            let mut locked = self.seats[number as usize].lock(rt);
+            if locked.number().number() == number {
+                gate.at(cpu, number, Passing::Locked);
+                let held = locked.hold(&self.machine, &self.facts, life, moment, follower);
+                MutexGuard::unlock(locked);
+                gate.at(cpu, number, Passing::After);
+                return held;
+            }
+            MutexGuard::unlock(locked);
+        }
+        unreachable!()
+    }
+
+    /// Offers a firing to each seat that is named, in order of the seats.
+    pub(crate) fn offer_to_named<R: Wait, G: Gate>(
+        &self,
+        rt: &R,
+        moment: &Moment,
+        mask: &SeatMask,
+        followers: &mut Vec<Follower<J>>,
+        held: &mut Vec<Held>,
+        gate: &G,
+    )
+        requires moment { IsMoment J.contents.registry moment.now }
+        requires script { firing_at J.contents.scripts moment.now.firing.now.cpu moment.now.firing.now.place
+            ≡ Some moment.now.firing.now }
+        requires seats { AreAtSeats moment.now.firing.now.cpu moment.now.firing.now.place followers.old.items }
+        requires many { vec_len held.old ≡ SEAT_COUNT }
+        ensures seats { AreAtSeats moment.now.firing.now.cpu (moment.now.firing.now.place + 1) followers.new.items }
+        ensures many { vec_len held.new ≡ SEAT_COUNT }
+        ensures each { (seat : ℕ) → ComesToSeat J.contents moment.now.firing.now mask.now held.new.items followers.old.items
+            followers.new.items seat }
+    {
+        let mut left = mask.seats();
+        let mut next = 0;
+        'seats: while let Some(seat) = left.first() {
+            left.remove(seat);
+            let at = seat.number() as usize;
+            let Some(life) = mask.life_of(seat) else {
+                unreachable!()
+            };
+            held[at] = self.offer_at(rt, seat, life, moment, &mut followers[at], gate);
+            next = at + 1;
+        }
+    }
+}

@@ -1,0 +1,79 @@
+//! How sessions come and go.
+ghost use Rattle.std.specs.Prelude.{◌≡◌, ◌↔◌, [], IfOk, IfErr, IfSome};
+ghost use Rattle.dt_cred.specs.declared.account.Account.{Account};
+ghost use Rattle.dt_hub.specs.Hubs.{MayTrace};
+ghost use Rattle.dt_hub.specs.declared.fault.OpenFault.TheVariants as faults;
+
+use crate::fault::OpenFault;
+use crate::hub::Hub;
+use dt_cred::Account;
+use dt_seat::{HubSite, LockedSeat, Session};
+use std::alloc::{AllocError, Global};
+use std::sync::{MutexGuard, Wait};
+
+impl<J: HubSite> Hub<J> {
+    /// Opens a session where a seat is free, and says whether it did.
+    fn open_at(
+        &self,
+        alloc: Global,
+        locked: &mut LockedSeat<J>,
+        account: &Account,
+    ) -> Option<Result<Session<J>, AllocError>> 
+        ensures { IfSome result (λ opened. IfOk opened (λ session. (session.account ≡ account.now) × (session.knows ≡ []))) }
+    {
+        if !locked.is_free() || locked.life() == u64::MAX {
+            return None;
+        }
+        Some(locked.open(alloc, &self.machine, &self.facts, account))
+    }
+
+    /// Opens a session of the machine's account of this name, on the first seat that is free. It knows nothing yet, and its trail is empty. Close it
+    /// by [`Hub::close`].
+    ///
+    /// `Err`, in this order: no such account, or none with a dtrace privilege; no seat is free; there was no memory. Nothing has changed then.
+    pub fn open<R: Wait>(
+        &self,
+        rt: &R,
+        alloc: Global,
+        name: &[u8],
+    ) -> Result<Session<J>, OpenFault>
+        ensures session { IfOk result (λ session. MayTrace J.contents.registry name.now session.account
+            × (session.knows ≡ [])) }
+        ensures privilege { IfErr result (λ fault. (fault ≡ faults.NoPrivilege)
+            ↔ ((account : Account) → MayTrace J.contents.registry name.now account → ⊥)) }
+    {
+        let Some(account) = self.machine.account(name) else {
+            return Err(OpenFault::NoPrivilege);
+        };
+        if !account.privs.has_dtrace() {
+            return Err(OpenFault::NoPrivilege);
+        }
+        for seat in &self.seats {
+            let mut locked = seat.lock(rt);
+            let opened = self.open_at(alloc, &mut locked, account);
+            MutexGuard::unlock(locked);
+            if let Some(result) = opened {
+                return match result {
+                    Ok(session) => Ok(session),
+                    Err(AllocError) => Err(OpenFault::Memory),
+                };
+            }
+        }
+        Err(OpenFault::Full)
+    }
+
+    /// Ends a session. Its seat is free then, and what it published is withdrawn.
+    pub fn close<R: Wait>(&self, rt: &R, session: Session<J>) {
+        let seat = session.seat();
+        let number = seat.number();
+        'lock: for _ in rt.forever() {
+            let mut locked = self.seats[number as usize].lock(rt);
+            if locked.number().number() == number {
+                locked.close(rt, &self.facts, &self.chains, session);
+                MutexGuard::unlock(locked);
+                return;
+            }
+            MutexGuard::unlock(locked);
+        }
+    }
+}

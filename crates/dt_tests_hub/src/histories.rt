@@ -1,0 +1,95 @@
+//! A history that two scripts make, and that widens its trail.
+use crate::calls::{Play, fired, opened, run, says};
+use crate::paths::{DONE, GO};
+use dt_hub::{CpuSeat, Fired, Hub, HubSite, NoGate};
+use std::alloc::Global;
+use std::process::Abort;
+use std::sync::Wait;
+use std::test::Fail;
+use std::thread::Threads;
+use std::time::Clock;
+
+const HEAD: &str = r#"{"cpus":2,"accounts":[{"name":"root","uid":0,"privs":["dtrace_kernel"]}],
+"processes":[{"pid":100,"uid":501,"execname":"sh"}],"probes":["syscall::read:entry"],"scripts":["#;
+
+const FIRING: &str = r#"{"probe":3,"pid":100}"#;
+
+/// How many firings each processor makes.
+const FIRINGS: u32 = 40_000;
+
+const HISTORY: &str = r#"{"cmd":"option","name":"histsize","value":65537}"#;
+const COUNT: &str = r#"{"cmd":"enable","text":"read:entry{@c=count()}"}"#;
+const COUNTED: &str = "{\"count\":1,\"first\":1,\"ok\":true}\n";
+const AGG: &str = r#"{"cmd":"agg","name":"c"}"#;
+const ROWS: &str =
+    "{\"fn\":\"count\",\"name\":\"c\",\"ok\":true,\"rows\":[{\"key\":[],\"value\":65537}]}\n";
+const STATUS: &str = r#"{"cmd":"status"}"#;
+const ENDED: &str = "{\"aggdrops\":[0,0],\"cause\":\"history\",\"errors\":[0,0],\"exit\":null,\"ok\":true,\"phase\":\"stopped\",\"seen\":65537}\n";
+
+/// A machine whose processors make many firings.
+fn machine(alloc: Global) -> Result<String, Fail> {
+    let mut text = String::new(alloc);
+    text.push_str(HEAD)?;
+    for cpu in 0..2 {
+        text.push_str(if cpu == 0 { "[" } else { ",[" })?;
+        for place in 0..FIRINGS {
+            text.push_str(if place == 0 { "" } else { "," })?;
+            text.push_str(FIRING)?;
+        }
+        text.push_str("]")?;
+    }
+    text.push_str("]}")?;
+    Ok(text)
+}
+
+/// Two processors take turns, until their scripts have ended.
+fn fires_all<J: HubSite, R: Wait>(
+    rt: &R,
+    hub: &Hub<J>,
+    one: &mut CpuSeat<J>,
+    other: &mut CpuSeat<J>,
+) -> u64 {
+    let mut count = 0u64;
+    for _ in 0..FIRINGS {
+        if let Fired::At(_) = fired(rt, hub, one, &NoGate) {
+            count = count.wrapping_add(1);
+        }
+        if let Fired::At(_) = fired(rt, hub, other, &NoGate) {
+            count = count.wrapping_add(1);
+        }
+    }
+    count
+}
+
+/// The history ends tracing at its last firing.
+struct LongHistory;
+
+impl Play for LongHistory {
+    fn play<J: HubSite + Send + Sync, R: Threads + Wait + Abort + Clock + Sync>(
+        &self,
+        rt: &R,
+        alloc: Global,
+        hub: &Hub<J>,
+        tokens: Vec<CpuSeat<J>>,
+    ) -> Result<(), Fail> {
+        let mut tokens = tokens;
+        let mut other = tokens.pop().ok_or("no processor")?;
+        let mut one = tokens.pop().ok_or("no processor")?;
+        let mut session = opened(rt, alloc, hub, "root");
+        says(rt, alloc, hub, &mut session, HISTORY, DONE);
+        says(rt, alloc, hub, &mut session, COUNT, COUNTED);
+        says(rt, alloc, hub, &mut session, GO, DONE);
+        assert_eq!(rt; fires_all(rt, hub, &mut one, &mut other), 80_000);
+        says(rt, alloc, hub, &mut session, AGG, ROWS);
+        assert_eq!(rt; hub.seen(&mut session), 65_541);
+        says(rt, alloc, hub, &mut session, STATUS, ENDED);
+        hub.close(rt, session);
+        Ok(())
+    }
+}
+
+#[test]
+fn a_history_of_two_scripts_ends_tracing(rt: HostRuntime) -> Result<(), Fail> {
+    let machine = machine(rt.alloc())?;
+    run(&rt, rt.alloc(), machine.as_str(), &LongHistory)
+}

@@ -1,0 +1,106 @@
+//! The first path, with and without an early look, and what ends a script.
+use crate::calls::{Play, fired, only_at, opened, run, says};
+use dt_chain::Seat;
+use dt_hub::{CpuSeat, Fired, Hub, HubSite, Looked, NoGate, Offered};
+use std::alloc::Global;
+use std::process::Abort;
+use std::sync::Wait;
+use std::test::Fail;
+use std::thread::Threads;
+use std::time::Clock;
+
+/// One system call is made, by a shell.
+pub(crate) const MACHINE: &str = r#"{"cpus":2,
+"accounts":[{"name":"root","uid":0,"privs":["dtrace_kernel"]},{"name":"ann","uid":501,"privs":["dtrace_user"]},
+{"name":"joe","uid":501,"privs":["proc_owner"]}],
+"processes":[{"pid":100,"uid":501,"execname":"sh"},{"pid":200,"uid":0,"execname":"cron"}],
+"probes":["syscall::read:entry","profile:::tick-1sec","fbt:genunix:kmem_alloc:entry"],
+"scripts":[[{"probe":3,"pid":100}],[{"probe":3,"pid":200}]]}"#;
+
+pub(crate) const ENABLE: &str = r#"{"cmd":"enable","text":"syscall::read:entry{}"}"#;
+pub(crate) const ENABLED: &str = "{\"count\":1,\"first\":1,\"ok\":true}\n";
+pub(crate) const GO: &str = r#"{"cmd":"go"}"#;
+pub(crate) const STOP: &str = r#"{"cmd":"stop"}"#;
+pub(crate) const DONE: &str = "{\"ok\":true}\n";
+pub(crate) const SNAP: &str = r#"{"cmd":"snap","cpu":0}"#;
+pub(crate) const ONE_RECORD: &str =
+    "{\"cpu\":0,\"data\":\"00000001\",\"drops\":0,\"filled\":false,\"ok\":true}\n";
+
+/// A firing is recorded, and its session sees it.
+struct FirstPath;
+
+impl Play for FirstPath {
+    fn play<J: HubSite + Send + Sync, R: Threads + Wait + Abort + Clock + Sync>(
+        &self,
+        rt: &R,
+        alloc: Global,
+        hub: &Hub<J>,
+        tokens: Vec<CpuSeat<J>>,
+    ) -> Result<(), Fail> {
+        let mut tokens = tokens;
+        assert_eq!(rt; tokens.len(), 2);
+        let mut session = opened(rt, alloc, hub, "root");
+        says(rt, alloc, hub, &mut session, ENABLE, ENABLED);
+        says(rt, alloc, hub, &mut session, GO, DONE);
+        assert_eq!(rt; fired(rt, hub, &mut tokens[0], &NoGate), Fired::At(0));
+        only_at(rt, &tokens[0], 0, Offered::Kept);
+        assert_eq!(rt; hub.seen(&mut session), 3);
+        says(rt, alloc, hub, &mut session, SNAP, ONE_RECORD);
+        assert_eq!(rt; fired(rt, hub, &mut tokens[0], &NoGate), Fired::End);
+        hub.close(rt, session);
+        Ok(())
+    }
+}
+
+#[test]
+fn a_firing_is_kept(rt: HostRuntime) -> Result<(), Fail> {
+    run(&rt, rt.alloc(), MACHINE, &FirstPath)
+}
+
+/// Whom the next firing of a processor would be offered to.
+fn looks<J: HubSite, R: Abort>(rt: &R, hub: &Hub<J>, token: &mut CpuSeat<J>, life: u64) {
+    let Looked::At { place, mask } = hub.look(token) else {
+        assert!(rt; false, "no look");
+        return;
+    };
+    assert_eq!(rt; place, 0);
+    for number in 0..256 {
+        let Some(seat) = Seat::new(number) else {
+            assert!(rt; false, "no seat");
+            return;
+        };
+        let expected = if number == 0 { Some(life) } else { None };
+        assert_eq!(rt; mask.life_of(seat), expected);
+    }
+}
+
+/// Looks take nothing from the script.
+struct LooksFirst;
+
+impl Play for LooksFirst {
+    fn play<J: HubSite + Send + Sync, R: Threads + Wait + Abort + Clock + Sync>(
+        &self,
+        rt: &R,
+        alloc: Global,
+        hub: &Hub<J>,
+        tokens: Vec<CpuSeat<J>>,
+    ) -> Result<(), Fail> {
+        let mut tokens = tokens;
+        assert_eq!(rt; tokens.len(), 2);
+        let mut session = opened(rt, alloc, hub, "root");
+        says(rt, alloc, hub, &mut session, ENABLE, ENABLED);
+        says(rt, alloc, hub, &mut session, GO, DONE);
+        looks(rt, hub, &mut tokens[0], 0);
+        looks(rt, hub, &mut tokens[0], 0);
+        assert_eq!(rt; fired(rt, hub, &mut tokens[0], &NoGate), Fired::At(0));
+        only_at(rt, &tokens[0], 0, Offered::Kept);
+        assert!(rt; matches!(hub.look(&mut tokens[0]), Looked::End));
+        hub.close(rt, session);
+        Ok(())
+    }
+}
+
+#[test]
+fn looks_take_nothing(rt: HostRuntime) -> Result<(), Fail> {
+    run(&rt, rt.alloc(), MACHINE, &LooksFirst)
+}

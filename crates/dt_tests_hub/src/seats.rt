@@ -1,0 +1,87 @@
+//! As many sessions as there are seats, and one too many.
+use crate::calls::{Play, opened, run, says};
+use crate::paths::{DONE, ENABLE, ENABLED, GO, MACHINE};
+use dt_chain::SEATS;
+use dt_hub::{CpuSeat, Hub, HubSite, OpenFault};
+use std::alloc::Global;
+use std::process::Abort;
+use std::sync::Wait;
+use std::test::Fail;
+use std::thread::Threads;
+use std::time::Clock;
+
+/// Opens sessions on the seats from this one on, looks that no further one is had, and closes them.
+fn opens_from<J: HubSite, R: Wait + Abort>(rt: &R, alloc: Global, hub: &Hub<J>, seat: u32, left: u32) {
+    if left == 0 {
+        match hub.open(rt, alloc, b"root") {
+            Ok(session) => {
+                hub.close(rt, session);
+                assert!(rt; false, "a session too many");
+            }
+            Err(fault) => assert_eq!(rt; fault, OpenFault::Full),
+        }
+        return;
+    }
+    let session = opened(rt, alloc, hub, "root");
+    assert_eq!(rt; session.seat().number(), seat);
+    opens_from(rt, alloc, hub, seat + 1, left - 1);
+    hub.close(rt, session);
+}
+
+/// All seats are taken, twice.
+struct AllSeats;
+
+impl Play for AllSeats {
+    fn play<J: HubSite + Send + Sync, R: Threads + Wait + Abort + Clock + Sync>(
+        &self,
+        rt: &R,
+        alloc: Global,
+        hub: &Hub<J>,
+        tokens: Vec<CpuSeat<J>>,
+    ) -> Result<(), Fail> {
+        drop(tokens);
+        opens_from(rt, alloc, hub, 0, SEATS as u32);
+        opens_from(rt, alloc, hub, 0, SEATS as u32);
+        Ok(())
+    }
+}
+
+#[test]
+fn there_is_no_seat_for_one_more(rt: HostRuntime) -> Result<(), Fail> {
+    run(&rt, rt.alloc(), MACHINE, &AllSeats)
+}
+
+/// Who may not trace, and that a refused session takes no seat.
+struct NoPrivilege;
+
+impl Play for NoPrivilege {
+    fn play<J: HubSite + Send + Sync, R: Threads + Wait + Abort + Clock + Sync>(
+        &self,
+        rt: &R,
+        alloc: Global,
+        hub: &Hub<J>,
+        tokens: Vec<CpuSeat<J>>,
+    ) -> Result<(), Fail> {
+        drop(tokens);
+        for name in ["joe", "nobody", ""] {
+            match hub.open(rt, alloc, name.as_bytes()) {
+                Ok(session) => {
+                    hub.close(rt, session);
+                    assert!(rt; false, "a session without a privilege");
+                }
+                Err(fault) => assert_eq!(rt; fault, OpenFault::NoPrivilege),
+            }
+        }
+        let mut session = opened(rt, alloc, hub, "ann");
+        assert_eq!(rt; session.seat().number(), 0);
+        says(rt, alloc, hub, &mut session, ENABLE, ENABLED);
+        says(rt, alloc, hub, &mut session, GO, DONE);
+        hub.close(rt, session);
+        Ok(())
+    }
+}
+
+#[test]
+fn an_account_without_a_privilege_may_not_trace(rt: HostRuntime) -> Result<(), Fail> {
+    run(&rt, rt.alloc(), MACHINE, &NoPrivilege)
+}
