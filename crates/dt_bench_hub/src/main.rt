@@ -1,9 +1,9 @@
 //! Plays step lines on a hub, which `examples/test` compares, and has sessions and processors at work on one, which `bench/hub` measures.
 //!
 //! `play MACHINE STEPS` plays the lines one after the other, in one thread, and writes the replies as `dtraced replay` does. Lines are `open SEAT ACCOUNT`,
-//! `call SEAT LINE`, `fire CPU` and `close SEAT`; the seats are the first three. `measure MACHINE INTERESTED OTHERS THREADS` opens so many sessions that enable
-//! the probe of the scripts, and so many that enable another, and lets the last two processors fire their whole scripts; with a word for threads, at the
-//! same time. It writes how many firings were made. With no word the program does nothing.
+//! `call SEAT LINE`, `fire CPU` and `close SEAT`; the seats are the first three. `measure MACHINE INTERESTED OTHERS` opens so many sessions that enable the
+//! probe of the scripts, and so many that enable another, and lets the last two processors fire their whole scripts, one after the other. It writes how
+//! many firings were made. With no word the program does nothing.
 #![tactic(auto)]
 
 ghost use Rattle.std.specs.Prelude.{◌≡◌};
@@ -18,7 +18,6 @@ use player::Player;
 use std::alloc::Global;
 use std::marker::Brand;
 use std::sync::Wait;
-use std::thread::Threads;
 use std::{env, fs, io};
 
 /// What is to be done.
@@ -63,7 +62,6 @@ fn asked(rt: &HostRuntime) -> Option<(Vec<u8>, Work)> {
             let scene = Scene {
                 interested: third.parse().ok()?,
                 others: words.get(4)?.as_str().parse().ok()?,
-                threads: words.get(5).is_some(),
             };
             Some((machine, Work::Measure(scene)))
         }
@@ -72,7 +70,7 @@ fn asked(rt: &HostRuntime) -> Option<(Vec<u8>, Work)> {
 }
 
 /// Makes a hub, does the work on it, and ends it.
-fn staged<J: HubSite + Send + Sync, R: Threads + Wait + Sync>(
+fn staged<J: HubSite, R: Wait>(
     rt: &R,
     alloc: Global,
     parts: HubParts,
@@ -89,7 +87,8 @@ fn staged<J: HubSite + Send + Sync, R: Threads + Wait + Sync>(
     let text = match work {
         Work::Play { steps } => played(rt, alloc, &hub, &mut tokens, steps),
         Work::Measure(scene) => {
-            let count = opens(rt, alloc, &hub, &mut tokens, *scene);
+            let left = scene.interested.saturating_add(scene.others);
+            let count = opens(rt, alloc, &hub, &mut tokens, scene.others, left);
             counted(alloc, count)
         }
     };

@@ -3,17 +3,14 @@ use dt_hub::{CpuSeat, Fired, Hub, HubSite, NoGate, Session};
 use dt_proto::Asked;
 use std::alloc::Global;
 use std::sync::Wait;
-use std::thread::{Threads, join};
 
 /// What is measured.
 #[derive(Clone, Copy, Debug)]
 pub(crate) struct Scene {
     /// How many sessions enable the probe that fires.
-    pub(crate) interested: u32,
+    pub(crate) interested: u64,
     /// How many enable another.
-    pub(crate) others: u32,
-    /// Whether the processors fire on threads of their own.
-    pub(crate) threads: bool,
+    pub(crate) others: u64,
 }
 
 const LINES: [&str; 3] = [
@@ -35,29 +32,16 @@ fn fires<J: HubSite, R: Wait>(rt: &R, hub: &Hub<J>, token: &mut CpuSeat<J>) -> u
     0
 }
 
-/// Two processors fire their whole scripts, one after the other or at the same time.
-fn both_fire<J: HubSite + Send + Sync, R: Threads + Wait + Sync>(
-    rt: &R,
-    hub: &Hub<J>,
-    tokens: &mut Vec<CpuSeat<J>>,
-    threads: bool,
-) -> u64 {
+/// Two processors fire their whole scripts, one after the other.
+fn both_fire<J: HubSite, R: Wait>(rt: &R, hub: &Hub<J>, tokens: &mut Vec<CpuSeat<J>>) -> u64 {
     let Some(mut one) = tokens.pop() else {
         return 0;
     };
     let Some(mut other) = tokens.pop() else {
         return fires(rt, hub, &mut one);
     };
-    if !threads {
-        let first = fires(rt, hub, &mut other);
-        return first.wrapping_add(fires(rt, hub, &mut one));
-    }
-    let (first, second) = join(
-        rt,
-        move || fires(rt, hub, &mut one),
-        move || fires(rt, hub, &mut other),
-    );
-    first.wrapping_add(second)
+    let first = fires(rt, hub, &mut other);
+    first.wrapping_add(fires(rt, hub, &mut one))
 }
 
 /// Asks a line, whatever is answered.
@@ -73,32 +57,41 @@ fn says<J: HubSite, R: Wait>(
     }
 }
 
-/// Opens a session that traces, and so on until there are enough; then the processors fire. The last closes first.
-pub(crate) fn opens<J: HubSite + Send + Sync, R: Threads + Wait + Sync>(
+/// A session traces: the probe that fires, or another.
+fn traces<J: HubSite, R: Wait>(
+    rt: &R,
+    alloc: Global,
+    hub: &Hub<J>,
+    session: &mut Session<J>,
+    is_interested: bool,
+) {
+    if is_interested {
+        for line in LINES {
+            says(rt, alloc, hub, session, line);
+        }
+    } else {
+        says(rt, alloc, hub, session, OTHER);
+    }
+    says(rt, alloc, hub, session, r#"{"cmd":"go"}"#);
+}
+
+/// Opens a session that traces, and so on until none is left to open, the others last; then the processors fire. The last closes first.
+pub(crate) fn opens<J: HubSite, R: Wait>(
     rt: &R,
     alloc: Global,
     hub: &Hub<J>,
     tokens: &mut Vec<CpuSeat<J>>,
-    scene: Scene,
+    others: u64,
+    left: u64,
 ) -> u64 {
-    if scene.interested == 0 && scene.others == 0 {
-        return both_fire(rt, hub, tokens, scene.threads);
+    if left == 0 {
+        return both_fire(rt, hub, tokens);
     }
     let Ok(mut session) = hub.open(rt, alloc, b"root") else {
         return 0;
     };
-    let mut less = scene;
-    if scene.interested > 0 {
-        less.interested = scene.interested - 1;
-        for line in LINES {
-            says(rt, alloc, hub, &mut session, line);
-        }
-    } else {
-        less.others = scene.others - 1;
-        says(rt, alloc, hub, &mut session, OTHER);
-    }
-    says(rt, alloc, hub, &mut session, r#"{"cmd":"go"}"#);
-    let count = opens(rt, alloc, hub, tokens, less);
+    traces(rt, alloc, hub, &mut session, left > others);
+    let count = opens(rt, alloc, hub, tokens, others, left - 1);
     hub.close(rt, session);
     count
 }

@@ -1,5 +1,5 @@
 -- What becomes of the seats as a firing is offered to one seat after the other.
-use Rattle.std.proofs.Common.{◌≡◌, ◌≢◌, ◌<◌, ◌≤◌, ◌+◌, ◌==◌, ℕ, zero, suc, Bool, true, false, true≢false, List, [], ◌∷◌, length, refl, sym, ap, ◌∙◌, subst, arith, inl, inr, eq-eqb, ne_eqb, Option, Some, None, if◌then◌else◌}
+use Rattle.std.proofs.Common.{◌≡◌, ◌≢◌, ◌<◌, ◌≤◌, ◌+◌, ◌==◌, ℕ, zero, suc, Bool, true, false, true≢false, List, [], ◌∷◌, ◌++◌, length, refl, sym, ap, ◌∙◌, subst, arith, inl, inr, eq-eqb, ne_eqb, Option, Some, None, if◌then◌else◌}
 use Rattle.std.proofs.lemmas.Bool.{cases_eq, cases_lt}
 use Rattle.std.specs.List.{slice_get, slice_set}
 use Rattle.std.specs.Option.{IfSome, MatchOption, is_some}
@@ -13,11 +13,12 @@ use Rattle.dt_hub.specs.Firings.{ComesToSeat, IsOffered}
 use Rattle.dt_hub.specs.Processors.{AreAtSeats, IsAtSeat}
 use Rattle.dt_life.specs.laws.Options.{if_some_map, match_none, match_some, some_of}
 use Rattle.dt_machine.specs.Registry.{Contents}
-use Rattle.dt_seat.specs.Keeps.{Followed}
-use Rattle.dt_seat.specs.Seats.{ComesOfFiring}
+use Rattle.dt_seat.specs.Keeps.{Followed, noted_of}
+use Rattle.dt_seat.specs.Seats.{ComesOfFiring, kept_items}
 use Rattle.dt_seat.specs.declared.held.Held.{Held}
+use Rattle.dt_trail.specs.Items.{own}
 
-get_set_same : {X : Type 0} (xs : List X) (i : ℕ) (x : X) → i < length xs → slice_get (slice_set xs i x) i ≡ Some x
+pub get_set_same : {X : Type 0} (xs : List X) (i : ℕ) (x : X) → i < length xs → slice_get (slice_set xs i x) i ≡ Some x
 get_set_same [] i x h = absurd (omega arith)
 get_set_same (y ∷ xs) zero x h = refl
 get_set_same (y ∷ xs) (suc i) x h = get_set_same xs i x (omega arith)
@@ -83,7 +84,8 @@ module _ (contents : Contents) (firing : Firing) (mask : SeatMask) (start : List
     from_taken seat le = new_other seat (λ e. absurd (omega (arith, le, e))) ∙ left_from seat (omega (arith, le, from_next))
 
   module _ (life : ℕ) (answer : Held) (f g : Followed) (named : life_at mask s ≡ Some life) (is : slice_get start s ≡ Some f)
-      (comes : ComesOfFiring contents life firing answer f g) where
+      (comes : ComesOfFiring contents life firing answer f g) 
+      (own_is : own (firing.cpu + 1) (noted_of life g) ≡ own (firing.cpu + 1) (noted_of life f) ++ kept_items answer firing) where
     inside : s < length now
     inside = omega (arith, many, small)
 
@@ -102,6 +104,7 @@ module _ (contents : Contents) (firing : Firing) (mask : SeatMask) (start : List
           old_is = is;
           new_is = get_set_same now s g inside;
           comes = comes;
+          own_firings = own_is;
         })
 
     pub done_more : (seat : ℕ) → seat < s + 1 → ComesToSeat contents firing mask (slice_set held s answer) start (slice_set now s g) seat
@@ -123,7 +126,7 @@ module _ (contents : Contents) (firing : Firing) (mask : SeatMask) (start : List
     at_more seat lt = elim (cases_eq seat s) [
       | inl e ↦ subst (λ (k : ℕ). IfSome (slice_get (slice_set now s g) k) (IsAtSeat firing.cpu (firing.place + 1) k)) (sym e)
           (subst (λ (o : Option Followed). IfSome o (IsAtSeat firing.cpu (firing.place + 1) s)) (sym (get_set_same now s g inside))
-          (at_seat_after contents life firing answer f g s comes (some_of (slice_get start s) f (IsAtSeat firing.cpu firing.place s) is (begun.each s))))
+          (at_seat_after contents life firing answer f g s comes own_is (some_of (slice_get start s) f (IsAtSeat firing.cpu firing.place s) is (begun.each s))))
       | inr ne ↦ elim (cases_lt seat next) [
           | inl earlier ↦ rw (get_set_other now s seat g ne) (at_below seat earlier)
           | inr le ↦ rw (get_set_other now s seat g ne, rest seat le)

@@ -1,19 +1,21 @@
 -- Where a processor's own firings stand in what it knows.
-use Rattle.std.proofs.Common.{◌≡◌, ◌≢◌, ◌<◌, ◌≤◌, ◌+◌, ◌==◌, ℕ, Bool, true, false, cond, List, [], ◌∷◌, ◌++◌, refl, sym, ap, ◌∙◌, subst, arith, eq-eqb, Option, Some, None}
-use Rattle.std.proofs.lemmas.List.Elements.{filter-append}
+use Rattle.std.proofs.Common.{◌≡◌, ◌+◌, ◌==◌, ℕ, Bool, true, false, cond, List, [], ◌∷◌, ◌++◌, refl, sym, ap, ◌∙◌, subst, arith, eq-eqb, Option, Some, None}
 use Rattle.std.specs.List.{AllByRecursion}
+use Rattle.dt_cred.specs.declared.account.Account.{Account}
 use Rattle.dt_cred.specs.declared.firing.Firing.{Firing}
+use Rattle.dt_facts.specs.Facts.{last_note}
 use Rattle.dt_facts.specs.declared.fact.LastNote.{LastNote}
 use Rattle.dt_hub.specs.Processors.{IsAtSeat}
 use Rattle.dt_legal.specs.Rows.{AreBelowPlace, IsAtLowerPlace}
 use Rattle.dt_machine.specs.Registry.{Contents}
-use Rattle.dt_seat.specs.Keeps.{Followed, known_by, known_in, known_of}
-use Rattle.dt_seat.specs.Seats.{ComesOfFiring}
+use Rattle.dt_seat.specs.Keeps.{Followed, known_by, noted_in, noted_of}
+use Rattle.dt_seat.specs.Receipts.{IsTold, Received}
+use Rattle.dt_seat.specs.Seats.{ComesOfFiring, HasNote, kept_items}
 use Rattle.dt_seat.specs.declared.held.Held.{Held}
 use Rattle.dt_seat.specs.declared.held.Held.TheVariants.{Kept, Unseen, Gone}
-use Rattle.dt_trail.specs.Items.{TrailItem, line, long_line, fired, own, whose}
+use Rattle.dt_trail.specs.Items.{TrailItem, line, long_line, fired, own}
 use Rattle.dt_trail.specs.Known.{Noted}
-use Rattle.dt_cred.specs.declared.account.Account.{Account}
+use Rattle.dt_trail.specs.declared.law.Named.{Named}
 
 all_both : {X : Type 0} (P : X → Type 0) (xs ys : List X) → AllByRecursion P xs → AllByRecursion P ys → AllByRecursion P (xs ++ ys)
 all_both P [] ys h k = k
@@ -29,73 +31,72 @@ lower_next place (line bytes) h = tt
 lower_next place long_line h = tt
 
 -- what is below a place is below the next
-pub below_next : (cpu place : ℕ) (row : List TrailItem) → AreBelowPlace cpu place row → AreBelowPlace cpu (place + 1) row
+below_next : (cpu place : ℕ) (row : List TrailItem) → AreBelowPlace cpu place row → AreBelowPlace cpu (place + 1) row
 below_next cpu place row h =
     all_more (IsAtLowerPlace place) (IsAtLowerPlace (place + 1)) (lower_next place) (own (cpu + 1) row) h
-
-below_none : (cpu place : ℕ) → AreBelowPlace cpu place []
-below_none cpu place = tt
-
-below_if : (cpu place : ℕ) (b : Bool) (knows : List TrailItem) → AreBelowPlace cpu place knows
-    → AreBelowPlace cpu place (cond b knows [])
-below_if cpu place true knows h = h
-below_if cpu place false knows h = below_none cpu place
-
-below_in : (cpu place life : ℕ) (took : Option LastNote) (knows : List TrailItem) → AreBelowPlace cpu place knows
-    → AreBelowPlace cpu place (known_in life took knows)
-below_in cpu place life None knows h = below_none cpu place
-below_in cpu place life (Some last) knows h = below_if cpu place (last.life == life) knows h
-
--- what a note knows of a life is part of what it knows
-pub below_of : (cpu place life : ℕ) (f : Followed) → AreBelowPlace cpu place (known_by f.note)
-    → AreBelowPlace cpu place (known_of life f)
-below_of cpu place life f h = below_in cpu place life f.took (known_by f.note) h
-
--- a processor's own firings are those that another row has
-below_same : (cpu place : ℕ) (row knows : List TrailItem) → own (cpu + 1) row ≡ own (cpu + 1) knows
-    → AreBelowPlace cpu place knows → AreBelowPlace cpu place row
-below_same cpu place row knows same h = subst (AllByRecursion (IsAtLowerPlace place)) (sym same) h
-
-own_fired : (cpu place : ℕ) (row : List TrailItem) → own (cpu + 1) (row ++ fired cpu place ∷ []) ≡ own (cpu + 1) row ++ fired cpu place ∷ []
-own_fired cpu place row =
-    filter-append (λ x. whose x == cpu + 1) row (fired cpu place ∷ [])
-    ∙ ap (λ (b : Bool). own (cpu + 1) row ++ cond b (fired cpu place ∷ []) []) (eq-eqb (cpu + 1) (cpu + 1) refl)
-
-below_fired : (cpu place : ℕ) (row : List TrailItem) → AreBelowPlace cpu place row
-    → AreBelowPlace cpu (place + 1) (row ++ fired cpu place ∷ [])
-below_fired cpu place row h =
-    subst (AllByRecursion (IsAtLowerPlace (place + 1))) (sym (own_fired cpu place row))
-    (all_both (IsAtLowerPlace (place + 1)) (own (cpu + 1) row) (fired cpu place ∷ []) (below_next cpu place row h) (omega arith, tt))
-
-known_of_note : (f : Followed) (n : Noted Account) → f.note ≡ Some n → known_by f.note ≡ n.knows
-known_of_note f n e = ap known_by e
-
--- after an offer what a processor has at a seat is that seat's, and its own firings stand below the next place
-pub at_seat_after : (contents : Contents) (life : ℕ) (firing : Firing) (held : Held) (old new : Followed) (seat : ℕ)
-    → ComesOfFiring contents life firing held old new → IsAtSeat firing.cpu firing.place seat old
-    → IsAtSeat firing.cpu (firing.place + 1) seat new
-at_seat_after contents life firing Kept old new seat comes h =
-    let carried = comes.0 in let note = comes.1.0 in let trail = comes.1.1 in let has = comes.1.2 in
-    let reaches = comes.1.3 in let is = comes.1.5 in
-    record {
-      seat_is = carried.seat ∙ h.seat_is;
-      cpu_is = carried.cpu ∙ h.cpu_is;
-      below = rw (known_of_note new note has.has, is)
-          (below_fired firing.cpu firing.place trail
-          (below_same firing.cpu firing.place trail (known_of life old) reaches.own_same (below_of firing.cpu firing.place life old h.below)));
-    }
-at_seat_after contents life firing (Unseen known) old new seat comes h =
-    let carried = comes.0 in let note = comes.1.0 in let has = comes.1.1 in let reaches = comes.1.2 in
-    record {
-      seat_is = carried.seat ∙ h.seat_is;
-      cpu_is = carried.cpu ∙ h.cpu_is;
-      below = rw (known_of_note new note has.has)
-          (below_next firing.cpu firing.place note.knows
-          (below_same firing.cpu firing.place note.knows (known_of life old) reaches.own_same (below_of firing.cpu firing.place life old h.below)));
-    }
-at_seat_after contents life firing Gone old new seat comes h =
-    rw comes (record { seat_is = h.seat_is; cpu_is = h.cpu_is; below = below_next firing.cpu firing.place (known_by old.note) h.below })
 
 -- what a processor has at a seat to which nothing came, at the next place
 pub at_seat_next : (cpu place seat : ℕ) (f : Followed) → IsAtSeat cpu place seat f → IsAtSeat cpu (place + 1) seat f
 at_seat_next cpu place seat f h = record { seat_is = h.seat_is; cpu_is = h.cpu_is; below = below_next cpu place (known_by f.note) h.below }
+
+below_if : (cpu place : ℕ) (b : Bool) (knows : List TrailItem) → AreBelowPlace cpu place knows
+    → AreBelowPlace cpu place (cond b knows [])
+below_if cpu place true knows h = h
+below_if cpu place false knows h = tt
+
+below_in : (cpu place life : ℕ) (took : Option LastNote) (knows : List TrailItem) → AreBelowPlace cpu place knows
+    → AreBelowPlace cpu place (noted_in life took knows)
+below_in cpu place life None knows h = tt
+below_in cpu place life (Some last) knows h = below_if cpu place (last.life == life) knows h
+
+-- a note of the life knows just what it knows
+noted_here : (life : ℕ) (row : Named Account) (took : Option LastNote) (knows : List TrailItem)
+    → took ≡ Some (last_note life row) → noted_in life took knows ≡ knows
+noted_here life row took knows e =
+    ap (λ (t : Option LastNote). noted_in life t knows) e ∙ ap (λ (b : Bool). cond b knows []) (eq-eqb life life refl)
+
+lower_kept : (firing : Firing) (held : Held) → AllByRecursion (IsAtLowerPlace (firing.place + 1)) (kept_items held firing)
+lower_kept firing Kept = (omega arith, tt)
+lower_kept firing (Unseen known) = tt
+lower_kept firing Gone = tt
+
+module _ (life : ℕ) (firing : Firing) (held : Held) (old new : Followed) (seat : ℕ)
+    (own_is : own (firing.cpu + 1) (noted_of life new) ≡ own (firing.cpu + 1) (noted_of life old) ++ kept_items held firing)
+    (h : IsAtSeat firing.cpu firing.place seat old) where
+  below_noted : AreBelowPlace firing.cpu (firing.place + 1) (noted_of life new)
+  below_noted =
+      subst (AllByRecursion (IsAtLowerPlace (firing.place + 1))) (sym own_is)
+      (all_both (IsAtLowerPlace (firing.place + 1)) (own (firing.cpu + 1) (noted_of life old)) (kept_items held firing)
+      (below_next firing.cpu firing.place (noted_of life old) (below_in firing.cpu firing.place life old.took (known_by old.note) h.below))
+      (lower_kept firing held))
+
+  below_after : (note : Noted Account) → HasNote life new note → AreBelowPlace firing.cpu (firing.place + 1) (known_by new.note)
+  below_after note has =
+      subst (AreBelowPlace firing.cpu (firing.place + 1)) (noted_here life note.row new.took (known_by new.note) has.took) below_noted
+
+-- after an offer what a processor has at a seat is that seat's, and its own firings stand below the next place
+pub at_seat_after : (contents : Contents) (life : ℕ) (firing : Firing) (held : Held) (old new : Followed) (seat : ℕ)
+    → ComesOfFiring contents life firing held old new
+    → own (firing.cpu + 1) (noted_of life new) ≡ own (firing.cpu + 1) (noted_of life old) ++ kept_items held firing
+    → IsAtSeat firing.cpu firing.place seat old → IsAtSeat firing.cpu (firing.place + 1) seat new
+at_seat_after contents life firing Kept old new seat comes own_is h = record {
+  seat_is = comes.0.seat ∙ h.seat_is;
+  cpu_is = comes.0.cpu ∙ h.cpu_is;
+  below = below_after life firing Kept old new seat own_is h comes.1.0 comes.1.2;
+}
+at_seat_after contents life firing (Unseen known) old new seat comes own_is h = record {
+  seat_is = comes.0.seat ∙ h.seat_is;
+  cpu_is = comes.0.cpu ∙ h.cpu_is;
+  below = below_after life firing (Unseen known) old new seat own_is h comes.1.0 comes.1.1;
+}
+at_seat_after contents life firing Gone old new seat comes own_is h = rw comes (at_seat_next firing.cpu firing.place seat old h)
+
+-- after a processor was told of a session there
+pub at_seat_told : (cpu place seat : ℕ) (received : Received) (old new : Followed) → IsTold received old new → IsAtSeat cpu place seat old
+    → IsAtSeat cpu place seat new
+at_seat_told cpu place seat received old new told h = record {
+  seat_is = told.seat ∙ h.seat_is;
+  cpu_is = told.cpu ∙ h.cpu_is;
+  below = subst (AllByRecursion (IsAtLowerPlace place))
+      (sym (subst (λ (c : ℕ). own (c + 1) (known_by new.note) ≡ own (c + 1) (known_by old.note)) h.cpu_is told.own_same)) h.below;
+}

@@ -12,11 +12,13 @@ use Rattle.dt_hub.specs.declared.firing.Fired.TheVariants as fired
 use Rattle.dt_hub.specs.declared.looking.Looked.{Looked}
 use Rattle.dt_hub.specs.declared.looking.Looked.TheVariants as looked
 use Rattle.dt_machine.specs.Registry.{Contents, firing_at}
-use Rattle.dt_seat.specs.Keeps.{Followed}
-use Rattle.dt_seat.specs.Seats.{ComesOfFiring}
+use Rattle.dt_seat.specs.Keeps.{Followed, noted_of}
+use Rattle.dt_seat.specs.Seats.{ComesOfFiring, kept_items}
 use Rattle.dt_seat.specs.declared.held.Held.{Held}
+use Rattle.dt_trail.specs.Items.{own}
 
--- A seat that a mask names with a life is offered the firing, and this comes of it.
+-- A seat that a mask names with a life is offered the firing, and this comes of it. The processor's own firings in what its note knows of the life are those that it knew,
+-- and this one, if it was kept.
 pub record IsOffered (contents : Contents) (firing : Firing) (life : ℕ) (held : Option Held) (old new : Option Followed) : Type 0 where
   pub answer : Held
   pub before : Followed
@@ -25,6 +27,7 @@ pub record IsOffered (contents : Contents) (firing : Firing) (life : ℕ) (held 
   pub old_is : old ≡ Some before
   pub new_is : new ≡ Some after
   pub comes : ComesOfFiring contents life firing answer before after
+  pub own_firings : own (firing.cpu + 1) (noted_of life after) ≡ own (firing.cpu + 1) (noted_of life before) ++ kept_items answer firing
 
 -- What becomes of what a processor has at a seat: where the mask names it, it is offered the firing, and elsewhere nothing changes.
 abbrev pub ComesToSeat : Contents → Firing → SeatMask → List Held → (old new : List Followed) → ℕ → Type 0

@@ -7,3 +7,4 @@ pub mod Processors
 pub mod Hubs
 pub mod Firings
 pub mod Asking
+pub mod Tellings

@@ -38,9 +38,9 @@ abbrev pub places_in : Fact → List (List Knew)
 places_in (kinds.Log log) = log.places
 places_in fact = []
 
--- which life of a seat a processor knows of, if it knows any, and how many items
+-- which life of a seat a processor knows of last, by what it was told or by its note, and how many items
 abbrev pub known_life : Followed → ℕ
-known_life f = option_map_or (λ last. last.life) f.took 0
+known_life f = option_map_or (λ t. t.life) f.told (option_map_or (λ last. last.life) f.took 0)
 
 abbrev pub knew_of : Followed → Knew
 knew_of f = knew (known_life f) (length (known_of (known_life f) f))

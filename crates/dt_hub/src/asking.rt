@@ -1,7 +1,9 @@
 //! How sessions ask, and see.
 ghost use Rattle.std.specs.Prelude.{◌≡◌, length};
+ghost use mathlib.Core.List.{IsPrefix};
 ghost use Rattle.dt_hub.specs.Asking.{IsAnswered};
 ghost use Rattle.dt_legal.specs.Rows.{IsLegalRow};
+ghost use Rattle.dt_seat.specs.Publications.{IsPublished};
 ghost use Rattle.dt_seat.specs.Trailed.{item_of_line};
 ghost use Rattle.dt_trail.specs.Items.{StartsWith, own};
 
@@ -24,7 +26,10 @@ impl<J: HubSite> Hub<J> {
     ) -> LineAnswer
         ensures answered { IsAnswered J.contents session.old (item_of_line asked.now) result session.new }
         ensures session { (session.new.seat ≡ session.old.seat) × (session.new.life ≡ session.old.life)
-            × (session.new.account ≡ session.old.account) }
+            × (session.new.row ≡ session.old.row) }
+        ensures published { IsPublished J.contents session.new.seat session.new.life session.new.account session.new.knows
+            session.new.published }
+        ensures fronts { IsPrefix session.old.published session.new.published }
     {
         let number = session.seat().number();
         'lock: for _ in rt.forever() {
@@ -54,8 +59,8 @@ impl<J: HubSite> Hub<J> {
         ensures lines { own 0 session.new.knows ≡ own 0 session.old.knows }
         ensures legal { IsLegalRow session.new.account J.contents session.new.knows }
         ensures same { (session.new.seat ≡ session.old.seat) × (session.new.life ≡ session.old.life)
-            × (session.new.account ≡ session.old.account) }
+            × (session.new.row ≡ session.old.row) × (session.new.published ≡ session.old.published) }
     {
-        session.seen()
+        session.seen(&self.facts)
     }
 }

@@ -19,10 +19,11 @@ mod making;
 mod offered;
 mod offering;
 mod opening;
+mod telling;
 
 pub use answered::LineAnswer;
 pub use cpu_seat::CpuSeat;
-pub use dt_seat::{HubSite, Session};
+pub use dt_seat::{HubSite, Receipt, Session};
 pub use fault::OpenFault;
 pub use firing::Fired;
 pub use gate::{Gate, Moment, NoGate};

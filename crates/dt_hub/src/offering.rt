@@ -1,13 +1,14 @@
 //! How a firing is offered to the seats that are named.
-ghost use Rattle.std.specs.Prelude.{◌≡◌, ◌+◌, ℕ, Some, vec_len};
+ghost use Rattle.std.specs.Prelude.{◌≡◌, ◌+◌, ◌++◌, ℕ, Some, vec_len};
 ghost use Rattle.dt_chain.specs.declared.seat.TheConstants.{SEATS as SEAT_COUNT};
 ghost use Rattle.dt_hub.specs.Firings.{ComesToSeat};
 ghost use Rattle.dt_hub.specs.Processors.{AreAtSeats};
 ghost use Rattle.dt_legal.specs.Rows.{AreBelowPlace};
 ghost use Rattle.dt_machine.specs.Moment.{IsMoment};
 ghost use Rattle.dt_machine.specs.Registry.{firing_at};
-ghost use Rattle.dt_seat.specs.Keeps.{known_by};
-ghost use Rattle.dt_seat.specs.Seats.{ComesOfFiring};
+ghost use Rattle.dt_seat.specs.Keeps.{known_by, noted_of};
+ghost use Rattle.dt_seat.specs.Seats.{ComesOfFiring, kept_items};
+ghost use Rattle.dt_trail.specs.Items.{own};
 
 use crate::gate::{Gate, Moment as Passing};
 use crate::hub::Hub;
@@ -32,7 +33,9 @@ impl<J: HubSite> Hub<J> {
             ≡ Some moment.now.firing.now }
         requires follower { (follower.old.seat ≡ seat) × (follower.old.cpu ≡ moment.now.firing.now.cpu) }
         requires below { AreBelowPlace moment.now.firing.now.cpu moment.now.firing.now.place (known_by follower.old.note) }
-        ensures { ComesOfFiring J.contents life moment.now.firing.now result follower.old follower.new }
+        ensures held { ComesOfFiring J.contents life moment.now.firing.now result follower.old follower.new }
+        ensures own { own (moment.now.firing.now.cpu + 1) (noted_of life follower.new)
+            ≡ own (moment.now.firing.now.cpu + 1) (noted_of life follower.old) ++ kept_items result moment.now.firing.now }
     {
         let cpu = moment.firing.cpu;
         let number = seat.number();

@@ -11,3 +11,4 @@ pub mod Offering
 pub mod Openings
 pub mod Trails
 pub mod Seats
+pub mod Owning

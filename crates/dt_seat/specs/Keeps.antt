@@ -111,6 +111,14 @@ known_in life (Some last) knows told = if last.life == life then knows else told
 abbrev pub known_of : ℕ → Followed → List TrailItem
 known_of life f = known_in life f.took (known_by f.note) f.told
 
+-- the items of a life that a processor's note knows
+abbrev pub noted_in : ℕ → Option LastNote → List TrailItem → List TrailItem
+noted_in life None knows = []
+noted_in life (Some last) knows = if last.life == life then knows else []
+
+abbrev pub noted_of : ℕ → Followed → List TrailItem
+noted_of life f = noted_in life f.took (known_by f.note)
+
 -- Of a life that isn't over the same is known as before, but for this one; and no fewer lives are over.
 pub record Carries (old new : Followed) (life : ℕ) : Type 0 where
   pub seat : new.seat ≡ old.seat

@@ -105,6 +105,12 @@ ComesOfFiring contents life firing (Unseen known) old new =
     × (length note.knows ≡ known))
 ComesOfFiring contents life firing Gone old new = new ≡ old
 
+-- the item of a firing that is kept
+abbrev pub kept_items : Held → Firing → List TrailItem
+kept_items WasKept firing = fired firing.cpu firing.place ∷ []
+kept_items (Unseen known) firing = []
+kept_items Gone firing = []
+
 -- What a session is answered to a line: the reply that is due after a trail that begins with what it knew, has its lines and no further
 -- one, and is legal; the session then knows this trail and the line, which is no part of it where it is over the quota.
 pub record IsRepliedTo (contents : Contents) (account : Account) (known : List TrailItem) (item : TrailItem) (text : List ℕ)

@@ -1,8 +1,8 @@
 //! What a seat keeps for one processor.
-ghost use Rattle.std.specs.Prelude.{◌≡◌, ◌⊎◌, [], None, Some, IfSome};
+ghost use Rattle.std.specs.Prelude.{◌≡◌, [], None, Some, IfSome};
 ghost use Rattle.dt_facts.specs.Facts.{last_note};
 ghost use Rattle.dt_facts.specs.Lives.{IsOpenAs};
-ghost use Rattle.dt_seat.specs.Keeps.{Carries, IsKeptFor, kept, known_by, known_of, told_in};
+ghost use Rattle.dt_seat.specs.Keeps.{Carries, IsKeptFor, kept, known_by, known_of, noted_of, told_in};
 ghost use Rattle.dt_seat.specs.Knowledge.{SaysLives, steps_in};
 ghost use Rattle.dt_trail.specs.Items.{own};
 ghost use Rattle.dt_trail.specs.Known.{noted};
@@ -79,8 +79,8 @@ impl<J: HubSite> Keep<J> {
         ensures note { follower.new.note ≡ Some (noted owner.now.row (follower.old.cpu + 1) (known_by follower.new.note)) }
         ensures took { follower.new.took ≡ Some (last_note life owner.now.row) }
         ensures known { known_of life follower.new ≡ known_of life follower.old }
-        ensures own_known { (own (follower.old.cpu + 1) (known_by follower.new.note) ≡ [])
-            ⊎ (known_by follower.new.note ≡ known_by follower.old.note) }
+        ensures own_known { own (follower.old.cpu + 1) (known_by follower.new.note)
+            ≡ own (follower.old.cpu + 1) (noted_of life follower.old) }
         ensures carried { Carries follower.old follower.new life }
     {
         facts.catch_up(lives, &mut follower.lives);

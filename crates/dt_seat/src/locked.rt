@@ -1,12 +1,12 @@
 //! What lies under the lock of a seat.
-ghost use Rattle.std.specs.Prelude.{◌≡◌, ◌+◌, Some, None, IfOk, IsSome, IsSomeAnd, MatchBool, OnErr};
+ghost use Rattle.std.specs.Prelude.{◌≡◌, ◌+◌, ◌++◌, Some, None, IfOk, IsSome, IsSomeAnd, MatchBool, OnErr};
 ghost use Rattle.dt_legal.specs.Rows.{AreBelowPlace};
 ghost use Rattle.dt_machine.specs.Moment.{IsMoment};
 ghost use Rattle.dt_machine.specs.Registry.{firing_at};
-ghost use Rattle.dt_seat.specs.Keeps.{known_by};
+ghost use Rattle.dt_seat.specs.Keeps.{known_by, noted_of};
 ghost use Rattle.dt_seat.specs.Publications.{IsPublished};
 ghost use mathlib.Core.List.{IsPrefix};
-ghost use Rattle.dt_seat.specs.Seats.{IsRepliedTo, ComesOfFiring, StaysOn};
+ghost use Rattle.dt_seat.specs.Seats.{IsRepliedTo, ComesOfFiring, StaysOn, kept_items};
 ghost use Rattle.dt_seat.specs.Trailed.{item_of_line};
 ghost use Rattle.dt_trail.specs.Items.{StartsWith, own};
 
@@ -140,6 +140,8 @@ impl<J: HubSite> LockedSeat<J> {
         requires follower { (follower.old.seat ≡ self.old.number) × (follower.old.cpu ≡ moment.now.firing.now.cpu) }
         requires below { AreBelowPlace moment.now.firing.now.cpu moment.now.firing.now.place (known_by follower.old.note) }
         ensures held { ComesOfFiring J.contents life moment.now.firing.now result follower.old follower.new }
+        ensures own { own (moment.now.firing.now.cpu + 1) (noted_of life follower.new)
+            ≡ own (moment.now.firing.now.cpu + 1) (noted_of life follower.old) ++ kept_items result moment.now.firing.now }
         ensures seat { (self.new.number ≡ self.old.number) × (self.new.life ≡ self.old.life) }
         ensures trail { StaysOn self.old.trail self.new.trail }
     {

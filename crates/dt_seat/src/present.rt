@@ -1,10 +1,11 @@
 //! The session on a seat, as long as it is open.
-ghost use Rattle.std.specs.Prelude.{◌≡◌, ◌+◌, Some, vec_len};
+ghost use Rattle.std.specs.Prelude.{◌≡◌, ◌+◌, ◌++◌, Some, vec_len};
 ghost use Rattle.dt_legal.specs.Rows.{AreBelowPlace};
 ghost use Rattle.dt_machine.specs.Moment.{IsMoment};
 ghost use Rattle.dt_machine.specs.Registry.{firing_at};
-ghost use Rattle.dt_seat.specs.Keeps.{known_by};
-ghost use Rattle.dt_seat.specs.Seats.{ComesOfFiring, TrailGoesOn, IsTaken};
+ghost use Rattle.dt_seat.specs.Keeps.{known_by, noted_of};
+ghost use Rattle.dt_seat.specs.Seats.{ComesOfFiring, TrailGoesOn, IsTaken, kept_items};
+ghost use Rattle.dt_trail.specs.Items.{own};
 
 use crate::follower::Follower;
 use crate::held::Held;
@@ -49,6 +50,8 @@ pub(crate) fn hold_at<J: HubSite>(
     requires below { AreBelowPlace moment.now.firing.now.cpu moment.now.firing.now.place (known_by follower.old.note) }
     ensures taken { IsTaken J.word J.contents number life lives.new present.new keeps.new.items }
     ensures held { ComesOfFiring J.contents life moment.now.firing.now result follower.old follower.new }
+    ensures own { own (moment.now.firing.now.cpu + 1) (noted_of life follower.new)
+        ≡ own (moment.now.firing.now.cpu + 1) (noted_of life follower.old) ++ kept_items result moment.now.firing.now }
     ensures trail { TrailGoesOn present.old.owner present.new.owner }
 {
     let keep = &mut keeps[moment.firing.cpu as usize];

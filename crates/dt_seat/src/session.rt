@@ -8,11 +8,11 @@ use dt_cred::Account;
 use dt_facts::{Beginning, Facts, Share};
 use std::marker::Model;
 
-/// A session: who has it may ask lines of the consumer on its seat.
+/// A session: who has it may ask lines of the consumer on its seat. It isn't `Drop`: [`LockedSeat::close`](crate::LockedSeat::close) alone ends it, so no seat
+/// stays taken by a session that was let go.
 ///
 /// Contracts see it as a `Sat` of `specs/Sessions.antt`: its seat, its number there, its trail with its account, what it knows of that trail, and
 /// which writes it knows to be published.
-#[derive(Drop)]
 pub struct Session<J: HubSite> {
     pub(crate) seat: Seat,
     pub(crate) life: u64,

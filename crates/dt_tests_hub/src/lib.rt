@@ -1,4 +1,4 @@
-//! Tests of the hub of `dt_hub`, by its public calls alone: rows in one thread, and sessions and processors on threads of their own.
+//! Tests of the hub of `dt_hub`, by its public calls alone: rows in one thread.
 //!
 //! The crate has no function of its own.
 #![tactic(auto)]
@@ -6,12 +6,10 @@
 #[cfg(test)]
 mod calls;
 #[cfg(test)]
-mod gates;
-#[cfg(test)]
 mod histories;
-#[cfg(test)]
-mod meeting;
 #[cfg(test)]
 mod paths;
 #[cfg(test)]
 mod seats;
+#[cfg(test)]
+mod telling;

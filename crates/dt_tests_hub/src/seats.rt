@@ -7,8 +7,6 @@ use std::alloc::Global;
 use std::process::Abort;
 use std::sync::Wait;
 use std::test::Fail;
-use std::thread::Threads;
-use std::time::Clock;
 
 /// Opens sessions on the seats from this one on, looks that no further one is had, and closes them.
 fn opens_from<J: HubSite, R: Wait + Abort>(rt: &R, alloc: Global, hub: &Hub<J>, seat: u32, left: u32) {
@@ -32,7 +30,7 @@ fn opens_from<J: HubSite, R: Wait + Abort>(rt: &R, alloc: Global, hub: &Hub<J>, 
 struct AllSeats;
 
 impl Play for AllSeats {
-    fn play<J: HubSite + Send + Sync, R: Threads + Wait + Abort + Clock + Sync>(
+    fn play<J: HubSite, R: Wait + Abort>(
         &self,
         rt: &R,
         alloc: Global,
@@ -55,7 +53,7 @@ fn there_is_no_seat_for_one_more(rt: HostRuntime) -> Result<(), Fail> {
 struct NoPrivilege;
 
 impl Play for NoPrivilege {
-    fn play<J: HubSite + Send + Sync, R: Threads + Wait + Abort + Clock + Sync>(
+    fn play<J: HubSite, R: Wait + Abort>(
         &self,
         rt: &R,
         alloc: Global,

@@ -7,8 +7,10 @@ use Rattle.dt_seat.proofs.Offering.{goes_on_offered}
 use Rattle.dt_seat.proofs.Seats.{taken_offered, held_kept, held_unseen, some_same}
 use Rattle.dt_seat.proofs.present.hold_at.Goals as goal
 use Rattle.dt_seat.proofs.present.hold_at.Goals.{then-is_seen, else-is_seen}
-use Rattle.dt_seat.specs.Keeps.{Carries, Followed, known_by, known_of}
+use Rattle.dt_seat.proofs.Owning.{noted_here, own_kept, own_unseen}
+use Rattle.dt_seat.specs.Keeps.{Carries, Followed, known_by, known_of, noted_of}
 use Rattle.dt_seat.specs.Trailed.{IsTrailed}
+use Rattle.dt_trail.specs.Items.{own}
 use Rattle.dt_trail.specs.Known.{Known, Noted, noted}
 use Rattle.dt_trail.specs.declared.law.Named.{Named}
 
@@ -63,4 +65,33 @@ returns-clause-held g c =
           rw (w.result-is, w.follower-inside-is, last)
           (held_unseen contents c.args.life c.args.moment.now.firing.now c.args.follower.now _ c.in-Some.note (rw (← row) at took) c.in-Some.is
           known carried c.args.present.now.owner.knows _ mine c.offer-is_seen.ensures.met legal unseen count)
+    ]
+
+pub returns-clause-own : goal.returns-clause-own
+returns-clause-own g c =
+    let firing = c.args.moment.now.firing.now in
+    let owner = c.args.present.now.owner in
+    let view = c.follower.view_is in
+    let note : c.in-Some.note ≡ noted owner.row (c.args.follower.now.cpu + 1) (known_by c.lend.new.follower.note) =
+    some_same _ _ (sym c.in-Some.is ∙ ap (λ (f : Followed). f.note) view ∙ c.lend.ensures.note) in
+    let mine : c.in-Some.note.number ≡ firing.cpu + 1 =
+    ap (λ (n : Noted Account). n.number) note ∙ ap (λ (k : ℕ). k + 1) c.requires.follower.1 in
+    let took = ap (λ (f : Followed). f.took) view ∙ c.lend.ensures.took in
+    let met : own (firing.cpu + 1) owner.knows ≡ own (firing.cpu + 1) c.in-Some.note.knows =
+    subst (λ (n : ℕ). own n owner.knows ≡ own n c.in-Some.note.knows) mine c.offer-is_seen.ensures.met.1 in
+    let lent : own (firing.cpu + 1) (known_by c.lend.new.follower.note) ≡ own (firing.cpu + 1) (noted_of c.args.life c.args.follower.now) =
+    subst (λ (n : ℕ). own (n + 1) (known_by c.lend.new.follower.note) ≡ own (n + 1) (noted_of c.args.life c.args.follower.now))
+    c.requires.follower.1 c.lend.ensures.own_known in
+    let same : own (firing.cpu + 1) owner.knows ≡ own (firing.cpu + 1) (noted_of c.args.life c.args.follower.now) =
+    met ∙ ap (λ (n : Noted Account). own (firing.cpu + 1) n.knows) note ∙ lent in
+    elim c.if-is_seen.branch [
+      | then-is_seen w ↦
+          let last = rw w.if-is_seen.true at c.offer-is_seen.ensures.note in
+          rw (w.result-is, w.follower-inside-is, last)
+          (ap (own (firing.cpu + 1)) (noted_here c.args.life owner.row _ _ took) ∙ own_kept firing owner.knows (noted_of c.args.life c.args.follower.now) same)
+      | else-is_seen w ↦
+          let last = rw w.if-is_seen.false at c.offer-is_seen.ensures.note in
+          rw (w.result-is, w.follower-inside-is, last)
+          (ap (own (firing.cpu + 1)) (noted_here c.args.life owner.row _ _ took)
+          ∙ own_unseen firing w.count.result owner.knows (noted_of c.args.life c.args.follower.now) same)
     ]

@@ -36,15 +36,15 @@ seats-preserved g c =
           inv.many inv.held c.number-at.ensures.small c.requires.seats inv.left_below inv.left_from inv.done inv.rest inv.at_below first_is before taken;
       done = done_more contents firing mask start c.seats.held.items c.seats.followers.items c.seats.left c.remove.new.self c.seats.next n
           inv.many inv.held c.number-at.ensures.small c.requires.seats inv.left_below inv.left_from inv.done inv.rest inv.at_below first_is before
-          c.in-Some-life_of.life c.offer_at.result c.index_mut.result.now c.offer_at.new.follower named is c.offer_at.ensures;
+          c.in-Some-life_of.life c.offer_at.result c.index_mut.result.now c.offer_at.new.follower named is c.offer_at.ensures.held c.offer_at.ensures.own;
       rest = rest_less contents firing mask start c.seats.held.items c.seats.followers.items c.seats.left c.remove.new.self c.seats.next n
           inv.many inv.held c.number-at.ensures.small c.requires.seats inv.left_below inv.left_from inv.done inv.rest inv.at_below first_is before
-          c.in-Some-life_of.life c.offer_at.result c.index_mut.result.now c.offer_at.new.follower named is c.offer_at.ensures;
+          c.in-Some-life_of.life c.offer_at.result c.index_mut.result.now c.offer_at.new.follower named is c.offer_at.ensures.held c.offer_at.ensures.own;
       many = length-set c.seats.followers.items n c.offer_at.new.follower ∙ inv.many;
       held = length-set c.seats.held.items n c.offer_at.result ∙ inv.held;
       at_below = at_more contents firing mask start c.seats.held.items c.seats.followers.items c.seats.left c.remove.new.self c.seats.next n
           inv.many inv.held c.number-at.ensures.small c.requires.seats inv.left_below inv.left_from inv.done inv.rest inv.at_below first_is before
-          c.in-Some-life_of.life c.offer_at.result c.index_mut.result.now c.offer_at.new.follower named is c.offer_at.ensures;
+          c.in-Some-life_of.life c.offer_at.result c.index_mut.result.now c.offer_at.new.follower named is c.offer_at.ensures.held c.offer_at.ensures.own;
     }
 
 pub returns-clause-seats : goal.returns-clause-seats
