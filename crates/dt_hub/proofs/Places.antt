@@ -9,7 +9,7 @@ use Rattle.dt_hub.specs.Processors.{IsAtSeat}
 use Rattle.dt_legal.specs.Rows.{AreBelowPlace, IsAtLowerPlace}
 use Rattle.dt_machine.specs.Registry.{Contents}
 use Rattle.dt_seat.specs.Keeps.{Followed, known_by, noted_in, noted_of}
-use Rattle.dt_seat.specs.Receipts.{IsTold, Received}
+use Rattle.dt_seat.specs.Receipts.{HasHeard, Received}
 use Rattle.dt_seat.specs.Seats.{ComesOfFiring, HasNote, kept_items}
 use Rattle.dt_seat.specs.declared.held.Held.{Held}
 use Rattle.dt_seat.specs.declared.held.Held.TheVariants.{Kept, Unseen, Gone}
@@ -92,7 +92,7 @@ at_seat_after contents life firing (Unseen known) old new seat comes own_is h = 
 at_seat_after contents life firing Gone old new seat comes own_is h = rw comes (at_seat_next firing.cpu firing.place seat old h)
 
 -- after a processor was told of a session there
-pub at_seat_told : (cpu place seat : ℕ) (received : Received) (old new : Followed) → IsTold received old new → IsAtSeat cpu place seat old
+pub at_seat_told : (cpu place seat : ℕ) (received : Received) (old new : Followed) → HasHeard received old new → IsAtSeat cpu place seat old
     → IsAtSeat cpu place seat new
 at_seat_told cpu place seat received old new told h = record {
   seat_is = told.seat ∙ h.seat_is;

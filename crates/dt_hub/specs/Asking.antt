@@ -11,14 +11,14 @@ use Rattle.dt_seat.specs.Sessions.{Sat}
 use Rattle.dt_trail.specs.Items.{StartsWith, TrailItem, own}
 
 -- the bytes that are answered
-abbrev pub text_of : LineAnswer → List ℕ
-text_of (answers.Reply text) = text.items
-text_of answers.Memory = reply_text (refused refusals.Memory)
+abbrev pub answer_text : LineAnswer → List ℕ
+answer_text (answers.Reply text) = text.items
+answer_text answers.Memory = reply_text (refused refusals.Memory)
 
 -- What a session is answered: the reply that is due after a trail that begins with what it knew and has its lines, and it then knows that trail and the line; or
 -- that there was no memory, and the session knows at least what it knew, and no further line of its own.
-abbrev pub IsAnswered : Contents → Sat → TrailItem → LineAnswer → Sat → Type 0
-IsAnswered contents old item (answers.Reply text) new =
+abbrev pub IsLineAnswered : Contents → Sat → TrailItem → LineAnswer → Sat → Type 0
+IsLineAnswered contents old item (answers.Reply text) new =
     IsRepliedTo contents old.account old.knows item text.items new.knows
-IsAnswered contents old item answers.Memory new =
+IsLineAnswered contents old item answers.Memory new =
     StartsWith new.knows old.knows × (own 0 new.knows ≡ own 0 old.knows)

@@ -35,5 +35,5 @@ pub record AreDealt (cpus seats : ℕ) (hands : List (Vec Followed Global)) : Ty
   pub each : (cpu : ℕ) → IfSome (slice_get hands cpu) (λ hand. IsHand seats cpu hand.items)
 
 -- The machine has an account of this name, which has a dtrace privilege.
-abbrev pub MayTrace : Registry → List ℕ → Account → Type 0
-MayTrace registry name account = (account_of registry name ≡ Some account) × HasDtrace account.privs
+abbrev pub MayOpen : Registry → List ℕ → Account → Type 0
+MayOpen registry name account = (account_of registry name ≡ Some account) × HasDtrace account.privs

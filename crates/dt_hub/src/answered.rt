@@ -1,6 +1,6 @@
 //! What a session is answered.
 ghost use Rattle.std.specs.Prelude.{◌≡◌, MatchResult};
-ghost use Rattle.dt_hub.specs.Asking.{text_of};
+ghost use Rattle.dt_hub.specs.Asking.{answer_text};
 ghost use Rattle.dt_hub.specs.declared.answered.LineAnswer.TheVariants as answers;
 
 use dt_proto::memory_line;
@@ -28,7 +28,7 @@ impl LineAnswer {
 
     /// The bytes that are answered, with their newline: where there was no memory a fixed line, which takes none.
     pub fn text(&self) -> &[u8]
-        ensures { result.now ≡ text_of self.now }
+        ensures { result.now ≡ answer_text self.now }
     {
         match self {
             LineAnswer::Reply(text) => text.as_slice(),

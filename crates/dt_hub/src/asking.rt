@@ -1,7 +1,7 @@
 //! How sessions ask, and see.
 ghost use Rattle.std.specs.Prelude.{◌≡◌, length};
 ghost use mathlib.Core.List.{IsPrefix};
-ghost use Rattle.dt_hub.specs.Asking.{IsAnswered};
+ghost use Rattle.dt_hub.specs.Asking.{IsLineAnswered};
 ghost use Rattle.dt_legal.specs.Rows.{IsLegalRow};
 ghost use Rattle.dt_seat.specs.Publications.{IsPublished};
 ghost use Rattle.dt_seat.specs.Trailed.{item_of_line};
@@ -24,7 +24,7 @@ impl<J: HubSite> Hub<J> {
         session: &mut Session<J>,
         asked: &Asked,
     ) -> LineAnswer
-        ensures answered { IsAnswered J.contents session.old (item_of_line asked.now) result session.new }
+        ensures answered { IsLineAnswered J.contents session.old (item_of_line asked.now) result session.new }
         ensures session { (session.new.seat ≡ session.old.seat) × (session.new.life ≡ session.old.life)
             × (session.new.row ≡ session.old.row) }
         ensures published { IsPublished J.contents session.new.seat session.new.life session.new.account session.new.knows

@@ -1,7 +1,7 @@
 //! How sessions come and go.
 ghost use Rattle.std.specs.Prelude.{◌≡◌, ◌↔◌, [], IfOk, IfErr, IfSome};
 ghost use Rattle.dt_cred.specs.declared.account.Account.{Account};
-ghost use Rattle.dt_hub.specs.Hubs.{MayTrace};
+ghost use Rattle.dt_hub.specs.Hubs.{MayOpen};
 ghost use Rattle.dt_hub.specs.declared.fault.OpenFault.TheVariants as faults;
 
 use crate::fault::OpenFault;
@@ -37,10 +37,10 @@ impl<J: HubSite> Hub<J> {
         alloc: Global,
         name: &[u8],
     ) -> Result<Session<J>, OpenFault>
-        ensures session { IfOk result (λ session. MayTrace J.contents.registry name.now session.account
+        ensures session { IfOk result (λ session. MayOpen J.contents.registry name.now session.account
             × (session.knows ≡ [])) }
         ensures privilege { IfErr result (λ fault. (fault ≡ faults.NoPrivilege)
-            ↔ ((account : Account) → MayTrace J.contents.registry name.now account → ⊥)) }
+            ↔ ((account : Account) → MayOpen J.contents.registry name.now account → ⊥)) }
     {
         let Some(account) = self.machine.account(name) else {
             return Err(OpenFault::NoPrivilege);
@@ -75,5 +75,6 @@ impl<J: HubSite> Hub<J> {
             }
             MutexGuard::unlock(locked);
         }
+        unreachable!()
     }
 }

@@ -1,7 +1,7 @@
 //! How a session hands on what it knows, and a processor takes it in.
 ghost use Rattle.std.specs.Prelude.{◌≡◌};
 ghost use mathlib.Core.List.{IsPrefix};
-ghost use Rattle.dt_hub.specs.Tellings.{HasHeard};
+ghost use Rattle.dt_hub.specs.Tellings.{HasBeenTold};
 
 use crate::cpu_seat::CpuSeat;
 use crate::hub::Hub;
@@ -33,7 +33,7 @@ impl<J: HubSite> Hub<J> {
 
     /// Tells a processor what a session knew. It takes no lock and no memory, and waits for nobody.
     pub fn tell(&self, cpu_seat: &mut CpuSeat<J>, receipt: Receipt<J>)
-        ensures { HasHeard receipt cpu_seat.old cpu_seat.new }
+        ensures { HasBeenTold receipt cpu_seat.old cpu_seat.new }
     {
         hears_writes(&mut cpu_seat.reader, &receipt);
         let at = receipt.seat().number() as usize;
