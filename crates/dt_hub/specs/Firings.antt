@@ -1,9 +1,8 @@
 -- What a look and a firing come to.
-use Rattle.std.specs.Prelude.{◌≡◌, ◌<◌, ◌+◌, ◌++◌, ◌∷◌, ℕ, [], List, Option, Some, None, IfSome, MatchOption, slice_get}
+use Rattle.std.specs.Prelude.{◌≡◌, ◌+◌, ◌++◌, ◌∷◌, ℕ, [], List, Option, Some, None, MatchOption, slice_get}
 use mathlib.Core.List.{IsPrefix}
 use Rattle.dt_chain.specs.Chains.{IsMaskAfter}
 use Rattle.dt_chain.specs.Seats.{life_at}
-use Rattle.dt_chain.specs.declared.seat.TheConstants.{SEATS}
 use Rattle.dt_chain.specs.declared.seat_mask.SeatMask.{SeatMask}
 use Rattle.dt_cred.specs.declared.firing.Firing.{Firing}
 use Rattle.dt_hub.specs.Processors.{Processing, knew_at_seats}

@@ -1,5 +1,5 @@
 -- What a hub keeps, and what it is made of.
-use Rattle.std.specs.Prelude.{◌≡◌, ◌<◌, ℕ, [], List, None, Some, Option, IfSome, length, slice_get, Vec}
+use Rattle.std.specs.Prelude.{◌≡◌, ℕ, [], List, Some, IfSome, length, slice_get, Vec}
 use Rattle.std.specs.Global.{Global}
 use Rattle.atomic_table.specs.Seated.{TableId}
 use Rattle.logbook.specs.Pages.{Book}

@@ -1,5 +1,5 @@
 -- So many processors have their room.
-use Rattle.std.proofs.Common.{◌≡◌, ◌≤◌, ◌-◌, ℕ, length}
+use Rattle.std.proofs.Common.{◌≤◌, ◌-◌, length}
 use Rattle.dt_hub.specs.Hubs.{AreDealt}
 use Rattle.dt_hub.proofs.making.empty_hands.Given as goal
 

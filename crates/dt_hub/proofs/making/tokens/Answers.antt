@@ -1,5 +1,5 @@
 -- What is to be shown of `tokens`.
-use Rattle.std.proofs.Common.{◌≡◌, ◌≤◌, ◌<◌, ◌+◌, ◌*◌, ℕ, length, sym, ap, ◌∙◌, subst, arith}
+use Rattle.std.proofs.Common.{ℕ, ap, ◌∙◌, arith}
 use Rattle.std.proofs.lemmas.List.{length-set}
 use Rattle.dt_facts.specs.Handles.{making}
 use Rattle.dt_hub.proofs.Offers.{get_set_other}

@@ -1,5 +1,5 @@
 -- What is to be shown of `hears_writes`.
-use Rattle.std.proofs.Common.{List, [], ◌++◌, sym, ap}
+use Rattle.std.proofs.Common.{List, ◌++◌, sym, ap}
 use Rattle.dt_chain.specs.Writes.{Write}
 use Rattle.dt_hub.proofs.telling.hears_writes.Goals as goal
 

@@ -1,5 +1,5 @@
 -- The seats before the next were offered the firing where they are named; the others are as they were.
-use Rattle.std.proofs.Common.{◌≡◌, ◌≤◌, ◌<◌, ◌-◌, ◌+◌, ℕ, false, length, if◌then◌else◌, nat_lt}
+use Rattle.std.proofs.Common.{◌≡◌, ◌≤◌, ◌<◌, ◌-◌, ◌+◌, ℕ, false, length}
 use Rattle.std.specs.List.{slice_get}
 use Rattle.std.specs.Option.{is_some, IfSome}
 use Rattle.dt_chain.specs.Seats.{has, life_at}

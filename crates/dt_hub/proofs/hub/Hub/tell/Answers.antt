@@ -1,13 +1,12 @@
 -- What is to be shown of `tell`.
-use Rattle.std.proofs.Common.{◌≡◌, ◌≢◌, ◌<◌, ◌+◌, ℕ, Some, length, refl, sym, ap, ◌∙◌, subst, arith}
+use Rattle.std.proofs.Common.{◌≡◌, ◌<◌, ℕ, Some, length, refl, sym, ap, ◌∙◌, subst, arith}
 use Rattle.std.proofs.lemmas.List.{length-set}
 use Rattle.std.proofs.lemmas.Option.{slice_get-get_or}
 use Rattle.std.specs.List.{slice_get, slice_set}
-use Rattle.dt_chain.specs.declared.seat.TheConstants.{SEATS}
 use Rattle.dt_hub.proofs.Offers.{get_set_other, get_set_same}
 use Rattle.dt_hub.proofs.Places.{at_seat_told}
 use Rattle.dt_hub.proofs.hub.Hub.tell.Goals as goal
-use Rattle.dt_hub.specs.Processors.{IsAtSeat, Processing}
+use Rattle.dt_hub.specs.Processors.{IsAtSeat}
 use Rattle.dt_life.specs.laws.Lists.{replaced}
 use Rattle.dt_life.specs.laws.Options.{some_of}
 
