@@ -84,7 +84,7 @@ module _ (contents : Contents) (firing : Firing) (mask : SeatMask) (start : List
     from_taken seat le = new_other seat (λ e. absurd (omega (arith, le, e))) ∙ left_from seat (omega (arith, le, from_next))
 
   module _ (life : ℕ) (answer : Held) (f g : Followed) (named : life_at mask s ≡ Some life) (is : slice_get start s ≡ Some f)
-      (comes : ComesOfFiring contents life firing answer f g) 
+      (comes : ComesOfFiring contents life firing answer f g)
       (own_is : own (firing.cpu + 1) (noted_of life g) ≡ own (firing.cpu + 1) (noted_of life f) ++ kept_items answer firing) where
     inside : s < length now
     inside = omega (arith, many, small)
@@ -111,12 +111,12 @@ module _ (contents : Contents) (firing : Firing) (mask : SeatMask) (start : List
     done_more seat lt = elim (cases_eq seat s) [
       | inl e ↦ subst (ComesToSeat contents firing mask (slice_set held s answer) start (slice_set now s g)) (sym e) here
       | inr ne ↦ elim (cases_lt seat next) [
-          | inl earlier ↦ rw (get_set_other held s seat answer ne, get_set_other now s seat g ne) (done seat earlier)
-          | inr le ↦ match_none (life_at mask seat) (slice_get (slice_set now s g) seat ≡ slice_get start seat)
-              (λ life. IsOffered contents firing life (slice_get (slice_set held s answer) seat) (slice_get start seat)
-              (slice_get (slice_set now s g) seat))
-              (between seat le (omega (arith, lt, ne))) (get_set_other now s seat g ne ∙ rest seat le)
-        ]
+        | inl earlier ↦ rw (get_set_other held s seat answer ne, get_set_other now s seat g ne) (done seat earlier)
+        | inr le ↦ match_none (life_at mask seat) (slice_get (slice_set now s g) seat ≡ slice_get start seat)
+            (λ life. IsOffered contents firing life (slice_get (slice_set held s answer) seat) (slice_get start seat)
+            (slice_get (slice_set now s g) seat))
+            (between seat le (omega (arith, lt, ne))) (get_set_other now s seat g ne ∙ rest seat le)
+      ]
     ]
 
     pub rest_less : (seat : ℕ) → s + 1 ≤ seat → slice_get (slice_set now s g) seat ≡ slice_get start seat
@@ -128,11 +128,11 @@ module _ (contents : Contents) (firing : Firing) (mask : SeatMask) (start : List
           (subst (λ (o : Option Followed). IfSome o (IsAtSeat firing.cpu (firing.place + 1) s)) (sym (get_set_same now s g inside))
           (at_seat_after contents life firing answer f g s comes own_is (some_of (slice_get start s) f (IsAtSeat firing.cpu firing.place s) is (begun.each s))))
       | inr ne ↦ elim (cases_lt seat next) [
-          | inl earlier ↦ rw (get_set_other now s seat g ne) (at_below seat earlier)
-          | inr le ↦ rw (get_set_other now s seat g ne, rest seat le)
-              (if_some_map (IsAtSeat firing.cpu firing.place seat) (IsAtSeat firing.cpu (firing.place + 1) seat) (slice_get start seat)
-              (at_seat_next firing.cpu firing.place seat) (begun.each seat))
-        ]
+        | inl earlier ↦ rw (get_set_other now s seat g ne) (at_below seat earlier)
+        | inr le ↦ rw (get_set_other now s seat g ne, rest seat le)
+            (if_some_map (IsAtSeat firing.cpu firing.place seat) (IsAtSeat firing.cpu (firing.place + 1) seat) (slice_get start seat)
+            (at_seat_next firing.cpu firing.place seat) (begun.each seat))
+      ]
     ]
 
 -- once all that are named were offered it, what is had at all seats stands below the next place

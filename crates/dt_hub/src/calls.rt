@@ -35,7 +35,10 @@ impl<J: HubSite> Hub<J> {
         let Some(firing) = self.machine.firing(cpu_seat.cpu, cpu_seat.place) else {
             return Fired::End;
         };
-        let Ok(found) = cpu_seat.reader.look_into(&self.machine, firing, &mut cpu_seat.mask) else {
+        let Ok(found) = cpu_seat
+            .reader
+            .look_into(&self.machine, firing, &mut cpu_seat.mask)
+        else {
             return Fired::Refused;
         };
         note_down(&self.facts, &mut cpu_seat.log, &cpu_seat.followers);

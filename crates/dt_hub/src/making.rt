@@ -18,10 +18,7 @@ use std::mem;
 use std::sync::{Mutex, Wait};
 
 /// For each processor no followers yet, with room for one at each seat.
-fn empty_hands<J: HubSite>(
-    alloc: Global,
-    cpus: u32,
-) -> Result<Vec<Vec<Follower<J>>>, AllocError>
+fn empty_hands<J: HubSite>(alloc: Global, cpus: u32) -> Result<Vec<Vec<Follower<J>>>, AllocError>
     ensures { IfOk result (λ hands. AreDealt cpus 0 hands.items) }
 {
     let mut hands = Vec::with_capacity(alloc, cpus as usize)?;

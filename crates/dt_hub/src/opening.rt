@@ -18,7 +18,7 @@ impl<J: HubSite> Hub<J> {
         alloc: Global,
         locked: &mut LockedSeat<J>,
         account: &Account,
-    ) -> Option<Result<Session<J>, AllocError>> 
+    ) -> Option<Result<Session<J>, AllocError>>
         ensures { IfSome result (λ opened. IfOk opened (λ session. (session.account ≡ account.now) × (session.knows ≡ []))) }
     {
         if !locked.is_free() || locked.life() == u64::MAX {
@@ -31,12 +31,7 @@ impl<J: HubSite> Hub<J> {
     /// by [`Hub::close`].
     ///
     /// `Err`, in this order: no such account, or none with a dtrace privilege; no seat is free; there was no memory. Nothing has changed then.
-    pub fn open<R: Wait>(
-        &self,
-        rt: &R,
-        alloc: Global,
-        name: &[u8],
-    ) -> Result<Session<J>, OpenFault>
+    pub fn open<R: Wait>(&self, rt: &R, alloc: Global, name: &[u8]) -> Result<Session<J>, OpenFault>
         ensures session { IfOk result (λ session. MayOpen J.contents.registry name.now session.account
             × (session.knows ≡ [])) }
         ensures privilege { IfErr result (λ fault. (fault ≡ faults.NoPrivilege)

@@ -112,9 +112,18 @@ pub(crate) fn fired<J: HubSite, R: Wait, G: Gate>(
 }
 
 /// The last firing came to this at one seat, and named no other.
-pub(crate) fn only_at<J: HubSite, R: Abort>(rt: &R, token: &CpuSeat<J>, number: u32, came: Offered) {
+pub(crate) fn only_at<J: HubSite, R: Abort>(
+    rt: &R,
+    token: &CpuSeat<J>,
+    number: u32,
+    came: Offered,
+) {
     for other in 0..SEATS as u32 {
-        let expected = if other == number { came } else { Offered::NotNamed };
+        let expected = if other == number {
+            came
+        } else {
+            Offered::NotNamed
+        };
         assert_eq!(rt; at_seat(token, other), expected);
     }
 }

@@ -16,13 +16,20 @@ const FIRING: &str = r#"{"probe":3,"pid":100}"#;
 const FIRINGS: u32 = 40_000;
 
 const HISTORY: &str = r#"{"cmd":"option","name":"histsize","value":65537}"#;
+
 const COUNT: &str = r#"{"cmd":"enable","text":"read:entry{@c=count()}"}"#;
+
 const COUNTED: &str = "{\"count\":1,\"first\":1,\"ok\":true}\n";
+
 const AGG: &str = r#"{"cmd":"agg","name":"c"}"#;
+
 const ROWS: &str =
     "{\"fn\":\"count\",\"name\":\"c\",\"ok\":true,\"rows\":[{\"key\":[],\"value\":65537}]}\n";
+
 const STATUS: &str = r#"{"cmd":"status"}"#;
-const ENDED: &str = "{\"aggdrops\":[0,0],\"cause\":\"history\",\"errors\":[0,0],\"exit\":null,\"ok\":true,\"phase\":\"stopped\",\"seen\":65537}\n";
+
+const ENDED: &str =
+    "{\"aggdrops\":[0,0],\"cause\":\"history\",\"errors\":[0,0],\"exit\":null,\"ok\":true,\"phase\":\"stopped\",\"seen\":65537}\n";
 
 /// A machine whose processors make many firings.
 fn machine(alloc: Global) -> Result<String, Fail> {

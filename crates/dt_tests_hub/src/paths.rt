@@ -16,11 +16,17 @@ pub(crate) const MACHINE: &str = r#"{"cpus":2,
 "scripts":[[{"probe":3,"pid":100}],[{"probe":3,"pid":200}]]}"#;
 
 pub(crate) const ENABLE: &str = r#"{"cmd":"enable","text":"syscall::read:entry{}"}"#;
+
 pub(crate) const ENABLED: &str = "{\"count\":1,\"first\":1,\"ok\":true}\n";
+
 pub(crate) const GO: &str = r#"{"cmd":"go"}"#;
+
 pub(crate) const STOP: &str = r#"{"cmd":"stop"}"#;
+
 pub(crate) const DONE: &str = "{\"ok\":true}\n";
+
 pub(crate) const SNAP: &str = r#"{"cmd":"snap","cpu":0}"#;
+
 pub(crate) const ONE_RECORD: &str =
     "{\"cpu\":0,\"data\":\"00000001\",\"drops\":0,\"filled\":false,\"ok\":true}\n";
 

@@ -9,7 +9,13 @@ use std::sync::Wait;
 use std::test::Fail;
 
 /// Opens sessions on the seats from this one on, looks that no further one is had, and closes them.
-fn opens_from<J: HubSite, R: Wait + Abort>(rt: &R, alloc: Global, hub: &Hub<J>, seat: u32, left: u32) {
+fn opens_from<J: HubSite, R: Wait + Abort>(
+    rt: &R,
+    alloc: Global,
+    hub: &Hub<J>,
+    seat: u32,
+    left: u32,
+) {
     if left == 0 {
         match hub.open(rt, alloc, b"root") {
             Ok(session) => {
