@@ -8,3 +8,5 @@ pub mod Hubs
 pub mod Firings
 pub mod Asking
 pub mod Tellings
+-- The laws of these.
+pub mod laws

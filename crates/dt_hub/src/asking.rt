@@ -32,6 +32,7 @@ impl<J: HubSite> Hub<J> {
         ensures fronts { IsPrefix session.old.published session.new.published }
     {
         let number = session.seat().number();
+        // that this lock's seat has this number is known of no `Vec` of locks: it is looked at, and never differs
         'lock: for _ in rt.forever() {
             let mut locked = self.seats[number as usize].lock(rt);
             if locked.number().number() == number {

@@ -14,6 +14,7 @@ mod fault;
 mod firing;
 mod gate;
 mod hub;
+pub mod laws;
 mod looking;
 mod making;
 mod offered;
@@ -23,7 +24,7 @@ mod telling;
 
 pub use answered::LineAnswer;
 pub use cpu_seat::CpuSeat;
-pub use dt_seat::{HubSite, Receipt, Session};
+pub use dt_seat::{HubSite, KnownItem, Receipt, Session};
 pub use fault::OpenFault;
 pub use firing::Fired;
 pub use gate::{Gate, Moment, NoGate};

@@ -40,6 +40,7 @@ impl<J: HubSite> Hub<J> {
         let cpu = moment.firing.cpu;
         let number = seat.number();
         gate.at(cpu, number, Passing::Before);
+        // that this lock's seat has this number is known of no `Vec` of locks: it is looked at, and never differs
         'lock: for _ in rt.forever() {
             let mut locked = self.seats[number as usize].lock(rt);
             if locked.number().number() == number {

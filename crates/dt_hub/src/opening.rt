@@ -61,6 +61,7 @@ impl<J: HubSite> Hub<J> {
     pub fn close<R: Wait>(&self, rt: &R, session: Session<J>) {
         let seat = session.seat();
         let number = seat.number();
+        // that this lock's seat has this number is known of no `Vec` of locks: it is looked at, and never differs
         'lock: for _ in rt.forever() {
             let mut locked = self.seats[number as usize].lock(rt);
             if locked.number().number() == number {

@@ -1,1 +1,2 @@
--- The tests need no lemmas.
+-- What a closure captures.
+mod Closures

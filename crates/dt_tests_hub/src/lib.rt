@@ -1,4 +1,4 @@
-//! Tests of the hub of `dt_hub`, by its public calls alone: rows in one thread.
+//! Tests of the hub of `dt_hub`, by its public calls alone, in one thread and in several.
 //!
 //! The crate has no function of its own.
 #![tactic(auto)]
@@ -6,10 +6,20 @@
 #[cfg(test)]
 mod calls;
 #[cfg(test)]
+mod crowd;
+#[cfg(test)]
+mod flag;
+#[cfg(test)]
+mod gates;
+#[cfg(test)]
 mod histories;
+#[cfg(test)]
+mod meeting;
 #[cfg(test)]
 mod paths;
 #[cfg(test)]
 mod seats;
 #[cfg(test)]
 mod telling;
+#[cfg(test)]
+mod trail_text;

@@ -7,6 +7,8 @@ use std::alloc::Global;
 use std::process::Abort;
 use std::sync::Wait;
 use std::test::Fail;
+use std::thread::Threads;
+use std::time::Clock;
 
 /// Opens sessions on the seats from this one on, looks that no further one is had, and closes them.
 fn opens_from<J: HubSite, R: Wait + Abort>(
@@ -36,7 +38,7 @@ fn opens_from<J: HubSite, R: Wait + Abort>(
 struct AllSeats;
 
 impl Play for AllSeats {
-    fn play<J: HubSite, R: Wait + Abort>(
+    fn play<J: HubSite + Send + Sync, R: Threads + Wait + Abort + Clock + Sync>(
         &self,
         rt: &R,
         alloc: Global,
@@ -59,7 +61,7 @@ fn there_is_no_seat_for_one_more(rt: HostRuntime) -> Result<(), Fail> {
 struct NoPrivilege;
 
 impl Play for NoPrivilege {
-    fn play<J: HubSite, R: Wait + Abort>(
+    fn play<J: HubSite + Send + Sync, R: Threads + Wait + Abort + Clock + Sync>(
         &self,
         rt: &R,
         alloc: Global,

@@ -1,0 +1,21 @@
+-- Threads may share a hub.
+use denote.RattleType.{RattleType}
+use denote.Param.Send.{IsSync, struct_sync, recorded_sync, sendable}
+use denote.Struct.Declared.{shape}
+use Rattle.std.proofs.Crossing as std
+use Rattle.dt_chain.specs.declared.book.Site as site
+use Rattle.dt_chain.proofs.chain_writer.ChainWriter.TheSendSync as writer
+use Rattle.dt_facts.proofs.word.Facts.TheSendSync as facts
+use Rattle.dt_legal.specs.declared.law.Traced as traced
+use Rattle.dt_machine.proofs.machine.Machine.TheSendSync as machine
+use Rattle.dt_seat.specs.declared.site.HubSite as hub_site
+use Rattle.dt_hub.specs.laws.CrossingSeats.{locked_send}
+use Rattle.dt_hub.specs.contracts.hub.Hub as hub
+use Rattle.dt_hub.specs.contracts.hub.Hub.TheInside as inside
+
+inside_sync : (J : RattleType) (h : hub_site.Ghosts J.Denot) (s : site.Ghosts J.Denot) (t : traced.Ghosts J.Denot) → IsSync (inside.the_row J h s t)
+inside_sync J h s t = recorded_sync (inside.the_field J h s t).row _ _ (inside.the_type J h s t).to_one (struct_sync (shape (inside.the_type J h s t))
+    (search (machine.the_sync, sendable), (search (facts.the_sync, sendable), (search (writer.the_send, std.crosses, sendable), (search (locked_send, std.crosses, sendable), tt)))))
+
+pub hub_sync : (J : RattleType) (h : hub_site.Ghosts J.Denot) (s : site.Ghosts J.Denot) (t : traced.Ghosts J.Denot) → IsSync (hub.the_row J h s t)
+hub_sync J h s t = search (inside_sync, sendable)

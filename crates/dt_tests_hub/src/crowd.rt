@@ -1,0 +1,251 @@
+//! Sessions that come and go and processors that fire, each on a thread of its own.
+use crate::calls::{Play, answered, at_seat, fired, opened, run};
+use crate::trail_text::trail_text;
+use dt_alone::{Verdict, check};
+use dt_hub::{CpuSeat, Fired, Hub, HubSite, NoGate, Offered, Session};
+use dt_machine::Machine;
+use std::alloc::{AllocError, Global};
+use std::process::Abort;
+use std::sync::Wait;
+use std::sync::atomic::{AtomicU64, Ordering};
+use std::test::Fail;
+use std::thread::{self, Threads};
+use std::time::{Clock, Duration};
+
+const HEAD: &str = r#"{"cpus":4,
+"accounts":[{"name":"root","uid":0,"privs":["dtrace_kernel"]},{"name":"ann","uid":501,"privs":["dtrace_user"]}],
+"processes":[{"pid":100,"uid":501,"execname":"sh"},{"pid":200,"uid":0,"execname":"cron"}],
+"probes":["syscall::read:entry","syscall::write:entry"],"scripts":["#;
+
+/// What each processor's script repeats.
+const FIRINGS: &str =
+    r#"{"probe":3,"pid":100},{"probe":4,"pid":200},{"probe":3,"pid":200},{"probe":4,"pid":100}"#;
+
+/// How often.
+const TIMES: u32 = 2_500;
+
+/// A processor sleeps for a millisecond after so many firings.
+const IN_A_ROW: u32 = 8;
+
+/// As many sessions are open at once as there are session threads, on the first seats.
+const SESSIONS: u32 = 4;
+
+/// What a session asks before and while it traces.
+const LINES: [&str; 3] = [
+    r#"{"cmd":"option","name":"bufsize","value":64}"#,
+    r#"{"cmd":"enable","text":"syscall:::entry{@c[execname]=count();trace(pid)}"}"#,
+    r#"{"cmd":"go"}"#,
+];
+
+/// What it asks when it has traced for a while.
+const LAST_LINES: [&str; 4] = [
+    r#"{"cmd":"snap","cpu":0}"#,
+    r#"{"cmd":"stop"}"#,
+    r#"{"cmd":"agg","name":"c"}"#,
+    r#"{"cmd":"status"}"#,
+];
+
+/// A machine of four processors whose scripts are long.
+fn machine(alloc: Global) -> Result<String, Fail> {
+    let mut text = String::new(alloc);
+    text.push_str(HEAD)?;
+    for cpu in 0..4 {
+        text.push_str(if cpu == 0 { "[" } else { ",[" })?;
+        for time in 0..TIMES {
+            text.push_str(if time == 0 { "" } else { "," })?;
+            text.push_str(FIRINGS)?;
+        }
+        text.push_str("]")?;
+    }
+    text.push_str("]}")?;
+    Ok(text)
+}
+
+/// What a thread does.
+#[derive(Drop)]
+enum Work<J: HubSite> {
+    /// Fires a script to its end.
+    Fire(CpuSeat<J>),
+    /// Opens sessions of this account, one after the other, while a processor fires.
+    Trace(&'static str),
+}
+
+/// What a thread has counted.
+#[derive(Clone, Copy, Debug, PartialEq, Eq)]
+enum Count {
+    /// So many firings were kept.
+    Kept(u64),
+    /// So many firings stood on the trails.
+    Seen(u64),
+}
+
+/// What the threads share beside the hub.
+#[derive(Drop)]
+struct Board {
+    /// The machine again, to judge trails on.
+    machine: Machine,
+    /// How many processors still fire.
+    firing: AtomicU64,
+}
+
+/// How many sessions kept a processor's last firing.
+fn kept_by<J: HubSite>(token: &CpuSeat<J>) -> u64 {
+    let mut count = 0u64;
+    for seat in 0..SESSIONS {
+        if at_seat(token, seat) == Offered::Kept {
+            count = count.wrapping_add(1);
+        }
+    }
+    count
+}
+
+/// Fires a script to its end, and counts what was kept.
+fn fires<J: HubSite, R: Wait + Clock>(
+    rt: &R,
+    hub: &Hub<J>,
+    board: &Board,
+    token: CpuSeat<J>,
+) -> u64 {
+    let mut token = token;
+    let mut count = 0u64;
+    for turn in 0..4 * TIMES {
+        if let Fired::At(_) = fired(rt, hub, &mut token, &NoGate) {
+            count = count.wrapping_add(kept_by(&token));
+        }
+        if turn % IN_A_ROW == 0 {
+            thread::sleep(rt, Duration::from_millis(1));
+        }
+    }
+    board.firing.fetch_sub(1, Ordering::SeqCst);
+    count
+}
+
+/// Asks lines, and keeps the replies.
+fn asks<J: HubSite, R: Wait>(
+    rt: &R,
+    alloc: Global,
+    hub: &Hub<J>,
+    session: &mut Session<J>,
+    lines: &[&str],
+    replies: &mut Vec<Vec<u8>>,
+) -> Result<(), AllocError> {
+    for line in lines {
+        let answer = answered(rt, alloc, hub, session, line);
+        replies.push(answer.text().to_vec(alloc)?)?;
+    }
+    Ok(())
+}
+
+/// One session that traces for a while. Its trail is judged, and its firings are counted.
+fn traces<J: HubSite, R: Wait + Abort + Clock>(
+    rt: &R,
+    alloc: Global,
+    hub: &Hub<J>,
+    board: &Board,
+    session: &mut Session<J>,
+    name: &str,
+) -> Result<u64, AllocError> {
+    let mut replies = Vec::new(alloc);
+    asks(rt, alloc, hub, session, &LINES, &mut replies)?;
+    thread::sleep(rt, Duration::from_millis(5));
+    asks(rt, alloc, hub, session, &LAST_LINES, &mut replies)?;
+    hub.seen(session);
+    let (text, firings) = trail_text(alloc, session, name, &replies)?;
+    let verdict = check(alloc, &board.machine, &text);
+    assert_eq!(rt; verdict, Ok(Verdict::Agree(replies.len())));
+    Ok(firings)
+}
+
+/// Opens sessions, one after the other, while a processor fires.
+fn come_and_go<J: HubSite, R: Wait + Abort + Clock>(
+    rt: &R,
+    alloc: Global,
+    hub: &Hub<J>,
+    board: &Board,
+    name: &str,
+) -> u64 {
+    let mut count = 0u64;
+    for _ in rt.forever() {
+        if board.firing.load(Ordering::SeqCst) == 0 {
+            break;
+        }
+        let mut session = opened(rt, alloc, hub, name);
+        let firings = traces(rt, alloc, hub, board, &mut session, name);
+        hub.close(rt, session);
+        match firings {
+            Ok(firings) => count = count.wrapping_add(firings),
+            Err(_) => assert!(rt; false, "out of memory"),
+        }
+    }
+    count
+}
+
+/// Does a thread's work.
+fn does<J: HubSite, R: Wait + Abort + Clock>(
+    rt: &R,
+    alloc: Global,
+    hub: &Hub<J>,
+    board: &Board,
+    work: Work<J>,
+) -> Count {
+    match work {
+        Work::Fire(token) => Count::Kept(fires(rt, hub, board, token)),
+        Work::Trace(name) => Count::Seen(come_and_go(rt, alloc, hub, board, name)),
+    }
+}
+
+/// Does all of them, each on a thread of its own.
+fn all_do<J: HubSite + Send + Sync, R: Threads + Wait + Abort + Clock + Sync>(
+    rt: &R,
+    alloc: Global,
+    hub: &Hub<J>,
+    board: &Board,
+    works: Vec<Work<J>>,
+) -> Result<Vec<Count>, AllocError> {
+    thread::map_vec(rt, works, &|work| does(rt, alloc, hub, board, work))
+}
+
+/// Four processors and four sessions' threads.
+struct Crowd;
+
+impl Play for Crowd {
+    fn play<J: HubSite + Send + Sync, R: Threads + Wait + Abort + Clock + Sync>(
+        &self,
+        rt: &R,
+        alloc: Global,
+        hub: &Hub<J>,
+        tokens: Vec<CpuSeat<J>>,
+    ) -> Result<(), Fail> {
+        let text = machine(alloc)?;
+        let board = Board {
+            machine: Machine::read(alloc, text.as_bytes())?,
+            firing: AtomicU64::new(4),
+        };
+        let mut works = Vec::new(alloc);
+        for token in tokens {
+            works.push(Work::Fire(token))?;
+        }
+        for name in ["root", "ann", "root", "ann"] {
+            works.push(Work::Trace(name))?;
+        }
+        let counts = all_do(rt, alloc, hub, &board, works)?;
+        let mut kept = 0u64;
+        let mut seen = 0u64;
+        for count in &counts {
+            match count {
+                Count::Kept(firings) => kept = kept.wrapping_add(*firings),
+                Count::Seen(firings) => seen = seen.wrapping_add(*firings),
+            }
+        }
+        assert_eq!(rt; kept, seen);
+        assert!(rt; kept > 0, "no firing was kept");
+        Ok(())
+    }
+}
+
+/// Each trail is answered as it is due, and has the firings that the processors were told are kept.
+#[test]
+fn eight_threads_agree(rt: HostRuntime) -> Result<(), Fail> {
+    let machine = machine(rt.alloc())?;
+    run(&rt, rt.alloc(), machine.as_str(), &Crowd)
+}
