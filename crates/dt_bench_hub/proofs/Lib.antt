@@ -1,1 +1,2 @@
--- The program needs no lemmas.
+-- What a closure captures.
+mod Closures

@@ -2,8 +2,8 @@
 //!
 //! `play MACHINE STEPS` plays the lines one after the other, in one thread, and writes the replies as `dtraced replay` does. Lines are `open SEAT ACCOUNT`,
 //! `call SEAT LINE`, `fire CPU` and `close SEAT`; the seats are the first three. `measure MACHINE INTERESTED OTHERS` opens so many sessions that enable the
-//! probe of the scripts, and so many that enable another, and lets the last two processors fire their whole scripts, one after the other. It writes how
-//! many firings were made. With no word the program does nothing.
+//! probe of the scripts, and so many that enable another, and lets the last two processors fire their whole scripts, one after the other, or, with one more
+//! word, at the same time, each on a thread of its own. It writes how many firings were made. With no word the program does nothing.
 #![tactic(auto)]
 
 ghost use Rattle.std.specs.Prelude.{◌≡◌};
@@ -18,6 +18,7 @@ use player::Player;
 use std::alloc::Global;
 use std::marker::Brand;
 use std::sync::Wait;
+use std::thread::Threads;
 use std::{env, fs, io};
 
 /// What is to be done.
@@ -62,6 +63,7 @@ fn asked(rt: &HostRuntime) -> Option<(Vec<u8>, Work)> {
             let scene = Scene {
                 interested: third.parse().ok()?,
                 others: words.get(4)?.as_str().parse().ok()?,
+                is_together: words.get(5).is_some(),
             };
             Some((machine, Work::Measure(scene)))
         }
@@ -70,7 +72,7 @@ fn asked(rt: &HostRuntime) -> Option<(Vec<u8>, Work)> {
 }
 
 /// Makes a hub, does the work on it, and ends it.
-fn staged<J: HubSite, R: Wait>(
+fn staged<J: HubSite + Send + Sync, R: Threads + Wait + Sync>(
     rt: &R,
     alloc: Global,
     parts: HubParts,
@@ -88,7 +90,7 @@ fn staged<J: HubSite, R: Wait>(
         Work::Play { steps } => played(rt, alloc, &hub, &mut tokens, steps),
         Work::Measure(scene) => {
             let left = scene.interested.saturating_add(scene.others);
-            let count = opens(rt, alloc, &hub, &mut tokens, scene.others, left);
+            let count = opens(rt, alloc, &hub, &mut tokens, scene, left);
             counted(alloc, count)
         }
     };

@@ -3,6 +3,7 @@ use dt_hub::{CpuSeat, Fired, Hub, HubSite, NoGate, Session};
 use dt_proto::Asked;
 use std::alloc::Global;
 use std::sync::Wait;
+use std::thread::{Threads, join};
 
 /// What is measured.
 #[derive(Clone, Copy, Debug)]
@@ -11,13 +12,17 @@ pub(crate) struct Scene {
     pub(crate) interested: u64,
     /// How many enable another.
     pub(crate) others: u64,
+    /// Both processors fire at the same time, each on a thread of its own.
+    pub(crate) is_together: bool,
 }
 
-const LINES: [&str; 3] = [
+/// What each session sets, so that it records all firings.
+const OPTIONS: [&str; 2] = [
     r#"{"cmd":"option","name":"histsize","value":1048576}"#,
     r#"{"cmd":"option","name":"bufpolicy","value":"ring"}"#,
-    r#"{"cmd":"enable","text":"syscall::read:entry{trace(arg0)}"}"#,
 ];
+
+const INTERESTED: &str = r#"{"cmd":"enable","text":"syscall::read:entry{trace(arg0)}"}"#;
 
 const OTHER: &str = r#"{"cmd":"enable","text":"fbt:genunix:f1:entry{trace(arg0)}"}"#;
 
@@ -32,14 +37,33 @@ fn fires<J: HubSite, R: Wait>(rt: &R, hub: &Hub<J>, token: &mut CpuSeat<J>) -> u
     0
 }
 
-/// Two processors fire their whole scripts, one after the other.
-fn both_fire<J: HubSite, R: Wait>(rt: &R, hub: &Hub<J>, tokens: &mut Vec<CpuSeat<J>>) -> u64 {
+/// Two processors fire their whole scripts at the same time, each on a thread of its own.
+fn fire_together<J: HubSite + Send + Sync, R: Threads + Wait + Sync>(
+    rt: &R,
+    hub: &Hub<J>,
+    one: &mut CpuSeat<J>,
+    other: &mut CpuSeat<J>,
+) -> u64 {
+    let (first, second) = join(rt, || fires(rt, hub, one), || fires(rt, hub, other));
+    first.wrapping_add(second)
+}
+
+/// Two processors fire their whole scripts, at the same time or one after the other.
+fn both_fire<J: HubSite + Send + Sync, R: Threads + Wait + Sync>(
+    rt: &R,
+    hub: &Hub<J>,
+    tokens: &mut Vec<CpuSeat<J>>,
+    is_together: bool,
+) -> u64 {
     let Some(mut one) = tokens.pop() else {
         return 0;
     };
     let Some(mut other) = tokens.pop() else {
         return fires(rt, hub, &mut one);
     };
+    if is_together {
+        return fire_together(rt, hub, &mut one, &mut other);
+    }
     let first = fires(rt, hub, &mut other);
     first.wrapping_add(fires(rt, hub, &mut one))
 }
@@ -65,33 +89,36 @@ fn traces<J: HubSite, R: Wait>(
     session: &mut Session<J>,
     is_interested: bool,
 ) {
-    if is_interested {
-        for line in LINES {
-            says(rt, alloc, hub, session, line);
-        }
-    } else {
-        says(rt, alloc, hub, session, OTHER);
+    for line in OPTIONS {
+        says(rt, alloc, hub, session, line);
     }
+    says(
+        rt,
+        alloc,
+        hub,
+        session,
+        if is_interested { INTERESTED } else { OTHER },
+    );
     says(rt, alloc, hub, session, r#"{"cmd":"go"}"#);
 }
 
 /// Opens a session that traces, and so on until none is left to open, the others last; then the processors fire. The last closes first.
-pub(crate) fn opens<J: HubSite, R: Wait>(
+pub(crate) fn opens<J: HubSite + Send + Sync, R: Threads + Wait + Sync>(
     rt: &R,
     alloc: Global,
     hub: &Hub<J>,
     tokens: &mut Vec<CpuSeat<J>>,
-    others: u64,
+    scene: &Scene,
     left: u64,
 ) -> u64 {
     if left == 0 {
-        return both_fire(rt, hub, tokens);
+        return both_fire(rt, hub, tokens, scene.is_together);
     }
     let Ok(mut session) = hub.open(rt, alloc, b"root") else {
         return 0;
     };
-    traces(rt, alloc, hub, &mut session, left > others);
-    let count = opens(rt, alloc, hub, tokens, others, left - 1);
+    traces(rt, alloc, hub, &mut session, left > scene.others);
+    let count = opens(rt, alloc, hub, tokens, scene, left - 1);
     hub.close(rt, session);
     count
 }

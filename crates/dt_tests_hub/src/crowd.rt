@@ -9,7 +9,7 @@ use std::process::Abort;
 use std::sync::Wait;
 use std::sync::atomic::{AtomicU64, Ordering};
 use std::test::Fail;
-use std::thread::{self, Threads};
+use std::thread::{self, Threads, join};
 use std::time::{Clock, Duration};
 
 const HEAD: &str = r#"{"cpus":4,
@@ -23,9 +23,6 @@ const FIRINGS: &str =
 
 /// How often.
 const TIMES: u32 = 2_500;
-
-/// A processor sleeps for a millisecond after so many firings.
-const IN_A_ROW: u32 = 8;
 
 /// As many sessions are open at once as there are session threads, on the first seats.
 const SESSIONS: u32 = 4;
@@ -70,13 +67,35 @@ enum Work<J: HubSite> {
     Trace(&'static str),
 }
 
-/// What a thread has counted.
+/// The works of two threads.
+#[derive(Drop)]
+struct Two<J: HubSite> {
+    one: Work<J>,
+    other: Work<J>,
+}
+
+/// The works of four.
+#[derive(Drop)]
+struct Four<J: HubSite> {
+    first: Two<J>,
+    second: Two<J>,
+}
+
+/// What threads have counted: the firings that were kept, as the processors were told, and those that stood on the sessions' trails.
 #[derive(Clone, Copy, Debug, PartialEq, Eq)]
-enum Count {
-    /// So many firings were kept.
-    Kept(u64),
-    /// So many firings stood on the trails.
-    Seen(u64),
+struct Tally {
+    kept: u64,
+    seen: u64,
+}
+
+impl Tally {
+    /// Both together.
+    fn and(self, other: Tally) -> Tally {
+        Tally {
+            kept: self.kept.wrapping_add(other.kept),
+            seen: self.seen.wrapping_add(other.seen),
+        }
+    }
 }
 
 /// What the threads share beside the hub.
@@ -99,7 +118,7 @@ fn kept_by<J: HubSite>(token: &CpuSeat<J>) -> u64 {
     count
 }
 
-/// Fires a script to its end, and counts what was kept.
+/// Fires a script to its end, which takes some ten seconds, and counts what was kept.
 fn fires<J: HubSite, R: Wait + Clock>(
     rt: &R,
     hub: &Hub<J>,
@@ -108,13 +127,11 @@ fn fires<J: HubSite, R: Wait + Clock>(
 ) -> u64 {
     let mut token = token;
     let mut count = 0u64;
-    for turn in 0..4 * TIMES {
+    for _ in 0..4 * TIMES {
         if let Fired::At(_) = fired(rt, hub, &mut token, &NoGate) {
             count = count.wrapping_add(kept_by(&token));
         }
-        if turn % IN_A_ROW == 0 {
-            thread::sleep(rt, Duration::from_millis(1));
-        }
+        thread::sleep(rt, Duration::from_millis(1));
     }
     board.firing.fetch_sub(1, Ordering::SeqCst);
     count
@@ -187,22 +204,86 @@ fn does<J: HubSite, R: Wait + Abort + Clock>(
     hub: &Hub<J>,
     board: &Board,
     work: Work<J>,
-) -> Count {
+) -> Tally {
     match work {
-        Work::Fire(token) => Count::Kept(fires(rt, hub, board, token)),
-        Work::Trace(name) => Count::Seen(come_and_go(rt, alloc, hub, board, name)),
+        Work::Fire(token) => Tally {
+            kept: fires(rt, hub, board, token),
+            seen: 0,
+        },
+        Work::Trace(name) => Tally {
+            kept: 0,
+            seen: come_and_go(rt, alloc, hub, board, name),
+        },
     }
 }
 
-/// Does all of them, each on a thread of its own.
-fn all_do<J: HubSite + Send + Sync, R: Threads + Wait + Abort + Clock + Sync>(
+/// Two works at once.
+fn two_do<J: HubSite + Send + Sync, R: Threads + Wait + Abort + Clock + Sync>(
     rt: &R,
     alloc: Global,
     hub: &Hub<J>,
     board: &Board,
-    works: Vec<Work<J>>,
-) -> Result<Vec<Count>, AllocError> {
-    thread::map_vec(rt, works, &|work| does(rt, alloc, hub, board, work))
+    two: Two<J>,
+) -> Tally {
+    let Two { one, other } = two;
+    let (first, second) = join(
+        rt,
+        move || does(rt, alloc, hub, board, one),
+        move || does(rt, alloc, hub, board, other),
+    );
+    first.and(second)
+}
+
+/// Four works at once.
+fn four_do<J: HubSite + Send + Sync, R: Threads + Wait + Abort + Clock + Sync>(
+    rt: &R,
+    alloc: Global,
+    hub: &Hub<J>,
+    board: &Board,
+    four: Four<J>,
+) -> Tally {
+    let Four { first, second } = four;
+    let (one, other) = join(
+        rt,
+        move || two_do(rt, alloc, hub, board, first),
+        move || two_do(rt, alloc, hub, board, second),
+    );
+    one.and(other)
+}
+
+/// Eight works at once.
+fn eight_do<J: HubSite + Send + Sync, R: Threads + Wait + Abort + Clock + Sync>(
+    rt: &R,
+    alloc: Global,
+    hub: &Hub<J>,
+    board: &Board,
+    processors: Four<J>,
+    sessions: Four<J>,
+) -> Tally {
+    let (one, other) = join(
+        rt,
+        move || four_do(rt, alloc, hub, board, processors),
+        move || four_do(rt, alloc, hub, board, sessions),
+    );
+    one.and(other)
+}
+
+/// Two processors, of those that are left.
+fn two_processors<J: HubSite>(tokens: &mut Vec<CpuSeat<J>>) -> Option<Two<J>> {
+    let one = tokens.pop()?;
+    let other = tokens.pop()?;
+    Some(Two {
+        one: Work::Fire(one),
+        other: Work::Fire(other),
+    })
+}
+
+/// A session thread of each account.
+fn two_accounts<J: HubSite>() -> Two<J> {
+    Two {
+        one: Work::Trace("root"),
+        other: Work::Trace("ann"),
+    }
 }
 
 /// Four processors and four sessions' threads.
@@ -216,29 +297,23 @@ impl Play for Crowd {
         hub: &Hub<J>,
         tokens: Vec<CpuSeat<J>>,
     ) -> Result<(), Fail> {
+        let mut tokens = tokens;
         let text = machine(alloc)?;
         let board = Board {
             machine: Machine::read(alloc, text.as_bytes())?,
             firing: AtomicU64::new(4),
         };
-        let mut works = Vec::new(alloc);
-        for token in tokens {
-            works.push(Work::Fire(token))?;
-        }
-        for name in ["root", "ann", "root", "ann"] {
-            works.push(Work::Trace(name))?;
-        }
-        let counts = all_do(rt, alloc, hub, &board, works)?;
-        let mut kept = 0u64;
-        let mut seen = 0u64;
-        for count in &counts {
-            match count {
-                Count::Kept(firings) => kept = kept.wrapping_add(*firings),
-                Count::Seen(firings) => seen = seen.wrapping_add(*firings),
-            }
-        }
-        assert_eq!(rt; kept, seen);
-        assert!(rt; kept > 0, "no firing was kept");
+        let processors = Four {
+            first: two_processors(&mut tokens).ok_or("no processors")?,
+            second: two_processors(&mut tokens).ok_or("no processors")?,
+        };
+        let sessions = Four {
+            first: two_accounts(),
+            second: two_accounts(),
+        };
+        let tally = eight_do(rt, alloc, hub, &board, processors, sessions);
+        assert_eq!(rt; tally.kept, tally.seen);
+        assert!(rt; tally.kept > 0, "no firing was kept");
         Ok(())
     }
 }
