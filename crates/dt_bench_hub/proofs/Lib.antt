@@ -1,2 +1,1 @@
--- What a closure captures.
-mod Closures
+-- The program needs no lemmas.

@@ -15,7 +15,7 @@ opened row = steps.Opened row
 abbrev pub closed : LifeStep
 closed = steps.Closed
 
--- how many lives are over: they have the numbers below this one. A life opens and closes, and then the next one opens
+-- how many lives are over: they have the numbers below this one. It is half the steps, where who keeps the list adds an opening and a closing in turn
 abbrev pub lives_over : List LifeStep → ℕ
 lives_over steps = length steps / 2
 
@@ -27,7 +27,7 @@ IsRowOfLife life row steps = slice_get steps (2 * life) ≡ Some (opened row)
 abbrev pub IsOpenAs : ℕ → Named Account → List LifeStep → Type 0
 IsOpenAs life row steps = (length steps ≡ 2 * life + 1) × IsRowOfLife life row steps
 
--- this many lives opened, and all of them closed
+-- the list has an opening and a closing of each of this many lives, where they were added in turn
 abbrev pub AreClosed : ℕ → List LifeStep → Type 0
 AreClosed lives steps = length steps ≡ 2 * lives
 

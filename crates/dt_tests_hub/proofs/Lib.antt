@@ -1,2 +1,1 @@
--- What a closure captures.
-mod Closures
+-- The tests need no lemmas.

@@ -10,12 +10,10 @@ use std::marker::Brand;
 use std::process::Abort;
 use std::sync::Wait;
 use std::test::Fail;
-use std::thread::Threads;
-use std::time::Clock;
 
 /// What a test does with a hub, and with the tokens of its processors.
 pub(crate) trait Play {
-    fn play<J: HubSite + Send + Sync, R: Threads + Wait + Abort + Clock + Sync>(
+    fn play<J: HubSite, R: Wait + Abort>(
         &self,
         rt: &R,
         alloc: Global,
@@ -25,7 +23,7 @@ pub(crate) trait Play {
 }
 
 /// Plays on a new hub of a machine, whose text this is.
-pub(crate) fn run<R: Threads + Wait + Abort + Clock + Sync, P: Play>(
+pub(crate) fn run<R: Wait + Abort, P: Play>(
     rt: &R,
     alloc: Global,
     machine: &str,
@@ -36,7 +34,7 @@ pub(crate) fn run<R: Threads + Wait + Abort + Clock + Sync, P: Play>(
     staged::<Brand, R, P>(rt, alloc, parts, play)
 }
 
-fn staged<J: HubSite + Send + Sync, R: Threads + Wait + Abort + Clock + Sync, P: Play>(
+fn staged<J: HubSite, R: Wait + Abort, P: Play>(
     rt: &R,
     alloc: Global,
     parts: HubParts,

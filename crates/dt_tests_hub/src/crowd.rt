@@ -1,5 +1,6 @@
 //! Sessions that come and go and processors that fire, each on a thread of its own.
-use crate::calls::{Play, answered, at_seat, fired, opened, run};
+use crate::calls::{answered, at_seat, fired, opened};
+use crate::scenes::{Scene, run};
 use crate::trail_text::trail_text;
 use dt_alone::{Verdict, check};
 use dt_hub::{CpuSeat, Fired, Hub, HubSite, NoGate, Offered, Session};
@@ -287,40 +288,35 @@ fn two_accounts<J: HubSite>() -> Two<J> {
 }
 
 /// Four processors and four sessions' threads.
-struct Crowd;
-
-impl Play for Crowd {
-    fn play<J: HubSite + Send + Sync, R: Threads + Wait + Abort + Clock + Sync>(
-        &self,
-        rt: &R,
-        alloc: Global,
-        hub: &Hub<J>,
-        tokens: Vec<CpuSeat<J>>,
-    ) -> Result<(), Fail> {
-        let mut tokens = tokens;
-        let text = machine(alloc)?;
-        let board = Board {
-            machine: Machine::read(alloc, text.as_bytes())?,
-            firing: AtomicU64::new(4),
-        };
-        let processors = Four {
-            first: two_processors(&mut tokens).ok_or("no processors")?,
-            second: two_processors(&mut tokens).ok_or("no processors")?,
-        };
-        let sessions = Four {
-            first: two_accounts(),
-            second: two_accounts(),
-        };
-        let tally = eight_do(rt, alloc, hub, &board, processors, sessions);
-        assert_eq!(rt; tally.kept, tally.seen);
-        assert!(rt; tally.kept > 0, "no firing was kept");
-        Ok(())
-    }
+pub(crate) fn plays<J: HubSite + Send + Sync, R: Threads + Wait + Abort + Clock + Sync>(
+    rt: &R,
+    alloc: Global,
+    hub: &Hub<J>,
+    tokens: Vec<CpuSeat<J>>,
+) -> Result<(), Fail> {
+    let mut tokens = tokens;
+    let text = machine(alloc)?;
+    let board = Board {
+        machine: Machine::read(alloc, text.as_bytes())?,
+        firing: AtomicU64::new(4),
+    };
+    let processors = Four {
+        first: two_processors(&mut tokens).ok_or("no processors")?,
+        second: two_processors(&mut tokens).ok_or("no processors")?,
+    };
+    let sessions = Four {
+        first: two_accounts(),
+        second: two_accounts(),
+    };
+    let tally = eight_do(rt, alloc, hub, &board, processors, sessions);
+    assert_eq!(rt; tally.kept, tally.seen);
+    assert!(rt; tally.kept > 0, "no firing was kept");
+    Ok(())
 }
 
 /// Each trail is answered as it is due, and has the firings that the processors were told are kept.
 #[test]
 fn eight_threads_agree(rt: HostRuntime) -> Result<(), Fail> {
     let machine = machine(rt.alloc())?;
-    run(&rt, rt.alloc(), machine.as_str(), &Crowd)
+    run(&rt, rt.alloc(), machine.as_str(), Scene::Crowd)
 }

@@ -1,7 +1,8 @@
 //! A processor that is held at the gate of a seat, while the session there goes on.
-use crate::calls::{Play, at_seat, fired, opened, run, says};
+use crate::calls::{at_seat, fired, opened, says};
 use crate::flag::Flag;
 use crate::paths::{DONE, ENABLE, ENABLED, GO, MACHINE, STOP};
+use crate::scenes::{Scene, run};
 use dt_hub::{CpuSeat, Fired, Gate, Hub, HubSite, Looked, Moment, Offered, Session};
 use std::alloc::Global;
 use std::process::Abort;
@@ -49,7 +50,7 @@ impl<R: Clock + Abort> Gate for Hold<'_, R> {
 
 /// What happens on the thread of a session, while a firing of processor 0 is held.
 #[derive(Clone, Copy)]
-enum Meanwhile {
+pub(crate) enum Meanwhile {
     /// Tracing stops.
     Stops,
     /// The session closes.
@@ -186,40 +187,39 @@ fn beside<J: HubSite + Send + Sync, R: Threads + Wait + Abort + Clock + Sync>(
     came
 }
 
-impl Play for Meanwhile {
-    fn play<J: HubSite + Send + Sync, R: Threads + Wait + Abort + Clock + Sync>(
-        &self,
-        rt: &R,
-        alloc: Global,
-        hub: &Hub<J>,
-        tokens: Vec<CpuSeat<J>>,
-    ) -> Result<(), Fail> {
-        let mut tokens = tokens;
-        let mut other = tokens.pop().ok_or("no processor")?;
-        let mut one = tokens.pop().ok_or("no processor")?;
-        let hold = Hold::new(rt, self.moment());
-        let came = beside(rt, alloc, hub, &mut one, &mut other, &hold, *self);
-        assert_eq!(rt; came, Fired::At(0));
-        assert_eq!(rt; at_seat(&one, 0), self.comes_to());
-        Ok(())
-    }
+/// Processor 0 fires, and is held while this happens.
+pub(crate) fn plays<J: HubSite + Send + Sync, R: Threads + Wait + Abort + Clock + Sync>(
+    rt: &R,
+    alloc: Global,
+    hub: &Hub<J>,
+    tokens: Vec<CpuSeat<J>>,
+    meanwhile: Meanwhile,
+) -> Result<(), Fail> {
+    let mut tokens = tokens;
+    let mut other = tokens.pop().ok_or("no processor")?;
+    let mut one = tokens.pop().ok_or("no processor")?;
+    let hold = Hold::new(rt, meanwhile.moment());
+    let came = beside(rt, alloc, hub, &mut one, &mut other, &hold, meanwhile);
+    assert_eq!(rt; came, Fired::At(0));
+    assert_eq!(rt; at_seat(&one, 0), meanwhile.comes_to());
+    Ok(())
 }
 
 /// What had stopped when the lock was taken doesn't see the firing, and the processor knows of the stop.
 #[test]
 fn a_stop_before_the_lock_is_known(rt: HostRuntime) -> Result<(), Fail> {
-    run(&rt, rt.alloc(), MACHINE, &Meanwhile::Stops)
+    run(&rt, rt.alloc(), MACHINE, Scene::Held(Meanwhile::Stops))
 }
 
 /// A life that is over when the lock is taken gets nothing, and neither does the next on that seat.
 #[test]
 fn a_life_that_is_over_is_gone(rt: HostRuntime) -> Result<(), Fail> {
-    run(&rt, rt.alloc(), MACHINE, &Meanwhile::Closes)?;
-    run(&rt, rt.alloc(), MACHINE, &Meanwhile::Changes)
+    run(&rt, rt.alloc(), MACHINE, Scene::Held(Meanwhile::Closes))?;
+    run(&rt, rt.alloc(), MACHINE, Scene::Held(Meanwhile::Changes))
 }
 
 /// Beside a lock that is held, looks, tellings and what a session sees wait for nobody.
 #[test]
 fn nobody_waits_for_the_lock_of_a_firing(rt: HostRuntime) -> Result<(), Fail> {
-    run(&rt, rt.alloc(), MACHINE, &Meanwhile::LooksOn)
+    run(&rt, rt.alloc(), MACHINE, Scene::Held(Meanwhile::LooksOn))
 }

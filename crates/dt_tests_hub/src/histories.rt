@@ -6,8 +6,6 @@ use std::alloc::Global;
 use std::process::Abort;
 use std::sync::Wait;
 use std::test::Fail;
-use std::thread::Threads;
-use std::time::Clock;
 
 const HEAD: &str = r#"{"cpus":2,"accounts":[{"name":"root","uid":0,"privs":["dtrace_kernel"]}],
 "processes":[{"pid":100,"uid":501,"execname":"sh"}],"probes":["syscall::read:entry"],"scripts":["#;
@@ -72,7 +70,7 @@ fn fires_all<J: HubSite, R: Wait>(
 struct LongHistory;
 
 impl Play for LongHistory {
-    fn play<J: HubSite + Send + Sync, R: Threads + Wait + Abort + Clock + Sync>(
+    fn play<J: HubSite, R: Wait + Abort>(
         &self,
         rt: &R,
         alloc: Global,

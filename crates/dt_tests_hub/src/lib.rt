@@ -18,6 +18,8 @@ mod meeting;
 #[cfg(test)]
 mod paths;
 #[cfg(test)]
+mod scenes;
+#[cfg(test)]
 mod seats;
 #[cfg(test)]
 mod telling;

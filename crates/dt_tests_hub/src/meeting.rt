@@ -1,7 +1,8 @@
 //! Two processors that really run at once.
-use crate::calls::{Play, at_seat, fired, opened, run, says};
+use crate::calls::{at_seat, fired, opened, says};
 use crate::flag::Flag;
 use crate::paths::{DONE, ENABLE, ENABLED, GO};
+use crate::scenes::{Scene, run};
 use dt_hub::{CpuSeat, Fired, Gate, Hub, HubSite, Moment, Offered};
 use std::alloc::Global;
 use std::process::Abort;
@@ -57,41 +58,36 @@ fn both_fire<J: HubSite + Send + Sync, R: Threads + Wait + Abort + Clock + Sync>
 }
 
 /// Two sessions, and two processors on threads of their own, each of which fires for one of them.
-struct Meet;
-
-impl Play for Meet {
-    fn play<J: HubSite + Send + Sync, R: Threads + Wait + Abort + Clock + Sync>(
-        &self,
-        rt: &R,
-        alloc: Global,
-        hub: &Hub<J>,
-        tokens: Vec<CpuSeat<J>>,
-    ) -> Result<(), Fail> {
-        let mut tokens = tokens;
-        let mut other = tokens.pop().ok_or("no processor")?;
-        let mut one = tokens.pop().ok_or("no processor")?;
-        let mut first = opened(rt, alloc, hub, "root");
-        says(rt, alloc, hub, &mut first, ENABLE, ENABLED);
-        says(rt, alloc, hub, &mut first, GO, DONE);
-        let mut second = opened(rt, alloc, hub, "root");
-        says(rt, alloc, hub, &mut second, ENABLE_WRITES, ENABLED);
-        says(rt, alloc, hub, &mut second, GO, DONE);
-        let gate = Meeting {
-            rt,
-            locked: Flag::new(),
-            passed: Flag::new(),
-        };
-        let came = both_fire(rt, hub, &mut one, &mut other, &gate);
-        assert_eq!(rt; came, (Fired::At(0), Fired::At(0)));
-        assert_eq!(rt; at_seat(&one, 0), Offered::Kept);
-        assert_eq!(rt; at_seat(&other, 1), Offered::Kept);
-        hub.close(rt, first);
-        hub.close(rt, second);
-        Ok(())
-    }
+pub(crate) fn plays<J: HubSite + Send + Sync, R: Threads + Wait + Abort + Clock + Sync>(
+    rt: &R,
+    alloc: Global,
+    hub: &Hub<J>,
+    tokens: Vec<CpuSeat<J>>,
+) -> Result<(), Fail> {
+    let mut tokens = tokens;
+    let mut other = tokens.pop().ok_or("no processor")?;
+    let mut one = tokens.pop().ok_or("no processor")?;
+    let mut first = opened(rt, alloc, hub, "root");
+    says(rt, alloc, hub, &mut first, ENABLE, ENABLED);
+    says(rt, alloc, hub, &mut first, GO, DONE);
+    let mut second = opened(rt, alloc, hub, "root");
+    says(rt, alloc, hub, &mut second, ENABLE_WRITES, ENABLED);
+    says(rt, alloc, hub, &mut second, GO, DONE);
+    let gate = Meeting {
+        rt,
+        locked: Flag::new(),
+        passed: Flag::new(),
+    };
+    let came = both_fire(rt, hub, &mut one, &mut other, &gate);
+    assert_eq!(rt; came, (Fired::At(0), Fired::At(0)));
+    assert_eq!(rt; at_seat(&one, 0), Offered::Kept);
+    assert_eq!(rt; at_seat(&other, 1), Offered::Kept);
+    hub.close(rt, first);
+    hub.close(rt, second);
+    Ok(())
 }
 
 #[test]
 fn two_processors_meet_at_the_gate(rt: HostRuntime) -> Result<(), Fail> {
-    run(&rt, rt.alloc(), MACHINE, &Meet)
+    run(&rt, rt.alloc(), MACHINE, Scene::Meeting)
 }

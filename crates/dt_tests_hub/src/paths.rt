@@ -6,8 +6,6 @@ use std::alloc::Global;
 use std::process::Abort;
 use std::sync::Wait;
 use std::test::Fail;
-use std::thread::Threads;
-use std::time::Clock;
 
 /// One system call is made, by a shell.
 pub(crate) const MACHINE: &str = r#"{"cpus":2,
@@ -36,7 +34,7 @@ pub(crate) const ONE_RECORD: &str =
 struct FirstPath;
 
 impl Play for FirstPath {
-    fn play<J: HubSite + Send + Sync, R: Threads + Wait + Abort + Clock + Sync>(
+    fn play<J: HubSite, R: Wait + Abort>(
         &self,
         rt: &R,
         alloc: Global,
@@ -84,7 +82,7 @@ fn looks<J: HubSite, R: Abort>(rt: &R, hub: &Hub<J>, token: &mut CpuSeat<J>, lif
 struct LooksFirst;
 
 impl Play for LooksFirst {
-    fn play<J: HubSite + Send + Sync, R: Threads + Wait + Abort + Clock + Sync>(
+    fn play<J: HubSite, R: Wait + Abort>(
         &self,
         rt: &R,
         alloc: Global,

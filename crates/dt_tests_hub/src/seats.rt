@@ -7,8 +7,6 @@ use std::alloc::Global;
 use std::process::Abort;
 use std::sync::Wait;
 use std::test::Fail;
-use std::thread::Threads;
-use std::time::Clock;
 
 /// Opens sessions on the seats from this one on, looks that no further one is had, and closes them.
 fn opens_from<J: HubSite, R: Wait + Abort>(
@@ -38,7 +36,7 @@ fn opens_from<J: HubSite, R: Wait + Abort>(
 struct AllSeats;
 
 impl Play for AllSeats {
-    fn play<J: HubSite + Send + Sync, R: Threads + Wait + Abort + Clock + Sync>(
+    fn play<J: HubSite, R: Wait + Abort>(
         &self,
         rt: &R,
         alloc: Global,
@@ -61,7 +59,7 @@ fn there_is_no_seat_for_one_more(rt: HostRuntime) -> Result<(), Fail> {
 struct NoPrivilege;
 
 impl Play for NoPrivilege {
-    fn play<J: HubSite + Send + Sync, R: Threads + Wait + Abort + Clock + Sync>(
+    fn play<J: HubSite, R: Wait + Abort>(
         &self,
         rt: &R,
         alloc: Global,

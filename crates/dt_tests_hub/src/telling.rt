@@ -6,14 +6,12 @@ use std::alloc::Global;
 use std::process::Abort;
 use std::sync::Wait;
 use std::test::Fail;
-use std::thread::Threads;
-use std::time::Clock;
 
 /// A processor that was told of a session keeps its firing there.
 struct Told;
 
 impl Play for Told {
-    fn play<J: HubSite + Send + Sync, R: Threads + Wait + Abort + Clock + Sync>(
+    fn play<J: HubSite, R: Wait + Abort>(
         &self,
         rt: &R,
         alloc: Global,

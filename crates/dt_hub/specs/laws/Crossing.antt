@@ -1,7 +1,14 @@
--- Threads may share a hub.
+-- Threads may share a hub, and a closure may go to a thread where all may that it captures.
 use denote.RattleType.{RattleType}
-use denote.Param.Send.{IsSync, struct_sync, recorded_sync, sendable}
+use denote.Exit.{Kept}
+use denote.Param.{arg, param}
+use denote.Param.Send.{AllSend, IsSend, IsSync, arg_send, param_send, recorded_send, recorded_sync, sendable, struct_send, struct_sync}
 use denote.Struct.Declared.{shape}
+use denote.Struct.Struct.{Struct}
+use denote.Struct.Tuple.{TupleAt, type_at}
+use mathlib.Core.List.{List}
+use mir.Syntax.{Ty}
+use Prim.Native.Nat.{ℕ}
 use Rattle.std.proofs.Crossing as std
 use Rattle.dt_chain.specs.declared.book.Site as site
 use Rattle.dt_chain.proofs.chain_writer.ChainWriter.TheSendSync as writer
@@ -19,3 +26,9 @@ inside_sync J h s t = recorded_sync (inside.the_field J h s t).row _ _ (inside.t
 
 pub hub_sync : (J : RattleType) (h : hub_site.Ghosts J.Denot) (s : site.Ghosts J.Denot) (t : traced.Ghosts J.Denot) → IsSync (hub.the_row J h s t)
 hub_sync J h s t = search (inside_sync, sendable)
+
+-- what a closure captures, one after the other, by the name of the closure's type
+pub captured_send : (i : ℕ) (δ : Ty) (k : Kept) (name : List ℕ) (Ts : List RattleType) → AllSend (shape (type_at name Ts)).fields
+    → IsSend (param i (arg δ k (TupleAt name Ts)))
+captured_send i δ k name Ts all = param_send i _ (arg_send δ k _
+    (recorded_send (Struct (shape (type_at name Ts))) _ _ (type_at name Ts).to_one (struct_send (shape (type_at name Ts)) all)))

@@ -7,8 +7,7 @@ use mathlib.Core.List.{[], ◌∷◌}
 use Rattle.dt_hub.proofs.cpu_seat.CpuSeat.TheSendSync as cpu_seat_crossing
 use Rattle.dt_hub.specs.contracts.cpu_seat.CpuSeat as cpu_seat
 use Rattle.dt_hub.specs.contracts.hub.Hub as hub
-use Rattle.dt_hub.specs.laws.Crossing.{hub_sync}
-use Rattle.dt_bench_hub.proofs.Closures.{captured_send}
+use Rattle.dt_hub.specs.laws.Crossing.{captured_send, hub_sync}
 use Rattle.dt_bench_hub.proofs.measuring.fire_together.Goals as goal
 
 pub join-first-requires-send-F : goal.join-first-requires-send-F

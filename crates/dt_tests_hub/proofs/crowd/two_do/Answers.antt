@@ -5,17 +5,16 @@ use denote.Param.Send.{IsSend, IsSync, sendable, shr_send}
 use denote.Ref.{ShrRef}
 use mathlib.Core.List.{[], ◌∷◌}
 use Rattle.dt_hub.specs.contracts.hub.Hub as hub
-use Rattle.dt_hub.specs.laws.Crossing.{hub_sync}
+use Rattle.dt_hub.specs.laws.Crossing.{captured_send, hub_sync}
 use Rattle.std.proofs.Crossing as std
 use Rattle.std.specs.contracts.alloc.Global as global
-use Rattle.dt_tests_hub.proofs.Closures.{captured_send}
 use Rattle.dt_tests_hub.proofs.crowd.Board.TheSendSync as board_crossing
 use Rattle.dt_tests_hub.proofs.crowd.Work.TheSendSync as work_crossing
 use Rattle.dt_tests_hub.proofs.crowd.two_do.Goals as goal
 use Rattle.dt_tests_hub.specs.contracts.crowd.Board as board
 use Rattle.dt_tests_hub.specs.contracts.crowd.Work as work
 
-pub join-requires-send-F : goal.join-first-requires-send-F
+pub join-requires-send-F : goal.join-requires-send-F
 join-requires-send-F g c κs within =
     let J = param 0 g.row.J in
     let work_row = work.the_row J g.J.HubSite g.J.Site g.J.Traced in
