@@ -8,7 +8,7 @@ import random
 from running import FIRINGS_MAX, HISTORY_MAX, LINES_MAX, call, fired, judge, machine, run, text_of
 
 CPUS = 4
-SESSIONS = 1_200
+SESSIONS = 1_800
 CHANGED = 150
 
 
