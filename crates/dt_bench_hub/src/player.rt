@@ -1,5 +1,5 @@
 //! Sessions on the first seats, which step lines play.
-use dt_hub::{CpuSeat, Hub, HubSite, NoGate, Session};
+use dt_hub::{CpuSeat, Hub, HubSite, LineAnswer, NoGate, Session};
 use dt_proto::Asked;
 use std::alloc::Global;
 use std::sync::Wait;
@@ -19,7 +19,7 @@ fn close<J: HubSite, R: Wait>(rt: &R, hub: &Hub<J>, session: Option<Session<J>>)
     }
 }
 
-/// What a session is answered to a line, after its seat's number. A `close` closes it, too, once it was answered.
+/// What a session is answered to a line, after its seat's number. An accepted `close` closes it, too, once it was answered.
 fn called<J: HubSite, R: Wait>(
     rt: &R,
     alloc: Global,
@@ -36,7 +36,7 @@ fn called<J: HubSite, R: Wait>(
     let mut text = number.as_bytes().to_vec(alloc).ok()?;
     text.push(b' ').ok()?;
     text.extend_from_slice(answer.text()).ok()?;
-    if line == r#"{"cmd": "close"}"# {
+    if matches!(answer, LineAnswer::Closed(_)) {
         close(rt, hub, session.take());
     }
     Some(text)

@@ -7,6 +7,7 @@ ghost use Rattle.dt_ecb.specs.Enable.{IsFirstSuch, EnableVerdict, is_unmatched};
 ghost use Rattle.dt_ecb.specs.Forms.{verdict_of};
 ghost use Rattle.dt_ecb.specs.Places.{keys_at, keys_from, kept_from, kept_in};
 
+use crate::description_matcher::DescriptionMatcher;
 use crate::fault::EnableFault;
 use crate::limits::ECBS_MAX;
 use crate::matches::is_matched;
@@ -38,7 +39,7 @@ pub(crate) fn ecbs_of(
     let mut ecbs = Vec::new(alloc);
     for (place, clause) in program.clauses.iter().enumerate() {
         let before = ecbs.len();
-        push_matched(&mut ecbs, account, machine, clause, place, next_epid)?;
+        push_matched(alloc, &mut ecbs, account, machine, clause, place, next_epid)?;
         if ecbs.len() == before {
             return Err(EnableFault::NoMatch {
                 clause: place as u32 + 1,
@@ -50,6 +51,7 @@ pub(crate) fn ecbs_of(
 
 /// Adds an ECB for each probe that a clause at this place takes effect on, by rising identifier.
 fn push_matched(
+    alloc: Global,
     ecbs: &mut Vec<Ecb>,
     account: &Account,
     machine: &Machine,
@@ -63,8 +65,9 @@ fn push_matched(
         (keys_at account.now machine.now.registry place (form_of_clause clause.now))) }
     ensures few { OnOk result (vec_len ecbs.new ≤ vec_len ecbs.old + PROBE_ID_MAX) }
 {
+    let descriptions = DescriptionMatcher::of_each(alloc, &clause.descriptions)?;
     for probe in machine.probes() {
-        if is_matched(account, machine, clause, probe) {
+        if is_matched(account, machine, &descriptions, probe) {
             let epid = first_epid + ecbs.len() as u32;
             ecbs.push(Ecb {
                 epid,

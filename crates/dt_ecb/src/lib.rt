@@ -7,6 +7,7 @@
 #![tactic(auto)]
 
 mod clashes;
+mod description_matcher;
 mod ecbs;
 mod enabling;
 mod fault;

@@ -1,5 +1,6 @@
 -- The lemmas of this crate's proofs.
 
 pub mod MatchLemmas
+pub mod ReadyLemmas
 pub mod TestLemmas
 pub mod TokenLemmas

@@ -1,8 +1,8 @@
 -- The tests of specs/Test.antt say what the relations say.
-use Rattle.std.proofs.Common.{◌≡◌, ◌≢◌, ℕ, ◌≤◌, ◌&&◌, ◌||◌, inl, inr, true, false, List, [], ◌∷◌, refl, nat_le}
+use Rattle.std.proofs.Common.{◌≡◌, ◌≢◌, ℕ, ◌≤◌, ◌↔◌, ◌&&◌, ◌||◌, inl, inr, IsTrue, Bool, true, false, List, [], ◌∷◌, refl, nat_le}
 use Rattle.std.specs.Bool.{Decides}
 use Rattle.std.proofs.lemmas.Bool.{false≢true, leb-true, le-leb}
-use Rattle.std.proofs.lemmas.Bool.Decides.{Decides-eqb, Decides-and, Decides-or, Decides-not, Decides-like}
+use Rattle.std.proofs.lemmas.Bool.Decides.{Decides-eqb, Decides-and, Decides-or, Decides-not, Decides-like, same_from_decides}
 use Rattle.dt_glob.specs.declared.element.Element.{Element}
 use Rattle.dt_glob.specs.declared.element.Element.TheVariants.{Single, Range}
 use Rattle.dt_glob.specs.PatternItem.{PatternItem, Star, AnyByte, Literal, OneOf, Holds, HoldsAny, Takes}
@@ -68,3 +68,7 @@ Decides-is_match (Star ∷ items) (byte ∷ rest) =
 Decides-is_match (item ∷ items) [] = Decides-at_end item items (λ e. cc)
 Decides-is_match (item ∷ items) (byte ∷ rest) =
     Decides-first item items byte rest (λ e. cc) (Decides-is_match items rest)
+
+pub takes_from_cases : (item : PatternItem) (byte : ℕ) (found : Bool) → (IsTrue found ↔ Takes item byte)
+    → takes item byte ≡ found
+takes_from_cases item byte found same = same_from_decides (takes item byte) found (Decides-takes item byte) same

@@ -12,6 +12,6 @@ pub mod Reading
 -- Private to the proofs: no promise names them.
 pub mod Place
 pub mod Token
-pub mod Run
+pub mod Ready
 -- The laws of these.
 pub mod laws

@@ -9,8 +9,8 @@ ghost use Rattle.dt_glob.specs.Spells.{Spells};
 ghost use Rattle.dt_glob.specs.Fault.{FaultOf};
 
 use crate::fault::GlobFault;
+use crate::matcher::Matcher;
 use crate::place::PatternPlace;
-use crate::run::Run;
 use crate::sign::PatternSign;
 use arrayvec::ArrayVec;
 use std::marker::Model;
@@ -66,13 +66,12 @@ impl Pattern {
         Ok(Pattern { text })
     }
 
-    /// Whether the pattern matches the whole text. The time is at most proportional to the pattern's length times the
-    /// length of both together, however many stars there are.
+    /// Whether the pattern matches the whole text. For many texts make the pattern ready once, with [`Matcher::of`].
     pub fn matches(&self, text: &[u8]) -> bool
         ensures matches { IsTrue result ↔ Matches self.now text.now }
         ensures test { result ≡ is_match self.now text.now }
     {
-        matches_text(self.text.as_slice(), text)
+        Matcher::of(self).matches(text)
     }
 
     /// Whether this is the pattern of the empty text, which matches the empty text alone. Where an empty pattern is to
@@ -81,6 +80,14 @@ impl Pattern {
         ensures { IsTrue result ↔ (self.now ≡ []) }
     {
         self.text.is_empty()
+    }
+
+    /// The text that the pattern was read from.
+    pub(crate) fn text(&self) -> &[u8]
+        ensures spells { Spells result.now self.now }
+        ensures few { length result.now ≤ PATTERN_MAX }
+    {
+        self.text.as_slice()
     }
 }
 
@@ -102,40 +109,6 @@ fn check(text: &[u8]) -> Result<(), GlobFault>
     match place {
         PatternPlace::Outside => Ok(()),
         _ => Err(GlobFault::Unclosed),
-    }
-}
-
-/// Whether a pattern's text matches a text. A star takes as little as the items up to the next star allow: each of
-/// those takes one byte, so where they fit later, they fit here and leave more to what follows.
-fn matches_text(pattern: &[u8], text: &[u8]) -> bool
-    requires { (items : List PatternItem) × Spells pattern.now items }
-    ensures { (items : List PatternItem) → Spells pattern.now items →
-        (IsTrue result ↔ Matches items text.now) }
-{
-    let mut unread = pattern;
-    let mut left = text;
-    let mut behind_star = false;
-    loop {
-        match Run::of(unread, left) {
-            // no star is left, and the items have taken the text to its end
-            Run::Matched => return true,
-            Run::Star { behind, rest } => {
-                behind_star = true;
-                unread = behind;
-                left = rest;
-            }
-            Run::Failed => {
-                // before the first star there is one way only to lay the items on the text, and it failed
-                if !behind_star {
-                    return false;
-                }
-                // the star has taken all that was left, and what comes after it still doesn't fit
-                let Some((_, rest)) = left.split_first() else {
-                    return false;
-                };
-                left = rest;
-            }
-        }
     }
 }
 

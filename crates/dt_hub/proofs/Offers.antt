@@ -4,7 +4,7 @@ use Rattle.std.proofs.lemmas.Bool.{cases_eq, cases_lt}
 use Rattle.std.specs.List.{slice_get, slice_set}
 use Rattle.std.specs.Option.{IfSome, is_some}
 use Rattle.dt_chain.specs.Seats.{has, life_at}
-use Rattle.dt_chain.specs.declared.seat.TheConstants.{SEATS}
+use Rattle.dt_chain.specs.Limits.{seat_count}
 use Rattle.dt_chain.specs.declared.seat_mask.SeatMask.{SeatMask}
 use Rattle.dt_chain.specs.declared.seat_set.SeatSet.{SeatSet}
 use Rattle.dt_cred.specs.declared.firing.Firing.{Firing}
@@ -44,7 +44,7 @@ there_at (y ∷ xs) zero h = (y, refl)
 there_at (y ∷ xs) (suc i) h = there_at xs i (omega arith)
 
 module _ (contents : Contents) (firing : Firing) (mask : SeatMask) (start : List Followed) (held : List Held) (now : List Followed) (left new : SeatSet)
-    (next s : ℕ) (many : length now ≡ SEATS) (many_held : length held ≡ SEATS) (small : s < SEATS)
+    (next s : ℕ) (many : length now ≡ seat_count) (many_held : length held ≡ seat_count) (small : s < seat_count)
     (begun : AreAtSeats firing.cpu firing.place start)
     (left_below : (seat : ℕ) → seat < next → has left seat ≡ false)
     (left_from : (seat : ℕ) → next ≤ seat → has left seat ≡ is_some (life_at mask seat))
@@ -136,7 +136,7 @@ module _ (contents : Contents) (firing : Firing) (mask : SeatMask) (start : List
     ]
 
 -- once all that are named were offered it, what is had at all seats stands below the next place
-pub all_at_next : (cpu place next : ℕ) (start now : List Followed) → length now ≡ SEATS → AreAtSeats cpu place start
+pub all_at_next : (cpu place next : ℕ) (start now : List Followed) → length now ≡ seat_count → AreAtSeats cpu place start
     → ((seat : ℕ) → next ≤ seat → slice_get now seat ≡ slice_get start seat)
     → ((seat : ℕ) → seat < next → IfSome (slice_get now seat) (IsAtSeat cpu (place + 1) seat))
     → AreAtSeats cpu (place + 1) now

@@ -1,12 +1,12 @@
 -- A hub of seats, and what a processor has there.
 
--- What is promised, and what the types keep.
-
-pub mod Names
-pub mod Processors
+-- What is promised.
 pub mod Hubs
 pub mod Firings
 pub mod Asking
 pub mod Tellings
+pub mod Processors
 -- The laws of these.
 pub mod laws
+-- Private to the proofs: the names of the facts. No promise of a call names them.
+pub mod Names

@@ -1,8 +1,8 @@
 -- The names of the facts of a processor: they come after those of all seats.
 use Rattle.std.specs.Prelude.{ℕ, ◌+◌, ◌*◌}
-use Rattle.dt_chain.specs.declared.seat.TheConstants.{SEATS}
+use Rattle.dt_chain.specs.Limits.{seat_count}
 use Rattle.dt_seat.specs.Names.{names_of_seat}
 
 -- the name of a processor's log
 abbrev pub log_name : (cpus cpu : ℕ) → ℕ
-log_name cpus cpu = SEATS * names_of_seat cpus + cpu
+log_name cpus cpu = seat_count * names_of_seat cpus + cpu

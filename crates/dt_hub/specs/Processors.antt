@@ -6,7 +6,7 @@ use Rattle.atomic_table.specs.Seated.{TableId}
 use Rattle.dt_chain.specs.Chains.{Watched}
 use Rattle.dt_chain.specs.Seats.{life_at}
 use Rattle.dt_chain.specs.Writes.{Write}
-use Rattle.dt_chain.specs.declared.seat.TheConstants.{SEATS}
+use Rattle.dt_chain.specs.Limits.{seat_count}
 use Rattle.dt_chain.specs.declared.seat_mask.SeatMask.{SeatMask}
 use Rattle.dt_facts.specs.Facts.{knew, log_fact}
 use Rattle.dt_facts.specs.Handles.{HeldFact, holding}
@@ -57,7 +57,7 @@ pub record IsAtSeat (cpu place seat : ℕ) (f : Followed) : Type 0 where
 
 -- what a processor has at all seats
 pub record AreAtSeats (cpu place : ℕ) (at_seats : List Followed) : Type 0 where
-  pub many : length at_seats ≡ SEATS
+  pub many : length at_seats ≡ seat_count
   pub each : (seat : ℕ) → IfSome (slice_get at_seats seat) (IsAtSeat cpu place seat)
 
 -- what a processor's token keeps
@@ -65,7 +65,7 @@ pub record IsProcessor (word : TableId) (contents : Contents) (cpu place : ℕ) 
     (log : HeldFact) : Type 0 where
   pub there : cpu < contents.registry.cpus
   pub seats : AreAtSeats cpu place at_seats
-  pub many : length held ≡ SEATS
+  pub many : length held ≡ seat_count
   pub log_is : log ≡ holding word (log_name contents.registry.cpus cpu) (log_fact (places_in log.fact))
 
 abbrev pub processing : (cpu place : ℕ) → Watched → List Followed → HeldFact → SeatMask → List Held → Processing

@@ -15,7 +15,7 @@ use std::alloc::Global;
 use std::sync::{MutexGuard, Wait};
 
 impl<J: HubSite> Hub<J> {
-    /// Asks a line of a session's consumer. It waits for those that have the lock of the session's seat, and a `go` and what ends tracing for those that
+    /// Asks a line of a session's consumer, and tells whether the session goes on after it. It waits for those that have the lock of the session's seat, and a `go` and what ends tracing for those that
     /// publish.
     pub fn ask<R: Wait>(
         &self,
@@ -26,7 +26,7 @@ impl<J: HubSite> Hub<J> {
     ) -> LineAnswer
         ensures answered { IsLineAnswered J.contents session.old (item_of_line asked.now) result session.new }
         ensures session { (session.new.seat ≡ session.old.seat) × (session.new.life ≡ session.old.life)
-            × (session.new.row ≡ session.old.row) }
+            × (session.new.row ≡ session.old.row) × (session.new.account ≡ session.old.account) }
         ensures published { IsPublished J.contents session.new.seat session.new.life session.new.account session.new.knows
             session.new.published }
         ensures fronts { IsPrefix session.old.published session.new.published }
@@ -60,7 +60,8 @@ impl<J: HubSite> Hub<J> {
         ensures lines { own 0 session.new.knows ≡ own 0 session.old.knows }
         ensures legal { IsLegalRow session.new.account J.contents session.new.knows }
         ensures same { (session.new.seat ≡ session.old.seat) × (session.new.life ≡ session.old.life)
-            × (session.new.row ≡ session.old.row) × (session.new.published ≡ session.old.published) }
+            × (session.new.row ≡ session.old.row) × (session.new.published ≡ session.old.published)
+            × (session.new.account ≡ session.old.account) }
     {
         session.seen(&self.facts)
     }

@@ -1,7 +1,7 @@
 //! What a processor has.
 ghost use Rattle.std.specs.Prelude.{◌≡◌, ◌<◌, ◌+◌, ◌++◌, ◌∷◌, [], ℕ, IfOk, IfSome, slice_get, vec_len};
 ghost use Rattle.dt_chain.specs.Seats.{life_at};
-ghost use Rattle.dt_chain.specs.declared.seat.TheConstants.{SEATS as SEAT_COUNT};
+ghost use Rattle.dt_chain.specs.Limits.{seat_count};
 ghost use Rattle.dt_facts.specs.Facts.{log_fact, nothing};
 ghost use Rattle.dt_facts.specs.Handles.{holding};
 ghost use Rattle.dt_hub.specs.Names.{log_name};
@@ -69,7 +69,7 @@ impl<J: HubSite> CpuSeat<J> {
         requires facts { facts.now ≡ J.word }
         requires there { cpu < J.contents.registry.cpus }
         requires reader { (reader.seen ≡ []) × (reader.told ≡ []) }
-        requires many { vec_len followers ≡ SEAT_COUNT }
+        requires many { vec_len followers ≡ seat_count }
         requires followers { (seat : ℕ) → IfSome (slice_get followers.items seat) (λ f. f ≡ followed_at seat cpu) }
         requires log { log ≡ holding J.word (log_name J.contents.registry.cpus cpu) nothing }
         ensures { IfOk result (IsFresh cpu) }

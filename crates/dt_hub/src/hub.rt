@@ -62,12 +62,12 @@ pub struct Hub<J: HubSite> {
 
 impl<J: HubSite> Model for Hub<J> {
     ghost use Rattle.std.specs.Prelude.{◌≡◌, vec_len};
-    ghost use Rattle.dt_chain.specs.declared.seat.TheConstants.{SEATS as SEAT_COUNT};
+    ghost use Rattle.dt_chain.specs.Limits.{seat_count};
     ghost use Rattle.dt_machine.specs.Registry.{Contents};
 
     ghost Value = { Contents };
 
     ghost view = { λ h. h.machine };
 
-    ghost invariant = { λ h. (h.machine ≡ J.contents) × (h.facts ≡ J.word) × (vec_len h.seats ≡ SEAT_COUNT) };
+    ghost invariant = { λ h. (h.machine ≡ J.contents) × (h.facts ≡ J.word) × (vec_len h.seats ≡ seat_count) };
 }

@@ -1,6 +1,6 @@
 //! How a hub is made, and ended.
 ghost use Rattle.std.specs.Prelude.{◌≡◌, ◌<◌, ◌+◌, ◌*◌, [], ℕ, IfOk, IfSome, OnOk, slice_get, vec_len};
-ghost use Rattle.dt_chain.specs.declared.seat.TheConstants.{SEATS as SEAT_COUNT};
+ghost use Rattle.dt_chain.specs.Limits.{seat_count};
 ghost use Rattle.dt_facts.specs.Handles.{making};
 ghost use Rattle.dt_hub.specs.Hubs.{AreDealt, IsFresh};
 ghost use Rattle.dt_hub.specs.Names.{log_name};
@@ -60,9 +60,9 @@ fn seats<J: HubSite>(
     requires machine { machine.now ≡ J.contents }
     requires facts { facts.now ≡ J.word }
     requires maker { maker.old ≡ making J.word 0 }
-    ensures many { IfOk result (λ t. vec_len t.0 ≡ SEAT_COUNT) }
-    ensures dealt { IfOk result (λ t. AreDealt J.contents.registry.cpus SEAT_COUNT t.1.items) }
-    ensures maker { OnOk result (maker.new ≡ making J.word (SEAT_COUNT * names_of_seat J.contents.registry.cpus)) }
+    ensures many { IfOk result (λ t. vec_len t.0 ≡ seat_count) }
+    ensures dealt { IfOk result (λ t. AreDealt J.contents.registry.cpus seat_count t.1.items) }
+    ensures maker { OnOk result (maker.new ≡ making J.word (seat_count * names_of_seat J.contents.registry.cpus)) }
 {
     let mut hands = empty_hands(alloc, machine.cpus())?;
     let mut seats = Vec::with_capacity(alloc, SEATS)?;
@@ -90,8 +90,8 @@ fn tokens<J: HubSite>(
 ) -> Result<Vec<CpuSeat<J>>, AllocError>
     requires machine { machine.now ≡ J.contents }
     requires facts { facts.now ≡ J.word }
-    requires maker { maker.old ≡ making J.word (SEAT_COUNT * names_of_seat J.contents.registry.cpus) }
-    requires dealt { AreDealt J.contents.registry.cpus SEAT_COUNT hands.items }
+    requires maker { maker.old ≡ making J.word (seat_count * names_of_seat J.contents.registry.cpus) }
+    requires dealt { AreDealt J.contents.registry.cpus seat_count hands.items }
     ensures many { IfOk result (λ tokens. vec_len tokens ≡ J.contents.registry.cpus) }
     ensures each { IfOk result (λ tokens. (cpu : ℕ) → IfSome (slice_get tokens.items cpu) (IsFresh cpu)) }
 {

@@ -1,6 +1,6 @@
 //! How a firing is offered to the seats that are named.
 ghost use Rattle.std.specs.Prelude.{◌≡◌, ◌+◌, ◌++◌, ℕ, Some, vec_len};
-ghost use Rattle.dt_chain.specs.declared.seat.TheConstants.{SEATS as SEAT_COUNT};
+ghost use Rattle.dt_chain.specs.Limits.{seat_count};
 ghost use Rattle.dt_hub.specs.Firings.{ComesToSeat};
 ghost use Rattle.dt_hub.specs.Processors.{AreAtSeats};
 ghost use Rattle.dt_legal.specs.Rows.{AreBelowPlace};
@@ -69,9 +69,9 @@ impl<J: HubSite> Hub<J> {
         requires script { firing_at J.contents.scripts moment.now.firing.now.cpu moment.now.firing.now.place
             ≡ Some moment.now.firing.now }
         requires seats { AreAtSeats moment.now.firing.now.cpu moment.now.firing.now.place followers.old.items }
-        requires many { vec_len held.old ≡ SEAT_COUNT }
+        requires many { vec_len held.old ≡ seat_count }
         ensures seats { AreAtSeats moment.now.firing.now.cpu (moment.now.firing.now.place + 1) followers.new.items }
-        ensures many { vec_len held.new ≡ SEAT_COUNT }
+        ensures many { vec_len held.new ≡ seat_count }
         ensures each { (seat : ℕ) → ComesToSeat J.contents moment.now.firing.now mask.now held.new.items followers.old.items
             followers.new.items seat }
     {

@@ -1,8 +1,10 @@
 //! How sessions come and go.
-ghost use Rattle.std.specs.Prelude.{◌≡◌, ◌↔◌, [], IfOk, IfErr, IfSome};
+ghost use Rattle.std.specs.Prelude.{◌≡◌, ◌↔◌, [], Some, IfOk, IfErr, IfSome};
 ghost use Rattle.dt_cred.specs.declared.account.Account.{Account};
-ghost use Rattle.dt_hub.specs.Hubs.{MayOpen};
+ghost use Rattle.dt_hub.specs.Hubs.{IsNew, MayOpen};
 ghost use Rattle.dt_hub.specs.declared.fault.OpenFault.TheVariants as faults;
+ghost use Rattle.dt_trail.specs.Known.{known_row};
+ghost use Rattle.dt_trail.specs.Limits.{opening_cells};
 
 use crate::fault::OpenFault;
 use crate::hub::Hub;
@@ -19,7 +21,12 @@ impl<J: HubSite> Hub<J> {
         locked: &mut LockedSeat<J>,
         account: &Account,
     ) -> Option<Result<Session<J>, AllocError>>
-        ensures { IfSome result (λ opened. IfOk opened (λ session. (session.account ≡ account.now) × (session.knows ≡ []))) }
+        ensures session { IfSome result (λ opened. IfOk opened (λ session. (session.account ≡ account.now) × (session.knows ≡ []))) }
+        ensures place { IfSome result (λ opened. IfOk opened (λ session. (session.seat ≡ locked.old.number)
+            × (session.life ≡ locked.old.life))) }
+        ensures new { IfSome result (λ opened. IfOk opened IsNew) }
+        ensures trail { IfSome result (λ opened. IfOk opened (λ session.
+            locked.new.trail ≡ Some (known_row session.row [] opening_cells 0))) }
     {
         if !locked.is_free() || locked.life() == u64::MAX {
             return None;
@@ -34,6 +41,7 @@ impl<J: HubSite> Hub<J> {
     pub fn open<R: Wait>(&self, rt: &R, alloc: Global, name: &[u8]) -> Result<Session<J>, OpenFault>
         ensures session { IfOk result (λ session. MayOpen J.contents.registry name.now session.account
             × (session.knows ≡ [])) }
+        ensures new { IfOk result IsNew }
         ensures privilege { IfErr result (λ fault. (fault ≡ faults.NoPrivilege)
             ↔ ((account : Account) → MayOpen J.contents.registry name.now account → ⊥)) }
     {

@@ -2,6 +2,7 @@
 ghost use Rattle.std.specs.Prelude.{◌≡◌};
 ghost use mathlib.Core.List.{IsPrefix};
 ghost use Rattle.dt_hub.specs.Tellings.{HasBeenTold};
+ghost use Rattle.dt_seat.specs.Publications.{IsPublished};
 
 use crate::cpu_seat::CpuSeat;
 use crate::hub::Hub;
@@ -26,6 +27,7 @@ impl<J: HubSite> Hub<J> {
         ensures whose { (result.seat ≡ session.old.seat) × (result.life ≡ session.old.life) × (result.account ≡ session.old.account) }
         ensures knows { result.knows ≡ session.old.knows }
         ensures published { result.published ≡ session.old.published }
+        ensures own_go { IsPublished J.contents result.seat result.life result.account result.knows result.published }
         ensures same { session.new ≡ session.old }
     {
         session.receipt(&self.facts)

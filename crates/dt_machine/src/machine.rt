@@ -119,6 +119,14 @@ impl Machine {
         self.sections.process(pid)
     }
 
+    /// The accounts, in the file's order.
+    pub fn accounts(&self) -> &[Account]
+        ensures value { result.now ≡ self.now.registry.accounts }
+        ensures sound { IsSound self.now }
+    {
+        self.sections.accounts.as_slice()
+    }
+
     /// The account of a name, if there is one.
     pub fn account(&self, name: &[u8]) -> Option<&Account>
         ensures value { option_copied result ≡ account_of self.now.registry name.now }

@@ -1,6 +1,7 @@
 -- How a status is written.
 use Rattle.std.proofs.Common.{◌≡◌, ℕ, ℤ, false, List, [], ◌∷◌, ◌++◌, Some, None, codes, decimal, map, append_assoc}
-use Rattle.std.proofs.Common.{refl, ◌∙◌}
+use Rattle.std.proofs.Common.{refl, sym, ap, ◌∙◌, ◌+◌, ◌<◌, ◌≤◌, length, take, get_or}
+use Rattle.std.proofs.lemmas.List.{take_more, take_all}
 use Rattle.std.specs.Fmt.{signed_decimal}
 use Rattle.serde_json.specs.Data.{string}
 use Rattle.serde_json.specs.View.{items_of}
@@ -98,3 +99,49 @@ pub text-closed : (seen : ℕ) (errors aggdrops : List ℕ)
 unfolding serde_json_on_literals
 text-closed seen errors aggdrops = text-status (Stopped None) (codes "null") (codes "null") (codes "stopped") seen
     errors aggdrops refl refl refl
+
+-- a status in any phase
+word_quoted : (phase : Phase) → compact_text (string (phase_word phase)) ≡ 34 ∷ (phase_word phase ++ 34 ∷ [])
+unfolding serde_json_on_literals
+word_quoted Inactive = refl
+word_quoted Active = refl
+word_quoted (Stopped end) = refl
+
+pub text-of_status : (phase : Phase) (seen : ℕ) (errors aggdrops : List ℕ)
+    → reply_text (status phase seen errors aggdrops)
+    ≡ status_text (compact_text (cause_data phase)) (compact_text (exit_data phase)) (phase_word phase) seen errors
+    aggdrops
+text-of_status phase seen errors aggdrops =
+    text-status phase (compact_text (cause_data phase)) (compact_text (exit_data phase)) (phase_word phase) seen errors
+    aggdrops refl refl (word_quoted phase)
+
+-- one number more
+pushed : (first : ℕ) (more : List ℕ) (last : ℕ)
+    → numbers_text (first ∷ (more ++ last ∷ [])) ≡ numbers_text (first ∷ more) ++ 44 ∷ decimal last
+pushed first [] last = refl
+pushed first (next ∷ more) last =
+    ap (λ text. decimal first ++ 44 ∷ text) (pushed next more last)
+    ∙ sym (append_assoc (decimal first) (44 ∷ numbers_text (next ∷ more)) (44 ∷ decimal last))
+
+pub numbers_more : (line now comma after : List ℕ) (first : ℕ) (more : List ℕ) (place number : ℕ)
+    → place < length more → number ≡ get_or more place 0 → now ≡ line ++ numbers_text (first ∷ take place more)
+    → comma ≡ now ++ 44 ∷ [] → after ≡ comma ++ decimal number
+    → after ≡ line ++ numbers_text (first ∷ take (place + 1) more)
+numbers_more line now comma after first more place number within is so commaed added =
+    let taken : take (place + 1) more ≡ take place more ++ number ∷ [] =
+    take_more more place 0 within ∙ ap (λ n. take place more ++ n ∷ []) (sym is) in
+    rw (added, commaed, so, taken, pushed first (take place more) number) (simp append_assoc)
+
+pub numbers_all : (line now : List ℕ) (first : ℕ) (more : List ℕ) (place : ℕ) → length more ≤ place
+    → now ≡ line ++ numbers_text (first ∷ take place more) → now ≡ line ++ numbers_text (first ∷ more)
+numbers_all line now first more place ended so = rw (take_all place more ended) at so
+
+-- the pieces of a line that are added one after the other
+pub added : (a b c d e f g h i j k l m : List ℕ) (one two three four five six seven eight nine ten eleven twelve all : List ℕ)
+    → one ≡ a → two ≡ one ++ b → three ≡ two ++ c → four ≡ three ++ d → five ≡ four ++ e → six ≡ five ++ f
+    → seven ≡ six ++ g → eight ≡ seven ++ h → nine ≡ eight ++ i → ten ≡ nine ++ j → eleven ≡ ten ++ k
+    → twelve ≡ eleven ++ l → all ≡ twelve ++ m
+    → all ≡ a ++ b ++ c ++ d ++ e ++ f ++ g ++ h ++ i ++ j ++ k ++ l ++ m
+added a b c d e f g h i j k l m one two three four five six seven eight nine ten eleven twelve all
+    e1 e2 e3 e4 e5 e6 e7 e8 e9 e10 e11 e12 e13 =
+    rw (e13, e12, e11, e10, e9, e8, e7, e6, e5, e4, e3, e2, e1) (simp append_assoc)

@@ -1,5 +1,5 @@
 -- How the parts of a reply are written.
-use Rattle.std.proofs.Common.{◌≡◌, ℕ, ◌/◌, ◌%◌, ◌<◌, ℤ, pos, negsuc, List, [], ◌∷◌, ◌++◌, Bool, true, false}
+use Rattle.std.proofs.Common.{◌≡◌, ℕ, suc, ◌/◌, ◌%◌, ◌<◌, ℤ, pos, negsuc, List, [], ◌∷◌, ◌++◌, Bool, true, false}
 use Rattle.std.proofs.Common.{if◌then◌else◌, codes, decimal, get_or, drop, append_assoc, refl, ap, ◌∙◌, arith}
 use Rattle.std.proofs.lemmas.List.Elements.{All-from_recursion}
 use Rattle.std.specs.Fmt.{signed_decimal}
@@ -9,8 +9,29 @@ use Rattle.serde_json.specs.Data.{boolean, string}
 use Rattle.serde_json.specs.Find.{of_integer}
 use Rattle.serde_json.specs.Written.{compact_text, number_text}
 use Rattle.serde_json.proofs.OnLiterals.{serde_json_on_literals}
-use Rattle.dt_life.specs.Answer.{snapped}
+use Rattle.dt_life.specs.Answer.{done, enabled, snapped}
 use Rattle.dt_proto.specs.Reply.{reply_text}
+
+-- the pieces of a line that are added one after the other
+pub added_five : (a b c d e : List ℕ) (one two three four all : List ℕ) → one ≡ a → two ≡ one ++ b → three ≡ two ++ c
+    → four ≡ three ++ d → all ≡ four ++ e → all ≡ a ++ b ++ c ++ d ++ e
+added_five a b c d e one two three four all e1 e2 e3 e4 e5 = rw (e5, e4, e3, e2, e1) (simp append_assoc)
+
+pub added_nine : (a b c d e f g h i : List ℕ) (one two three four five six seven eight all : List ℕ)
+    → one ≡ a → two ≡ one ++ b → three ≡ two ++ c → four ≡ three ++ d → five ≡ four ++ e → six ≡ five ++ f
+    → seven ≡ six ++ g → eight ≡ seven ++ h → all ≡ eight ++ i
+    → all ≡ a ++ b ++ c ++ d ++ e ++ f ++ g ++ h ++ i
+added_nine a b c d e f g h i one two three four five six seven eight all e1 e2 e3 e4 e5 e6 e7 e8 e9 =
+    rw (e9, e8, e7, e6, e5, e4, e3, e2, e1) (simp append_assoc)
+
+pub text-done : reply_text done ≡ codes "{\"ok\":true}\n"
+unfolding serde_json_on_literals
+text-done = refl
+
+pub text-enabled : (count first : ℕ) → reply_text (enabled count first)
+    ≡ codes "{\"count\":" ++ decimal count ++ codes ",\"first\":" ++ decimal first ++ codes ",\"ok\":true}\n"
+unfolding serde_json_on_literals
+text-enabled count first = simp append_assoc
 
 pub signed_written : (z : ℤ) → number_text (of_integer z) ≡ signed_decimal z
 signed_written (pos n) = refl
@@ -124,3 +145,7 @@ text-snapped cpu drops bytes filled small =
     ∙ ap (λ front. front ++ decimal drops ++ codes ",\"filled\":" ++ (if filled then codes "true" else codes "false")
     ++ codes ",\"ok\":true}\n") (quotes_apart (codes "{\"cpu\":" ++ decimal cpu) (codes ",\"data\":") (encode_lower
     bytes) (codes ",\"drops\":"))
+
+pub bytes_small : (bytes : List ℕ) → ((i : ℕ) → get_or bytes i 0 < 256) → AllByRecursion (λ byte. byte < 256) bytes
+bytes_small [] small = tt
+bytes_small (byte ∷ rest) small = (small 0, bytes_small rest (λ i. small (suc i)))

@@ -26,6 +26,7 @@ mod pieces;
 mod reply;
 mod rows;
 mod text;
+mod written;
 
 pub use asked::{Asked, WholeLine};
 pub use decimal::number_of;

@@ -9,7 +9,8 @@ ghost use Rattle.dt_cred.specs.declared.probe.Probe.{Probe};
 ghost use Rattle.serde_json.specs.Data.{object, string};
 ghost use Rattle.serde_json.specs.View.{view};
 ghost use Rattle.hex.specs.Hex.{encode_lower};
-ghost use Rattle.dt_life.specs.Answer.{done, enabled, snapped, aggregated, status, listed, described, refused, answer_of};
+ghost use Rattle.dt_life.specs.Answer.{Answer, done, enabled, snapped, aggregated, status, listed, described, refused, answer_of};
+ghost use Rattle.dt_life.specs.declared.phase.Phase.{Phase};
 ghost use Rattle.dt_life.specs.declared.phase.End.TheVariants.{Stop, Exit, History};
 ghost use Rattle.dt_lang.specs.Fault.{why_word};
 ghost use Rattle.dt_lang.specs.Word.{name_of_destructive};
@@ -19,16 +20,17 @@ ghost use Rattle.dt_ecb.specs.declared.fault.RestrictedAction.TheVariants.{Stack
 ghost use Rattle.serde_json.specs.Written.{compact_text};
 ghost use Rattle.dt_record.specs.Fields.{form_of_field, form_of_layout};
 ghost use Rattle.dt_record.specs.Layout.{FieldForm, layout_size};
-ghost use Rattle.dt_proto.specs.Reply.{cause_data, describe_text, exit_data, field_data, quoted_word, fields_in, refusal_members, probe_data, probe_text, reply_members, reply_text, status_text};
+ghost use Rattle.dt_proto.specs.Reply.{describe_text, field_data, quoted_word, fields_in, refusal_members, probe_data, probe_text, reply_members, reply_text, status_text};
 ghost use Rattle.dt_proto.specs.Rows.{function_word, row_text};
-ghost use Rattle.dt_proto.specs.Scalars.{characters, of_number};
+ghost use Rattle.dt_proto.specs.Scalars.{characters};
 
 use crate::rows::{row_values, word_of};
 use crate::text::text_of;
+use crate::written::{enabled_line, snapped_line, status_line};
 use dt_aggfn::AggFn;
 use dt_aggstore::Row;
 use dt_cred::Probe;
-use dt_life::{End, Phase, Refusal, Reply};
+use dt_life::{Refusal, Reply};
 use dt_record::{Field, Layout};
 use serde_json::{Value, json};
 use std::alloc::{AllocError, Global};
@@ -37,9 +39,37 @@ use std::alloc::{AllocError, Global};
 pub fn reply_bytes(alloc: Global, reply: &Reply) -> Result<Vec<u8>, AllocError>
     ensures { IfOk result (λ bytes. bytes.items ≡ reply_text (answer_of reply.now)) }
 {
-    let mut bytes = reply_value(alloc, reply)?.to_vec(alloc)?;
-    bytes.push(b'\n')?;
-    Ok(bytes)
+    match reply {
+        Reply::Done => Vec::from_slice(alloc, b"{\"ok\":true}\n"),
+        Reply::Enabled { count, first } => enabled_line(alloc, *count, *first),
+        Reply::Snapped {
+            cpu,
+            data,
+            drops,
+            filled,
+        } => snapped_line(alloc, *cpu, data, *drops, *filled),
+        Reply::Aggregated {
+            name,
+            function,
+            rows,
+        } => line_of(
+            alloc,
+            &table_value(alloc, name.as_bytes(), *function, rows)?,
+        ),
+        Reply::Status {
+            phase,
+            seen,
+            errors,
+            aggdrops,
+        } => status_line(alloc, *phase, *seen, errors, aggdrops),
+        Reply::Listed { probes } => line_of(alloc, &listed_value(alloc, probes)?),
+        Reply::Described {
+            epid,
+            probe,
+            layout,
+        } => line_of(alloc, &described_value(alloc, *epid, probe, layout)?),
+        Reply::Refused(refusal) => line_of(alloc, &refusal_value(alloc, *refusal)?),
+    }
 }
 
 /// The line that stands in place of any answer where memory ran out: refusal 16, with its newline. It takes no memory.
@@ -49,52 +79,15 @@ pub fn memory_line() -> &'static [u8]
     b"{\"error\":16,\"name\":\"Memory\"}\n"
 }
 
-fn reply_value(alloc: Global, reply: &Reply) -> Result<Value, AllocError>
-    ensures { IfOk result (λ value. view value ≡ object (reply_members (answer_of reply.now))) }
+/// The line of a reply's JSON value, with its newline.
+fn line_of(alloc: Global, value: &Value) -> Result<Vec<u8>, AllocError>
+    requires { (answer : Answer) × (view value.now ≡ object (reply_members answer)) }
+    ensures { IfOk result (λ line. (answer : Answer) → view value.now ≡ object (reply_members answer)
+        → line.items ≡ reply_text answer) }
 {
-    match reply {
-        Reply::Done => json!(in alloc; {"ok": true}),
-        Reply::Enabled { count, first } => {
-            json!(in alloc; {"count": *count, "first": *first, "ok": true})
-        }
-        Reply::Snapped {
-            cpu,
-            data,
-            drops,
-            filled,
-        } => snapped_value(alloc, *cpu, data, *drops, *filled),
-        Reply::Aggregated {
-            name,
-            function,
-            rows,
-        } => table_value(alloc, name.as_bytes(), *function, rows),
-        Reply::Status {
-            phase,
-            seen,
-            errors,
-            aggdrops,
-        } => status_value(alloc, *phase, *seen, errors, aggdrops),
-        Reply::Listed { probes } => listed_value(alloc, probes),
-        Reply::Described {
-            epid,
-            probe,
-            layout,
-        } => described_value(alloc, *epid, probe, layout),
-        Reply::Refused(refusal) => refusal_value(alloc, *refusal),
-    }
-}
-
-fn snapped_value(
-    alloc: Global,
-    cpu: u32,
-    bytes: &[u8],
-    drops: u64,
-    filled: bool,
-) -> Result<Value, AllocError>
-    ensures { IfOk result (λ value. view value ≡ object (reply_members (snapped cpu bytes.now drops filled))) }
-{
-    let digits = hex::encode(alloc, bytes)?;
-    json!(in alloc; {"cpu": cpu, "data": digits, "drops": drops, "filled": filled, "ok": true})
+    let mut line = value.to_vec(alloc)?;
+    line.push(b'\n')?;
+    Ok(line)
 }
 
 fn listed_value(alloc: Global, probes: &[Probe]) -> Result<Value, AllocError>
@@ -120,53 +113,6 @@ fn table_value(
     let name = text_of(alloc, name)?;
     let rows = row_values(alloc, rows)?;
     json!(in alloc; {"fn": word_of(function), "name": name, "ok": true, "rows": rows})
-}
-
-fn status_value(
-    alloc: Global,
-    phase: Phase,
-    seen: u64,
-    errors: &[u64],
-    aggdrops: &[u64],
-) -> Result<Value, AllocError>
-    ensures { IfOk result (λ value. view value ≡ object (reply_members (status phase seen errors.now aggdrops.now))) }
-{
-    let drops = numbers(alloc, aggdrops)?;
-    let errors = numbers(alloc, errors)?;
-    let cause = cause_value(alloc, phase)?;
-    let exit = exit_value(phase);
-    json!(in alloc; {"aggdrops": drops, "cause": cause, "errors": errors, "exit": exit, "ok": true,
-        "phase": phase.word(), "seen": seen})
-}
-
-/// Why tracing ended; null where it didn't, or where the session was closed first.
-fn cause_value(alloc: Global, phase: Phase) -> Result<Value, AllocError>
-    ensures { IfOk result (λ value. view value ≡ cause_data phase) }
-{
-    match phase {
-        Phase::Stopped(Some(end)) => Value::try_from_str(alloc, end.word()),
-        _ => Ok(Value::Null),
-    }
-}
-
-/// The status with which a clause exited; null where tracing didn't end by it.
-fn exit_value(phase: Phase) -> Value
-    ensures { view result ≡ exit_data phase }
-{
-    match phase {
-        Phase::Stopped(Some(End::Exit(status))) => Value::from(status),
-        _ => Value::Null,
-    }
-}
-
-fn numbers(alloc: Global, list: &[u64]) -> Result<Vec<Value>, AllocError>
-    ensures { IfOk result (λ values. map view values.items ≡ map of_number list.now) }
-{
-    let mut values = Vec::new(alloc);
-    for number in list {
-        values.push(Value::from(*number))?;
-    }
-    Ok(values)
 }
 
 fn described_value(

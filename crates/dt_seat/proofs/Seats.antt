@@ -19,7 +19,8 @@ use Rattle.dt_machine.specs.Registry.{Contents}
 use Rattle.dt_seat.proofs.Begins.{starts_trans}
 use Rattle.dt_seat.proofs.Known.{by_note, not_by_note}
 use Rattle.dt_seat.specs.Keeps.{Carries, Followed, IsKeptFor, KeptNote, known_by, known_in, known_of, told_in}
-use Rattle.dt_seat.specs.Seats.{IsRepliedTo, ComesOfFiring, IsTaken, Reaches}
+use Rattle.dt_seat.specs.Seats.{IsRepliedTo, ComesOfFiring, IsTaken, Reaches, ending_of}
+use Rattle.dt_seat.specs.declared.ending.Ending.{Ending}
 use Rattle.dt_seat.specs.declared.held.Held.TheVariants.{Kept as WasKept, Unseen}
 use Rattle.dt_seat.specs.Trailed.{IsDue, IsTrailed, row_after, row_offered, with_items}
 use Rattle.dt_seat.specs.declared.present.Present.{Present}
@@ -101,7 +102,7 @@ abbrev with_note : Followed → Noted Account → Followed
 with_note f note = record { seat = f.seat; cpu = f.cpu; took = f.took; over = f.over; note = Some note; told = f.told }
 
 module _ (contents : Contents) (life : ℕ) (firing : Firing) (old lent : Followed) (note : Noted Account)
-    (took : lent.took ≡ Some (last_note life note.row)) (has : lent.note ≡ Some note)
+    (took : lent.took ≡ Some (last_note life note.row)) (has : lent.note ≡ Some note) (over : lent.over ≡ life)
     (known : known_of life lent ≡ known_of life old) (carried : Carries old lent life) where
   elsewhere : (l : ℕ) (knows : List TrailItem) → l ≢ life → known_in l lent.took knows lent.told ≡ told_in l lent.told
   elsewhere l knows other =
@@ -144,7 +145,7 @@ module _ (contents : Contents) (life : ℕ) (firing : Firing) (old lent : Follow
       (with_note lent (noted note.row note.number (trail ++ fired firing.cpu firing.place ∷ [])))
   held_kept trail mine met legal sees =
       let new = noted note.row note.number (trail ++ fired firing.cpu firing.place ∷ []) in
-      (carries_on new, (new, trail, record { took = took; has = refl }, reaches trail mine met legal, sees, refl))
+      (carries_on new, (new, trail, record { took = took; has = refl; over_is = over }, reaches trail mine met legal, sees, refl))
 
   pub held_unseen : (trail : List TrailItem) (count : ℕ) → note.number ≡ firing.cpu + 1 → Meets trail note
       → IsLegalRow note.row.account contents trail
@@ -153,7 +154,7 @@ module _ (contents : Contents) (life : ℕ) (firing : Firing) (old lent : Follow
       → ComesOfFiring contents life firing (Unseen count) old (with_note lent (noted note.row note.number trail))
   held_unseen trail count mine met legal unseen all =
       let new = noted note.row note.number trail in
-      (carries_on new, (new, record { took = took; has = refl }, reaches trail mine met legal, unseen, all))
+      (carries_on new, (new, record { took = took; has = refl; over_is = over }, reaches trail mine met legal, unseen, all))
 
 pub some_same : {X : Type 0} (x y : X) → Some x ≡ Some y → x ≡ y
 some_same x y e = cc
@@ -197,11 +198,11 @@ pub grows_not : (old : Noted Account) → Grows old old
 grows_not old = record { row = refl; number = refl; longer = ([], sym (append-nil old.knows)); same_own = refl }
 
 pub answered_from : (contents : Contents) (account : Account) (old mid : Noted Account) (trail : List TrailItem) (item : TrailItem)
-    (text : List ℕ) (after : List TrailItem) → old.number ≡ 0 → Grows old mid → Meets trail mid
+    (text : List ℕ) (ending : Ending) (after : List TrailItem) → old.number ≡ 0 → Grows old mid → Meets trail mid
     → IsLegalRow account contents trail → IsDue account contents trail (line_form_of item) text
-    → after ≡ row_after account contents trail item
-    → IsRepliedTo contents account old.knows item text after
-answered_from contents account old mid trail item text after zero grows met legal due is = record {
+    → ending ≡ ending_of account contents trail item → after ≡ row_after account contents trail item
+    → IsRepliedTo contents account old.knows item text ending after
+answered_from contents account old mid trail item text ending after zero grows met legal due ends is = record {
   trail = trail;
   begins = starts_trans trail mid.knows old.knows met.0 grows.longer;
   lines = subst (λ (n : ℕ). own n trail ≡ own n old.knows) zero
@@ -209,4 +210,5 @@ answered_from contents account old mid trail item text after zero grows met lega
   legal = legal;
   due = due;
   after_is = is;
+  ending_is = ends;
 }

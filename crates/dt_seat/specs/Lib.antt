@@ -1,13 +1,13 @@
 -- What lies under the lock of a seat, and what a session and a processor have there.
 
--- What is promised, and what the types keep.
-
-pub mod Trailed
-pub mod Names
-pub mod Knowledge
-pub mod Publications
-pub mod Keeps
+-- What is promised.
 pub mod Seats
+pub mod Trailed
 pub mod Sessions
 pub mod Places
+pub mod Publications
 pub mod Receipts
+pub mod Keeps
+pub mod Names
+-- Private to the proofs: what the facts of a seat's lives say, and of what its sessions knew. No promise of a call names them.
+pub mod Knowledge

@@ -1,5 +1,5 @@
 -- What a seat keeps under its lock, and what a processor finds there.
-use Rattle.std.specs.Prelude.{◌≡◌, ◌<◌, ◌≤◌, ◌+◌, ◌^◌, ◌++◌, ◌∷◌, ℕ, List, [], Option, Some, None, IfSome, IsSomeAnd, MatchOption, length, option_map, slice_get}
+use Rattle.std.specs.Prelude.{◌≡◌, ◌<◌, ◌≤◌, ◌+◌, ◌^◌, ◌++◌, ◌∷◌, ℕ, List, [], Option, Some, None, IfSome, IsSomeAnd, MatchOption, length, option_map, slice_get, if◌then◌else◌}
 use Rattle.atomic_table.specs.Seated.{TableId}
 use Rattle.dt_cred.specs.declared.account.Account.{Account}
 use Rattle.dt_cred.specs.declared.firing.Firing.{Firing}
@@ -7,12 +7,17 @@ use Rattle.dt_facts.specs.Facts.{last_note}
 use Rattle.dt_facts.specs.Handles.{HeldFact}
 use Rattle.dt_facts.specs.Lives.{AreClosed, IsOpenAs}
 use Rattle.dt_legal.specs.Rows.{IsLegalRow, line_form_of, life_of_row}
+use Rattle.dt_life.specs.Acceptance.{is_close}
+use Rattle.dt_life.specs.Life.{is_over}
 use Rattle.dt_life.specs.Sees.{Sees}
 use Rattle.dt_machine.specs.Registry.{Contents}
+use Rattle.dt_proto.specs.Line.{ask_in}
 use Rattle.dt_seat.specs.Keeps.{Carries, Followed, IsKeptFor, IsLeft, KeptNote, known_of}
 use Rattle.dt_seat.specs.Knowledge.{AreUnknownFrom, SaysLives, known_items, steps_in}
 use Rattle.dt_seat.specs.Names.{known_name}
 use Rattle.dt_seat.specs.Trailed.{IsDue, IsTrailed, row_after}
+use Rattle.dt_seat.specs.declared.ending.Ending.{Ending}
+use Rattle.dt_seat.specs.declared.ending.Ending.TheVariants.{GoesOn, Closes, OverQuota}
 use Rattle.dt_seat.specs.declared.held.Held.{Held}
 use Rattle.dt_seat.specs.declared.held.Held.TheVariants.{Kept as WasKept, Unseen, Gone}
 use Rattle.dt_seat.specs.declared.idle.Idle.{Idle}
@@ -83,10 +88,11 @@ pub record Reaches (contents : Contents) (account : Account) (cpu : ℕ) (known 
   pub own_same : own (cpu + 1) trail ≡ own (cpu + 1) known
   pub legal : IsLegalRow account contents trail
 
--- The processor has the note of this life, which knows this.
+-- The processor has the note of this life, which knows this; and all lives below this one are over, and no others: this one isn't.
 pub record HasNote (life : ℕ) (f : Followed) (note : Noted Account) : Type 0 where
   pub took : f.took ≡ Some (last_note life note.row)
   pub has : f.note ≡ Some note
+  pub over_is : f.over ≡ life
 
 -- What comes of a firing that is offered to a life. Kept: the life's account sees it after a trail that begins with what was known, and it is
 -- then the last item that is known. Unseen: it isn't seen after such a trail, which is then known. Gone: nothing changes.
@@ -111,13 +117,20 @@ kept_items WasKept firing = fired firing.cpu firing.place ∷ []
 kept_items (Unseen known) firing = []
 kept_items Gone firing = []
 
+-- whether a session goes on after a line that is asked after this trail: not where the line is over the quota, and not where it is a `close` within it
+abbrev pub ending_of : Account → Contents → List TrailItem → TrailItem → Ending
+ending_of account contents trail item =
+    if is_over (life_of_row account contents trail) then OverQuota else (if is_close (ask_in (line_form_of item)) then Closes else GoesOn)
+
 -- What a session is answered to a line: the reply that is due after a trail that begins with what it knew, has its lines and no further
--- one, and is legal; the session then knows this trail and the line, which is no part of it where it is over the quota.
+-- one, and is legal, and whether the session goes on after it; the session then knows this trail and the line, which is no part of it where
+-- it is over the quota.
 pub record IsRepliedTo (contents : Contents) (account : Account) (known : List TrailItem) (item : TrailItem) (text : List ℕ)
-    (after : List TrailItem) : Type 0 where
+    (ending : Ending) (after : List TrailItem) : Type 0 where
   pub trail : List TrailItem
   pub begins : StartsWith trail known
   pub lines : own 0 trail ≡ own 0 known
   pub legal : IsLegalRow account contents trail
   pub due : IsDue account contents trail (line_form_of item) text
   pub after_is : after ≡ row_after account contents trail item
+  pub ending_is : ending ≡ ending_of account contents trail item

@@ -10,9 +10,11 @@ ghost use Rattle.dt_seat.specs.Trailed.{IsWideEnough, IsTrailed, item_of_line};
 ghost use Rattle.dt_trail.specs.Items.{StartsWith};
 ghost use Rattle.dt_trail.specs.Known.{Grows};
 
+use crate::ending::Ending;
 use crate::keep::Keep;
 use crate::notebook::{Notebook, take_down};
 use crate::present::Present;
+use crate::replied::Replied;
 use crate::site::HubSite;
 use crate::trailed::{Note, finish, make_room, prepare};
 use dt_chain::{ChainWriter, Front, Seat, Write};
@@ -122,7 +124,7 @@ fn retire<J: HubSite, R: Wait>(
     }
 }
 
-/// Answers a line of the session on a seat: the text of its reply.
+/// Answers a line of the session on a seat: the text of its reply, and whether the session goes on.
 ///
 /// `Err`: there was no memory, and the line is no part of the trail.
 pub(crate) fn ask_at<J: HubSite, R: Wait>(
@@ -137,7 +139,7 @@ pub(crate) fn ask_at<J: HubSite, R: Wait>(
     keeps: &Vec<Keep<J>>,
     notebook: &mut Notebook<J>,
     asked: &Asked,
-) -> Result<Vec<u8>, AllocError>
+) -> Result<Replied, AllocError>
     requires machine { machine.now ≡ J.contents }
     requires taken { IsTaken J.word J.contents number life lives.now present.old keeps.now.items }
     requires row { notebook.old.note.row ≡ present.old.owner.row }
@@ -145,8 +147,8 @@ pub(crate) fn ask_at<J: HubSite, R: Wait>(
     ensures taken { IsTaken J.word J.contents number life lives.now present.new keeps.now.items }
     ensures notebook { IsNotebook J.contents number life notebook.new.note notebook.new.lines.items notebook.new.front }
     ensures trail { TrailGoesOn present.old.owner present.new.owner }
-    ensures answered { IfOk result (λ text. IsRepliedTo J.contents notebook.old.note.row.account notebook.old.note.knows
-        (item_of_line asked.now) text.items notebook.new.note.knows) }
+    ensures answered { IfOk result (λ replied. IsRepliedTo J.contents notebook.old.note.row.account notebook.old.note.knows
+        (item_of_line asked.now) replied.text.items replied.ending notebook.new.note.knows) }
     ensures note { (notebook.new.note.row ≡ notebook.old.note.row) × StartsWith notebook.new.note.knows notebook.old.note.knows }
     ensures refused { OnErr result (Grows notebook.old.note notebook.new.note) }
     ensures front { IsPrefix (writes_seen notebook.old.front) (writes_seen notebook.new.front) }
@@ -160,6 +162,7 @@ pub(crate) fn ask_at<J: HubSite, R: Wait>(
         asked,
     )?;
     notebook.lines.reserve(1)?;
+    let ending = Ending::of(&prepared.draft);
     let is_go = prepared.draft.publishes();
     let note = &mut notebook.note;
     let published = make_ready(rt, alloc, chains, number, life, present, note, is_go)?;
@@ -174,5 +177,5 @@ pub(crate) fn ask_at<J: HubSite, R: Wait>(
     );
     take_down(&mut notebook.front, published);
     retire(rt, chains, number, present);
-    Ok(text)
+    Ok(Replied { text, ending })
 }

@@ -2,6 +2,7 @@
 #![tactic(auto)]
 
 mod asking;
+mod ending;
 mod follower;
 mod held;
 mod idle;
@@ -18,17 +19,20 @@ mod opening;
 mod prepared;
 mod present;
 mod receipt;
+mod replied;
 mod session;
 mod site;
 mod telling;
 mod told_of;
 mod trailed;
 
+pub use ending::Ending;
 pub use follower::Follower;
 pub use held::Held;
 pub use known_item::KnownItem;
 pub use locked::LockedSeat;
 pub use receipt::Receipt;
+pub use replied::Replied;
 pub use session::Session;
 pub use site::HubSite;
 pub use trailed::{Note, Owner};

@@ -16,6 +16,7 @@ use crate::held::Held;
 use crate::idle::Idle;
 use crate::keep::Keep;
 use crate::present::{Present, hold_at};
+use crate::replied::Replied;
 use crate::session::Session;
 use crate::site::HubSite;
 use dt_chain::{ChainWriter, Seat};
@@ -72,8 +73,8 @@ impl<J: HubSite> LockedSeat<J> {
         self.present.is_none()
     }
 
-    /// Answers a line of the session: the text of its reply, with its newline. The session then knows its whole trail, with the line, if that
-    /// is within the quota.
+    /// Answers a line of the session: the text of its reply, with its newline, and whether the session goes on. The session then knows its
+    /// whole trail, with the line, if that is within the quota.
     ///
     /// `Err`: there was no memory. The line is no part of the trail, and may be asked again.
     pub fn ask<R: Wait>(
@@ -85,16 +86,16 @@ impl<J: HubSite> LockedSeat<J> {
         chains: &Mutex<ChainWriter<J>>,
         session: &mut Session<J>,
         asked: &Asked,
-    ) -> Result<Vec<u8>, AllocError>
+    ) -> Result<Replied, AllocError>
         requires machine { machine.now ≡ J.contents }
         requires facts { facts.now ≡ J.word }
         requires seat { session.old.seat ≡ self.old.number }
-        ensures answered { IfOk result (λ text. IsRepliedTo J.contents session.old.account session.old.knows (item_of_line asked.now) text.items
-            session.new.knows) }
+        ensures answered { IfOk result (λ replied. IsRepliedTo J.contents session.old.account session.old.knows (item_of_line asked.now)
+            replied.text.items replied.ending session.new.knows) }
         ensures refused { OnErr result (StartsWith session.new.knows session.old.knows × (own 0 session.new.knows ≡ own 0 session.old.knows)) }
         ensures published { IsPublished J.contents session.new.seat session.new.life session.new.account session.new.knows session.new.published }
         ensures session { (session.new.seat ≡ session.old.seat) × (session.new.life ≡ session.old.life)
-            × (session.new.row ≡ session.old.row) }
+            × (session.new.row ≡ session.old.row) × (session.new.account ≡ session.old.account) }
         ensures fronts { IsPrefix session.old.published session.new.published }
         ensures seat { (self.new.number ≡ self.old.number) × (self.new.life ≡ self.old.life) × (self.old.life ≡ session.old.life) }
         ensures trail { StaysOn self.old.trail self.new.trail }

@@ -1,5 +1,6 @@
 //! How a session comes to a seat, and leaves it.
 ghost use Rattle.std.specs.Prelude.{◌≡◌, ◌+◌, ◌<◌, ◌^◌, [], None, Some, IfOk, OnErr, OnOk, vec_len};
+ghost use Rattle.dt_chain.specs.Limits.{seat_count};
 ghost use Rattle.dt_seat.specs.Seats.{seated};
 ghost use Rattle.dt_trail.specs.Known.{known_row};
 ghost use Rattle.dt_trail.specs.Limits.{opening_cells};
@@ -40,6 +41,8 @@ impl<J: HubSite> LockedSeat<J> {
         requires left { self.old.life + 1 < 2 ^ 64 }
         ensures session { IfOk result (λ session. (session.seat ≡ self.old.number) × (session.life ≡ self.old.life)
             × (session.account ≡ account.now) × (session.knows ≡ []) × (session.published ≡ [])) }
+        ensures new { IfOk result (λ session. (session.seat < seat_count) × (session.life + 1 < 2 ^ 64)
+            × (session.row.account ≡ session.account)) }
         ensures trail { IfOk result (λ session. self.new.trail ≡ Some (known_row session.row [] opening_cells 0)) }
         ensures seat { (self.new.number ≡ self.old.number) × (self.new.life ≡ self.old.life) }
         ensures same { OnErr result (self.new.trail ≡ None) }

@@ -61,7 +61,7 @@ impl<J: HubSite> Session<J> {
         ensures lines { own 0 self.new.knows ≡ own 0 self.old.knows }
         ensures legal { IsLegalRow self.new.account J.contents self.new.knows }
         ensures same { (self.new.seat ≡ self.old.seat) × (self.new.life ≡ self.old.life) × (self.new.row ≡ self.old.row)
-            × (self.new.published ≡ self.old.published) }
+            × (self.new.published ≡ self.old.published) × (self.new.account ≡ self.old.account) }
     {
         let count = self.notebook.note.catch_up();
         self.known.go_on(facts, self.life, &self.notebook.note);

@@ -4,6 +4,9 @@ pub mod Beginning
 pub mod Accounts
 pub mod Soundness
 pub mod Questions
+pub mod Naming
+pub mod Trails
+pub mod Closing
 pub mod Serving
 pub mod Holding
 pub mod Publishing

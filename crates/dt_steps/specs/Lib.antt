@@ -5,6 +5,7 @@ pub mod World
 pub mod Steps
 pub mod Sound
 pub mod Ran
+pub mod Trails
 pub mod Stands
 -- Private to the proofs: no promise names them.
 pub mod Ready

@@ -20,7 +20,10 @@ mod step;
 pub use dt_proto::seen_alike;
 pub use due::ScriptPlace;
 pub use engine::Engine;
-pub use laws::{agree_alike, named_by_own, told_alone, worlds_are_sound};
+pub use laws::{
+    agree_alike, named_by_own, no_other_view, told_alone, trail_is_told, trail_is_view,
+    worlds_are_sound,
+};
 pub use running::{Ran, run};
 pub use session::{Answered, Finished};
 pub use step::Step;

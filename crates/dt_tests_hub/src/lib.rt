@@ -8,6 +8,8 @@ mod calls;
 #[cfg(test)]
 mod crowd;
 #[cfg(test)]
+mod endings;
+#[cfg(test)]
 mod flag;
 #[cfg(test)]
 mod gates;

@@ -17,8 +17,12 @@ mod replays;
 mod step_line;
 mod words;
 
-pub use dt_steps::{Ran, Step, agree_alike, run, seen_alike, told_alone, worlds_are_sound};
+pub use dt_steps::{
+    Ran, Step, agree_alike, run, seen_alike, told_alone, trail_is_told, trail_is_view,
+    worlds_are_sound,
+};
 pub use limit_laws::limits_agree;
 pub use replay_laws::{one_output, one_trail, replays_are_runs};
 pub use replays::{ReplayFault, replay, replay_trail};
 pub use step_line::{StepLine, one_step_line};
+pub use words::two_numbers;

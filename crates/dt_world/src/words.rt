@@ -46,6 +46,19 @@ pub(crate) fn seat_of(digits: &[u8]) -> Option<Seat>
     Seat::new(number_of(digits)?)
 }
 
+/// The two numbers after a word, one blank apart, where nothing else stands: decimal, without a sign or a leading zero, and below 2^32. Any other text
+/// gives `None`. It takes no memory.
+pub fn two_numbers(text: &[u8], word: &[u8]) -> Option<(u32, u32)>
+    ensures found { IfSome result (λ read. (read.0 < 2 ^ 32) × (read.1 < 2 ^ 32)
+        × (text.now ≡ word.now ++ (decimal read.0 ++ (codes " " ++ decimal read.1)))) }
+    ensures none { IfNone result ((first second : ℕ) → first < 2 ^ 32 → second < 2 ^ 32
+        → text.now ≢ word.now ++ (decimal first ++ (codes " " ++ decimal second))) }
+{
+    let (first, rest) = number_and_rest(after_word(text, word)?)?;
+    let second = number_of(rest)?;
+    Some((first, second))
+}
+
 /// What stands in front of the first blank, and what stands behind it.
 fn cut_at_blank(text: &[u8]) -> Option<(&[u8], &[u8])>
     ensures found { IfSome result (λ parts. IsCutAtBlank text.now parts.0.now parts.1.now) }

@@ -3,3 +3,4 @@ pub mod Seat
 pub mod Writing
 pub mod Status
 pub mod Words
+pub mod Commands

@@ -2,7 +2,8 @@
 ghost use Rattle.std.specs.Prelude.{◌≡◌, ◌↔◌, ℕ, List, [], IfOk, IfErr, false, map, option_map, Option};
 ghost use Rattle.std.specs.Borrow.{Bor};
 ghost use Rattle.clap.specs.Words.{app_of, fault_of, first_of, found_of, kind_of, rows_of, rule_of, subcommand_of, subcommand_rows_of};
-ghost use Rattle.dtraced.specs.Words.{Asks, HasValues, IsSeatOf, file, subcommand_name, program};
+ghost use Rattle.clap.specs.declared.builder.command.Command.TheViews.{out-Command};
+ghost use Rattle.dtraced.specs.Words.{Asks, HasValues, IsSeatOf, file, subcommand_name, program, replay_command, check_command, serve_command, send_command};
 
 use crate::seat::seat_of;
 use clap::error::ErrorKind;
@@ -24,6 +25,15 @@ pub(crate) enum Words<'a> {
     Check {
         machine: &'a str,
         trail: &'a str,
+    },
+    /// `dtraced serve <machine> <folder>`: a service of this machine file, with a socket for each account in the folder.
+    Serve {
+        machine: &'a str,
+        folder: &'a str,
+    },
+    /// `dtraced send <path>`: a client of the service whose socket is at the path.
+    Send {
+        path: &'a str,
     },
 }
 
@@ -75,6 +85,12 @@ impl<'a> Words<'a> {
         if name == "check" {
             return Words::of_check(given);
         }
+        if name == "serve" {
+            return Words::of_serve(given);
+        }
+        if name == "send" {
+            return Words::of_send(given);
+        }
         // clap answers a call for help itself, and knows no other word
         Err(WordsFault::Usage)
     }
@@ -109,6 +125,35 @@ impl<'a> Words<'a> {
             return Err(WordsFault::Usage);
         };
         Ok(Words::Check { machine, trail })
+    }
+
+    /// What `serve` asks for with these values.
+    fn of_serve(given: &ArgMatches<'a>) -> Result<Self, WordsFault>
+        ensures ok { IfOk result (λ asked. (machine folder : Bor (List ℕ))
+            × (asked ≡ Words.Serve machine folder) × HasValues (rows_of (found_of given.now)) asked) }
+        ensures err { IfErr result (λ _. (machine folder : Bor (List ℕ))
+            → HasValues (rows_of (found_of given.now)) (Words.Serve machine folder) → ⊥) }
+    {
+        let Some(machine) = value_in(given, "machine") else {
+            return Err(WordsFault::Usage);
+        };
+        let Some(folder) = value_in(given, "folder") else {
+            return Err(WordsFault::Usage);
+        };
+        Ok(Words::Serve { machine, folder })
+    }
+
+    /// What `send` asks for with these values.
+    fn of_send(given: &ArgMatches<'a>) -> Result<Self, WordsFault>
+        ensures ok { IfOk result (λ asked. (path : Bor (List ℕ))
+            × (asked ≡ Words.Send path) × HasValues (rows_of (found_of given.now)) asked) }
+        ensures err { IfErr result (λ _. (path : Bor (List ℕ))
+            → HasValues (rows_of (found_of given.now)) (Words.Send path) → ⊥) }
+    {
+        match value_in(given, "path") {
+            Some(path) => Ok(Words::Send { path }),
+            None => Err(WordsFault::Usage),
+        }
     }
 }
 
@@ -153,22 +198,60 @@ fn matches_of<'a>(alloc: Global, words: &'a [&'a str]) -> Result<ArgMatches<'a>,
 fn program<'a>(alloc: Global) -> Result<Command<'a>, AllocError>
     ensures { IfOk result (λ command. app_of command ≡ program) }
 {
-    let replay = Command::new(alloc, "replay")
+    let replay = replay_command(alloc)?;
+    let check = check_command(alloc)?;
+    let serve = serve_command(alloc)?;
+    let send = send_command(alloc)?;
+    Command::new(alloc, "dtraced")
+        .subcommand(replay)?
+        .subcommand(check)?
+        .subcommand(serve)?
+        .subcommand(send)
+}
+
+/// `replay <machine> [--trail <seat>]`.
+fn replay_command<'a>(alloc: Global) -> Result<Command<'a>, AllocError>
+    ensures form { IfOk result (λ command. app_of command ≡ replay_command) }
+    ensures local { IfOk result (λ command. (out-Command command).has_globals ≡ false) }
+{
+    Command::new(alloc, "replay")
         .arg(file(alloc, "machine"))?
         .arg(
             Arg::new(alloc, "trail")
                 .long("trail")
                 .action(ArgAction::Set),
-        )?;
-    let check = Command::new(alloc, "check")
-        .arg(file(alloc, "machine"))?
-        .arg(file(alloc, "trail"))?;
-    Command::new(alloc, "dtraced")
-        .subcommand(replay)?
-        .subcommand(check)
+        )
 }
 
-/// The word of a file, which must be there.
+/// `check <machine> <trail>`.
+fn check_command<'a>(alloc: Global) -> Result<Command<'a>, AllocError>
+    ensures form { IfOk result (λ command. app_of command ≡ check_command) }
+    ensures local { IfOk result (λ command. (out-Command command).has_globals ≡ false) }
+{
+    Command::new(alloc, "check")
+        .arg(file(alloc, "machine"))?
+        .arg(file(alloc, "trail"))
+}
+
+/// `serve <machine> <folder>`.
+fn serve_command<'a>(alloc: Global) -> Result<Command<'a>, AllocError>
+    ensures form { IfOk result (λ command. app_of command ≡ serve_command) }
+    ensures local { IfOk result (λ command. (out-Command command).has_globals ≡ false) }
+{
+    Command::new(alloc, "serve")
+        .arg(file(alloc, "machine"))?
+        .arg(file(alloc, "folder"))
+}
+
+/// `send <path>`.
+fn send_command<'a>(alloc: Global) -> Result<Command<'a>, AllocError>
+    ensures form { IfOk result (λ command. app_of command ≡ send_command) }
+    ensures local { IfOk result (λ command. (out-Command command).has_globals ≡ false) }
+{
+    Command::new(alloc, "send").arg(file(alloc, "path"))
+}
+
+/// The word of a file or a folder, which must be there.
 fn file<'a>(alloc: Global, id: &'a str) -> Arg<'a>
     ensures rule { rule_of result ≡ file id.entry.now }
     ensures local { result.global ≡ false }

@@ -64,7 +64,7 @@ pub fn write_check<W: Write>(
 }
 
 /// Writes all bytes, and flushes.
-fn write_line<W: Write>(writer: &mut W, line: &[u8]) -> io::Result<()>
+pub(crate) fn write_line<W: Write>(writer: &mut W, line: &[u8]) -> io::Result<()>
     ensures { OnOk result (Appends (W.contents writer.old) (W.contents writer.new) line.now) }
 {
     writer.write_all(line)?;

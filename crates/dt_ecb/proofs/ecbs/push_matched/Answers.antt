@@ -1,6 +1,7 @@
 -- A probe makes an ECB, or it doesn't.
 use Rattle.std.proofs.Common.{◌≡◌, ◌+◌, ◌++◌, ◌∷◌, [], List, ◌∙◌, sym, ap, length, map, arith}
 use Rattle.std.specs.Global.{Vec}
+use Rattle.dt_program.specs.Description.{form_of_description}
 use Rattle.dt_program.specs.Program.{form_of_clause}
 use Rattle.dt_ecb.specs.Matching.{is_matched}
 use Rattle.dt_ecb.specs.Places.{kept_in}
@@ -22,6 +23,9 @@ loop-probe-preserved c =
     let test = is_matched c.args.account.now c.args.machine.now.registry (form_of_clause c.args.clause.now) in
     let probes = c.probes-probe-items.result.now in
     let items : Vec Ecb → List Ecb = λ ecbs. ecbs.items in
+    let is = c.is_matched.ensures (form_of_clause c.args.clause.now)
+    (sym (c.deref-in-loop-probe.ensures.value ∙ c.in_ok-descriptions.ensures
+    ∙ ap (map form_of_description) c.deref.ensures.value)) in
     elim c.if-is_matched.branch [
       | then-is_matched+in_ok-push w ↦
           let kept : map kept_in c.if-is_matched.ecbs.items ≡ map kept_in c.loop-probe.ecbs.items
@@ -36,7 +40,7 @@ loop-probe-preserved c =
                 pushed c.args.first_epid c.args.place test probes c.loop-probe.probe-index c.probe-item.result
                 c.loop-probe-test.true c.probe-item.is c.args.ecbs.now.items c.loop-probe.ecbs.items
                 c.if-is_matched.ecbs.items c.loop-probe.invariant.value
-                (sym c.is_matched.ensures ∙ w.if-is_matched.true) kept;
+                (sym is ∙ w.if-is_matched.true) kept;
             few = omega (
               arith,
               c.loop-probe.invariant.few,
@@ -50,7 +54,7 @@ loop-probe-preserved c =
                 not_pushed c.args.first_epid c.args.place test probes c.loop-probe.probe-index c.probe-item.result
                 c.loop-probe-test.true c.probe-item.is c.args.ecbs.now.items c.loop-probe.ecbs.items
                 c.if-is_matched.ecbs.items c.loop-probe.invariant.value
-                (sym c.is_matched.ensures ∙ w.if-is_matched.false) same;
+                (sym is ∙ w.if-is_matched.false) same;
             few = omega (arith, ap length same, c.loop-probe.invariant.few);
           }
     ]

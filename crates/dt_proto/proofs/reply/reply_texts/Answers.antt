@@ -17,7 +17,7 @@ use Rattle.dt_proto.proofs.DescribedTexts.{text-described, text-unrecorded}
 use Rattle.dt_proto.proofs.StatusTexts.{text-inactive, text-active, text-stopped, text-exited, text-history}
 use Rattle.dt_proto.proofs.StatusTexts.{text-closed}
 use Rattle.dt_proto.proofs.TableTexts.{text-aggregated}
-use Rattle.dt_proto.proofs.Texts.{text-snapped}
+use Rattle.dt_proto.proofs.Texts.{text-done, text-enabled, text-snapped}
 use Rattle.dt_proto.proofs.reply.reply_texts.Goals as goal
 
 four : decimal 4 ≡ codes "4"
@@ -41,12 +41,10 @@ unfolding digits
 eight = refl
 
 pub returns-clause-done : goal.returns-clause-done
-unfolding serde_json_on_literals
-returns-clause-done c = refl
+returns-clause-done c = text-done
 
 pub returns-clause-enabled : goal.returns-clause-enabled
-unfolding serde_json_on_literals
-returns-clause-enabled c = λ count first. simp append_assoc
+returns-clause-enabled c = text-enabled
 
 pub returns-clause-snapped : goal.returns-clause-snapped
 returns-clause-snapped c = text-snapped

@@ -57,8 +57,9 @@ returns-clause-answered g c =
     let met = rw c.make_ready.ensures.row.1 at c.finish-text.ensures.met in
     rw (account, ← c.in_ok-prepared.ensures.line, c.finish-text.ensures.text)
     (answered_from contents c.args.present.now.account c.args.notebook.now.note c.make_ready.new.note c.args.present.now.owner.knows
-    c.in_ok-prepared.prepared.item c.in_ok-prepared.prepared.text.items c.finish-text.new.note.knows c.requires.notebook.first
+    c.in_ok-prepared.prepared.item c.in_ok-prepared.prepared.text.items c.of-ending.result c.finish-text.new.note.knows c.requires.notebook.first
     c.make_ready.ensures.note met c.requires.taken.trailed.legal prepared.due
+    (c.of-ending.ensures c.args.present.now.account contents c.args.present.now.owner.knows c.in_ok-prepared.prepared.item prepared.drafted)
     (rw (c.make_ready.ensures.same.0, c.make_ready.ensures.row.1) at after))
 
 pub returns-clause-notebook : goal.returns-clause-notebook

@@ -41,6 +41,7 @@ returns-clause-held g c =
     let mine : c.in-Some.note.number ≡ c.args.moment.now.firing.now.cpu + 1 =
     ap (λ (n : Noted Account). n.number) note ∙ ap (λ (k : ℕ). k + 1) c.requires.follower.1 in
     let took = ap (λ (f : Followed). f.took) view ∙ c.lend.ensures.took in
+    let over = ap (λ (f : Followed). f.over) view ∙ c.lend.ensures.over in
     let known = ap (known_of c.args.life) view ∙ c.lend.ensures.known in
     let carried = subst (λ (f : Followed). Carries c.args.follower.now f c.args.life) (sym view) c.lend.ensures.carried in
     let legal = subst (λ (a : Account). IsLegalRow a contents c.args.present.now.owner.knows) (sym account)
@@ -52,7 +53,7 @@ returns-clause-held g c =
           c.args.moment.now.firing.now) (sym account) (c.offer-is_seen.ensures.seen.0 w.if-is_seen.true) in
           rw (w.result-is, w.follower-inside-is, last)
           (held_kept contents c.args.life c.args.moment.now.firing.now c.args.follower.now _ c.in-Some.note (rw (← row) at took) c.in-Some.is
-          known carried c.args.present.now.owner.knows mine c.offer-is_seen.ensures.met legal sees)
+          over known carried c.args.present.now.owner.knows mine c.offer-is_seen.ensures.met legal sees)
       | else-is_seen w ↦
           let last = rw w.if-is_seen.false at c.offer-is_seen.ensures.note in
           let unseen = λ (sees : Sees c.in-Some.note.row.account contents.registry
@@ -64,7 +65,7 @@ returns-clause-held g c =
           let count = sym (w.count.ensures ∙ ap (λ (n : Noted Account). length n.knows) last) in
           rw (w.result-is, w.follower-inside-is, last)
           (held_unseen contents c.args.life c.args.moment.now.firing.now c.args.follower.now _ c.in-Some.note (rw (← row) at took) c.in-Some.is
-          known carried c.args.present.now.owner.knows _ mine c.offer-is_seen.ensures.met legal unseen count)
+          over known carried c.args.present.now.owner.knows _ mine c.offer-is_seen.ensures.met legal unseen count)
     ]
 
 pub returns-clause-own : goal.returns-clause-own

@@ -2,6 +2,8 @@
 use Rattle.std.proofs.Common.{◌≡◌, ap, sym, ◌∙◌, Some, None}
 use Rattle.dt_facts.specs.Facts.{HaveGrown, last_note, lists_in}
 use Rattle.dt_facts.specs.Handles.{BegunLists, HeldFact}
+use Rattle.dt_facts.specs.Lives.{lives_over}
+use Rattle.dt_facts.specs.laws.Lives.{over_open}
 use Rattle.dt_seat.specs.Keeps.{KeptNote, took_in}
 use Rattle.dt_seat.specs.Knowledge.{steps_in}
 use Rattle.dt_seat.proofs.Lending.{carries_taken}
@@ -16,6 +18,20 @@ returns-in-Some-clause-carried g c =
     rw (c.take-told.ensures.after, ← c.follower.view_is)
     (carries_taken _ _ _ _ _ _ _ _ _ _ c.follower.invariant (steps_in c.args.lives.now.fact) c.args.life c.args.owner.now.row grown.2
     c.requires.is_open c.go_on_apart.new.share c.catch_up.new.beginning (Some c.informed.result) all took)
+
+pub returns-in-Some-clause-over : goal.returns-in-Some-clause-over
+returns-in-Some-clause-over g c =
+    let all = ap (λ (b : BegunLists). b.lists.lives) c.catch_up.ensures.beginning in
+    ap lives_over all ∙ over_open (steps_in c.args.lives.now.fact) c.args.life c.args.owner.now.row c.requires.is_open
+
+pub returns-in-None-clause-over : goal.returns-in-None-clause-over
+returns-in-None-clause-over g c =
+    let all = ap (λ (b : BegunLists). b.lists.lives) c.catch_up.ensures.beginning in
+    let over = ap lives_over all ∙ over_open (steps_in c.args.lives.now.fact) c.args.life c.args.owner.now.row c.requires.is_open in
+    elim c.match-told.branch [
+      | in-Some-2 w ↦ rw w.follower-is over
+      | in-None-2 w ↦ rw w.follower-is over
+    ]
 
 pub returns-in-None-clause-carried : goal.returns-in-None-clause-carried
 returns-in-None-clause-carried g c =

@@ -1,0 +1,64 @@
+-- What a source gave and a sink took, one move after another.
+use Rattle.std.proofs.Common.{◌≡◌, ℕ, zero, suc, ◌+◌, ◌-◌, List, [], ◌∷◌, ◌++◌, Option, Some, None, length, take, drop}
+use Rattle.std.proofs.Common.{sym, ap, ◌∙◌, append_assoc, refl, arith}
+use Rattle.std.proofs.Math.Seq.{take-nil, take-length}
+use Rattle.std.proofs.lemmas.List.{append-nil, length-drop, take-append-drop}
+use Rattle.std.specs.Io.KnownBytes.{Appends, Consumes}
+
+pub appends_none : (held : Option (List ℕ)) → Appends held held []
+appends_none None = tt
+appends_none (Some xs) = sym (append-nil xs)
+
+pub appends_more : (old middle new : Option (List ℕ)) (xs ys : List ℕ) → Appends old middle xs → Appends middle new ys
+    → Appends old new (xs ++ ys)
+appends_more None middle new xs ys h k = tt
+appends_more (Some os) None new xs ys h k = absurd h
+appends_more (Some os) (Some ms) None xs ys h k = absurd k
+appends_more (Some os) (Some ms) (Some ns) xs ys h k = k ∙ ap (λ l. l ++ ys) h ∙ append_assoc os xs ys
+
+pub consumes_none : (held : Option (List ℕ)) → Consumes held held []
+consumes_none None = tt
+consumes_none (Some xs) = refl
+
+pub consumes_more : (old middle new : Option (List ℕ)) (xs ys : List ℕ) → Consumes old middle xs → Consumes middle new ys
+    → Consumes old new (xs ++ ys)
+consumes_more None middle new xs ys h k = tt
+consumes_more (Some os) None new xs ys h k = absurd h
+consumes_more (Some os) (Some ms) None xs ys h k = absurd k
+consumes_more (Some os) (Some ms) (Some ns) xs ys h k = h ∙ ap (λ l. xs ++ l) k ∙ sym (append_assoc xs ys ns)
+
+take-add : (m n : ℕ) (bytes : List ℕ) → take (m + n) bytes ≡ take m bytes ++ take n (drop m bytes)
+take-add zero n bytes = rw (let e : 0 + n ≡ n = omega arith in e) refl
+take-add (suc m) n [] = rw (let e : suc m + n ≡ suc (m + n) = omega arith in e) (sym (take-nil n))
+take-add (suc m) n (byte ∷ bytes) = rw (let e : suc m + n ≡ suc (m + n) = omega arith in
+    e) (ap (λ more. byte ∷ more) (take-add m n bytes))
+
+pub more_written : (old middle new : Option (List ℕ)) (output rest : List ℕ) (before count : ℕ)
+    → rest ≡ drop before output → Appends old middle (take before output) → Appends middle new (take count rest)
+    → Appends old new (take (before + count) output)
+more_written None middle new output rest before count is h k = tt
+more_written (Some xs) None new output rest before count is h k = absurd h
+more_written (Some xs) (Some ys) None output rest before count is h k = absurd k
+more_written (Some xs) (Some ys) (Some zs) output rest before count is h k =
+    k ∙ ap (λ front. front ++ take count rest) h ∙ append_assoc xs (take before output) (take count rest)
+    ∙ ap (λ more. xs ++ more) (ap (λ r. take before output ++ take count r) is ∙ sym (take-add before count output))
+
+-- what is left after some bytes, as a slice has it
+pub whole_rest : (bytes : List ℕ) (count : ℕ) → take (length bytes - count) (drop count bytes) ≡ drop count bytes
+whole_rest bytes count = ap (λ n. take n (drop count bytes)) (sym (length-drop count bytes))
+    ∙ take-length (drop count bytes)
+
+-- a piece of which some more was taken
+pub left : (piece taken rest : List ℕ) (used : ℕ) → piece ≡ taken ++ rest
+    → piece ≡ (taken ++ take used rest) ++ take (length rest - used) (drop used rest)
+left piece taken rest used is =
+    is ∙ ap (λ more. taken ++ more) (sym (take-append-drop used rest))
+    ∙ sym (append_assoc taken (take used rest) (drop used rest))
+    ∙ ap (λ more. (taken ++ take used rest) ++ more) (sym (whole_rest rest used))
+
+-- a beginning of what comes after other bytes
+pub take_more : (xs ys : List ℕ) (n : ℕ) → xs ++ take n ys ≡ take (length xs + n) (xs ++ ys)
+take_more [] ys n = let e : n ≡ 0 + n = omega arith in ap (λ m. take m ys) e
+take_more (x ∷ xs) ys n =
+    let e : suc (length xs + n) ≡ length (x ∷ xs) + n = omega arith in
+    ap (λ l. x ∷ l) (take_more xs ys n) ∙ ap (λ m. take m (x ∷ (xs ++ ys))) e

@@ -1,0 +1,66 @@
+//! What the thread of a service and the thread that commands it share.
+use crate::desk::Desk;
+use dt_names::Name;
+use std::os::unix::net::UnixListener;
+use std::sync::{Condvar, Mutex, Wait};
+
+/// How far a service has come.
+#[derive(Clone, Copy, Debug, PartialEq, Eq)]
+enum Startup {
+    /// Its threads are being started.
+    Begun,
+    /// All its threads run.
+    Ready,
+    /// There was no memory, or a thread couldn't be started.
+    Refused,
+}
+
+/// Where an account's clients connect.
+#[derive(Drop)]
+pub struct AccountSocket {
+    /// The account's name.
+    pub name: Name,
+    /// The socket at its path.
+    pub listener: UnixListener,
+}
+
+/// What the thread of a service and the thread that commands it share: a desk for each processor, a socket for each account, and how far the service has come.
+#[derive(Drop)]
+pub struct Shared {
+    /// The desks, in the order of the processors.
+    pub desks: Vec<Desk>,
+    /// The sockets.
+    pub sockets: Vec<AccountSocket>,
+    start: Mutex<Startup>,
+    started: Condvar,
+}
+
+impl Shared {
+    /// What a service is given that hasn't begun.
+    pub fn new(desks: Vec<Desk>, sockets: Vec<AccountSocket>) -> Shared {
+        Shared {
+            desks,
+            sockets,
+            start: Mutex::new(Startup::Begun),
+            started: Condvar::new(),
+        }
+    }
+
+    /// Says that all threads run, or that the service can't start.
+    pub(crate) fn tell<R: Wait>(&self, rt: &R, is_ready: bool) {
+        *self.start.lock(rt) = if is_ready {
+            Startup::Ready
+        } else {
+            Startup::Refused
+        };
+        self.started.notify_all();
+    }
+
+    /// Waits until the service runs, or can't: whether it runs.
+    pub fn is_ready<R: Wait>(&self, rt: &R) -> bool {
+        let start = self
+            .started
+            .wait_while(rt, self.start.lock(rt), |start| *start == Startup::Begun);
+        *start == Startup::Ready
+    }
+}

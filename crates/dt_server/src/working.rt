@@ -1,0 +1,42 @@
+//! A processor's thread.
+ghost use Rattle.std.specs.Prelude.{◌≡◌, ◌+◌, ◌≤◌};
+
+use crate::desk::Desk;
+use dt_hub::{CpuSeat, Fired, Gate, Hub, HubSite};
+use std::sync::Wait;
+
+/// Makes so many firings of a processor's script, or fewer where the script ends or the chains give no entry, and answers how many it made.
+pub fn fire_many<J: HubSite, R: Wait, G: Gate>(
+    rt: &R,
+    hub: &Hub<J>,
+    cpu_seat: &mut CpuSeat<J>,
+    gate: &G,
+    count: u32,
+) -> u32
+    ensures most { result ≤ count }
+    ensures made { cpu_seat.new.place ≡ cpu_seat.old.place + result }
+    ensures cpu { cpu_seat.new.cpu ≡ cpu_seat.old.cpu }
+{
+    'firings: for made in 0..count {
+        match hub.fire(rt, cpu_seat, gate) {
+            Fired::At(_) => {}
+            Fired::End | Fired::Refused => return made,
+        }
+    }
+    count
+}
+
+/// Makes firings as its desk is asked for them, for ever.
+pub(crate) fn work<J: HubSite, R: Wait, G: Gate>(
+    rt: &R,
+    hub: &Hub<J>,
+    mut cpu_seat: CpuSeat<J>,
+    gate: &G,
+    desk: &Desk,
+) {
+    for _ in rt.forever() {
+        let count = desk.asked(rt);
+        let made = fire_many(rt, hub, &mut cpu_seat, gate, count);
+        desk.done(rt, made);
+    }
+}

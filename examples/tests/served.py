@@ -1,0 +1,309 @@
+"""A service over its sockets: the built program as `serve`, with clients of this script and with `send`."""
+import contextlib
+import os
+import pathlib
+import re
+import signal
+import socket
+import stat
+import subprocess
+import tempfile
+import threading
+import time
+
+from running import OK, PROGRAM, fired, judge, machine
+
+PATIENCE = 60
+SEATS = 256
+LINES_MAX = 1_024
+STATUS = b'{"cmd":"status"}\n'
+STATUS_REPLY = b'{"aggdrops":[0],"cause":null,"errors":[0],"exit":null,"ok":true,"phase":"inactive","seen":0}\n'
+FULL = b'{"error":17,"name":"Full"}\n'
+NO_PRIVILEGE = b'{"error":18,"name":"NoPrivilege"}\n'
+QUOTA = b'{"error":15,"name":"Quota"}\n'
+OPEN_STEP = re.compile(r"(open|call|fire|close) ([0-9]+) ?(.*)", re.S)
+
+
+class Service:
+    """A service of a machine file, in a folder of sockets."""
+
+    def __init__(self, path, folder):
+        self.folder = folder
+        self.run = subprocess.Popen([PROGRAM, "serve", str(path), str(folder)], stdin=subprocess.PIPE, stdout=subprocess.PIPE, stderr=subprocess.PIPE)
+        self.begun = self.run.stdout.readline()
+
+    def says(self, line):
+        self.run.stdin.write(line.encode() + b"\n")
+        self.run.stdin.flush()
+        return self.run.stdout.readline().decode().rstrip("\n")
+
+    def socket_of(self, name):
+        return str(self.folder / f"{name}.sock")
+
+    def client(self, name="root"):
+        return Client(self.socket_of(name))
+
+    def end(self, line=b"quit\n"):
+        """What it wrote at the end, with its error and its status."""
+        out, error = self.run.communicate(line, timeout=PATIENCE)
+        return out, error, self.run.returncode
+
+
+class Client:
+    """A connection of an account's client."""
+
+    def __init__(self, path):
+        self.to = socket.socket(socket.AF_UNIX)
+        self.to.settimeout(PATIENCE)
+        self.to.connect(path)
+        self.replies = self.to.makefile("rb")
+
+    def ask(self, line):
+        self.to.sendall(line)
+        return self.reply()
+
+    def reply(self):
+        """The next reply; nothing, where the connection has ended."""
+        try:
+            return self.replies.readline()
+        except ConnectionResetError:
+            return b""
+
+    def close(self):
+        self.replies.close()
+        self.to.close()
+
+
+@contextlib.contextmanager
+def serving(text, **more):
+    """A service of a machine, in a folder of its own."""
+    with tempfile.TemporaryDirectory() as name:
+        folder = pathlib.Path(name)
+        path = folder / "machine.json"
+        path.write_text(text, encoding="utf-8")
+        sockets = folder / "sockets"
+        sockets.mkdir()
+        service = Service(path, sockets, **more)
+        try:
+            yield service
+        finally:
+            service.run.kill()
+            service.run.wait()
+            for stream in (service.run.stdin, service.run.stdout, service.run.stderr):
+                with contextlib.suppress(BrokenPipeError):
+                    stream.close()
+
+
+def played(service, steps):
+    """The replies of a row's steps, by `send` for each session, and `step` for each firing."""
+    clients, found = {}, []
+    for step in steps:
+        word, number, more = OPEN_STEP.fullmatch(step).groups()
+        if word == "open":
+            words = [PROGRAM, "send", service.socket_of(more)]
+            clients[number] = subprocess.Popen(words, stdin=subprocess.PIPE, stdout=subprocess.PIPE)
+        elif word == "call":
+            clients[number].stdin.write(more.encode() + b"\n")
+            clients[number].stdin.flush()
+            found.append(f"{number} {clients[number].stdout.readline().decode()}")
+        elif word == "fire":
+            service.says(f"step {number} 1")
+        else:
+            end(clients.pop(number))
+    for client in clients.values():
+        end(client)
+    return "".join(found)
+
+
+def end(client):
+    client.stdin.close()
+    client.stdout.close()
+    client.wait(PATIENCE)
+
+
+def rows(_folder):
+    """The worked rows that sessions on the first seats play."""
+    for row in sorted(pathlib.Path("rows").iterdir()):
+        if not (row / "steps").is_file() or any((row / it).exists() for it in ("args", "error")) or not (row / "answer").is_file():
+            continue
+        steps = (row / "steps").read_text(encoding="utf-8").split("\n")[:-1]
+        if not all(re.match(r"(open [0-9]+ |call [0-9]+ |fire [0-9]+$|close [0-9]+$)", step) for step in steps):
+            continue
+        path = row / "machine.json" if (row / "machine.json").is_file() else row.parent / "machine.json"
+        with serving(path.read_text(encoding="utf-8")) as service:
+            yield f"{row} by a service", played(service, steps), (row / "answer").read_text(encoding="utf-8")
+
+
+def all_seats(_folder):
+    """As many connections at once as there are seats, and one too many."""
+    with serving(machine([[]])) as service:
+        clients = [service.client() for _ in range(SEATS)]
+        yield "sessions on all seats", {client.ask(STATUS) for client in clients}, {STATUS_REPLY}
+        late = service.client()
+        yield "one too many is told", (late.reply(), late.reply()), (FULL, b"")
+        words = [PROGRAM, "send", service.socket_of("root")]
+        sent = subprocess.run(words, input=STATUS, stdout=subprocess.PIPE, stderr=subprocess.PIPE, check=False)
+        yield "and by send", (sent.stdout, sent.stderr, sent.returncode), (FULL, b"", 0)
+        sent = subprocess.run(words, input=STATUS + STATUS, stdout=subprocess.PIPE, stderr=subprocess.PIPE, check=False)
+        yield "a second line has no reply", (sent.stdout, sent.stderr, sent.returncode), (FULL, b"fault\n", 1)
+        late.close()
+        clients.pop().close()
+        yield "a seat that was given back", status_after_a_while(service), STATUS_REPLY
+        for client in clients:
+            client.close()
+
+
+def status_after_a_while(service):
+    """The status line of a new session, once a seat is free: the end of a connection is seen by its thread."""
+    for _ in range(PATIENCE * 100):
+        client = service.client()
+        try:
+            client.to.sendall(STATUS)
+        except BrokenPipeError:
+            pass
+        reply = client.reply()
+        client.close()
+        if reply != FULL:
+            return reply
+        time.sleep(0.01)
+    return FULL
+
+
+def comes_and_goes(_folder):
+    """A client that is killed in the middle of a line, a thousand times, while all other seats are taken."""
+    with serving(machine([[]])) as service:
+        others = [service.client() for _ in range(SEATS - 1)]
+        assert all(client.ask(STATUS) for client in others)
+        well = 0
+        for _ in range(1_000):
+            client = service.client()
+            try:
+                client.to.sendall(b'{"cmd":"sta')
+            except BrokenPipeError:
+                pass
+            client.close()
+        yield "a seat after a thousand clients that vanished", status_after_a_while(service), STATUS_REPLY
+        resident = pathlib.Path(f"/proc/{service.run.pid}/statm").read_text(encoding="utf-8").split()[1]
+        yield "others are served", {client.ask(STATUS) for client in others}, {STATUS_REPLY}
+        for client in others:
+            client.close()
+        yield "less memory than a gigabyte", int(resident) * os.sysconf("SC_PAGE_SIZE") < 1 << 30, True
+
+
+def never_reads(_folder):
+    """A client that floods and never reads costs another nothing."""
+    with serving(machine([[fired(7)]])) as service:
+        flood = service.client()
+        flood.to.setblocking(False)
+        sent = 0
+        with contextlib.suppress(BlockingIOError):
+            while sent < 1 << 26:
+                sent += flood.to.send(b'{"cmd":"list","probe":""}\n' * 64)
+        yield "a client that doesn't read is held back", sent < 1 << 26, True
+        other = service.client()
+        before = time.monotonic()
+        found = [other.ask(STATUS) for _ in range(100)]
+        yield "another is served beside it", set(found), {STATUS_REPLY}
+        yield "and waits for nobody", time.monotonic() - before < 10, True
+        yield "a processor fires beside it", service.says("step 0 1"), "fired 0 1"
+        flood.close()
+        other.close()
+
+
+def cut_anywhere(_folder):
+    """Lines that come a byte at a time, several in one piece, and a rest that is no line."""
+    with serving(machine([[]])) as service:
+        client = service.client()
+        for byte in STATUS[:-1]:
+            client.to.sendall(bytes([byte]))
+        yield "a line a byte at a time", client.ask(b"\n"), STATUS_REPLY
+        client.to.sendall(STATUS * 3)
+        yield "three lines at once", [client.reply() for _ in range(3)], [STATUS_REPLY] * 3
+        client.to.sendall(b'{"cmd":"status"}')
+        client.to.shutdown(socket.SHUT_WR)
+        yield "a rest is no line", client.reply(), b""
+        client.close()
+        client = service.client()
+        client.to.sendall(b"x" * 65_537 + b"\n")
+        yield "a long line", client.reply(), b'{"error":3,"name":"LineLong"}\n'
+        client.close()
+
+
+def session_ends(_folder):
+    """A session ends with its `close`, and with the line that is over its quota."""
+    with serving(machine([[]], names=("root", "ann", "joe"))) as service:
+        client = service.client()
+        client.to.sendall(b'{"cmd":"close"}\n' + STATUS)
+        yield "close", (client.reply(), client.reply()), (OK.encode() + b"\n", b"")
+        client.close()
+        client = service.client("ann")
+        feeder = threading.Thread(target=feed, args=(client, STATUS * (LINES_MAX + 2)))
+        feeder.start()
+        found = [client.reply() for _ in range(LINES_MAX + 2)]
+        feeder.join()
+        yield "quota", (set(found[:LINES_MAX]), found[LINES_MAX:]), ({STATUS_REPLY}, [QUOTA, b""])
+        client.close()
+        client = service.client("joe")
+        yield "no privilege", (client.reply(), client.reply()), (NO_PRIVILEGE, b"")
+        client.close()
+
+
+def feed(client, text):
+    with contextlib.suppress(BrokenPipeError, ConnectionResetError):
+        client.to.sendall(text)
+
+
+def commands(_folder):
+    """The lines that command a service."""
+    with serving(machine([[fired(7)] * 3, []])) as service:
+        yield "ready", service.begun, b"ready\n"
+        for line, answer in [("step 0 1", "fired 0 1"), ("step 0 0", "fired 0 0"), ("step 0 5", "fired 0 2"), ("step 0 1", "fired 0 0"),
+                             ("step 1 4294967295", "fired 1 0"), ("step 2 1", "refused"), ("step 0", "refused"), ("step  0 1", "refused"),
+                             ("step 0 1 ", "refused"), ("step 00 1", "refused"), ("step 0 4294967296", "refused"), ("", "refused"),
+                             ("Quit", "refused"), ("quit ", "refused"), ("x" * 70_000, "refused")]:
+            yield f"the command '{line[:20]}'", service.says(line), answer
+        for name in ("root",):
+            mode = os.stat(service.socket_of(name))
+            yield "a socket is its owner's alone", (stat.S_ISSOCK(mode.st_mode), stat.S_IMODE(mode.st_mode)), (True, 0o600)
+        client = service.client()
+        yield "a session before the end", client.ask(STATUS) != b"", True
+        yield "quit", service.end(), (b"", b"", 0)
+        yield "the sockets are gone", os.listdir(service.folder), []
+        yield "and so is the session", client.reply(), b""
+    with serving(machine([[]])) as service:
+        yield "the end of the input", (service.end(b"step 0 1"), os.listdir(service.folder)), ((b"", b"", 0), [])
+    with serving(machine([[]])) as service:
+        service.run.stdin.close()
+        yield "input that is closed at once", (service.run.wait(PATIENCE), service.run.stdout.read(), os.listdir(service.folder)), (0, b"", [])
+    with serving(machine([[]])) as service:
+        service.run.stdout.close()
+        service.run.stdin.write(b"step 0 1\n")
+        service.run.stdin.flush()
+        yield "output that is closed", (service.run.wait(PATIENCE), service.run.stderr.read(), os.listdir(service.folder)), (1, b"fault\n", [])
+
+
+def refused(folder):
+    """Services that don't start."""
+    path = folder / "machine.json"
+    sockets = folder / "sockets"
+    sockets.mkdir()
+
+    def starts():
+        ran = subprocess.run([PROGRAM, "serve", str(path), str(sockets)], stdin=subprocess.DEVNULL, stdout=subprocess.PIPE, stderr=subprocess.PIPE,
+                             check=False, timeout=PATIENCE)
+        return ran.stdout, ran.stderr, ran.returncode
+
+    yield "no machine file", starts(), (b"", b"fault\n", 1)
+    path.write_text(machine([[]], cpus=0), encoding="utf-8")
+    yield "a machine that is refused", starts(), (b"", b"machine refused 3 at 0 0\n", 1)
+    path.write_text(machine([[]], names=("root", "ann", "bob")), encoding="utf-8")
+    (sockets / "ann.sock").write_text("mine", encoding="utf-8")
+    yield "a path that is there", (starts(), sorted(os.listdir(sockets)), (sockets / "ann.sock").read_text(encoding="utf-8")), ((b"", b"fault\n", 1), ["ann.sock"], "mine")
+    sockets = folder / "missing"
+    yield "no folder", starts(), (b"", b"fault\n", 1)
+    ran = subprocess.run([PROGRAM, "send", str(folder / "nobody")], input=STATUS, stdout=subprocess.PIPE, stderr=subprocess.PIPE, check=False)
+    yield "nobody at a path", (ran.stdout, ran.stderr, ran.returncode), (b"", b"fault\n", 1)
+
+
+signal.signal(signal.SIGPIPE, signal.SIG_IGN)
+judge(rows, all_seats, comes_and_goes, never_reads, cut_anywhere, session_ends, commands, refused)
