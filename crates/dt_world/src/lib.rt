@@ -16,6 +16,7 @@ mod replay_laws;
 mod replays;
 mod step_line;
 mod words;
+mod writing;
 
 pub use dt_steps::{
     Ran, Step, agree_alike, run, seen_alike, told_alone, trail_is_told, trail_is_view,
@@ -26,3 +27,4 @@ pub use replay_laws::{one_output, one_trail, replays_are_runs};
 pub use replays::{ReplayFault, replay, replay_trail};
 pub use step_line::{StepLine, one_step_line};
 pub use words::two_numbers;
+pub use writing::write_whole;

@@ -10,6 +10,7 @@ ghost use Rattle.dt_world.specs.Told.{IsOutput};
 use crate::limits::READS_MAX;
 use crate::output::Wanted;
 use crate::progress::Progress;
+use crate::writing::write_whole;
 use dt_chain::Seat;
 use dt_machine::{Machine, MachineFault};
 use std::alloc::{AllocError, Global};
@@ -151,26 +152,14 @@ fn next_line(text: &[u8]) -> Option<(&[u8], &[u8])>
     Some((&text[..at], &text[at + 1..]))
 }
 
-/// Writes all bytes, and flushes.
+/// Writes what is wanted.
 fn write_output<W: Write>(writer: &mut W, output: &[u8]) -> Result<(), ReplayFault>
     ensures ok { OnOk result (Appends (W.contents writer.old) (W.contents writer.new) output.now) }
     ensures err { IfErr result (λ fault. (count : ℕ) × (fault ≡ ReplayFault.Write)
         × Appends (W.contents writer.old) (W.contents writer.new) (take count output.now)) }
 {
-    let mut rest = output;
-    for _write in 0..u64::MAX {
-        // all bytes were given, and they count as written once they are flushed
-        if rest.is_empty() {
-            return writer.flush().map_err(|_| ReplayFault::Write);
-        }
-        match writer.write(rest) {
-            // a writer that takes none of what is left has failed: to ask it again might never end
-            Ok(0) => return Err(ReplayFault::Write),
-            Ok(count) => rest = &rest[count..],
-            Err(fault) if fault.kind() == ErrorKind::Interrupted => {}
-            // only an interrupted write is tried again: after any other a beginning is all that is written
-            Err(_) => return Err(ReplayFault::Write),
-        }
+    match write_whole(writer, output) {
+        Ok(()) => Ok(()),
+        Err(_) => Err(ReplayFault::Write),
     }
-    Err(ReplayFault::Write)
 }

@@ -2,9 +2,9 @@
 
 use crate::command::ServiceCommand;
 use crate::fault::Fault;
-use crate::writing::write_line;
 use dt_proto::{Lines, WholeLine};
 use dt_server::{Counted, Shared, Source};
+use dt_world::write_whole;
 use itoa::Buffer;
 use std::io::{self, Write};
 use std::sync::Wait;
@@ -96,10 +96,10 @@ fn write_fired<W: Write>(out: &mut W, cpu: u32, made: u32) -> io::Result<()> {
     out.write_all(digits.format(cpu).as_bytes())?;
     out.write_all(b" ")?;
     out.write_all(digits.format(made).as_bytes())?;
-    write_line(out, b"\n")
+    write_whole(out, b"\n")
 }
 
 /// Answers a line that is no command, or names no processor.
 fn refuse<W: Write>(out: &mut W) -> Result<(), Fault> {
-    write_line(out, b"refused\n").map_err(|_| Fault::Device)
+    write_whole(out, b"refused\n").map_err(|_| Fault::Device)
 }

@@ -1,7 +1,7 @@
 //! A client of a service.
 
 use crate::fault::Fault;
-use crate::writing::write_line;
+use dt_world::write_whole;
 use std::io;
 use std::io::{BufRead, BufReader, Write};
 use std::net::Net;
@@ -33,7 +33,7 @@ pub(crate) fn send<R: Net + Input + Print + AllocGlobal>(rt: &R, path: &str) -> 
         if !read_line(&mut replies, &mut reply)? {
             return Err(Fault::Device);
         }
-        write_line(&mut out, &reply).map_err(|_| Fault::Device)?;
+        write_whole(&mut out, &reply).map_err(|_| Fault::Device)?;
     }
     Ok(())
 }

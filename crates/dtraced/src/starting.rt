@@ -2,12 +2,12 @@
 
 use crate::commanding::obey_input;
 use crate::fault::Fault;
-use crate::writing::write_line;
 use dt_hub::NoGate;
 use dt_machine::Machine;
 use dt_names::Name;
 use dt_proto::Lines;
 use dt_server::{AccountSocket, Desk, Shared, serve_machine};
+use dt_world::write_whole;
 use std::alloc::{AllocError, Global};
 use std::net::Net;
 use std::os::unix::fs::PermissionsExt;
@@ -66,7 +66,7 @@ fn bind_and_run<
     };
     start(&threads, threads, rt.alloc(), machine, &shared)?;
     let mut out = io::writer(rt);
-    write_line(&mut out, b"ready\n").map_err(|_| Fault::Device)?;
+    write_whole(&mut out, b"ready\n").map_err(|_| Fault::Device)?;
     obey_input(rt, &threads, &shared, &mut lines, &mut out)
 }
 

@@ -1,5 +1,5 @@
 //! What a replay and a check write on given streams.
-ghost use Rattle.std.specs.Prelude.{◌≡◌, ◌++◌, Err, IfErr, IfOk, OnOk, codes};
+ghost use Rattle.std.specs.Prelude.{◌≡◌, ◌++◌, Err, IfErr, IfOk, codes};
 ghost use Rattle.std.specs.Io.KnownBytes.{Appends, Keeps};
 ghost use Rattle.dt_alone.specs.VerdictText.{verdict_text};
 ghost use Rattle.dt_alone.specs.Verdicts.{IsTrail, IsVerdictOn};
@@ -11,9 +11,9 @@ use crate::fault::Fault;
 use dt_alone::{CheckFault, Verdict, check};
 use dt_chain::Seat;
 use dt_machine::Machine;
-use dt_world::{ReplayFault, replay, replay_trail};
+use dt_world::{ReplayFault, replay, replay_trail, write_whole};
 use std::alloc::Global;
-use std::io::{self, Read, Write};
+use std::io::{Read, Write};
 
 /// Replays an input on a machine file, and writes the trail of the seat that is wanted, or else the replies.
 pub fn write_replay<R: Read, W: Write>(
@@ -57,16 +57,8 @@ pub fn write_check<W: Write>(
     let Ok(line) = format!(in alloc; "{verdict}\n") else {
         return Err(Fault::Device);
     };
-    match write_line(writer, line.as_bytes()) {
+    match write_whole(writer, line.as_bytes()) {
         Ok(()) => Ok(verdict),
         Err(_) => Err(Fault::Device),
     }
-}
-
-/// Writes all bytes, and flushes.
-pub(crate) fn write_line<W: Write>(writer: &mut W, line: &[u8]) -> io::Result<()>
-    ensures { OnOk result (Appends (W.contents writer.old) (W.contents writer.new) line.now) }
-{
-    writer.write_all(line)?;
-    writer.flush()
 }
