@@ -1,7 +1,7 @@
 -- What a source gave and a sink took, one move after another.
-use Rattle.std.proofs.Common.{◌≡◌, ℕ, zero, suc, ◌+◌, ◌-◌, List, [], ◌∷◌, ◌++◌, Option, Some, None, length, take, drop}
-use Rattle.std.proofs.Common.{sym, ap, ◌∙◌, append_assoc, refl, arith}
-use Rattle.std.proofs.Math.Seq.{take-nil, take-length}
+use Rattle.std.proofs.Common.{◌≡◌, ℕ, ◌-◌, List, [], ◌++◌, Option, Some, None, length, take, drop}
+use Rattle.std.proofs.Common.{sym, ap, ◌∙◌, append_assoc, refl}
+use Rattle.std.proofs.Math.Seq.{take-length}
 use Rattle.std.proofs.lemmas.List.{append-nil, length-drop, take-append-drop}
 use Rattle.std.specs.Io.KnownBytes.{Appends, Consumes}
 
@@ -39,10 +39,3 @@ left piece taken rest used is =
     is ∙ ap (λ more. taken ++ more) (sym (take-append-drop used rest))
     ∙ sym (append_assoc taken (take used rest) (drop used rest))
     ∙ ap (λ more. (taken ++ take used rest) ++ more) (sym (whole_rest rest used))
-
--- a beginning of what comes after other bytes
-pub take_more : (xs ys : List ℕ) (n : ℕ) → xs ++ take n ys ≡ take (length xs + n) (xs ++ ys)
-take_more [] ys n = let e : n ≡ 0 + n = omega arith in ap (λ m. take m ys) e
-take_more (x ∷ xs) ys n =
-    let e : suc (length xs + n) ≡ length (x ∷ xs) + n = omega arith in
-    ap (λ l. x ∷ l) (take_more xs ys n) ∙ ap (λ m. take m (x ∷ (xs ++ ys))) e

@@ -1,5 +1,6 @@
 -- One line more, and one stretch after another.
 use Rattle.std.proofs.Common.{◌≡◌, ℕ, ◌+◌, ◌⊎◌, inl, inr, Bool, true, false, cond, List, [], ◌∷◌, ◌++◌, Option, Some, None, Ok, length, take, drop, refl, sym, ap, ◌∙◌, subst, append_assoc, arith}
+use Rattle.std.proofs.Math.Seq.{take-append-add}
 use Rattle.std.proofs.lemmas.List.{append-nil, take-append-drop}
 use Rattle.std.specs.Prelude.{IfSome, IfNone, MatchBool, Result}
 use Rattle.std.specs.Io.KnownBytes.{Appends, Consumes}
@@ -31,7 +32,6 @@ use Rattle.dt_server.specs.declared.ended.Ended.TheVariants as ended
 use Rattle.dt_server.specs.Served.{IsServed, IsClosed, IsPastQuota, IsCutOff, IsOver, HasServed, memory_text, quota_text}
 use Rattle.dt_server.specs.Talk.{ComesOfAsking, ServesOn, Ends, EndsWithin, IsTalk, IsOfLine, ended_after}
 use Rattle.dt_server.proofs.Answering.{alone_asked, served_longer, served_none, served_refused, served_taken}
-use Rattle.dt_server.proofs.Streams.{take_more}
 use Rattle.dt_trail.specs.Items.{StartsWith, TrailItem, own, whose}
 
 -- one over the quota is so by it alone
@@ -175,13 +175,13 @@ module _ (account : Account) (contents : Contents) where
   pub cut : (said : LineAnswer) (lines : List LineForm) (items : List TrailItem) (text : List ℕ) (n : ℕ)
       → IsTold said lines items (text ++ answer_text said) → IsCutOff account contents lines items (text ++ take n (answer_text said))
   cut (answer.Reply bytes) lines items text n t =
-      record { whole = text ++ bytes.items; due = inl t; count = length text + n; text_is = take_more text bytes.items n }
+      record { whole = text ++ bytes.items; due = inl t; count = length text + n; text_is = sym (take-append-add text bytes.items n) }
   cut (answer.Closed bytes) lines items text n t =
-      record { whole = text ++ bytes.items; due = inr (inl t); count = length text + n; text_is = take_more text bytes.items n }
+      record { whole = text ++ bytes.items; due = inr (inl t); count = length text + n; text_is = sym (take-append-add text bytes.items n) }
   cut (answer.Quota bytes) lines items text n t =
-      record { whole = text ++ bytes.items; due = inr (inr t); count = length text + n; text_is = take_more text bytes.items n }
+      record { whole = text ++ bytes.items; due = inr (inr t); count = length text + n; text_is = sym (take-append-add text bytes.items n) }
   cut answer.Memory lines items text n t =
-      record { whole = text ++ memory_text; due = inl t; count = length text + n; text_is = take_more text memory_text n }
+      record { whole = text ++ memory_text; due = inl t; count = length text + n; text_is = sym (take-append-add text memory_text n) }
 
   -- one stretch after another
   pub on_and_on : (a b c : List TrailItem) (first second : List LineForm) (m n : List ℕ) → ServesOn account contents a b first m
