@@ -1,7 +1,7 @@
 -- The drafts of commands that change more than the count.
 use Rattle.std.proofs.Common.{◌≡◌, ℕ, ◌+◌, ◌<◌, Bool, true, false, List, [], ◌++◌, Option, Some, None, Ok, length, map}
 use Rattle.std.proofs.Common.{refl, sym, ap, ◌∙◌, subst, ⊎_elim, arith}
-use Rattle.std.specs.Global.{Vec}
+use Rattle.std.specs.Global.{Box, Vec}
 use Rattle.std.specs.Option.{IfSome, option_and_then}
 use Rattle.std.proofs.lemmas.Bool.{cases_Bool}
 use Rattle.std.proofs.lemmas.List.{length-map}
@@ -211,9 +211,9 @@ module _ (account : Account) (registry : Registry) (life : List Item) where
   text_refused text faults.Memory refusal draft one read found e reply change fresh off = cc
 
   -- an accepted `go`
-  pub go_draft : (t : Tracing) → is_over life ≡ false → phase account registry life ≡ Inactive
+  pub go_draft : (t : Box Tracing) → is_over life ≡ false → phase account registry life ≡ Inactive
       → has_room account registry (set_up account registry life) ≡ true
-      → IsTracing account registry (happens account registry (since_then (set_up account registry life) []) began) t
+      → IsTracing account registry (happens account registry (since_then (set_up account registry life) []) began) t.value
       → IsDraftOf account registry life (Ok go) (record { reply = Done; change = Go t })
   go_draft t fresh off room is = record {
     replies =

@@ -25,6 +25,7 @@ use Rattle.dt_consumer.specs.declared.draft.Change.{Change}
 use Rattle.dt_consumer.specs.declared.draft.Change.TheVariants.{Counted, Set, Enable, Go, Stop, Snap, Trunc, Close}
 use Rattle.dt_consumer.specs.declared.draft.Change.TheVariants.{Uncounted}
 use Rattle.dt_consumer.specs.declared.draft.Draft.{Draft}
+use Rattle.dt_consumer.specs.declared.tracing.Tracing.{Tracing}
 use Rattle.dt_life.specs.declared.phase.Phase.TheVariants.{Inactive, Active}
 use Rattle.dt_life.specs.declared.refusal.Refusal.{Refusal}
 use Rattle.dt_life.specs.Acceptance.{is_close, IsAcceptedClose, IsAcceptedGo}
@@ -35,6 +36,11 @@ module _ (account : Account) (registry : Registry) (life : List Item) where
 
   abbrev set_up_after : Result Ask Refusal → SetUp
   set_up_after line = set_up account registry (asked line ∷ life)
+
+  -- Tracing begins by the line, with this.
+  abbrev pub Begins : Result Ask Refusal → Tracing → Type 0
+  Begins line tracing =
+      IsAcceptedGo account registry life line × IsTracing account registry (happens account registry (since_then now []) began) tracing
 
   -- The change is the one that the line makes.
   abbrev pub Drafted : Result Ask Refusal → Change → Type 0
@@ -50,8 +56,7 @@ module _ (account : Account) (registry : Registry) (life : List Item) where
       × (is_enabled account registry (shapes_in now) epid forms ≡ true)
       × AreEcbs (now.clauses ++ forms) (added account registry epid forms) new.items
       × (shapes_of shapes ≡ shapes_in now ++ uses_of forms)
-  Drafted line (Go tracing) =
-      IsAcceptedGo account registry life line × IsTracing account registry (happens account registry (since_then now []) began) tracing
+  Drafted line (Go tracing) = Begins line tracing.value
   Drafted line Stop = (is_over life ≡ false) × (phase account registry life ≡ Active) × (line ≡ Ok stop)
   Drafted line (Snap cpu) =
       (is_over life ≡ false) × (is_readable now (phase account registry life) ≡ true) × (line ≡ Ok (snap cpu))
@@ -73,7 +78,7 @@ ChangeFits consumer (Enable clauses ecbs shapes) =
     (consumer.tracing ≡ None) × (vec_len clauses ≤ vec_len ecbs)
     × (vec_len consumer.programs.ecbs + vec_len ecbs ≤ ecbs_max)
     × All (IsPlaced (vec_len consumer.programs.clauses + vec_len clauses)) ecbs.items
-ChangeFits consumer (Go tracing) = vec_len tracing.uses ≡ vec_len consumer.programs.clauses
+ChangeFits consumer (Go tracing) = vec_len tracing.value.uses ≡ vec_len consumer.programs.clauses
 ChangeFits consumer _ = Unit {0}
 
 -- A draft can be applied to a consumer: `Consumer::draft` makes it so, and offers keep it so.

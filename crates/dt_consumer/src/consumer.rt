@@ -37,7 +37,7 @@ impl Consumer {
     ghost use Rattle.dt_machine.specs.Registry.{Registry};
     ghost use Rattle.dt_machine.specs.Shown.{IsShown};
     ghost use Rattle.dt_life.specs.Ask.{Ask};
-    ghost use Rattle.dt_consumer.specs.Draft.{CanApply, Drafted, ChangeFits, IsDraftOf};
+    ghost use Rattle.dt_consumer.specs.Draft.{Begins, CanApply, Drafted, ChangeFits, IsDraftOf};
     ghost use Rattle.dt_life.specs.Acceptance.{after_line};
     ghost use Rattle.dt_life.specs.Sees.{Sees};
     ghost use Rattle.dt_life.specs.declared.refusal.Refusal.{Refusal};
@@ -176,7 +176,7 @@ impl Consumer {
                 ecbs,
                 shapes,
             } => self.enable(clauses, ecbs, shapes),
-            Change::Go { tracing } => self.begin(tracing),
+            Change::Go { tracing } => self.begin(Box::into_inner(tracing)),
             Change::Stop => self.stop(machine),
             Change::Snap { cpu } => self.snap(cpu),
             Change::Trunc { aggregation } => self.trunc(aggregation),
@@ -219,9 +219,9 @@ impl Consumer {
 
     /// Begins to trace.
     fn begin(&mut self, tracing: Tracing)
-        requires { ChangeFits self.old (Change.Go tracing) }
+        requires { vec_len tracing.uses ≡ vec_len self.old.programs.clauses }
         ensures { (account : Account) (registry : Registry) (life : List Item) (line : Result Ask Refusal)
-            → StandsFor account registry self.old life → Drafted account registry life line (Change.Go tracing)
+            → StandsFor account registry self.old life → Begins account registry life line tracing
             → StandsFor account registry self.new (after_line life line) }
     {
         self.tracing = Some(tracing);

@@ -22,9 +22,9 @@ pub(crate) enum Change {
         ecbs: Vec<Ecb>,
         shapes: Shapes,
     },
-    /// Tracing begins.
+    /// Tracing begins. It has its room for records in itself, so it lies on the heap: a draft is moved for each line.
     Go {
-        tracing: Tracing,
+        tracing: Box<Tracing>,
     },
     /// Tracing ends.
     Stop,

@@ -242,7 +242,8 @@ impl Consumer {
         let Some(reserve) = end_reserve(options, clauses, ecbs) else {
             return Ok(Draft::refused(Refusal::Limit));
         };
-        let tracing = Tracing::begin(alloc, account, machine, options, &self.programs, reserve)?;
+        let begun = Tracing::begin(alloc, account, machine, options, &self.programs, reserve)?;
+        let tracing = Box::new(alloc, begun)?;
         Ok(Draft {
             reply: Reply::Done,
             change: Change::Go { tracing },
