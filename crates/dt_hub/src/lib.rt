@@ -1,7 +1,8 @@
 //! Consumers and processors on threads of their own.
 //!
 //! A [`Hub`] has a machine and 256 seats, each under a lock of its own. Sessions are opened on seats, ask lines and close; processors fire, each by its
-//! [`CpuSeat`], and offer what they fire to the sessions that the published chains name. All calls take the hub by a `&`, from any thread.
+//! [`CpuSeat`], and offer what they fire to the sessions that the published chains name. All calls but [`Hub::new`] and [`Hub::end`] take the hub by a `&`,
+//! from any thread.
 //! What a session is answered is due after one legal trail, which it knows then (`IsRepliedTo` of dt_seat); what a processor's call comes to is in
 //! `specs/Firings.antt`. What each of them knows of a trail is a beginning of it.
 #![tactic(auto)]

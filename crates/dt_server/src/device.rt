@@ -33,7 +33,7 @@ pub trait Sink {
 
     ghost failures: { Self → ℕ };
 
-    /// Moves some of the bytes once, from their beginning, and answers how many: at least one.
+    /// Moves some of the bytes once, from their beginning, and answers how many: at least one. Where there are none to move, that is a failure.
     fn push(&mut self, bytes: &[u8]) -> Result<usize, Failure>
         requires { failures self.old < 2 ^ 63 }
         ensures bound { WritesAtMost result bytes.now }

@@ -1,7 +1,7 @@
 //! Sessions over any source of bytes and any sink, and a service of them over Unix sockets.
 //!
 //! [`serve_session`] reads lines, however their bytes are cut, asks them, and writes what they are answered. What it promises is `HasServed` of
-//! `specs/Served.antt`: the receipt's items are a legal trail, whose lines are those that were read, less those that were refused for memory, and what is
+//! `specs/Served.antt`: the receipt's items are a legal trail, whose lines are a beginning of those that were read, less those that were refused for memory, and what is
 //! written is what such a session is answered alone. [`serve_machine`] runs a hub: a thread for each processor, each socket and each connection.
 #![tactic(auto)]
 

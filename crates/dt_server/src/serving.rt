@@ -15,7 +15,7 @@ use std::thread;
 use std::thread::{Scope, Threads};
 
 /// Serves a machine: a thread for each processor that has a desk, one for each socket, and one for each client that connects. It tells through `shared` whether
-/// all of these were started, and goes on for ever, but where it can't start.
+/// all of these were started, and doesn't return once it has started a thread.
 pub fn serve_machine<R: Threads + Wait + Clock + Sync, G: Gate + Sync>(
     rt: &R,
     alloc: Global,

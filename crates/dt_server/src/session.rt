@@ -44,7 +44,9 @@ pub fn serve_session<J: HubSite, T: Wait, R: Source, W: Sink>(
     ensures end { result.0 ≡ Ended.EndOfInput → IsAtEnd (R.remaining source.new) }
     ensures memory { result.0 ≡ Ended.Memory → (source.new ≡ source.old) × (sink.new ≡ sink.old) × (result.1.knows ≡ []) }
     ensures read_fault { result.0 ≡ Ended.ReadFault → R.failures source.new ≡ R.failures source.old + 1 }
+    ensures no_read_fault { result.0 ≢ Ended.ReadFault → R.failures source.new ≡ R.failures source.old }
     ensures write_fault { result.0 ≡ Ended.WriteFault → W.failures sink.new ≡ W.failures sink.old + 1 }
+    ensures no_write_fault { result.0 ≢ Ended.WriteFault → W.failures sink.new ≡ W.failures sink.old }
 {
     let ended = match Lines::new(alloc) {
         Ok(mut lines) => talk(rt, alloc, hub, &mut session, &mut lines, source, sink),
@@ -77,7 +79,9 @@ fn talk<J: HubSite, T: Wait, R: Source, W: Sink>(
     ensures end { result ≡ Ended.EndOfInput → IsAtEnd (R.remaining source.new) }
     ensures memory { result ≢ Ended.Memory }
     ensures read_fault { result ≡ Ended.ReadFault → R.failures source.new ≡ R.failures source.old + 1 }
+    ensures no_read_fault { result ≢ Ended.ReadFault → R.failures source.new ≡ R.failures source.old }
     ensures write_fault { result ≡ Ended.WriteFault → W.failures sink.new ≡ W.failures sink.old + 1 }
+    ensures no_write_fault { result ≢ Ended.WriteFault → W.failures sink.new ≡ W.failures sink.old }
 {
     let mut buf = [0u8; CHUNK];
     for _ in rt.forever() {
@@ -120,6 +124,7 @@ fn answer_piece<J: HubSite, T: Wait, W: Sink>(
     ensures kind { IfSome result IsOfLine }
     ensures failures { IfNone result (W.failures sink.new ≡ W.failures sink.old) }
     ensures write_fault { IfSome result (λ ended. ended ≡ Ended.WriteFault → W.failures sink.new ≡ W.failures sink.old + 1) }
+    ensures no_write_fault { IfSome result (λ ended. ended ≢ Ended.WriteFault → W.failures sink.new ≡ W.failures sink.old) }
 {
     let mut rest = piece;
     while !rest.is_empty() {
@@ -153,6 +158,7 @@ fn answer_line<J: HubSite, T: Wait, W: Sink>(
     ensures kind { IfSome result IsOfLine }
     ensures failures { IfNone result (W.failures sink.new ≡ W.failures sink.old) }
     ensures write_fault { IfSome result (λ ended. ended ≡ Ended.WriteFault → W.failures sink.new ≡ W.failures sink.old + 1) }
+    ensures no_write_fault { IfSome result (λ ended. ended ≢ Ended.WriteFault → W.failures sink.new ≡ W.failures sink.old) }
 {
     let answer = ask_line(rt, alloc, hub, session, line);
     if push_all(sink, answer.text()) {

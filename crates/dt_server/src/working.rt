@@ -1,5 +1,7 @@
 //! A processor's thread.
-ghost use Rattle.std.specs.Prelude.{◌≡◌, ◌+◌, ◌≤◌};
+ghost use Rattle.std.specs.Prelude.{◌≡◌, ◌≢◌, ◌⊎◌, ◌+◌, ◌≤◌, ℕ, None};
+ghost use Rattle.dt_chain.specs.Seats.{life_at};
+ghost use Rattle.dt_machine.specs.Registry.{firing_at};
 
 use crate::desk::Desk;
 use dt_hub::{CpuSeat, Fired, Gate, Hub, HubSite};
@@ -16,11 +18,14 @@ pub fn fire_many<J: HubSite, R: Wait, G: Gate>(
     ensures most { result ≤ count }
     ensures made { cpu_seat.new.place ≡ cpu_seat.old.place + result }
     ensures cpu { cpu_seat.new.cpu ≡ cpu_seat.old.cpu }
+    ensures early { result ≢ count → (firing_at J.contents.scripts cpu_seat.new.cpu cpu_seat.new.place ≡ None)
+        ⊎ ((seat : ℕ) → life_at cpu_seat.new.mask seat ≡ None) }
 {
     'firings: for made in 0..count {
         match hub.fire(rt, cpu_seat, gate) {
             Fired::At(_) => {}
-            Fired::End | Fired::Refused => return made,
+            Fired::End => return made,
+            Fired::Refused => return made,
         }
     }
     count
