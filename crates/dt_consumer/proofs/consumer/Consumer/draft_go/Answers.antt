@@ -27,4 +27,4 @@ returns-clause-drafted c = λ account life m.
     → IsTracing a registry (happens a registry (since_then s []) began) c.in_ok-begun.begun)
     own (λ are. c.in_ok-begun.ensures.traces s k.options k.clauses are k.shapes) in
     go_draft account registry life c.in_ok-tracing.tracing m.in_quota off room.0
-    (subst (IsTracing account registry (happens account registry (since_then s []) began)) (sym c.in_ok-tracing.ensures) (begun k.ecbs room.1))
+    (subst (IsTracing account registry (happens account registry (since_then s []) began)) (sym c.in_ok-tracing.ensures.ok) (begun k.ecbs room.1))
