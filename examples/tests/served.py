@@ -1,5 +1,6 @@
 """A service over its sockets: the built program as `serve`, with clients of this script and with `send`."""
 import contextlib
+import json
 import os
 import pathlib
 import re
@@ -11,7 +12,7 @@ import tempfile
 import threading
 import time
 
-from running import OK, PROGRAM, fired, judge, machine
+from running import FIRINGS_MAX, OK, PROGRAM, fired, judge, machine
 
 PATIENCE = 60
 SEATS = 256
@@ -95,8 +96,8 @@ def serving(text, **more):
 
 
 def played(service, steps):
-    """The replies of a row's steps, by `send` for each session, and `step` for each firing."""
-    clients, found = {}, []
+    """The replies of a row's steps, by `send` for each session, and what came of each firing, by `step`."""
+    clients, found, made = {}, [], []
     for step in steps:
         word, number, more = OPEN_STEP.fullmatch(step).groups()
         if word == "open":
@@ -107,12 +108,23 @@ def played(service, steps):
             clients[number].stdin.flush()
             found.append(f"{number} {clients[number].stdout.readline().decode()}")
         elif word == "fire":
-            service.says(f"step {number} 1")
+            made.append(service.says(f"step {number} 1"))
         else:
             end(clients.pop(number))
     for client in clients.values():
         end(client)
-    return "".join(found)
+    return "".join(found), made
+
+
+def makes(text, steps):
+    """What a machine's service says to a row's firings: each makes the next one of its script, or none."""
+    left = [len(script) for script in json.loads(text)["scripts"]]
+    for step in steps:
+        word, number, _more = OPEN_STEP.fullmatch(step).groups()
+        if word == "fire":
+            count = min(left[int(number)], 1)
+            left[int(number)] -= count
+            yield f"fired {number} {count}"
 
 
 def end(client):
@@ -130,8 +142,9 @@ def rows(_folder):
         if not all(re.match(r"(open [0-9]+ |call [0-9]+ |fire [0-9]+$|close [0-9]+$)", step) for step in steps):
             continue
         path = row / "machine.json" if (row / "machine.json").is_file() else row.parent / "machine.json"
-        with serving(path.read_text(encoding="utf-8")) as service:
-            yield f"{row} by a service", played(service, steps), (row / "answer").read_text(encoding="utf-8")
+        text = path.read_text(encoding="utf-8")
+        with serving(text) as service:
+            yield f"{row} by a service", played(service, steps), ((row / "answer").read_text(encoding="utf-8"), [*makes(text, steps)])
 
 
 def all_seats(_folder):
@@ -282,6 +295,18 @@ def commands(_folder):
         yield "output that is closed", (service.run.wait(PATIENCE), service.run.stderr.read(), os.listdir(service.folder)), (1, b"fault\n", [])
 
 
+def long_steps(_folder):
+    """Steps through a script of the longest, while a session traces: each firing is made, and seen, once."""
+    with serving(machine([[fired(7)] * FIRINGS_MAX])) as service:
+        client = service.client()
+        for line in (b'{"cmd":"enable","text":"syscall::read:entry{@c=count()}"}\n', b'{"cmd":"go"}\n'):
+            client.ask(line)
+        for count, made in ((40_000, 40_000), (FIRINGS_MAX, FIRINGS_MAX - 40_000), (1, 0)):
+            yield f"a step of {count}", service.says(f"step 0 {count}"), f"fired 0 {made}"
+        yield "what was seen", client.ask(b'{"cmd":"agg","name":"c"}\n'), \
+            b'{"fn":"count","name":"c","ok":true,"rows":[{"key":[],"value":%d}]}\n' % FIRINGS_MAX
+
+
 def refused(folder):
     """Services that don't start."""
     path = folder / "machine.json"
@@ -306,4 +331,4 @@ def refused(folder):
 
 
 signal.signal(signal.SIGPIPE, signal.SIG_IGN)
-judge(rows, all_seats, comes_and_goes, never_reads, cut_anywhere, session_ends, commands, refused)
+judge(rows, all_seats, comes_and_goes, never_reads, cut_anywhere, session_ends, commands, long_steps, refused)
