@@ -1,5 +1,7 @@
 //! Sessions that come and go and processors that fire, each on a thread of its own.
 use crate::calls::{answered, at_seat, fired, opened};
+use crate::rows;
+use crate::rows::{Row, fires_row, plays_row};
 use crate::scenes::{Scene, run};
 use crate::trail_text::trail_text;
 use dt_alone::{Verdict, check};
@@ -66,6 +68,12 @@ enum Work<J: HubSite> {
     Fire(CpuSeat<J>),
     /// Opens sessions of this account, one after the other, while a processor fires.
     Trace(&'static str),
+    /// Fires a script to its end once three sessions trace.
+    FireRows(CpuSeat<J>),
+    /// Asks a row's lines before all firings and after them.
+    Ask(Row),
+    /// Nothing.
+    Rest,
 }
 
 /// The works of two threads.
@@ -89,6 +97,9 @@ struct Tally {
     seen: u64,
 }
 
+/// What a thread has counted that counts nothing.
+const NOTHING: Tally = Tally { kept: 0, seen: 0 };
+
 impl Tally {
     /// Both together.
     fn and(self, other: Tally) -> Tally {
@@ -101,11 +112,30 @@ impl Tally {
 
 /// What the threads share beside the hub.
 #[derive(Drop)]
-struct Board {
+pub(crate) struct Board {
     /// The machine again, to judge trails on.
-    machine: Machine,
+    pub(crate) machine: Machine,
     /// How many processors still fire.
     firing: AtomicU64,
+    /// How many sessions of rows were opened.
+    pub(crate) opened: AtomicU64,
+    /// How many of them trace.
+    pub(crate) tracing: AtomicU64,
+    /// How many firings of rows were made.
+    pub(crate) fired: AtomicU64,
+}
+
+impl Board {
+    /// The board of so many processors that fire.
+    fn new(machine: Machine, firing: u64) -> Board {
+        Board {
+            machine,
+            firing: AtomicU64::new(firing),
+            opened: AtomicU64::new(0),
+            tracing: AtomicU64::new(0),
+            fired: AtomicU64::new(0),
+        }
+    }
 }
 
 /// How many sessions kept a processor's last firing.
@@ -139,7 +169,7 @@ fn fires<J: HubSite, R: Wait + Clock>(
 }
 
 /// Asks lines, and keeps the replies.
-fn asks<J: HubSite, R: Wait>(
+pub(crate) fn asks<J: HubSite, R: Wait>(
     rt: &R,
     alloc: Global,
     hub: &Hub<J>,
@@ -215,6 +245,16 @@ fn does<J: HubSite, R: Wait + Abort + Clock>(
             kept: 0,
             seen: come_and_go(rt, alloc, hub, board, name),
         },
+        Work::FireRows(token) => {
+            fires_row(rt, hub, board, token);
+            NOTHING
+        }
+        Work::Ask(row) => {
+            let played = plays_row(rt, alloc, hub, board, row);
+            assert!(rt; played.is_ok(), "out of memory");
+            NOTHING
+        }
+        Work::Rest => NOTHING,
     }
 }
 
@@ -296,10 +336,7 @@ pub(crate) fn plays<J: HubSite + Send + Sync, R: Threads + Wait + Abort + Clock 
 ) -> Result<(), Fail> {
     let mut tokens = tokens;
     let text = machine(alloc)?;
-    let board = Board {
-        machine: Machine::read(alloc, text.as_bytes())?,
-        firing: AtomicU64::new(4),
-    };
+    let board = Board::new(Machine::read(alloc, text.as_bytes())?, 4);
     let processors = Four {
         first: two_processors(&mut tokens).ok_or("no processors")?,
         second: two_processors(&mut tokens).ok_or("no processors")?,
@@ -312,6 +349,47 @@ pub(crate) fn plays<J: HubSite + Send + Sync, R: Threads + Wait + Abort + Clock 
     assert_eq!(rt; tally.kept, tally.seen);
     assert!(rt; tally.kept > 0, "no firing was kept");
     Ok(())
+}
+
+/// Two processors that fire once three sessions of rows trace.
+pub(crate) fn plays_rows<J: HubSite + Send + Sync, R: Threads + Wait + Abort + Clock + Sync>(
+    rt: &R,
+    alloc: Global,
+    hub: &Hub<J>,
+    tokens: Vec<CpuSeat<J>>,
+) -> Result<(), Fail> {
+    let mut tokens = tokens;
+    let board = Board::new(Machine::read(alloc, rows::MACHINE.as_bytes())?, 0);
+    let one = tokens.pop().ok_or("a processor")?;
+    let other = tokens.pop().ok_or("a processor")?;
+    let processors = Four {
+        first: Two {
+            one: Work::FireRows(one),
+            other: Work::FireRows(other),
+        },
+        second: Two {
+            one: Work::Rest,
+            other: Work::Rest,
+        },
+    };
+    let sessions = Four {
+        first: Two {
+            one: Work::Ask(Row::Switch),
+            other: Work::Ask(Row::History),
+        },
+        second: Two {
+            one: Work::Ask(Row::Store),
+            other: Work::Rest,
+        },
+    };
+    let _tally = eight_do(rt, alloc, hub, &board, processors, sessions);
+    Ok(())
+}
+
+/// Each trail of a row is answered as it is due, and each firing is kept where it should be, by processors that were told nothing.
+#[test]
+fn three_rows_agree(rt: HostRuntime) -> Result<(), Fail> {
+    run(&rt, rt.alloc(), rows::MACHINE, Scene::Rows)
 }
 
 /// Each trail is answered as it is due, and has the firings that the processors were told are kept.

@@ -20,6 +20,8 @@ mod meeting;
 #[cfg(test)]
 mod paths;
 #[cfg(test)]
+mod rows;
+#[cfg(test)]
 mod scenes;
 #[cfg(test)]
 mod seats;

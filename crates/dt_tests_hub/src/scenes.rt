@@ -23,6 +23,8 @@ pub(crate) enum Scene {
     Meeting,
     /// Sessions come and go, and processors fire.
     Crowd,
+    /// Three sessions ask the lines of rows, and two processors fire.
+    Rows,
 }
 
 /// Plays on a new hub of a machine, whose text this is.
@@ -52,6 +54,7 @@ fn staged<J: HubSite + Send + Sync, R: Threads + Wait + Abort + Clock + Sync>(
         Scene::Held(meanwhile) => gates::plays(rt, alloc, &hub, tokens, meanwhile),
         Scene::Meeting => meeting::plays(rt, alloc, &hub, tokens),
         Scene::Crowd => crowd::plays(rt, alloc, &hub, tokens),
+        Scene::Rows => crowd::plays_rows(rt, alloc, &hub, tokens),
     };
     hub.end(rt);
     result
