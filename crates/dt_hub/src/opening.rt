@@ -1,5 +1,5 @@
 //! How sessions come and go.
-ghost use Rattle.std.specs.Prelude.{◌≡◌, ◌↔◌, [], Some, IfOk, IfErr, IfSome};
+ghost use Rattle.std.specs.Prelude.{◌≡◌, ◌↔◌, [], Some, IfOk, IfErr, IfNone, IfSome, OnErr};
 ghost use Rattle.dt_cred.specs.declared.account.Account.{Account};
 ghost use Rattle.dt_hub.specs.Hubs.{IsNew, MayOpen};
 ghost use Rattle.dt_hub.specs.declared.fault.OpenFault.TheVariants as faults;
@@ -14,7 +14,7 @@ use std::alloc::{AllocError, Global};
 use std::sync::{MutexGuard, Wait};
 
 impl<J: HubSite> Hub<J> {
-    /// Opens a session where a seat is free, and says whether it did.
+    /// Opens a session where a seat is free, and says whether it did. Where it didn't, nothing has changed.
     fn open_at(
         &self,
         alloc: Global,
@@ -27,6 +27,8 @@ impl<J: HubSite> Hub<J> {
         ensures new { IfSome result (λ opened. IfOk opened IsNew) }
         ensures trail { IfSome result (λ opened. IfOk opened (λ session.
             locked.new.trail ≡ Some (known_row session.row [] opening_cells 0))) }
+        ensures none { IfNone result (locked.new ≡ locked.old) }
+        ensures refused { IfSome result (λ opened. OnErr opened (locked.new ≡ locked.old)) }
     {
         if !locked.is_free() || locked.life() == u64::MAX {
             return None;
