@@ -126,7 +126,7 @@ fn retire<J: HubSite, R: Wait>(
 
 /// Answers a line of the session on a seat: the text of its reply, and whether the session goes on.
 ///
-/// `Err`: there was no memory, and the line is no part of the trail.
+/// `Err`: there was no memory, and the trail has the items that it had. It may have more cells.
 pub(crate) fn ask_at<J: HubSite, R: Wait>(
     rt: &R,
     alloc: Global,
@@ -151,6 +151,7 @@ pub(crate) fn ask_at<J: HubSite, R: Wait>(
         (item_of_line asked.now) replied.text.items replied.ending notebook.new.note.knows) }
     ensures note { (notebook.new.note.row ≡ notebook.old.note.row) × StartsWith notebook.new.note.knows notebook.old.note.knows }
     ensures refused { OnErr result (Grows notebook.old.note notebook.new.note) }
+    ensures unchanged { OnErr result (present.new.owner.knows ≡ present.old.owner.knows) }
     ensures front { IsPrefix (writes_seen notebook.old.front) (writes_seen notebook.new.front) }
 {
     let prepared = prepare(

@@ -1,5 +1,5 @@
 //! What lies under the lock of a seat.
-ghost use Rattle.std.specs.Prelude.{◌≡◌, ◌+◌, ◌++◌, Some, None, IfOk, IsSome, IsSomeAnd, MatchBool, OnErr};
+ghost use Rattle.std.specs.Prelude.{◌≡◌, ◌+◌, ◌++◌, Some, None, IfOk, IsSome, IsSomeAnd, MatchBool, OnErr, option_map};
 ghost use Rattle.dt_legal.specs.Rows.{AreBelowPlace};
 ghost use Rattle.dt_machine.specs.Moment.{IsMoment};
 ghost use Rattle.dt_machine.specs.Registry.{firing_at};
@@ -76,7 +76,7 @@ impl<J: HubSite> LockedSeat<J> {
     /// Answers a line of the session: the text of its reply, with its newline, and whether the session goes on. The session then knows its
     /// whole trail, with the line, if that is within the quota.
     ///
-    /// `Err`: there was no memory. The line is no part of the trail, and may be asked again.
+    /// `Err`: there was no memory. The trail has the items that it had, so that the line is no part of it, and may be asked again.
     pub fn ask<R: Wait>(
         &mut self,
         rt: &R,
@@ -93,6 +93,7 @@ impl<J: HubSite> LockedSeat<J> {
         ensures answered { IfOk result (λ replied. IsRepliedTo J.contents session.old.account session.old.knows (item_of_line asked.now)
             replied.text.items replied.ending session.new.knows) }
         ensures refused { OnErr result (StartsWith session.new.knows session.old.knows × (own 0 session.new.knows ≡ own 0 session.old.knows)) }
+        ensures unchanged { OnErr result (option_map (λ t. t.knows) self.new.trail ≡ option_map (λ t. t.knows) self.old.trail) }
         ensures published { IsPublished J.contents session.new.seat session.new.life session.new.account session.new.knows session.new.published }
         ensures session { (session.new.seat ≡ session.old.seat) × (session.new.life ≡ session.old.life)
             × (session.new.row ≡ session.old.row) × (session.new.account ≡ session.old.account) }

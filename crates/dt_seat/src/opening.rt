@@ -45,7 +45,7 @@ impl<J: HubSite> LockedSeat<J> {
             × (session.row.account ≡ session.account)) }
         ensures trail { IfOk result (λ session. self.new.trail ≡ Some (known_row session.row [] opening_cells 0)) }
         ensures seat { (self.new.number ≡ self.old.number) × (self.new.life ≡ self.old.life) }
-        ensures same { OnErr result (self.new.trail ≡ None) }
+        ensures same { OnErr result (self.new ≡ self.old) }
     {
         let cpus = machine.cpus();
         let consumer = Consumer::new(alloc, *account, machine)?;
