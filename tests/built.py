@@ -10,6 +10,7 @@ import os
 import pathlib
 import re
 import resource
+import signal
 import socket
 import struct
 import subprocess
@@ -125,15 +126,24 @@ class Service:
         self.folder = folder
         self.run = subprocess.Popen([str(program), "serve", str(machine), str(folder)], stdin=subprocess.PIPE, stdout=subprocess.PIPE,
                                     stderr=subprocess.PIPE, **more)
-        self.watch = threading.Timer(PATIENCE, self.run.kill)
-        self.watch.start()
+        self.watch = self.watched()
         self.begun = self.run.stdout.readline()
+
+    def watched(self):
+        """Begins to watch it."""
+        watch = threading.Timer(PATIENCE, self.give_up)
+        watch.start()
+        return watch
+
+    def give_up(self):
+        """Kills it where it hasn't ended; whoever waits for its end sees that."""
+        if self.run.returncode is None:
+            os.kill(self.run.pid, signal.SIGKILL)
 
     def wait_again(self):
         """Gives it as long to end as it had at its start."""
         self.watch.cancel()
-        self.watch = threading.Timer(PATIENCE, self.run.kill)
-        self.watch.start()
+        self.watch = self.watched()
 
     def says(self, line):
         """The answer to a line of its standard input; nothing where it has ended."""
@@ -183,6 +193,14 @@ class Client:
     def ask(self, line):
         self.send(line)
         return self.reply()
+
+    def end(self):
+        """Says that no more lines come, waits for the end of the connection, and gives what was still written before it."""
+        with contextlib.suppress(OSError):
+            self.to.shutdown(socket.SHUT_WR)
+        rest = b"".join(iter(self.reply, b""))
+        self.close()
+        return rest
 
     def close(self):
         self.replies.close()
