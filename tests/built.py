@@ -77,12 +77,18 @@ def rows():
     return [row_of(folder) for folder in sorted(ROWS.iterdir()) if folder.is_dir() and not (folder / "cuts").exists()]
 
 
+def trail_words(row):
+    """The words by which a row's steps write the trail of their first seat; nothing where the row has none."""
+    seat = re.match(rb"(?:.*\n)*?open ([0-9]+) ", row.steps)
+    return ("replay", row.machine, "--trail", seat[1].decode()) if row.words[0] == "replay" and seat and row.wanted[2] == 0 else None
+
+
 def trail_of(program, row, folder):
     """The trail of a row's first seat in a file of the folder, and what a check tells of it; nothing where the row has none."""
-    seat = re.match(rb"(?:.*\n)*?open ([0-9]+) ", row.steps)
-    if row.words[0] != "replay" or not seat or row.wanted[2] != 0:
+    words = trail_words(row)
+    if not words:
         return None
-    text = run(program, "replay", row.machine, "--trail", seat[1].decode(), text=row.steps).out
+    text = run(program, *words, text=row.steps).out
     trail = pathlib.Path(folder) / "trail"
     trail.write_bytes(text)
     return trail, (b"agree %d\n" % text.count(b"\nreply "), b"", 0)
