@@ -56,6 +56,17 @@ def time_of(program, path, text):
     return used.ru_utime + used.ru_stime - before
 
 
+def cost_of(*words, stdin=os.devnull, stdout=subprocess.DEVNULL):
+    """The processor time of a run of the program in seconds, and the most memory that it had, in kilobytes; but no less than this script had."""
+    with open(stdin, "rb") as given:
+        running = subprocess.Popen([program(), *map(str, words)], stdin=given, stdout=stdout)
+    _pid, status, used = os.wait4(running.pid, 0)
+    running.returncode = os.waitstatus_to_exitcode(status)
+    if running.returncode != 0:
+        sys.exit("the program failed")
+    return used.ru_utime + used.ru_stime, used.ru_maxrss
+
+
 def instructions_of(program, path, text):
     """The instructions of a whole replay, the machine's reading too (by Debian's valgrind): the same in each run."""
     command = ["valgrind", "--tool=callgrind", "--callgrind-out-file=/dev/null", program, "replay", path]

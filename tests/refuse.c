@@ -1,16 +1,10 @@
 /* Refuses one growth of a program's memory. tests/refuse compiles it, and loads it before the C library.
  *
- * The variable REFUSE names a file of three numbers of 64 bits, which is shared with whoever looks on: how many growths there were, the
- * number of the one to refuse, counted from 1 (0: none), and how many were refused. A growth is a call of malloc, calloc, realloc,
- * posix_memalign, aligned_alloc or memalign, by any thread. Without such a file nothing is counted, and nothing refused. */
+ * Shared are three numbers: how many growths there were, the number of the one to refuse, counted from 1 (0: none), and how many were
+ * refused. A growth is a call of malloc, calloc, realloc, posix_memalign, aligned_alloc or memalign, by any thread. Where nothing is shared,
+ * nothing is counted, and nothing refused. */
+#include "counts.h"
 #include <errno.h>
-#include <fcntl.h>
-#include <stdatomic.h>
-#include <stddef.h>
-#include <stdint.h>
-#include <stdlib.h>
-#include <sys/mman.h>
-#include <unistd.h>
 
 /* the C library's own, by the names that it keeps for those who stand before it */
 extern void *__libc_malloc(size_t);
@@ -26,14 +20,7 @@ static struct counts *counts;
 
 __attribute__((constructor)) static void begin(void)
 {
-    const char *path = getenv("REFUSE");
-    int file = path ? open(path, O_RDWR | O_CLOEXEC) : -1;
-    if (file < 0)
-        return;
-    void *shared = mmap(NULL, sizeof *counts, PROT_READ | PROT_WRITE, MAP_SHARED, file, 0);
-    close(file);
-    if (shared != MAP_FAILED)
-        counts = shared;
+    counts = shared_counts(sizeof *counts);
 }
 
 /* counts a growth, and says whether it is the one to refuse */
