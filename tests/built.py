@@ -17,6 +17,7 @@ import subprocess
 import sys
 import tempfile
 import threading
+import time
 
 TOP = pathlib.Path(__file__).resolve().parent.parent
 PROGRAM = TOP / "crates" / "dtraced" / "out" / "dtraced"
@@ -166,6 +167,18 @@ class Service:
         pages = pathlib.Path(f"/proc/{self.run.pid}/statm").read_text(encoding="utf-8").split()[1]
         return int(pages) * os.sysconf("SC_PAGE_SIZE")
 
+    def threads(self):
+        """How many threads it has: one more for each connection."""
+        status = pathlib.Path(f"/proc/{self.run.pid}/status").read_text(encoding="utf-8")
+        return int(re.search(r"^Threads:\s*([0-9]+)$", status, re.M)[1])
+
+    def wait_for_threads(self, count):
+        """Waits until it has no more threads than these: all sessions have ended."""
+        end = time.monotonic() + PATIENCE
+        while self.threads() > count:
+            assert time.monotonic() < end, f"{self.threads()} threads are left, of which {count} stay"
+            time.sleep(0.001)
+
     def end(self, line=b"quit\n"):
         """Ends it, and tells what it wrote since, its error, its status and its processor time."""
         with contextlib.suppress(BrokenPipeError):
@@ -235,7 +248,13 @@ class Player:
 
     def play(self):
         """The replies, as a replay writes them."""
-        for step in self.steps:
+        self.do(self.steps)
+        self.leave()
+        return b"".join(self.found)
+
+    def do(self, steps):
+        """Plays these steps."""
+        for step in steps:
             word, number, more = STEP.fullmatch(step).groups()
             if word == b"open":
                 self.accounts[number] = more.decode()
@@ -246,9 +265,11 @@ class Player:
                 self.fired(number)
             else:
                 self.closed(number)
+
+    def leave(self):
+        """Ends all connections."""
         for seat in list(self.clients):
             self.closed(seat)
-        return b"".join(self.found)
 
 
 @contextlib.contextmanager
