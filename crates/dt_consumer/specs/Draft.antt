@@ -38,8 +38,8 @@ module _ (account : Account) (registry : Registry) (life : List Item) where
   set_up_after line = set_up account registry (asked line ∷ life)
 
   -- Tracing begins by the line, with this.
-  abbrev pub Begins : Result Ask Refusal → Tracing → Type 0
-  Begins line tracing =
+  abbrev pub BeginsTracing : Result Ask Refusal → Tracing → Type 0
+  BeginsTracing line tracing =
       IsAcceptedGo account registry life line × IsTracing account registry (happens account registry (since_then now []) began) tracing
 
   -- The change is the one that the line makes.
@@ -56,7 +56,7 @@ module _ (account : Account) (registry : Registry) (life : List Item) where
       × (is_enabled account registry (shapes_in now) epid forms ≡ true)
       × AreEcbs (now.clauses ++ forms) (added account registry epid forms) new.items
       × (shapes_of shapes ≡ shapes_in now ++ uses_of forms)
-  Drafted line (Go tracing) = Begins line tracing.value
+  Drafted line (Go tracing) = BeginsTracing line tracing.value
   Drafted line Stop = (is_over life ≡ false) × (phase account registry life ≡ Active) × (line ≡ Ok stop)
   Drafted line (Snap cpu) =
       (is_over life ≡ false) × (is_readable now (phase account registry life) ≡ true) × (line ≡ Ok (snap cpu))

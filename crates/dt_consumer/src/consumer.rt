@@ -37,7 +37,7 @@ impl Consumer {
     ghost use Rattle.dt_machine.specs.Registry.{Registry};
     ghost use Rattle.dt_machine.specs.Shown.{IsShown};
     ghost use Rattle.dt_life.specs.Ask.{Ask};
-    ghost use Rattle.dt_consumer.specs.Draft.{Begins, CanApply, Drafted, ChangeFits, IsDraftOf};
+    ghost use Rattle.dt_consumer.specs.Draft.{BeginsTracing, CanApply, Drafted, ChangeFits, IsDraftOf};
     ghost use Rattle.dt_life.specs.Acceptance.{after_line};
     ghost use Rattle.dt_life.specs.Sees.{Sees};
     ghost use Rattle.dt_life.specs.declared.refusal.Refusal.{Refusal};
@@ -217,11 +217,11 @@ impl Consumer {
         self.lines = self.lines.saturating_add(1);
     }
 
-    /// Begins to trace.
+    /// BeginsTracing to trace.
     fn begin(&mut self, tracing: Tracing)
         requires { vec_len tracing.uses ≡ vec_len self.old.programs.clauses }
         ensures { (account : Account) (registry : Registry) (life : List Item) (line : Result Ask Refusal)
-            → StandsFor account registry self.old life → Begins account registry life line tracing
+            → StandsFor account registry self.old life → BeginsTracing account registry life line tracing
             → StandsFor account registry self.new (after_line life line) }
     {
         self.tracing = Some(tracing);

@@ -1,6 +1,6 @@
 -- Each change is the one that the draft says.
 use Rattle.std.proofs.Common.{sym, ◌∙◌, subst}
-use Rattle.dt_consumer.specs.Draft.{Begins, Drafted}
+use Rattle.dt_consumer.specs.Draft.{BeginsTracing, Drafted}
 use Rattle.dt_consumer.proofs.consumer.Consumer.apply.Goals as goal
 
 pub returns-in-Enable : goal.returns-in-Enable
@@ -13,7 +13,7 @@ pub returns-in-Go : goal.returns-in-Go
 returns-in-Go c = λ account life line s drafted.
     let registry = c.args.machine.now.registry in
     c.begin.ensures account registry life line s
-    (subst (Begins account registry life line) (sym c.into_inner.ensures)
+    (subst (BeginsTracing account registry life line) (sym c.into_inner.ensures)
     (subst (Drafted account registry life line) (sym c.into_change.ensures ∙ c.in-Go.is) drafted.makes))
 
 pub returns-in-Snap : goal.returns-in-Snap
