@@ -217,7 +217,7 @@ impl Consumer {
         self.lines = self.lines.saturating_add(1);
     }
 
-    /// BeginsTracing to trace.
+    /// Begins to trace.
     fn begin(&mut self, tracing: Tracing)
         requires { vec_len tracing.uses ≡ vec_len self.old.programs.clauses }
         ensures { (account : Account) (registry : Registry) (life : List Item) (line : Result Ask Refusal)
