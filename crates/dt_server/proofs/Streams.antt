@@ -3,7 +3,7 @@ use Rattle.std.proofs.Common.{◌≡◌, ℕ, ◌-◌, List, [], ◌++◌, Optio
 use Rattle.std.proofs.Common.{sym, ap, ◌∙◌, append_assoc, refl}
 use Rattle.std.proofs.Math.Seq.{take-length}
 use Rattle.std.proofs.lemmas.List.{append-nil, length-drop, take-append-drop}
-use Rattle.std.specs.Io.KnownBytes.{Appends, Consumes}
+use Rattle.std.specs.Io.KnownBytes.{Appends, Consumes, Keeps}
 
 pub appends_none : (held : Option (List ℕ)) → Appends held held []
 appends_none None = tt
@@ -15,6 +15,12 @@ appends_more None middle new xs ys h k = tt
 appends_more (Some os) None new xs ys h k = absurd h
 appends_more (Some os) (Some ms) None xs ys h k = absurd k
 appends_more (Some os) (Some ms) (Some ns) xs ys h k = k ∙ ap (λ l. l ++ ys) h ∙ append_assoc os xs ys
+
+pub appends_kept : (old middle new : Option (List ℕ)) (xs : List ℕ) → Appends old middle xs → Keeps middle new → Appends old new xs
+appends_kept None middle new xs h k = tt
+appends_kept (Some os) None new xs h k = absurd h
+appends_kept (Some os) (Some ms) None xs h k = absurd k
+appends_kept (Some os) (Some ms) (Some ns) xs h k = k ∙ h
 
 pub consumes_none : (held : Option (List ℕ)) → Consumes held held []
 consumes_none None = tt
