@@ -3,6 +3,7 @@ import json
 import os
 import pathlib
 import re
+import resource
 import subprocess
 import sys
 import time
@@ -56,12 +57,16 @@ def time_of(program, path, text):
     return used.ru_utime + used.ru_stime - before
 
 
-def cost_of(*words, stdin=os.devnull, stdout=subprocess.DEVNULL):
-    """The processor time of a run of the program in seconds, and the most memory that it had, in kilobytes; but no less than this script had."""
+def cost_of(*words, stdin=os.devnull, stdout=subprocess.DEVNULL, space=resource.RLIM_INFINITY):
+    """The processor time of a run of the program in seconds, and the most memory that it had, in kilobytes; but no less than this script had. Nothing where
+    the program was given so much space, and ended with a fault."""
     with open(stdin, "rb") as given:
-        running = subprocess.Popen([program(), *map(str, words)], stdin=given, stdout=stdout)
+        running = subprocess.Popen([program(), *map(str, words)], stdin=given, stdout=stdout, stderr=subprocess.DEVNULL)
+    resource.prlimit(running.pid, resource.RLIMIT_AS, (space, space))
     _pid, status, used = os.wait4(running.pid, 0)
     running.returncode = os.waitstatus_to_exitcode(status)
+    if running.returncode == 1 and space != resource.RLIM_INFINITY:
+        return None
     if running.returncode != 0:
         sys.exit("the program failed")
     return used.ru_utime + used.ru_stime, used.ru_maxrss
