@@ -10,8 +10,8 @@
 #include <sys/syscall.h>
 #include <sys/uio.h>
 
-/* what becomes of the call. One that breaks fails, and where it was on a connection, that is gone */
-enum { FAILS = 1, SHORT, INTERRUPTED, BREAKS };
+/* what becomes of the call */
+enum { FAILS = 1, SHORT, INTERRUPTED };
 
 /* what a descriptor is on */
 enum { INPUT, OUTPUT, ERROR, SOCKET, FILES, OTHER };
@@ -52,8 +52,6 @@ static ssize_t allowed(int file, size_t size, int is_write)
     atomic_store(&order->met, 1 + device + (is_write ? 16 : 0));
     if (how == SHORT)
         return 1;
-    if (how == BREAKS && device == SOCKET)
-        shutdown(file, SHUT_RDWR);
     errno = how == INTERRUPTED ? EINTR : device == SOCKET ? ECONNRESET : EIO;
     return -1;
 }

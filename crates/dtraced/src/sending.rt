@@ -4,7 +4,7 @@ use crate::fault::Fault;
 use dt_world::write_whole;
 use std::io;
 use std::io::{BufRead, BufReader, Write};
-use std::net::Net;
+use std::net::{Net, Shutdown};
 use std::os::unix::net::UnixStream;
 
 /// For each line of standard input sends the line over the socket at this path, and writes the one reply to it. What stands after the last newline is no line.
@@ -29,7 +29,10 @@ pub(crate) fn send<R: Net + Input + Print + AllocGlobal>(rt: &R, path: &str) -> 
         }
         let mut to = &stream;
         // A service that has no seat says so and ends, maybe before the line was sent: its reply is read all the same, and a line that got none is a fault.
-        let _sent = to.write_all(&line);
+        if to.write_all(&line).is_err() {
+            // the service may still wait for the rest of the line, and nobody is to wait for its reply
+            let _ended = stream.shutdown(Shutdown::Write);
+        }
         if !read_line(&mut replies, &mut reply)? {
             return Err(Fault::Device);
         }
