@@ -1,5 +1,5 @@
 //! A client that writes in pieces while a processor fires, and one that reads in pieces. Each fails at the call that it is told.
-ghost use Rattle.std.specs.Prelude.{◌≡◌};
+ghost use Rattle.std.specs.Prelude.{None};
 
 use dt_hub::{CpuSeat, Fired, Hub, HubSite, NoGate};
 use dt_server::{Failure, Sink, Source};

@@ -1,4 +1,6 @@
 //! A session over a client that cuts its bytes, takes few at once, or fails.
+ghost use Rattle.std.specs.Prelude.{◌≡◌};
+
 use crate::devices::{Pieces, Taking};
 use dt_hub::{CpuSeat, Hub, HubParts, HubSite};
 use dt_machine::Machine;
@@ -133,17 +135,21 @@ fn session<J: HubSite, R: Wait + Abort>(
 
 /// The replies to as many lines as are whole in these bytes.
 fn replies_to(input: &[u8]) -> &'static [u8] {
-    let lines = input.iter().filter(|byte| **byte == b'\n').count();
-    let mut found = 0;
+    let mut left = input.iter().filter(|byte| **byte == b'\n').count();
     for (place, byte) in REPLIES.iter().enumerate() {
-        if found == lines {
-            return &REPLIES[..place];
+        if left == 0 {
+            return beginning(REPLIES, place);
         }
         if *byte == b'\n' {
-            found += 1;
+            left -= 1;
         }
     }
     REPLIES
+}
+
+/// So many of the bytes.
+fn beginning(bytes: &[u8], count: usize) -> &[u8] {
+    bytes.get(..count).unwrap_or(bytes)
 }
 
 #[test]
@@ -165,31 +171,35 @@ fn bytes_are_cut_anywhere(rt: HostRuntime) -> Result<(), Fail> {
 fn each_read_fails_once(rt: HostRuntime) -> Result<(), Fail> {
     let alloc = rt.alloc();
     let input = input_of(alloc)?;
-    for (good_reads, piece) in (0..).zip(input.chunks(FINE.gives)) {
-        let read = good_reads as usize * FINE.gives;
-        let devices = Devices { good_reads, ..FINE };
+    let mut read = 0;
+    for (place, piece) in input.chunks(FINE.gives).enumerate() {
+        let devices = Devices {
+            good_reads: place as u64,
+            ..FINE
+        };
         let (ended, written) = served(&rt, alloc, devices)?;
         assert_eq!(rt; ended, Ended::ReadFault);
         assert!(rt;
-            written.as_slice() == replies_to(&input[..read]),
+            written.as_slice() == replies_to(beginning(&input, read)),
             "other replies"
         );
+        read = read.wrapping_add(piece.len());
     }
     Ok(())
 }
 
 #[test]
 fn each_write_fails_once(rt: HostRuntime) -> Result<(), Fail> {
-    for (good_writes, _) in (0..).zip(REPLIES.iter()) {
+    for (place, _) in REPLIES.iter().enumerate() {
         let devices = Devices {
             takes: 1,
-            good_writes,
+            good_writes: place as u64,
             ..FINE
         };
         let (ended, written) = served(&rt, rt.alloc(), devices)?;
         assert_eq!(rt; ended, Ended::WriteFault);
         assert!(rt;
-            written.as_slice() == &REPLIES[..good_writes as usize],
+            written.as_slice() == beginning(REPLIES, place),
             "other replies"
         );
     }
