@@ -299,7 +299,8 @@ def long_steps(_folder):
     """Steps through a script of the longest, while a session traces: each firing is made, and seen, once."""
     with serving(machine([[fired(7)] * FIRINGS_MAX])) as service:
         client = service.client()
-        for line in (b'{"cmd":"enable","text":"syscall::read:entry{@c=count()}"}\n', b'{"cmd":"go"}\n'):
+        for line in (b'{"cmd":"option","name":"histsize","value":%d}\n' % FIRINGS_MAX,
+                     b'{"cmd":"enable","text":"syscall::read:entry{@c=count()}"}\n', b'{"cmd":"go"}\n'):
             client.ask(line)
         for count, made in ((40_000, 40_000), (FIRINGS_MAX, FIRINGS_MAX - 40_000), (1, 0)):
             yield f"a step of {count}", service.says(f"step 0 {count}"), f"fired 0 {made}"
