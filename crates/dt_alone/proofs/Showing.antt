@@ -22,7 +22,7 @@ use Rattle.dt_alone.specs.Happened.{all_to, comes_to, fitting_on}
 use Rattle.dt_alone.specs.Shown.{IsBeginningOf, events_of, of_kind}
 use Rattle.dt_alone.specs.declared.happened.Happened.{Happened}
 use Rattle.dt_alone.specs.declared.happened.Happened.TheVariants.{Failed, Left, Snapped, Truncated}
-use Rattle.dt_alone.specs.declared.shown.Beginning.{Beginning}
+use Rattle.dt_alone.specs.declared.shown.FittingRecords.{FittingRecords}
 use Rattle.dt_alone.specs.declared.shown.Came.{Came}
 use Rattle.dt_alone.specs.declared.shown.Came.TheVariants as came
 
@@ -68,7 +68,7 @@ same_switch size a a' b b' d d' e f g s =
     (subst (λ y. ShowsSwitch size a y d') f (subst (λ z. ShowsSwitch size a b z) g s))
 
 -- a beginning, and one record more
-module _ (room : ℕ) (records : List (List ℕ)) (b : Beginning) (is : IsBeginningOf room records b)
+module _ (room : ℕ) (records : List (List ℕ)) (b : FittingRecords) (is : IsBeginningOf room records b)
     (more : List ℕ) where
   whole_count : b.is_cut ≡ false → is.count ≡ length records
   whole_count e =
@@ -82,7 +82,7 @@ module _ (room : ℕ) (records : List (List ℕ)) (b : Beginning) (is : IsBeginn
       is.kept ∙ ap (λ n. concat (take n records)) (whole_count e)
       ∙ ap concat (take_all (length records) records (omega arith))
 
-  pub begins_kept : (next : Beginning) → b.is_cut ≡ false → length b.bytes.items + length more ≤ room
+  pub begins_kept : (next : FittingRecords) → b.is_cut ≡ false → length b.bytes.items + length more ≤ room
       → next.is_cut ≡ false → next.bytes.items ≡ b.bytes.items ++ more
       → IsBeginningOf room (records ++ more ∷ []) next
   begins_kept next open' fits stays grown = record {
@@ -105,7 +105,7 @@ module _ (room : ℕ) (records : List (List ℕ)) (b : Beginning) (is : IsBeginn
       (λ open'. omega (arith, over, ap length (whole_kept open')))
       (cases_Bool b.is_cut))
 
-  pub begins_cut : (next : Beginning) → ((b.is_cut ≡ true) ⊎ (room < length b.bytes.items + length more))
+  pub begins_cut : (next : FittingRecords) → ((b.is_cut ≡ true) ⊎ (room < length b.bytes.items + length more))
       → next.is_cut ≡ true → next.bytes.items ≡ b.bytes.items → IsBeginningOf room (records ++ more ∷ []) next
   begins_cut next over stops same = record {
     count = is.count;
@@ -116,7 +116,7 @@ module _ (room : ℕ) (records : List (List ℕ)) (b : Beginning) (is : IsBeginn
   }
 
 -- nothing came yet
-pub begins_nothing : (room : ℕ) (b : Beginning) → b.is_cut ≡ false → b.bytes.items ≡ [] → IsBeginningOf room [] b
+pub begins_nothing : (room : ℕ) (b : FittingRecords) → b.is_cut ≡ false → b.bytes.items ≡ [] → IsBeginningOf room [] b
 begins_nothing room b open' none = record {
   count = 0;
   longest = record { within = omega arith; fits = omega arith; longest = λ n few _. few };
@@ -133,7 +133,7 @@ true_either : (a b : Bool) → IsTrue a ⊎ IsTrue b → IsTrue (a || b)
 true_either true b e = refl
 true_either false b e = ⊎_elim (λ t. absurd (false≢true t)) (λ t. t) e
 
-pub shows_fill : (size reserve : ℕ) (ordinary of_end : List (List ℕ)) (a b : Beginning)
+pub shows_fill : (size reserve : ℕ) (ordinary of_end : List (List ℕ)) (a b : FittingRecords)
     → IsBeginningOf (size - reserve) ordinary a → IsBeginningOf (size - length a.bytes.items) of_end b
     → ShowsFill size reserve ordinary of_end (a.bytes.items ++ b.bytes.items) (a.is_cut || b.is_cut)
 shows_fill size reserve ordinary of_end a b x y = record {
@@ -386,7 +386,7 @@ pub take_rest : (hs : List Happened) (start : ℕ) → take (length hs - start) 
 take_rest hs start = take_all (length hs - start) (drop start hs) (omega (arith, length-drop start hs))
 
 -- the same beginning, written in another way
-pub same_beginning : (room : ℕ) (records : List (List ℕ)) (b next : Beginning) → IsBeginningOf room records b
+pub same_beginning : (room : ℕ) (records : List (List ℕ)) (b next : FittingRecords) → IsBeginningOf room records b
     → next.is_cut ≡ b.is_cut → next.bytes.items ≡ b.bytes.items → IsBeginningOf room records next
 same_beginning room records b next is cut same = record {
   count = is.count;

@@ -3,7 +3,7 @@ use Rattle.std.specs.Prelude.{◌≡◌, ◌↔◌, ◌<◌, ℕ, Bool, true, fa
 use Rattle.std.specs.List.{concat}
 use Rattle.dt_buffer.specs.Beginning.{IsLongestBeginning}
 use Rattle.dt_buffer.specs.History.{BufferEvent, attempt, swap, of_end, ordinary}
-use Rattle.dt_alone.specs.declared.shown.Beginning.{Beginning}
+use Rattle.dt_alone.specs.declared.shown.FittingRecords.{FittingRecords}
 use Rattle.dt_alone.specs.declared.shown.Came.{Came}
 use Rattle.dt_alone.specs.declared.shown.Came.TheVariants.{Nothing, Put, Snapped}
 
@@ -19,7 +19,7 @@ of_kind true events = of_end events
 of_kind false events = ordinary events
 
 -- The longest beginning of records that fits into a room, and whether it hasn't all of them.
-pub record IsBeginningOf (room : ℕ) (records : List (List ℕ)) (beginning : Beginning) : Type 0 where
+pub record IsBeginningOf (room : ℕ) (records : List (List ℕ)) (beginning : FittingRecords) : Type 0 where
   pub count : ℕ
   pub longest : IsLongestBeginning room records count
   pub kept : beginning.bytes.items ≡ concat (take count records)

@@ -7,7 +7,7 @@ ghost use Rattle.dt_alone.specs.Verdicts.{IsTrail, IsTrailVerdict, IsVerdictOn, 
 
 use crate::judge::{Judge, Ruling};
 use crate::lent_item::LentItem;
-use crate::trail::Trail;
+use crate::trail::TrailText;
 use crate::verdict::Verdict;
 use dt_cred::Account;
 use dt_machine::Machine;
@@ -33,7 +33,7 @@ pub fn check(alloc: Global, machine: &Machine, text: &[u8]) -> Result<Verdict, C
     ensures verdict { IfOk result (IsVerdictOn machine.now text.now) }
     ensures refused { result ≡ Err CheckFault.Text → IsTrail machine.now.registry text.now → ⊥ }
 {
-    let trail = Trail::read(alloc, text)?;
+    let trail = TrailText::read(alloc, text)?;
     let account = opened(machine, trail.name).ok_or(CheckFault::Text)?;
     judge(alloc, machine, account, &trail.items).map_err(|_| CheckFault::Memory)
 }

@@ -24,7 +24,7 @@ pub(crate) struct Shown {
 
 /// The bytes of the longest beginning of some records that fits, and whether it hasn't all of them.
 #[derive(Drop)]
-pub(crate) struct Beginning {
+pub(crate) struct FittingRecords {
     pub(crate) bytes: Vec<u8>,
     pub(crate) is_cut: bool,
 }
@@ -148,7 +148,7 @@ fn beginning_of(
     happened: &[Happened],
     cpu: u32,
     of_end: bool,
-) -> Result<Beginning, AllocError>
+) -> Result<FittingRecords, AllocError>
     ensures { IfOk result (IsBeginningOf room (of_kind of_end (all_to cpu happened.now))) }
 {
     let mut bytes: Vec<u8> = Vec::new(alloc);
@@ -168,7 +168,7 @@ fn beginning_of(
             }
         }
     }
-    Ok(Beginning { bytes, is_cut })
+    Ok(FittingRecords { bytes, is_cut })
 }
 
 /// Under ring: the longest end that fits, of the records that aren't longer than the buffer.

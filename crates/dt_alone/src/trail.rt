@@ -11,14 +11,14 @@ use std::alloc::Global;
 
 /// A trail, lent by its text.
 #[derive(Drop)]
-pub(crate) struct Trail<'a> {
+pub(crate) struct TrailText<'a> {
     /// The name of the session's account.
     pub(crate) name: &'a [u8],
     /// Its items, the oldest first.
     pub(crate) items: Vec<LentItem<'a>>,
 }
 
-impl<'a> Trail<'a> {
+impl<'a> TrailText<'a> {
     /// The trail that a text is. [`CheckFault::Text`]: it is none. [`CheckFault::Memory`]: there was no memory for the
     /// items.
     pub(crate) fn read(alloc: Global, text: &'a [u8]) -> Result<Self, CheckFault>
@@ -29,7 +29,7 @@ impl<'a> Trail<'a> {
         let (first, rest) = cut_at(b'\n', text).ok_or(CheckFault::Text)?;
         let name = first.strip_prefix(b"account ").ok_or(CheckFault::Text)?;
         let items = read_items(alloc, rest)?;
-        Ok(Trail { name, items })
+        Ok(TrailText { name, items })
     }
 }
 

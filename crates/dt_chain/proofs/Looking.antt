@@ -9,7 +9,7 @@ use Rattle.dt_machine.specs.laws.Tests.{shown_from, shown_to}
 use Rattle.dt_chain.specs.Kept.{slot_of, life_shown}
 use Rattle.dt_chain.specs.Look.{NamesFiring}
 use Rattle.dt_chain.specs.Writes.{Published}
-use Rattle.dt_chain.specs.declared.entries.Slot.{Slot}
+use Rattle.dt_chain.specs.declared.entries.SeatSlot.{SeatSlot}
 
 named_from : (named shown : Bool) (own life : ℕ) → cond named (cond shown (Some own) None) None ≡ Some life
     → (named ≡ true) × (shown ≡ true) × (own ≡ life)
@@ -43,11 +43,11 @@ module _ (registry : Registry) (firing : Firing) (belongs : Belongs registry fir
   )
 
   -- what a look names of a seat that is listed, and whose slot keeps its publication
-  pub look_at : (named : Bool) (slot : Option Slot) (publication : Option Published) → slot ≡ option_map slot_of publication
+  pub look_at : (named : Bool) (slot : Option SeatSlot) (publication : Option Published) → slot ≡ option_map slot_of publication
       → (IsTrue named ↔ IsSomeAnd publication (λ e. interest.Names e.probes firing.probe)) → (life : ℕ)
       → (cond named (life_shown registry firing slot) None ≡ Some life)
       ↔ IsSomeAnd publication (λ e. (e.life ≡ life) × NamesFiring registry e firing)
   look_at named slot publication kept listed life =
-      let P : Option Slot → Type 0 = λ s. (cond named (life_shown registry firing s) None ≡ Some life)
+      let P : Option SeatSlot → Type 0 = λ s. (cond named (life_shown registry firing s) None ≡ Some life)
       ↔ IsSomeAnd publication (λ e. (e.life ≡ life) × NamesFiring registry e firing) in
       subst P (sym kept) (seen_at named publication listed life)

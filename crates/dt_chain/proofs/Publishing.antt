@@ -7,11 +7,11 @@ use Rattle.std.specs.Option.{option_map, IsSomeAnd}
 use Rattle.dt_machine.specs.Interest as interest
 use Rattle.dt_chain.specs.Kept.{slot_of}
 use Rattle.dt_chain.specs.Writes.{Published}
-use Rattle.dt_chain.specs.declared.entries.Slot.{Slot}
+use Rattle.dt_chain.specs.declared.entries.SeatSlot.{SeatSlot}
 use Rattle.dt_chain.proofs.Listing.{along}
 
 -- the slots keep what the publication says
-pub kept_after : (slots : List (Option Slot)) (at seat : ℕ) (publication : Published) (was : Option Published)
+pub kept_after : (slots : List (Option SeatSlot)) (at seat : ℕ) (publication : Published) (was : Option Published)
     → at < length slots
     → get_or slots seat None ≡ option_map slot_of was
     → get_or (set slots at (Some (slot_of publication))) seat None

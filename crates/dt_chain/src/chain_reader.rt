@@ -8,7 +8,7 @@ ghost use Rattle.dt_machine.specs.Moment.{IsMoment};
 ghost use Rattle.dt_chain.specs.declared.chain_reader.Missed.TheVariants as missed;
 
 use crate::book::Site;
-use crate::chain_rule::{InnerReader, Sees};
+use crate::chain_rule::{InnerReader, SeesWrites};
 use crate::front::Front;
 use crate::seat_mask::SeatMask;
 use dt_machine::{Firing, Machine, Moment};
@@ -18,7 +18,7 @@ use thiserror::Error;
 /// A look got no entry to the chains, and nothing has changed.
 #[derive(Clone, Copy, Debug, Error, PartialEq, Eq)]
 #[error("the chains gave no entry")]
-pub struct Refused;
+pub struct LookRefused;
 
 /// What one processor looks through. It takes no lock and waits for nobody, whatever the writer does meanwhile.
 ///
@@ -53,7 +53,7 @@ enum Missed {
 }
 
 /// What one entry finds: the list that is published, and what the firing names where the mask names a seat.
-struct Found<'a, J: Site> {
+struct FoundWrites<'a, J: Site> {
     front: Front<J>,
     moment: Option<Moment<'a>>,
 }
@@ -83,7 +83,7 @@ impl<J: Site> ChainReader<J> {
         machine: &'a Machine,
         firing: &'a Firing,
         mask: &mut SeatMask,
-    ) -> Result<Option<Moment<'a>>, Refused>
+    ) -> Result<Option<Moment<'a>>, LookRefused>
         ensures mask { OnOk result (IsMaskAfter machine.now.registry self.new.seen firing.now mask.new) }
         ensures seen { OnOk result (IsPrefix self.old.seen self.new.seen) }
         ensures told { OnOk result (IsPrefix self.old.told self.new.seen) }
@@ -103,11 +103,11 @@ impl<J: Site> ChainReader<J> {
         );
         self.inner = Some(inner);
         match found {
-            Ok(Found { front, moment }) => {
+            Ok(FoundWrites { front, moment }) => {
                 self.seen = front;
                 Ok(moment)
             }
-            Err(Missed::Ended | Missed::ToldMore) => Err(Refused),
+            Err(Missed::Ended | Missed::ToldMore) => Err(LookRefused),
         }
     }
 
@@ -124,7 +124,7 @@ impl<J: Site> ChainReader<J> {
         let mut mask = SeatMask::new();
         match self.look_into(machine, firing, &mut mask) {
             Ok(_moment) => Some(mask),
-            Err(Refused) => None,
+            Err(LookRefused) => None,
         }
     }
 
@@ -152,7 +152,7 @@ fn enter<'a, J: Site>(
     machine: &'a Machine,
     firing: &'a Firing,
     mask: &mut SeatMask,
-) -> (InnerReader<J>, Result<Found<'a, J>, Missed>)
+) -> (InnerReader<J>, Result<FoundWrites<'a, J>, Missed>)
     ensures grows { IsPrefix (view inner.place) (view result.0.place) }
     ensures front { IfOk result.1 (λ found. found.front ≡ view result.0.place) }
     ensures told { IfOk result.1 (λ found. IsPrefix told.now found.front) }
@@ -164,7 +164,7 @@ fn enter<'a, J: Site>(
     ensures told_more { IfErr result.1 (λ why. why ≡ missed.ToldMore → length (view result.0.place) < length told.now) }
 {
     mask.clear();
-    match inner.enter_as::<Sees<J>>() {
+    match inner.enter_as::<SeesWrites<J>>() {
         Ok(reading) => {
             let copy = reading.get();
             let front = Front::of(copy.mark());
@@ -173,7 +173,7 @@ fn enter<'a, J: Site>(
                 return (reading.leave(), Err(Missed::ToldMore));
             }
             let moment = copy.look_into(machine, firing, mask);
-            (reading.leave(), Ok(Found { front, moment }))
+            (reading.leave(), Ok(FoundWrites { front, moment }))
         }
         Err(inner) => (inner, Err(Missed::Ended)),
     }

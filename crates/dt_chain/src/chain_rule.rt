@@ -10,11 +10,11 @@ use std::collections::LinkedList;
 use std::marker::PhantomData;
 
 /// The rule. What an end knows is the list of writes that it has seen published.
-pub(crate) struct Grows<J> {
+pub(crate) struct GrowsByWrites<J> {
     of: PhantomData<J>,
 }
 
-impl<J: Site> Protocol<ChainCopy, LinkedList<Write>> for Grows<J> {
+impl<J: Site> Protocol<ChainCopy, LinkedList<Write>> for GrowsByWrites<J> {
     ghost use Rattle.std.specs.Prelude.{[]};
     ghost use Rattle.dt_chain.specs.Chains.{IsChain};
 
@@ -24,16 +24,16 @@ impl<J: Site> Protocol<ChainCopy, LinkedList<Write>> for Grows<J> {
 }
 
 /// A step that shows what is published.
-pub(crate) struct Sees<J> {
+pub(crate) struct SeesWrites<J> {
     of: PhantomData<J>,
 }
 
-impl<J: Site> Outcome<ChainCopy, LinkedList<Write>> for Sees<J> {
+impl<J: Site> Outcome<ChainCopy, LinkedList<Write>> for SeesWrites<J> {
     ghost use Rattle.dt_chain.specs.Chains.{EndShows};
 
     ghost then = { EndShows J.book };
 }
 
-pub(crate) type InnerReader<J> = Reader<ChainCopy, LinkedList<Write>, Grows<J>>;
+pub(crate) type InnerReader<J> = Reader<ChainCopy, LinkedList<Write>, GrowsByWrites<J>>;
 
-pub(crate) type InnerWriter<J> = Writer<ChainCopy, Addition, LinkedList<Write>, Grows<J>>;
+pub(crate) type InnerWriter<J> = Writer<ChainCopy, Addition, LinkedList<Write>, GrowsByWrites<J>>;

@@ -16,13 +16,13 @@ use std::alloc::{AllocError, Global};
 /// Contracts speak of the list of all writes, the newest first: `EntriesAreAt writes entries`.
 #[derive(Drop)]
 pub struct Entries {
-    pub(crate) slots: [Option<Slot>; SEATS],
+    pub(crate) slots: [Option<SeatSlot>; SEATS],
     pub(crate) lists: Lists,
 }
 
 /// What is kept of a seat's publication beside the lists.
 #[derive(Clone, Copy)]
-pub(crate) struct Slot {
+pub(crate) struct SeatSlot {
     pub(crate) life: u64,
     pub(crate) account: Account,
 }
@@ -80,7 +80,7 @@ impl Entries {
         // only this can fail, so nothing has changed when it does
         self.lists.reserve()?;
         self.lists.set(seat, interest);
-        self.slots[seat.number() as usize] = Some(Slot {
+        self.slots[seat.number() as usize] = Some(SeatSlot {
             life,
             account: *account,
         });

@@ -32,7 +32,7 @@ mod seat_set;
 mod write;
 
 pub use book::Site;
-pub use chain_reader::{ChainReader, Refused};
+pub use chain_reader::{ChainReader, LookRefused};
 pub use chain_writer::ChainWriter;
 pub use chains::Chains;
 pub use entries::Entries;

@@ -5,7 +5,7 @@ ghost use mathlib.Core.List.{IsPrefix};
 use crate::book::{Ledger, Site};
 use crate::chain_copy::{Addition, ChainCopy};
 use crate::chain_reader::ChainReader;
-use crate::chain_rule::{InnerWriter, Sees};
+use crate::chain_rule::{InnerWriter, SeesWrites};
 use crate::front::Front;
 use crate::write::Write;
 use left_right::writer::Writer;
@@ -155,7 +155,7 @@ impl<J: Site> Press<J> {
             waiting,
         } = self;
         // no write is refused: each copy has its room
-        let (inner, _shown) = inner.publish_as::<Sees<J>, R>(rt);
+        let (inner, _shown) = inner.publish_as::<SeesWrites<J>, R>(rt);
         Press {
             inner,
             ledger,

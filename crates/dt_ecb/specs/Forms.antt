@@ -12,7 +12,7 @@ use Rattle.dt_ecb.specs.declared.parts.Ecb.{Ecb}
 use Rattle.dt_ecb.specs.declared.shape.KeyKind as kinds
 use Rattle.dt_ecb.specs.declared.shape.KeyKind.TheVariants as kind
 use Rattle.dt_ecb.specs.declared.shape.Shape.{Shape}
-use Rattle.dt_ecb.specs.declared.shapes.Named.{Named}
+use Rattle.dt_ecb.specs.declared.shapes.NumberedAggregation.{NumberedAggregation}
 use Rattle.dt_ecb.specs.declared.shapes.Shapes.{Shapes}
 
 -- where no clause stands
@@ -49,7 +49,7 @@ abbrev pub shapes_of : Shapes → List ShapeForm
 shapes_of shapes = map form_of_shape shapes.uses.items
 
 -- a named aggregation: its number, its name and its function
-abbrev pub form_of_named : Named → ℕ × (List ℕ × FunctionForm)
+abbrev pub form_of_named : NumberedAggregation → ℕ × (List ℕ × FunctionForm)
 form_of_named one = (one.number, (one.name, form_of_function one.function))
 
 -- what a fault says of the program; that memory ran out says nothing of it

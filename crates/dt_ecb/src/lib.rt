@@ -29,4 +29,4 @@ pub use limit_laws::limits_agree;
 pub use limits::{AGGREGATIONS_MAX, ECBS_MAX};
 pub use matches::listed;
 pub use parts::Ecb;
-pub use shapes::{Named, Shapes};
+pub use shapes::{NumberedAggregation, Shapes};

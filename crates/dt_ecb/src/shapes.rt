@@ -13,7 +13,7 @@ use std::alloc::{AllocError, Global};
 
 /// An aggregation of the accepted programs: its number, its name, and by which function it is kept.
 #[derive(Clone, Copy, PartialEq, Eq)]
-pub struct Named {
+pub struct NumberedAggregation {
     /// Its number: the place of its name's first use among all uses of the accepted programs, from 0 on. It stays the
     /// same whatever is accepted later. Numbers have gaps: further uses of a name take places, and no numbers.
     pub number: usize,
@@ -60,14 +60,14 @@ impl Shapes {
     }
 
     /// The aggregation of this name, or `None` where no accepted program uses the name. It takes no memory.
-    pub fn named(&self, name: &[u8]) -> Option<Named>
+    pub fn named(&self, name: &[u8]) -> Option<NumberedAggregation>
         ensures { option_map form_of_named result ≡ option_map (λ one. (one.0, (one.1.name, one.1.function)))
             (named (shapes_of self.now) name.now) }
     {
         for (number, one) in self.uses.iter().enumerate() {
             // the first use gives number and function: they stay the same whatever is accepted later
             if one.name.as_bytes() == name {
-                return Some(Named {
+                return Some(NumberedAggregation {
                     number,
                     name: one.name,
                     function: one.function,

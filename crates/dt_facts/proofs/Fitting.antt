@@ -5,7 +5,7 @@ use lib.ListN.{get_elem?}
 use Rattle.atomic_table.proofs.Lists.{at_set}
 use Rattle.dt_facts.specs.declared.fact.Fact.{Fact}
 use Rattle.dt_facts.specs.declared.fact.GrowingLists.{GrowingLists}
-use Rattle.dt_facts.specs.declared.rule.View.{View}
+use Rattle.dt_facts.specs.declared.rule.FactView.{FactView}
 use Rattle.dt_facts.specs.Facts.{lists_in, HaveGrown}
 use Rattle.dt_facts.specs.Rule.{Roll, share, book, both, both_unchecked, lists_begun, lists_told, book_begun, maker_view, no_view, FitsRoll, EachFitsRoll}
 use Rattle.dt_facts.proofs.Lists.{grown_from_none, at_snoc_at}
@@ -21,7 +21,7 @@ moved_off at n k z ne = ap (λ (b : Bool). cond b z (at k)) (ne_eqb k n ne)
 pub moved_on : {A : Type 0} (at : ℕ → A) (n : ℕ) (z : A) → cond (eqb n n) z (at n) ≡ z
 moved_on at n z = ap (λ (b : Bool). cond b z (at n)) (eq-eqb n n refl)
 
-pub there_before : (views : List View) (id other : ℕ) (w v : View) → (other ≡ id → ⊥) → get_elem? (set views id w) other ≡ some v → get_elem? views other ≡ some v
+pub there_before : (views : List FactView) (id other : ℕ) (w v : FactView) → (other ≡ id → ⊥) → get_elem? (set views id w) other ≡ some v → get_elem? views other ≡ some v
 there_before views id other w v apart e =
     ⊎_elim (λ (x : (other ≡ id) × (w ≡ v)). absurd (apart x.0)) (λ (x : (other ≢ id) × (get_elem? views other ≡ some v)). x.1) (at_set views id other w v e)
 
@@ -63,35 +63,35 @@ module _ (w : Roll) where
   fits_opened by n x ws b h = record { share = λ c. absurd (off c); book = λ _. b; met = λ c. absurd (off c); begins = λ _. h; told = λ _. grown_from_none (lists_in (w.held n)); makes = λ c. absurd (off c) }
 
   -- one view is changed, and the others still fit
-  pub fits_set : (views : List View) (id : ℕ) (v : View)
-      → ((j : ℕ) (u : View) → j ≢ id → get_elem? views j ≡ some u → FitsRoll w j u) → FitsRoll w id v
+  pub fits_set : (views : List FactView) (id : ℕ) (v : FactView)
+      → ((j : ℕ) (u : FactView) → j ≢ id → get_elem? views j ≡ some u → FitsRoll w j u) → FitsRoll w id v
       → EachFitsRoll w (set views id v)
   fits_set views id v others mine j u e =
       ⊎_elim
-      (λ (x : (j ≡ id) × (v ≡ u)). subst (λ (y : ℕ × View). FitsRoll w y.0 y.1) (λ i. (sym x.0 i, x.1 i)) mine)
+      (λ (x : (j ≡ id) × (v ≡ u)). subst (λ (y : ℕ × FactView). FitsRoll w y.0 y.1) (λ i. (sym x.0 i, x.1 i)) mine)
       (λ (x : (j ≢ id) × (get_elem? views j ≡ some u)). others j u x.0 x.1)
       (at_set views id j v u e)
 
   -- one view is changed and one is new
-  pub fits_split : (views : List View) (id : ℕ) (v n : View)
-      → ((j : ℕ) (u : View) → j ≢ id → get_elem? views j ≡ some u → FitsRoll w j u) → FitsRoll w id v → FitsRoll w (length views) n
+  pub fits_split : (views : List FactView) (id : ℕ) (v n : FactView)
+      → ((j : ℕ) (u : FactView) → j ≢ id → get_elem? views j ≡ some u → FitsRoll w j u) → FitsRoll w id v → FitsRoll w (length views) n
       → EachFitsRoll w (set views id v ++ n ∷ [])
   fits_split views id v n others mine new j u e =
       ⊎_elim
       (λ (x : get_elem? (set views id v) j ≡ some u). fits_set views id v others mine j u x)
-      (λ (x : (j ≡ length (set views id v)) × (n ≡ u)). subst (λ (y : ℕ × View). FitsRoll w y.0 y.1) (λ i. (sym (x.0 ∙ length-set views id v) i, x.1 i)) new)
+      (λ (x : (j ≡ length (set views id v)) × (n ≡ u)). subst (λ (y : ℕ × FactView). FitsRoll w y.0 y.1) (λ i. (sym (x.0 ∙ length-set views id v) i, x.1 i)) new)
       (at_snoc_at (set views id v) n u j e)
 
   -- one view is changed and one is spent
-  pub fits_join : (views : List View) (id other : ℕ) (v : View)
-      → ((j : ℕ) (u : View) → j ≢ id → j ≢ other → get_elem? views j ≡ some u → FitsRoll w j u) → FitsRoll w id v
+  pub fits_join : (views : List FactView) (id other : ℕ) (v : FactView)
+      → ((j : ℕ) (u : FactView) → j ≢ id → j ≢ other → get_elem? views j ≡ some u → FitsRoll w j u) → FitsRoll w id v
       → EachFitsRoll w (set (set views id v) other no_view)
   fits_join views id other v others mine j u e =
       ⊎_elim
-      (λ (x : (j ≡ other) × (no_view ≡ u)). subst (λ (y : View). FitsRoll w j y) x.1 (fits_nobody j))
+      (λ (x : (j ≡ other) × (no_view ≡ u)). subst (λ (y : FactView). FitsRoll w j y) x.1 (fits_nobody j))
       (λ (x : (j ≢ other) × (get_elem? (set views id v) j ≡ some u)).
       ⊎_elim
-      (λ (y : (j ≡ id) × (v ≡ u)). subst (λ (z : ℕ × View). FitsRoll w z.0 z.1) (λ i. (sym y.0 i, y.1 i)) mine)
+      (λ (y : (j ≡ id) × (v ≡ u)). subst (λ (z : ℕ × FactView). FitsRoll w z.0 z.1) (λ i. (sym y.0 i, y.1 i)) mine)
       (λ (y : (j ≢ id) × (get_elem? views j ≡ some u)). others j u y.0 x.0 y.1)
       (at_set views id j v u x.1))
       (at_set (set views id v) other j no_view u e)

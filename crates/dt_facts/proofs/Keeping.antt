@@ -6,7 +6,7 @@ use lib.ListN.{get_elem?}
 use Rattle.atomic_table.specs.Table.{step, keeps, Allows, Splits, Joins, opening}
 use Rattle.dt_facts.specs.declared.fact.Fact.{Fact}
 use Rattle.dt_facts.specs.declared.fact.GrowingLists.{GrowingLists}
-use Rattle.dt_facts.specs.declared.rule.View.{View}
+use Rattle.dt_facts.specs.declared.rule.FactView.{FactView}
 use Rattle.dt_facts.specs.Facts.{nothing, lists_in, HaveGrown, Follows}
 use Rattle.dt_facts.specs.Rule.{NoFactSlot, Roll, roll_of, share, book, both, both_unchecked, maker_view, no_view, FitsRoll, AllAgree, HasAgreed, HasGoneOn}
 use Rattle.dt_facts.proofs.Lists.{grown_trans}
@@ -18,7 +18,7 @@ no_names = roll_of (λ _. nothing) (λ k. k) (λ k. k) 0 0
 pub starts : (words : List ℕ) → AllAgree (opening words [] (maker_view 0))
 starts words = record { roll = no_names; unmade = λ n _. refl; each = one }
   where
-    one : (by : ℕ) (v : View) → get_elem? (maker_view 0 ∷ []) by ≡ some v → FitsRoll no_names by v
+    one : (by : ℕ) (v : FactView) → get_elem? (maker_view 0 ∷ []) by ≡ some v → FitsRoll no_names by v
     one zero v e = subst (FitsRoll no_names 0) (some-injective _ _ e) (fits_maker no_names 0 refl)
     one (suc by) v e = absurd (some-ne-none v (sym e))
 
@@ -87,8 +87,8 @@ goes_on slots id n x z c follows s h _ at _ =
     let fs = f.share refl in
     let fb = f.book refl in
     let next : Roll = roll_of (λ k. cond (eqb k n) z (w.held k)) w.share_at w.book_at w.maker_at w.made in
-    let off_share : (j : ℕ) (u : View) → j ≢ id → get_elem? s.views j ≡ some u → u.share ≡ true → u.name ≢ n = (λ j u apart e c q. apart (sym ((h.each j u e).share c).0 ∙ ap w.share_at q ∙ fs.0)) in
-    let off_book : (j : ℕ) (u : View) → j ≢ id → get_elem? s.views j ≡ some u → u.book ≡ true → u.name ≢ n = (λ j u apart e c q. apart (sym ((h.each j u e).book c).0 ∙ ap w.book_at q ∙ fb.0)) in (
+    let off_share : (j : ℕ) (u : FactView) → j ≢ id → get_elem? s.views j ≡ some u → u.share ≡ true → u.name ≢ n = (λ j u apart e c q. apart (sym ((h.each j u e).share c).0 ∙ ap w.share_at q ∙ fs.0)) in
+    let off_book : (j : ℕ) (u : FactView) → j ≢ id → get_elem? s.views j ≡ some u → u.book ≡ true → u.name ≢ n = (λ j u apart e c q. apart (sym ((h.each j u e).book c).0 ∙ ap w.book_at q ∙ fb.0)) in (
       both n z,
       keeps,
       tt,

@@ -4,7 +4,7 @@ use Rattle.atomic_table.specs.Seated.{TableId}
 use Rattle.atomic_table.specs.declared.shared.Seat.{Seat}
 use Rattle.dt_facts.specs.declared.fact.Fact.{Fact}
 use Rattle.dt_facts.specs.declared.fact.GrowingLists.{GrowingLists}
-use Rattle.dt_facts.specs.declared.rule.View.{View}
+use Rattle.dt_facts.specs.declared.rule.FactView.{FactView}
 use Rattle.dt_facts.specs.Rule.{NoFactSlot, share, book, both, lists_begun, maker_view}
 
 -- a share, a book or both: the word that it is of, its name, and its fact
@@ -34,7 +34,7 @@ abbrev pub making : TableId → ℕ → NextName
 making word name = record { word = word; name = name }
 
 abbrev pub FactSeat : Type 0
-FactSeat = Seat NoFactSlot View
+FactSeat = Seat NoFactSlot FactView
 
 abbrev pub held_seen : FactSeat → HeldFact
 held_seen s = holding s.table_id s.me.0.name s.me.0.fact
@@ -61,5 +61,5 @@ abbrev pub IsMaker : FactSeat → Type 0
 IsMaker s = s.me ≡ (maker_view s.me.0.name, [])
 
 -- a seat of the word, with this view
-abbrev pub IsOf : TableId → View → FactSeat → Type 0
+abbrev pub IsOf : TableId → FactView → FactSeat → Type 0
 IsOf word view s = (s.table_id ≡ word) × (s.me ≡ (view, []))

@@ -8,7 +8,7 @@ use std::marker::{Brand, PhantomData};
 // What a seat has of a name: its share, its book, both at once, or a beginning of its lists. One that has just become both
 // remembers what the share held, until the two are compared, and a beginning that was told another remembers that, until it has
 // learnt it. The maker's has the next name. No value of it is made.
-pub struct View {
+pub struct FactView {
     pub name: u64,
     pub share: bool,
     pub book: bool,
@@ -24,7 +24,7 @@ pub struct View {
 /// A word that never changes.
 pub struct Agreement;
 
-impl TableRule<(), View, ()> for Agreement {
+impl TableRule<(), FactView, ()> for Agreement {
     ghost use Rattle.dt_facts.specs.Rule.{AllAgree, maker_view};
 
     ghost holds = { λ _. AllAgree };
@@ -32,15 +32,15 @@ impl TableRule<(), View, ()> for Agreement {
     ghost first = { λ _. maker_view 0 };
 }
 
-pub type Cells = Table<(), View, (), Agreement, Global>;
+pub type Cells = Table<(), FactView, (), Agreement, Global>;
 
 // What a handle does its steps by.
-pub type Place = Seat<(), View>;
+pub type Place = Seat<(), FactView>;
 
 // The maker makes a name.
-pub struct Makes;
+pub struct MakesName;
 
-impl Split<View> for Makes {
+impl Split<FactView> for MakesName {
     ghost use Rattle.dt_facts.specs.Rule.{next_maker, made_view};
 
     ghost left = { next_maker };
@@ -51,7 +51,7 @@ impl Split<View> for Makes {
 // A share goes into its book, and out again.
 pub struct Shares;
 
-impl Join<View> for Shares {
+impl Join<FactView> for Shares {
     ghost use Rattle.dt_facts.specs.Rule.{with_share, no_view};
 
     ghost both = { with_share };
@@ -59,7 +59,7 @@ impl Join<View> for Shares {
     ghost spent = { no_view };
 }
 
-impl Split<View> for Shares {
+impl Split<FactView> for Shares {
     ghost use Rattle.dt_facts.specs.Rule.{without_share, share_alone};
 
     ghost left = { without_share };
@@ -68,9 +68,9 @@ impl Split<View> for Shares {
 }
 
 // A share that went into its book agrees with it.
-pub struct Agrees;
+pub struct AgreesWithBook;
 
-impl Play<(), View> for Agrees {
+impl Play<(), FactView> for AgreesWithBook {
     ghost use Rattle.dt_facts.specs.Rule.{HasAgreed};
 
     ghost then = { HasAgreed };
@@ -90,20 +90,20 @@ impl Given for Brand {
 }
 
 // Share and book go on to the fact that was picked.
-pub struct GoesOn<G> {
+pub struct GoesOnTo<G> {
     of: PhantomData<G>,
 }
 
-impl<G: Given> Play<(), View> for GoesOn<G> {
+impl<G: Given> Play<(), FactView> for GoesOnTo<G> {
     ghost use Rattle.dt_facts.specs.Rule.{HasGoneOn};
 
     ghost then = { HasGoneOn G.fact };
 }
 
 // A beginning is cut from a book, and is told to another, which learns it.
-pub struct Begins;
+pub struct CutsBeginning;
 
-impl Split<View> for Begins {
+impl Split<FactView> for CutsBeginning {
     ghost use Rattle.dt_facts.specs.Rule.{beginning_of};
 
     ghost left = { λ v. v };
@@ -111,7 +111,7 @@ impl Split<View> for Begins {
     ghost right = { beginning_of };
 }
 
-impl Join<View> for Begins {
+impl Join<FactView> for CutsBeginning {
     ghost use Rattle.dt_facts.specs.Rule.{with_told, no_view};
 
     ghost both = { with_told };
@@ -119,7 +119,7 @@ impl Join<View> for Begins {
     ghost spent = { no_view };
 }
 
-impl Play<(), View> for Begins {
+impl Play<(), FactView> for CutsBeginning {
     ghost use Rattle.dt_facts.specs.Rule.{HasLearntLists};
 
     ghost then = { HasLearntLists };
@@ -128,7 +128,7 @@ impl Play<(), View> for Begins {
 // A beginning is cut into two that are the same.
 pub struct Repeats;
 
-impl Split<View> for Repeats {
+impl Split<FactView> for Repeats {
     ghost use Rattle.dt_facts.specs.Rule.{same_beginning};
 
     ghost left = { λ v. v };
@@ -137,9 +137,9 @@ impl Split<View> for Repeats {
 }
 
 // A beginning goes into its book, and is found to be one.
-pub struct Compares;
+pub struct ComparesLists;
 
-impl Join<View> for Compares {
+impl Join<FactView> for ComparesLists {
     ghost use Rattle.dt_facts.specs.Rule.{with_beginning, no_view};
 
     ghost both = { with_beginning };
@@ -147,7 +147,7 @@ impl Join<View> for Compares {
     ghost spent = { no_view };
 }
 
-impl Play<(), View> for Compares {
+impl Play<(), FactView> for ComparesLists {
     ghost use Rattle.dt_facts.specs.Rule.{HasBegun};
 
     ghost then = { HasBegun };

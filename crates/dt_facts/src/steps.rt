@@ -4,7 +4,7 @@ ghost use Rattle.dt_facts.specs.Rule.{both, book, share, lists_begun};
 ghost use Rattle.dt_facts.specs.Handles.{IsOf, IsShare, IsBook, IsBoth, IsBeginning};
 ghost use Rattle.dt_facts.specs.Facts.{Follows, HaveGrown, lists_in, longer_lists};
 
-use crate::rule::{Agrees, Begins, Compares, Given, GoesOn, Place, Repeats, Shares};
+use crate::rule::{AgreesWithBook, CutsBeginning, ComparesLists, Given, GoesOnTo, Place, Repeats, Shares};
 use crate::word::Facts;
 use std::mem;
 
@@ -17,7 +17,7 @@ impl Facts {
         ensures both { IsOf self.now (both seat.old.me.0.name seat.old.me.0.fact) seat.new }
     {
         self.table.shared.join_seat::<Shares>(seat, other);
-        self.table.shared.load::<Agrees>(seat, 0);
+        self.table.shared.load::<AgreesWithBook>(seat, 0);
     }
 
     // The share comes out of its book.
@@ -35,7 +35,7 @@ impl Facts {
         requires follows { Follows seat.old.me.0.fact G.fact }
         ensures { IsOf self.now (both seat.old.me.0.name G.fact) seat.new }
     {
-        self.table.shared.load::<GoesOn<G>>(seat, 0);
+        self.table.shared.load::<GoesOnTo<G>>(seat, 0);
     }
 
     // The lists so far are cut from the book.
@@ -44,7 +44,7 @@ impl Facts {
         ensures book { IsOf self.now (book seat.old.me.0.name seat.old.me.0.fact) seat.new }
         ensures beginning { IsOf self.now (lists_begun seat.old.me.0.name (lists_in seat.old.me.0.fact)) result }
     {
-        self.table.shared.split_seat::<Begins>(seat)
+        self.table.shared.split_seat::<CutsBeginning>(seat)
     }
 
     // The same beginning is cut from another.
@@ -63,8 +63,8 @@ impl Facts {
         ensures longer { IsOf self.now (lists_begun seat.old.me.0.name (longer_lists seat.old.me.0.knows other.me.0.knows)) seat.new }
         ensures begins { HaveGrown seat.old.me.0.knows (longer_lists seat.old.me.0.knows other.me.0.knows) × HaveGrown other.me.0.knows (longer_lists seat.old.me.0.knows other.me.0.knows) }
     {
-        self.table.shared.join_seat::<Begins>(seat, other);
-        self.table.shared.load::<Begins>(seat, 0);
+        self.table.shared.join_seat::<CutsBeginning>(seat, other);
+        self.table.shared.load::<CutsBeginning>(seat, 0);
     }
 
     // A beginning goes into its book, and is found to be one.
@@ -74,8 +74,8 @@ impl Facts {
         ensures begins { HaveGrown other.me.0.knows (lists_in seat.old.me.0.fact) }
         ensures book { IsOf self.now (book seat.old.me.0.name seat.old.me.0.fact) seat.new }
     {
-        self.table.shared.join_seat::<Compares>(seat, other);
-        self.table.shared.load::<Compares>(seat, 0);
+        self.table.shared.join_seat::<ComparesLists>(seat, other);
+        self.table.shared.load::<ComparesLists>(seat, 0);
     }
 
     // The share goes into its book, and a beginning stands in its place.

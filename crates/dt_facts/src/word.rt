@@ -4,7 +4,7 @@ ghost use Rattle.dt_facts.specs.Facts.{nothing, Follows};
 ghost use Rattle.dt_facts.specs.Handles.{holding, making};
 
 use crate::handles::{Book, Both, Maker, Share};
-use crate::rule::{Cells, Given, Makes};
+use crate::rule::{Cells, Given, MakesName};
 use std::alloc::{AllocError, Global};
 use std::marker::Model;
 
@@ -43,7 +43,7 @@ impl Facts {
         ensures both { result ≡ holding self.now maker.old.name nothing }
         ensures maker { maker.new ≡ making self.now (maker.old.name + 1) }
     {
-        let seat = self.table.shared.split_seat::<Makes>(&mut maker.seat);
+        let seat = self.table.shared.split_seat::<MakesName>(&mut maker.seat);
         Both { seat }
     }
 

@@ -36,8 +36,50 @@ impl<J: HubSite> Hub<J> {
         Some(locked.open(alloc, &self.machine, &self.facts, account))
     }
 
-    /// Opens a session of the machine's account of this name, on the first seat that is free. It knows nothing yet, and its trail is empty. Close it
-    /// by [`Hub::close`].
+    /// Opens a session on the first seat that is free, of those whose lock nobody has: it waits for nobody. `None`: there is no such seat.
+    fn open_unlocked(
+        &self,
+        alloc: Global,
+        account: &Account,
+    ) -> Option<Result<Session<J>, AllocError>>
+        ensures session { IfSome result (λ opened. IfOk opened (λ session. (session.account ≡ account.now) × (session.knows ≡ []))) }
+        ensures new { IfSome result (λ opened. IfOk opened IsNew) }
+    {
+        for seat in &self.seats {
+            if let Some(mut locked) = seat.try_lock() {
+                let opened = self.open_at(alloc, &mut locked, account);
+                MutexGuard::unlock(locked);
+                if opened.is_some() {
+                    return opened;
+                }
+            }
+        }
+        None
+    }
+
+    /// Opens a session on the first seat that is free, and waits for who has the lock of one before it. `None`: no seat is free.
+    fn open_in_turn<R: Wait>(
+        &self,
+        rt: &R,
+        alloc: Global,
+        account: &Account,
+    ) -> Option<Result<Session<J>, AllocError>>
+        ensures session { IfSome result (λ opened. IfOk opened (λ session. (session.account ≡ account.now) × (session.knows ≡ []))) }
+        ensures new { IfSome result (λ opened. IfOk opened IsNew) }
+    {
+        for seat in &self.seats {
+            let mut locked = seat.lock(rt);
+            let opened = self.open_at(alloc, &mut locked, account);
+            MutexGuard::unlock(locked);
+            if opened.is_some() {
+                return opened;
+            }
+        }
+        None
+    }
+
+    /// Opens a session of the machine's account of this name, on the first seat that is free; one whose lock somebody has is passed over as long as there
+    /// is another. It knows nothing yet, and its trail is empty. Close it by [`Hub::close`].
     ///
     /// `Err`, in this order: no such account, or none with a dtrace privilege; no seat is free; there was no memory. Nothing has changed then.
     pub fn open<R: Wait>(&self, rt: &R, alloc: Global, name: &[u8]) -> Result<Session<J>, OpenFault>
@@ -53,18 +95,16 @@ impl<J: HubSite> Hub<J> {
         if !account.privs.has_dtrace() {
             return Err(OpenFault::NoPrivilege);
         }
-        for seat in &self.seats {
-            let mut locked = seat.lock(rt);
-            let opened = self.open_at(alloc, &mut locked, account);
-            MutexGuard::unlock(locked);
-            if let Some(result) = opened {
-                return match result {
-                    Ok(session) => Ok(session),
-                    Err(AllocError) => Err(OpenFault::Memory),
-                };
-            }
+        let opened = match self.open_unlocked(alloc, account) {
+            Some(opened) => Some(opened),
+            // only who is sure that no seat is free is told so
+            None => self.open_in_turn(rt, alloc, account),
+        };
+        match opened {
+            Some(Ok(session)) => Ok(session),
+            Some(Err(AllocError)) => Err(OpenFault::Memory),
+            None => Err(OpenFault::Full),
         }
-        Err(OpenFault::Full)
     }
 
     /// Ends a session. Its seat is free then, and what it published is withdrawn.

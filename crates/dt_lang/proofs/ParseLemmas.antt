@@ -17,7 +17,7 @@ use Rattle.dt_lang.specs.machine.Fits.{Fits}
 use Rattle.dt_lang.specs.Lexeme.{Lexes, LiesWithin}
 use Rattle.dt_lang.specs.Mode.{depth_of, mode_after}
 use Rattle.dt_program.specs.Program.{form_of_program}
-use Rattle.dt_lang.specs.machine.ReaderView.{Answered}
+use Rattle.dt_lang.specs.machine.ReaderView.{AnsweredText}
 use Rattle.dt_lang.specs.laws.TextLaws.{Going, going_on, going_first, refused_at, overlong_at, stray_at, ended_whole}
 use Rattle.dt_lang.specs.laws.TextLaws.{ended_early}
 use Rattle.dt_lang.specs.declared.mode.LexerMode.TheVariants.{Head, Predicate, Tail, Body}
@@ -67,29 +67,29 @@ module _ (text : List ℕ) (mode : LexerMode) (from : ℕ) (s : ProgramState) (h
 
   pub so_far_refused : (t : Token) (at to : ℕ) (r : TokenRefusal) (new : ProgramState)
       → Lexes text mode from (lexeme.Token at t to) → AnswersToken s t (Some r) new
-      → Answered text (Err (fault_at at to r))
+      → AnsweredText text (Err (fault_at at to r))
   so_far_refused t at to (refusal.Flaw flaw) new l a = refused_at text mode h.tokens from s h.going t at to _ l a
   so_far_refused t at to (refusal.Destructive what) new l a =
       refused_at text mode h.tokens from s h.going t at to _ l a
 
   pub so_far_overlong : (at to : ℕ) (limit : Limit) → Lexes text mode from (lexeme.Overlong at limit to)
-      → Answered text (Err (lang.Program at to (TooLong limit)))
+      → AnsweredText text (Err (lang.Program at to (TooLong limit)))
   so_far_overlong at to limit l = overlong_at text mode h.tokens from s h.going at to limit l
 
   pub so_far_stray : (at : ℕ) → Lexes text mode from (lexeme.Stray at)
-      → Answered text (Err (lang.Program at at Syntax))
+      → AnsweredText text (Err (lang.Program at at Syntax))
   so_far_stray at l = stray_at text mode h.tokens from s h.going at l
 
   pub so_far_whole : (at : ℕ) (p : Program) → Lexes text mode from (lexeme.End at)
-      → Some (form_of_program p) ≡ finished s → Answered text (Ok p)
+      → Some (form_of_program p) ≡ finished s → AnsweredText text (Ok p)
   so_far_whole at p l e = ended_whole text mode h.tokens from s h.going at (form_of_program p) l (sym e)
 
   pub so_far_early : (at : ℕ) → Lexes text mode from (lexeme.End at) → None ≡ finished s
-      → Answered text (Err (lang.Program at at Syntax))
+      → AnsweredText text (Err (lang.Program at at Syntax))
   so_far_early at l e = ended_early text mode h.tokens from s h.going at l (sym e)
 
   pub so_far_end : (at : ℕ) (r : Option Program) → Lexes text mode from (lexeme.End at)
-      → option_map form_of_program r ≡ finished s → Answered text (ok_or r (lang.Program at at Syntax))
+      → option_map form_of_program r ≡ finished s → AnsweredText text (ok_or r (lang.Program at at Syntax))
   so_far_end at (Some p) l e = so_far_whole at p l e
   so_far_end at None l e = so_far_early at l e
 

@@ -3,7 +3,7 @@ ghost use Rattle.std.specs.Prelude.{◌≡◌, ℕ, Err, IfOk, List};
 ghost use Rattle.dt_lang.specs.machine.ClauseState.{program_start};
 ghost use Rattle.dt_program.specs.Program.{ClauseForm, form_of_program};
 ghost use Rattle.dt_program.specs.Written.{IsWrittenProgram};
-ghost use Rattle.dt_lang.specs.machine.ReaderView.{Answered, program_state_of};
+ghost use Rattle.dt_lang.specs.machine.ReaderView.{AnsweredText, program_state_of};
 ghost use Rattle.dt_lang.specs.Reads.{IsRefusedProgram, Reading, Reads, program};
 ghost use Rattle.dt_lang.specs.Refused.{Cause, because, destroys};
 ghost use Rattle.dt_lang.specs.declared.fault.Flaw.{Flaw};
@@ -40,7 +40,7 @@ impl ParseProgram for Program {
 /// Reads a program by a reader that has read nothing.
 fn read(alloc: Global, reader: &mut ProgramReader, text: &[u8]) -> Result<Program, LangFault>
     requires { program_state_of reader.old ≡ program_start }
-    ensures { Answered text.now result }
+    ensures { AnsweredText text.now result }
 {
     let mut mode = LexerMode::Head;
     let mut from = 0;

@@ -1,11 +1,15 @@
 -- Which rows a session's trail may have. A row has the oldest item first, and a life the newest.
-use Rattle.std.specs.Prelude.{◌≡◌, ◌<◌, ◌≤◌, ◌+◌, ◌⊎◌, ℕ, false, List, [], map, reverse}
+use Rattle.std.specs.Prelude.{◌≡◌, ◌≢◌, ◌↔◌, ◌<◌, ◌≤◌, ◌+◌, ◌⊎◌, ℕ, Bool, false, List, [], map, reverse}
 use Rattle.std.specs.List.{AllByRecursion}
 use Rattle.dt_cred.specs.declared.account.Account.{Account}
+use Rattle.dt_ecb.specs.Ecbs.{of_probe}
+use Rattle.dt_machine.specs.Interest.{Names}
 use Rattle.dt_machine.specs.Registry.{Contents}
-use Rattle.dt_life.specs.Life.{Item, SetUp, is_active, phase_of, seen_count, set_up}
+use Rattle.dt_life.specs.Acceptance.{IsAcceptedGo}
+use Rattle.dt_life.specs.Life.{Item, SetUp, ecbs, is_active, phase_of, seen_count, set_up}
 use Rattle.dt_life.specs.Limits.{lines_max}
 use Rattle.dt_proto.specs.Legal.{IsLegal, life_of_trail}
+use Rattle.dt_proto.specs.Line.{ask_in}
 use Rattle.dt_proto.specs.Lines.{LineForm, line_form}
 use Rattle.dt_proto.specs.Lines.{long_line as long_form}
 use Rattle.dt_proto.specs.Trail.{WrittenItem, line_asked, long_asked, fired_at}
@@ -46,6 +50,16 @@ abbrev pub line_form_of : TrailItem → LineForm
 line_form_of (line bytes) = line_form bytes
 line_form_of long_line = long_form
 line_form_of (fired cpu place) = long_form
+
+-- The line is a `go` that is accepted after the items of the row.
+abbrev pub IsGoAfter : Account → Contents → List TrailItem → TrailItem → Type 0
+IsGoAfter account contents row item =
+    IsAcceptedGo account contents.registry (life_of_row account contents row) (ask_in (line_form_of item))
+
+-- These probes are exactly those that the ECBs name which the row's lines enabled.
+abbrev pub AreOfEcbs : Account → Contents → List TrailItem → List Bool → Type 0
+AreOfEcbs account contents row probes =
+    (id : ℕ) → Names probes id ↔ (of_probe id (ecbs account contents.registry (life_of_row account contents row)) ≢ [])
 
 -- an item of a processor stands at a lower place than this one
 abbrev pub IsAtLowerPlace : (place : ℕ) → TrailItem → Type 0

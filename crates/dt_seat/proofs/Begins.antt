@@ -6,6 +6,7 @@ use Rattle.std.proofs.lemmas.List.{length-append}
 use Rattle.std.proofs.lemmas.List.Elements.{filter-append}
 use mathlib.Core.List.{IsPrefix}
 use Rattle.dt_facts.specs.laws.Beginnings.{prefix_shorter}
+use Rattle.dt_legal.specs.laws.Starts.{own_both, own_elsewhere, own_here, rest_has_none, starts_self}
 use Rattle.dt_seat.specs.Sessions.{line_kept, lines_from}
 use Rattle.dt_seat.specs.declared.line_kept.LineKept.{LineKept}
 use Rattle.dt_trail.specs.Items.{StartsWith, TrailItem, own, whose}
@@ -16,34 +17,6 @@ as_prefix row known s = (s.0, sym s.1)
 
 pub as_start : (row known : List TrailItem) → IsPrefix known row → StartsWith row known
 as_start row known p = (p.0, sym p.1)
-
-pub starts_self : (row : List TrailItem) → StartsWith row row
-starts_self row = ([], sym (append-nil row))
-
-pub starts_trans : (row mid known : List TrailItem) → StartsWith row mid → StartsWith mid known → StartsWith row known
-starts_trans row mid known a b =
-    (b.0 ++ a.0, a.1 ∙ ap (λ (l : List TrailItem). l ++ a.0) b.1 ∙ append_assoc known b.0 a.0)
-
-pub starts_more : (row : List TrailItem) (item : TrailItem) → StartsWith (row ++ item ∷ []) row
-starts_more row item = (item ∷ [], refl)
-
-pub own_both : (note : ℕ) (xs ys : List TrailItem) → own note (xs ++ ys) ≡ own note xs ++ own note ys
-own_both note xs ys = filter-append (λ x. whose x == note) xs ys
-
-own_here : (note : ℕ) (item : TrailItem) (items : List TrailItem) → whose item ≡ note → own note (item ∷ items) ≡ item ∷ own note items
-own_here note item items mine = ap (λ (b : Bool). cond b (item ∷ own note items) (own note items)) (eq-eqb (whose item) note mine)
-
-own_elsewhere : (note : ℕ) (item : TrailItem) (items : List TrailItem) → whose item ≢ note → own note (item ∷ items) ≡ own note items
-own_elsewhere note item items other = ap (λ (b : Bool). cond b (item ∷ own note items) (own note items)) (ne_eqb (whose item) note other)
-
-empty_rest : {A : Type 0} (xs rest : List A) → xs ++ rest ≡ xs → rest ≡ []
-empty_rest [] rest e = e
-empty_rest (x ∷ xs) rest e = empty_rest xs rest (cc e)
-
--- where a list goes on without a further item of a note's, what follows has none
-pub rest_has_none : (note : ℕ) (row known : List TrailItem) (s : StartsWith row known) → own note row ≡ own note known → own note s.0 ≡ []
-rest_has_none note row known s same =
-    empty_rest (own note known) (own note s.0) (sym (own_both note known s.0) ∙ ap (own note) (sym s.1) ∙ same)
 
 lines_both : (place : ℕ) (xs ys : List TrailItem) → lines_from place (xs ++ ys) ≡ lines_from place xs ++ lines_from (place + length xs) ys
 lines_both place [] ys = ap (λ (n : ℕ). lines_from n ys) (omega arith)

@@ -13,7 +13,8 @@ use Rattle.dt_facts.specs.laws.Lives.{row_stays}
 use Rattle.dt_seat.specs.Keeps.{IsToldOf, known_in, told_in}
 use Rattle.dt_seat.specs.Receipts.{later_told, told_of}
 use Rattle.dt_seat.specs.declared.told_of.ToldOf.{ToldOf}
-use Rattle.dt_seat.proofs.Begins.{as_prefix, as_start, starts_self}
+use Rattle.dt_legal.specs.laws.Starts.{starts_self}
+use Rattle.dt_seat.proofs.Begins.{as_prefix, as_start}
 use Rattle.dt_seat.proofs.Known.{by_telling, named_over, told_elsewhere, told_here}
 use Rattle.dt_trail.specs.Items.{StartsWith, TrailItem, longer}
 use Rattle.dt_trail.specs.Known.{Heard}

@@ -7,7 +7,7 @@ use Rattle.dt_life.specs.Life.{is_over}
 use Rattle.dt_machine.specs.Registry.{Contents}
 use Rattle.dt_seat.specs.Seats.{TrailGoesOn}
 use Rattle.dt_seat.specs.Trailed.{row_after, row_offered, with_items}
-use Rattle.dt_seat.proofs.Begins.{starts_more, starts_self, starts_trans}
+use Rattle.dt_legal.specs.laws.Starts.{starts_more, starts_self, starts_trans}
 use Rattle.dt_trail.specs.Items.{StartsWith, TrailItem, fired}
 use Rattle.dt_trail.specs.Known.{Known}
 

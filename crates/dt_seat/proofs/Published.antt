@@ -9,7 +9,8 @@ use Rattle.dt_legal.specs.Rows.{life_of_row}
 use Rattle.dt_life.specs.Life.{is_over}
 use Rattle.dt_machine.specs.Registry.{Contents}
 use Rattle.dt_seat.specs.Publications.{IsPublicationAfter, IsPublished}
-use Rattle.dt_seat.specs.Trailed.{IsGoAfter, row_after}
+use Rattle.dt_legal.specs.Rows.{IsGoAfter}
+use Rattle.dt_seat.specs.Trailed.{row_after}
 use Rattle.dt_seat.proofs.Begins.{stood_before, within_or_last}
 use Rattle.dt_trail.specs.Items.{StartsWith, TrailItem, own}
 

@@ -16,7 +16,7 @@ use Rattle.dt_life.specs.Sees.{Sees}
 use Rattle.dt_life.specs.laws.Lists.{replaced}
 use Rattle.dt_life.specs.laws.Options.{if_some_map}
 use Rattle.dt_machine.specs.Registry.{Contents}
-use Rattle.dt_seat.proofs.Begins.{starts_trans}
+use Rattle.dt_legal.specs.laws.Starts.{starts_trans}
 use Rattle.dt_seat.proofs.Known.{by_note, not_by_note}
 use Rattle.dt_seat.specs.Keeps.{Carries, Followed, IsKeptFor, KeptNote, known_by, known_in, known_of, told_in}
 use Rattle.dt_seat.specs.Seats.{IsRepliedTo, ComesOfFiring, IsTaken, Reaches, ending_of}

@@ -12,11 +12,13 @@ use Rattle.dt_machine.specs.Registry.{Contents}
 use Rattle.dt_seat.specs.Knowledge.{AreUnknownFrom, KnownItems, known_items, steps_in}
 use Rattle.dt_seat.specs.Sessions.{IsNotebook, IsSessionOn, lines_from}
 use Rattle.dt_seat.specs.declared.line_kept.LineKept.{LineKept}
-use Rattle.dt_seat.proofs.Begins.{as_prefix, lines_met, starts_trans}
+use Rattle.dt_legal.specs.laws.Starts.{starts_trans}
+use Rattle.dt_seat.proofs.Begins.{as_prefix, lines_met}
 use Rattle.dt_seat.proofs.Published.{published_line, published_on}
 use Rattle.dt_chain.specs.Writes.{Write}
 use Rattle.dt_seat.specs.Publications.{IsPublicationAfter, IsPublished, writes_seen}
-use Rattle.dt_seat.specs.Trailed.{IsGoAfter, row_after}
+use Rattle.dt_legal.specs.Rows.{IsGoAfter}
+use Rattle.dt_seat.specs.Trailed.{row_after}
 use Rattle.dt_trail.specs.Items.{StartsWith, TrailItem, own}
 use Rattle.dt_trail.specs.Known.{Grows, Meets, Noted, noted}
 use Rattle.dt_trail.specs.declared.law.Named.{Named}

@@ -25,7 +25,8 @@ use Rattle.dt_trail.specs.Limits.{block_cells, longest}
 use Rattle.dt_proto.specs.Asked.{form_asked}
 use Rattle.dt_proto.specs.declared.asked.Asked.{Asked}
 use Rattle.dt_proto.specs.declared.asked.Asked.TheVariants as lines
-use Rattle.dt_seat.specs.Trailed.{item_of_line, IsWideEnough, IsGoAfter, IsTrailed, IsWide}
+use Rattle.dt_legal.specs.Rows.{IsGoAfter}
+use Rattle.dt_seat.specs.Trailed.{item_of_line, IsWideEnough, IsTrailed, IsWide}
 
 inactive_from : (p : Phase) → is_inactive p ≡ true → p ≡ Inactive
 inactive_from Inactive h = refl

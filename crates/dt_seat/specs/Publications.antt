@@ -1,13 +1,9 @@
 -- What a session published.
-use Rattle.std.specs.Prelude.{◌≡◌, ◌≢◌, ◌↔◌, ◌++◌, ◌∷◌, ℕ, Bool, List, [], Option, Some, None, Contains}
+use Rattle.std.specs.Prelude.{◌≡◌, ◌++◌, ◌∷◌, ℕ, Bool, List, [], Option, Some, None, Contains}
 use Rattle.dt_chain.specs.Writes.{Write, published}
 use Rattle.dt_cred.specs.declared.account.Account.{Account}
-use Rattle.dt_ecb.specs.Ecbs.{of_probe}
-use Rattle.dt_legal.specs.Rows.{life_of_row}
-use Rattle.dt_life.specs.Life.{ecbs}
-use Rattle.dt_machine.specs.Interest.{Names}
+use Rattle.dt_legal.specs.Rows.{AreOfEcbs, IsGoAfter}
 use Rattle.dt_machine.specs.Registry.{Contents}
-use Rattle.dt_seat.specs.Trailed.{IsGoAfter}
 use Rattle.dt_trail.specs.Items.{StartsWith, TrailItem, whose}
 
 -- the writes that a session knows to be published: none before it published
@@ -18,8 +14,7 @@ writes_seen (Some writes) = writes
 -- A publication of a seat, for a life of it and its account, of exactly the probes that the ECBs name which the row's lines enabled.
 abbrev pub IsPublicationAfter : Contents → (seat life : ℕ) → Account → List TrailItem → Write → Type 0
 IsPublicationAfter contents seat life account row write =
-    (probes : List Bool) × (write ≡ published seat life account probes)
-    × ((id : ℕ) → Names probes id ↔ (of_probe id (ecbs account contents.registry (life_of_row account contents row)) ≢ []))
+    (probes : List Bool) × (write ≡ published seat life account probes) × AreOfEcbs account contents row probes
 
 -- For a line of the row that is a `go` and accepted, these writes have the life's publication.
 abbrev pub IsPublished : Contents → (seat life : ℕ) → Account → List TrailItem → List Write → Type 0

@@ -8,7 +8,6 @@ use Rattle.dt_consumer.specs.declared.consumer.Consumer.{Consumer}
 use Rattle.dt_consumer.specs.declared.draft.Draft.{Draft}
 use Rattle.dt_legal.specs.Rows.{IsLegalRow, Suffice, line_form_of, life_of_row, set_up_of}
 use Rattle.dt_life.specs.Answer.{Answer}
-use Rattle.dt_life.specs.Acceptance.{IsAcceptedGo}
 use Rattle.dt_life.specs.Life.{is_over}
 use Rattle.dt_life.specs.Limits.{lines_max}
 use Rattle.dt_life.specs.Reply.{Replies}
@@ -61,11 +60,6 @@ pub record IsPrepared (contents : Contents) (account : Account) (knows : List Tr
 -- a row after a line: one over the quota is no part of it
 abbrev pub row_after : Account → Contents → List TrailItem → TrailItem → List TrailItem
 row_after account contents row item = if is_over (life_of_row account contents row) then row else (row ++ item ∷ [])
-
--- The line is a `go` that is accepted after the items of the row.
-abbrev pub IsGoAfter : Account → Contents → List TrailItem → TrailItem → Type 0
-IsGoAfter account contents row item =
-    IsAcceptedGo account contents.registry (life_of_row account contents row) (ask_in (line_form_of item))
 
 -- the trail with these items
 abbrev pub with_items : Known Account → List TrailItem → Known Account

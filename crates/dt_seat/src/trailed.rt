@@ -1,11 +1,11 @@
 //! A consumer with its session's trail.
 ghost use Rattle.std.specs.Prelude.{◌≡◌, ◌≤◌, ◌<◌, ◌↔◌, ◌+◌, [], IsTrue, IfOk, OnOk, Some, vec_len, vec_capacity};
-ghost use Rattle.dt_legal.specs.Rows.{AreBelowPlace, life_of_row};
+ghost use Rattle.dt_legal.specs.Rows.{AreBelowPlace, IsGoAfter, life_of_row};
 ghost use Rattle.dt_life.specs.Sees.{Sees};
 ghost use Rattle.dt_machine.specs.Moment.{IsMoment};
 ghost use Rattle.dt_machine.specs.Registry.{firing_at};
 ghost use Rattle.dt_seat.specs.Sessions.{lines_from};
-ghost use Rattle.dt_seat.specs.Trailed.{IsWideEnough, IsGoAfter, IsPrepared, IsTrailed, item_of_line, row_after, row_offered, with_items};
+ghost use Rattle.dt_seat.specs.Trailed.{IsWideEnough, IsPrepared, IsTrailed, item_of_line, row_after, row_offered, with_items};
 ghost use Rattle.dt_trail.specs.Known.{known_row, noted, AreNew, Meets};
 ghost use Rattle.dt_proto.specs.Asked.{form_asked, form_lent};
 ghost use Rattle.dt_trail.specs.Limits.{cpu_count, opening_cells};

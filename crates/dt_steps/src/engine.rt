@@ -80,9 +80,9 @@ impl<'m> Engine<'m> {
     }
 
     /// Publishes the interest of the session on a seat.
-    pub fn publish(&mut self, machine: &Machine, seat: Seat) -> Result<(), AllocError>
-        ensures { OnOk result ((world : World) → EngineIsAt machine.now.registry world self.old
-            → EngineIsAt machine.now.registry (publishing machine.now.registry world seat) self.new) }
+    pub fn publish(&mut self, seat: Seat) -> Result<(), AllocError>
+        ensures { OnOk result ((registry : Registry) (world : World) → EngineIsAt registry world self.old
+            → EngineIsAt registry (publishing registry world seat) self.new) }
     {
         self.seats[seat.number() as usize].publish(&mut self.publications, seat)
     }
@@ -101,9 +101,9 @@ impl<'m> Engine<'m> {
     }
 
     /// Withdraws the publication of a seat.
-    pub fn withdraw(&mut self, machine: &Machine, seat: Seat)
-        ensures { (world : World) → EngineIsAt machine.now.registry world self.old
-            → EngineIsAt machine.now.registry (withdrawing machine.now.registry world seat) self.new }
+    pub fn withdraw(&mut self, seat: Seat)
+        ensures { (registry : Registry) (world : World) → EngineIsAt registry world self.old
+            → EngineIsAt registry (withdrawing registry world seat) self.new }
     {
         if self.seats[seat.number() as usize].may_withdraw() {
             self.publications.withdraw(seat);
@@ -243,7 +243,7 @@ impl<'m> Engine<'m> {
                 Ok(StepAnswer::replied(*seat, reply))
             }
             Step::Publish(seat) => {
-                self.publish(machine, *seat)?;
+                self.publish(*seat)?;
                 Ok(StepAnswer::Quiet)
             }
             Step::Finish(seat) => {
@@ -251,7 +251,7 @@ impl<'m> Engine<'m> {
                 Ok(StepAnswer::finished(*seat, reply))
             }
             Step::Withdraw(seat) => {
-                self.withdraw(machine, *seat);
+                self.withdraw(*seat);
                 Ok(StepAnswer::Quiet)
             }
             Step::Look(cpu, firing) => Ok(self.named(machine, *cpu, firing)),

@@ -7,7 +7,7 @@ use Rattle.atomic_blocks.specs.Cells.{Cell, Row, State, row, no_row, cell_in, Al
 use Rattle.atomic_blocks.proofs.Homes.{cells_back, rows_back}
 use Rattle.dt_trail.specs.Items.{TrailItem}
 use Rattle.dt_trail.specs.Rule.{NoSlot, Kept}
-use Rattle.dt_trail.specs.Insides.{Ending}
+use Rattle.dt_trail.specs.Insides.{EndingBlocks}
 use Rattle.dt_trail.proofs.Fitting.{block_is, root_is}
 
 no_cells : (cs : List (Cell NoSlot)) → length cs ≡ 0 → cs ≡ []
@@ -19,7 +19,7 @@ emptied [] k = refl
 emptied (x ∷ xs) zero = refl
 emptied (x ∷ xs) (suc k) = emptied xs k
 
-pub ending : {K : Type 0} (lawful : K → List TrailItem → Type 0) (root : Ptr) (acct : K) (mem : List (Row NoSlot)) → Final (Kept lawful root acct) mem → Ending root 0 mem
+pub ending : {K : Type 0} (lawful : K → List TrailItem → Type 0) (root : Ptr) (acct : K) (mem : List (Row NoSlot)) → Final (Kept lawful root acct) mem → EndingBlocks root 0 mem
 ending {K = K} lawful root acct mem final = record {
   at = (back 0).0 ∙ (ap (λ (r : Row NoSlot). r.at) base ∙ h.laid.at);
   long = top.0 ∙ (ap (λ (r : Row NoSlot). length r.cells) base ∙ h.laid.long);
@@ -36,7 +36,7 @@ ending {K = K} lawful root acct mem final = record {
       (subst InBlock (sym link) p.1, (back (j + 1)).0 ∙ (ap (λ (r : Row NoSlot). r.at) (block j) ∙ sym link)));
 }
   where
-    s : State NoSlot (Rattle.dt_trail.specs.declared.rule.View.View K)
+    s : State NoSlot (Rattle.dt_trail.specs.declared.rule.TrailView.TrailView K)
     s = final.0
 
     h : Kept lawful root acct final.0
@@ -68,8 +68,8 @@ ending {K = K} lawful root acct mem final = record {
     empty (suc j) far = no_cells (row mem (suc j)).cells (ap (λ (n : ℕ). length (row mem n).cells) (let o : suc j ≡ j + 1 = omega arith in o) ∙ (long j ∙ ap (λ (r : Row NoSlot). length r.cells) (lib.ListN.get_or-eq_default bs no_row (omega arith))))
 
 -- the k-th block is freed
-pub ending_on : (root : Ptr) (k : ℕ) (mem mem' : List (Row NoSlot)) → mem' ≡ set mem (k + 1) no_row → Ending root k mem → Ending root (k + 1) mem'
-ending_on root k mem mem' is old = subst (Ending root (k + 1)) (sym is) record {
+pub ending_on : (root : Ptr) (k : ℕ) (mem mem' : List (Row NoSlot)) → mem' ≡ set mem (k + 1) no_row → EndingBlocks root k mem → EndingBlocks root (k + 1) mem'
+ending_on root k mem mem' is old = subst (EndingBlocks root (k + 1)) (sym is) record {
   at = ap (λ (x : Row NoSlot). x.at) zero_is ∙ old.at;
   long = ap (λ (x : Row NoSlot). length x.cells) zero_is ∙ old.long;
   home = subst (λ (x : Row NoSlot). AllHome x.cells) (sym zero_is) old.home;
@@ -87,7 +87,7 @@ ending_on root k mem mem' is old = subst (Ending root (k + 1)) (sym is) record {
     zero_is = other 0 (λ e. omega arith)
 
 -- there is no k-th block
-pub ending_past : (root : Ptr) (k : ℕ) (mem : List (Row NoSlot)) → k < 32 → (cell_in (row mem 0).cells k).word ≡ 0 → Ending root k mem → Ending root (k + 1) mem
+pub ending_past : (root : Ptr) (k : ℕ) (mem : List (Row NoSlot)) → k < 32 → (cell_in (row mem 0).cells k).word ≡ 0 → EndingBlocks root k mem → EndingBlocks root (k + 1) mem
 ending_past root k mem few none old = record {
   at = old.at;
   long = old.long;
@@ -99,13 +99,13 @@ ending_past root k mem few none old = record {
   places = (λ j low near pos. old.places j (omega arith) near pos);
 }
 
-pub all_taken : (root : Ptr) (k : ℕ) (mem mem' : List (Row NoSlot)) → 32 ≤ k → mem' ≡ set mem 0 no_row → Ending root k mem → (j : ℕ) → (row mem' j).cells ≡ []
+pub all_taken : (root : Ptr) (k : ℕ) (mem mem' : List (Row NoSlot)) → 32 ≤ k → mem' ≡ set mem 0 no_row → EndingBlocks root k mem → (j : ℕ) → (row mem' j).cells ≡ []
 all_taken root k mem mem' done is old j = ap (λ (z : List (Row NoSlot)). (row z j).cells) is ∙ dite (ℕ_discrete j 0) (λ e. ap (λ (z : ℕ). (row (set mem 0 no_row) z).cells) e ∙ emptied mem 0)
     (λ e. ap (λ (x : Row NoSlot). x.cells) (get_or-set_other mem 0 j no_row no_row e) ∙ dite (dec_le j k) (λ l. old.gone j (omega arith) l) (λ l. old.beyond j (omega arith)))
 
-pub in_base : (root : Ptr) (k : ℕ) (mem : List (Row NoSlot)) (i : ℕ) → i < 33 → Ending root k mem → ((row mem 0).at ≡ root) × (i < length (row mem 0).cells)
+pub in_base : (root : Ptr) (k : ℕ) (mem : List (Row NoSlot)) (i : ℕ) → i < 33 → EndingBlocks root k mem → ((row mem 0).at ≡ root) × (i < length (row mem 0).cells)
 in_base root k mem i near e = (e.at, let l : length (row mem 0).cells ≡ 33 = e.long in omega arith)
 
-pub block_lies : (root : Ptr) (k : ℕ) (mem : List (Row NoSlot)) → Ending root k mem → k < 32 → 0 < (cell_in (row mem 0).cells k).word
+pub block_lies : (root : Ptr) (k : ℕ) (mem : List (Row NoSlot)) → EndingBlocks root k mem → k < 32 → 0 < (cell_in (row mem 0).cells k).word
     → InBlock (cell_in (row mem 0).cells k).link × ((row mem (k + 1)).at ≡ (cell_in (row mem 0).cells k).link) × (0 < length (row mem (k + 1)).cells)
 block_lies root k mem e near pos = let p = e.places k (omega arith) near pos in let l = e.each k (omega arith) near in (p.0, p.1, omega arith)

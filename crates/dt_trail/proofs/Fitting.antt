@@ -7,7 +7,7 @@ use Rattle.atomic_blocks.specs.Cells.{Cell, Row, State, me, row, cell_in, word_o
 use Rattle.atomic_blocks.proofs.After.{cell_again, count_stays, place_stays}
 use Rattle.atomic_table.proofs.Lists.{at_set}
 use Rattle.dt_trail.specs.declared.door.Door.{Door}
-use Rattle.dt_trail.specs.declared.rule.View.{View}
+use Rattle.dt_trail.specs.declared.rule.TrailView.{TrailView}
 use Rattle.dt_trail.specs.Items.{TrailItem, code_at, StartsWith}
 use Rattle.dt_trail.specs.Blocks.{flat, before, Laid, BlockLiesAt}
 use Rattle.dt_trail.specs.Rule.{NoSlot, RowWorld, FitsRow, FitsEach, Kept, Turn, nobody, IsBegun}
@@ -18,21 +18,21 @@ pub off : false ≡ true → ⊥
 off e = true≢false (sym e)
 
 -- one view is changed, and the others still fit
-pub fits_set : {K : Type 0} (w : RowWorld K) (views : List (View K)) (id : ℕ) (v : View K) → ((j : ℕ) (u : View K) → j ≢ id → get_elem? views j ≡ some u → FitsRow w j u) → FitsRow w id v → FitsEach w (set views id v)
+pub fits_set : {K : Type 0} (w : RowWorld K) (views : List (TrailView K)) (id : ℕ) (v : TrailView K) → ((j : ℕ) (u : TrailView K) → j ≢ id → get_elem? views j ≡ some u → FitsRow w j u) → FitsRow w id v → FitsEach w (set views id v)
 fits_set {K = K} w views id v others mine j u e =
     ⊎_elim
-    (λ (x : (j ≡ id) × (v ≡ u)). subst (λ (y : ℕ × View K). FitsRow w y.0 y.1) (λ i. (sym x.0 i, x.1 i)) mine)
+    (λ (x : (j ≡ id) × (v ≡ u)). subst (λ (y : ℕ × TrailView K). FitsRow w y.0 y.1) (λ i. (sym x.0 i, x.1 i)) mine)
     (λ (x : (j ≢ id) × (get_elem? views j ≡ some u)). others j u x.0 x.1)
     (at_set views id j v u e)
 
 -- one view is changed and one is new
-pub fits_split : {K : Type 0} (w : RowWorld K) (views : List (View K)) (id : ℕ) (v n : View K)
-    → ((j : ℕ) (u : View K) → j ≢ id → get_elem? views j ≡ some u → FitsRow w j u) → FitsRow w id v → FitsRow w (length views) n
+pub fits_split : {K : Type 0} (w : RowWorld K) (views : List (TrailView K)) (id : ℕ) (v n : TrailView K)
+    → ((j : ℕ) (u : TrailView K) → j ≢ id → get_elem? views j ≡ some u → FitsRow w j u) → FitsRow w id v → FitsRow w (length views) n
     → FitsEach w (set views id v ++ n ∷ [])
 fits_split {K = K} w views id v n others mine new j u e =
     ⊎_elim
     (λ (x : get_elem? (set views id v) j ≡ some u). fits_set w views id v others mine j u x)
-    (λ (x : (j ≡ length (set views id v)) × (n ≡ u)). subst (λ (y : ℕ × View K). FitsRow w y.0 y.1) (λ i. (sym (x.0 ∙ length-set views id v) i, x.1 i)) new)
+    (λ (x : (j ≡ length (set views id v)) × (n ≡ u)). subst (λ (y : ℕ × TrailView K). FitsRow w y.0 y.1) (λ i. (sym (x.0 ∙ length-set views id v) i, x.1 i)) new)
     (at_snoc_at (set views id v) n u j e)
 
 pub fits_nobody : {K : Type 0} (w : RowWorld K) (by : ℕ) → FitsRow w by nobody
@@ -85,23 +85,23 @@ laid_alike root base old new a l = record {
 }
 
 module _ {K : Type 0} (lawful : K → List TrailItem → Type 0) (root : Ptr) (acct : K) where
-  abbrev H : State NoSlot (View K) → Type 0
+  abbrev H : State NoSlot (TrailView K) → Type 0
   H = Kept lawful root acct
 
-  pub block_is : (s : State NoSlot (View K)) (h : H s) (b : ℕ) → row s.rows (suc b) ≡ row h.world.blocks b
+  pub block_is : (s : State NoSlot (TrailView K)) (h : H s) (b : ℕ) → row s.rows (suc b) ≡ row h.world.blocks b
   block_is s h b = ap (λ (rs : List (Row NoSlot)). row rs (suc b)) h.is
 
-  pub root_is : (s : State NoSlot (View K)) (h : H s) → row s.rows 0 ≡ h.world.base
+  pub root_is : (s : State NoSlot (TrailView K)) (h : H s) → row s.rows 0 ≡ h.world.base
   root_is s h = ap (λ (rs : List (Row NoSlot)). row rs 0) h.is
 
-  pub in_root : (s : State NoSlot (View K)) (h : H s) (i : ℕ) → i < 33 → Lies s.rows 0 root i
+  pub in_root : (s : State NoSlot (TrailView K)) (h : H s) (i : ℕ) → i < 33 → Lies s.rows 0 root i
   in_root s h i near = subst (λ (r : Row NoSlot). (r.at ≡ root) × (i < length r.cells)) (sym (root_is s h)) (h.laid.at, subst (λ (n : ℕ). i < n) (sym h.laid.long) near)
 
-  pub in_block : (s : State NoSlot (View K)) (h : H s) (d : Door) (i : ℕ) → BlockLiesAt h.world.blocks d → i < d.len → Lies s.rows (suc d.block) d.link.ptr i
+  pub in_block : (s : State NoSlot (TrailView K)) (h : H s) (d : Door) (i : ℕ) → BlockLiesAt h.world.blocks d → i < d.len → Lies s.rows (suc d.block) d.link.ptr i
   in_block s h d i st near = subst (λ (r : Row NoSlot). (r.at ≡ d.link.ptr) × (i < length r.cells)) (sym (block_is s h d.block)) (st.at, subst (λ (n : ℕ). i < n) st.len near)
 
   -- the word of a cell of a block
-  pub word_is : (s : State NoSlot (View K)) (h : H s) (d : Door) (i : ℕ) → BlockLiesAt h.world.blocks d → i < d.len → word_of s.rows (suc d.block) i ≡ code_at h.world.items (d.from + i)
+  pub word_is : (s : State NoSlot (TrailView K)) (h : H s) (d : Door) (i : ℕ) → BlockLiesAt h.world.blocks d → i < d.len → word_of s.rows (suc d.block) i ≡ code_at h.world.items (d.from + i)
   word_is s h d i st near =
       let bs = h.world.blocks in
       let near' : i < length (row bs d.block).cells = subst (λ (n : ℕ). i < n) st.len near in
@@ -110,19 +110,19 @@ module _ {K : Type 0} (lawful : K → List TrailItem → Type 0) (root : Ptr) (a
       ∙ (h.shows.words (before bs d.block + i) ∙ ap (λ (n : ℕ). code_at h.world.items (n + i)) (sym st.from)))
 
   -- a step that changes no cell
-  pub quiet : (s : State NoSlot (View K)) (h : H s) (k i id : ℕ) (m : Turn K) (v : View K) (then : Turn K → Type 0) → FitsEach h.world (set s.views id v) → then (me v m.hand m.spare)
+  pub quiet : (s : State NoSlot (TrailView K)) (h : H s) (k i id : ℕ) (m : Turn K) (v : TrailView K) (then : Turn K → Type 0) → FitsEach h.world (set s.views id v) → then (me v m.hand m.spare)
       → Goes H s (with_word s.rows k i (word_of s.rows k i)) id m then
   quiet s h k i id m v then fits told = subst (λ (rs : List (Row NoSlot)). Goes H s rs id m then) (sym (cell_again s.rows k i))
       (v, keeps, tt, record { world = h.world; keyed = h.keyed; is = h.is; laid = h.laid; shows = h.shows; each = fits }, told)
 
-  pub quiet_link : (s : State NoSlot (View K)) (h : H s) (k i id : ℕ) (m : Turn K) (v : View K) (then : Turn K → Type 0) → FitsEach h.world (set s.views id v) → then (me v m.hand m.spare)
+  pub quiet_link : (s : State NoSlot (TrailView K)) (h : H s) (k i id : ℕ) (m : Turn K) (v : TrailView K) (then : Turn K → Type 0) → FitsEach h.world (set s.views id v) → then (me v m.hand m.spare)
       → Goes H s (with_link s.rows k i (link_of s.rows k i)) id m then
   quiet_link s h k i id m v then fits told = subst (λ (rs : List (Row NoSlot)). Goes H s rs id m then) (sym (cell_again s.rows k i))
       (v, keeps, tt, record { world = h.world; keyed = h.keyed; is = h.is; laid = h.laid; shows = h.shows; each = fits }, told)
 
   -- a beginning of the row begins a lawful one
-  pub legal_begun : (s : State NoSlot (View K)) (h : H s) (id : ℕ) (v : View K) (ks : List TrailItem) → FitsRow h.world id v → StartsWith h.world.items ks → IsBegun lawful v.account ks
+  pub legal_begun : (s : State NoSlot (TrailView K)) (h : H s) (id : ℕ) (v : TrailView K) (ks : List TrailItem) → FitsRow h.world id v → StartsWith h.world.items ks → IsBegun lawful v.account ks
   legal_begun s h id v ks f a x e = (a.0, subst (λ z. lawful z (ks ++ a.0)) (sym (f.account x e ∙ h.keyed)) (subst (lawful acct) a.1 h.shows.legal))
 
-  pub fits_again : (s : State NoSlot (View K)) (h : H s) (id : ℕ) (v : View K) → FitsRow h.world id v → FitsEach h.world (set s.views id v)
+  pub fits_again : (s : State NoSlot (TrailView K)) (h : H s) (id : ℕ) (v : TrailView K) → FitsRow h.world id v → FitsEach h.world (set s.views id v)
   fits_again s h id v f = fits_set h.world s.views id v (λ j u _ e. h.each j u e) f

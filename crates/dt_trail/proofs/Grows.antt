@@ -7,7 +7,7 @@ use denote.RawPtr.{Ptr}
 use Rattle.atomic_blocks.specs.Cells.{Cell, Row, State, step, cell, me, row_at, row, link_of, home_of, with_cell, with_word, keeps, Allows}
 use Rattle.dt_trail.specs.declared.door.Door.{Door}
 use Rattle.dt_trail.specs.declared.rule.Extent.{Extent}
-use Rattle.dt_trail.specs.declared.rule.View.{View}
+use Rattle.dt_trail.specs.declared.rule.TrailView.{TrailView}
 use Rattle.dt_trail.specs.Items.{TrailItem, whose, code, IsReal, AllReal, own, code_at, StartsWith}
 use Rattle.dt_trail.specs.Blocks.{flat, before, BlockLiesAt}
 use Rattle.dt_trail.specs.Rule.{NoSlot, RowWorld, FitsRow, ShowsRow, Kept, Turn, appender, IsSet}
@@ -16,7 +16,7 @@ use Rattle.dt_trail.proofs.Flats.{flat_at, flat_set, flat_push, before_push, bef
 use Rattle.dt_trail.proofs.Fitting.{off, fits_set, Alike, alike_set, stands_alike, laid_alike, in_block}
 
 module _ {K : Type 0} (lawful : K → List TrailItem → Type 0) (root : Ptr) (acct : K) where
-  abbrev H : State NoSlot (View K) → Type 0
+  abbrev H : State NoSlot (TrailView K) → Type 0
   H = Kept lawful root acct
 
   -- the first empty cell is set
@@ -28,13 +28,13 @@ module _ {K : Type 0} (lawful : K → List TrailItem → Type 0) (root : Ptr) (a
     λ _. (w, keeps, tt, kept, (refl, (subst (λ l. StartsWith l had) whole.1 f.had, ap (own n) (sym whole.1) ∙ f.had_own refl refl))),
   )
     where
-      v : View K
+      v : TrailView K
       v = appender a n had ks d t
 
       m : Turn K
       m = me (appender a n had ks d t) hand spare
 
-      w : View K
+      w : TrailView K
       w = appender a n (ks ++ x ∷ []) (ks ++ x ∷ []) d t
 
       f : FitsRow h.world id (appender a n had ks d t)
@@ -84,7 +84,7 @@ module _ {K : Type 0} (lawful : K → List TrailItem → Type 0) (root : Ptr) (a
         real = All-push ks x (subst AllReal whole.1 h.shows.real) real;
       }
 
-      others : (j : ℕ) (u : View K) → j ≢ id → get_elem? s.views j ≡ some u → FitsRow world j u
+      others : (j : ℕ) (u : TrailView K) → j ≢ id → get_elem? s.views j ≡ some u → FitsRow world j u
       others j u apart e = let g = h.each j u e in
           let g0 : StartsWith ks u.knows = subst (λ l. StartsWith l u.knows) whole.1 g.begins in
           let live = f.live refl in record {

@@ -8,7 +8,7 @@ use lib.ListN.{get_elem?}
 use denote.RawPtr.{Ptr, InBlock}
 use Rattle.atomic_blocks.specs.Cells.{Cell, cell, row_at, row, cell_in}
 use Rattle.dt_trail.specs.declared.rule.About.{About}
-use Rattle.dt_trail.specs.declared.rule.View.{View}
+use Rattle.dt_trail.specs.declared.rule.TrailView.{TrailView}
 use Rattle.dt_trail.specs.Items.{TrailItem}
 use Rattle.dt_trail.specs.Blocks.{flat, Blank, Rooted}
 use Rattle.dt_trail.specs.Rule.{NoSlot, RowWorld, FitsRow, Kept, maker, first_door, first_extent}
@@ -66,7 +66,7 @@ begins {K = K} lawful key p q cs ds ep eq rooted long blank pos small placed ok 
     words : (k : ℕ) → (cell_in (flat (row_at q ds ∷ [])) k).word ≡ 0
     words k = ap (λ (l : List (Cell NoSlot)). (cell_in l k).word) (append-nil ds) ∙ blank k
 
-    each : (by : ℕ) (v : View K) → get_elem? (maker (Some key.account) 0 (first_door key.size key.first.ptr) (first_extent key.size) ∷ []) by ≡ some v → FitsRow world by v
+    each : (by : ℕ) (v : TrailView K) → get_elem? (maker (Some key.account) 0 (first_door key.size key.first.ptr) (first_extent key.size) ∷ []) by ≡ some v → FitsRow world by v
     each zero v e = subst (FitsRow world 0) (some-injective _ _ e) record {
       account = (λ x a. cc);
       begins = ([], refl);

@@ -8,14 +8,14 @@ use Rattle.atomic_blocks.specs.Cells.{State, Splits, Joins}
 use Rattle.atomic_table.proofs.Lists.{at_set}
 use Rattle.dt_trail.specs.declared.door.Door.{Door}
 use Rattle.dt_trail.specs.declared.rule.Extent.{Extent}
-use Rattle.dt_trail.specs.declared.rule.View.{View}
+use Rattle.dt_trail.specs.declared.rule.TrailView.{TrailView}
 use Rattle.dt_trail.specs.Items.{TrailItem, own, StartsWith}
 use Rattle.dt_trail.specs.Blocks.{BlockLiesAt}
 use Rattle.dt_trail.specs.Rule.{NoSlot, RowWorld, FitsRow, Kept, note, appender, owner, maker, nobody, claim, claim_of, is_longer, informed}
 use Rattle.dt_trail.proofs.Fitting.{off, fits_set, fits_split, fits_nobody, in_root}
 
 module _ {K : Type 0} (lawful : K → List TrailItem → Type 0) (root : Ptr) (acct : K) where
-  abbrev H : State NoSlot (View K) → Type 0
+  abbrev H : State NoSlot (TrailView K) → Type 0
   H = Kept lawful root acct
 
   -- the maker makes a note
@@ -99,13 +99,13 @@ module _ {K : Type 0} (lawful : K → List TrailItem → Type 0) (root : Ptr) (a
   pub lends : (id : ℕ) (a : Option K) (n : ℕ) (ks : List TrailItem) (d : Door) (other : ℕ) (xs : List TrailItem) (d' : Door) (t : Extent) → Joins H 0 root id (note a n ks d) other (owner a xs d' t) (appender a n ks xs d' t) nobody
   lends id a n ks d other xs d' t s h = (in_root lawful root acct s h 0 (omega arith), kept)
     where
-      v : View K
+      v : TrailView K
       v = note a n ks d
 
-      o : View K
+      o : TrailView K
       o = owner a xs d' t
 
-      w : View K
+      w : TrailView K
       w = appender a n ks xs d' t
 
       world : RowWorld K
@@ -125,7 +125,7 @@ module _ {K : Type 0} (lawful : K → List TrailItem → Type 0) (root : Ptr) (a
             shows = h.shows;
             each = fits_set world (set s.views id w) other nobody
                 (λ j u ne e. ⊎_elim
-                (λ (x : (j ≡ id) × (w ≡ u)). subst (λ (y : ℕ × View K). FitsRow world y.0 y.1) (λ i. (sym x.0 i, x.1 i)) record {
+                (λ (x : (j ≡ id) × (w ≡ u)). subst (λ (y : ℕ × TrailView K). FitsRow world y.0 y.1) (λ i. (sym x.0 i, x.1 i)) record {
                   account = g.account;
                   begins = g.begins;
                   live = (λ _. (live.0, live.1, ap (own n) whole.1));
@@ -185,7 +185,7 @@ module _ {K : Type 0} (lawful : K → List TrailItem → Type 0) (root : Ptr) (a
         },
       )
 
-  fits_claim : (w : RowWorld K) (by n : ℕ) (v : View K) → FitsRow w by v → FitsRow w n (claim_of v)
+  fits_claim : (w : RowWorld K) (by n : ℕ) (v : TrailView K) → FitsRow w by v → FitsRow w n (claim_of v)
   fits_claim w by n v f = record {
     account = f.account;
     begins = f.begins;
@@ -200,7 +200,7 @@ module _ {K : Type 0} (lawful : K → List TrailItem → Type 0) (root : Ptr) (a
   }
 
   -- a view that is told to a new seat
-  pub tells : (id : ℕ) (v : View K) → Splits H 0 root id v v (claim_of v)
+  pub tells : (id : ℕ) (v : TrailView K) → Splits H 0 root id v v (claim_of v)
   tells id v s h at =
       let f = h.each id v at in (
         in_root lawful root acct s h 0 (omega arith),
@@ -214,7 +214,7 @@ module _ {K : Type 0} (lawful : K → List TrailItem → Type 0) (root : Ptr) (a
         },
       )
 
-  fits_informed : (w : RowWorld K) (by : ℕ) (v u : View K) → v.owns ≡ false → FitsRow w by v → StartsWith w.items u.knows → (0 < u.door.len → BlockLiesAt w.blocks u.door) → FitsRow w by (informed v u)
+  fits_informed : (w : RowWorld K) (by : ℕ) (v u : TrailView K) → v.owns ≡ false → FitsRow w by v → StartsWith w.items u.knows → (0 < u.door.len → BlockLiesAt w.blocks u.door) → FitsRow w by (informed v u)
   fits_informed w by v u other f begins stands = record {
     account = f.account;
     begins = f.begins;
@@ -236,15 +236,15 @@ module _ {K : Type 0} (lawful : K → List TrailItem → Type 0) (root : Ptr) (a
       by_door false = f.stands
 
   -- a claim is taken in
-  pub told : (id : ℕ) (v : View K) (other : ℕ) (a : Option K) (ks : List TrailItem) (d : Door) → v.owns ≡ false → Joins H 0 root id v other (claim a ks d) (informed v (claim a ks d)) nobody
+  pub told : (id : ℕ) (v : TrailView K) (other : ℕ) (a : Option K) (ks : List TrailItem) (d : Door) → v.owns ≡ false → Joins H 0 root id v other (claim a ks d) (informed v (claim a ks d)) nobody
   told id v other a ks d not_mine s h = (in_root lawful root acct s h 0 (omega arith), kept)
     where
-      u : View K
+      u : TrailView K
       u = claim a ks d
 
       kept : get_elem? s.views id ≡ some v → ¬ (other ≡ id) → get_elem? (set s.views id (informed v (claim a ks d))) other ≡ some (claim a ks d) → H record { rows = s.rows; views = set (set s.views id (informed v (claim a ks d))) other nobody }
       kept at apart there =
-          let w : View K = informed v u in
+          let w : TrailView K = informed v u in
           let f = h.each id v at in
           let theirs : get_elem? s.views other ≡ some u = ⊎_elim (λ (x : (other ≡ id) × (w ≡ u)). absurd (apart x.0)) (λ (x : (other ≢ id) × (get_elem? s.views other ≡ some u)). x.1) (at_set s.views id other w u there) in
           let g = h.each other u theirs in record {

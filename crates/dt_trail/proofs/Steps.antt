@@ -7,7 +7,7 @@ use denote.RawPtr.{Ptr, InBlock}
 use Rattle.atomic_blocks.specs.Cells.{Row, State, Step, step, no_row, row, cell_in, word_of, link_of, with_word, Goes, Allows, AllowsLink}
 use Rattle.dt_trail.specs.declared.door.Door.{Door}
 use Rattle.dt_trail.specs.declared.rule.Extent.{Extent}
-use Rattle.dt_trail.specs.declared.rule.View.{View}
+use Rattle.dt_trail.specs.declared.rule.TrailView.{TrailView}
 use Rattle.dt_trail.specs.Items.{TrailItem, code, IsReal, AllReal, own, code_at, StartsWith, longer, IsWordAt}
 use Rattle.dt_trail.specs.Blocks.{flat, before, BlockLiesAt}
 use Rattle.dt_trail.specs.Rule.{NoSlot, FitsRow, Kept, Turn, appender, through, door_at, pushed, reviewed, FindsItem, HasCompared, TurnReads, HasLearnt, learnt, IsLast, IsTurned, IsSeen, IsBack, IsFoundAgain}
@@ -16,7 +16,7 @@ use Rattle.dt_trail.proofs.Flats.{before_first, before_next, before_all, before_
 use Rattle.dt_trail.proofs.Fitting.{off, root_is, in_root, in_block, word_is, quiet, quiet_link, fits_again, legal_begun}
 
 module _ {K : Type 0} (lawful : K → List TrailItem → Type 0) (root : Ptr) (acct : K) where
-  abbrev H : State NoSlot (View K) → Type 0
+  abbrev H : State NoSlot (TrailView K) → Type 0
   H = Kept lawful root acct
 
   -- a read of the first cell that the seat doesn't know
@@ -24,7 +24,7 @@ module _ {K : Type 0} (lawful : K → List TrailItem → Type 0) (root : Ptr) (a
       → Allows H id m (suc m.view.door.block) m.view.door.link.ptr i (λ n. n) (TurnReads lawful (step (suc m.view.door.block) m.view.door.link.ptr i 0 0) m)
   reads id m i pos here near s h at = (in_block lawful root acct s h d i st near, λ _. by_rest f.begins.0 f.begins.1)
     where
-      v : View K
+      v : TrailView K
       v = m.view
 
       d : Door
@@ -60,7 +60,7 @@ module _ {K : Type 0} (lawful : K → List TrailItem → Type 0) (root : Ptr) (a
           let is : found ≡ code x = found_is ∙ (ap (λ l. code_at l (length v.knows)) e ∙ code_behind v.knows (x ∷ xs)) in
           let real : IsReal x = All-at v.knows x xs (subst AllReal e h.shows.real) in
           let some : found ≢ 0 = (λ z. let o : 0 < code x = code_some x in omega arith) in
-          let w : View K = pushed v x in
+          let w : TrailView K = pushed v x in
           let next : StartsWith items w.knows = (xs, e ∙ sym (append_assoc v.knows (x ∷ []) xs)) in
           let begin : StartsWith w.knows v.knows = (x ∷ [], refl) in
           quiet lawful root acct s h k i id m w (TurnReads lawful st0 m found)
@@ -86,7 +86,7 @@ module _ {K : Type 0} (lawful : K → List TrailItem → Type 0) (root : Ptr) (a
       → Allows H id m 0 root i (λ n. n) (IsTurned lawful (step 0 root i 0 0) m)
   turns id m i pos ei near s h at = (in_root lawful root acct s h i near, λ _. by_case (dec_le (suc i) (length h.world.blocks)))
     where
-      v : View K
+      v : TrailView K
       v = m.view
 
       d : Door
@@ -113,7 +113,7 @@ module _ {K : Type 0} (lawful : K → List TrailItem → Type 0) (root : Ptr) (a
       from_is : before bs i ≡ d.from + d.len
       from_is = ap (before bs) ei ∙ (before_next bs d.block ∙ (λ t. sym st.from t + sym st.len t))
 
-      Next : View K → Type 0
+      Next : TrailView K → Type 0
       Next u = (p : Ptr) × InBlock p × (found < 2 ^ 40) × (d.from + d.len + found < 2 ^ 60) × (i < 32) × (reviewed m u ≡ reviewed m (through v (door_at i (d.from + d.len) found p)))
 
       by_case : Dec (suc i ≤ length bs) → Goes H s (with_word s.rows 0 i found) id m (IsTurned lawful st0 m found)
@@ -122,7 +122,7 @@ module _ {K : Type 0} (lawful : K → List TrailItem → Type 0) (root : Ptr) (a
           let p : Ptr = (row bs i).at in
           let some : found ≢ 0 = (λ z. let x : 0 < length (row bs i).cells = pl.2 in let y : length (row bs i).cells ≡ 0 = sym found_is ∙ z in omega arith) in
           let few : length bs ≤ 32 = h.laid.few in
-          let w : View K = through v (door_at i (d.from + d.len) found p) in
+          let w : TrailView K = through v (door_at i (d.from + d.len) found p) in
           quiet lawful root acct s h 0 i id m w (IsTurned lawful st0 m found)
           (fits_again lawful root acct s h id w record {
             account = f.account;
@@ -163,7 +163,7 @@ module _ {K : Type 0} (lawful : K → List TrailItem → Type 0) (root : Ptr) (a
       let found : ℕ = word_of s.rows 0 0 in
       let pl = h.laid.places 0 h.laid.some in
       let found_is : word_of s.rows 0 0 ≡ length (row h.world.blocks 0).cells = ap (λ (r : Row NoSlot). (cell_in r.cells 0).word) (root_is lawful root acct s h) ∙ h.laid.sizes 0 (omega arith) in
-      let w : View K = through m.view (door_at 0 0 found (row bs 0).at) in (
+      let w : TrailView K = through m.view (door_at 0 0 found (row bs 0).at) in (
         in_root lawful root acct s h 0 (omega arith),
         λ _. quiet lawful root acct s h 0 0 id m w (IsBack (step 0 root 0 0 0) m (word_of s.rows 0 0))
             (fits_again lawful root acct s h id w record {
@@ -212,8 +212,8 @@ module _ {K : Type 0} (lawful : K → List TrailItem → Type 0) (root : Ptr) (a
   pub compares : (id : ℕ) (a : Option K) (n : ℕ) (had ks : List TrailItem) (d : Door) (t : Extent) (m : Turn K) → m.view ≡ appender a n had ks d t → Allows H id m 0 root 0 (λ x. x) (HasCompared (step 0 root 0 0 0) m)
   compares id a n had ks d t m e s h at =
       let f = h.each id m.view at in
-      let own_is = f.had_own (ap (λ (v : View K). v.owns) e) (ap (λ (v : View K). v.live) e) in
-      let whole = (f.owns (ap (λ (v : View K). v.owns) e)).1 in (
+      let own_is = f.had_own (ap (λ (v : TrailView K). v.owns) e) (ap (λ (v : TrailView K). v.live) e) in
+      let whole = (f.owns (ap (λ (v : TrailView K). v.owns) e)).1 in (
         in_root lawful root acct s h 0 (omega arith),
         λ _. quiet lawful root acct s h 0 0 id m m.view (HasCompared (step 0 root 0 0 0) m (word_of s.rows 0 0)) (fits_again lawful root acct s h id m.view f)
             (refl, (subst (λ l. StartsWith l m.view.had) whole f.had, ap (own m.view.note) (sym whole) ∙ own_is)),
@@ -223,10 +223,10 @@ module _ {K : Type 0} (lawful : K → List TrailItem → Type 0) (root : Ptr) (a
   pub learns : (id : ℕ) (m : Turn K) → m.view.owns ≡ false → Allows H id m 0 root 0 (λ x. x) (HasLearnt lawful (step 0 root 0 0 0) m)
   learns id m other s h at = (in_root lawful root acct s h 0 (omega arith), λ _. told)
     where
-      v : View K
+      v : TrailView K
       v = m.view
 
-      w : View K
+      w : TrailView K
       w = learnt m.view
 
       items : List TrailItem

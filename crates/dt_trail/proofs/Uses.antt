@@ -6,7 +6,7 @@ use Rattle.atomic_blocks.specs.Cells.{Cell, Row, Me, Step, me, step, row_at, cel
 use Rattle.dt_trail.specs.declared.rule.About.{About}
 use Rattle.dt_trail.specs.declared.door.Door.{Door}
 use Rattle.dt_trail.specs.declared.rule.Extent.{Extent}
-use Rattle.dt_trail.specs.declared.rule.View.{View}
+use Rattle.dt_trail.specs.declared.rule.TrailView.{TrailView}
 use Rattle.dt_trail.specs.Items.{TrailItem, whose, code, IsReal}
 use Rattle.dt_trail.specs.Insides.{IsDoor}
 use Rattle.dt_trail.specs.Rule.{NoSlot, Kept, Turn, note, appender, owner, maker, nobody, extent_of, with_right, without_right, right_of, maker_after, made, row_ended, IsSet, HasCompared, TurnReads, HasLearnt, IsLast, IsTurned, IsSeen, IsBack, IsFoundAgain, IsPlanned, IsLaid, reviewed, through, door_at, claim, claim_of, informed}
@@ -16,7 +16,7 @@ use Rattle.dt_trail.proofs.Widens as widens
 use Rattle.dt_trail.proofs.Seats as seats
 
 module _ {K : Type 0} (lawful : K → List TrailItem → Type 0) (key about : About K) (keyed : key ≡ about) where
-  abbrev H : Rattle.atomic_blocks.specs.Cells.State NoSlot (View K) → Type 0
+  abbrev H : Rattle.atomic_blocks.specs.Cells.State NoSlot (TrailView K) → Type 0
   H = Kept lawful key.root.ptr key.account
 
   abbrev root_is : key.root.ptr ≡ about.root.ptr
@@ -46,30 +46,30 @@ module _ {K : Type 0} (lawful : K → List TrailItem → Type 0) (key about : Ab
   pub sees_as : (id : ℕ) (m : Turn K) (i : ℕ) → 0 < m.view.door.len → i ≡ m.view.door.block → i < 32 → AllowsLink H id m 0 about.root.ptr i (λ q. q) (IsSeen 0 i m)
   sees_as id m i pos ei near = subst (λ (p : Ptr). AllowsLink H id m 0 p i (λ q. q) (IsSeen 0 i m)) root_is (steps.sees lawful key.root.ptr key.account id m i pos ei (omega arith))
 
-  pub lends_as : (id : ℕ) (v : View K) (other : ℕ) (w : View K) → v ≡ note v.account v.note v.knows v.door → w ≡ owner w.account w.knows w.door w.extent → w.account ≡ v.account
+  pub lends_as : (id : ℕ) (v : TrailView K) (other : ℕ) (w : TrailView K) → v ≡ note v.account v.note v.knows v.door → w ≡ owner w.account w.knows w.door w.extent → w.account ≡ v.account
       → Joins H 0 about.root.ptr id v other w (with_right v w) nobody
-  lends_as id v other w ev ew same = subst (λ (p : Ptr × (View K × View K)). Joins H 0 p.0 id p.1.0 other p.1.1 (with_right p.1.0 p.1.1) nobody) (λ i. (root_is i, (sym ev i, sym (ew ∙ ap (λ (a : Option K). owner a w.knows w.door w.extent) same) i)))
+  lends_as id v other w ev ew same = subst (λ (p : Ptr × (TrailView K × TrailView K)). Joins H 0 p.0 id p.1.0 other p.1.1 (with_right p.1.0 p.1.1) nobody) (λ i. (root_is i, (sym ev i, sym (ew ∙ ap (λ (a : Option K). owner a w.knows w.door w.extent) same) i)))
       (seats.lends lawful key.root.ptr key.account id v.account v.note v.knows v.door other w.knows w.door w.extent)
 
   pub sets_as : (id : ℕ) (m : Turn K) (a : Option K) (n : ℕ) (had ks : List TrailItem) (d : Door) (t : Extent) (count : ℕ) (x : TrailItem) (word : ℕ) → word ≡ code x → m.view ≡ appender a n had ks d t → IsDoor d → count ≡ length ks → d.from ≤ count → count < d.from + d.len
       → whose x ≡ n → IsReal x → lawful key.account (ks ++ x ∷ [])
       → Allows H id m (d.block + 1) d.link.ptr (count - d.from) (λ _. word) (λ _. IsSet x (step (d.block + 1) d.link.ptr (count - d.from) word 0) m word)
   sets_as id m a n had ks d t count x word ew e is at low high mine real ok = subst (λ (w : ℕ). Allows H id m (d.block + 1) d.link.ptr (count - d.from) (λ _. w) (λ _. IsSet x (step (d.block + 1) d.link.ptr (count - d.from) w 0) m w)) (sym ew)
-      (subst (λ (u : View K). Allows H id (me u m.hand m.spare) (d.block + 1) d.link.ptr (count - d.from) (λ _. code x) (λ _. IsSet x (step (d.block + 1) d.link.ptr (count - d.from) (code x) 0) (me u m.hand m.spare) (code x))) (sym e)
+      (subst (λ (u : TrailView K). Allows H id (me u m.hand m.spare) (d.block + 1) d.link.ptr (count - d.from) (λ _. code x) (λ _. IsSet x (step (d.block + 1) d.link.ptr (count - d.from) (code x) 0) (me u m.hand m.spare) (code x))) (sym e)
       (subst (λ (b : ℕ). Allows H id (me (appender a n had ks d t) m.hand m.spare) b d.link.ptr (count - d.from) (λ _. code x) (λ _. IsSet x (step b d.link.ptr (count - d.from) (code x) 0) (me (appender a n had ks d t) m.hand m.spare) (code x)))
       (let o : suc d.block ≡ d.block + 1 = omega arith in o) (grows.sets lawful key.root.ptr key.account id a n had ks d t m.hand m.spare (count - d.from) x is.some (let y = at in omega arith) (omega arith) mine real ok)))
 
   pub compares_as : (id : ℕ) (m : Turn K) (a : Option K) (n : ℕ) (had ks : List TrailItem) (d : Door) (t : Extent) → m.view ≡ appender a n had ks d t → Allows H id m 0 about.root.ptr 0 (λ x. x) (HasCompared (step 0 about.root.ptr 0 0 0) m)
   compares_as id m a n had ks d t e = subst (λ (p : Ptr). Allows H id m 0 p 0 (λ x. x) (HasCompared (step 0 p 0 0 0) m)) root_is (steps.compares lawful key.root.ptr key.account id a n had ks d t m e)
 
-  pub returns_right_as : (id : ℕ) (v : View K) (a : Option K) (n : ℕ) (had ks : List TrailItem) (d : Door) (t : Extent) → v ≡ appender a n had ks d t → Splits H 0 about.root.ptr id v (without_right v) (right_of v)
-  returns_right_as id v a n had ks d t e = subst (λ (p : Ptr × View K). Splits H 0 p.0 id p.1 (without_right p.1) (right_of p.1)) (λ i. (root_is i, sym e i)) (seats.returns_right lawful key.root.ptr key.account id a n had ks d t)
+  pub returns_right_as : (id : ℕ) (v : TrailView K) (a : Option K) (n : ℕ) (had ks : List TrailItem) (d : Door) (t : Extent) → v ≡ appender a n had ks d t → Splits H 0 about.root.ptr id v (without_right v) (right_of v)
+  returns_right_as id v a n had ks d t e = subst (λ (p : Ptr × TrailView K). Splits H 0 p.0 id p.1 (without_right p.1) (right_of p.1)) (λ i. (root_is i, sym e i)) (seats.returns_right lawful key.root.ptr key.account id a n had ks d t)
 
-  pub makes_as : (id : ℕ) (v : View K) (a : Option K) (n : ℕ) (d : Door) (t : Extent) → v ≡ maker a n d t → Splits H 0 about.root.ptr id v (maker_after v) (made v)
-  makes_as id v a n d t e = subst (λ (p : Ptr × View K). Splits H 0 p.0 id p.1 (maker_after p.1) (made p.1)) (λ i. (root_is i, sym e i)) (seats.makes lawful key.root.ptr key.account id a n d t)
+  pub makes_as : (id : ℕ) (v : TrailView K) (a : Option K) (n : ℕ) (d : Door) (t : Extent) → v ≡ maker a n d t → Splits H 0 about.root.ptr id v (maker_after v) (made v)
+  makes_as id v a n d t e = subst (λ (p : Ptr × TrailView K). Splits H 0 p.0 id p.1 (maker_after p.1) (made p.1)) (λ i. (root_is i, sym e i)) (seats.makes lawful key.root.ptr key.account id a n d t)
 
-  pub opens_as : (id : ℕ) (v : View K) (a : Option K) (n : ℕ) (d : Door) (t : Extent) → v ≡ maker a n d t → Splits H 0 about.root.ptr id v (row_ended v) (right_of v)
-  opens_as id v a n d t e = subst (λ (p : Ptr × View K). Splits H 0 p.0 id p.1 (row_ended p.1) (right_of p.1)) (λ i. (root_is i, sym e i)) (seats.opens lawful key.root.ptr key.account id a n d t)
+  pub opens_as : (id : ℕ) (v : TrailView K) (a : Option K) (n : ℕ) (d : Door) (t : Extent) → v ≡ maker a n d t → Splits H 0 about.root.ptr id v (row_ended v) (right_of v)
+  opens_as id v a n d t e = subst (λ (p : Ptr × TrailView K). Splits H 0 p.0 id p.1 (row_ended p.1) (right_of p.1)) (λ i. (root_is i, sym e i)) (seats.opens lawful key.root.ptr key.account id a n d t)
 
   pub plans_as : (id : ℕ) (m : Turn K) (i : ℕ) (q : Ptr) → m.view.owns ≡ true → i ≡ m.view.extent.blocks → i < 32 → AllowsLink H id m 0 about.root.ptr i (λ _. q) (λ _. IsPlanned 0 i m q)
   plans_as id m i q owns ei few = subst (λ (p : Ptr). AllowsLink H id m 0 p i (λ _. q) (λ _. IsPlanned 0 i m q)) root_is (widens.plans lawful key.root.ptr key.account id m i q owns ei few)
@@ -80,11 +80,11 @@ module _ {K : Type 0} (lawful : K → List TrailItem → Type 0) (key about : Ab
   widens_as id blocks total m i size q cs owns extent carried ei few long pos small placed empty room =
       subst (λ (p : Ptr). Allows H id m 0 p i (λ _. size) (λ _. IsLaid (step 0 p i size 0) m size)) root_is (widens.widens lawful key.root.ptr key.account id blocks total m i size q cs owns extent carried ei few long pos small placed empty room)
 
-  pub tells_as : (id : ℕ) (v : View K) → Splits H 0 about.root.ptr id v v (claim_of v)
+  pub tells_as : (id : ℕ) (v : TrailView K) → Splits H 0 about.root.ptr id v v (claim_of v)
   tells_as id v = subst (λ (p : Ptr). Splits H 0 p id v v (claim_of v)) root_is (seats.tells lawful key.root.ptr key.account id v)
 
-  pub told_as : (id : ℕ) (v : View K) (other : ℕ) (w : View K) → w ≡ claim w.account w.knows w.door → v.owns ≡ false → Joins H 0 about.root.ptr id v other w (informed v w) nobody
-  told_as id v other w e not_mine = subst (λ (p : Ptr × View K). Joins H 0 p.0 id v other p.1 (informed v p.1) nobody) (λ i. (root_is i, sym e i)) (seats.told lawful key.root.ptr key.account id v other w.account w.knows w.door not_mine)
+  pub told_as : (id : ℕ) (v : TrailView K) (other : ℕ) (w : TrailView K) → w ≡ claim w.account w.knows w.door → v.owns ≡ false → Joins H 0 about.root.ptr id v other w (informed v w) nobody
+  told_as id v other w e not_mine = subst (λ (p : Ptr × TrailView K). Joins H 0 p.0 id v other p.1 (informed v p.1) nobody) (λ i. (root_is i, sym e i)) (seats.told lawful key.root.ptr key.account id v other w.account w.knows w.door not_mine)
 
   pub learns_as : (id : ℕ) (m : Turn K) → m.view.owns ≡ false → Allows H id m 0 about.root.ptr 0 (λ x. x) (HasLearnt lawful (step 0 about.root.ptr 0 0 0) m)
   learns_as id m not_mine = subst (λ (p : Ptr). Allows H id m 0 p 0 (λ x. x) (HasLearnt lawful (step 0 p 0 0 0) m)) root_is (steps.learns lawful key.root.ptr key.account id m not_mine)

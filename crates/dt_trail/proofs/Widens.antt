@@ -10,7 +10,7 @@ use Rattle.atomic_blocks.specs.Cells.{Cell, Row, State, step, cell, row_at, no_r
 use Rattle.atomic_blocks.proofs.After.{row_before, row_last}
 use Rattle.dt_trail.specs.declared.door.Door.{Door}
 use Rattle.dt_trail.specs.declared.rule.Extent.{Extent}
-use Rattle.dt_trail.specs.declared.rule.View.{View}
+use Rattle.dt_trail.specs.declared.rule.TrailView.{TrailView}
 use Rattle.dt_trail.specs.Items.{TrailItem, own, StartsWith}
 use Rattle.dt_trail.specs.Blocks.{flat, Laid, BlockLiesAt}
 use Rattle.dt_trail.specs.Rule.{NoSlot, RowWorld, FitsRow, Kept, Turn, extent_of, wider, planned_at, HadAll, IsPlanned, IsLaid}
@@ -21,7 +21,7 @@ abbrev cell_none : Cell NoSlot
 cell_none = cell 0 null_ptr None
 
 module _ {K : Type 0} (lawful : K → List TrailItem → Type 0) (root : Ptr) (acct : K) where
-  abbrev H : State NoSlot (View K) → Type 0
+  abbrev H : State NoSlot (TrailView K) → Type 0
   H = Kept lawful root acct
 
   -- the place of the next block is written into the root
@@ -29,10 +29,10 @@ module _ {K : Type 0} (lawful : K → List TrailItem → Type 0) (root : Ptr) (a
       → AllowsLink H id m 0 root i (λ _. q) (λ _. IsPlanned 0 i m q)
   plans id m i q owns ei few s h at = (in_root lawful root acct s h i (omega arith), (w, keeps, tt, kept, refl))
     where
-      v : View K
+      v : TrailView K
       v = m.view
 
-      w : View K
+      w : TrailView K
       w = planned_at m.view q
 
       f : FitsRow h.world id m.view
@@ -71,7 +71,7 @@ module _ {K : Type 0} (lawful : K → List TrailItem → Type 0) (root : Ptr) (a
             (ap (λ (y : Cell NoSlot). y.link) (get_or-set_other h.world.base.cells i j c cell_none other) ∙ p.0, p.1, p.2, p.3));
       }
 
-      others : (j : ℕ) (u : View K) → j ≢ id → get_elem? s.views j ≡ some u → FitsRow world j u
+      others : (j : ℕ) (u : TrailView K) → j ≢ id → get_elem? s.views j ≡ some u → FitsRow world j u
       others j u apart at' = let g = h.each j u at' in record {
         account = g.account;
         begins = g.begins;
@@ -112,7 +112,7 @@ module _ {K : Type 0} (lawful : K → List TrailItem → Type 0) (root : Ptr) (a
       → Allows H id m 0 root i (λ _. size) (λ _. IsLaid (step 0 root i size 0) m size)
   widens id blocks total m i size q cs owns extent_is carried ei few long pos small placed empty room s h at = (in_root lawful root acct s h i (omega arith), λ _. (w, lays x, carried, kept, (refl, had)))
     where
-      w : View K
+      w : TrailView K
       w = wider m.view size
 
       x : Row NoSlot
@@ -201,7 +201,7 @@ module _ {K : Type 0} (lawful : K → List TrailItem → Type 0) (root : Ptr) (a
         at = ap (λ (r : Row NoSlot). r.at) (old d'.block lt) ∙ st.at;
       }
 
-      others : (j : ℕ) (u : View K) → j ≢ id → get_elem? s.views j ≡ some u → FitsRow world j u
+      others : (j : ℕ) (u : TrailView K) → j ≢ id → get_elem? s.views j ≡ some u → FitsRow world j u
       others j u apart at' = let g = h.each j u at' in record {
         account = g.account;
         begins = g.begins;

@@ -5,7 +5,7 @@ use Rattle.atomic_blocks.specs.Cells.{me, Row, row, cell_in, AllHome}
 use Rattle.atomic_blocks.specs.declared.rows.shared.Seat.{Seat}
 use Rattle.std.specs.declared.alloc.Global.{Global}
 use Rattle.dt_trail.specs.declared.door.Door.{Door}
-use Rattle.dt_trail.specs.declared.rule.View.{View}
+use Rattle.dt_trail.specs.declared.rule.TrailView.{TrailView}
 use Rattle.dt_trail.specs.declared.inner.Inner.{Inner}
 use Rattle.dt_trail.specs.Rule.{NoSlot, note, appender, owner, claim, extent_of, Turn}
 use Rattle.dt_trail.specs.declared.law.Named.{Named}
@@ -14,7 +14,7 @@ use Rattle.dt_trail.specs.Items.{TrailItem}
 use Rattle.dt_trail.specs.Known.{Known, Noted, Heard, named_row, known_row, noted}
 
 abbrev pub RowSeat : Type 0 → Type 0 → Type 0
-RowSeat K A = Seat NoSlot (View K) A
+RowSeat K A = Seat NoSlot (TrailView K) A
 
 -- the door leads to a block
 pub record IsDoor (d : Door) : Type 0 where
@@ -31,7 +31,7 @@ pub record IsDoorAt (d : Door) (count : ℕ) : Type 0 where
   pub high : count ≤ d.from + d.len
 
 module _ {K L : Type 0} where
-  abbrev pub OfRow : Inner K L → Seat NoSlot (View K) Global → Type 0
+  abbrev pub OfRow : Inner K L → Seat NoSlot (TrailView K) Global → Type 0
   OfRow i s = (s.rows ≡ i.rows.id) × (s.heap ≡ i.rows.heap)
 
 module _ {K A : Type 0} where
@@ -102,7 +102,7 @@ pub record IsHeard {K : Type 0} (s : RowSeat K Global) (d : Door) (count : ℕ) 
   pub counted : count ≡ length s.me.view.knows
 
 -- at the end, the blocks from the k-th on are still to be freed
-pub record Ending (root : Ptr) (k : ℕ) (mem : List (Row NoSlot)) : Type 0 where
+pub record EndingBlocks (root : Ptr) (k : ℕ) (mem : List (Row NoSlot)) : Type 0 where
   pub at : (row mem 0).at ≡ root
   pub long : length (row mem 0).cells ≡ 33
   pub home : AllHome (row mem 0).cells

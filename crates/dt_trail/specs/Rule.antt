@@ -7,7 +7,7 @@ use Rattle.atomic_blocks.specs.Cells.{Cell, Row, State, Step, Me, me, cell_in}
 use Rattle.atomic_blocks.specs.declared.rows.loose.Link.{Link}
 use Rattle.dt_trail.specs.declared.door.Door.{Door}
 use Rattle.dt_trail.specs.declared.rule.Extent.{Extent}
-use Rattle.dt_trail.specs.declared.rule.View.{View}
+use Rattle.dt_trail.specs.declared.rule.TrailView.{TrailView}
 use Rattle.dt_trail.specs.Items.{TrailItem, whose, code, IsReal, AllReal, own, code_at, StartsWith, longer, IsWordAt}
 use Rattle.dt_trail.specs.Blocks.{flat, Laid, BlockLiesAt}
 
@@ -53,54 +53,54 @@ pub record ShowsRow (lawful : List TrailItem → Type 0) (items : List TrailItem
   pub real : AllReal items
 
 abbrev pub Turn : Type 0 → Type 0
-Turn K = Me NoSlot (View K)
+Turn K = Me NoSlot (TrailView K)
 
 module _ {K : Type 0} where
-  abbrev pub viewed : Option K → Bool → Bool → Bool → ℕ → List TrailItem → List TrailItem → Door → Extent → View K
+  abbrev pub viewed : Option K → Bool → Bool → Bool → ℕ → List TrailItem → List TrailItem → Door → Extent → TrailView K
   viewed a live owns makes n knows had d t = record { account = a; live = live; owns = owns; makes = makes; note = n; knows = knows; had = had; door = d; extent = t }
 
   -- a note's view
-  abbrev pub note : Option K → ℕ → List TrailItem → Door → View K
+  abbrev pub note : Option K → ℕ → List TrailItem → Door → TrailView K
   note a n knows d = viewed a true false false n knows [] d no_extent
 
   -- the view of a note that has the owner's right
-  abbrev pub appender : Option K → ℕ → List TrailItem → List TrailItem → Door → Extent → View K
+  abbrev pub appender : Option K → ℕ → List TrailItem → List TrailItem → Door → Extent → TrailView K
   appender a n had knows d t = viewed a true true false n knows had d t
 
-  abbrev pub owner : Option K → List TrailItem → Door → Extent → View K
+  abbrev pub owner : Option K → List TrailItem → Door → Extent → TrailView K
   owner a knows d t = viewed a false true false 0 knows [] d t
 
   -- the owner of an empty row, of which this many notes were made
-  abbrev pub maker : Option K → ℕ → Door → Extent → View K
+  abbrev pub maker : Option K → ℕ → Door → Extent → TrailView K
   maker a n d t = viewed a false true true n [] [] d t
 
-  abbrev pub nobody : View K
+  abbrev pub nobody : TrailView K
   nobody = viewed None false false false 0 [] [] no_door no_extent
 
-  abbrev pub maker_after : View K → View K
+  abbrev pub maker_after : TrailView K → TrailView K
   maker_after v = maker v.account (v.note + 1) v.door v.extent
 
-  abbrev pub made : View K → View K
+  abbrev pub made : TrailView K → TrailView K
   made v = note v.account v.note [] v.door
 
-  abbrev pub with_right : View K → View K → View K
+  abbrev pub with_right : TrailView K → TrailView K → TrailView K
   with_right v w = viewed v.account v.live w.owns false v.note w.knows v.knows w.door w.extent
 
-  abbrev pub without_right : View K → View K
+  abbrev pub without_right : TrailView K → TrailView K
   without_right v = note v.account v.note v.knows v.door
 
-  abbrev pub right_of : View K → View K
+  abbrev pub right_of : TrailView K → TrailView K
   right_of v = owner v.account v.knows v.door v.extent
 
-  abbrev pub row_ended : View K → View K
+  abbrev pub row_ended : TrailView K → TrailView K
   row_ended v = nobody
 
   -- the view, with another door
-  abbrev pub through : View K → Door → View K
+  abbrev pub through : TrailView K → Door → TrailView K
   through v d = viewed v.account v.live v.owns v.makes v.note v.knows v.had d v.extent
 
   -- each view is a beginning of the row; a note's has all of the row that is its own; one seat at most is the owner's, and knows the whole row
-  pub record FitsRow (w : RowWorld K) (by : ℕ) (v : View K) : Type 0 where
+  pub record FitsRow (w : RowWorld K) (by : ℕ) (v : TrailView K) : Type 0 where
     pub account : (x : K) → v.account ≡ Some x → x ≡ w.account
     pub begins : StartsWith w.items v.knows
     pub live : v.live ≡ true → (w.place v.note ≡ by) × (v.note < w.made) × (own v.note w.items ≡ own v.note v.knows)
@@ -112,10 +112,10 @@ module _ {K : Type 0} where
     pub extent : v.owns ≡ true → (v.extent.blocks ≡ length w.blocks) × (v.extent.cells ≡ length (flat w.blocks))
     pub plan : v.owns ≡ true → v.extent.planned ≡ true → (cell_in w.base.cells v.extent.blocks).link ≡ v.extent.plan.ptr
 
-  abbrev pub FitsEach : RowWorld K → List (View K) → Type 0
-  FitsEach w views = (by : ℕ) (v : View K) → get_elem? views by ≡ some v → FitsRow w by v
+  abbrev pub FitsEach : RowWorld K → List (TrailView K) → Type 0
+  FitsEach w views = (by : ℕ) (v : TrailView K) → get_elem? views by ≡ some v → FitsRow w by v
 
-  pub record Kept (lawful : K → List TrailItem → Type 0) (root : Ptr) (acct : K) (s : State NoSlot (View K)) : Type 0 where
+  pub record Kept (lawful : K → List TrailItem → Type 0) (root : Ptr) (acct : K) (s : State NoSlot (TrailView K)) : Type 0 where
     pub world : RowWorld K
     pub keyed : world.account ≡ acct
     pub is : s.rows ≡ world.base ∷ world.blocks
@@ -124,18 +124,18 @@ module _ {K : Type 0} where
     pub each : FitsEach world s.views
 
   -- what the view had begins what it knows, which has no more of its own
-  abbrev pub HadAll : View K → Type 0
+  abbrev pub HadAll : TrailView K → Type 0
   HadAll v = StartsWith v.knows v.had × (own v.note v.knows ≡ own v.note v.had)
 
-  abbrev pub reviewed : Turn K → View K → Turn K
+  abbrev pub reviewed : Turn K → TrailView K → Turn K
   reviewed m v = me v m.hand m.spare
 
   -- the view, once it knows one item more
-  abbrev pub pushed : View K → TrailItem → View K
+  abbrev pub pushed : TrailView K → TrailItem → TrailView K
   pushed v item = viewed v.account v.live v.owns v.makes v.note (v.knows ++ item ∷ []) v.had v.door v.extent
 
   -- the same, of a note that has the owner's right
-  abbrev pub appended : View K → TrailItem → View K
+  abbrev pub appended : TrailView K → TrailItem → TrailView K
   appended v item = viewed v.account v.live v.owns v.makes v.note (v.knows ++ item ∷ []) (v.knows ++ item ∷ []) v.door v.extent
 
   -- the cell of the first item that is not known was set to it
@@ -186,34 +186,34 @@ module _ {K : Type 0} where
   abbrev pub IsFoundAgain : Step → Turn K → ℕ → Turn K → Type 0
   IsFoundAgain st m found n = (n ≡ m) × IsWordAt m.view.knows (m.view.door.from + st.index) found
 
-  abbrev pub planned_at : View K → Ptr → View K
+  abbrev pub planned_at : TrailView K → Ptr → TrailView K
   planned_at v p = viewed v.account v.live v.owns v.makes v.note v.knows v.had v.door (extent_of v.extent.blocks v.extent.cells true p)
 
   abbrev pub IsPlanned : ℕ → ℕ → Turn K → Ptr → Turn K → Type 0
   IsPlanned k i m q n = n ≡ reviewed m (planned_at m.view q)
 
-  abbrev pub wider : View K → ℕ → View K
+  abbrev pub wider : TrailView K → ℕ → TrailView K
   wider v size = viewed v.account v.live v.owns v.makes v.note v.knows v.had v.door (extent_of (v.extent.blocks + 1) (v.extent.cells + size) false null_ptr)
 
   abbrev pub IsLaid : Step → Turn K → ℕ → Turn K → Type 0
   IsLaid st m found n = (n ≡ me (wider m.view st.first) m.hand None) × (m.view.live ≡ true → HadAll m.view)
 
   -- a seat that knows a beginning, and no more
-  abbrev pub claim : Option K → List TrailItem → Door → View K
+  abbrev pub claim : Option K → List TrailItem → Door → TrailView K
   claim a knows d = viewed a false false false 0 knows [] d no_extent
 
-  abbrev pub claim_of : View K → View K
+  abbrev pub claim_of : TrailView K → TrailView K
   claim_of v = claim v.account v.knows v.door
 
-  abbrev pub is_longer : View K → View K → Bool
+  abbrev pub is_longer : TrailView K → TrailView K → Bool
   is_longer v w = nat_lt (length v.knows) (length w.knows)
 
   -- the view, with what was told beside what it knows, and with the door of the longer of the two
-  abbrev pub informed : View K → View K → View K
+  abbrev pub informed : TrailView K → TrailView K → TrailView K
   informed v w = viewed v.account v.live v.owns v.makes v.note v.knows w.knows (cond (is_longer v w) w.door v.door) v.extent
 
   -- the view, once it knows the longer of the two
-  abbrev pub learnt : View K → View K
+  abbrev pub learnt : TrailView K → TrailView K
   learnt v = viewed v.account v.live v.owns v.makes v.note (longer v.knows v.had) [] v.door v.extent
 
   -- the longer of the two begins with both, and has no more items of the note's own

@@ -8,7 +8,7 @@ use crate::door::Door;
 use crate::inner::{Inner, ROOT, RowSeat};
 use crate::law::Law;
 use crate::moves::turn;
-use crate::rule::{GoesBack, ReadsAgain, Sees};
+use crate::rule::{GoesBack, ReadsAgain, SeesItems};
 
 // Moves the seat's door back to the first block.
 fn go_back<K, L: Law<K>>(inner: &Inner<K, L>, seat: &mut RowSeat<K>) -> Door
@@ -19,7 +19,7 @@ fn go_back<K, L: Law<K>>(inner: &Inner<K, L>, seat: &mut RowSeat<K>) -> Door
 {
     let root = inner.about.root;
     let len = inner.rows.load::<GoesBack>(seat, ROOT, root, 0);
-    let link = inner.rows.load_link::<Sees>(seat, ROOT, root, 0);
+    let link = inner.rows.load_link::<SeesItems>(seat, ROOT, root, 0);
     Door {
         block: 0,
         from: 0,

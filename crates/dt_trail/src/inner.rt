@@ -5,7 +5,7 @@ ghost use Rattle.dt_trail.specs.Placed.{in_block_prop};
 
 use crate::law::Law;
 use crate::limits::WIDENINGS_MAX;
-use crate::rule::{About, AppendOnly, View};
+use crate::rule::{About, AppendOnly, TrailView};
 use atomic_blocks::rows::{Rows, Seat};
 use std::alloc::Global;
 
@@ -17,11 +17,11 @@ pub const MOST_BLOCKS: u64 = WIDENINGS_MAX + 1;
 pub const ROOT_LEN: usize = MOST_BLOCKS as usize + 1;
 
 // What a handle does its steps by, and what it knows.
-pub type RowSeat<K> = Seat<(), View<K>, Global>;
+pub type RowSeat<K> = Seat<(), TrailView<K>, Global>;
 
 /// The rows of cells, of which row 0 is the root and each other a block, and what is fixed of them.
 pub struct Inner<K, L: Law<K>> {
-    pub rows: Rows<(), View<K>, About<K>, AppendOnly<L>, Global>,
+    pub rows: Rows<(), TrailView<K>, About<K>, AppendOnly<L>, Global>,
     pub about: About<K>,
     pub alloc: Global,
     ghost keyed: { (rows.key ≡ about) × (rows.heap ≡ alloc) },

@@ -12,7 +12,7 @@ use crate::door::Door;
 use crate::inner::{Inner, ROOT, RowSeat};
 use crate::item::Item;
 use crate::law::Law;
-use crate::rule::{Compares, Lays, Learns, Lends, Picked, Plans, Reads, Sees, Sets, Tells, Turns};
+use crate::rule::{ComparesItems, Lays, Learns, Lends, Picked, Plans, ReadsCell, SeesItems, Sets, TellsItems, Turns};
 use atomic_blocks::rows::{Link, Loose};
 use std::alloc::Global;
 
@@ -32,7 +32,7 @@ pub fn turn<K, L: Law<K>>(inner: &Inner<K, L>, seat: &mut RowSeat<K>, door: Door
     }
     let link = inner
         .rows
-        .load_link::<Sees>(seat, ROOT, root, next as usize);
+        .load_link::<SeesItems>(seat, ROOT, root, next as usize);
     Some(Door {
         block: next,
         from: door.from + door.len,
@@ -53,7 +53,7 @@ pub fn look<K, L: Law<K>>(inner: &Inner<K, L>, seat: &mut RowSeat<K>, door: Door
     let next = (count - door.from) as usize;
     inner
         .rows
-        .load::<Reads<L>>(seat, door.block + 1, door.link, next)
+        .load::<ReadsCell<L>>(seat, door.block + 1, door.link, next)
 }
 
 // The owner's right goes into a note's seat.
@@ -119,7 +119,7 @@ pub fn show_all<K, L: Law<K>>(
     ensures met { StartsWith right.me.view.knows seat.old.me.view.knows × (own seat.old.me.view.note right.me.view.knows ≡ own seat.old.me.view.note seat.old.me.view.knows) }
 {
     lend(inner, seat, right);
-    inner.rows.load::<Compares>(seat, ROOT, inner.about.root, 0);
+    inner.rows.load::<ComparesItems>(seat, ROOT, inner.about.root, 0);
     hand_back(inner, seat)
 }
 
@@ -206,7 +206,7 @@ pub fn tell<K, L: Law<K>>(inner: &Inner<K, L>, seat: &mut RowSeat<K>) -> RowSeat
     ensures told { (result.rows ≡ seat.old.rows) × (result.heap ≡ seat.old.heap) × (result.me ≡ me (claim_of seat.old.me.view) None None) }
 {
     let root = inner.about.root;
-    inner.rows.split_seat::<Tells>(seat, ROOT, root)
+    inner.rows.split_seat::<TellsItems>(seat, ROOT, root)
 }
 
 /// Takes in what was told: the seat then knows the longer of the two lists.
@@ -220,6 +220,6 @@ pub fn take_in<K, L: Law<K>>(inner: &Inner<K, L>, seat: &mut RowSeat<K>, told: R
     ensures lawful { L.lawful inner.now.about.account seat.new.me.view.knows }
 {
     let root = inner.about.root;
-    inner.rows.join_seat::<Tells>(seat, told, ROOT, root);
+    inner.rows.join_seat::<TellsItems>(seat, told, ROOT, root);
     inner.rows.load::<Learns<L>>(seat, ROOT, root, 0);
 }

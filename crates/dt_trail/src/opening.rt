@@ -12,7 +12,7 @@ use crate::inner::{Inner, ROOT, RowSeat};
 use crate::law::Law;
 use crate::note::TrailNote;
 use crate::owner::TrailOwner;
-use crate::rule::{About, Makes, Opens};
+use crate::rule::{About, MakesNote, Opens};
 use crate::storage;
 use atomic_blocks::rows::Rows;
 use std::alloc::{AllocError, Global};
@@ -97,7 +97,7 @@ fn next_note<K: Drop, L: Law<K>>(
     let mine = Arc::try_clone(inner)?;
     let shared: &Inner<K, L> = inner;
     let root = shared.about.root;
-    let seat = shared.rows.split_seat::<Makes>(maker, ROOT, root);
+    let seat = shared.rows.split_seat::<MakesNote>(maker, ROOT, root);
     Ok(TrailNote::of(mine, seat, door))
 }
 

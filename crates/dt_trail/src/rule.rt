@@ -19,7 +19,7 @@ pub struct Extent {
 // What a seat knows. A live seat is a note's, with its number. The owner's knows the whole row, and the
 // maker's is the owner's while notes are made, with the number of the next. A note that has the owner's right
 // remembers what it had known, and one that was told something remembers that, until it has learnt it. All but a spent seat know the account. No value of it is made.
-pub struct View<K> {
+pub struct TrailView<K> {
     pub account: Option<K>,
     pub live: bool,
     pub owns: bool,
@@ -44,7 +44,7 @@ pub struct AppendOnly<L> {
     of: PhantomData<L>,
 }
 
-impl<K, L: Law<K>> RowRule<(), View<K>, About<K>> for AppendOnly<L> {
+impl<K, L: Law<K>> RowRule<(), TrailView<K>, About<K>> for AppendOnly<L> {
     ghost use Rattle.dt_trail.specs.Rule.{Kept, maker, first_door, first_extent};
     ghost use Rattle.std.specs.Prelude.{Some};
 
@@ -71,25 +71,25 @@ pub struct Sets<P> {
     of: PhantomData<P>,
 }
 
-impl<K, P: Picked> Play<(), View<K>> for Sets<P> {
+impl<K, P: Picked> Play<(), TrailView<K>> for Sets<P> {
     ghost use Rattle.dt_trail.specs.Rule.{IsSet};
 
     ghost then = { IsSet P.item };
 }
 
-pub struct Reads<L> {
+pub struct ReadsCell<L> {
     of: PhantomData<L>,
 }
 
-impl<K, L: Law<K>> Play<(), View<K>> for Reads<L> {
+impl<K, L: Law<K>> Play<(), TrailView<K>> for ReadsCell<L> {
     ghost use Rattle.dt_trail.specs.Rule.{TurnReads};
 
     ghost then = { TurnReads L.lawful };
 }
 
-pub struct Compares;
+pub struct ComparesItems;
 
-impl<K> Play<(), View<K>> for Compares {
+impl<K> Play<(), TrailView<K>> for ComparesItems {
     ghost use Rattle.dt_trail.specs.Rule.{HasCompared};
 
     ghost then = { HasCompared };
@@ -100,7 +100,7 @@ pub struct Learns<L> {
     of: PhantomData<L>,
 }
 
-impl<K, L: Law<K>> Play<(), View<K>> for Learns<L> {
+impl<K, L: Law<K>> Play<(), TrailView<K>> for Learns<L> {
     ghost use Rattle.dt_trail.specs.Rule.{HasLearnt};
 
     ghost then = { HasLearnt L.lawful };
@@ -111,16 +111,16 @@ pub struct Turns<L> {
     of: PhantomData<L>,
 }
 
-impl<K, L: Law<K>> Play<(), View<K>> for Turns<L> {
+impl<K, L: Law<K>> Play<(), TrailView<K>> for Turns<L> {
     ghost use Rattle.dt_trail.specs.Rule.{IsTurned};
 
     ghost then = { IsTurned L.lawful };
 }
 
 // And where it lies.
-pub struct Sees;
+pub struct SeesItems;
 
-impl<K> LinkPlay<(), View<K>> for Sees {
+impl<K> LinkPlay<(), TrailView<K>> for SeesItems {
     ghost use Rattle.dt_trail.specs.Rule.{IsSeen};
 
     ghost then = { IsSeen };
@@ -129,7 +129,7 @@ impl<K> LinkPlay<(), View<K>> for Sees {
 // The root says how many cells the first block has.
 pub struct GoesBack;
 
-impl<K> Play<(), View<K>> for GoesBack {
+impl<K> Play<(), TrailView<K>> for GoesBack {
     ghost use Rattle.dt_trail.specs.Rule.{IsBack};
 
     ghost then = { IsBack };
@@ -138,7 +138,7 @@ impl<K> Play<(), View<K>> for GoesBack {
 // A cell whose item the seat knows is read again.
 pub struct ReadsAgain;
 
-impl<K> Play<(), View<K>> for ReadsAgain {
+impl<K> Play<(), TrailView<K>> for ReadsAgain {
     ghost use Rattle.dt_trail.specs.Rule.{IsFoundAgain};
 
     ghost then = { IsFoundAgain };
@@ -147,7 +147,7 @@ impl<K> Play<(), View<K>> for ReadsAgain {
 // The place of the next block is written into the root.
 pub struct Plans;
 
-impl<K> LinkPlay<(), View<K>> for Plans {
+impl<K> LinkPlay<(), TrailView<K>> for Plans {
     ghost use Rattle.dt_trail.specs.Rule.{IsPlanned};
 
     ghost then = { IsPlanned };
@@ -156,16 +156,16 @@ impl<K> LinkPlay<(), View<K>> for Plans {
 // The block is set.
 pub struct Lays;
 
-impl<K> Play<(), View<K>> for Lays {
+impl<K> Play<(), TrailView<K>> for Lays {
     ghost use Rattle.dt_trail.specs.Rule.{IsLaid};
 
     ghost then = { IsLaid };
 }
 
 // The maker makes a note.
-pub struct Makes;
+pub struct MakesNote;
 
-impl<K> Split<View<K>> for Makes {
+impl<K> Split<TrailView<K>> for MakesNote {
     ghost use Rattle.dt_trail.specs.Rule.{maker_after, made};
 
     ghost left = { maker_after };
@@ -176,7 +176,7 @@ impl<K> Split<View<K>> for Makes {
 // The maker ends, and the owner begins.
 pub struct Opens;
 
-impl<K> Split<View<K>> for Opens {
+impl<K> Split<TrailView<K>> for Opens {
     ghost use Rattle.dt_trail.specs.Rule.{row_ended, right_of};
 
     ghost left = { row_ended };
@@ -187,7 +187,7 @@ impl<K> Split<View<K>> for Opens {
 // The owner's right goes into a note for the time of one append, and out again.
 pub struct Lends;
 
-impl<K> Split<View<K>> for Lends {
+impl<K> Split<TrailView<K>> for Lends {
     ghost use Rattle.dt_trail.specs.Rule.{without_right, right_of};
 
     ghost left = { without_right };
@@ -195,7 +195,7 @@ impl<K> Split<View<K>> for Lends {
     ghost right = { right_of };
 }
 
-impl<K> Join<View<K>> for Lends {
+impl<K> Join<TrailView<K>> for Lends {
     ghost use Rattle.dt_trail.specs.Rule.{with_right, nobody};
 
     ghost both = { with_right };
@@ -204,9 +204,9 @@ impl<K> Join<View<K>> for Lends {
 }
 
 // What a seat knows, told to another.
-pub struct Tells;
+pub struct TellsItems;
 
-impl<K> Split<View<K>> for Tells {
+impl<K> Split<TrailView<K>> for TellsItems {
     ghost use Rattle.dt_trail.specs.Rule.{claim_of};
 
     ghost left = { λ v. v };
@@ -214,7 +214,7 @@ impl<K> Split<View<K>> for Tells {
     ghost right = { claim_of };
 }
 
-impl<K> Join<View<K>> for Tells {
+impl<K> Join<TrailView<K>> for TellsItems {
     ghost use Rattle.dt_trail.specs.Rule.{informed, nobody};
 
     ghost both = { informed };

@@ -89,11 +89,11 @@ impl<'m> Progress<'m> {
                 Ok(())
             }
             StepLine::Withdraw { seat } => {
-                self.engine.withdraw(machine, seat);
+                self.engine.withdraw(seat);
                 Ok(())
             }
             StepLine::Ask { seat, line } => self.ask(alloc, machine, seat, line),
-            StepLine::Publish { seat } => self.engine.publish(machine, seat),
+            StepLine::Publish { seat } => self.engine.publish(seat),
             StepLine::Finish { seat } => self.finish(alloc, machine, seat),
             StepLine::Look { cpu } => {
                 self.look(machine, cpu);
@@ -187,10 +187,10 @@ impl<'m> Progress<'m> {
     {
         self.ask(alloc, machine, seat, line)?;
         if self.engine.waits(seat) {
-            self.engine.publish(machine, seat)?;
+            self.engine.publish(seat)?;
             self.finish(alloc, machine, seat)
         } else if self.engine.has_closed(seat) {
-            self.engine.withdraw(machine, seat);
+            self.engine.withdraw(seat);
             self.engine.close(seat);
             Ok(())
         } else {

@@ -10,10 +10,10 @@ use Rattle.dt_chain.specs.Kept.{slot_of}
 use Rattle.dt_chain.specs.Lists.{is_seat_listed}
 use Rattle.dt_chain.specs.Writes.{Write, Published, published, published_on}
 use Rattle.dt_chain.specs.declared.entries.Entries.{Entries}
-use Rattle.dt_chain.specs.declared.entries.Slot.{Slot}
+use Rattle.dt_chain.specs.declared.entries.SeatSlot.{SeatSlot}
 
 slot_at : (n : ℕ) (account : Account) (probes others : List Bool) (before : Option Published) (same : Bool)
-    (slot : Option Slot)
+    (slot : Option SeatSlot)
     → slot ≡ option_map slot_of (cond same (Some (record { life = n; account = account; probes = probes })) before)
     → slot ≡ option_map slot_of (cond same (Some (record { life = n; account = account; probes = others })) before)
 slot_at n account probes others before true slot h = h

@@ -38,8 +38,8 @@ Leads next true new = next ≡ Some new
 Leads next false new = next ≡ None
 
 -- what a reader of texts answers: the program or the fault as which the text is read, or that memory ran out
-abbrev pub Answered : List ℕ → Result Program LangFault → Type 0
-Answered text (Ok p) = Reads text (program (form_of_program p))
-Answered text (Err (lang.Program at end flaw)) = IsRefusedProgram text at end (because flaw)
-Answered text (Err (lang.Destructive at end what)) = IsRefusedProgram text at end (destroys what)
-Answered text (Err lang.Memory) = Unit {0}
+abbrev pub AnsweredText : List ℕ → Result Program LangFault → Type 0
+AnsweredText text (Ok p) = Reads text (program (form_of_program p))
+AnsweredText text (Err (lang.Program at end flaw)) = IsRefusedProgram text at end (because flaw)
+AnsweredText text (Err (lang.Destructive at end what)) = IsRefusedProgram text at end (destroys what)
+AnsweredText text (Err lang.Memory) = Unit {0}

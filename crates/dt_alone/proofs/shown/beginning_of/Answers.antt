@@ -5,7 +5,7 @@ use Rattle.std.specs.Global.{Vec}
 use Rattle.std.proofs.lemmas.List.{length-append}
 use Rattle.dt_alone.specs.Happened.{all_to}
 use Rattle.dt_alone.specs.Shown.{IsBeginningOf, of_kind}
-use Rattle.dt_alone.specs.declared.shown.Beginning.{Beginning}
+use Rattle.dt_alone.specs.declared.shown.FittingRecords.{FittingRecords}
 use Rattle.dt_buffer.specs.History.{attempt}
 use Rattle.dt_alone.proofs.Showing.{all_more, begins_cut, begins_kept, kind_other, kind_put, no_attempts, other_bool}
 use Rattle.dt_alone.proofs.Showing.{same_beginning, same_bool}
@@ -26,8 +26,8 @@ loop-one-preserved c =
     let held = c.loop-one.invariant in
     let events = all_to cpu (take i hs) in
     let more = all_more cpu hs i c.one-item.result c.loop-one-test.true c.one-item.is in
-    let old : Beginning = record { bytes = c.loop-one.bytes; is_cut = c.loop-one.is_cut } in
-    let next : Beginning = record { bytes = c.match-comes_to.bytes; is_cut = c.match-comes_to.is_cut } in
+    let old : FittingRecords = record { bytes = c.loop-one.bytes; is_cut = c.loop-one.is_cut } in
+    let next : FittingRecords = record { bytes = c.match-comes_to.bytes; is_cut = c.match-comes_to.is_cut } in
     let put : (m : List ℕ) (b : Bool) → b ≡ c.args.of_end
     → (all_to c.args.cpu (take (c.loop-one.one-index + 1) c.args.happened.now)
     ≡ all_to c.args.cpu (take c.loop-one.one-index c.args.happened.now) ++ attempt m b ∷ [])

@@ -5,7 +5,7 @@ use Rattle.dt_lang.specs.declared.mode.LexerMode.{LexerMode}
 use Rattle.dt_lang.specs.declared.mode.LexerMode.TheVariants.{Head}
 use Rattle.dt_program.specs.declared.program.Program.{Program}
 use Rattle.dt_lang.specs.machine.ClauseState.{ProgramState}
-use Rattle.dt_lang.specs.machine.ReaderView.{Answered, program_state_of}
+use Rattle.dt_lang.specs.machine.ReaderView.{AnsweredText, program_state_of}
 use Rattle.dt_lang.proofs.ParseLemmas.{SoFar, so_far_first, so_far_on, so_far_refused, so_far_overlong, so_far_stray}
 use Rattle.dt_lang.proofs.ParseLemmas.{so_far_end, answers_is}
 use Rattle.dt_lang.proofs.parse.read.Goals as goal
@@ -21,7 +21,7 @@ returns-in-Some c =
     c.tokens.invariant
     c.in-Token.token c.in-Token.at c.in-Token.end c.in-Some.refusal (program_state_of c.push.new.self)
     c.in-Token.ensures.lexes a in
-    subst (λ (x : LangFault). Answered c.args.text.now (Err x)) (sym c.fault.ensures) r
+    subst (λ (x : LangFault). AnsweredText c.args.text.now (Err x)) (sym c.fault.ensures) r
 
 pub tokens-preserved : goal.tokens-preserved
 tokens-preserved c =
@@ -47,4 +47,4 @@ returns-in-End c =
     let r = so_far_end c.args.text.now c.tokens.mode c.tokens.from (program_state_of c.tokens.reader)
     c.tokens.invariant
     c.in-End.at c.finish.result c.in-End.ensures.lexes c.finish.ensures in
-    subst (λ (x : Result Program LangFault). Answered c.args.text.now x) (sym c.ok_or.ensures.value) r
+    subst (λ (x : Result Program LangFault). AnsweredText c.args.text.now x) (sym c.ok_or.ensures.value) r

@@ -3,14 +3,15 @@ use Rattle.std.proofs.Common.{◌≡◌, ap, sym, ◌∙◌, subst}
 use Rattle.std.specs.List.{Contains}
 use Rattle.dt_chain.specs.Writes.{Write}
 use Rattle.dt_cred.specs.declared.account.Account.{Account}
-use Rattle.dt_seat.proofs.Begins.{starts_trans}
+use Rattle.dt_legal.specs.laws.Starts.{starts_trans}
 use Rattle.dt_seat.proofs.Offering.{goes_on_asked, goes_on_wider, starts_after}
 use Rattle.dt_seat.proofs.Published.{contained_still}
 use Rattle.dt_seat.proofs.Seats.{answered_from, taken_asked}
 use Rattle.dt_seat.proofs.Sitting.{lines_grown, notebook_asked, notebook_goes_on}
 use Rattle.dt_seat.proofs.asking.ask_at.Goals as goal
 use Rattle.dt_seat.specs.Publications.{IsPublicationAfter, writes_seen}
-use Rattle.dt_seat.specs.Trailed.{IsGoAfter, row_after}
+use Rattle.dt_legal.specs.Rows.{IsGoAfter}
+use Rattle.dt_seat.specs.Trailed.{row_after}
 use Rattle.dt_trail.specs.Items.{StartsWith}
 use Rattle.dt_trail.specs.Known.{Known, Noted, noted}
 use Rattle.dt_trail.specs.declared.law.Named.{Named}

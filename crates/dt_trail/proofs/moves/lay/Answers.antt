@@ -2,7 +2,7 @@ use Rattle.std.proofs.Common.{sym, ap, ◌∙◌, subst, arith, ◌≡◌, Some,
 use Rattle.atomic_blocks.specs.Cells.{row_at}
 use denote.RawPtr.{Ptr}
 use Rattle.dt_trail.specs.Rule.{extent_of, planned_at, HadAll}
-use Rattle.dt_trail.specs.declared.rule.View.{View}
+use Rattle.dt_trail.specs.declared.rule.TrailView.{TrailView}
 use Rattle.dt_trail.specs.declared.rule.Extent.{Extent}
 use Rattle.dt_trail.proofs.Uses.{plans_as, widens_as}
 use Rattle.dt_trail.proofs.moves.lay.Goals as goal
@@ -20,11 +20,11 @@ hold-requires g c =
 pub store-requires : goal.store-requires
 store-requires g c =
     let r = c.requires in let k = c.args.inner.now in let s = c.store_link.ensures in let h = c.hold.ensures in
-    let v : View g.row.K.Denot = c.args.seat.now.me.view in
+    let v : TrailView g.row.K.Denot = c.args.seat.now.me.view in
     let is : c.hold.new.self.me.view ≡ planned_at v c.args.link.ptr = ap (λ m. m.view) h.3 ∙ ap (λ m. m.view) s.3 in
-    let owns : c.hold.new.self.me.view.owns ≡ true = ap (λ (u : View g.row.K.Denot). u.owns) is ∙ r.seat.1 in
+    let owns : c.hold.new.self.me.view.owns ≡ true = ap (λ (u : TrailView g.row.K.Denot). u.owns) is ∙ r.seat.1 in
     let extent : c.hold.new.self.me.view.extent ≡ extent_of c.args.blocks v.extent.cells true c.args.link.ptr =
-    ap (λ (u : View g.row.K.Denot). u.extent) is ∙ ap (λ (t : Extent). extent_of t.blocks v.extent.cells true c.args.link.ptr) r.extent in
+    ap (λ (u : TrailView g.row.K.Denot). u.extent) is ∙ ap (λ (t : Extent). extent_of t.blocks v.extent.cells true c.args.link.ptr) r.extent in
     let carried = ap (λ m. m.spare) h.3 ∙ ap (λ (p : Ptr). Some (row_at p c.args.block.cells)) r.block.1 in (
       h.0 ∙ (s.0 ∙ r.seat.0.0),
       h.1 ∙ (s.1 ∙ r.seat.0.1),
@@ -36,6 +36,6 @@ store-requires g c =
 pub returns-clause-had : goal.returns-clause-had
 returns-clause-had g c l =
     let s = c.store_link.ensures in let h = c.hold.ensures in
-    let v : View g.row.K.Denot = c.args.seat.now.me.view in
+    let v : TrailView g.row.K.Denot = c.args.seat.now.me.view in
     let is : c.hold.new.self.me.view ≡ planned_at v c.args.link.ptr = ap (λ m. m.view) h.3 ∙ ap (λ m. m.view) s.3 in
-    subst HadAll is (c.store.ensures.3.1 (ap (λ (u : View g.row.K.Denot). u.live) is ∙ l))
+    subst HadAll is (c.store.ensures.3.1 (ap (λ (u : TrailView g.row.K.Denot). u.live) is ∙ l))

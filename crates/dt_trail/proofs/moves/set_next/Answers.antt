@@ -1,6 +1,6 @@
 use Rattle.std.proofs.Common.{sym, ap, ◌∙◌, subst, ◌++◌, [], ◌∷◌, arith, ◌≡◌}
 use Rattle.dt_trail.specs.Rule.{appender}
-use Rattle.dt_trail.specs.declared.rule.View.{View}
+use Rattle.dt_trail.specs.declared.rule.TrailView.{TrailView}
 use Rattle.dt_trail.specs.declared.door.Door.{Door}
 use Rattle.dt_trail.specs.declared.rule.About.{About}
 use Rattle.dt_trail.specs.Items.{TrailItem, whose, code, IsReal}
@@ -10,8 +10,8 @@ use Rattle.dt_trail.proofs.moves.set_next.Goals as goal
 pub store-requires : goal.store-requires
 store-requires g c =
     let r = c.requires in let k = c.args.inner.now in let j = c.lend.ensures in
-    let v : View g.row.K.Denot = c.args.seat.now.me.view in
-    let w : View g.row.K.Denot = c.args.right.me.view in
+    let v : TrailView g.row.K.Denot = c.args.seat.now.me.view in
+    let w : TrailView g.row.K.Denot = c.args.right.me.view in
     let is : c.lend.new.seat.me.view ≡ appender v.account v.note v.knows w.knows c.args.door w.extent =
     ap (λ m. m.view) j.seat ∙ ap (λ (d : Door). appender v.account v.note v.knows w.knows d w.extent) r.door.0 in
     let x : TrailItem = g.P.Picked.item in

@@ -6,7 +6,6 @@ use Rattle.dt_steps.proofs.engine.Engine.publish.Goals as goal
 
 pub returns : goal.returns
 returns c =
-    let registry = c.args.machine.now.registry in
     let seats = c.args.self.now.seats.items in
     let found : Found seats c.number.result c.args.seat c.index_mut.result.now = record {
       is = c.number.ensures.value;
@@ -14,7 +13,7 @@ returns c =
       read = c.index_mut.ensures.value;
     } in
     on_ok_weaker c.publish.result
-    (λ publishes world at. (
+    (λ publishes registry world at. (
       sound-publishing registry world at.0 c.args.seat,
       kept-publishing registry world seats c.args.self.now.publications c.args.self.now.processors.items at.1
           c.number.result

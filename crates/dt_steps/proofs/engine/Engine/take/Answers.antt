@@ -48,7 +48,7 @@ returns-in_ok-publish-in-Publish c = λ world few at.
     subst (λ step. EngineIsAt registry (after_step registry world step) c.publish.new.self
     × IsTelling registry world (after_step registry world step) Quiet)
     (sym (ap form_of_step c.in-Publish.is)) (
-      c.in_ok-publish-in-Publish.ensures world at,
+      c.in_ok-publish-in-Publish.ensures registry world at,
       quiet-publishing registry world c.in-Publish.seat,
     )
 
@@ -71,7 +71,7 @@ returns-in-Withdraw c = λ world few at.
     subst (λ step. EngineIsAt registry (after_step registry world step) c.withdraw.new.self
     × IsTelling registry world (after_step registry world step) Quiet)
     (sym (ap form_of_step c.in-Withdraw.is)) (
-      c.withdraw.ensures world at,
+      c.withdraw.ensures registry world at,
       quiet-withdrawing registry world c.in-Withdraw.seat,
     )
 

@@ -5,8 +5,7 @@ use Rattle.dt_steps.proofs.Standing.{Found, kept-withdrawing}
 use Rattle.dt_steps.proofs.engine.Engine.withdraw.Goals as goal
 
 pub returns-then-may_withdraw : goal.returns-then-may_withdraw
-returns-then-may_withdraw c = λ world at.
-    let registry = c.args.machine.now.registry in
+returns-then-may_withdraw c = λ registry world at.
     let seats = c.args.self.now.seats.items in
     let found : Found seats c.number.result c.args.seat c.index.result.now = record {
       is = c.number.ensures.value;
@@ -22,8 +21,7 @@ returns-then-may_withdraw c = λ world at.
     )
 
 pub returns-else-may_withdraw : goal.returns-else-may_withdraw
-returns-else-may_withdraw c = λ world at.
-    let registry = c.args.machine.now.registry in
+returns-else-may_withdraw c = λ registry world at.
     let seats = c.args.self.now.seats.items in
     let found : Found seats c.number.result c.args.seat c.index.result.now = record {
       is = c.number.ensures.value;

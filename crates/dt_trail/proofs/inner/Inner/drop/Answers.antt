@@ -2,14 +2,14 @@ use Rattle.std.proofs.Common.{arith, ◌≡◌, ℕ, ◌+◌, ◌<◌, length, r
 use denote.RawPtr.{InBlock}
 use Rattle.atomic_blocks.specs.Cells.{Row, row, AllHome, no_row, link_of}
 use Rattle.dt_trail.specs.Rule.{NoSlot}
-use Rattle.dt_trail.specs.Insides.{Ending}
+use Rattle.dt_trail.specs.Insides.{EndingBlocks}
 use Rattle.dt_trail.specs.declared.rule.About.{About}
 use Rattle.dt_trail.proofs.Endings.{ending, ending_on, ending_past, all_taken, in_base, block_lies}
 use Rattle.dt_trail.proofs.inner.Inner.drop.Goals.{then-len-gt0, else-len-gt0}
 use Rattle.dt_trail.proofs.inner.Inner.drop.Goals as goal
 
 pub rows-init : goal.rows-init
-rows-init g c = let e = c.close-closed.ensures in (refl, subst (λ (k : About g.row.K.Denot). Ending k.root.ptr 0 c.close-closed.result.rows) c.args.self.keyed.0 (ending g.L.Law.lawful _ _ _ e.1))
+rows-init g c = let e = c.close-closed.ensures in (refl, subst (λ (k : About g.row.K.Denot). EndingBlocks k.root.ptr 0 c.close-closed.result.rows) c.args.self.keyed.0 (ending g.L.Law.lawful _ _ _ e.1))
 
 pub word-len-requires : goal.word-len-requires
 word-len-requires g c = (c.args.self.placed, in_base _ _ _ _ (omega (arith, c.rows-test.true)) c.rows.invariant.1)
@@ -48,7 +48,7 @@ rows-preserved g c =
           )
       | else-len-gt0 w ↦ (
         ap (λ z. z.heap) w.closed-is ∙ h,
-        subst (λ (m : List (Row NoSlot)). Ending c.args.self.about.root.ptr (c.rows.block + 1) m) (sym (ap (λ z. z.rows) w.closed-is ∙ a))
+        subst (λ (m : List (Row NoSlot)). EndingBlocks c.args.self.about.root.ptr (c.rows.block + 1) m) (sym (ap (λ z. z.rows) w.closed-is ∙ a))
             (ending_past _ _ _ c.rows-test.true (sym c.word-len.ensures.1 ∙ (let z : c.word-len.result ≡ 0 = omega (arith, w.if-len-gt0.false) in z)) c.rows.invariant.1),
       )
     ]

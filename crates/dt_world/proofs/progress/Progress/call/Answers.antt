@@ -24,7 +24,7 @@ returns-in_ok-publish c =
     let published =
     after-silent wanted contents (with_world now world) (publishing contents.registry world seat) c.ask.new.self
     (record { engine = c.publish.new.self; taken = c.ask.new.self.taken; output = c.ask.new.self.output }) asked
-    (c.in_ok-publish.ensures world asked.at) refl (publishing_silent world contents.registry seat)
+    (c.in_ok-publish.ensures contents.registry world asked.at) refl (publishing_silent world contents.registry seat)
     (publishing_views world contents.registry seat) refl in
     subst (λ at. IsAfter wanted contents at c.finish.new.self)
     (sym (called_waiting contents now seat c.args.line.now is))
@@ -49,7 +49,7 @@ returns-then-has_closed c = λ wanted now few before.
       after-asking now.world seat contents.registry seat (line_form c.args.line.now),
       after-withdrawing world seat contents.registry seat,
     ) in
-    let closed = c.close.ensures contents.registry withdrawn fewer (c.withdraw.ensures world asked.at) in
+    let closed = c.close.ensures contents.registry withdrawn fewer (c.withdraw.ensures contents.registry world asked.at) in
     subst (λ at. IsAfter wanted contents at
     (record { engine = c.close.new.self; taken = c.ask.new.self.taken; output = c.ask.new.self.output }))
     (sym (called_closed contents now seat c.args.line.now not is))

@@ -32,7 +32,7 @@ returns-in-Withdraw c = λ wanted now few before.
     (sym c.in-Withdraw.is)
     (after-silent wanted contents now (withdrawing contents.registry now.world c.in-Withdraw.seat) c.args.self.now
     (record { engine = c.withdraw.new.self; taken = c.args.self.now.taken; output = c.args.self.now.output }) before
-    (c.withdraw.ensures now.world before.at) refl (withdrawing_silent now.world contents.registry c.in-Withdraw.seat)
+    (c.withdraw.ensures contents.registry now.world before.at) refl (withdrawing_silent now.world contents.registry c.in-Withdraw.seat)
     (withdrawing_views now.world contents.registry c.in-Withdraw.seat) refl)
 
 pub returns-in-Publish : goal.returns-in-Publish
@@ -46,7 +46,7 @@ returns-in-Publish c =
     (sym c.in-Publish.is)
     (after-silent wanted contents now (publishing contents.registry now.world c.in-Publish.seat) c.args.self.now
     (record { engine = c.publish.new.self; taken = c.args.self.now.taken; output = c.args.self.now.output }) before
-    (does now.world before.at) refl
+    (does contents.registry now.world before.at) refl
     (publishing_silent now.world contents.registry c.in-Publish.seat)
     (publishing_views now.world contents.registry c.in-Publish.seat) refl))
     c.publish.ensures

@@ -5,7 +5,7 @@ use Rattle.std.proofs.lemmas.Slice.Eq.{strip_prefix_is}
 use Rattle.dt_alone.specs.Lent.{forms_of_lent}
 use Rattle.dt_alone.proofs.Cuts.{no_cut}
 use Rattle.dt_alone.proofs.Trails.{text_of, trail_whole, trail_begins, spells, items_after}
-use Rattle.dt_alone.proofs.trail.Trail.read.Goals as goal
+use Rattle.dt_alone.proofs.trail.TrailText.read.Goals as goal
 
 pub returns-in_err-first-clause-refused : goal.returns-in_err-first-clause-refused
 returns-in_err-first-clause-refused c = λ is name items h.

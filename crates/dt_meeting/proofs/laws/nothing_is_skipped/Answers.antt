@@ -1,0 +1,6 @@
+-- What is to be shown of `nothing_is_skipped`.
+use Rattle.dt_meeting.specs.laws.Skipping.{none_skipped}
+use Rattle.dt_meeting.proofs.laws.nothing_is_skipped.Goals as goal
+
+pub returns : goal.returns
+returns c = none_skipped

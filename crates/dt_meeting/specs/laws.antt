@@ -1,0 +1,9 @@
+-- What holds of shared rows, of stages, and of what is kept track of. Lowest first.
+
+pub mod Seen
+pub mod Going
+pub mod Staging
+pub mod Sharing
+pub mod Tracking
+pub mod Answering
+pub mod Skipping

@@ -1,0 +1,95 @@
+//! What holds of shared rows, and of what is kept track of until they are made.
+ghost use Rattle.std.specs.Prelude.{◌≡◌, ◌≢◌, ◌≤◌, ◌+◌, ◌++◌, ◌∷◌, ◌↔◌, ℕ, true, false, List, [], Some, length, slice_get};
+ghost use Rattle.std.specs.List.{AllByRecursion};
+ghost use mathlib.Core.List.{IsPrefix};
+ghost use Rattle.dt_chain.specs.Writes.{Write};
+ghost use Rattle.dt_cred.specs.declared.account.Account.{Account};
+ghost use Rattle.dt_legal.specs.Rows.{IsLegalRow, past_of};
+ghost use Rattle.dt_life.specs.Answer.{Answer};
+ghost use Rattle.dt_machine.specs.Registry.{Contents};
+ghost use Rattle.dt_meeting.specs.Sharing.{IsShared, is_seen_after, seen_row};
+ghost use Rattle.dt_meeting.specs.Stages.{past, stage};
+ghost use Rattle.dt_meeting.specs.Tracking.{GoIsAnnounced, IsPassedBy, Tracks};
+ghost use Rattle.dt_proto.specs.Alone.{Alone};
+ghost use Rattle.dt_proto.specs.Told.{view_told};
+ghost use Rattle.dt_trail.specs.Items.{StartsWith, TrailItem, fired, own};
+
+/// Law: a legal row is seen whole, and what is seen of a row begins what is seen of a longer one.
+pub fn rows_are_seen()
+    ensures legal { (account : Account) (contents : Contents) (row : List TrailItem) → IsLegalRow account contents row
+        → seen_row account contents row ≡ row }
+    ensures begins { (account : Account) (contents : Contents) (before after : List TrailItem)
+        → StartsWith (seen_row account contents (before ++ after)) (seen_row account contents before) }
+{}
+
+/// Law: a row is shared where nothing has happened. It stays so as the trail gets items that aren't the processor's, as the processor fires and
+/// isn't seen, as it fires and is seen, and as it has fired late, after the whole trail, where nothing is seen any more.
+pub fn shared_rows_grow()
+    ensures new { (account : Account) (contents : Contents) (cpu : ℕ) → IsShared account contents cpu [] [] [] }
+    ensures trail { (account : Account) (contents : Contents) (cpu : ℕ) (trail more : List TrailItem) (knew : List ℕ) (row : List TrailItem)
+        → IsShared account contents cpu trail knew row → IsLegalRow account contents (trail ++ more) → own (cpu + 1) more ≡ []
+        → IsShared account contents cpu (trail ++ more) knew (row ++ more) }
+    ensures unseen { (account : Account) (contents : Contents) (cpu : ℕ) (trail : List TrailItem) (knew : List ℕ) (row : List TrailItem) (count : ℕ)
+        → IsShared account contents cpu trail knew row → is_seen_after account contents trail cpu (length knew) ≡ false
+        → count ≤ length trail
+        → IsShared account contents cpu trail (knew ++ count ∷ []) (row ++ fired cpu (length knew) ∷ []) }
+    ensures kept { (account : Account) (contents : Contents) (cpu : ℕ) (trail : List TrailItem) (knew : List ℕ) (row : List TrailItem) (count : ℕ)
+        → IsShared account contents cpu trail knew row → is_seen_after account contents trail cpu (length knew) ≡ true
+        → count ≤ length trail
+        → IsShared account contents cpu (trail ++ fired cpu (length knew) ∷ []) (knew ++ count ∷ []) (row ++ fired cpu (length knew) ∷ []) }
+    ensures late { (account : Account) (contents : Contents) (cpu : ℕ) (trail : List TrailItem) (knew late : List ℕ) (row : List TrailItem)
+        → IsShared account contents cpu trail knew row → ((place : ℕ) → is_seen_after account contents trail cpu place ≡ false)
+        → AllByRecursion (λ count. count ≤ length trail) late
+        → (shared : List TrailItem) × IsShared account contents cpu trail (knew ++ late) shared }
+{}
+
+/// Law: a processor that knows nothing keeps track of each life. It goes on to as it knows more writes and more items, as it fires and its writes pass the
+/// life by, and as its firing is offered to the life, and is seen there or isn't. In the end its firings and the trail stand in one row.
+pub fn tracking_goes_on()
+    ensures new { (account : Account) (contents : Contents) (cpu life : ℕ) (writes : List Write)
+        → Tracks account contents cpu life writes [] [] }
+    ensures writes { (account : Account) (contents : Contents) (cpu life : ℕ) (writes more : List Write) (known : List TrailItem) (knew : List ℕ)
+        → IsPrefix writes more → GoIsAnnounced account contents known (stage life more)
+        → Tracks account contents cpu life writes known knew → Tracks account contents cpu life more known knew }
+    ensures known { (account : Account) (contents : Contents) (cpu life : ℕ) (writes : List Write) (known trail : List TrailItem) (knew : List ℕ)
+        → StartsWith trail known → own (cpu + 1) trail ≡ own (cpu + 1) known → IsLegalRow account contents trail
+        → GoIsAnnounced account contents trail (stage life writes)
+        → Tracks account contents cpu life writes known knew → Tracks account contents cpu life writes trail knew }
+    ensures passed { (account : Account) (contents : Contents) (cpu life : ℕ) (writes : List Write) (known : List TrailItem) (knew : List ℕ)
+        → IsPassedBy account contents cpu (length knew) (stage life writes) → Tracks account contents cpu life writes known knew
+        → Tracks account contents cpu life writes known (knew ++ length known ∷ []) }
+    ensures unseen { (account : Account) (contents : Contents) (cpu life : ℕ) (writes : List Write) (known trail : List TrailItem) (knew : List ℕ)
+        → stage life writes ≢ past → StartsWith trail known → own (cpu + 1) trail ≡ own (cpu + 1) known → IsLegalRow account contents trail
+        → is_seen_after account contents trail cpu (length knew) ≡ false → GoIsAnnounced account contents trail (stage life writes)
+        → Tracks account contents cpu life writes known knew → Tracks account contents cpu life writes trail (knew ++ length known ∷ []) }
+    ensures kept { (account : Account) (contents : Contents) (cpu life : ℕ) (writes : List Write) (known trail : List TrailItem) (knew : List ℕ)
+        → stage life writes ≢ past → StartsWith trail known → own (cpu + 1) trail ≡ own (cpu + 1) known → IsLegalRow account contents trail
+        → is_seen_after account contents trail cpu (length knew) ≡ true
+        → IsLegalRow account contents (trail ++ fired cpu (length knew) ∷ [])
+        → GoIsAnnounced account contents (trail ++ fired cpu (length knew) ∷ []) (stage life writes)
+        → Tracks account contents cpu life writes known knew
+        → Tracks account contents cpu life writes (trail ++ fired cpu (length knew) ∷ []) (knew ++ length known ∷ []) }
+    ensures shared { (account : Account) (contents : Contents) (cpu life : ℕ) (writes : List Write) (trail : List TrailItem) (knew : List ℕ)
+        → (stage life writes ≡ past → (place : ℕ) → is_seen_after account contents trail cpu place ≡ false)
+        → Tracks account contents cpu life writes trail knew → (row : List TrailItem) × IsShared account contents cpu trail knew row }
+{}
+
+/// Law: in a shared row each firing of the processor so far stands after all items of the trail that the processor knew, and where it is seen there, it is on the
+/// trail just there: none that should have been seen was skipped.
+pub fn nothing_is_skipped()
+    ensures { (account : Account) (contents : Contents) (cpu : ℕ) (trail : List TrailItem) (knew : List ℕ) (row : List TrailItem) (place count : ℕ)
+        → IsShared account contents cpu trail knew row → slice_get knew place ≡ Some count
+        → (before : List TrailItem) × (after : List TrailItem) × (row ≡ before ++ fired cpu place ∷ after)
+        × StartsWith trail (seen_row account contents before) × (count ≤ length (seen_row account contents before))
+        × (is_seen_after account contents (seen_row account contents before) cpu place ≡ true
+        → StartsWith trail (seen_row account contents before ++ fired cpu place ∷ [])) }
+{}
+
+/// Law: what a consumer is answered alone to a row is what it is answered to the part that is seen, where that is legal: after a shared row the replies that are due are those after
+/// the trail.
+pub fn answered_alike()
+    ensures { (account : Account) (contents : Contents) (row : List TrailItem) (answers : List Answer)
+        → IsLegalRow account contents (seen_row account contents row)
+        → Alone account contents.registry (view_told contents (past_of row)) answers
+        ↔ Alone account contents.registry (view_told contents (past_of (seen_row account contents row))) answers }
+{}
