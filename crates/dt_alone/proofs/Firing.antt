@@ -8,7 +8,7 @@ use Rattle.dt_ecb.specs.Ecbs.{EcbForm, of_probe}
 use Rattle.dt_ecb.specs.Forms.{form_of_ecb}
 use Rattle.dt_ecb.specs.declared.parts.Ecb.{Ecb}
 use Rattle.dt_lang.specs.Program.{ClauseForm}
-use Rattle.dt_machine.specs.Moment.{MomentForm}
+use Rattle.dt_machine.specs.Context.{ContextForm}
 use Rattle.dt_life.specs.Following.{taking_by}
 use Rattle.dt_life.specs.Takings.{Taking, exit_of, first_exit, taken_at, taking_of, through_exit}
 use Rattle.dt_life.specs.laws.Takings.{first_exit-append, first_through, none_more, through_first, through_none}
@@ -61,7 +61,7 @@ or_none : (o : Option ℤ) → option_or o None ≡ o
 or_none None = refl
 or_none (Some z) = refl
 
-module _ (in_end : Bool) (m : MomentForm) (cs : List ClauseForm) where
+module _ (in_end : Bool) (m : ContextForm) (cs : List ClauseForm) where
   abbrev pub row : List Ecb → List Taking
   row ecbs = map (taking_of in_end m) (of_probe m.firing.probe (map (form_of_ecb cs) ecbs))
 

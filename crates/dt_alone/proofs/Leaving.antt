@@ -16,7 +16,7 @@ use Rattle.dt_program.specs.declared.clause.AggregationUse as program
 use Rattle.dt_program.specs.declared.clause.Statement.{Statement}
 use Rattle.dt_program.specs.declared.clause.Statement.TheVariants.{Aggregate, Exit, Stack, Trace, Ustack}
 use Rattle.dt_record.specs.Taking.{Outcome, TakenForm, leaves, left_in, taking}
-use Rattle.dt_machine.specs.Moment.{MomentForm}
+use Rattle.dt_machine.specs.Context.{ContextForm}
 use Rattle.dt_life.specs.Aggregations.{aggregation_of, contributions_of, number_given}
 use Rattle.dt_life.specs.Following.{taking_by}
 use Rattle.dt_life.specs.Takings.{Taking, scene_at, taking_of}
@@ -24,7 +24,7 @@ use Rattle.dt_life.specs.Aggregations.{UseForm, contribution_at, key_at, number_
 use Rattle.dt_life.specs.laws.Giving.{span, span_more, split_more, uses_more}
 use Rattle.dt_life.specs.laws.Takings.{clause_found}
 
-module _ (shapes : List ShapeForm) (in_end : Bool) (m : MomentForm) (clauses : List Clause) (ecb : Ecb)
+module _ (shapes : List ShapeForm) (in_end : Bool) (m : ContextForm) (clauses : List Clause) (ecb : Ecb)
     (clause : Clause) (inside : ecb.clause < length clauses) (at : clause ≡ get_or clauses ecb.clause clause) where
   abbrev taking_with : ClauseForm → Taking
   taking_with c = taking_of in_end m (record { epid = ecb.epid; probe = ecb.probe; clause = c })

@@ -22,7 +22,7 @@ use Rattle.dt_alone.specs.declared.happened.Happened.TheVariants.{Snapped, Trunc
 use Rattle.dt_alone.specs.declared.programs.Programs.{Programs}
 use Rattle.dt_alone.specs.declared.runner.Runner.{Runner}
 use Rattle.dt_alone.proofs.Bringing.{brings_one, same_brings}
-use Rattle.dt_machine.specs.Moment.{MomentForm}
+use Rattle.dt_machine.specs.Context.{ContextForm}
 use Rattle.dt_life.specs.Aggregations.{aggregation_of, contributions}
 use Rattle.dt_life.specs.Buffers.{attempts_of, comes_by, comes_since, errors_in}
 use Rattle.dt_life.specs.Placed.{AreEcbs}
@@ -31,7 +31,7 @@ use Rattle.dt_life.specs.Life.{SetUp, ecbs_in, end_by, happens, is_inactive, pha
 use Rattle.dt_life.specs.Life.{since_then, with_event}
 use Rattle.dt_life.specs.Stores.{given_on, given_since}
 use Rattle.dt_life.specs.Takings.{TracingEvent, Taking, began, seen, snapped, truncated, ended, closed, faults}
-use Rattle.dt_life.specs.Takings.{first_exit, is_end, moment_at, taken_at, taken_by, taken_on, taken_since}
+use Rattle.dt_life.specs.Takings.{first_exit, is_end, context_at, taken_at, taken_by, taken_on, taken_since}
 use Rattle.dt_life.specs.declared.phase.End.{End}
 use Rattle.dt_life.specs.declared.phase.End.TheVariants.{Exit, History}
 use Rattle.dt_life.specs.declared.phase.Phase.{Phase}
@@ -71,8 +71,8 @@ module _ (account : Account) (registry : Registry) where
     ecbs = ecbs_in account registry s
 
     -- ECBs were taken
-    pub told_firing : (event : TracingEvent) (m : MomentForm) (old new : List Happened) → IsFiring event
-        → moment_at account registry event ≡ Some m
+    pub told_firing : (event : TracingEvent) (m : ContextForm) (old new : List Happened) → IsFiring event
+        → context_at account registry event ≡ Some m
         → AddsTakings (shapes_in s) m.firing.cpu (taken_at (is_end event) (ecbs_in account registry s) m) old new
         → Told s old → Told (with_event s event) new
     told_firing event m old new fires at adds told = λ cpu.
@@ -124,7 +124,7 @@ module _ (account : Account) (registry : Registry) where
     own_ecbs = ap (λ cs. map (form_of_ecb cs) r.programs.ecbs.items) h.clauses ∙ h.ecbs.forms
 
     -- what a runner took is what is taken by its set-up
-    pub own_adds : (in_end : Bool) (m : MomentForm) (old new : List Happened)
+    pub own_adds : (in_end : Bool) (m : ContextForm) (old new : List Happened)
         → AddsTakings (shapes_of r.programs.shapes) m.firing.cpu (taken_at in_end
         (map (form_of_ecb (map form_of_clause r.programs.clauses.items)) r.programs.ecbs.items) m) old new
         → AddsTakings (shapes_in s) m.firing.cpu (taken_at in_end (ecbs_in account registry s) m) old new
@@ -187,9 +187,9 @@ firing_is (truncated name) is = absurd is
 firing_is (ended end) is = absurd is
 firing_is closed is = absurd is
 
-module _ (account : Account) (registry : Registry) (s : SetUp) (event : TracingEvent) (m : MomentForm) (old : Runner)
+module _ (account : Account) (registry : Registry) (s : SetUp) (event : TracingEvent) (m : ContextForm) (old : Runner)
     (h : Has account registry s old) (fires : runs.IsFiring event)
-    (at : moment_at account registry event ≡ Some m) where
+    (at : context_at account registry event ≡ Some m) where
   -- what the runner takes
   abbrev own_taken : List Taking
   own_taken = taken_at false

@@ -30,7 +30,7 @@ use dt_life::{
     BEGIN, Command, End, NamedAggregation, OptionValue, Phase, Refusal, Reply, end_reserve,
     own_firing, own_process, reply_to_describe, reply_to_list,
 };
-use dt_machine::{Machine, Moment};
+use dt_machine::{Context, Machine};
 use std::alloc::{AllocError, Global};
 
 impl Runner {
@@ -165,12 +165,12 @@ impl Runner {
         }
         let process = own_process(&self.account);
         let firing = own_firing(BEGIN);
-        let moment = Moment {
+        let context = Context {
             probe: machine.probe(BEGIN).unwrap(),
             process: &process,
             firing: &firing,
         };
-        self.happen(alloc, machine, &moment, self.seen)?;
+        self.happen(alloc, machine, &context, self.seen)?;
         Ok(Reply::Done)
     }
 

@@ -11,7 +11,7 @@ use dt_ecb::{ECBS_MAX, Ecb, Shapes};
 use dt_expr::EvalFault;
 use dt_lang::Clause;
 use dt_life::{placed_after, scene_at};
-use dt_machine::Moment;
+use dt_machine::Context;
 use dt_record::{Taken, taken};
 use std::alloc::{AllocError, Global};
 
@@ -30,7 +30,7 @@ impl Programs {
     ghost use Rattle.dt_alone.specs.Happened.{AddsTakings, given_as};
     ghost use Rattle.std.specs.Option.{option_map};
     ghost use Rattle.dt_life.specs.Aggregations.{split_by, uses_by};
-    ghost use Rattle.dt_machine.specs.Moment.{form_of_moment};
+    ghost use Rattle.dt_machine.specs.Context.{form_of_context};
     ghost use Rattle.dt_life.specs.Following.{taking_by};
     ghost use Rattle.dt_life.specs.Takings.{exit_of, first_exit, taken_at};
 
@@ -83,24 +83,24 @@ impl Programs {
         &self,
         alloc: Global,
         happened: &mut Vec<Happened>,
-        moment: &Moment,
+        context: &Context,
         in_end: bool,
     ) -> Result<Option<i64>, AllocError>
         // listed on the firing's processor is what is taken there: up to the first exit, in END all
-        ensures taken { let m = form_of_moment moment.now in
+        ensures taken { let m = form_of_context context.now in
             IfOk result (λ _. AddsTakings (shapes_of self.now.shapes) m.firing.cpu (taken_at in_end
             (map (form_of_ecb (map form_of_clause self.now.clauses.items)) self.now.ecbs.items) m)
             happened.old.items happened.new.items) }
         ensures exit { in_end ≡ false
             → IfOk result (λ exit. exit ≡ first_exit (taken_at false
             (map (form_of_ecb (map form_of_clause self.now.clauses.items)) self.now.ecbs.items)
-            (form_of_moment moment.now))) }
+            (form_of_context context.now))) }
         ensures few { vec_len happened.new ≤ vec_len happened.old + ECBS_MAX }
     {
         let mut exit = None;
         for ecb in &self.ecbs {
-            if ecb.probe == moment.firing.probe && exit.is_none() {
-                let status = self.take_one(alloc, happened, *ecb, moment, in_end)?;
+            if ecb.probe == context.firing.probe && exit.is_none() {
+                let status = self.take_one(alloc, happened, *ecb, context, in_end)?;
                 exit = if in_end { None } else { status };
             }
         }
@@ -113,21 +113,21 @@ impl Programs {
         alloc: Global,
         happened: &mut Vec<Happened>,
         ecb: Ecb,
-        moment: &Moment,
+        context: &Context,
         in_end: bool,
     ) -> Result<Option<i64>, AllocError>
         requires { ecb.clause < length self.now.clauses.items }
-        ensures taken { let m = form_of_moment moment.now in
+        ensures taken { let m = form_of_context context.now in
             IfOk result (λ _. AddsTakings (shapes_of self.now.shapes) m.firing.cpu
             (taking_by in_end m (map form_of_clause self.now.clauses.items) ecb ∷ [])
             happened.old.items happened.new.items) }
         ensures exit { IfOk result (λ exit. exit
-            ≡ exit_of (taking_by in_end (form_of_moment moment.now) (map form_of_clause self.now.clauses.items) ecb)) }
+            ≡ exit_of (taking_by in_end (form_of_context context.now) (map form_of_clause self.now.clauses.items) ecb)) }
         ensures few { vec_len happened.new ≤ vec_len happened.old + 1 }
     {
-        let cpu = moment.firing.cpu;
+        let cpu = context.firing.cpu;
         let clause = &self.clauses[ecb.clause];
-        match taken(ecb.epid, clause, &scene_at(moment, ecb.epid)) {
+        match taken(ecb.epid, clause, &scene_at(context, ecb.epid)) {
             Ok(Some(taken)) => {
                 let left = self.left(alloc, clause, &taken)?;
                 happened.push(Happened::Left { cpu, in_end, left })?;

@@ -11,7 +11,7 @@ use dt_life::{
     BEGIN, Command, END, End, LINES_MAX, Options, Phase, Refusal, Reply, own_firing, own_process,
     shown,
 };
-use dt_machine::{Firing, Machine, Moment};
+use dt_machine::{Context, Firing, Machine};
 use std::alloc::{AllocError, Global};
 
 /// What a plain runner has of a life: its options and programs, how many lines were asked and how many firings were
@@ -36,7 +36,7 @@ impl Runner {
     ghost use Rattle.std.specs.Prelude.{◌↔◌, ◌∷◌, List, [], Result, Ok, Some, None, IsTrue, IfOk, nat_le, false, if◌then◌else◌};
     ghost use Rattle.dt_cred.specs.declared.account.Account.{Account};
     ghost use Rattle.dt_machine.specs.Registry.{Registry};
-    ghost use Rattle.dt_machine.specs.Moment.{form_of_moment};
+    ghost use Rattle.dt_machine.specs.Context.{form_of_context};
     ghost use Rattle.dt_alone.specs.Runs.{Has, HasIn, IsFiring, Runs};
     ghost use Rattle.dt_life.specs.Answer.{answer_of};
     ghost use Rattle.dt_life.specs.Ask.{line_asks};
@@ -44,7 +44,7 @@ impl Runner {
     ghost use Rattle.dt_life.specs.Life.{Item, SetUp, asked, fired, happens, phase_after, seen_count, with_event, is_over as over};
     ghost use Rattle.dt_life.specs.Reply.{Replies};
     ghost use Rattle.dt_life.specs.Sees.{Sees};
-    ghost use Rattle.dt_life.specs.Takings.{TracingEvent, ended, moment_at};
+    ghost use Rattle.dt_life.specs.Takings.{TracingEvent, ended, context_at};
     ghost use Rattle.dt_life.specs.declared.phase.End.{End};
 
     /// A runner of the empty life.
@@ -120,10 +120,10 @@ impl Runner {
         }
         let account = self.account;
         // a foreign firing, or one that the account isn't shown, is no part of the life either
-        let Some(moment) = shown(&account, machine, firing) else {
+        let Some(context) = shown(&account, machine, firing) else {
             return Ok(false);
         };
-        self.happen(alloc, machine, &moment, self.seen + 1)?;
+        self.happen(alloc, machine, &context, self.seen + 1)?;
         Ok(true)
     }
 
@@ -133,7 +133,7 @@ impl Runner {
         &mut self,
         alloc: Global,
         machine: &Machine,
-        moment: &Moment,
+        context: &Context,
         seen: u32,
     ) -> Result<(), AllocError>
         requires in_history { seen ≤ self.old.options.histsize }
@@ -142,7 +142,7 @@ impl Runner {
         // for each set-up that it has: it then has the one with this firing, and END's where tracing ends
         ensures happens { IfOk result (λ _. (account : Account) (s : SetUp) (event : TracingEvent)
             → Has account machine.now.registry s self.old → IsFiring event
-            → moment_at account machine.now.registry event ≡ Some (form_of_moment moment.now)
+            → context_at account machine.now.registry event ≡ Some (form_of_context context.now)
             → phase_after (event ∷ s.since) ≡ phases.Active → seen ≡ seen_count (event ∷ s.since)
             → Has account machine.now.registry (happens account machine.now.registry s event) self.new) }
         ensures lines { self.new.lines ≡ self.old.lines }
@@ -155,7 +155,7 @@ impl Runner {
         } else {
             Phase::Stopped(Some(End::History))
         };
-        let exit = self.programs.take(alloc, &mut self.since, moment, false)?;
+        let exit = self.programs.take(alloc, &mut self.since, context, false)?;
         let end = End::after(exit, seen, history);
         self.phase = match end {
             Some(end) => Phase::Stopped(Some(end)),
@@ -177,12 +177,12 @@ impl Runner {
     {
         let process = own_process(&self.account);
         let firing = own_firing(END);
-        let moment = Moment {
+        let context = Context {
             probe: machine.probe(END).unwrap(),
             process: &process,
             firing: &firing,
         };
-        let _exit = self.programs.take(alloc, &mut self.since, &moment, true)?;
+        let _exit = self.programs.take(alloc, &mut self.since, &context, true)?;
         Ok(())
     }
 }

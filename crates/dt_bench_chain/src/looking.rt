@@ -49,7 +49,7 @@ pub(crate) fn looking_plainly<C: Clock>(clock: &C, scene: &Scene, entries: &Entr
     let mut named = 0u64;
     let start = Instant::now(clock).ok();
     for _ in 0..LOOKS {
-        if let Some(_moment) = entries.look_into(&scene.machine, &scene.firing, &mut mask) {
+        if let Some(_context) = entries.look_into(&scene.machine, &scene.firing, &mut mask) {
             named = named.wrapping_add(1);
         }
     }
@@ -66,7 +66,7 @@ pub(crate) fn looking_through<J: Site, C: Clock>(
     let mut named = 0u64;
     let start = Instant::now(clock).ok();
     for _ in 0..LOOKS {
-        if let Ok(Some(_moment)) = reader.look_into(&scene.machine, &scene.firing, &mut mask) {
+        if let Ok(Some(_context)) = reader.look_into(&scene.machine, &scene.firing, &mut mask) {
             named = named.wrapping_add(1);
         }
     }

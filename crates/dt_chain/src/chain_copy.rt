@@ -2,14 +2,14 @@
 ghost use Rattle.std.specs.Prelude.{◌≡◌, ℕ, [], None, IfNone, IfOk, IfSome};
 ghost use Rattle.dt_chain.specs.Chains.{IsMaskAfter, added_to};
 ghost use Rattle.dt_chain.specs.Seats.{life_at};
-ghost use Rattle.dt_machine.specs.Moment.{IsMoment};
+ghost use Rattle.dt_machine.specs.Context.{IsContext};
 
 use crate::book::Mark;
 use crate::entries::Entries;
 use crate::history::History;
 use crate::seat_mask::SeatMask;
 use crate::write::Write;
-use dt_machine::{Firing, Machine, Moment};
+use dt_machine::{Context, Firing, Machine};
 use left_right::Absorb;
 use std::alloc::{AllocError, Global};
 use std::marker::Model;
@@ -92,10 +92,10 @@ impl ChainCopy {
         machine: &'a Machine,
         firing: &'a Firing,
         mask: &mut SeatMask,
-    ) -> Option<Moment<'a>>
+    ) -> Option<Context<'a>>
         ensures look { IsMaskAfter machine.now.registry self.now.writes firing.now mask.new }
-        ensures moment { IfSome result (λ moment.
-            IsMoment machine.now.registry moment × (moment.firing.now ≡ firing.now)) }
+        ensures context { IfSome result (λ context.
+            IsContext machine.now.registry context × (context.firing.now ≡ firing.now)) }
         ensures none { IfNone result ((seat : ℕ) → life_at mask.new seat ≡ None) }
     {
         self.entries.look_into(machine, firing, mask)

@@ -4,14 +4,14 @@ ghost use mathlib.Core.List.{IsPrefix};
 ghost use Rattle.left_right.specs.Sides.{view};
 ghost use Rattle.dt_chain.specs.Chains.{IsMaskAfter};
 ghost use Rattle.dt_chain.specs.Seats.{life_at};
-ghost use Rattle.dt_machine.specs.Moment.{IsMoment};
+ghost use Rattle.dt_machine.specs.Context.{IsContext};
 ghost use Rattle.dt_chain.specs.declared.chain_reader.Missed.TheVariants as missed;
 
 use crate::book::Site;
 use crate::chain_rule::{InnerReader, SeesWrites};
 use crate::front::Front;
 use crate::seat_mask::SeatMask;
-use dt_machine::{Firing, Machine, Moment};
+use dt_machine::{Context, Firing, Machine};
 use std::marker::Model;
 use thiserror::Error;
 
@@ -55,7 +55,7 @@ enum Missed {
 /// What one entry finds: the list that is published, and what the firing names where the mask names a seat.
 struct FoundWrites<'a, J: Site> {
     front: Front<J>,
-    moment: Option<Moment<'a>>,
+    context: Option<Context<'a>>,
 }
 
 impl<J: Site> ChainReader<J> {
@@ -83,13 +83,13 @@ impl<J: Site> ChainReader<J> {
         machine: &'a Machine,
         firing: &'a Firing,
         mask: &mut SeatMask,
-    ) -> Result<Option<Moment<'a>>, LookRefused>
+    ) -> Result<Option<Context<'a>>, LookRefused>
         ensures mask { OnOk result (IsMaskAfter machine.now.registry self.new.seen firing.now mask.new) }
         ensures seen { OnOk result (IsPrefix self.old.seen self.new.seen) }
         ensures told { OnOk result (IsPrefix self.old.told self.new.seen) }
         ensures told_stays { self.new.told ≡ self.old.told }
-        ensures moment { IfOk result (λ found. IfSome found (λ moment.
-            IsMoment machine.now.registry moment × (moment.firing.now ≡ firing.now))) }
+        ensures context { IfOk result (λ found. IfSome found (λ context.
+            IsContext machine.now.registry context × (context.firing.now ≡ firing.now))) }
         ensures none { IfOk result (λ found. IfNone found ((seat : ℕ) → life_at mask.new seat ≡ None)) }
         ensures refused { OnErr result (self.new ≡ self.old) }
         ensures nobody { OnErr result ((seat : ℕ) → life_at mask.new seat ≡ None) }
@@ -103,9 +103,9 @@ impl<J: Site> ChainReader<J> {
         );
         self.inner = Some(inner);
         match found {
-            Ok(FoundWrites { front, moment }) => {
+            Ok(FoundWrites { front, context }) => {
                 self.seen = front;
-                Ok(moment)
+                Ok(context)
             }
             Err(Missed::Ended | Missed::ToldMore) => Err(LookRefused),
         }
@@ -123,7 +123,7 @@ impl<J: Site> ChainReader<J> {
     {
         let mut mask = SeatMask::new();
         match self.look_into(machine, firing, &mut mask) {
-            Ok(_moment) => Some(mask),
+            Ok(_context) => Some(mask),
             Err(LookRefused) => None,
         }
     }
@@ -157,9 +157,9 @@ fn enter<'a, J: Site>(
     ensures front { IfOk result.1 (λ found. found.front ≡ view result.0.place) }
     ensures told { IfOk result.1 (λ found. IsPrefix told.now found.front) }
     ensures mask { IfOk result.1 (λ found. IsMaskAfter machine.now.registry found.front firing.now mask.new) }
-    ensures moment { IfOk result.1 (λ found. IfSome found.moment (λ moment.
-        IsMoment machine.now.registry moment × (moment.firing.now ≡ firing.now))) }
-    ensures none { IfOk result.1 (λ found. IfNone found.moment ((seat : ℕ) → life_at mask.new seat ≡ None)) }
+    ensures context { IfOk result.1 (λ found. IfSome found.context (λ context.
+        IsContext machine.now.registry context × (context.firing.now ≡ firing.now))) }
+    ensures none { IfOk result.1 (λ found. IfNone found.context ((seat : ℕ) → life_at mask.new seat ≡ None)) }
     ensures nobody { OnErr result.1 ((seat : ℕ) → life_at mask.new seat ≡ None) }
     ensures told_more { IfErr result.1 (λ why. why ≡ missed.ToldMore → length (view result.0.place) < length told.now) }
 {
@@ -172,8 +172,8 @@ fn enter<'a, J: Site>(
             if !told.begins(&front) {
                 return (reading.leave(), Err(Missed::ToldMore));
             }
-            let moment = copy.look_into(machine, firing, mask);
-            (reading.leave(), Ok(FoundWrites { front, moment }))
+            let context = copy.look_into(machine, firing, mask);
+            (reading.leave(), Ok(FoundWrites { front, context }))
         }
         Err(inner) => (inner, Err(Missed::Ended)),
     }

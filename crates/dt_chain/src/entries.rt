@@ -8,7 +8,7 @@ use crate::seat_mask::SeatMask;
 use crate::seat_set::{SEAT_WORDS, SeatSet};
 use crate::write::{StoredWrite, Write};
 use dt_cred::Account;
-use dt_machine::{BitWord, Firing, Interest, Machine, Moment};
+use dt_machine::{BitWord, Context, Firing, Interest, Machine};
 use std::alloc::{AllocError, Global};
 
 /// The publications of all seats: for each its last, if it didn't withdraw that since.
@@ -34,7 +34,7 @@ impl Entries {
     ghost use Rattle.dt_chain.specs.Kept.{life_shown};
     ghost use Rattle.dt_machine.specs.BitWord.{is_in_word};
     ghost use Rattle.dt_machine.specs.Interest.{flags_of};
-    ghost use Rattle.dt_machine.specs.Moment.{IsMoment};
+    ghost use Rattle.dt_machine.specs.Context.{IsContext};
     ghost use Rattle.dt_machine.specs.Registry.{Registry};
     ghost use Rattle.dt_chain.specs.IsAt.{EntriesAreAt, HasListRoom};
 
@@ -131,7 +131,7 @@ impl Entries {
             → IsLook machine.now.registry writes firing.now (life_at result) }
     {
         let mut mask = SeatMask::new();
-        let _moment = self.look_into(machine, firing, &mut mask);
+        let _context = self.look_into(machine, firing, &mut mask);
         mask
     }
 
@@ -145,11 +145,11 @@ impl Entries {
         machine: &'a Machine,
         firing: &'a Firing,
         mask: &mut SeatMask,
-    ) -> Option<Moment<'a>>
+    ) -> Option<Context<'a>>
         ensures look { (writes : List Write) → EntriesAreAt writes self.now
             → IsLook machine.now.registry writes firing.now (life_at mask.new) }
-        ensures moment { IfSome result (λ moment.
-            IsMoment machine.now.registry moment × (moment.firing.now ≡ firing.now)) }
+        ensures context { IfSome result (λ context.
+            IsContext machine.now.registry context × (context.firing.now ≡ firing.now)) }
         ensures none { IfNone result ((seat : ℕ) → life_at mask.new seat ≡ None) }
     {
         mask.clear();
@@ -158,37 +158,37 @@ impl Entries {
         if seats.is_empty() {
             return None;
         }
-        let moment = machine.moment(firing)?;
-        self.show_all(seats, &moment, mask);
-        Some(moment)
+        let context = machine.context(firing)?;
+        self.show_all(seats, &context, mask);
+        Some(context)
     }
 
     /// Names those of some seats whose accounts are shown a firing.
-    fn show_all(&self, seats: SeatSet, moment: &Moment, mask: &mut SeatMask)
+    fn show_all(&self, seats: SeatSet, context: &Context, mask: &mut SeatMask)
         requires { (seat : ℕ) → life_at mask.old seat ≡ None }
-        ensures { (registry : Registry) → IsMoment registry moment.now → (seat : ℕ) → life_at mask.new seat
-            ≡ (if has seats seat then life_shown registry moment.now.firing.now
+        ensures { (registry : Registry) → IsContext registry context.now → (seat : ℕ) → life_at mask.new seat
+            ≡ (if has seats seat then life_shown registry context.now.firing.now
             (slice_index_or self.now.slots seat None) else None) }
     {
         for word in 0..SEAT_WORDS {
-            self.show(word, seats.words[word], moment, mask);
+            self.show(word, seats.words[word], context, mask);
         }
     }
 
     /// Names those of some seats of a word whose accounts are shown a firing.
-    fn show(&self, word: usize, seats: BitWord, moment: &Moment, mask: &mut SeatMask)
+    fn show(&self, word: usize, seats: BitWord, context: &Context, mask: &mut SeatMask)
         requires { word < SEAT_WORDS }
-        ensures named { (registry : Registry) → IsMoment registry moment.now
+        ensures named { (registry : Registry) → IsContext registry context.now
             → (seat : ℕ) → IsTrue (is_in_word word seats seat)
             → life_at mask.old seat ≡ None → life_at mask.new seat
-            ≡ life_shown registry moment.now.firing.now (slice_index_or self.now.slots seat None) }
+            ≡ life_shown registry context.now.firing.now (slice_index_or self.now.slots seat None) }
         ensures others { (seat : ℕ) → is_in_word word seats seat ≡ false → life_at mask.new seat ≡ life_at mask.old seat }
     {
         let mut left = seats;
         while let Some(place) = left.pop_first() {
             let seat = Seat::at(word, place);
             if let Some(slot) = &self.slots[seat.number() as usize] {
-                if moment.is_shown(&slot.account) {
+                if context.is_shown(&slot.account) {
                     mask.insert(seat, slot.life);
                 }
             }

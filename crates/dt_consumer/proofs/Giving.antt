@@ -14,7 +14,7 @@ use Rattle.dt_program.specs.declared.clause.Clause.{Clause}
 use Rattle.dt_record.specs.Taking.{Outcome, TakenForm, leaves, left_in, taking}
 use Rattle.dt_life.specs.Aggregations.{contributions_of}
 use Rattle.dt_life.specs.Takings.{Taking, scene_at, taking_of}
-use Rattle.dt_machine.specs.Moment.{MomentForm}
+use Rattle.dt_machine.specs.Context.{ContextForm}
 use Rattle.dt_life.specs.Following.{taking_by}
 use Rattle.dt_consumer.specs.Uses.{AreUses, form_of_use, form_of_uses}
 use Rattle.dt_life.specs.Uses.{given_then}
@@ -85,7 +85,7 @@ uses_long shapes clauses uses are =
     ∙ length-map (map form_of_clause clauses) (λ (c : ClauseForm). uses_by shapes c.statements)
     ∙ length-map clauses form_of_clause
 
-module _ (shapes : List ShapeForm) (in_end : Bool) (m : MomentForm) (clauses : List Clause) (ecb : Ecb)
+module _ (shapes : List ShapeForm) (in_end : Bool) (m : ContextForm) (clauses : List Clause) (ecb : Ecb)
     (clause : Clause) (inside : ecb.clause < length clauses) (at : clause ≡ get_or clauses ecb.clause clause) where
   abbrev taking_with : ClauseForm → Taking
   taking_with c = taking_of in_end m (record { epid = ecb.epid; probe = ecb.probe; clause = c })

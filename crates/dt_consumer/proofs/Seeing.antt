@@ -5,10 +5,10 @@ use Rattle.std.proofs.lemmas.Option.{slice_get_within}
 use Rattle.dt_cred.specs.declared.account.Account.{Account}
 use Rattle.dt_cred.specs.declared.firing.Firing.{Firing}
 use Rattle.dt_cred.specs.declared.probe.Probe.{Probe}
-use Rattle.dt_machine.specs.Moment.{IsMoment, form_of_moment, moment_of}
+use Rattle.dt_machine.specs.Context.{IsContext, form_of_context, context_of}
 use Rattle.dt_machine.specs.Registry.{Registry, probe_of}
 use Rattle.dt_machine.specs.Shown.{IsShown}
-use Rattle.dt_machine.specs.declared.moment.Moment.{Moment}
+use Rattle.dt_machine.specs.declared.context.Context.{Context}
 use Rattle.dt_ecb.specs.Ecbs.{of_probe}
 use Rattle.dt_life.specs.Life.{Item, ecbs}
 use Rattle.dt_life.specs.Sees.{Sees}
@@ -30,15 +30,15 @@ pub runs : (course : Course) → phase_by course ≡ Active → course ≡ Runni
 runs Running is = refl
 runs (Over cause) is = cc
 
--- a moment of the machine is the one that its firing names
-pub names_its : (registry : Registry) (moment : Moment) → IsMoment registry moment
-    → moment_of registry moment.firing.now ≡ Some (form_of_moment moment)
-names_its registry moment is = rw (is.probe, is.process) refl
+-- a context of the machine is the one that its firing names
+pub names_its : (registry : Registry) (context : Context) → IsContext registry context
+    → context_of registry context.firing.now ≡ Some (form_of_context context)
+names_its registry context is = rw (is.probe, is.process) refl
 
-module _ (account : Account) (registry : Registry) (life : List Item) (moment : Moment) (is : IsMoment registry moment)
+module _ (account : Account) (registry : Registry) (life : List Item) (context : Context) (is : IsContext registry context)
     (tracing : Tracing) (t : IsTracing account registry (set_up account registry life) tracing) where
   abbrev firing : Firing
-  firing = moment.firing.now
+  firing = context.firing.now
 
   pub sees_its : tracing.course ≡ Running → of_probe firing.probe (ecbs account registry life) ≢ []
       → IsShown account registry firing → Sees account registry life firing
@@ -57,4 +57,4 @@ module _ (account : Account) (registry : Registry) (life : List Item) (moment : 
   seen_cpu sees = omega (arith, sees.belongs.cpu, t.all_processors)
 
   pub seen_probe : firing.probe < length tracing.lists.items
-  seen_probe = omega (arith, t.all_lists, known_probe registry firing.probe moment.probe.now is.probe)
+  seen_probe = omega (arith, t.all_lists, known_probe registry firing.probe context.probe.now is.probe)

@@ -15,8 +15,8 @@ use Rattle.dt_consumer.specs.Keeps.{AreTaken}
 use Rattle.dt_life.specs.Following.{errors_and, pasts_and, taking_by, where_taken}
 use Rattle.dt_life.specs.Life.{SetUp, ecbs_in, shapes_in, with_event}
 use Rattle.dt_life.specs.Stores.{given_in}
-use Rattle.dt_life.specs.Takings.{TracingEvent, ended, is_end, first_exit, moment_at, own_moment, taken_at}
-use Rattle.dt_machine.specs.Moment.{MomentForm}
+use Rattle.dt_life.specs.Takings.{TracingEvent, ended, is_end, first_exit, context_at, own_context, taken_at}
+use Rattle.dt_machine.specs.Context.{ContextForm}
 use Rattle.dt_life.specs.Takings.{taken_by, through_exit}
 use Rattle.dt_life.specs.Uses.{AreGiven, given_and}
 use Rattle.dt_consumer.specs.Uses.{AreUses}
@@ -27,7 +27,7 @@ use Rattle.dt_consumer.specs.declared.ecb_lists.EcbList.{EcbList}
 use Rattle.dt_consumer.specs.declared.uses.Uses.{Uses}
 use Rattle.dt_life.specs.laws.Tracings.{IsFiring, all_last, still_open}
 use Rattle.dt_consumer.proofs.Tracings.{ListOf, exit_is, grown as taken_grown, list_taken}
-use Rattle.dt_life.specs.laws.Moments.{own_found}
+use Rattle.dt_life.specs.laws.Contexts.{own_found}
 use Rattle.dt_life.specs.laws.Stores.{grown}
 
 -- the uses of a set-up, of the clauses that it has
@@ -44,9 +44,9 @@ pub record Fired (account : Account) (registry : Registry) (s : SetUp) (event : 
   pub exited : first_exit (taken_by account registry (ecbs_in account registry s) event) ≡ exit
   pub still : (cpu : ℕ) → of_end (past_in account registry (with_event s event) cpu).events ≡ []
 
-pub fired_at : (account : Account) (registry : Registry) (s : SetUp) (event : TracingEvent) (m : MomentForm)
+pub fired_at : (account : Account) (registry : Registry) (s : SetUp) (event : TracingEvent) (m : ContextForm)
     (list : EcbList) (clauses : List Clause) (uses : List Uses) (old new : Processors) (exit : Option ℤ)
-    → IsFiring event → moment_at account registry event ≡ Some m → is_end event ≡ false
+    → IsFiring event → context_at account registry event ≡ Some m → is_end event ≡ false
     → map form_of_clause clauses ≡ s.clauses → AreUses (shapes_in s) s.clauses uses
     → ListOf account registry s m.firing.probe list
     → ((cpu : ℕ) → of_end (past_in account registry s cpu).events ≡ [])
@@ -84,7 +84,7 @@ pub end_gave : (account : Account) (registry : Registry) (s : SetUp) (end : End)
     → AreUses (shapes_in s) s.clauses uses → ListOf account registry s END list
     → ((shapes : List ShapeForm) → AreUses shapes (map form_of_clause clauses) uses
     → (pasts : ℕ → store.Past) → AreGiven pasts old
-    → IsSomeAnd (own_moment account registry END) (λ m.
+    → IsSomeAnd (own_context account registry END) (λ m.
     let taken = map (taking_by true m (map form_of_clause clauses)) list.ecbs.items in
     AreGiven (given_and shapes pasts (where_taken 0 taken)) new))
     → AreGiven (given_in account registry s) old

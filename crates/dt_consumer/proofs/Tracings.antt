@@ -19,9 +19,9 @@ use Rattle.dt_consumer.specs.Keeps.{AreTaken, HasTaken, IsTracing}
 use Rattle.dt_life.specs.Following.{errors_and, followed_by, pasts_and, taking_by, where_taken}
 use Rattle.dt_life.specs.Life.{SetUp, ecbs_in, end_size, since_then, with_event}
 use Rattle.dt_life.specs.Options.{OptionsForm, is_fill}
-use Rattle.dt_life.specs.Takings.{TracingEvent, ended, is_end, Taking, faults, first_exit, moment_at}
-use Rattle.dt_machine.specs.Moment.{MomentForm}
-use Rattle.dt_life.specs.Takings.{own_moment, taken_at, taken_by, taken_on, taken_since, taking_of}
+use Rattle.dt_life.specs.Takings.{TracingEvent, ended, is_end, Taking, faults, first_exit, context_at}
+use Rattle.dt_machine.specs.Context.{ContextForm}
+use Rattle.dt_life.specs.Takings.{own_context, taken_at, taken_by, taken_on, taken_since, taking_of}
 use Rattle.dt_life.specs.declared.limits.TheConstants.{END}
 use Rattle.dt_life.specs.declared.phase.End.{End}
 use Rattle.dt_consumer.specs.Placing.{ArePlaced, IsPlaced}
@@ -33,14 +33,14 @@ use Rattle.dt_life.specs.laws.Lists.{filter-map, found_at, map_twice}
 use Rattle.dt_life.specs.laws.Takings.{faults-append, first_through}
 use Rattle.dt_life.specs.laws.Options.{if_some_map}
 use Rattle.dt_life.specs.laws.Tracings.{IsFiring, comes_firing, on_is, by_is}
-use Rattle.dt_life.specs.laws.Moments.{own_found}
+use Rattle.dt_life.specs.laws.Contexts.{own_found}
 
 module _ (account : Account) (registry : Registry) (s : SetUp) where
   abbrev own : List EcbForm
   own = ecbs_in account registry s
 
-  module _ (event : TracingEvent) (m : MomentForm) (fires : IsFiring event)
-      (at : moment_at account registry event ≡ Some m) where
+  module _ (event : TracingEvent) (m : ContextForm) (fires : IsFiring event)
+      (at : context_at account registry event ≡ Some m) where
     -- what was taken at an event is what the set-up with it says
     pub grown : (all : List Processor) (new : List Taking)
         → new ≡ taken_at (is_end event) (ecbs_in account registry s) m
@@ -73,7 +73,7 @@ list_at account registry s lists probe list each inside at =
 -- what is taken of a list is what is taken of the probe's ECBs
 pub list_taken : (account : Account) (registry : Registry) (s : SetUp) (probe : ℕ) (list : EcbList)
     → ListOf account registry s probe list → (clauses : List Clause) → map form_of_clause clauses ≡ s.clauses
-    → (in_end : Bool) (m : MomentForm) → map (taking_by in_end m (map form_of_clause clauses)) list.ecbs.items
+    → (in_end : Bool) (m : ContextForm) → map (taking_by in_end m (map form_of_clause clauses)) list.ecbs.items
     ≡ map (taking_of in_end m) (of_probe probe (ecbs_in account registry s))
 list_taken account registry s probe list its clauses own in_end m =
     sym (map_twice (form_of_ecb (map form_of_clause clauses)) (taking_of in_end m) list.ecbs.items)
@@ -83,7 +83,7 @@ list_taken account registry s probe list its clauses own in_end m =
 -- END fired on what had been taken
 pub end_fired : (account : Account) (registry : Registry) (s : SetUp) (end : End) (list : EcbList) (all : List Processor)
     (clauses : List Clause) → map form_of_clause clauses ≡ s.clauses → ListOf account registry s END list
-    → IsSomeAnd (own_moment account registry END) (λ m.
+    → IsSomeAnd (own_context account registry END) (λ m.
     let new = map (taking_by true m (map form_of_clause clauses)) list.ecbs.items in
     AreTaken (pasts_and (past_in account registry s) (where_taken 0 new))
     (errors_and (errors_in account registry s) (where_taken 0 new)) all)
@@ -97,7 +97,7 @@ end_fired account registry s end list all clauses own_clauses its h =
 
 -- the first exit of a list is that of what is taken
 pub exit_is : (account : Account) (registry : Registry) (s : SetUp) (list : EcbList) (clauses : List Clause)
-    (event : TracingEvent) (m : MomentForm) (exit : Option ℤ) → IsFiring event → moment_at account registry event
+    (event : TracingEvent) (m : ContextForm) (exit : Option ℤ) → IsFiring event → context_at account registry event
     ≡ Some m
     → is_end event ≡ false
     → map (taking_by false m (map form_of_clause clauses)) list.ecbs.items

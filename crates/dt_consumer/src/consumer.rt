@@ -10,7 +10,7 @@ use dt_cred::Account;
 use dt_ecb::{Ecb, Shapes, ecbs_go_on, uses_of_both};
 use dt_lang::Clause;
 use dt_life::{Options, Phase};
-use dt_machine::{Firing, Interest, Machine, Moment};
+use dt_machine::{Context, Firing, Interest, Machine};
 use std::alloc::{AllocError, Global};
 
 /// One consumer: its options, what it has enabled, and, from its `go` on, what it has of each processor.
@@ -33,7 +33,7 @@ impl Consumer {
     ghost use Rattle.dt_life.specs.Limits.{history_max};
     ghost use Rattle.dt_ecb.specs.Ecbs.{of_probe};
     ghost use Rattle.dt_machine.specs.Interest.{has_probe};
-    ghost use Rattle.dt_machine.specs.Moment.{IsMoment};
+    ghost use Rattle.dt_machine.specs.Context.{IsContext};
     ghost use Rattle.dt_machine.specs.Registry.{Registry};
     ghost use Rattle.dt_machine.specs.Shown.{IsShown};
     ghost use Rattle.dt_life.specs.Ask.{Ask};
@@ -96,7 +96,7 @@ impl Consumer {
     /// Takes a firing, and answers whether the consumer saw it: it is active, the firing belongs to the machine, one
     /// of its ECBs names the probe, and its account is shown the firing. Where a clause exits, or the firing is the last
     /// of the history, tracing ends, and END fires in the same step. An unseen firing changes nothing. It takes no
-    /// memory. This is [`Consumer::offer_moment`] for a firing whose probe and process nobody looked up.
+    /// memory. This is [`Consumer::offer_context`] for a firing whose probe and process nobody looked up.
     pub fn offer(&mut self, machine: &Machine, firing: &Firing) -> bool
         ensures sees { (account : Account) (life : List Item)
             → StandsFor account machine.now.registry self.old life
@@ -107,41 +107,41 @@ impl Consumer {
         ensures unseen { result ≡ false → self.new ≡ self.old }
         ensures drafts { (draft : Draft) → CanApply self.old draft → CanApply self.new draft }
     {
-        match machine.moment(firing) {
-            Some(moment) => self.offer_moment(machine, &moment),
+        match machine.context(firing) {
+            Some(context) => self.offer_context(machine, &context),
             // a foreign firing changes nothing for its consumer
             None => false,
         }
     }
 
     /// The same for a firing whose probe and process were looked up: so who offers a firing to many consumers looks them up
-    /// once. The moment is one of the machine's.
-    pub fn offer_moment(&mut self, machine: &Machine, moment: &Moment) -> bool
+    /// once. The context is one of the machine's.
+    pub fn offer_context(&mut self, machine: &Machine, context: &Context) -> bool
         ensures sees { (account : Account) (life : List Item)
-            → StandsFor account machine.now.registry self.old life → IsMoment machine.now.registry moment.now
-            → (IsTrue result ↔ Sees account machine.now.registry life moment.now.firing.now) }
+            → StandsFor account machine.now.registry self.old life → IsContext machine.now.registry context.now
+            → (IsTrue result ↔ Sees account machine.now.registry life context.now.firing.now) }
         ensures seen { (account : Account) (life : List Item)
-            → StandsFor account machine.now.registry self.old life → IsMoment machine.now.registry moment.now
+            → StandsFor account machine.now.registry self.old life → IsContext machine.now.registry context.now
             → IsTrue result
-            → StandsFor account machine.now.registry self.new (fired moment.now.firing.now ∷ life) }
+            → StandsFor account machine.now.registry self.new (fired context.now.firing.now ∷ life) }
         ensures unseen { result ≡ false → self.new ≡ self.old }
         ensures drafts { (draft : Draft) → CanApply self.old draft → CanApply self.new draft }
     {
         // a firing that its account isn't shown changes nothing for a consumer
-        moment.is_shown(&self.account) && self.offer_shown(machine, moment)
+        context.is_shown(&self.account) && self.offer_shown(machine, context)
     }
 
     /// The same for a firing that the consumer's account is shown, which is all the work of an offer: who looked whom to offer the
     /// firing to has asked for that, so it is asked once.
-    pub fn offer_shown(&mut self, machine: &Machine, moment: &Moment) -> bool
+    pub fn offer_shown(&mut self, machine: &Machine, context: &Context) -> bool
         ensures sees { (account : Account) (life : List Item)
-            → StandsFor account machine.now.registry self.old life → IsMoment machine.now.registry moment.now
-            → IsShown account machine.now.registry moment.now.firing.now
-            → (IsTrue result ↔ Sees account machine.now.registry life moment.now.firing.now) }
+            → StandsFor account machine.now.registry self.old life → IsContext machine.now.registry context.now
+            → IsShown account machine.now.registry context.now.firing.now
+            → (IsTrue result ↔ Sees account machine.now.registry life context.now.firing.now) }
         ensures seen { (account : Account) (life : List Item)
-            → StandsFor account machine.now.registry self.old life → IsMoment machine.now.registry moment.now
-            → IsShown account machine.now.registry moment.now.firing.now → IsTrue result
-            → StandsFor account machine.now.registry self.new (fired moment.now.firing.now ∷ life) }
+            → StandsFor account machine.now.registry self.old life → IsContext machine.now.registry context.now
+            → IsShown account machine.now.registry context.now.firing.now → IsTrue result
+            → StandsFor account machine.now.registry self.new (fired context.now.firing.now ∷ life) }
         ensures unseen { result ≡ false → self.new ≡ self.old }
         ensures drafts { (draft : Draft) → CanApply self.old draft → CanApply self.new draft }
     {
@@ -149,12 +149,12 @@ impl Consumer {
         let Some(tracing) = &mut self.tracing else {
             return false;
         };
-        let firing = moment.firing;
+        let firing = context.firing;
         // a firing of a probe that this consumer never enabled changes nothing for it
         if !tracing.wants(firing.cpu, firing.probe) {
             return false;
         }
-        tracing.see(&self.account, machine, self.programs.clauses(), moment);
+        tracing.see(&self.account, machine, self.programs.clauses(), context);
         true
     }
 

@@ -5,7 +5,7 @@ use dt_aggstore::AggStore;
 use dt_buffer::Principal;
 use dt_ecb::Ecb;
 use dt_expr::EvalFault;
-use dt_life::{Moment, Options, scene_at};
+use dt_life::{Context, Options, scene_at};
 use dt_record::Taken;
 use std::alloc::{AllocError, Global};
 
@@ -37,7 +37,7 @@ impl Processor {
     ghost use Rattle.dt_life.specs.Uses.{GivenAtMost};
     ghost use Rattle.dt_consumer.specs.Uses.{AreUses};
     ghost use Rattle.dt_life.specs.Uses.{given_then};
-    ghost use Rattle.dt_machine.specs.Moment.{form_of_moment};
+    ghost use Rattle.dt_machine.specs.Context.{form_of_context};
     ghost use Rattle.dt_life.specs.Following.{followed_by, taking_by};
     ghost use Rattle.dt_consumer.specs.Keeps.{HasTaken};
     ghost use Rattle.dt_life.specs.Takings.{Taking, exit_of, first_exit, through_exit, faults};
@@ -62,7 +62,7 @@ impl Processor {
         store: &mut AggStore,
         enabled: &Enabled<'_>,
         list: &EcbList,
-        moment: &Moment,
+        context: &Context,
     ) -> Option<i64>
         requires placed { All (λ ecb. ecb.clause < length enabled.now.clauses.now) list.now.ecbs.items }
         requires counts { AtMost (DROPS_LIMIT - ECBS_MAX) self.old }
@@ -70,21 +70,21 @@ impl Processor {
         // up to the first exit: records are attempted in the buffer, divisions by zero counted as errors
         ensures taken { (past : BufferPast) (errors : ℕ) → EndLast past false → HasTaken past errors self.old
             → (let new = through_exit
-            (map (taking_by false (form_of_moment moment.now) (map form_of_clause enabled.now.clauses.now)) list.now.ecbs.items) in
+            (map (taking_by false (form_of_context context.now) (map form_of_clause enabled.now.clauses.now)) list.now.ecbs.items) in
             HasTaken (followed_by past (attempts_of new)) (errors + faults new) self.new) }
         ensures exit { result ≡ first_exit
-            (map (taking_by false (form_of_moment moment.now) (map form_of_clause enabled.now.clauses.now)) list.now.ecbs.items) }
+            (map (taking_by false (form_of_context context.now) (map form_of_clause enabled.now.clauses.now)) list.now.ecbs.items) }
         ensures counts { AtMostMore ECBS_MAX self.old self.new }
         // up to the first exit: the store is given what these takings give to aggregations, in order
         ensures given { (shapes : List ShapeForm) → AreUses shapes (map form_of_clause enabled.now.clauses.now) enabled.now.uses.now
             → (past : stores.Past) → IsAt past store.old
             → (let new = through_exit
-            (map (taking_by false (form_of_moment moment.now) (map form_of_clause enabled.now.clauses.now)) list.now.ecbs.items) in
+            (map (taking_by false (form_of_context context.now) (map form_of_clause enabled.now.clauses.now)) list.now.ecbs.items) in
             IsAt (given_then past (contributions shapes new)) store.new) }
         ensures gives { added_of store.new ≤ added_of store.old + GIVES_MAX }
     {
         for ecb in &list.ecbs {
-            let exit = self.take_one(left, store, enabled, *ecb, moment, false);
+            let exit = self.take_one(left, store, enabled, *ecb, context, false);
             // an exit ends tracing at this firing: the later ECBs of the probe aren't taken
             if exit.is_some() {
                 return exit;
@@ -100,26 +100,26 @@ impl Processor {
         store: &mut AggStore,
         enabled: &Enabled<'_>,
         list: &EcbList,
-        moment: &Moment,
+        context: &Context,
     )
         requires placed { All (λ ecb. ecb.clause < length enabled.now.clauses.now) list.now.ecbs.items }
         requires counts { AtMost (DROPS_LIMIT - ECBS_MAX) self.old }
         requires gives { GivenAtMost (ADDED_LIMIT - GIVES_MAX) store.old }
         // of all of END's ECBs: records are attempted in the buffer, divisions by zero counted as errors
         ensures taken { (past : BufferPast) (errors : ℕ) → HasTaken past errors self.old
-            → (let new = map (taking_by true (form_of_moment moment.now) (map form_of_clause enabled.now.clauses.now))
+            → (let new = map (taking_by true (form_of_context context.now) (map form_of_clause enabled.now.clauses.now))
             list.now.ecbs.items in
             HasTaken (followed_by past (attempts_of new)) (errors + faults new) self.new) }
         ensures counts { AtMostMore ECBS_MAX self.old self.new }
         // of all of END's ECBs: the store is given what these takings give to aggregations, in order
         ensures given { (shapes : List ShapeForm) → AreUses shapes (map form_of_clause enabled.now.clauses.now) enabled.now.uses.now
             → (past : stores.Past) → IsAt past store.old
-            → (let new = map (taking_by true (form_of_moment moment.now) (map form_of_clause enabled.now.clauses.now))
+            → (let new = map (taking_by true (form_of_context context.now) (map form_of_clause enabled.now.clauses.now))
             list.now.ecbs.items in IsAt (given_then past (contributions shapes new)) store.new) }
         ensures gives { added_of store.new ≤ added_of store.old + GIVES_MAX }
     {
         for ecb in &list.ecbs {
-            let _exit = self.take_one(left, store, enabled, *ecb, moment, true);
+            let _exit = self.take_one(left, store, enabled, *ecb, context, true);
         }
     }
 
@@ -131,27 +131,27 @@ impl Processor {
         store: &mut AggStore,
         enabled: &Enabled<'_>,
         ecb: Ecb,
-        moment: &Moment,
+        context: &Context,
         in_end: bool,
     ) -> Option<i64>
         requires placed { ecb.clause < length enabled.now.clauses.now }
         requires counts { (drops_of self.old.buffer < DROPS_LIMIT) × (self.old.errors < DROPS_LIMIT) }
         requires gives { added_of store.old + STATEMENTS_MAX ≤ ADDED_LIMIT }
         ensures taken { (past : BufferPast) (errors : ℕ) → EndLast past in_end → HasTaken past errors self.old
-            → (let one = taking_by in_end (form_of_moment moment.now) (map form_of_clause enabled.now.clauses.now) ecb in
+            → (let one = taking_by in_end (form_of_context context.now) (map form_of_clause enabled.now.clauses.now) ecb in
             HasTaken (followed_by past (attempts_of (one ∷ []))) (errors + faults (one ∷ [])) self.new) }
         ensures exit { result
-            ≡ exit_of (taking_by in_end (form_of_moment moment.now) (map form_of_clause enabled.now.clauses.now) ecb) }
+            ≡ exit_of (taking_by in_end (form_of_context context.now) (map form_of_clause enabled.now.clauses.now) ecb) }
         ensures counts { AtMostMore 1 self.old self.new }
         // the store is given what this one taking gives to aggregations, in order
         ensures given { (shapes : List ShapeForm) → AreUses shapes (map form_of_clause enabled.now.clauses.now) enabled.now.uses.now
             → (past : stores.Past) → IsAt past store.old
-            → (let one = taking_by in_end (form_of_moment moment.now) (map form_of_clause enabled.now.clauses.now) ecb in
+            → (let one = taking_by in_end (form_of_context context.now) (map form_of_clause enabled.now.clauses.now) ecb in
             IsAt (given_then past (contributions_of shapes one)) store.new) }
         ensures gives { added_of store.new ≤ added_of store.old + STATEMENTS_MAX }
     {
         let clause = &enabled.clauses[ecb.clause];
-        match left.take(ecb.epid, clause, &scene_at(moment, ecb.epid)) {
+        match left.take(ecb.epid, clause, &scene_at(context, ecb.epid)) {
             Ok(true) => {
                 if let Some(bytes) = &left.bytes {
                     let _put = self.buffer.put(bytes, in_end);

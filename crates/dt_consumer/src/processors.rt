@@ -7,7 +7,7 @@ use crate::enabled::Enabled;
 use crate::processor::Processor;
 use dt_aggstore::{AggStore, Aggregation};
 use dt_cred::Account;
-use dt_life::{END, Moment, Options, empty_stores, own_firing, own_process};
+use dt_life::{Context, END, Options, empty_stores, own_firing, own_process};
 use dt_machine::Machine;
 use dt_record::Taken;
 use std::alloc::{AllocError, Global};
@@ -40,10 +40,10 @@ impl Processors {
     ghost use Rattle.dt_life.specs.Uses.{GivenAtMost};
     ghost use Rattle.dt_life.specs.Uses.{AreGiven, given_and};
     ghost use Rattle.dt_consumer.specs.Uses.{AreUses};
-    ghost use Rattle.dt_machine.specs.Moment.{form_of_moment};
+    ghost use Rattle.dt_machine.specs.Context.{form_of_context};
     ghost use Rattle.dt_consumer.specs.Keeps.{AreTaken, HasTaken};
     ghost use Rattle.dt_life.specs.Following.{errors_and, pasts_and, taking_by, where_taken};
-    ghost use Rattle.dt_life.specs.Takings.{first_exit, own_moment, through_exit};
+    ghost use Rattle.dt_life.specs.Takings.{first_exit, own_context, through_exit};
     ghost use Rattle.dt_life.specs.declared.limits.TheConstants.{END};
 
     /// As many processors as these, on which nothing was taken. The first has the reserve.
@@ -98,9 +98,9 @@ impl Processors {
         &mut self,
         enabled: &Enabled<'_>,
         list: &EcbList,
-        moment: &Moment,
+        context: &Context,
     ) -> Option<i64>
-        requires there { moment.now.firing.now.cpu < vec_len self.old.all }
+        requires there { context.now.firing.now.cpu < vec_len self.old.all }
         requires placed { All (λ ecb. ecb.clause < length enabled.now.clauses.now) list.now.ecbs.items }
         requires counts { All (AtMost (DROPS_LIMIT - ECBS_MAX)) self.old.all.items }
         requires gives { All (GivenAtMost (ADDED_LIMIT - GIVES_MAX)) self.old.stores.items }
@@ -110,24 +110,24 @@ impl Processors {
         // the firing's processor takes these ECBs up to the first exit, and no other takes anything
         ensures taken { (pasts : ℕ → BufferPast) (errors : ℕ → ℕ) → ((cpu : ℕ) → EndLast (pasts cpu) false)
             → AreTaken pasts errors self.old.all.items
-            → (let m = form_of_moment moment.now in
+            → (let m = form_of_context context.now in
             let new = through_exit (map (taking_by false m (map form_of_clause enabled.now.clauses.now)) list.now.ecbs.items) in
             AreTaken (pasts_and pasts (where_taken m.firing.cpu new))
             (errors_and errors (where_taken m.firing.cpu new)) self.new.all.items) }
-        ensures exit { (let m = form_of_moment moment.now in
+        ensures exit { (let m = form_of_context context.now in
             result ≡ first_exit (map (taking_by false m (map form_of_clause enabled.now.clauses.now)) list.now.ecbs.items)) }
         // the store of the firing's processor is given what they give, and no other is given anything
         ensures given { (shapes : List ShapeForm) → AreUses shapes (map form_of_clause enabled.now.clauses.now) enabled.now.uses.now
             → (pasts : ℕ → stores.Past) → AreGiven pasts self.old.stores.items
-            → (let m = form_of_moment moment.now in
+            → (let m = form_of_context context.now in
             let new = through_exit (map (taking_by false m (map form_of_clause enabled.now.clauses.now)) list.now.ecbs.items) in
             AreGiven (given_and shapes pasts (where_taken m.firing.cpu new)) self.new.stores.items) }
         ensures gives { (n : ℕ) → All (GivenAtMost n) self.old.stores.items
             → All (GivenAtMost (n + GIVES_MAX)) self.new.stores.items }
     {
-        let cpu = moment.firing.cpu as usize;
+        let cpu = context.firing.cpu as usize;
         let store = &mut self.stores[cpu];
-        self.all[cpu].take(&mut self.left, store, enabled, list, moment)
+        self.all[cpu].take(&mut self.left, store, enabled, list, context)
     }
 
     /// Fires END: takes its ECBs, on the first processor, where an exit is passed over. It takes no memory.
@@ -146,14 +146,14 @@ impl Processors {
             → All (AtMost (n + ECBS_MAX)) self.new.all.items }
         // processor 0 takes all of END's ECBs, and no other takes anything
         ensures taken { (pasts : ℕ → BufferPast) (errors : ℕ → ℕ) → AreTaken pasts errors self.old.all.items
-            → IsSomeAnd (own_moment account.now machine.now.registry END)
+            → IsSomeAnd (own_context account.now machine.now.registry END)
             (λ m. let new = map (taking_by true m (map form_of_clause enabled.now.clauses.now)) list.now.ecbs.items in
             AreTaken (pasts_and pasts (where_taken 0 new)) (errors_and errors (where_taken 0 new))
             self.new.all.items) }
         // processor 0's store is given what they give, and no other is given anything
         ensures given { (shapes : List ShapeForm) → AreUses shapes (map form_of_clause enabled.now.clauses.now) enabled.now.uses.now
             → (pasts : ℕ → stores.Past) → AreGiven pasts self.old.stores.items
-            → IsSomeAnd (own_moment account.now machine.now.registry END)
+            → IsSomeAnd (own_context account.now machine.now.registry END)
             (λ m. let new = map (taking_by true m (map form_of_clause enabled.now.clauses.now)) list.now.ecbs.items in
             AreGiven (given_and shapes pasts (where_taken 0 new)) self.new.stores.items) }
         ensures gives { (n : ℕ) → All (GivenAtMost n) self.old.stores.items
@@ -161,13 +161,13 @@ impl Processors {
     {
         let process = own_process(account);
         let firing = own_firing(END);
-        let moment = Moment {
+        let context = Context {
             probe: machine.probe(END).unwrap(),
             process: &process,
             firing: &firing,
         };
         let store = &mut self.stores[0];
-        self.all[0].take_end(&mut self.left, store, enabled, list, &moment);
+        self.all[0].take_end(&mut self.left, store, enabled, list, &context);
     }
 
     /// Forgets what was given to an aggregation, on every processor. It takes no memory.

@@ -15,7 +15,7 @@ use crate::uses::Uses;
 use dt_aggstore::Aggregation;
 use dt_cred::Account;
 use dt_lang::Clause;
-use dt_life::{BEGIN, END, End, HISTORY_MAX, Moment, Options, Phase, own_firing, own_process};
+use dt_life::{BEGIN, Context, END, End, HISTORY_MAX, Options, Phase, own_firing, own_process};
 use dt_machine::Machine;
 use std::alloc::{AllocError, Global};
 
@@ -48,7 +48,7 @@ impl Tracing {
     ghost use Rattle.dt_life.specs.Placed.{AreEcbs};
     ghost use Rattle.dt_consumer.specs.Keeps.{IsTracing, phase_by};
     ghost use Rattle.dt_life.specs.Forms.{form_of_options};
-    ghost use Rattle.dt_machine.specs.Moment.{form_of_moment, moment_of};
+    ghost use Rattle.dt_machine.specs.Context.{form_of_context, context_of};
     ghost use Rattle.dt_ecb.specs.Forms.{shapes_of};
     ghost use Rattle.dt_aggstore.specs.declared.key.Aggregation.{Aggregation};
     ghost use Rattle.dt_life.specs.Aggregations.{aggregation_of};
@@ -116,7 +116,7 @@ impl Tracing {
         let lists = EcbList::for_each(alloc, programs.ecbs(), probes + 1)?;
         let uses = Uses::of_each(alloc, &programs.shapes, programs.clauses())?;
         let mut processors = Processors::new(alloc, options, reserve, machine.cpus())?;
-        let moment = Moment {
+        let context = Context {
             probe: machine.probe(BEGIN).unwrap(),
             process: &own_process(account),
             firing: &own_firing(BEGIN),
@@ -125,7 +125,7 @@ impl Tracing {
             clauses: programs.clauses(),
             uses: &uses,
         };
-        let exit = processors.take(&enabled, &lists[BEGIN as usize], &moment);
+        let exit = processors.take(&enabled, &lists[BEGIN as usize], &context);
         let tracing = Tracing {
             lists,
             uses,
@@ -180,17 +180,17 @@ impl Tracing {
         account: &Account,
         machine: &Machine,
         clauses: &[Clause],
-        moment: &Moment,
+        context: &Context,
     )
         requires going { self.old.course ≡ Course.Running }
         requires same { vec_len self.old.uses ≡ length clauses.now }
-        requires there { moment.now.firing.now.cpu < vec_len self.old.processors.all }
-        requires known { moment.now.firing.now.probe < vec_len self.old.lists }
+        requires there { context.now.firing.now.cpu < vec_len self.old.processors.all }
+        requires known { context.now.firing.now.probe < vec_len self.old.lists }
         ensures uses { self.new.uses ≡ self.old.uses }
         // for each set-up that it traces: the firing is seen in it, and END fired where tracing ends by it
         ensures seen { (s : SetUp) (firing : Firing) → IsTracing account.now machine.now.registry s self.old
             → map form_of_clause clauses.now ≡ s.clauses
-            → moment_of machine.now.registry firing ≡ Some (form_of_moment moment.now)
+            → context_of machine.now.registry firing ≡ Some (form_of_context context.now)
             → IsTracing account.now machine.now.registry
             (happens account.now machine.now.registry s (sees firing)) self.new }
     {
@@ -198,8 +198,8 @@ impl Tracing {
             clauses,
             uses: &self.uses,
         };
-        let list = &self.lists[moment.firing.probe as usize];
-        let exit = self.processors.take(&enabled, list, moment);
+        let list = &self.lists[context.firing.probe as usize];
+        let exit = self.processors.take(&enabled, list, context);
         self.seen += 1;
         if let Some(end) = End::after(exit, self.seen, self.history) {
             self.course = Course::Over(Some(end));

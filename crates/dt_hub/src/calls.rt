@@ -42,10 +42,10 @@ impl<J: HubSite> Hub<J> {
             return Fired::Refused;
         };
         note_down(&self.facts, &mut cpu_seat.log, &cpu_seat.followers);
-        if let Some(moment) = found {
+        if let Some(context) = found {
             self.offer_to_named(
                 rt,
-                &moment,
+                &context,
                 &cpu_seat.mask,
                 &mut cpu_seat.followers,
                 &mut cpu_seat.held,

@@ -4,16 +4,16 @@ ghost use Rattle.dt_chain.specs.Limits.{seat_count};
 ghost use Rattle.dt_hub.specs.Firings.{ComesToSeat};
 ghost use Rattle.dt_hub.specs.Processors.{AreAtSeats};
 ghost use Rattle.dt_legal.specs.Rows.{AreBelowPlace};
-ghost use Rattle.dt_machine.specs.Moment.{IsMoment};
+ghost use Rattle.dt_machine.specs.Context.{IsContext};
 ghost use Rattle.dt_machine.specs.Registry.{firing_at};
 ghost use Rattle.dt_seat.specs.Keeps.{known_by, noted_of};
 ghost use Rattle.dt_seat.specs.Seats.{ComesOfFiring, kept_items};
 ghost use Rattle.dt_trail.specs.Items.{own};
 
-use crate::gate::{Gate, Moment as Passing};
+use crate::gate::{Gate, Moment};
 use crate::hub::Hub;
 use dt_chain::{Seat, SeatMask};
-use dt_machine::Moment;
+use dt_machine::Context;
 use dt_seat::{Follower, Held, HubSite};
 use std::sync::{MutexGuard, Wait};
 
@@ -24,30 +24,30 @@ impl<J: HubSite> Hub<J> {
         rt: &R,
         seat: Seat,
         life: u64,
-        moment: &Moment,
+        context: &Context,
         follower: &mut Follower<J>,
         gate: &G,
     ) -> Held
-        requires moment { IsMoment J.contents.registry moment.now }
-        requires script { firing_at J.contents.scripts moment.now.firing.now.cpu moment.now.firing.now.place
-            ≡ Some moment.now.firing.now }
-        requires follower { (follower.old.seat ≡ seat) × (follower.old.cpu ≡ moment.now.firing.now.cpu) }
-        requires below { AreBelowPlace moment.now.firing.now.cpu moment.now.firing.now.place (known_by follower.old.note) }
-        ensures held { ComesOfFiring J.contents life moment.now.firing.now result follower.old follower.new }
-        ensures own { own (moment.now.firing.now.cpu + 1) (noted_of life follower.new)
-            ≡ own (moment.now.firing.now.cpu + 1) (noted_of life follower.old) ++ kept_items result moment.now.firing.now }
+        requires context { IsContext J.contents.registry context.now }
+        requires script { firing_at J.contents.scripts context.now.firing.now.cpu context.now.firing.now.place
+            ≡ Some context.now.firing.now }
+        requires follower { (follower.old.seat ≡ seat) × (follower.old.cpu ≡ context.now.firing.now.cpu) }
+        requires below { AreBelowPlace context.now.firing.now.cpu context.now.firing.now.place (known_by follower.old.note) }
+        ensures held { ComesOfFiring J.contents life context.now.firing.now result follower.old follower.new }
+        ensures own { own (context.now.firing.now.cpu + 1) (noted_of life follower.new)
+            ≡ own (context.now.firing.now.cpu + 1) (noted_of life follower.old) ++ kept_items result context.now.firing.now }
     {
-        let cpu = moment.firing.cpu;
+        let cpu = context.firing.cpu;
         let number = seat.number();
-        gate.at(cpu, number, Passing::Before);
+        gate.at(cpu, number, Moment::Before);
         // that this lock's seat has this number is known of no `Vec` of locks: it is looked at, and never differs
         'lock: for _ in rt.forever() {
             let mut locked = self.seats[number as usize].lock(rt);
             if locked.number().number() == number {
-                gate.at(cpu, number, Passing::Locked);
-                let held = locked.hold(&self.machine, &self.facts, life, moment, follower);
+                gate.at(cpu, number, Moment::Locked);
+                let held = locked.hold(&self.machine, &self.facts, life, context, follower);
                 MutexGuard::unlock(locked);
-                gate.at(cpu, number, Passing::After);
+                gate.at(cpu, number, Moment::After);
                 return held;
             }
             MutexGuard::unlock(locked);
@@ -59,20 +59,20 @@ impl<J: HubSite> Hub<J> {
     pub(crate) fn offer_to_named<R: Wait, G: Gate>(
         &self,
         rt: &R,
-        moment: &Moment,
+        context: &Context,
         mask: &SeatMask,
         followers: &mut Vec<Follower<J>>,
         held: &mut Vec<Held>,
         gate: &G,
     )
-        requires moment { IsMoment J.contents.registry moment.now }
-        requires script { firing_at J.contents.scripts moment.now.firing.now.cpu moment.now.firing.now.place
-            ≡ Some moment.now.firing.now }
-        requires seats { AreAtSeats moment.now.firing.now.cpu moment.now.firing.now.place followers.old.items }
+        requires context { IsContext J.contents.registry context.now }
+        requires script { firing_at J.contents.scripts context.now.firing.now.cpu context.now.firing.now.place
+            ≡ Some context.now.firing.now }
+        requires seats { AreAtSeats context.now.firing.now.cpu context.now.firing.now.place followers.old.items }
         requires many { vec_len held.old ≡ seat_count }
-        ensures seats { AreAtSeats moment.now.firing.now.cpu (moment.now.firing.now.place + 1) followers.new.items }
+        ensures seats { AreAtSeats context.now.firing.now.cpu (context.now.firing.now.place + 1) followers.new.items }
         ensures many { vec_len held.new ≡ seat_count }
-        ensures each { (seat : ℕ) → ComesToSeat J.contents moment.now.firing.now mask.now held.new.items followers.old.items
+        ensures each { (seat : ℕ) → ComesToSeat J.contents context.now.firing.now mask.now held.new.items followers.old.items
             followers.new.items seat }
     {
         let mut left = mask.seats();
@@ -83,7 +83,7 @@ impl<J: HubSite> Hub<J> {
             let Some(life) = mask.life_of(seat) else {
                 unreachable!()
             };
-            held[at] = self.offer_at(rt, seat, life, moment, &mut followers[at], gate);
+            held[at] = self.offer_at(rt, seat, life, context, &mut followers[at], gate);
             next = at + 1;
         }
     }

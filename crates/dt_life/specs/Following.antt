@@ -7,11 +7,11 @@ use Rattle.dt_ecb.specs.Forms.{form_of_ecb}
 use Rattle.dt_ecb.specs.declared.parts.Ecb.{Ecb}
 use Rattle.dt_life.specs.Buffers.{attempts_of}
 use Rattle.dt_life.specs.Takings.{Taking, faults, taking_of}
-use Rattle.dt_machine.specs.Moment.{MomentForm}
+use Rattle.dt_machine.specs.Context.{ContextForm}
 
--- what is taken at a moment by an ECB that is kept so
-abbrev pub taking_by : Bool → MomentForm → List ClauseForm → Ecb → Taking
-taking_by in_end moment clauses ecb = taking_of in_end moment (form_of_ecb clauses ecb)
+-- what is taken in a context by an ECB that is kept so
+abbrev pub taking_by : Bool → ContextForm → List ClauseForm → Ecb → Taking
+taking_by in_end context clauses ecb = taking_of in_end context (form_of_ecb clauses ecb)
 
 -- a past, and then these
 abbrev pub followed_by : BufferPast → List buffer.BufferEvent → BufferPast

@@ -11,7 +11,7 @@ use Rattle.dt_cred.specs.declared.firing.Firing.{Firing}
 use Rattle.dt_cred.specs.Limits.{argument_count, frame_count}
 use Rattle.dt_expr.specs.Scene.{SceneForm}
 use Rattle.dt_ecb.specs.Ecbs.{EcbForm, of_probe}
-use Rattle.dt_machine.specs.Moment.{MomentForm, moment_in, moment_of}
+use Rattle.dt_machine.specs.Context.{ContextForm, context_in, context_of}
 use Rattle.dt_record.specs.Taking.{Outcome, TakenForm, is_abandoned, left_in, taking}
 use Rattle.dt_life.specs.Limits.{begin_id, end_id}
 use Rattle.dt_life.specs.declared.phase.End.{End}
@@ -37,15 +37,15 @@ pub record Taking : Type 0 where
   pub outcome : Outcome
   pub in_end : Bool
 
-abbrev pub scene_at : MomentForm → ℕ → SceneForm
-scene_at moment epid =
-    record { epid = epid; probe = moment.probe; process = moment.process; firing = moment.firing }
+abbrev pub scene_at : ContextForm → ℕ → SceneForm
+scene_at context epid =
+    record { epid = epid; probe = context.probe; process = context.process; firing = context.firing }
 
-abbrev pub taking_of : Bool → MomentForm → EcbForm → Taking
-taking_of in_end moment ecb = record {
-  scene = scene_at moment ecb.epid;
+abbrev pub taking_of : Bool → ContextForm → EcbForm → Taking
+taking_of in_end context ecb = record {
+  scene = scene_at context ecb.epid;
   ecb = ecb;
-  outcome = taking ecb.epid (scene_at moment ecb.epid) ecb.clause;
+  outcome = taking ecb.epid (scene_at context ecb.epid) ecb.clause;
   in_end = in_end;
 }
 
@@ -77,9 +77,9 @@ faults takings = length (filter (λ t. is_abandoned t.outcome) takings)
 
 -- The ECBs of the probe that fires, in order of EPID. After an exit the later ones aren't taken; in END an exit is
 -- passed over.
-abbrev pub taken_at : Bool → List EcbForm → MomentForm → List Taking
-taken_at in_end ecbs moment =
-    let all = map (taking_of in_end moment) (of_probe moment.firing.probe ecbs) in
+abbrev pub taken_at : Bool → List EcbForm → ContextForm → List Taking
+taken_at in_end ecbs context =
+    let all = map (taking_of in_end context) (of_probe context.firing.probe ecbs) in
     if in_end then all else through_exit all
 
 -- BEGIN and END fire on processor 0, in a process of the consumer's own: of number 0, with the account's uid and no
@@ -101,28 +101,28 @@ own_firing probe = record {
 abbrev pub own_process : Account → Process
 own_process account = record { pid = 0; uid = account.uid; execname = [] }
 
-abbrev pub own_moment : Account → Registry → ℕ → Option MomentForm
-own_moment account registry probe = moment_in registry (Some (own_process account)) (own_firing probe)
+abbrev pub own_context : Account → Registry → ℕ → Option ContextForm
+own_context account registry probe = context_in registry (Some (own_process account)) (own_firing probe)
 
 module _ (account : Account) (registry : Registry) where
-  -- the moment at which ECBs are taken by an event: BEGIN's, the firing's, END's
-  abbrev pub moment_at : TracingEvent → Option MomentForm
-  moment_at began = own_moment account registry begin_id
-  moment_at (seen firing) = moment_of registry firing
-  moment_at (snapped cpu) = None
-  moment_at (truncated name) = None
-  moment_at (ended end) = own_moment account registry end_id
-  moment_at closed = None
+  -- the context in which ECBs are taken by an event: BEGIN's, the firing's, END's
+  abbrev pub context_at : TracingEvent → Option ContextForm
+  context_at began = own_context account registry begin_id
+  context_at (seen firing) = context_of registry firing
+  context_at (snapped cpu) = None
+  context_at (truncated name) = None
+  context_at (ended end) = own_context account registry end_id
+  context_at closed = None
 
   module _ (ecbs : List EcbForm) where
     -- what is taken by an event
     abbrev pub taken_by : TracingEvent → List Taking
-    taken_by event = option_map_or (taken_at (is_end event) ecbs) (moment_at event) []
+    taken_by event = option_map_or (taken_at (is_end event) ecbs) (context_at event) []
 
     -- the same, where it happens on this processor
     abbrev pub taken_on : ℕ → TracingEvent → List Taking
     taken_on cpu event = option_map_or
-        (λ m. if m.firing.cpu == cpu then taken_at (is_end event) ecbs m else []) (moment_at event) []
+        (λ m. if m.firing.cpu == cpu then taken_at (is_end event) ecbs m else []) (context_at event) []
 
     -- what is taken on a processor by events, the newest event first, the oldest taking first
     abbrev pub taken_since : ℕ → List TracingEvent → List Taking

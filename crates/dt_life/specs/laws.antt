@@ -4,7 +4,7 @@ pub mod Options
 pub mod Lists
 pub mod Takings
 pub mod Buffers
-pub mod Moments
+pub mod Contexts
 pub mod Sizes
 pub mod Placed
 pub mod Lines

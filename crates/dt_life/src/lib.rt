@@ -4,7 +4,7 @@
 //! Nothing here keeps a consumer: `dt_consumer` does, step by step, and `dt_alone` computes the same anew from whole
 //! lists. What both mean is defined here, over a life (`specs/Life.antt`): the reply to a line stands in
 //! `specs/Reply.antt`, and a line has just one (`one_reply`, `some_reply`). The small parts that have one way to be
-//! written (options, the moments of BEGIN and END, keys out of values) are here too, for both.
+//! written (options, the contexts of BEGIN and END, keys out of values) are here too, for both.
 #![tactic(auto)]
 
 mod command;
@@ -26,7 +26,7 @@ mod values;
 mod visibility;
 
 pub use command::{Command, OptionValue};
-pub use dt_machine::Moment;
+pub use dt_machine::Context;
 pub use laws::{
     ecbs_stay, one_reply, phases, records_are_of_layouts, seen_by_interest, seen_within_history,
     some_reply, tests_agree,

@@ -2,19 +2,19 @@
 ghost use Rattle.std.specs.Prelude.{◌≡◌};
 ghost use Rattle.dt_expr.specs.Scene.{scene_of};
 ghost use Rattle.dt_life.specs.Takings as spec;
-ghost use Rattle.dt_machine.specs.Moment.{form_of_moment};
+ghost use Rattle.dt_machine.specs.Context.{form_of_context};
 
 use dt_expr::Scene;
-use dt_machine::Moment;
+use dt_machine::Context;
 
-/// The scene in which the ECB of this number is taken at a moment.
-pub fn scene_at<'a>(moment: &Moment<'a>, epid: u32) -> Scene<'a>
-    ensures { scene_of result ≡ spec.scene_at (form_of_moment moment.now) epid }
+/// The scene in which the ECB of this number is taken in a context.
+pub fn scene_at<'a>(context: &Context<'a>, epid: u32) -> Scene<'a>
+    ensures { scene_of result ≡ spec.scene_at (form_of_context context.now) epid }
 {
     Scene {
         epid,
-        probe: moment.probe,
-        process: moment.process,
-        firing: moment.firing,
+        probe: context.probe,
+        process: context.process,
+        firing: context.firing,
     }
 }

@@ -6,7 +6,7 @@ pub mod BitWord
 pub mod Interest
 pub mod Registry
 pub mod Shown
-pub mod Moment
+pub mod Context
 pub mod Given
 pub mod Shape
 pub mod Rows

@@ -35,7 +35,7 @@ fn first_foreign_in(sections: &Sections, script: &[Firing]) -> Option<u32>
 {
     for (place, firing) in script.iter().enumerate() {
         // the first foreign firing of a script is the one that is told
-        if sections.moment(firing).is_none() {
+        if sections.context(firing).is_none() {
             return Some(place as u32);
         }
     }

@@ -5,7 +5,7 @@
 //! is wrong there as [`Found`]; `one_answer` says that a text has one answer. Only a refusal for memory can come in place
 //! of either.
 //!
-//! `Machine`'s readers and [`Interest`] take no memory. Whether a firing belongs to a machine is [`Machine::moment`],
+//! `Machine`'s readers and [`Interest`] take no memory. Whether a firing belongs to a machine is [`Machine::context`],
 //! and the reading of the file asks the same code. The limits are the constants of this crate, and contracts and
 //! definitions cite them. `specs/Registry.antt` is how crates above see a machine, and `specs/Reading.antt` what a file
 //! describes, over the rows of `specs/Rows.antt` and the kinds of `specs/Shape.antt`.
@@ -15,6 +15,7 @@ mod accounts;
 mod belonging;
 mod bit_word;
 mod by_pid;
+mod context;
 mod fault;
 mod found;
 mod interest;
@@ -23,7 +24,6 @@ mod law;
 mod limit_laws;
 mod limits;
 mod machine;
-mod moment;
 mod numbers;
 mod probes;
 mod processes;
@@ -32,6 +32,7 @@ mod sections;
 mod shape;
 
 pub use bit_word::{BitWord, WORD_BITS};
+pub use context::Context;
 pub use dt_cred::{ARGS, FRAMES, Firing};
 pub use fault::{FaultNumber, MachineFault};
 pub use found::{FileKey, Found, Part};
@@ -43,4 +44,3 @@ pub use limits::{
     SCRIPT_MAX,
 };
 pub use machine::Machine;
-pub use moment::Moment;

@@ -6,10 +6,10 @@ ghost use Rattle.serde_json.specs.View.{view};
 ghost use Rattle.dt_machine.specs.Reading.{IsJson, NowhereIfMemory};
 
 use crate::belonging::first_foreign;
+use crate::context::Context;
 use crate::fault::{FaultNumber, MachineFault};
 use crate::found::{FileKey, Part};
 use crate::keys::list_at;
-use crate::moment::Moment;
 use crate::scripts::read_scripts;
 use crate::sections::Sections;
 use dt_cred::{Account, Firing, Probe, Process};
@@ -40,7 +40,7 @@ impl Model for Machine {
 }
 
 impl Machine {
-    ghost use Rattle.dt_machine.specs.Moment.{IsMoment};
+    ghost use Rattle.dt_machine.specs.Context.{IsContext};
     ghost use Rattle.dt_machine.specs.Registry.{IsSound, IsForeign, account_of, process_of, probe_of, firing_at};
     ghost use Rattle.dt_machine.specs.Reading.{IsDescribed, IsFaultOf, IsFirstFinding, UnlessMemory};
     ghost use Rattle.dt_machine.specs.Sections.{IsReady, registry_of, contents_with};
@@ -149,12 +149,12 @@ impl Machine {
     /// A firing that belongs to the machine, with the probe and the process that it names: its processor is there, its probe
     /// is one of the file's, its process is there, and it is the process that the probe's `pid` provider names, where the
     /// probe has such a provider. `None` for any other firing.
-    pub fn moment<'a>(&'a self, firing: &'a Firing) -> Option<Moment<'a>>
+    pub fn context<'a>(&'a self, firing: &'a Firing) -> Option<Context<'a>>
         ensures value { MatchOption result (IsForeign self.now.registry firing.now)
-            (λ moment. IsMoment self.now.registry moment × (moment.firing.now ≡ firing.now)) }
+            (λ context. IsContext self.now.registry context × (context.firing.now ≡ firing.now)) }
         ensures sound { IsSound self.now }
     {
-        self.sections.moment(firing)
+        self.sections.context(firing)
     }
 }
 

@@ -8,11 +8,11 @@ ghost use Rattle.dt_cred.specs.declared.class.Class.TheVariants.{Pid};
 
 use crate::accounts::read_accounts;
 use crate::by_pid::ByPid;
+use crate::context::Context;
 use crate::fault::{FaultNumber, MachineFault};
 use crate::found::{FileKey, Part};
 use crate::keys::{list_at, unsigned_at};
 use crate::limits::{CPUS_MAX, FIRST_PROBE_ID, SCRIPT_MAX};
-use crate::moment::Moment;
 use crate::probes::read_probes;
 use crate::processes::read_processes;
 use crate::scripts::first_long;
@@ -32,7 +32,7 @@ pub(crate) struct Sections {
 }
 
 impl Sections {
-    ghost use Rattle.dt_machine.specs.Moment.{IsMoment};
+    ghost use Rattle.dt_machine.specs.Context.{IsContext};
     ghost use Rattle.dt_machine.specs.Registry.{IsForeign, probe_of, process_of};
     ghost use Rattle.dt_machine.specs.Sections.{AreSections, IsReady, registry_of};
     ghost use Rattle.dt_machine.specs.Reading.{NowhereIfMemory, UnlessMemory};
@@ -88,10 +88,10 @@ impl Sections {
 
     /// A firing that names a processor, a probe of the file and a process that are here, and at a `pid` provider's probe
     /// the process that this names.
-    pub(crate) fn moment<'a>(&'a self, firing: &'a Firing) -> Option<Moment<'a>>
+    pub(crate) fn context<'a>(&'a self, firing: &'a Firing) -> Option<Context<'a>>
         requires { IsReady self.now }
         ensures { MatchOption result (IsForeign (registry_of self.now) firing.now)
-            (λ moment. IsMoment (registry_of self.now) moment × (moment.firing.now ≡ firing.now)) }
+            (λ context. IsContext (registry_of self.now) context × (context.firing.now ≡ firing.now)) }
     {
         // the machine has that processor, and BEGIN and END are no probes of scripts
         if firing.cpu >= self.cpus || firing.probe < FIRST_PROBE_ID {
@@ -100,7 +100,7 @@ impl Sections {
         let probe = self.probe(firing.probe)?;
         let process = self.process(firing.pid)?;
         if may_fire_in(probe.class, firing.pid) {
-            Some(Moment {
+            Some(Context {
                 probe,
                 process,
                 firing,

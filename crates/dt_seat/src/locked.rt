@@ -1,7 +1,7 @@
 //! What lies under the lock of a seat.
 ghost use Rattle.std.specs.Prelude.{◌≡◌, ◌+◌, ◌++◌, Some, None, IfOk, IsSome, IsSomeAnd, MatchBool, OnErr, option_map};
 ghost use Rattle.dt_legal.specs.Rows.{AreBelowPlace};
-ghost use Rattle.dt_machine.specs.Moment.{IsMoment};
+ghost use Rattle.dt_machine.specs.Context.{IsContext};
 ghost use Rattle.dt_machine.specs.Registry.{firing_at};
 ghost use Rattle.dt_seat.specs.Keeps.{known_by, noted_of};
 ghost use Rattle.dt_seat.specs.Publications.{IsPublished};
@@ -21,7 +21,7 @@ use crate::session::Session;
 use crate::site::HubSite;
 use dt_chain::{ChainWriter, Seat};
 use dt_facts::{Book, Facts};
-use dt_machine::{Machine, Moment};
+use dt_machine::{Context, Machine};
 use dt_proto::Asked;
 use std::alloc::{AllocError, Global};
 use std::marker::Model;
@@ -131,19 +131,19 @@ impl<J: HubSite> LockedSeat<J> {
         machine: &Machine,
         facts: &Facts,
         life: u64,
-        moment: &Moment,
+        context: &Context,
         follower: &mut Follower<J>,
     ) -> Held
         requires machine { machine.now ≡ J.contents }
         requires facts { facts.now ≡ J.word }
-        requires moment { IsMoment J.contents.registry moment.now }
-        requires script { firing_at J.contents.scripts moment.now.firing.now.cpu moment.now.firing.now.place
-            ≡ Some moment.now.firing.now }
-        requires follower { (follower.old.seat ≡ self.old.number) × (follower.old.cpu ≡ moment.now.firing.now.cpu) }
-        requires below { AreBelowPlace moment.now.firing.now.cpu moment.now.firing.now.place (known_by follower.old.note) }
-        ensures held { ComesOfFiring J.contents life moment.now.firing.now result follower.old follower.new }
-        ensures own { own (moment.now.firing.now.cpu + 1) (noted_of life follower.new)
-            ≡ own (moment.now.firing.now.cpu + 1) (noted_of life follower.old) ++ kept_items result moment.now.firing.now }
+        requires context { IsContext J.contents.registry context.now }
+        requires script { firing_at J.contents.scripts context.now.firing.now.cpu context.now.firing.now.place
+            ≡ Some context.now.firing.now }
+        requires follower { (follower.old.seat ≡ self.old.number) × (follower.old.cpu ≡ context.now.firing.now.cpu) }
+        requires below { AreBelowPlace context.now.firing.now.cpu context.now.firing.now.place (known_by follower.old.note) }
+        ensures held { ComesOfFiring J.contents life context.now.firing.now result follower.old follower.new }
+        ensures own { own (context.now.firing.now.cpu + 1) (noted_of life follower.new)
+            ≡ own (context.now.firing.now.cpu + 1) (noted_of life follower.old) ++ kept_items result context.now.firing.now }
         ensures seat { (self.new.number ≡ self.old.number) × (self.new.life ≡ self.old.life) }
         ensures trail { StaysOn self.old.trail self.new.trail }
     {
@@ -161,7 +161,7 @@ impl<J: HubSite> LockedSeat<J> {
             &mut self.lives,
             present,
             &mut self.keeps,
-            moment,
+            context,
             follower,
         )
     }

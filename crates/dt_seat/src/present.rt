@@ -1,7 +1,7 @@
 //! The session on a seat, as long as it is open.
 ghost use Rattle.std.specs.Prelude.{◌≡◌, ◌+◌, ◌++◌, Some, vec_len};
 ghost use Rattle.dt_legal.specs.Rows.{AreBelowPlace};
-ghost use Rattle.dt_machine.specs.Moment.{IsMoment};
+ghost use Rattle.dt_machine.specs.Context.{IsContext};
 ghost use Rattle.dt_machine.specs.Registry.{firing_at};
 ghost use Rattle.dt_seat.specs.Keeps.{known_by, noted_of};
 ghost use Rattle.dt_seat.specs.Seats.{ComesOfFiring, TrailGoesOn, IsTaken, kept_items};
@@ -16,7 +16,7 @@ use dt_chain::Seat;
 use dt_consumer::Consumer;
 use dt_cred::Account;
 use dt_facts::{Book, Facts};
-use dt_machine::{Machine, Moment};
+use dt_machine::{Context, Machine};
 
 /// The session on a seat: its account, its consumer, and the trail that this stands for.
 #[derive(Drop)]
@@ -37,24 +37,24 @@ pub(crate) fn hold_at<J: HubSite>(
     lives: &mut Book,
     present: &mut Present<J>,
     keeps: &mut Vec<Keep<J>>,
-    moment: &Moment,
+    context: &Context,
     follower: &mut Follower<J>,
 ) -> Held
     requires machine { machine.now ≡ J.contents }
     requires facts { facts.now ≡ J.word }
     requires taken { IsTaken J.word J.contents number life lives.old present.old keeps.old.items }
-    requires moment { IsMoment J.contents.registry moment.now }
-    requires script { firing_at J.contents.scripts moment.now.firing.now.cpu moment.now.firing.now.place
-        ≡ Some moment.now.firing.now }
-    requires follower { (follower.old.seat ≡ number) × (follower.old.cpu ≡ moment.now.firing.now.cpu) }
-    requires below { AreBelowPlace moment.now.firing.now.cpu moment.now.firing.now.place (known_by follower.old.note) }
+    requires context { IsContext J.contents.registry context.now }
+    requires script { firing_at J.contents.scripts context.now.firing.now.cpu context.now.firing.now.place
+        ≡ Some context.now.firing.now }
+    requires follower { (follower.old.seat ≡ number) × (follower.old.cpu ≡ context.now.firing.now.cpu) }
+    requires below { AreBelowPlace context.now.firing.now.cpu context.now.firing.now.place (known_by follower.old.note) }
     ensures taken { IsTaken J.word J.contents number life lives.new present.new keeps.new.items }
-    ensures held { ComesOfFiring J.contents life moment.now.firing.now result follower.old follower.new }
-    ensures own { own (moment.now.firing.now.cpu + 1) (noted_of life follower.new)
-        ≡ own (moment.now.firing.now.cpu + 1) (noted_of life follower.old) ++ kept_items result moment.now.firing.now }
+    ensures held { ComesOfFiring J.contents life context.now.firing.now result follower.old follower.new }
+    ensures own { own (context.now.firing.now.cpu + 1) (noted_of life follower.new)
+        ≡ own (context.now.firing.now.cpu + 1) (noted_of life follower.old) ++ kept_items result context.now.firing.now }
     ensures trail { TrailGoesOn present.old.owner present.new.owner }
 {
-    let keep = &mut keeps[moment.firing.cpu as usize];
+    let keep = &mut keeps[context.firing.cpu as usize];
     keep.lend(facts, lives, life, &present.owner, follower);
     let Some(note) = &mut follower.note else {
         unreachable!()
@@ -65,7 +65,7 @@ pub(crate) fn hold_at<J: HubSite>(
         &mut present.owner,
         &mut present.consumer,
         note,
-        moment,
+        context,
     );
     if is_seen {
         Held::Kept

@@ -2,7 +2,7 @@
 ghost use Rattle.std.specs.Prelude.{◌≡◌, ◌≤◌, ◌<◌, ◌↔◌, ◌+◌, [], IsTrue, IfOk, OnOk, Some, vec_len, vec_capacity};
 ghost use Rattle.dt_legal.specs.Rows.{AreBelowPlace, IsGoAfter, life_of_row};
 ghost use Rattle.dt_life.specs.Sees.{Sees};
-ghost use Rattle.dt_machine.specs.Moment.{IsMoment};
+ghost use Rattle.dt_machine.specs.Context.{IsContext};
 ghost use Rattle.dt_machine.specs.Registry.{firing_at};
 ghost use Rattle.dt_seat.specs.Sessions.{lines_from};
 ghost use Rattle.dt_seat.specs.Trailed.{IsWideEnough, IsPrepared, IsTrailed, item_of_line, row_after, row_offered, with_items};
@@ -16,7 +16,7 @@ use dt_consumer::Consumer;
 use dt_cred::Account;
 use dt_legal::{LegalIn, Traced};
 use dt_life::LINES_MAX;
-use dt_machine::{Machine, Moment};
+use dt_machine::{Context, Machine};
 use dt_proto::{Asked, WholeLine, read_line, reply_bytes};
 use dt_trail::{BLOCK_CELLS, Item, TRAIL_CELLS, Trail, TrailNote, TrailOwner};
 use std::alloc::{AllocError, Global};
@@ -159,27 +159,27 @@ pub(crate) fn offer<J: Traced>(
     owner: &mut Owner<J>,
     consumer: &mut Consumer,
     note: &mut Note<J>,
-    moment: &Moment,
+    context: &Context,
 ) -> bool
     requires machine { machine.now ≡ J.contents }
     requires kept { IsTrailed J.contents account owner.old consumer.old }
-    requires moment { IsMoment J.contents.registry moment.now }
-    requires script { firing_at J.contents.scripts moment.now.firing.now.cpu moment.now.firing.now.place
-        ≡ Some moment.now.firing.now }
-    requires note { (note.old.row ≡ owner.old.row) × (note.old.number ≡ moment.now.firing.now.cpu + 1) }
+    requires context { IsContext J.contents.registry context.now }
+    requires script { firing_at J.contents.scripts context.now.firing.now.cpu context.now.firing.now.place
+        ≡ Some context.now.firing.now }
+    requires note { (note.old.row ≡ owner.old.row) × (note.old.number ≡ context.now.firing.now.cpu + 1) }
     requires few { J.contents.registry.cpus ≤ cpu_count }
-    requires below { AreBelowPlace moment.now.firing.now.cpu moment.now.firing.now.place note.old.knows }
+    requires below { AreBelowPlace context.now.firing.now.cpu context.now.firing.now.place note.old.knows }
     ensures kept { IsTrailed J.contents account owner.new consumer.new }
     ensures seen { IsTrue result ↔ Sees account J.contents.registry (life_of_row account J.contents owner.old.knows)
-        moment.now.firing.now }
-    ensures trail { owner.new ≡ with_items owner.old (row_offered owner.old.knows moment.now.firing.now result) }
-    ensures note { note.new ≡ noted note.old.row note.old.number (row_offered owner.old.knows moment.now.firing.now result) }
+        context.now.firing.now }
+    ensures trail { owner.new ≡ with_items owner.old (row_offered owner.old.knows context.now.firing.now result) }
+    ensures note { note.new ≡ noted note.old.row note.old.number (row_offered owner.old.knows context.now.firing.now result) }
     ensures met { Meets owner.old.knows note.old }
 {
     owner.meet(note);
-    let is_seen = consumer.offer_moment(machine, moment);
+    let is_seen = consumer.offer_context(machine, context);
     if is_seen {
-        let item = Item::fired(moment.firing.cpu, moment.firing.place);
+        let item = Item::fired(context.firing.cpu, context.firing.place);
         owner.append(note, &item);
     }
     is_seen

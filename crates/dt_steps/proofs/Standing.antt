@@ -9,9 +9,9 @@ use Rattle.std.proofs.lemmas.Option.{slice_get_read, slice_get_past, slice_get_w
 use Rattle.std.specs.List.{slice_get, list_all, range_with_len}
 use Rattle.std.specs.Option.{option_map, option_map_or, option_and_then}
 use Rattle.dt_cred.specs.declared.account.Account.{Account}
-use Rattle.dt_machine.specs.Moment.{IsMoment}
+use Rattle.dt_machine.specs.Context.{IsContext}
 use Rattle.dt_machine.specs.Registry.{Registry}
-use Rattle.dt_machine.specs.declared.moment.Moment.{Moment}
+use Rattle.dt_machine.specs.declared.context.Context.{Context}
 use Rattle.dt_cred.specs.declared.firing.Firing.{Firing}
 use Rattle.dt_chain.specs.IsAt as chain
 use Rattle.dt_chain.specs.Look.{IsLook}
@@ -148,7 +148,7 @@ module _ (registry : Registry) where
         published = kept.published;
         cpus = kept.cpus;
         due = kept.due;
-        moments = kept.moments;
+        contexts = kept.contexts;
       }
 
       -- nothing changed there
@@ -172,7 +172,7 @@ module _ (registry : Registry) where
         published = kept.published;
         cpus = kept.cpus;
         due = kept.due;
-        moments = kept.moments;
+        contexts = kept.contexts;
       }
 
       kept-answering : (session : worlds.Session) (line : LineForm) (after : Place)
@@ -180,7 +180,7 @@ module _ (registry : Registry) where
           → WorldIsKept registry (answering world seat session line) (set seats at after) publications processors
       kept-answering session line after h =
           let one = kept-with_place (with_present (world.places seat) (answered session line)) after h in
-          record { all = one.all; places = one.places; published = one.published; cpus = one.cpus; due = one.due; moments = one.moments }
+          record { all = one.all; places = one.places; published = one.published; cpus = one.cpus; due = one.due; contexts = one.contexts }
 
       -- Open
       pub kept-opening : (name : List ℕ) (after : Place)
@@ -332,13 +332,13 @@ module _ (registry : Registry) where
           processors
       kept_published session pending after later h now_published =
           let one = kept-with_place (with_present (world.places seat) (waiting session pending.line true)) after h in
-          record { all = one.all; places = one.places; published = now_published; cpus = one.cpus; due = one.due; moments = one.moments }
+          record { all = one.all; places = one.places; published = now_published; cpus = one.cpus; due = one.due; contexts = one.contexts }
 
       kept_publications : (after : Place) (later : Entries) → IsPlace registry (world.places seat) after
           → chain.EntriesAreAt world.writes later → WorldIsKept registry world (set seats at after) later processors
       kept_publications after later h now_published =
           let one = kept_same after h in
-          record { all = one.all; places = one.places; published = now_published; cpus = one.cpus; due = one.due; moments = one.moments }
+          record { all = one.all; places = one.places; published = now_published; cpus = one.cpus; due = one.due; contexts = one.contexts }
 
       pub kept-publishing : (after : Place) (later : Entries)
           → ((place : worlds.Place) (writes : List Write) → IsPlace registry place held → chain.EntriesAreAt writes publications
@@ -411,7 +411,7 @@ module _ (registry : Registry) where
               published = does_ is world.writes kept.published;
               cpus = kept.cpus;
               due = kept.due;
-              moments = kept.moments;
+              contexts = kept.contexts;
             }
             may_case told_ false is does_ none_ = record {
               all = kept.all;
@@ -419,7 +419,7 @@ module _ (registry : Registry) where
               published = subst (λ e. chain.EntriesAreAt world.writes e) (sym (none_ is)) kept.published;
               cpus = kept.cpus;
               due = kept.due;
-              moments = kept.moments;
+              contexts = kept.contexts;
             }
 
 -- what is named is one
@@ -546,19 +546,19 @@ module _ (registry : Registry) where
         left ∙ ap (option_map (λ due. due.life)) (sym (kept.due cpu seat ∙ ap (λ o. due_in o seat) is))
 
     -- what a processor looked for is the machine's
-    pub lent-looked : (cpu : ℕ) (looked : DueOffers) (moment : Moment) → slice_get processors cpu ≡ Some looked
-        → looked.moment ≡ Some moment → IsMoment registry moment
-    lent-looked cpu looked moment is lent =
-        subst (λ m. IfSome m (IsMoment registry)) lent
-        (subst (λ o. IfSome o (λ (one : DueOffers). IfSome one.moment (IsMoment registry))) is (kept.moments cpu))
+    pub lent-looked : (cpu : ℕ) (looked : DueOffers) (context : Context) → slice_get processors cpu ≡ Some looked
+        → looked.context ≡ Some context → IsContext registry context
+    lent-looked cpu looked context is lent =
+        subst (λ m. IfSome m (IsContext registry)) lent
+        (subst (λ o. IfSome o (λ (one : DueOffers). IfSome one.context (IsContext registry))) is (kept.contexts cpu))
 
     -- what processors looked for are the machine's, where one looks anew, or still has what it looked for
-    moments_after : (cpu other : ℕ) (looked : DueOffers) → cpu < length processors
-        → IfSome looked.moment (IsMoment registry)
-        → IfSome (slice_get (set processors cpu looked) other) (λ one. IfSome one.moment (IsMoment registry))
-    moments_after cpu other looked low moment =
-        get_set_at (λ o. IfSome o (λ (one : DueOffers). IfSome one.moment (IsMoment registry)))
-        processors cpu other looked (cpu == other) refl low (λ same. moment) (λ same. kept.moments other)
+    contexts_after : (cpu other : ℕ) (looked : DueOffers) → cpu < length processors
+        → IfSome looked.context (IsContext registry)
+        → IfSome (slice_get (set processors cpu looked) other) (λ one. IfSome one.context (IsContext registry))
+    contexts_after cpu other looked low context =
+        get_set_at (λ o. IfSome o (λ (one : DueOffers). IfSome one.context (IsContext registry)))
+        processors cpu other looked (cpu == other) refl low (λ same. context) (λ same. kept.contexts other)
 
     pub left-past : (cpu : ℕ) → length processors ≤ cpu → (seat : ℕ)
         → None ≡ option_map (λ due. due.life) (world.due cpu seat)
@@ -592,10 +592,10 @@ module _ (registry : Registry) where
         → IsLook registry world.writes firing (life_at looked.left)
         → ((at : ℕ) → due_of looked at
         ≡ option_map (λ life. record { life = life; firing = firing }) (life_at looked.left at))
-        → IfSome looked.moment (IsMoment registry)
+        → IfSome looked.context (IsContext registry)
         → WorldIsKept registry (looking registry world cpu firing) seats publications (set processors cpu looked)
     unfolding looking mask_of
-    kept-looking cpu firing looked own enabled look owes moment =
+    kept-looking cpu firing looked own enabled look owes context =
         let cpus = kept.cpus in
         let parts = and_parts (nat_lt cpu registry.cpus) (is_done (world.due cpu)) enabled in
         let named = one_named registry world.writes firing (life_at looked.left) look in
@@ -613,8 +613,8 @@ module _ (registry : Registry) where
           cpus = length-set processors cpu looked ∙ kept.cpus;
           due = λ other seat. due_after cpu other seat firing looked
               (ltb-true cpu registry.cpus parts.0) named owes;
-          moments = λ other. moments_after cpu other looked
-              (omega (arith, ltb-true cpu registry.cpus parts.0)) moment;
+          contexts = λ other. contexts_after cpu other looked
+              (omega (arith, ltb-true cpu registry.cpus parts.0)) context;
         })
 
     -- what the look named are the seats to which offers are due then
@@ -623,13 +623,13 @@ module _ (registry : Registry) where
         → IsLook registry world.writes firing (life_at looked.left)
         → ((at : ℕ) → due_of looked at
         ≡ option_map (λ life. record { life = life; firing = firing }) (life_at looked.left at))
-        → IfSome looked.moment (IsMoment registry)
+        → IfSome looked.context (IsContext registry)
         → ((at : ℕ) → has seats_named at ≡ is_some (due_of looked at))
         → IsNaming registry world cpu firing (Some seats_named)
-    naming-looking cpu firing looked seats_named own enabled look owes moment named =
+    naming-looking cpu firing looked seats_named own enabled look owes context named =
         let parts = and_parts (nat_lt cpu registry.cpus) (is_done (world.due cpu)) enabled in
         let cpus = kept.cpus in
-        let later = kept-looking cpu firing looked own enabled look owes moment in
+        let later = kept-looking cpu firing looked own enabled look owes context in
         let low : cpu < length processors = omega (arith, ltb-true cpu registry.cpus parts.0) in
         let long : cpu < length (set processors cpu looked) = omega (arith, length-set processors cpu looked) in
         let found : slice_get (set processors cpu looked) cpu ≡ Some looked =
@@ -708,7 +708,7 @@ module _ (registry : Registry) where
         → Found seats at seat held → slice_get processors cpu ≡ Some before
         → due_of before seat ≡ Some due
         → ((one : ℕ) → due_of left one ≡ cond (one == seat) None (due_of before one))
-        → left.moment ≡ before.moment
+        → left.context ≡ before.context
         → (IsPlace registry (world.places seat) held → IsPlace registry (offered due (world.places seat)) after)
         → WorldIsKept registry (offering world cpu seat) (set seats at after) publications (set processors cpu left)
     unfolding offering
@@ -722,9 +722,9 @@ module _ (registry : Registry) where
           published = kept.published;
           cpus = length-set processors cpu left ∙ kept.cpus;
           due = λ other one. due_taken cpu seat other one before left is taken;
-          moments = λ other. moments_after cpu other left (slice_get_within processors cpu before is)
-              (subst (λ m. IfSome m (IsMoment registry)) (sym stays)
-              (subst (λ o. IfSome o (λ (one : DueOffers). IfSome one.moment (IsMoment registry))) is (kept.moments cpu)));
+          contexts = λ other. contexts_after cpu other left (slice_get_within processors cpu before is)
+              (subst (λ m. IfSome m (IsContext registry)) (sym stays)
+              (subst (λ o. IfSome o (λ (one : DueOffers). IfSome one.context (IsContext registry))) is (kept.contexts cpu)));
         })
 
     -- nothing was taken

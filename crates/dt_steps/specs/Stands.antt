@@ -4,9 +4,9 @@ use Rattle.std.specs.Prelude.{IfSome, MatchOption, MatchBool, is_some, length, s
 use Rattle.std.specs.List.{list_any}
 use Rattle.std.specs.Option.{option_map, option_map_or, option_and_then}
 use Rattle.dt_cred.specs.declared.account.Account.{Account}
-use Rattle.dt_machine.specs.Moment.{IsMoment}
+use Rattle.dt_machine.specs.Context.{IsContext}
 use Rattle.dt_machine.specs.Registry.{Registry}
-use Rattle.dt_machine.specs.declared.moment.Moment.{Moment}
+use Rattle.dt_machine.specs.declared.context.Context.{Context}
 use Rattle.dt_cred.specs.declared.firing.Firing.{Firing}
 use Rattle.dt_chain.specs.IsAt as chain
 use Rattle.dt_chain.specs.Seats.{has, life_at}
@@ -68,12 +68,12 @@ abbrev pub place_of : Firing → ScriptPlace
 place_of firing = record { cpu = firing.cpu; place = firing.place }
 
 -- what a processor owes to a seat of what it looked for
-abbrev pub due_by : Option Moment → (life : Option ℕ) → Option DueOffer
-due_by moment life = option_and_then
-    (λ moment. option_map (λ life. record { life = life; firing = moment.firing.now }) life) moment
+abbrev pub due_by : Option Context → (life : Option ℕ) → Option DueOffer
+due_by context life = option_and_then
+    (λ context. option_map (λ life. record { life = life; firing = context.firing.now }) life) context
 
 abbrev pub due_of : DueOffers → (seat : ℕ) → Option DueOffer
-due_of looked seat = due_by looked.moment (life_at looked.left seat)
+due_of looked seat = due_by looked.context (life_at looked.left seat)
 
 abbrev pub due_in : Option DueOffers → (seat : ℕ) → Option DueOffer
 due_in (Some looked) seat = due_of looked seat
@@ -182,7 +182,7 @@ module _ (registry : Registry) where
     pub published : chain.EntriesAreAt world.writes publications
     pub cpus : length processors ≡ registry.cpus
     pub due : (cpu seat : ℕ) → world.due cpu seat ≡ due_in (slice_get processors cpu) seat
-    pub moments : (cpu : ℕ) → IfSome (slice_get processors cpu) (λ looked. IfSome looked.moment (IsMoment registry))
+    pub contexts : (cpu : ℕ) → IfSome (slice_get processors cpu) (λ looked. IfSome looked.context (IsContext registry))
 
   -- The seats with their consumers stand for a world: it is sound, and what is kept is the world's.
   abbrev pub EngineIsAt : World → Engine → Type 0

@@ -2,7 +2,7 @@
 ghost use Rattle.std.specs.Prelude.{◌≡◌, ◌==◌, ℕ, Some, None, IfSome, IfNone, IfOk, true, false, if◌then◌else◌, slice_get, vec_len};
 
 use dt_chain::{Entries, Seat, SeatMask, SeatSet};
-use dt_machine::{Firing, Machine, Moment};
+use dt_machine::{Context, Firing, Machine};
 use std::alloc::{AllocError, Global};
 
 /// A place in a processor's script, from 0 on.
@@ -17,7 +17,7 @@ pub struct ScriptPlace {
 #[derive(Drop)]
 pub(crate) struct DueOffers<'m> {
     /// `None`: the look named no seat. Where no seat is left, it means nothing.
-    pub(crate) moment: Option<Moment<'m>>,
+    pub(crate) context: Option<Context<'m>>,
     pub(crate) left: SeatMask,
 }
 
@@ -27,15 +27,15 @@ impl<'m> DueOffers<'m> {
     ghost use Rattle.dt_chain.specs.Look.{IsLook};
     ghost use Rattle.dt_chain.specs.Seats.{has, life_at};
     ghost use Rattle.dt_chain.specs.Writes.{Write};
-    ghost use Rattle.dt_machine.specs.Moment.{IsMoment};
+    ghost use Rattle.dt_machine.specs.Context.{IsContext};
     ghost use Rattle.dt_steps.specs.Stands.{due_of};
 
     /// A processor that looked for nothing yet.
     fn idle() -> DueOffers<'m>
-        ensures { None ≡ result.moment }
+        ensures { None ≡ result.context }
     {
         DueOffers {
-            moment: None,
+            context: None,
             left: SeatMask::new(),
         }
     }
@@ -53,10 +53,10 @@ impl<'m> DueOffers<'m> {
         ensures owes { (seat : ℕ) → due_of self.new seat
             ≡ option_map (λ life. record { life = life; firing = firing.now }) (life_at self.new.left seat) }
         ensures named { (seat : ℕ) → has result seat ≡ is_some (due_of self.new seat) }
-        ensures moment { IfSome self.new.moment (IsMoment machine.now.registry) }
+        ensures context { IfSome self.new.context (IsContext machine.now.registry) }
     {
-        // where no seat is named, most often since none is interested in the probe, there is no moment
-        self.moment = publications.look_into(machine, firing, &mut self.left);
+        // where no seat is named, most often since none is interested in the probe, there is no context
+        self.context = publications.look_into(machine, firing, &mut self.left);
         self.left.seats()
     }
 
@@ -65,34 +65,34 @@ impl<'m> DueOffers<'m> {
         ensures done { result ≡ true → (seat : ℕ) → due_of self.now seat ≡ None }
         ensures busy { result ≡ false → ((seat : ℕ) → due_of self.now seat ≡ None) → ⊥ }
     {
-        self.moment.is_none() || self.left.is_empty()
+        self.context.is_none() || self.left.is_empty()
     }
 
     /// The offers that are left, each with the life that was named. It is a copy, of 2 KB.
     pub(crate) fn mask(&self) -> SeatMask
         ensures { (seat : ℕ) → life_at result seat ≡ option_map (λ due. due.life) (due_of self.now seat) }
     {
-        match self.moment {
+        match self.context {
             Some(_) => self.left,
             None => SeatMask::new(),
         }
     }
 
     /// Takes out the offer to a seat, if it is left, and answers the life that was named with the firing.
-    pub(crate) fn take(&mut self, seat: Seat) -> Option<(u64, Moment<'m>)>
+    pub(crate) fn take(&mut self, seat: Seat) -> Option<(u64, Context<'m>)>
         ensures offer { IfSome result (λ due.
             due_of self.old seat ≡ Some (record { life = due.0; firing = due.1.firing.now })) }
-        ensures lent { IfSome result (λ due. self.old.moment ≡ Some due.1) }
+        ensures lent { IfSome result (λ due. self.old.context ≡ Some due.1) }
         ensures taken { IfSome result (λ _. (other : ℕ)
             → due_of self.new other ≡ (if other == seat then None else due_of self.old other)) }
-        ensures moment { self.new.moment ≡ self.old.moment }
+        ensures context { self.new.context ≡ self.old.context }
         ensures none { IfNone result (due_of self.old seat ≡ None) }
         ensures same { IfNone result (self.new ≡ self.old) }
     {
-        let moment = self.moment?;
+        let context = self.context?;
         let life = self.left.life_of(seat)?;
         self.left.remove(seat);
-        Some((life, moment))
+        Some((life, context))
     }
 }
 
@@ -103,7 +103,7 @@ pub(crate) fn idle_processors<'m>(
 ) -> Result<Vec<DueOffers<'m>>, AllocError>
     ensures all { IfOk result (λ processors. vec_len processors ≡ cpus) }
     ensures idle { IfOk result (λ processors. (cpu : ℕ)
-        → IfSome (slice_get processors.items cpu) (λ looked. None ≡ looked.moment)) }
+        → IfSome (slice_get processors.items cpu) (λ looked. None ≡ looked.context)) }
 {
     let mut processors = Vec::with_capacity(alloc, cpus as usize)?;
     for _cpu in 0..cpus {

@@ -165,14 +165,14 @@ impl<'m> Engine<'m> {
         }
         let due = &mut self.processors[cpu as usize];
         // nothing that it looked for is due to this seat
-        let (life, moment) = due.take(seat)?;
+        let (life, context) = due.take(seat)?;
         let at = ScriptPlace {
-            cpu: moment.firing.cpu,
-            place: moment.firing.place,
+            cpu: context.firing.cpu,
+            place: context.firing.place,
         };
         let place = &mut self.seats[seat.number() as usize];
         // where the firing stands is told if the session saw it: a trail has seen firings alone
-        place.deliver(machine, life, &moment).then_some(at)
+        place.deliver(machine, life, &context).then_some(at)
     }
 
     /// Ends the session on a seat.

@@ -7,7 +7,7 @@ ghost use Rattle.dt_steps.specs.Stands.{IsPlace};
 use crate::session::{Answered, Finished, Session};
 use dt_chain::{Entries, SEATS, Seat};
 use dt_cred::Account;
-use dt_machine::{Machine, Moment};
+use dt_machine::{Context, Machine};
 use dt_proto::WholeLine;
 use std::alloc::{AllocError, Global};
 
@@ -25,7 +25,7 @@ impl Place {
     ghost use Rattle.dt_chain.specs.IsAt.{EntriesAreAt};
     ghost use Rattle.dt_chain.specs.Writes.{Write};
     ghost use Rattle.dt_life.specs.Life.{is_over};
-    ghost use Rattle.dt_machine.specs.Moment.{IsMoment};
+    ghost use Rattle.dt_machine.specs.Context.{IsContext};
     ghost use Rattle.dt_proto.specs.Asked.{form_lent, form_asked};
     ghost use Rattle.dt_steps.specs.Sound.{IsDueToShown};
     ghost use Rattle.dt_steps.specs.Stands.{IsAskedOn, IsFinishedOn, IsPublishedOn, opened_on, closed_on, first_account, sees_on};
@@ -132,23 +132,23 @@ impl Place {
 
     /// A firing reaches its session, if that has this life. Answers whether the session saw the firing. It is due to a session
     /// that is shown it: the look asked for that, so the offer doesn't.
-    pub(crate) fn deliver(&mut self, machine: &Machine, life: u64, moment: &Moment) -> bool
+    pub(crate) fn deliver(&mut self, machine: &Machine, life: u64, context: &Context) -> bool
         ensures seen { (place : world.Place) → IsPlace machine.now.registry place self.old
-            → IsMoment machine.now.registry moment.now
-            → IsDueToShown machine.now.registry place (record { life = life; firing = moment.now.firing.now })
-            → result ≡ sees_on machine.now.registry (record { life = life; firing = moment.now.firing.now }) place }
+            → IsContext machine.now.registry context.now
+            → IsDueToShown machine.now.registry place (record { life = life; firing = context.now.firing.now })
+            → result ≡ sees_on machine.now.registry (record { life = life; firing = context.now.firing.now }) place }
         ensures reached { (place : world.Place) → IsPlace machine.now.registry place self.old
-            → IsMoment machine.now.registry moment.now
-            → IsDueToShown machine.now.registry place (record { life = life; firing = moment.now.firing.now })
+            → IsContext machine.now.registry context.now
+            → IsDueToShown machine.now.registry place (record { life = life; firing = context.now.firing.now })
             → IsPlace machine.now.registry
-            (steps.offered (record { life = life; firing = moment.now.firing.now }) place) self.new }
+            (steps.offered (record { life = life; firing = context.now.firing.now }) place) self.new }
     {
         // the mask was made for a session that was here before
         if life != self.earlier {
             return false;
         }
         match &mut self.present {
-            Some(session) => session.consumer.offer_shown(machine, moment),
+            Some(session) => session.consumer.offer_shown(machine, context),
             None => false,
         }
     }

@@ -78,7 +78,7 @@ pub(crate) fn looked<J: Site>(
     mask: &mut SeatMask,
 ) -> Option<u64> {
     match reader.look_into(machine, firing, mask) {
-        Ok(_moment) => Some(reader.seen().len()),
+        Ok(_context) => Some(reader.seen().len()),
         Err(_) => None,
     }
 }

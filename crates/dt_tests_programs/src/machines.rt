@@ -56,7 +56,7 @@ fn would_belong(machine: &Machine, cpu: u32, probe: u32, pid: u32) -> Option<boo
         pid,
         ..firing
     };
-    Some(machine.moment(&other).is_some())
+    Some(machine.context(&other).is_some())
 }
 
 /// What is told to be wrong in a file: a key and the part that has it, `nothing` where no key is told, and `read` where the

@@ -37,8 +37,8 @@ use Rattle.dt_life.specs.Options.{is_fill}
 use Rattle.dt_life.specs.Reply.{IsVerdictOnCommand, Accepted, RepliesInQuota, Replies, all_errors, all_aggdrops, ecb_of, refusal_of}
 use Rattle.dt_life.specs.Stores.{given_on, given_since, given_in, aggdrops_in, stores_in}
 use Rattle.dt_life.specs.Takings.{TracingEvent, began, seen, snapped, truncated, ended, closed, is_end, faults}
-use Rattle.dt_machine.specs.Moment.{MomentForm}
-use Rattle.dt_life.specs.Takings.{moment_at, taken_at, taken_by, taken_on, taken_since, first_exit}
+use Rattle.dt_machine.specs.Context.{ContextForm}
+use Rattle.dt_life.specs.Takings.{context_at, taken_at, taken_by, taken_on, taken_since, first_exit}
 use Rattle.dt_life.specs.Tests.{is_seen}
 use Rattle.dt_life.specs.declared.phase.End.TheVariants.{Exit, History}
 use Rattle.dt_life.specs.declared.refusal.Refusal.{Refusal}
@@ -49,24 +49,24 @@ module _ (account : Account) (name : List ℕ) (registry : Registry) where
   other = renamed account name
 
   -- what is taken
-  moment_alike : (event : TracingEvent) → moment_at other registry event ≡ moment_at account registry event
-  moment_alike began = refl
-  moment_alike (seen firing) = refl
-  moment_alike (snapped cpu) = refl
-  moment_alike (truncated word) = refl
-  moment_alike (ended end) = refl
-  moment_alike closed = refl
+  context_alike : (event : TracingEvent) → context_at other registry event ≡ context_at account registry event
+  context_alike began = refl
+  context_alike (seen firing) = refl
+  context_alike (snapped cpu) = refl
+  context_alike (truncated word) = refl
+  context_alike (ended end) = refl
+  context_alike closed = refl
 
   module _ (own : List EcbForm) where
     taken_by_alike : (event : TracingEvent) → taken_by other registry own event ≡ taken_by account registry own event
-    taken_by_alike event = ap (λ moment. option_map_or (taken_at (is_end event) own) moment []) (moment_alike event)
+    taken_by_alike event = ap (λ context. option_map_or (taken_at (is_end event) own) context []) (context_alike event)
 
     taken_on_alike : (cpu : ℕ) (event : TracingEvent)
         → taken_on other registry own cpu event ≡ taken_on account registry own cpu event
     taken_on_alike cpu event = ap
-        (λ moment. option_map_or
-        (λ (m : MomentForm). cond (m.firing.cpu == cpu) (taken_at (is_end event) own m) []) moment [])
-        (moment_alike event)
+        (λ context. option_map_or
+        (λ (m : ContextForm). cond (m.firing.cpu == cpu) (taken_at (is_end event) own m) []) context [])
+        (context_alike event)
 
     taken_since_alike : (cpu : ℕ) (events : List TracingEvent)
         → taken_since other registry own cpu events ≡ taken_since account registry own cpu events

@@ -11,7 +11,7 @@ use Rattle.dt_lang.specs.Program.{ClauseForm}
 use Rattle.dt_life.specs.Buffers.{attempts_of}
 use Rattle.dt_life.specs.Following.{followed_by, taking_by}
 use Rattle.dt_life.specs.Takings.{Taking, record_of}
-use Rattle.dt_machine.specs.Moment.{MomentForm}
+use Rattle.dt_machine.specs.Context.{ContextForm}
 
 pub attempts-append : (xs ys : List Taking) → attempts_of (xs ++ ys) ≡ attempts_of xs ++ attempts_of ys
 attempts-append xs ys =
@@ -31,7 +31,7 @@ ordinary_one None rest e = e
 ordinary_one (Some bytes) rest e = e
 
 -- ordinary takings attempt no record of END
-pub none_of_end : (m : MomentForm) (forms : List ClauseForm) (row : List Ecb)
+pub none_of_end : (m : ContextForm) (forms : List ClauseForm) (row : List Ecb)
     → of_end (attempts_of (map (taking_by false m forms) row)) ≡ []
 none_of_end m forms [] = refl
 none_of_end m forms (ecb ∷ row) =

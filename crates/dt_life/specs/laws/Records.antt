@@ -28,13 +28,13 @@ use Rattle.dt_life.specs.Life.{since_then, with_event, with_options, with_progra
 use Rattle.dt_life.specs.Options.{with_setting}
 use Rattle.dt_life.specs.Scenes.{IsItemInBounds, IsLifeInBounds, IsOfLayout}
 use Rattle.dt_life.specs.Takings.{TracingEvent, began, seen, snapped, truncated, ended, closed, is_end, Taking}
-use Rattle.dt_machine.specs.Moment.{MomentForm}
-use Rattle.dt_life.specs.Takings.{exit_of, moment_at, record_of, scene_at, taken_at, taken_on, taken_since, taking_of}
+use Rattle.dt_machine.specs.Context.{ContextForm}
+use Rattle.dt_life.specs.Takings.{exit_of, context_at, record_of, scene_at, taken_at, taken_on, taken_since, taking_of}
 use Rattle.dt_life.specs.Takings.{through_exit}
 use Rattle.dt_life.specs.declared.phase.End.{End}
 use Rattle.dt_life.specs.declared.phase.End.TheVariants.{Stop}
 use Rattle.dt_life.specs.laws.Lists.{unheld}
-use Rattle.dt_life.specs.laws.Scenes.{IsEventInBounds, IsMomentInBounds, all_mapped, can_be_taken, moment_in_bounds}
+use Rattle.dt_life.specs.laws.Scenes.{IsEventInBounds, IsContextInBounds, all_mapped, can_be_taken, context_in_bounds}
 
 -- lists
 pub all_joined : {A : Type 0} (P : A → Type 0) (xs ys : List A) → AllByRecursion P xs → AllByRecursion P ys
@@ -215,10 +215,10 @@ module _ (account : Account) (registry : Registry) where
 -- takings
 pub record IsTakenOf (clauses : List ClauseForm) (t : Taking) : Type 0 where
   pub in_end : Bool
-  pub moment : MomentForm
+  pub context : ContextForm
   pub ecb : EcbForm
-  pub same : t ≡ taking_of in_end moment ecb
-  pub moment_is : IsMomentInBounds moment
+  pub same : t ≡ taking_of in_end context ecb
+  pub context_is : IsContextInBounds context
   pub ecb_is : IsEcbOf clauses ecb
 
 module _ (clauses : List ClauseForm) where
@@ -233,7 +233,7 @@ module _ (clauses : List ClauseForm) where
       stop_or false k = k
 
   module _ (ecbs : List EcbForm) (are : AllByRecursion (IsEcbOf clauses) ecbs) where
-    taken_at_in : (in_end : Bool) (m : MomentForm) → IsMomentInBounds m
+    taken_at_in : (in_end : Bool) (m : ContextForm) → IsContextInBounds m
         → AllByRecursion (IsTakenOf clauses) (taken_at in_end ecbs m)
     taken_at_in in_end m is = either in_end
       where
@@ -241,10 +241,10 @@ module _ (clauses : List ClauseForm) where
         all = all_mapped (IsEcbOf clauses) (IsTakenOf clauses) (taking_of in_end m)
             (λ ecb one. record {
               in_end = in_end;
-              moment = m;
+              context = m;
               ecb = ecb;
               same = refl;
-              moment_is = is;
+              context_is = is;
               ecb_is = one;
             })
             (of_probe m.firing.probe ecbs)
@@ -257,19 +257,19 @@ module _ (clauses : List ClauseForm) where
         either false = through_in (map (taking_of in_end m) (of_probe m.firing.probe ecbs)) all
 
     module _ (account : Account) (registry : Registry)
-        (moments : (event : TracingEvent) → IsEventInBounds event
-        → IfSome (moment_at account registry event) IsMomentInBounds) where
+        (contexts : (event : TracingEvent) → IsEventInBounds event
+        → IfSome (context_at account registry event) IsContextInBounds) where
       pub taken_on_in : (cpu : ℕ) (event : TracingEvent) → IsEventInBounds event
           → AllByRecursion (IsTakenOf clauses) (taken_on account registry ecbs cpu event)
-      taken_on_in cpu event is = at (moment_at account registry event) (moments event is)
+      taken_on_in cpu event is = at (context_at account registry event) (contexts event is)
         where
-          on : (b : Bool) (m : MomentForm) → IsMomentInBounds m
+          on : (b : Bool) (m : ContextForm) → IsContextInBounds m
               → AllByRecursion (IsTakenOf clauses) (cond b (taken_at (is_end event) ecbs m) [])
           on true m h = taken_at_in (is_end event) m h
           on false m h = tt
 
-          at : (o : Option MomentForm) → IfSome o IsMomentInBounds → AllByRecursion (IsTakenOf clauses)
-              (option_map_or (λ (m : MomentForm). cond (m.firing.cpu == cpu) (taken_at (is_end event) ecbs m) []) o [])
+          at : (o : Option ContextForm) → IfSome o IsContextInBounds → AllByRecursion (IsTakenOf clauses)
+              (option_map_or (λ (m : ContextForm). cond (m.firing.cpu == cpu) (taken_at (is_end event) ecbs m) []) o [])
           at None h = tt
           at (Some m) h = on (m.firing.cpu == cpu) m h
 
@@ -281,29 +281,29 @@ module _ (clauses : List ClauseForm) where
           (taken_on account registry ecbs cpu event) (taken_since_in cpu events h.1) (taken_on_in cpu event h.0)
 
   -- each can be taken
-  can_take : (t : Taking) (is : IsTakenOf clauses t) → CanBeTaken (scene_at is.moment is.ecb.epid) is.ecb.clause
+  can_take : (t : Taking) (is : IsTakenOf clauses t) → CanBeTaken (scene_at is.context is.ecb.epid) is.ecb.clause
   can_take t is =
       let few = is.ecb_is.few in
-      can_be_taken is.moment is.ecb.epid is.ecb.clause is.moment_is (omega arith) is.ecb_is.written
+      can_be_taken is.context is.ecb.epid is.ecb.clause is.context_is (omega arith) is.ecb_is.written
 
   outcome_of_layout : (t : Taking) (is : IsTakenOf clauses t) (outcome : Outcome)
-      → taking is.ecb.epid (scene_at is.moment is.ecb.epid) is.ecb.clause ≡ outcome
+      → taking is.ecb.epid (scene_at is.context is.ecb.epid) is.ecb.clause ≡ outcome
       → IfSome (left_in outcome)
-      (λ left. FitLayout is.ecb.epid (scene_at is.moment is.ecb.epid) is.ecb.clause (layout_of is.ecb.clause)
+      (λ left. FitLayout is.ecb.epid (scene_at is.context is.ecb.epid) is.ecb.clause (layout_of is.ecb.clause)
       left.record_bytes)
   outcome_of_layout t is abandoned e = tt
   outcome_of_layout t is passed_over e = tt
   outcome_of_layout t is (leaves left) e =
-      records-fit is.ecb.epid (scene_at is.moment is.ecb.epid) is.ecb.clause left (can_take t is) e
+      records-fit is.ecb.epid (scene_at is.context is.ecb.epid) is.ecb.clause left (can_take t is) e
 
   -- what it left fits the layout
   pub taken_of_layout : (t : Taking) → IsTakenOf clauses t → IsOfLayout t
   taken_of_layout t is =
       subst IsOfLayout (sym is.same)
-      (outcome_of_layout t is (taking is.ecb.epid (scene_at is.moment is.ecb.epid) is.ecb.clause) refl)
+      (outcome_of_layout t is (taking is.ecb.epid (scene_at is.context is.ecb.epid) is.ecb.clause) refl)
 
   outcome_left : (t : Taking) (is : IsTakenOf clauses t) (outcome : Outcome) (bytes : List ℕ)
-      → taking is.ecb.epid (scene_at is.moment is.ecb.epid) is.ecb.clause ≡ outcome
+      → taking is.ecb.epid (scene_at is.context is.ecb.epid) is.ecb.clause ≡ outcome
       → option_and_then (λ (form : TakenForm). form.record_bytes) (left_in outcome) ≡ Some bytes
       → IsLeftBy clauses bytes
   outcome_left t is abandoned bytes e these = cc
@@ -316,10 +316,10 @@ module _ (clauses : List ClauseForm) where
         small = omega arith;
         clause = is.ecb.clause;
         there = is.ecb_is.named;
-        scene = scene_at is.moment is.ecb.epid;
+        scene = scene_at is.context is.ecb.epid;
         can = can_take t is;
         left = left;
-        taken = subst (λ n. taking n (scene_at is.moment is.ecb.epid) is.ecb.clause ≡ leaves left) counted e;
+        taken = subst (λ n. taking n (scene_at is.context is.ecb.epid) is.ecb.clause ≡ leaves left) counted e;
         these = these;
       }
 
@@ -327,7 +327,7 @@ module _ (clauses : List ClauseForm) where
   pub taken_left : (t : Taking) → IsTakenOf clauses t → (bytes : List ℕ) → record_of t ≡ Some bytes
       → IsLeftBy clauses bytes
   taken_left t is bytes e =
-      outcome_left t is (taking is.ecb.epid (scene_at is.moment is.ecb.epid) is.ecb.clause) bytes refl
+      outcome_left t is (taking is.ecb.epid (scene_at is.context is.ecb.epid) is.ecb.clause) bytes refl
       (subst (λ x. record_of x ≡ Some bytes) is.same e)
 
 -- a whole life
@@ -348,7 +348,7 @@ module _ (account : Account) (registry : Registry)
       → AllByRecursion (IsTakenOf own_clauses) (taken_on account registry (ecbs account registry life) cpu event)
   life_taken_on =
       taken_on_in own_clauses (ecbs account registry life) own_ecbs account registry
-      (moment_in_bounds account registry is.uid is.processes is.probes)
+      (context_in_bounds account registry is.uid is.processes is.probes)
 
   pub life_seen_in : AllByRecursion IsEventInBounds (set_up account registry life).since
   life_seen_in = own.seen_in
@@ -357,5 +357,5 @@ module _ (account : Account) (registry : Registry)
       (taken_since account registry (ecbs account registry life) cpu (set_up account registry life).since)
   life_taken cpu =
       taken_since_in own_clauses (ecbs account registry life) own_ecbs account registry
-      (moment_in_bounds account registry is.uid is.processes is.probes) cpu (set_up account registry life).since
+      (context_in_bounds account registry is.uid is.processes is.probes) cpu (set_up account registry life).since
       own.seen_in

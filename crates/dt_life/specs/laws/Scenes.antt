@@ -30,10 +30,10 @@ use Rattle.dt_record.specs.Showing.{CanBeTaken, IsExpressionInBounds, IsSceneInB
 use Rattle.dt_life.specs.Ask.{Ask, option, enable, go, stop, snap, agg, trunc, status, list, describe, close}
 use Rattle.dt_life.specs.Life.{Item, asked, fired}
 use Rattle.dt_life.specs.Scenes.{IsItemInBounds, IsLifeInBounds, IsLifeOn, IsReadingInBounds, MayBeAsked, MayReach}
-use Rattle.dt_life.specs.Takings.{TracingEvent, began, seen, snapped, truncated, ended, closed, moment_at}
-use Rattle.dt_machine.specs.Moment.{MomentForm}
+use Rattle.dt_life.specs.Takings.{TracingEvent, began, seen, snapped, truncated, ended, closed, context_at}
+use Rattle.dt_machine.specs.Context.{ContextForm}
 use Rattle.dt_life.specs.Takings.{own_firing, own_process, scene_at}
-use Rattle.dt_machine.specs.Moment.{moment_in}
+use Rattle.dt_machine.specs.Context.{context_in}
 use Rattle.dt_life.specs.declared.refusal.Refusal.{Refusal}
 
 -- lists
@@ -93,8 +93,8 @@ module _ (written : (text : List ℕ) (clauses : List ClauseForm) → Reads text
     items = all_weaker (MayReach contents.scripts) IsItemInBounds (item_in contents is) life on.reached;
   }
 
--- moments
-pub record IsMomentInBounds (m : MomentForm) : Type 0 where
+-- contexts
+pub record IsContextInBounds (m : ContextForm) : Type 0 where
   pub probe : IsProbeInBounds m.probe
   pub process : IsProcessInBounds m.process
   pub firing : IsFiringInBounds m.firing
@@ -130,25 +130,25 @@ module _ (account : Account) (registry : Registry) (uid : account.uid < 2 ^ 32)
   found_in : (probe : Option Probe) (process : Option Process) (firing : Firing) → IfSome probe IsProbeInBounds
       → IfSome process IsProcessInBounds → IsFiringInBounds firing
       → IfSome (option_and_then
-      (λ p. option_map (λ q. record { probe = p; process = q; firing = firing }) process) probe) IsMomentInBounds
+      (λ p. option_map (λ q. record { probe = p; process = q; firing = firing }) process) probe) IsContextInBounds
   found_in None process firing h k l = tt
   found_in (Some p) None firing h k l = tt
   found_in (Some p) (Some q) firing h k l = record { probe = h; process = k; firing = l }
 
-  own_in : (id : ℕ) → IfSome (moment_in registry (Some (own_process account)) (own_firing id)) IsMomentInBounds
+  own_in : (id : ℕ) → IfSome (context_in registry (Some (own_process account)) (own_firing id)) IsContextInBounds
   own_in id = found_in (probe_of registry id) (Some (own_process account)) (own_firing id) (probes id) own_process_in
       (own_firing_in id)
 
-  pub moment_in_bounds : (event : TracingEvent) → IsEventInBounds event
-      → IfSome (moment_at account registry event) IsMomentInBounds
-  moment_in_bounds began h = own_in 1
-  moment_in_bounds (seen firing) h =
+  pub context_in_bounds : (event : TracingEvent) → IsEventInBounds event
+      → IfSome (context_at account registry event) IsContextInBounds
+  context_in_bounds began h = own_in 1
+  context_in_bounds (seen firing) h =
       found_in (probe_of registry firing.probe) (process_of registry firing.pid) firing (probes firing.probe)
       (processes firing.pid) h
-  moment_in_bounds (snapped cpu) h = tt
-  moment_in_bounds (truncated name) h = tt
-  moment_in_bounds (ended end) h = own_in 2
-  moment_in_bounds closed h = tt
+  context_in_bounds (snapped cpu) h = tt
+  context_in_bounds (truncated name) h = tt
+  context_in_bounds (ended end) h = own_in 2
+  context_in_bounds closed h = tt
 
 -- scenes
 argument_in : (args : List ℤ) (k : ℕ) → AllByRecursion (FitsSigned w64) args → FitsSigned w64 (slice_index_or args k (pos 0))
@@ -159,7 +159,7 @@ argument_in (z ∷ args) (suc k) h = argument_in args k h.1
 small_fits : (n : ℕ) → n < 2 ^ 63 → FitsSigned w64 (pos n)
 small_fits n h = record { sfits = h }
 
-module _ (m : MomentForm) (epid : ℕ) (is : IsMomentInBounds m) (small : epid < 2 ^ 63) where
+module _ (m : ContextForm) (epid : ℕ) (is : IsContextInBounds m) (small : epid < 2 ^ 63) where
   number_in : (variable : NumberVariable) → FitsSigned w64 (number_named (scene_at m epid) variable)
   number_in Arg0 = argument_in m.firing.args 0 is.firing.args_fit
   number_in Arg1 = argument_in m.firing.args 1 is.firing.args_fit
@@ -214,8 +214,8 @@ statement_in (statement.ustack n) h = h.1
 statement_in (statement.exit f) h = tt
 statement_in (statement.aggregate name keys call) h = tt
 
--- a clause that can be written can be taken at a moment within bounds
-pub can_be_taken : (m : MomentForm) (epid : ℕ) (clause : ClauseForm) → IsMomentInBounds m → epid < 2 ^ 63
+-- a clause that can be written can be taken in a context within bounds
+pub can_be_taken : (m : ContextForm) (epid : ℕ) (clause : ClauseForm) → IsContextInBounds m → epid < 2 ^ 63
     → IsWrittenClause clause → CanBeTaken (scene_at m epid) clause
 can_be_taken m epid clause is small h = record {
   scene_in_bounds = scene_in m epid is small;

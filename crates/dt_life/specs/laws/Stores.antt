@@ -20,8 +20,8 @@ use Rattle.dt_life.specs.Following.{where_taken}
 use Rattle.dt_life.specs.Life.{SetUp, ecbs_in, shapes_in, since_then, with_event}
 use Rattle.dt_life.specs.Stores.{given_in, given_on}
 use Rattle.dt_life.specs.Takings.{TracingEvent, began, seen, snapped, truncated, ended, is_end, Taking}
-use Rattle.dt_machine.specs.Moment.{MomentForm}
-use Rattle.dt_life.specs.Takings.{moment_at, taken_at, taken_on, closed}
+use Rattle.dt_machine.specs.Context.{ContextForm}
+use Rattle.dt_life.specs.Takings.{context_at, taken_at, taken_on, closed}
 use Rattle.dt_life.specs.Uses.{AreGiven, given_and, given_then}
 use Rattle.dt_life.specs.laws.Giving.{given_none, same_at}
 use Rattle.dt_life.specs.laws.Lists.{found_at, nothing_past, replaced}
@@ -73,8 +73,8 @@ given_firing account registry shapes ecbs cpu (ended end) is = refl
 given_firing account registry shapes ecbs cpu closed is = refl
 
 -- what is given at an event is what the set-up with it says
-pub grown : (account : Account) (registry : Registry) (s : SetUp) (event : TracingEvent) (m : MomentForm) → IsFiring event
-    → moment_at account registry event ≡ Some m → (stores : List AggStore) (new : List Taking)
+pub grown : (account : Account) (registry : Registry) (s : SetUp) (event : TracingEvent) (m : ContextForm) → IsFiring event
+    → context_at account registry event ≡ Some m → (stores : List AggStore) (new : List Taking)
     → new ≡ taken_at (is_end event) (ecbs_in account registry s) m
     → AreGiven (given_and (shapes_in s) (given_in account registry s) (where_taken m.firing.cpu new)) stores
     → AreGiven (given_in account registry (with_event s event)) stores

@@ -11,8 +11,8 @@ use Rattle.dt_life.specs.Buffers.{attempts_of, comes_by, past_in}
 use Rattle.dt_life.specs.Following.{where_taken}
 use Rattle.dt_life.specs.Life.{SetUp, ecbs_in, end_by, happens, seen_count, with_event}
 use Rattle.dt_life.specs.Takings.{TracingEvent, began, seen, snapped, truncated, ended, closed, is_end, Taking}
-use Rattle.dt_machine.specs.Moment.{MomentForm}
-use Rattle.dt_life.specs.Takings.{exit_of, first_exit, moment_at, record_of, taken_at, taken_by, taken_on, taking_of}
+use Rattle.dt_machine.specs.Context.{ContextForm}
+use Rattle.dt_life.specs.Takings.{exit_of, first_exit, context_at, record_of, taken_at, taken_by, taken_on, taking_of}
 use Rattle.dt_life.specs.Takings.{through_exit}
 use Rattle.dt_life.specs.declared.phase.End.{End}
 use Rattle.dt_life.specs.declared.phase.End.TheVariants.{Exit, History}
@@ -38,13 +38,13 @@ module _ (account : Account) (registry : Registry) (s : SetUp) where
   comes_firing cpu (ended end) is = refl
   comes_firing cpu closed is = refl
 
-  module _ (event : TracingEvent) (m : MomentForm) (fires : IsFiring event)
-      (at : moment_at account registry event ≡ Some m) where
+  module _ (event : TracingEvent) (m : ContextForm) (fires : IsFiring event)
+      (at : context_at account registry event ≡ Some m) where
     pub on_is : (cpu : ℕ) → taken_on account registry (ecbs_in account registry s) cpu event
         ≡ where_taken m.firing.cpu (taken_at (is_end event) (ecbs_in account registry s) m) cpu
     on_is cpu = ap
         (λ o. option_map_or
-        (λ (x : MomentForm). cond (x.firing.cpu == cpu) (taken_at (is_end event) own x) []) o [])
+        (λ (x : ContextForm). cond (x.firing.cpu == cpu) (taken_at (is_end event) own x) []) o [])
         at
 
     pub by_is : taken_by account registry (ecbs_in account registry s) event
@@ -73,13 +73,13 @@ happens_last account registry s event end e = ap
     (λ o. option_map_or (λ end. with_event (with_event s event) (ended end)) o (with_event s event)) e
 
 -- what is put at an ordinary firing is none of END's
-attempts_first : (m : MomentForm) (es : List EcbForm) (b : Bool)
+attempts_first : (m : ContextForm) (es : List EcbForm) (b : Bool)
     → of_end (attempts_of (through_exit (map (taking_of false m) es))) ≡ []
     → of_end (attempts_of (cond b [] (through_exit (map (taking_of false m) es)))) ≡ []
 attempts_first m es true e = refl
 attempts_first m es false e = e
 
-none_at : (m : MomentForm) (es : List EcbForm) → of_end (attempts_of (through_exit (map (taking_of false m) es))) ≡ []
+none_at : (m : ContextForm) (es : List EcbForm) → of_end (attempts_of (through_exit (map (taking_of false m) es))) ≡ []
 none_at m [] = refl
 none_at m (ecb ∷ es) =
     ordinary_one (record_of (taking_of false m ecb))
@@ -90,8 +90,8 @@ none_where : (b : Bool) (xs : List Taking) → of_end (attempts_of xs) ≡ [] �
 none_where true xs e = e
 none_where false xs e = refl
 
-pub still_open : (account : Account) (registry : Registry) (s : SetUp) (event : TracingEvent) (m : MomentForm)
-    → IsFiring event → moment_at account registry event ≡ Some m → is_end event ≡ false
+pub still_open : (account : Account) (registry : Registry) (s : SetUp) (event : TracingEvent) (m : ContextForm)
+    → IsFiring event → context_at account registry event ≡ Some m → is_end event ≡ false
     → ((cpu : ℕ) → of_end (past_in account registry s cpu).events ≡ [])
     → (cpu : ℕ) → of_end (past_in account registry (with_event s event) cpu).events ≡ []
 still_open account registry s event m fires at ordinary none cpu =

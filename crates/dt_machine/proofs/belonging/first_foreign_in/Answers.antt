@@ -17,8 +17,8 @@ pub loop-place-preserved : goal.loop-place-preserved
 loop-place-preserved c =
     right_more (λ _ firing. Belongs (registry_of c.args.sections.now) firing) c.args.script.now c.loop-place.place
     _ c.loop-place.invariant (slice_get-get_or c.args.script.now c.loop-place.place _ c.loop-place-test.true)
-    (of_found c.moment.result _ _ _ c.if-is_none.ensures
-    (λ moment found. subst (Belongs (registry_of c.args.sections.now)) found.1 found.0.belongs) c.moment.ensures)
+    (of_found c.context.result _ _ _ c.if-is_none.ensures
+    (λ context found. subst (Belongs (registry_of c.args.sections.now)) found.1 found.0.belongs) c.context.ensures)
 
 pub returns : goal.returns
 returns c = right_all (λ _ firing. Belongs (registry_of c.args.sections.now) firing) c.args.script.now

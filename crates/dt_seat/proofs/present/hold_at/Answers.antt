@@ -22,12 +22,12 @@ returns-clause-taken g c =
     c.offer-is_seen.ensures.trail c.offer-is_seen.ensures.kept in
     rw (c.lend.ensures.lives, c.offer-is_seen.ensures.trail)
     (taken_offered _ g.J.Traced.contents _ _ _ c.args.present.now c.args.keeps.now.items c.requires.taken
-    c.args.moment.now.firing.now c.offer-is_seen.result c.offer-is_seen.new.consumer c.lend.new.self trailed c.lend.ensures.lent
+    c.args.context.now.firing.now c.offer-is_seen.result c.offer-is_seen.new.consumer c.lend.new.self trailed c.lend.ensures.lent
     (rw (seat, cpu) at c.lend.ensures.kept))
 
 pub returns-clause-trail : goal.returns-clause-trail
 returns-clause-trail g c =
-    rw c.offer-is_seen.ensures.trail (goes_on_offered c.args.present.now.owner c.args.moment.now.firing.now c.offer-is_seen.result)
+    rw c.offer-is_seen.ensures.trail (goes_on_offered c.args.present.now.owner c.args.context.now.firing.now c.offer-is_seen.result)
 
 pub returns-clause-held : goal.returns-clause-held
 returns-clause-held g c =
@@ -38,7 +38,7 @@ returns-clause-held g c =
     let row : c.in-Some.note.row ≡ c.args.present.now.owner.row = ap (λ (n : Noted Account). n.row) note in
     let account : c.in-Some.note.row.account ≡ c.args.present.now.account =
     ap (λ (r : Named Account). r.account) row ∙ c.requires.taken.trailed.whose_is in
-    let mine : c.in-Some.note.number ≡ c.args.moment.now.firing.now.cpu + 1 =
+    let mine : c.in-Some.note.number ≡ c.args.context.now.firing.now.cpu + 1 =
     ap (λ (n : Noted Account). n.number) note ∙ ap (λ (k : ℕ). k + 1) c.requires.follower.1 in
     let took = ap (λ (f : Followed). f.took) view ∙ c.lend.ensures.took in
     let over = ap (λ (f : Followed). f.over) view ∙ c.lend.ensures.over in
@@ -50,27 +50,27 @@ returns-clause-held g c =
       | then-is_seen w ↦
           let last = rw w.if-is_seen.true at c.offer-is_seen.ensures.note in
           let sees = subst (λ (a : Account). Sees a contents.registry (life_of_row a contents c.args.present.now.owner.knows)
-          c.args.moment.now.firing.now) (sym account) (c.offer-is_seen.ensures.seen.0 w.if-is_seen.true) in
+          c.args.context.now.firing.now) (sym account) (c.offer-is_seen.ensures.seen.0 w.if-is_seen.true) in
           rw (w.result-is, w.follower-inside-is, last)
-          (held_kept contents c.args.life c.args.moment.now.firing.now c.args.follower.now _ c.in-Some.note (rw (← row) at took) c.in-Some.is
+          (held_kept contents c.args.life c.args.context.now.firing.now c.args.follower.now _ c.in-Some.note (rw (← row) at took) c.in-Some.is
           over known carried c.args.present.now.owner.knows mine c.offer-is_seen.ensures.met legal sees)
       | else-is_seen w ↦
           let last = rw w.if-is_seen.false at c.offer-is_seen.ensures.note in
           let unseen = λ (sees : Sees c.in-Some.note.row.account contents.registry
-          (life_of_row c.in-Some.note.row.account contents c.args.present.now.owner.knows) c.args.moment.now.firing.now).
+          (life_of_row c.in-Some.note.row.account contents c.args.present.now.owner.knows) c.args.context.now.firing.now).
           let theirs = subst (λ (a : Account). Sees a contents.registry (life_of_row a contents c.args.present.now.owner.knows)
-          c.args.moment.now.firing.now) account sees in
+          c.args.context.now.firing.now) account sees in
           let bad : false ≡ true = sym w.if-is_seen.false ∙ c.offer-is_seen.ensures.seen.1 theirs in
           absurd (true≢false (sym bad)) in
           let count = sym (w.count.ensures ∙ ap (λ (n : Noted Account). length n.knows) last) in
           rw (w.result-is, w.follower-inside-is, last)
-          (held_unseen contents c.args.life c.args.moment.now.firing.now c.args.follower.now _ c.in-Some.note (rw (← row) at took) c.in-Some.is
+          (held_unseen contents c.args.life c.args.context.now.firing.now c.args.follower.now _ c.in-Some.note (rw (← row) at took) c.in-Some.is
           over known carried c.args.present.now.owner.knows _ mine c.offer-is_seen.ensures.met legal unseen count)
     ]
 
 pub returns-clause-own : goal.returns-clause-own
 returns-clause-own g c =
-    let firing = c.args.moment.now.firing.now in
+    let firing = c.args.context.now.firing.now in
     let owner = c.args.present.now.owner in
     let view = c.follower.view_is in
     let note : c.in-Some.note ≡ noted owner.row (c.args.follower.now.cpu + 1) (known_by c.lend.new.follower.note) =

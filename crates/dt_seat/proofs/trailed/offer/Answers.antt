@@ -5,22 +5,22 @@ use Rattle.dt_seat.proofs.Trails.{below_met, trailed_firing}
 use Rattle.dt_seat.proofs.trailed.offer.Goals as goal
 
 pub fired-item-requires : goal.fired-item-requires
-fired-item-requires g c = let in_range = c.requires.moment.belongs.cpu in omega (arith, in_range, c.requires.few)
+fired-item-requires g c = let in_range = c.requires.context.belongs.cpu in omega (arith, in_range, c.requires.few)
 
 pub append-requires-clause-room : goal.append-requires-clause-room
 append-requires-clause-room g c =
-    let told = rw c.requires.machine at c.offer_moment-is_seen.ensures.sees in
-    let sees = (told _ _ c.requires.kept.stands c.requires.moment).0 c.if-is_seen.true in
+    let told = rw c.requires.machine at c.offer_context-is_seen.ensures.sees in
+    let sees = (told _ _ c.requires.kept.stands c.requires.context).0 c.if-is_seen.true in
     rw c.meet.ensures.owner
     (firing_has_room c.args.account g.J.Traced.contents c.args.owner.now.knows _ c.args.owner.now.cells c.requires.kept.legal
     c.requires.kept.suffice sees)
 
 pub append-requires-clause-lawful : goal.append-requires-clause-lawful
 append-requires-clause-lawful g c =
-    let told = rw c.requires.machine at c.offer_moment-is_seen.ensures.sees in
-    let sees = (told _ _ c.requires.kept.stands c.requires.moment).0 c.if-is_seen.true in
-    let seen = rw c.requires.machine at c.offer_moment-is_seen.ensures.seen in
-    let stands = seen _ _ c.requires.kept.stands c.requires.moment c.if-is_seen.true in
+    let told = rw c.requires.machine at c.offer_context-is_seen.ensures.sees in
+    let sees = (told _ _ c.requires.kept.stands c.requires.context).0 c.if-is_seen.true in
+    let seen = rw c.requires.machine at c.offer_context-is_seen.ensures.seen in
+    let stands = seen _ _ c.requires.kept.stands c.requires.context c.if-is_seen.true in
     let below = below_met _ _ _ _ _ c.requires.note.1 c.meet.ensures.met.1 c.requires.below in
     rw (c.meet.ensures.owner, c.fired-item.ensures, c.requires.kept.whose_is)
     (trailed_firing g.J.Traced.contents c.args.account c.args.owner.now c.args.consumer.now c.requires.kept _ _ stands
@@ -28,10 +28,10 @@ append-requires-clause-lawful g c =
 
 pub returns-then-is_seen-clause-kept : goal.returns-then-is_seen-clause-kept
 returns-then-is_seen-clause-kept g c =
-    let told = rw c.requires.machine at c.offer_moment-is_seen.ensures.sees in
-    let sees = (told _ _ c.requires.kept.stands c.requires.moment).0 c.if-is_seen.true in
-    let seen = rw c.requires.machine at c.offer_moment-is_seen.ensures.seen in
-    let stands = seen _ _ c.requires.kept.stands c.requires.moment c.if-is_seen.true in
+    let told = rw c.requires.machine at c.offer_context-is_seen.ensures.sees in
+    let sees = (told _ _ c.requires.kept.stands c.requires.context).0 c.if-is_seen.true in
+    let seen = rw c.requires.machine at c.offer_context-is_seen.ensures.seen in
+    let stands = seen _ _ c.requires.kept.stands c.requires.context c.if-is_seen.true in
     let below = below_met _ _ _ _ _ c.requires.note.1 c.meet.ensures.met.1 c.requires.below in
     rw (c.append.ensures.owner, c.meet.ensures.owner, c.fired-item.ensures)
     (trailed_firing g.J.Traced.contents c.args.account c.args.owner.now c.args.consumer.now c.requires.kept _ _ stands
@@ -39,10 +39,10 @@ returns-then-is_seen-clause-kept g c =
 
 pub returns-then-is_seen-clause-seen : goal.returns-then-is_seen-clause-seen
 returns-then-is_seen-clause-seen g c =
-    let told = rw c.requires.machine at c.offer_moment-is_seen.ensures.sees in
-    told _ _ c.requires.kept.stands c.requires.moment
+    let told = rw c.requires.machine at c.offer_context-is_seen.ensures.sees in
+    told _ _ c.requires.kept.stands c.requires.context
 
 pub returns-else-is_seen-clause-seen : goal.returns-else-is_seen-clause-seen
 returns-else-is_seen-clause-seen g c =
-    let told = rw c.requires.machine at c.offer_moment-is_seen.ensures.sees in
-    told _ _ c.requires.kept.stands c.requires.moment
+    let told = rw c.requires.machine at c.offer_context-is_seen.ensures.sees in
+    told _ _ c.requires.kept.stands c.requires.context

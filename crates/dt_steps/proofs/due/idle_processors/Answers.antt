@@ -8,7 +8,7 @@ pub loop-cpu-preserved : goal.loop-cpu-preserved
 loop-cpu-preserved c = record {
   count = search (arith, c.loop-cpu.invariant.count);
   idle = λ cpu.
-      subst (λ items. IfSome (slice_get items cpu) (λ looked. None ≡ looked.moment)) (sym c.in_ok-push.ensures.items)
-      (each_pushed (λ (looked : DueOffers). None ≡ looked.moment) c.loop-cpu.processors.items c.idle.result
+      subst (λ items. IfSome (slice_get items cpu) (λ looked. None ≡ looked.context)) (sym c.in_ok-push.ensures.items)
+      (each_pushed (λ (looked : DueOffers). None ≡ looked.context) c.loop-cpu.processors.items c.idle.result
       c.loop-cpu.invariant.idle c.idle.ensures cpu);
 }

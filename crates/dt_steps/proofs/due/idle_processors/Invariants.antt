@@ -5,5 +5,5 @@ use Rattle.dt_steps.proofs.due.idle_processors.Given as goal
 abbrev pub invariant-loop-cpu : goal.invariant-loop-cpu
 invariant-loop-cpu l = record {
   count : vec_len l.processors ≡ l._cpu;
-  idle : (cpu : ℕ) → IfSome (slice_get l.processors.items cpu) (λ looked. None ≡ looked.moment);
+  idle : (cpu : ℕ) → IfSome (slice_get l.processors.items cpu) (λ looked. None ≡ looked.context);
 }

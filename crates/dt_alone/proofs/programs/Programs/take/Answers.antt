@@ -6,7 +6,7 @@ use Rattle.std.proofs.lemmas.Bool.{eq-eqb, ne_eqb}
 use Rattle.std.proofs.lemmas.List.{take_all}
 use Rattle.dt_ecb.specs.Forms.{shapes_of}
 use Rattle.dt_lang.specs.Program.{form_of_clause}
-use Rattle.dt_machine.specs.Moment.{form_of_moment}
+use Rattle.dt_machine.specs.Context.{form_of_context}
 use Rattle.dt_alone.specs.Happened.{AddsTakings}
 use Rattle.dt_alone.specs.declared.happened.Happened.{Happened}
 use Rattle.dt_alone.proofs.Bringing.{adds_both}
@@ -15,15 +15,15 @@ use Rattle.dt_alone.proofs.Firing.{some_is, taken, taken_here, taken_other, take
 use Rattle.dt_life.specs.Following.{taking_by}
 use Rattle.dt_life.specs.Takings.{exit_of, first_exit}
 use Rattle.dt_alone.proofs.programs.Programs.take.Goals as goal
-use Rattle.dt_alone.proofs.programs.Programs.take.Goals.{then-ecb-moment+then-is_none+in_ok-status+then-in_end}
-use Rattle.dt_alone.proofs.programs.Programs.take.Goals.{then-ecb-moment+then-is_none+in_ok-status+else-in_end}
-use Rattle.dt_alone.proofs.programs.Programs.take.Goals.{else-ecb-moment}
-use Rattle.dt_alone.proofs.programs.Programs.take.Goals.{else-ecb-moment-via-then-ecb-moment+else-is_none}
-use Rattle.dt_alone.proofs.programs.Programs.take.Goals.{else-ecb-moment-via-else-ecb-moment}
+use Rattle.dt_alone.proofs.programs.Programs.take.Goals.{then-ecb-context+then-is_none+in_ok-status+then-in_end}
+use Rattle.dt_alone.proofs.programs.Programs.take.Goals.{then-ecb-context+then-is_none+in_ok-status+else-in_end}
+use Rattle.dt_alone.proofs.programs.Programs.take.Goals.{else-ecb-context}
+use Rattle.dt_alone.proofs.programs.Programs.take.Goals.{else-ecb-context-via-then-ecb-context+else-is_none}
+use Rattle.dt_alone.proofs.programs.Programs.take.Goals.{else-ecb-context-via-else-ecb-context}
 
 pub loop-ecb-preserved : goal.loop-ecb-preserved
 loop-ecb-preserved c =
-    let m = form_of_moment c.args.moment.now in
+    let m = form_of_context c.args.context.now in
     let cs = map form_of_clause c.args.self.now.clauses.items in
     let shapes = shapes_of c.args.self.now.shapes in
     let all = c.deref-ecb-items.result.now in
@@ -49,9 +49,9 @@ loop-ecb-preserved c =
     (adds_both shapes m.firing.cpu (taken c.args.in_end m cs (take i all)) (taking_by c.args.in_end m cs ecb ∷ [])
     old c.loop-ecb.happened.items l c.loop-ecb.invariant.adds one) in
     let held = c.loop-ecb.invariant in
-    elim c.if-ecb-moment.branch [
-      | then-ecb-moment+then-is_none+in_ok-status+then-in_end w ↦
-          let its = eq-eqb ecb.probe m.firing.probe w.if-ecb-moment.true in
+    elim c.if-ecb-context.branch [
+      | then-ecb-context+then-is_none+in_ok-status+then-in_end w ↦
+          let its = eq-eqb ecb.probe m.firing.probe w.if-ecb-context.true in
           let none = none_is c.loop-ecb.exit w.is_none.result w.is_none.ensures w.if-is_none.true in
           let is = ap (λ (v : Vec Happened). v.items) w.happened-is in
           record {
@@ -64,8 +64,8 @@ loop-ecb-preserved c =
                 ∙ ap (λ b. cond b None (exit_of (taking_by c.args.in_end m cs ecb))) w.if-in_end.true);
             few = omega (arith, ap length is, held.few, w.take_one.ensures.few);
           }
-      | then-ecb-moment+then-is_none+in_ok-status+else-in_end w ↦
-          let its = eq-eqb ecb.probe m.firing.probe w.if-ecb-moment.true in
+      | then-ecb-context+then-is_none+in_ok-status+else-in_end w ↦
+          let its = eq-eqb ecb.probe m.firing.probe w.if-ecb-context.true in
           let none = none_is c.loop-ecb.exit w.is_none.result w.is_none.ensures w.if-is_none.true in
           let is = ap (λ (v : Vec Happened). v.items) w.happened-is in
           record {
@@ -78,24 +78,24 @@ loop-ecb-preserved c =
                 ∙ ap (λ b. cond b None (exit_of (taking_by c.args.in_end m cs ecb))) w.if-in_end.false);
             few = omega (arith, ap length is, held.few, w.take_one.ensures.few);
           }
-      | else-ecb-moment w ↦
+      | else-ecb-context w ↦
           let is = ap (λ (v : Vec Happened). v.items) w.happened-is in
-          elim w.else-ecb-moment.branch [
-            | else-ecb-moment-via-then-ecb-moment+else-is_none w' ↦
+          elim w.else-ecb-context.branch [
+            | else-ecb-context-via-then-ecb-context+else-is_none w' ↦
                 let some = some_is c.loop-ecb.exit w'.is_none.result w'.is_none.ensures w'.if-is_none.false in
                 record {
                   adds = some_exit c.loop-ecb.exit _ some
-                      (λ z e. stays c.if-ecb-moment.happened.items
+                      (λ z e. stays c.if-ecb-context.happened.items
                       (taken_past c.args.in_end m cs all i ecb inside is_at z (sym held.exit ∙ e)) is);
                   exit = w.exit-is ∙ held.exit ∙ some_exit c.loop-ecb.exit _ some
                       (λ z e. sym (exited_past c.args.in_end m cs all i ecb inside is_at z
                       (sym held.exit ∙ e)));
                   few = omega (arith, ap length is, held.few);
                 }
-            | else-ecb-moment-via-else-ecb-moment w' ↦
-                let other = ne_eqb ecb.probe m.firing.probe w'.if-ecb-moment.false in
+            | else-ecb-context-via-else-ecb-context w' ↦
+                let other = ne_eqb ecb.probe m.firing.probe w'.if-ecb-context.false in
                 record {
-                  adds = stays c.if-ecb-moment.happened.items
+                  adds = stays c.if-ecb-context.happened.items
                       (taken_other c.args.in_end m cs all i ecb inside is_at other) is;
                   exit = w.exit-is ∙ held.exit
                       ∙ sym (exited_other c.args.in_end m cs all i ecb inside is_at other);
@@ -106,7 +106,7 @@ loop-ecb-preserved c =
 
 pub returns-clause-taken : goal.returns-clause-taken
 returns-clause-taken c =
-    let m = form_of_moment c.args.moment.now in
+    let m = form_of_context c.args.context.now in
     let cs = map form_of_clause c.args.self.now.clauses.items in
     let all : take c.loop-ecb.ecb-index c.deref-ecb-items.result.now ≡ c.args.self.now.ecbs.items =
     take_all c.loop-ecb.ecb-index c.deref-ecb-items.result.now (omega (arith, c.loop-ecb-test.false))
@@ -117,7 +117,7 @@ returns-clause-taken c =
 
 pub returns-clause-exit : goal.returns-clause-exit
 returns-clause-exit c = λ ordinary.
-    let m = form_of_moment c.args.moment.now in
+    let m = form_of_context c.args.context.now in
     let cs = map form_of_clause c.args.self.now.clauses.items in
     let all : take c.loop-ecb.ecb-index c.deref-ecb-items.result.now ≡ c.args.self.now.ecbs.items =
     take_all c.loop-ecb.ecb-index c.deref-ecb-items.result.now (omega (arith, c.loop-ecb-test.false))

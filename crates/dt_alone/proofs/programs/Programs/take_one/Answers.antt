@@ -5,7 +5,7 @@ use Rattle.dt_expr.specs.Scene.{SceneForm}
 use Rattle.dt_lang.specs.Program.{form_of_clause}
 use Rattle.dt_record.specs.Forms.{form_of_taken, outcome_of}
 use Rattle.dt_record.specs.Taking.{leaves, taking}
-use Rattle.dt_machine.specs.Moment.{form_of_moment}
+use Rattle.dt_machine.specs.Context.{form_of_context}
 use Rattle.dt_alone.specs.Happened.{AddsTakings}
 use Rattle.dt_alone.proofs.Bringing.{adds_left}
 use Rattle.dt_alone.proofs.Leaving.{left_given, outcome_is}
@@ -15,7 +15,7 @@ use Rattle.dt_alone.proofs.programs.Programs.take_one.Goals as goal
 
 pub returns-in_ok-push-in-Ok-Some-clause-taken : goal.returns-in_ok-push-in-Ok-Some-clause-taken
 returns-in_ok-push-in-Ok-Some-clause-taken c =
-    let m = form_of_moment c.args.moment.now in
+    let m = form_of_context c.args.context.now in
     let shapes = shapes_of c.args.self.now.shapes in
     let clauses = c.args.self.now.clauses.items in
     let clause = c.index-clause.result.now in

@@ -4,7 +4,7 @@ use Rattle.std.specs.Option.{option_copied}
 use Rattle.dt_alone.proofs.Running.{has_since, own_adds, told_firing}
 use Rattle.dt_life.specs.Takings.{ended, own_process}
 use Rattle.dt_life.specs.declared.phase.Phase.TheVariants as phases
-use Rattle.dt_life.specs.laws.Moments.{own_is}
+use Rattle.dt_life.specs.laws.Contexts.{own_is}
 use Rattle.dt_life.specs.declared.limits.TheConstants.{END}
 use Rattle.dt_alone.proofs.runner.Runner.fire_end.Goals as goal
 

@@ -7,7 +7,7 @@ use Rattle.dt_lang.specs.Program.{form_of_clause}
 use Rattle.dt_life.specs.Life.{ecbs_in, has_room, set_up}
 use Rattle.dt_life.specs.Placed.{AreEcbs}
 use Rattle.dt_life.specs.Takings.{began, own_process}
-use Rattle.dt_life.specs.laws.Moments.{own_is}
+use Rattle.dt_life.specs.laws.Contexts.{own_is}
 use Rattle.dt_alone.proofs.runner.Runner.go.Goals as goal
 
 pub returns : goal.returns

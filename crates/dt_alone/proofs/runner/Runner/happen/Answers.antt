@@ -1,6 +1,6 @@
 -- ECBs were taken, and tracing goes on or ends.
 use Rattle.std.proofs.Common.{Some, refl, sym, ap, ◌∙◌}
-use Rattle.dt_machine.specs.Moment.{form_of_moment}
+use Rattle.dt_machine.specs.Context.{form_of_context}
 use Rattle.dt_alone.proofs.Running.{ends_at, goes_on, has_since, never_none, never_some, took_exit}
 use Rattle.dt_alone.proofs.Running.{took_told}
 use Rattle.dt_life.specs.Life.{phase_of}
@@ -13,7 +13,7 @@ pub returns-in_ok-fire_end-clause-happens : goal.returns-in_ok-fire_end-clause-h
 returns-in_ok-fire_end-clause-happens c = λ account s event h fires at active counts.
     let registry = c.args.machine.now.registry in
     let old = c.args.self.now in
-    let m = form_of_moment c.args.moment.now in
+    let m = form_of_context c.args.context.now in
     let told = took_told account registry s event m old h fires at c.take.new.happened.items
     c.in_ok-exit.ensures.taken in
     let exits = took_exit account registry s event m old h fires at c.in_ok-exit.exit
@@ -35,7 +35,7 @@ pub returns-else-is_some-clause-happens : goal.returns-else-is_some-clause-happe
 returns-else-is_some-clause-happens c = λ account s event h fires at active counts.
     let registry = c.args.machine.now.registry in
     let old = c.args.self.now in
-    let m = form_of_moment c.args.moment.now in
+    let m = form_of_context c.args.context.now in
     let told = took_told account registry s event m old h fires at c.take.new.happened.items
     c.in_ok-exit.ensures.taken in
     let exits = took_exit account registry s event m old h fires at c.in_ok-exit.exit

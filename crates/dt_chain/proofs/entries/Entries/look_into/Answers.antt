@@ -14,8 +14,8 @@ use Rattle.dt_chain.proofs.entries.Entries.look_into.Goals as goal
 pub returns-clause-look : goal.returns-clause-look
 returns-clause-look c = λ writes at.
     let registry = c.args.machine.now.registry in
-    let m = c.in_ok-moment.moment in
-    let is = c.in_ok-moment.ensures.value in
+    let m = c.in_ok-context.context in
+    let is = c.in_ok-context.ensures.value in
     let lists = c.args.self.now.lists in
     let slot = λ (seat : ℕ). slice_index_or c.args.self.now.slots seat None in
     let F : Firing → Type 0 = λ f. IsLook registry writes f (life_at c.show_all.new.mask) in

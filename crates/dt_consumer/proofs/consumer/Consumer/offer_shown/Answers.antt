@@ -14,7 +14,7 @@ pub returns-clause-seen : goal.returns-clause-seen
 returns-clause-seen c = λ account life s is shown holds.
     let registry = c.args.machine.now.registry in
     let own = set_up account registry life in
-    let firing = c.args.moment.now.firing.now in
+    let firing = c.args.context.now.firing.now in
     let next = happens account registry own (seen firing) in
     let t = traced account registry own c.args.self.now s.keeps c.in-Some.tracing c.in-Some.is in
     let going = (c.if-not-wants.ensures.going refl).0 in
@@ -25,7 +25,7 @@ returns-clause-seen c = λ account life s is shown holds.
     → IsTracing a registry (happens a registry own (seen firing)) c.see.new.self)
     s.keeps.same_account
     (λ h. c.see.ensures.seen own firing h (ap (map form_of_clause) c.clauses.ensures.value ∙ s.keeps.clauses)
-    (names_its registry c.args.moment.now is)) in
+    (names_its registry c.args.context.now is)) in
     record {
       keeps = keeps_same account registry next _ _ (ap (λ b. cond b next own) active)
           (keeps_traced account registry c.args.self.now own next c.args.self.now.lines c.see.new.self s.keeps
@@ -38,22 +38,22 @@ pub returns-then-not-wants-clause-sees : goal.returns-then-not-wants-clause-sees
 returns-then-not-wants-clause-sees c = λ account life s is shown.
     let registry = c.args.machine.now.registry in
     let own = set_up account registry life in
-    let moment = c.args.moment.now in
+    let context = c.args.context.now in
     let t = traced account registry own c.args.self.now s.keeps c.in-Some.tracing c.in-Some.is in (
       λ no. cc,
       λ sees. absurd (sees.named (c.wants.ensures.unnamed account registry own t c.if-not-wants.true
-          (seen_runs account registry life moment is c.in-Some.tracing t sees)
-          (omega (arith, seen_cpu account registry life moment is c.in-Some.tracing t sees))
-          (omega (arith, seen_probe account registry life moment is c.in-Some.tracing t)))),
+          (seen_runs account registry life context is c.in-Some.tracing t sees)
+          (omega (arith, seen_cpu account registry life context is c.in-Some.tracing t sees))
+          (omega (arith, seen_probe account registry life context is c.in-Some.tracing t)))),
     )
 
 pub returns-clause-sees : goal.returns-clause-sees
 returns-clause-sees c = λ account life s is shown.
     let registry = c.args.machine.now.registry in
     let own = set_up account registry life in
-    let moment = c.args.moment.now in
+    let context = c.args.context.now in
     let t = traced account registry own c.args.self.now s.keeps c.in-Some.tracing c.in-Some.is in (
-      λ yes. sees_its account registry life moment is c.in-Some.tracing t (c.if-not-wants.ensures.going refl).0
+      λ yes. sees_its account registry life context is c.in-Some.tracing t (c.if-not-wants.ensures.going refl).0
           (c.if-not-wants.ensures.named account registry own t refl) shown,
       λ sees. refl,
     )

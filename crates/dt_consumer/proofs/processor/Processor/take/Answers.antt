@@ -7,7 +7,7 @@ use Rattle.dt_aggstore.specs.IsAt.{IsAt}
 use Rattle.dt_life.specs.Aggregations.{contributions}
 use Rattle.dt_life.specs.Uses.{given_then}
 use Rattle.dt_life.specs.Buffers.{attempts_of}
-use Rattle.dt_machine.specs.Moment.{form_of_moment}
+use Rattle.dt_machine.specs.Context.{form_of_context}
 use Rattle.dt_life.specs.Following.{followed_by, taking_by}
 use Rattle.dt_consumer.specs.Keeps.{HasTaken}
 use Rattle.dt_life.specs.Takings.{faults, first_exit, through_exit}
@@ -19,7 +19,7 @@ use Rattle.dt_consumer.proofs.processor.Processor.take.Goals as goal
 
 pub returns-then-is_some-clause-taken : goal.returns-then-is_some-clause-taken
 returns-then-is_some-clause-taken c = λ past errors last h.
-    let m = form_of_moment c.args.moment.now in
+    let m = form_of_context c.args.context.now in
     let forms = map form_of_clause c.args.enabled.now.clauses.now in
     let f = taking_by false m forms in
     let row = c.deref-ecb-items.result.now in
@@ -35,7 +35,7 @@ returns-then-is_some-clause-taken c = λ past errors last h.
 
 pub returns-then-is_some-clause-exit : goal.returns-then-is_some-clause-exit
 returns-then-is_some-clause-exit c =
-    let f = taking_by false (form_of_moment c.args.moment.now) (map form_of_clause c.args.enabled.now.clauses.now) in
+    let f = taking_by false (form_of_context c.args.context.now) (map form_of_clause c.args.enabled.now.clauses.now) in
     let row = c.deref-ecb-items.result.now in
     let P : List Ecb → Type 0 = λ es. c.take_one-exit.result ≡ first_exit (map f es) in
     subst P c.deref-ecb-items.ensures.value
@@ -48,7 +48,7 @@ returns-then-is_some-clause-exit c =
 pub loop-ecb-preserved : goal.loop-ecb-preserved
 loop-ecb-preserved c = record {
   taken = λ past errors last h.
-      let m = form_of_moment c.args.moment.now in
+      let m = form_of_context c.args.context.now in
       let forms = map form_of_clause c.args.enabled.now.clauses.now in
       let row = c.deref-ecb-items.result.now in
       took_more (taking_by false m forms) row c.loop-ecb.ecb-index c.ecb-item.result past errors _
@@ -57,7 +57,7 @@ loop-ecb-preserved c = record {
       (still_last past _ (none_of_end m forms (take c.loop-ecb.ecb-index row)) last)
       (c.loop-ecb.invariant.taken past errors last h));
   stays =
-      stays_more (taking_by false (form_of_moment c.args.moment.now) (map form_of_clause c.args.enabled.now.clauses.now))
+      stays_more (taking_by false (form_of_context c.args.context.now) (map form_of_clause c.args.enabled.now.clauses.now))
       c.deref-ecb-items.result.now c.loop-ecb.ecb-index c.ecb-item.result c.loop-ecb-test.true c.ecb-item.is
       c.loop-ecb.invariant.stays
       (subst (λ o. is_some o ≡ false)
@@ -68,7 +68,7 @@ loop-ecb-preserved c = record {
     omega (arith, c.loop-ecb.invariant.counts.1, c.take_one-exit.ensures.counts.1),
   );
   given = λ shapes are past h.
-      gave_more shapes (taking_by false (form_of_moment c.args.moment.now) (map form_of_clause c.args.enabled.now.clauses.now))
+      gave_more shapes (taking_by false (form_of_context c.args.context.now) (map form_of_clause c.args.enabled.now.clauses.now))
       c.deref-ecb-items.result.now c.loop-ecb.ecb-index c.ecb-item.result past _ c.loop-ecb-test.true c.ecb-item.is
       (c.take_one-exit.ensures.given shapes are _
       (c.loop-ecb.invariant.given shapes are past h));
@@ -77,7 +77,7 @@ loop-ecb-preserved c = record {
 
 pub returns-clause-taken : goal.returns-clause-taken
 returns-clause-taken c = λ past errors last h.
-    let f = taking_by false (form_of_moment c.args.moment.now) (map form_of_clause c.args.enabled.now.clauses.now) in
+    let f = taking_by false (form_of_context c.args.context.now) (map form_of_clause c.args.enabled.now.clauses.now) in
     let P : List Ecb → Type 0 = λ es. HasTaken (followed_by past (attempts_of (through_exit (map f es)))) (errors + faults (through_exit (map f es)))
     c.loop-ecb.self in
     subst P c.deref-ecb-items.ensures.value
@@ -86,7 +86,7 @@ returns-clause-taken c = λ past errors last h.
 
 pub returns-then-is_some-clause-given : goal.returns-then-is_some-clause-given
 returns-then-is_some-clause-given c = λ shapes are past h.
-    let f = taking_by false (form_of_moment c.args.moment.now) (map form_of_clause c.args.enabled.now.clauses.now) in
+    let f = taking_by false (form_of_context c.args.context.now) (map form_of_clause c.args.enabled.now.clauses.now) in
     let row = c.deref-ecb-items.result.now in
     let P : List Ecb → Type 0 = λ es. IsAt (given_then past (contributions shapes (through_exit (map f es)))) c.take_one-exit.new.store in
     subst P c.deref-ecb-items.ensures.value
@@ -97,7 +97,7 @@ returns-then-is_some-clause-given c = λ shapes are past h.
 
 pub returns-clause-given : goal.returns-clause-given
 returns-clause-given c = λ shapes are past h.
-    let f = taking_by false (form_of_moment c.args.moment.now) (map form_of_clause c.args.enabled.now.clauses.now) in
+    let f = taking_by false (form_of_context c.args.context.now) (map form_of_clause c.args.enabled.now.clauses.now) in
     let P : List Ecb → Type 0 = λ es. IsAt (given_then past (contributions shapes (through_exit (map f es)))) c.loop-ecb.store in
     subst P c.deref-ecb-items.ensures.value
     (gave_through shapes f c.deref-ecb-items.result.now c.loop-ecb.ecb-index past _ (omega arith)

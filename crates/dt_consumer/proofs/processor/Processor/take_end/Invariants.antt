@@ -11,7 +11,7 @@ use Rattle.dt_buffer.specs.History.{BufferPast}
 use Rattle.dt_lang.specs.Program.{form_of_clause}
 use Rattle.dt_life.specs.Buffers.{attempts_of}
 use Rattle.dt_consumer.specs.Counts.{AtMostMore}
-use Rattle.dt_machine.specs.Moment.{form_of_moment}
+use Rattle.dt_machine.specs.Context.{form_of_context}
 use Rattle.dt_life.specs.Following.{followed_by, taking_by}
 use Rattle.dt_consumer.specs.Keeps.{HasTaken}
 use Rattle.dt_life.specs.Takings.{faults}
@@ -20,7 +20,7 @@ use Rattle.dt_consumer.proofs.processor.Processor.take_end.Given as goal
 abbrev pub invariant-loop-ecb : goal.invariant-loop-ecb
 invariant-loop-ecb l = record {
   taken :
-      let new = map (taking_by true (form_of_moment l.moment) (map form_of_clause l.enabled.clauses.now))
+      let new = map (taking_by true (form_of_context l.context) (map form_of_clause l.enabled.clauses.now))
       (take l.ecb-index l.ecb-items) in
       (past : BufferPast) (errors : ℕ)
       → HasTaken past errors l.fn.self
@@ -29,7 +29,7 @@ invariant-loop-ecb l = record {
   given : (shapes : List ShapeForm) → AreUses shapes (map form_of_clause l.enabled.clauses.now) l.enabled.uses.now
       → (past : stores.Past) → IsAt past l.fn.store
       → IsAt (given_then past (contributions shapes
-      (map (taking_by true (form_of_moment l.moment) (map form_of_clause l.enabled.clauses.now)) (take l.ecb-index l.ecb-items))))
+      (map (taking_by true (form_of_context l.context) (map form_of_clause l.enabled.clauses.now)) (take l.ecb-index l.ecb-items))))
       l.store;
   gives : added_of l.store ≤ added_of l.fn.store + STATEMENTS_MAX * l.ecb-index;
 }

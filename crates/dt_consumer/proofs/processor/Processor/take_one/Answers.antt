@@ -7,7 +7,7 @@ use Rattle.dt_program.specs.declared.clause.Clause.{Clause}
 use Rattle.dt_record.specs.Forms.{form_of_taken}
 use Rattle.dt_record.specs.Taking.{leaves, passed_over, taking}
 use Rattle.dt_life.specs.Takings.{scene_at}
-use Rattle.dt_machine.specs.Moment.{form_of_moment}
+use Rattle.dt_machine.specs.Context.{form_of_context}
 use Rattle.dt_record.specs.declared.parts.Taken.{Taken}
 use Rattle.dt_consumer.specs.Uses.{form_of_uses}
 use Rattle.dt_consumer.specs.declared.uses.Uses.{Uses}
@@ -19,7 +19,7 @@ use Rattle.dt_consumer.proofs.processor.Processor.take_one.Goals.{in-Some, in_de
 
 pub returns-after-left-clause-given : goal.returns-after-left-clause-given
 returns-after-left-clause-given c = λ shapes are past h.
-    let m = form_of_moment c.args.moment.now in
+    let m = form_of_context c.args.context.now in
     let clauses = c.args.enabled.now.clauses.now in
     let clause = c.index-enabled-ecb.result in
     let u = c.index-enabled-ecb-in-Ok-true.result in

@@ -4,7 +4,7 @@ use Rattle.std.specs.Option.{option_copied}
 use Rattle.dt_life.specs.declared.limits.TheConstants.{END}
 use Rattle.dt_life.specs.laws.Stores.{gave_there}
 use Rattle.dt_consumer.proofs.Taken.{took_there}
-use Rattle.dt_life.specs.laws.Moments.{own_is}
+use Rattle.dt_life.specs.laws.Contexts.{own_is}
 use Rattle.dt_life.specs.laws.Options.{some_and}
 use Rattle.dt_consumer.proofs.processors.Processors.fire_end.Goals as goal
 

@@ -14,12 +14,12 @@ use Rattle.dt_consumer.specs.Placing.{IsPlaced}
 use Rattle.dt_consumer.specs.Uses.{AreUses}
 use Rattle.dt_consumer.proofs.Giving.{uses_long}
 use Rattle.dt_life.specs.Takings.{began}
-use Rattle.dt_machine.specs.Moment.{MomentForm}
+use Rattle.dt_machine.specs.Context.{ContextForm}
 use Rattle.dt_life.specs.declared.limits.TheConstants.{BEGIN}
 use Rattle.dt_consumer.proofs.Counted.{no_more, none_more}
 use Rattle.dt_consumer.proofs.Stores.{fired_at}
 use Rattle.dt_life.specs.laws.Stores.{new_given}
-use Rattle.dt_life.specs.laws.Moments.{own_is}
+use Rattle.dt_life.specs.laws.Contexts.{own_is}
 use Rattle.dt_consumer.proofs.Tracings.{ListOf, new_taken, list_at, lists_kept, lists_placed, placed_at, two_there}
 use Rattle.dt_consumer.proofs.tracing.Tracing.begun.Goals as goal
 
@@ -52,7 +52,7 @@ returns-clause-fired c = λ s same own kept shaped room.
     let account = c.args.account.now in
     let registry = c.args.machine.now.registry in
     let fresh = since_then s [] in
-    let m : MomentForm = record {
+    let m : ContextForm = record {
       probe = c.unwrap.result.now;
       process = c.own_process.result;
       firing = c.own_firing.result;

@@ -1,6 +1,6 @@
 -- A firing was seen, and perhaps it was the last.
 use Rattle.std.proofs.Common.{◌≡◌, ◌+◌, ◌*◌, ◌≤◌, ◌==◌, ℕ, refl, sym, ap, ◌∙◌, subst, arith}
-use Rattle.dt_machine.specs.Moment.{form_of_moment}
+use Rattle.dt_machine.specs.Context.{form_of_context}
 use Rattle.dt_consumer.specs.Keeps.{phase_by}
 use Rattle.dt_life.specs.Life.{shapes_in, with_event}
 use Rattle.dt_life.specs.Takings.{seen}
@@ -24,7 +24,7 @@ pub returns-in-Some-clause-seen : goal.returns-in-Some-clause-seen
 returns-in-Some-clause-seen c = λ s firing t own at.
     let account = c.args.account.now in
     let registry = c.args.machine.now.registry in
-    let m = form_of_moment c.args.moment.now in
+    let m = form_of_context c.args.context.now in
     let list = c.index-list.result.now in
     let fired = fired_at account registry s (seen firing) m list c.args.clauses.now c.deref.result.now
     c.args.self.now.processors c.take-exit.new.self c.take-exit.result tt at refl own
@@ -63,7 +63,7 @@ pub returns-in_default-clause-seen : goal.returns-in_default-clause-seen
 returns-in_default-clause-seen c = λ s firing t own at.
     let account = c.args.account.now in
     let registry = c.args.machine.now.registry in
-    let m = form_of_moment c.args.moment.now in
+    let m = form_of_context c.args.context.now in
     let list = c.index-list.result.now in
     let fired = fired_at account registry s (seen firing) m list c.args.clauses.now c.deref.result.now
     c.args.self.now.processors c.take-exit.new.self c.take-exit.result tt at refl own

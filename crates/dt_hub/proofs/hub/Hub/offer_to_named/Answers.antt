@@ -10,7 +10,7 @@ use Rattle.dt_hub.proofs.hub.Hub.offer_to_named.Goals as goal
 pub seats-preserved : goal.seats-preserved
 seats-preserved g c =
     let contents = g.J.Traced.contents in
-    let firing = c.args.moment.now.firing.now in
+    let firing = c.args.context.now.firing.now in
     let mask = c.args.mask.now in
     let start = c.args.followers.now.items in
     let n = c.number-at.result in
@@ -49,7 +49,7 @@ seats-preserved g c =
 
 pub returns-clause-seats : goal.returns-clause-seats
 returns-clause-seats g c =
-    let firing = c.args.moment.now.firing.now in
+    let firing = c.args.context.now.firing.now in
     let inv = c.seats.invariant in
     all_at_next firing.cpu firing.place c.seats.next c.args.followers.now.items c.seats.followers.items inv.many c.requires.seats inv.rest
     inv.at_below

@@ -9,7 +9,7 @@ use Rattle.dt_hub.specs.Processors.{IsAtSeat}
 use Rattle.dt_hub.proofs.hub.Hub.offer_to_named.Given as goal
 
 abbrev pub invariant-seats : goal.invariant-seats
-invariant-seats g l = let firing = l.moment.firing.now in record {
+invariant-seats g l = let firing = l.context.firing.now in record {
   low : l.next ≤ seat_count;
   left_below : (seat : ℕ) → seat < l.next → has l.left seat ≡ false;
   left_from : (seat : ℕ) → l.next ≤ seat → has l.left seat ≡ is_some (life_at l.mask seat);

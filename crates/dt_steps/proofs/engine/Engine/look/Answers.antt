@@ -15,7 +15,7 @@ returns-clause-at c = λ world at.
           c.args.self.now.processors.items at.0 at.1 c.args.cpu c.args.firing.now c.look.new.self
           (eq-eqb c.args.firing.now.cpu c.args.cpu c.if-firing-cpu.false)
           (sym (c.is_done.ensures.done registry world at) ∙ done)
-          (c.look.ensures.look world.writes at.1.published) c.look.ensures.owes c.look.ensures.moment,
+          (c.look.ensures.look world.writes at.1.published) c.look.ensures.owes c.look.ensures.context,
     )
 
 pub returns-clause-answer : goal.returns-clause-answer
@@ -26,7 +26,7 @@ returns-clause-answer c = λ world at.
     c.args.self.now.processors.items at.0 at.1 c.args.cpu c.args.firing.now c.look.new.self c.look.result
     (eq-eqb c.args.firing.now.cpu c.args.cpu c.if-firing-cpu.false)
     (sym (c.is_done.ensures.done registry world at) ∙ done)
-    (c.look.ensures.look world.writes at.1.published) c.look.ensures.owes c.look.ensures.moment c.look.ensures.named
+    (c.look.ensures.look world.writes at.1.published) c.look.ensures.owes c.look.ensures.context c.look.ensures.named
 
 pub returns-then-firing-cpu-clause-answer : goal.returns-then-firing-cpu-clause-answer
 returns-then-firing-cpu-clause-answer c = λ world at.

@@ -34,9 +34,9 @@ returns c = λ world at.
     let low : c.args.cpu < length processors = omega (arith, long, c.len.ensures, c.if-cpu-len.false) in
     let is : slice_get processors c.args.cpu ≡ Some before =
     slice_get-get_or processors c.args.cpu before low ∙ ap Some (sym c.index_mut-due.ensures.value) in
-    let due : DueOffer = record { life = c.in_ok-life.life; firing = c.in_ok-life.moment.firing.now } in
+    let due : DueOffer = record { life = c.in_ok-life.life; firing = c.in_ok-life.context.firing.now } in
     let owes : due_of before c.args.seat ≡ Some due = c.in_ok-life.ensures.offer in
-    let lent = lent-looked registry world seats publications processors at.0 at.1 c.args.cpu before c.in_ok-life.moment is
+    let lent = lent-looked registry world seats publications processors at.0 at.1 c.args.cpu before c.in_ok-life.context is
     c.in_ok-life.ensures.lent in
     let shown : IsDueToShown registry (world.places c.args.seat) due =
     shown-due registry world seats publications processors at.0 at.1 c.args.cpu c.args.seat before due is owes in
@@ -47,7 +47,7 @@ returns c = λ world at.
         sound-offering registry world at.0 c.args.cpu c.args.seat,
         kept-offering registry world seats publications processors at.0 at.1 c.args.cpu c.number.result c.args.seat
             c.index_mut-place.result.now c.deliver.new.self before c.take.new.self due found is owes
-            c.in_ok-life.ensures.taken c.in_ok-life.ensures.moment
+            c.in_ok-life.ensures.taken c.in_ok-life.ensures.context
             (λ held. c.deliver.ensures.reached (world.places c.args.seat) held lent shown),
       ),
       c.then_some.ensures ∙ place_if c.deliver.result due.firing ∙ sym (ap (option_map place_of) seen),

@@ -7,21 +7,21 @@ use dt_cred::{Account, Firing, Probe, Process, admits};
 
 /// A probe that fires in a process: a firing, with the probe and the process that it names.
 ///
-/// [`Machine::moment`](crate::Machine::moment) looks both up once, and lends them to all that the firing is offered to.
+/// [`Machine::context`](crate::Machine::context) looks both up once, and lends them to all that the firing is offered to.
 #[derive(Clone, Copy)]
-pub struct Moment<'a> {
+pub struct Context<'a> {
     pub probe: &'a Probe,
     pub process: &'a Process,
     pub firing: &'a Firing,
 }
 
-impl Moment<'_> {
-    ghost use Rattle.dt_machine.specs.Moment.{IsMoment};
+impl Context<'_> {
+    ghost use Rattle.dt_machine.specs.Context.{IsContext};
 
     /// Whether an account is shown the firing: an enabled probe also fires where its account may not look, in the processes of
     /// others and in kernel mode.
     pub fn is_shown(&self, account: &Account) -> bool
-        ensures { (registry : Registry) → IsMoment registry self.now
+        ensures { (registry : Registry) → IsContext registry self.now
             → result ≡ is_shown_in account.now registry self.now.firing.now }
     {
         admits(account, self.probe, self.firing.mode, self.process)

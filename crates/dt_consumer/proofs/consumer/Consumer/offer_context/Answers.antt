@@ -6,7 +6,7 @@ use Rattle.dt_cred.specs.declared.firing.Firing.{Firing}
 use Rattle.dt_machine.specs.Registry.{Registry}
 use Rattle.dt_machine.specs.Tests.{is_shown}
 use Rattle.dt_machine.specs.laws.Tests.{shown_from, shown_to}
-use Rattle.dt_consumer.proofs.consumer.Consumer.offer_moment.Goals as goal
+use Rattle.dt_consumer.proofs.consumer.Consumer.offer_context.Goals as goal
 
 -- what the consumer's own account is shown is what its life's account is
 told : (own account : Account) (registry : Registry) (firing : Firing) (answer shown : Bool) → own ≡ account
@@ -17,7 +17,7 @@ told own account registry firing answer shown same asked is =
 pub returns-then-is_shown-clause-sees : goal.returns-then-is_shown-clause-sees
 returns-then-is_shown-clause-sees c = λ account life s is.
     let registry = c.args.machine.now.registry in
-    let firing = c.args.moment.now.firing.now in
+    let firing = c.args.context.now.firing.now in
     c.offer_shown.ensures.sees account life s is (shown_from account registry firing
     (told c.args.self.now.account account registry firing c.is_shown.result true s.keeps.same_account
     (c.is_shown.ensures registry is) c.if-is_shown.true))
@@ -25,7 +25,7 @@ returns-then-is_shown-clause-sees c = λ account life s is.
 pub returns-then-is_shown-clause-seen : goal.returns-then-is_shown-clause-seen
 returns-then-is_shown-clause-seen c = λ account life s is.
     let registry = c.args.machine.now.registry in
-    let firing = c.args.moment.now.firing.now in
+    let firing = c.args.context.now.firing.now in
     c.offer_shown.ensures.seen account life s is (shown_from account registry firing
     (told c.args.self.now.account account registry firing c.is_shown.result true s.keeps.same_account
     (c.is_shown.ensures registry is) c.if-is_shown.true))
@@ -33,7 +33,7 @@ returns-then-is_shown-clause-seen c = λ account life s is.
 pub returns-else-is_shown-clause-sees : goal.returns-else-is_shown-clause-sees
 returns-else-is_shown-clause-sees c = λ account life s is.
     let registry = c.args.machine.now.registry in
-    let firing = c.args.moment.now.firing.now in
+    let firing = c.args.context.now.firing.now in
     let unshown = told c.args.self.now.account account registry firing c.is_shown.result false s.keeps.same_account
     (c.is_shown.ensures registry is) c.if-is_shown.false in (
       λ yes. absurd (both_ways c.is_shown.result c.if-is_shown.false yes),

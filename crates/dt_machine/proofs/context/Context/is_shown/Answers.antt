@@ -4,7 +4,7 @@ use Rattle.std.specs.Option.{option_map_or}
 use Rattle.dt_cred.specs.Rights.{admits}
 use Rattle.dt_machine.specs.Registry.{process_of}
 use Rattle.dt_machine.specs.Tests.{is_shown}
-use Rattle.dt_machine.proofs.moment.Moment.is_shown.Goals as goal
+use Rattle.dt_machine.proofs.context.Context.is_shown.Goals as goal
 
 pub returns : goal.returns
 unfolding is_shown
