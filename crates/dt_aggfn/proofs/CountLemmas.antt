@@ -4,7 +4,7 @@ use Rattle.std.proofs.Common.{replicate, sym, ap, subst, ◌∙◌, ⊎_elim, ar
 use Rattle.std.specs.Prelude.{count_by}
 use Rattle.std.proofs.lemmas.Bool.{cases_eq, eq-eqb, ne_eqb}
 use Rattle.std.proofs.lemmas.List.{get_or-map, length-map, get_or-set_same, get_or-set_other, length-set}
-use Rattle.std.proofs.lemmas.List.{get_or-replicate, length-replicate}
+use Rattle.std.proofs.lemmas.List.{get_or-replicate, length-replicate, get_or_append_left, set-append_left}
 use Rattle.std.proofs.lemmas.Grind.{same_number_lists}
 use Rattle.std.proofs.lemmas.List.Sums.{sum_by_push, sum_by-append, count_by-le-length}
 use Rattle.dt_aggfn.specs.Rows.{CountingRow, zero_row, counts_of, IsRowOf}
@@ -74,6 +74,20 @@ counts_more rows bag z index of small =
     let other = get_or-set_other (counts_of rows bag) index k new 0 ne in
     omega arith)
     (cases_eq k index))
+
+-- the same where other words come after the counts
+pub more_before : (rows : List CountingRow) (bag : List ℤ) (z : ℤ) (index : ℕ) (rest : List ℕ) → IsRowOf rows z index
+    → length bag + 1 < 2 ^ 64
+    → set (counts_of rows bag ++ rest) index ((get_or (counts_of rows bag ++ rest) index 0 + 1) % 2 ^ 64)
+    ≡ counts_of rows (bag ++ z ∷ []) ++ rest
+more_before rows bag z index rest of small =
+    let counts = counts_of rows bag in
+    let within : index < length rows = of.within in
+    let long = length_counts rows bag in
+    let here : index < length counts = omega arith in
+    ap (λ n. set (counts ++ rest) index ((n + 1) % 2 ^ 64)) (get_or_append_left counts rest 0 index here)
+    ∙ set-append_left counts rest index ((get_or counts index 0 + 1) % 2 ^ 64) here
+    ∙ ap (λ words. words ++ rest) (counts_more rows bag z index of small)
 
 -- no value
 pub counts_none : (rows : List CountingRow) → counts_of rows [] ≡ replicate (length rows) 0

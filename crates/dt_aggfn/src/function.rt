@@ -1,5 +1,5 @@
 //! The aggregating functions, over cells.
-ghost use Rattle.std.specs.Prelude.{◌≡◌, ◌^◌, ◌<◌, ◌≤◌, List, [], ◌∷◌, ◌++◌, length, map, ℤ, pos, int_div, IfOk};
+ghost use Rattle.std.specs.Prelude.{◌≡◌, ◌^◌, ◌<◌, ◌≤◌, List, [], ◌∷◌, ◌++◌, length, map, ℕ, ℤ, pos, int_div, IfOk};
 
 use crate::answer::{CellAnswer, CountedRow};
 use crate::levels::Bounds;
@@ -69,24 +69,25 @@ impl AggFn {
         }
     }
 
-    /// Adds a value to the bag of a cell, which has fewer than [`BAG_LIMIT`] values.
-    pub fn add(self, cell: &mut [u64], value: i64)
-        requires { length cell.old ≡ cell_words self }
-        ensures cell { (bag : List ℤ) → IsBag bag → cell.old ≡ cell_of self bag
-            → cell.new ≡ cell_of self (bag ++ value ∷ []) }
-        ensures len { length cell.new ≡ length cell.old }
+    /// Adds a value to the bag of the cell with which words begin. The cell has fewer than [`BAG_LIMIT`] values, and the
+    /// words after it stay as they are. So in a pool a cell is found by its place alone, and its words aren't counted.
+    pub fn add(self, words: &mut [u64], value: i64)
+        requires { cell_words self ≤ length words.old }
+        ensures cell { (bag : List ℤ) (rest : List ℕ) → IsBag bag → words.old ≡ cell_of self bag ++ rest
+            → words.new ≡ cell_of self (bag ++ value ∷ []) ++ rest }
+        ensures len { length words.new ≡ length words.old }
     {
         match self {
-            AggFn::Count => count_at(cell, 0),
-            AggFn::Sum => cell[0] = cell[0].wrapping_add(value.cast_unsigned()),
+            AggFn::Count => count_at(words, 0),
+            AggFn::Sum => words[0] = words[0].wrapping_add(value.cast_unsigned()),
             AggFn::Avg => {
-                count_at(cell, 0);
-                cell[1] = cell[1].wrapping_add(value.cast_unsigned());
+                count_at(words, 0);
+                words[1] = words[1].wrapping_add(value.cast_unsigned());
             }
-            AggFn::Min => cell[0] = cell[0].cast_signed().min(value).cast_unsigned(),
-            AggFn::Max => cell[0] = cell[0].cast_signed().max(value).cast_unsigned(),
-            AggFn::Quantize => count_at(cell, powers::row_of(value)),
-            AggFn::Lquantize(bounds) => count_at(cell, bounds.row_of(value)),
+            AggFn::Min => words[0] = words[0].cast_signed().min(value).cast_unsigned(),
+            AggFn::Max => words[0] = words[0].cast_signed().max(value).cast_unsigned(),
+            AggFn::Quantize => count_at(words, powers::row_of(value)),
+            AggFn::Lquantize(bounds) => count_at(words, bounds.row_of(value)),
         }
     }
 
@@ -161,8 +162,6 @@ impl AggFn {
 fn average(count: u64, sum: i64) -> i64
     ensures { 0 < count → count < 2 ^ 63 → result ≡ int_div sum (pos count) }
 {
-    match i64::try_from(count) {
-        Ok(count) => sum.checked_div(count).unwrap_or(0),
-        Err(_) => 0,
-    }
+    // a bag has some values, but words that are no bag's cell may begin with 0
+    sum.wrapping_div(count.max(1).cast_signed())
 }

@@ -185,12 +185,6 @@ module _ (entry : Entry) where
       (Contains (entries_named items) entry → ⊥)
   none_found items = absent items _ (missing_from 0 items)
 
--- what is found where another way to find it found that
-pub found_so : (P : ℕ → Type 0) (found other : Option ℕ) → IfSome other (λ place. found ≡ Some place)
-    → IfSome found P → IfSome other P
-found_so P found None same h = tt
-found_so P found (Some place) same h = subst (λ f. IfSome f P) same h
-
 pub not_some : (P : Type 0) (found : Option ℕ) → is_some found ≡ false → IfNone found P → P
 not_some P None lacks p = p
 not_some P (Some place) lacks p = absurd (true≢false lacks)

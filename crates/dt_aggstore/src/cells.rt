@@ -15,7 +15,8 @@ pub(crate) fn add_at(function: AggFn, cells: &mut [u64], place: usize, value: i6
         → cells.new ≡ take place cells.old ++ cell_of function (bag ++ value ∷ [])
         ++ drop (place + cell_words function) cells.old }
 {
-    function.add(&mut cells[place..place + function.cell_words()], value);
+    // how many words the cell has needn't be known, which would take an `lquantize` a division
+    function.add(&mut cells[place..], value);
 }
 
 /// The cell of so many words at a place.

@@ -1,5 +1,5 @@
 //! The entries of a store, found by their aggregation and key.
-ghost use Rattle.std.specs.Prelude.{◌≡◌, ◌+◌, ◌<◌, ◌≤◌, [], ◌∷◌, ◌++◌, length, zip, IfOk, IfSome, IfNone, Some, Contains};
+ghost use Rattle.std.specs.Prelude.{◌≡◌, ◌+◌, ◌<◌, ◌≤◌, [], ◌∷◌, ◌++◌, length, zip, IfOk, IfErr, OnErr, IfSome, Some, Contains};
 ghost use Rattle.std.specs.List.{IsDistinct};
 ghost use Rattle.std.specs.Map.{lookup};
 ghost use Rattle.indexmap.specs.IndexMap.{keys, values, index_map_len, spare, IsEmpty};
@@ -56,22 +56,32 @@ impl EntryIndex {
         })
     }
 
-    /// The place of the cell of the entry of an aggregation and a key, if it is among them.
-    pub(crate) fn place_of(&mut self, aggregation: Aggregation, key: &Key) -> Option<usize>
+    /// The place of the cell of the entry of an aggregation and a key. `Err`: it isn't among them, and this is its name,
+    /// so that to put it no other is made.
+    pub(crate) fn place_of(
+        &mut self,
+        aggregation: Aggregation,
+        key: &Key,
+    ) -> Result<usize, EntryName>
         requires { self.old.places ≡ places_from 0 (entries_named self.old.items) }
         ensures same { self.new ≡ self.old }
-        ensures found { IfSome result (LiesAt (entries_named self.old.items) (entry_of aggregation key.now.parts.items)) }
-        ensures none { IfNone result (Contains (entries_named self.old.items) (entry_of aggregation key.now.parts.items) → ⊥) }
+        ensures found { IfOk result (LiesAt (entries_named self.old.items) (entry_of aggregation key.now.parts.items)) }
+        ensures name { IfErr result (λ name. entry_named name ≡ entry_of aggregation key.now.parts.items) }
+        ensures none { OnErr result (Contains (entries_named self.old.items) (entry_of aggregation key.now.parts.items) → ⊥) }
     {
         let number = aggregation.number % RECENT_MAX;
-        let place = recent_place(&self.index, self.recent[number], aggregation, key);
-        // mostly the entry that was found last is meant again, and then no name is hashed
-        if place.is_some() {
-            return place;
+        // mostly the entry that was found last is meant again, and then no name is made and hashed
+        if let Some(place) = recent_place(&self.index, self.recent[number], aggregation, key) {
+            return Ok(place);
         }
-        let recent = self.index.get_index_of(&EntryName::of(aggregation, key))?;
-        self.recent[number] = recent;
-        Some(self.index[recent])
+        let name = EntryName::of(aggregation, key);
+        match self.index.get_index_of(&name) {
+            Some(recent) => {
+                self.recent[number] = recent;
+                Ok(self.index[recent])
+            }
+            None => Err(name),
+        }
     }
 
     /// Puts an entry that isn't among them at the end.

@@ -80,11 +80,11 @@ impl AggStore {
         cell_length();
         self.added += 1;
         match self.entries.place_of(aggregation, key) {
-            Some(place) => {
+            Ok(place) => {
                 add_at(aggregation.function, &mut self.cells, place, value);
                 true
             }
-            None => self.insert(EntryName::of(aggregation, key), value),
+            Err(name) => self.insert(name, value),
         }
     }
 

@@ -26,19 +26,19 @@ count_at-requires-in-Lquantize c =
 
 pub returns-in-Count-clause-cell : goal.returns-in-Count-clause-cell
 returns-in-Count-clause-cell c =
-    rw (c.count_at.ensures, c.in-Count.is) (add_count c.args.cell.now c.args.value)
+    rw (c.count_at.ensures, c.in-Count.is) (add_count c.args.words.now c.args.value)
 
 pub returns-in-Sum-clause-cell : goal.returns-in-Sum-clause-cell
 returns-in-Sum-clause-cell c =
     let fits : FitsSigned w64 c.args.value = c.ranges.value in
     let word = simp to_z-of_z at c.cast_unsigned.ensures in
-    rw (word, c.in-Sum.is) (λ bag. add_sum c.args.cell.now c.args.value bag fits)
+    rw (word, c.in-Sum.is) (λ bag rest. add_sum c.args.words.now c.args.value bag rest fits)
 
 pub returns-in-Avg-clause-cell : goal.returns-in-Avg-clause-cell
 returns-in-Avg-clause-cell c =
     let fits : FitsSigned w64 c.args.value = c.ranges.value in
     let word = simp to_z-of_z at c.cast_unsigned-in-Avg.ensures in
-    rw (word, c.count_at-in-Avg.ensures, c.in-Avg.is) (λ bag. add_avg c.args.cell.now c.args.value bag fits)
+    rw (word, c.count_at-in-Avg.ensures, c.in-Avg.is) (λ bag rest. add_avg c.args.words.now c.args.value bag rest fits)
 
 pub returns-in-Min-clause-cell : goal.returns-in-Min-clause-cell
 returns-in-Min-clause-cell c =
@@ -47,7 +47,7 @@ returns-in-Min-clause-cell c =
     let both : FitsSigned w64 c.min.result = record { sfits = c.min.type_inv } in
     let least = simp to_z-of_z at c.min.ensures.value in
     let word = simp to_z-of_z at c.cast_unsigned-in-Min.ensures in
-    rw (word, least, c.cast_signed.ensures, c.in-Min.is) (add_min c.args.cell.now c.args.value)
+    rw (word, least, c.cast_signed.ensures, c.in-Min.is) (add_min c.args.words.now c.args.value)
 
 pub returns-in-Max-clause-cell : goal.returns-in-Max-clause-cell
 returns-in-Max-clause-cell c =
@@ -56,18 +56,18 @@ returns-in-Max-clause-cell c =
     let both : FitsSigned w64 c.max.result = record { sfits = c.max.type_inv } in
     let greatest = simp to_z-of_z at c.max.ensures.value in
     let word = simp to_z-of_z at c.cast_unsigned-in-Max.ensures in
-    rw (word, greatest, c.cast_signed-in-Max.ensures, c.in-Max.is) (add_max c.args.cell.now c.args.value)
+    rw (word, greatest, c.cast_signed-in-Max.ensures, c.in-Max.is) (add_max c.args.words.now c.args.value)
 
 pub returns-in-Quantize-clause-cell : goal.returns-in-Quantize-clause-cell
 returns-in-Quantize-clause-cell c =
     let fits : FitsSigned w64 c.args.value = c.ranges.value in
     let row = simp to_z-of_z at c.row_of.ensures in
     rw (c.count_at-in-Quantize.ensures, c.in-Quantize.is)
-    (λ bag. add_quantize c.args.cell.now c.args.value c.row_of.result bag row)
+    (λ bag rest. add_quantize c.args.words.now c.args.value c.row_of.result bag rest row)
 
 pub returns-in-Lquantize-clause-cell : goal.returns-in-Lquantize-clause-cell
 returns-in-Lquantize-clause-cell c =
     let fits : FitsSigned w64 c.args.value = c.ranges.value in
     let row = simp to_z-of_z at c.row_of-in-Lquantize.ensures in
     rw (c.count_at-in-Lquantize.ensures, c.in-Lquantize.is)
-    (λ bag. add_lquantize c.in-Lquantize.bounds c.args.cell.now c.args.value c.row_of-in-Lquantize.result bag row)
+    (λ bag rest. add_lquantize c.in-Lquantize.bounds c.args.words.now c.args.value c.row_of-in-Lquantize.result bag rest row)

@@ -7,7 +7,7 @@ use Rattle.dt_aggstore.specs.Held.{entry_of}
 use Rattle.dt_aggstore.specs.Indexed.{Indexed, places_from}
 use Rattle.dt_aggstore.specs.Keys.{Entry}
 use Rattle.dt_aggstore.specs.declared.entry_name.EntryName.{EntryName}
-use Rattle.dt_aggstore.proofs.Indexing.{is_named, tests_alike, zipped, found_lies, none_found, found_so, not_some}
+use Rattle.dt_aggstore.proofs.Indexing.{is_named, tests_alike, zipped, found_lies, none_found, not_some}
 use Rattle.dt_aggstore.proofs.entry_index.EntryIndex.place_of.Goals as goal
 
 -- entries with places, as they are seen
@@ -29,35 +29,33 @@ as_seen : (es : List (EntryName × ℕ)) (view : Indexed)
     → view.places ≡ places_from 0 (entries_named view.items) → Seen es view.items
 as_seen es view is at = record { zips = is ∙ ap (λ places. zip view.items places) at }
 
-pub returns-then-is_some-clause-found : goal.returns-then-is_some-clause-found
-returns-then-is_some-clause-found c =
+pub returns-in-Some-clause-found : goal.returns-in-Some-clause-found
+returns-in-Some-clause-found c =
     let self = c.args.self.now in
     let es = c.self.inside.index.entries in
     let entry = entry_of c.args.aggregation c.args.key.now.parts.items in
     let seen = as_seen es self (ap (λ (v : Indexed). zip v.items v.places) c.self.view_is) c.requires in
-    found_so (LiesAt (entries_named self.items) entry) (lookup (is_named entry) es) c.recent_place-place.result
-    c.recent_place-place.ensures (lies entry es self.items seen)
+    subst (λ found. IfSome found (LiesAt (entries_named self.items) entry)) c.in-Some.ensures (lies entry es self.items seen)
 
-pub returns-in_err-recent-clause-none : goal.returns-in_err-recent-clause-none
-returns-in_err-recent-clause-none c =
+pub returns-in-None-clause-none : goal.returns-in-None-clause-none
+returns-in-None-clause-none c =
     let self = c.args.self.now in
     let es = c.self.inside.index.entries in
     let entry = entry_of c.args.aggregation c.args.key.now.parts.items in
     let seen = as_seen es self (ap (λ (v : Indexed). zip v.items v.places) c.self.view_is) c.requires in
-    let by_key = ap (λ eq. lookup (eq c.of.result) es) tests_alike ∙ ap (λ e. lookup (is_named e) es) c.of.ensures in
+    let by_key = ap (λ eq. lookup (eq c.of-name.result) es) tests_alike ∙ ap (λ e. lookup (is_named e) es) c.of-name.ensures in
     let Lacks : Type 0 = Contains (entries_named self.items) entry → ⊥ in
-    subst (λ found. IfNone found Lacks) (sym c.from_residual.ensures)
-    (not_some Lacks (lookup (is_named entry) es)
-    (sym (ap is_some by_key) ∙ sym c.get_index_of.ensures.found ∙ ap is_some c.in_err-recent.was)
-    (lacks entry es self.items seen))
+    not_some Lacks (lookup (is_named entry) es)
+    (sym (ap is_some by_key) ∙ sym c.get_index_of.ensures.found ∙ ap is_some c.in-None.is)
+    (lacks entry es self.items seen)
 
-pub returns-clause-found : goal.returns-clause-found
-returns-clause-found c =
+pub returns-in-Some-get_index_of-clause-found : goal.returns-in-Some-get_index_of-clause-found
+returns-in-Some-get_index_of-clause-found c =
     let self = c.args.self.now in
     let es = c.self.inside.index.entries in
     let entry = entry_of c.args.aggregation c.args.key.now.parts.items in
     let seen = as_seen es self (ap (λ (v : Indexed). zip v.items v.places) c.self.view_is) c.requires in
-    let by_key = ap (λ eq. lookup (eq c.of.result) es) tests_alike ∙ ap (λ e. lookup (is_named e) es) c.of.ensures in
+    let by_key = ap (λ eq. lookup (eq c.of-name.result) es) tests_alike ∙ ap (λ e. lookup (is_named e) es) c.of-name.ensures in
     subst (λ found. IfSome found (LiesAt (entries_named self.items) entry))
-    (sym by_key ∙ sym c.in_ok-recent.ensures.value ∙ c.index.ensures)
+    (sym by_key ∙ sym c.in-Some-get_index_of.ensures.value ∙ c.index.ensures)
     (lies entry es self.items seen)

@@ -36,69 +36,69 @@ made past old new at aggregation key value false word none m =
     after_dropped past old at aggregation key value none new m.same_size m.same_count m.drops word
     (λ fits. false≢true (m.fits.1 fits)) m.names m.all_cells
 
-pub returns-in-Some-clause-stands : goal.returns-in-Some-clause-stands
-returns-in-Some-clause-stands c = λ past at.
+pub returns-in-Ok-clause-stands : goal.returns-in-Ok-clause-stands
+returns-in-Ok-clause-stands c = λ past at.
     let self = c.args.self.now in
     let key = c.args.key.now.parts.items in
     let words = cell_words c.args.aggregation.function in
     let lengths = c.cell_length.ensures.words in
-    let lies = c.in-Some.ensures.found in
+    let lies = c.in-Ok.ensures.found in
     let then : c.deref_mut.result.now ≡ self.cells.items = c.deref_mut.ensures.value in
     let bag = bag past.events at.chosen c.args.aggregation key in
     let few : contribution_count past.events ≤ ADDED_LIMIT = omega (arith, at.added, self.few) in
     let added = c.add_at.ensures bag
-    (given_bag past self at c.args.aggregation key c.args.value lengths c.in-Some.place lies few)
-    (ap (λ xs. slice_range xs c.in-Some.place (c.in-Some.place + words)) then
-    ∙ cell_is past self at c.args.aggregation key c.args.value lengths c.in-Some.place lies) in
-    after_added past self at c.args.aggregation key c.args.value lengths c.in-Some.place lies _ refl refl refl
+    (given_bag past self at c.args.aggregation key c.args.value lengths c.in-Ok.place lies few)
+    (ap (λ xs. slice_range xs c.in-Ok.place (c.in-Ok.place + words)) then
+    ∙ cell_is past self at c.args.aggregation key c.args.value lengths c.in-Ok.place lies) in
+    after_added past self at c.args.aggregation key c.args.value lengths c.in-Ok.place lies _ refl refl refl
     c.ranges.value c.place_of.ensures.same
     (with_items_is self.cells c.add_at.new.cells (omega (arith, c.add_at.auto.cells, ap length then, self.cells.ok))
     ∙ added
-    ∙ ap (λ z. take c.in-Some.place c.deref_mut.result.now ++ cell_of c.args.aggregation.function (bag ++ z ∷ [])
-    ++ drop (c.in-Some.place + words) c.deref_mut.result.now) (to_z-of_z w64 c.args.value c.ranges.value)
-    ∙ ap (λ xs. take c.in-Some.place xs ++ cell_of c.args.aggregation.function (bag ++ c.args.value ∷ [])
-    ++ drop (c.in-Some.place + words) xs) then)
+    ∙ ap (λ z. take c.in-Ok.place c.deref_mut.result.now ++ cell_of c.args.aggregation.function (bag ++ z ∷ [])
+    ++ drop (c.in-Ok.place + words) c.deref_mut.result.now) (to_z-of_z w64 c.args.value c.ranges.value)
+    ∙ ap (λ xs. take c.in-Ok.place xs ++ cell_of c.args.aggregation.function (bag ++ c.args.value ∷ [])
+    ++ drop (c.in-Ok.place + words) xs) then)
 
-pub returns-in-Some-clause-keeps : goal.returns-in-Some-clause-keeps
-returns-in-Some-clause-keeps c = λ past at.
-    keeps_added past c.args.self.now at c.args.aggregation c.args.key.now.parts.items c.args.value c.in-Some.place
-    c.in-Some.ensures.found
+pub returns-in-Ok-clause-keeps : goal.returns-in-Ok-clause-keeps
+returns-in-Ok-clause-keeps c = λ past at.
+    keeps_added past c.args.self.now at c.args.aggregation c.args.key.now.parts.items c.args.value c.in-Ok.place
+    c.in-Ok.ensures.found
 
 -- what is made of an entry beside the names that were there
 abbrev MakesOf : Entry → List Entry → ℤ → AggStore → AggStore → Bool → Type 0
 MakesOf entry names value old new made =
     Makes entry.aggregation entry.key value old.size (old.added + 1) old.dropped names old.cells.items new made
 
-pub returns-in-None-clause-stands : goal.returns-in-None-clause-stands
-returns-in-None-clause-stands c = λ past at.
+pub returns-in-Err-clause-stands : goal.returns-in-Err-clause-stands
+returns-in-Err-clause-stands c = λ past at.
     let self = c.args.self.now in
     let key = c.args.key.now.parts.items in
     let new = c.insert.new.self in
-    made past self new at c.args.aggregation key c.args.value c.insert.result c.ranges.value c.in-None.ensures.none
+    made past self new at c.args.aggregation key c.args.value c.insert.result c.ranges.value c.in-Err.ensures.none
     (subst (λ z. MakesOf (entry_of c.args.aggregation key) (entries_named self.entries.items) z self new c.insert.result)
     (to_z-of_z w64 c.args.value c.ranges.value)
     (subst (λ (e : Indexed). MakesOf (entry_of c.args.aggregation key) (entries_named e.items)
     (to_z w64 (of_z w64 c.args.value)) self new c.insert.result) c.place_of.ensures.same
     (subst (λ e. MakesOf e (entries_named c.place_of.new.self.items) (to_z w64 (of_z w64 c.args.value)) self new
-    c.insert.result) c.of.ensures c.insert.ensures)))
+    c.insert.result) c.in-Err.ensures.name c.insert.ensures)))
 
-pub returns-in-None-clause-keeps : goal.returns-in-None-clause-keeps
-returns-in-None-clause-keeps c = λ past at.
+pub returns-in-Err-clause-keeps : goal.returns-in-Err-clause-keeps
+returns-in-Err-clause-keeps c = λ past at.
     keeps_made past c.args.self.now at c.args.aggregation c.args.key.now.parts.items c.args.value
-    c.in-None.ensures.none c.insert.result
+    c.in-Err.ensures.none c.insert.result
     (subst (λ (e : Indexed). IsTrue c.insert.result
     ↔ (entry_cost c.args.aggregation c.args.key.now.parts.items + cost_of (entries_named e.items) ≤ c.args.self.now.size))
     c.place_of.ensures.same
     (subst (λ (e : Entry). IsTrue c.insert.result
     ↔ (entry_cost e.aggregation e.key + cost_of (entries_named c.place_of.new.self.items) ≤ c.args.self.now.size))
-    c.of.ensures c.insert.ensures.fits))
+    c.in-Err.ensures.name c.insert.ensures.fits))
 
-pub returns-in-Some-clause-drops : goal.returns-in-Some-clause-drops
-returns-in-Some-clause-drops c = λ past at.
+pub returns-in-Ok-clause-drops : goal.returns-in-Ok-clause-drops
+returns-in-Ok-clause-drops c = λ past at.
     drops-given past c.args.aggregation c.args.key.now.parts.items c.args.value true
-    (returns-in-Some-clause-keeps c past at)
+    (returns-in-Ok-clause-keeps c past at)
 
-pub returns-in-None-clause-drops : goal.returns-in-None-clause-drops
-returns-in-None-clause-drops c = λ past at.
+pub returns-in-Err-clause-drops : goal.returns-in-Err-clause-drops
+returns-in-Err-clause-drops c = λ past at.
     drops-given past c.args.aggregation c.args.key.now.parts.items c.args.value c.insert.result
-    (returns-in-None-clause-keeps c past at)
+    (returns-in-Err-clause-keeps c past at)
