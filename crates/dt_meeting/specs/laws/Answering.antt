@@ -11,7 +11,9 @@ use Rattle.dt_life.specs.Tests.{is_seen}
 use Rattle.dt_machine.specs.Registry.{Contents, firing_at}
 use Rattle.dt_meeting.specs.Sharing.{is_seen_after, seen_row, seen_with}
 use Rattle.dt_meeting.specs.laws.Seen.{seen_last, seen_starts}
-use Rattle.dt_proto.specs.Alone.{Alone, Reached, firing_made}
+use Rattle.dt_proto.specs.Alone.{Alone, Reached, firing_made, own_line}
+use Rattle.dt_proto.specs.Lines.{line_form}
+use Rattle.dt_proto.specs.Lines.{long_line as long_form}
 use Rattle.dt_proto.specs.Told.{view_told}
 use Rattle.dt_proto.specs.Views.{life_of, seen_view}
 use Rattle.dt_proto.specs.laws.Legal.{life_told}
@@ -78,10 +80,10 @@ module _ (account : Account) (contents : Contents) where
       → SeesAlike (row ++ item ∷ [])
   step row (line bytes) h legal =
       rw (past_of_last row (line bytes), seen_last account contents row (line bytes), past_of_last (seen_row account contents row) (line bytes))
-      (ap (λ (l : List Reached). _ ∷ l) h)
+      (ap (λ (l : List Reached). own_line (line_form bytes) ∷ l) h)
   step row long_line h legal =
       rw (past_of_last row long_line, seen_last account contents row long_line, past_of_last (seen_row account contents row) long_line)
-      (ap (λ (l : List Reached). _ ∷ l) h)
+      (ap (λ (l : List Reached). own_line long_form ∷ l) h)
   step row (fired cpu place) h legal = fired_alike row cpu place h legal
 
   alike_from : (before rest : List TrailItem) → IsLegalRow account contents (seen_row account contents (before ++ rest)) → SeesAlike before

@@ -2,7 +2,6 @@
 use Rattle.std.proofs.Common.{◌≡◌, ◌&&◌, ℕ, Bool, true, false, cond, List, [], ◌∷◌, ◌++◌, Option, Some, None, Result, Ok, refl, sym, ap, ◌∙◌, subst, append-nil, append_assoc}
 use Rattle.dt_cred.specs.declared.account.Account.{Account}
 use Rattle.dt_ecb.specs.Ecbs.{ecbs_of}
-use Rattle.dt_lang.specs.Program.{ClauseForm}
 use Rattle.dt_legal.specs.Rows.{IsGoAfter, IsLegalRow, life_of_row, line_form_of}
 use Rattle.dt_legal.specs.laws.Beginning.{past_of_last}
 use Rattle.dt_life.specs.Acceptance.{IsAcceptedGo}

@@ -3,7 +3,7 @@ use Rattle.std.proofs.Common.{◌≡◌, ◌≤◌, ℕ, Bool, true, cond, List,
 use Rattle.std.specs.Prelude.{slice_get}
 use Rattle.dt_cred.specs.declared.account.Account.{Account}
 use Rattle.dt_machine.specs.Registry.{Contents}
-use Rattle.dt_meeting.specs.Sharing.{IsShared, is_seen_after, seen_row}
+use Rattle.dt_meeting.specs.Sharing.{IsShared, StandsAfter, is_seen_after, seen_row}
 use Rattle.dt_meeting.specs.laws.Seen.{seen_last, seen_starts}
 use Rattle.dt_trail.specs.Items.{StartsWith, TrailItem, fired}
 
@@ -26,6 +26,7 @@ none_skipped account contents cpu trail knew row place count h e = (
       (seen_starts account contents (before ++ fired cpu place ∷ []) after))),
 )
   where
+    stands : StandsAfter account contents cpu row place count
     stands = h.after place count e
 
     before : List TrailItem
