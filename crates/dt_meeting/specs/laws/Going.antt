@@ -1,6 +1,8 @@
 -- Tracing goes on only after an accepted `go`, and the ECBs are those of that `go` from then on.
 use Rattle.std.proofs.Common.{◌≡◌, ◌&&◌, ℕ, Bool, true, false, cond, List, [], ◌∷◌, ◌++◌, Option, Some, None, Result, Ok, refl, sym, ap, ◌∙◌, subst, append-nil, append_assoc}
+use Rattle.std.specs.Option.{option_map, option_to_list}
 use Rattle.dt_cred.specs.declared.account.Account.{Account}
+use Rattle.dt_cred.specs.declared.firing.Firing.{Firing}
 use Rattle.dt_ecb.specs.Ecbs.{ecbs_of}
 use Rattle.dt_legal.specs.Rows.{IsGoAfter, IsLegalRow, life_of_row, line_form_of}
 use Rattle.dt_legal.specs.laws.Beginning.{past_of_last}
@@ -17,9 +19,9 @@ use Rattle.dt_life.specs.declared.refusal.Refusal.{Refusal}
 use Rattle.dt_life.specs.laws.Beginning.{accepted_from, accepted_to}
 use Rattle.dt_life.specs.laws.Happening.{same_clauses}
 use Rattle.dt_life.specs.laws.Phases.{closing, keeping, staying, waiting}
-use Rattle.dt_machine.specs.Registry.{Contents}
+use Rattle.dt_machine.specs.Registry.{Contents, firing_at}
 use Rattle.dt_meeting.specs.laws.Seen.{legal_front}
-use Rattle.dt_proto.specs.Legal.{IsLegal}
+use Rattle.dt_proto.specs.Legal.{IsLegal, life_of_trail}
 use Rattle.dt_proto.specs.Line.{ask_in}
 use Rattle.dt_trail.specs.Items.{StartsWith, TrailItem, line, long_line, fired, whose}
 
@@ -109,6 +111,12 @@ module _ (account : Account) (contents : Contents) where
           staying account contents.registry s cause e (asked said) in
           absurd (let bad : Active ≡ Stopped cause = sym on_after ∙ off in cc bad)
 
+  lived_fired : (row : List TrailItem) (cpu place : ℕ) (firing : Firing) → firing_at contents.scripts cpu place ≡ Some firing
+      → Lived (row ++ fired cpu place ∷ []) ≡ fired_item firing ∷ Lived row
+  lived_fired row cpu place firing found =
+      ap (life_of_trail account contents) (past_of_last row (fired cpu place))
+      ∙ ap (λ (o : Option Firing). option_to_list (option_map fired_item o) ++ Lived row) found
+
   -- an item after which tracing goes on
   step : (row : List TrailItem) (item : TrailItem) → IsLegalRow account contents (row ++ item ∷ [])
       → (IsActiveRow row → HasGone row) → IsActiveRow (row ++ item ∷ []) → HasGone (row ++ item ∷ [])
@@ -121,7 +129,7 @@ module _ (account : Account) (contents : Contents) where
   step row (fired cpu place) legal gone on =
       let stands = (subst (IsLegal account contents) (past_of_last row (fired cpu place)) legal).1 in
       let firing = stands.1 in
-      gone_on row (fired cpu place) (fired_item firing.0) (rw (past_of_last row (fired cpu place), firing.1) refl)
+      gone_on row (fired cpu place) (fired_item firing.0) (lived_fired row cpu place firing.0 firing.1)
       firing.2.active (gone firing.2.active)
 
   gone_from : (before rest : List TrailItem) → IsLegalRow account contents (before ++ rest)
