@@ -49,8 +49,8 @@ impl<J: HubSite> Hub<J> {
             if let Some(mut locked) = seat.try_lock() {
                 let opened = self.open_at(alloc, &mut locked, account);
                 MutexGuard::unlock(locked);
-                if opened.is_some() {
-                    return opened;
+                if let Some(result) = opened {
+                    return Some(result);
                 }
             }
         }
@@ -71,8 +71,8 @@ impl<J: HubSite> Hub<J> {
             let mut locked = seat.lock(rt);
             let opened = self.open_at(alloc, &mut locked, account);
             MutexGuard::unlock(locked);
-            if opened.is_some() {
-                return opened;
+            if let Some(result) = opened {
+                return Some(result);
             }
         }
         None
