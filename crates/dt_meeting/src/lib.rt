@@ -9,4 +9,6 @@
 
 mod laws;
 
-pub use laws::{answered_alike, nothing_is_skipped, rows_are_seen, shared_rows_grow, tracking_goes_on};
+pub use laws::{
+    answered_alike, nothing_is_skipped, rows_are_seen, shared_rows_grow, tracking_goes_on,
+};

@@ -216,9 +216,11 @@ module _ (account : Account) (contents : Contents) where
       → (row : List TrailItem) × IsShared account contents cpu trail knew row
   tracks_shared cpu life writes trail knew none h =
       ⊎_elim
-      (λ (e : h.late ≡ []).
-      (h.shared, subst (λ (l : List ℕ). IsShared account contents cpu trail l h.shared)
-      (sym (h.all ∙ ap (λ (l : List ℕ). h.early ++ l) e ∙ append-nil h.early)) h.is_shared))
+      (λ (e : h.late ≡ []). (
+        h.shared,
+        subst (λ (l : List ℕ). IsShared account contents cpu trail l h.shared)
+            (sym (h.all ∙ ap (λ (l : List ℕ). h.early ++ l) e ∙ append-nil h.early)) h.is_shared,
+      ))
       (λ (e : stage life writes ≡ past).
       let r = shared_late account contents cpu trail h.early h.late h.shared h.is_shared (none e) h.few in
       (r.0, subst (λ (l : List ℕ). IsShared account contents cpu trail l r.0) (sym h.all) r.1))
