@@ -2,6 +2,7 @@
 
 pub mod Seen
 pub mod Going
+pub mod Lasting
 pub mod Staging
 pub mod Sharing
 pub mod Tracking

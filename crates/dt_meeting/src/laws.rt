@@ -4,15 +4,21 @@ ghost use Rattle.std.specs.List.{AllByRecursion};
 ghost use mathlib.Core.List.{IsPrefix};
 ghost use Rattle.dt_chain.specs.Writes.{Write};
 ghost use Rattle.dt_cred.specs.declared.account.Account.{Account};
-ghost use Rattle.dt_legal.specs.Rows.{IsLegalRow, past_of};
+ghost use Rattle.dt_cred.specs.declared.firing.Firing.{Firing};
+ghost use Rattle.dt_ecb.specs.Ecbs.{of_probe};
+ghost use Rattle.dt_legal.specs.Rows.{IsGoAfter, IsLegalRow, life_of_row, past_of};
 ghost use Rattle.dt_life.specs.Answer.{Answer};
-ghost use Rattle.dt_machine.specs.Registry.{Contents};
+ghost use Rattle.dt_life.specs.Life.{ecbs, phase};
+ghost use Rattle.dt_life.specs.declared.phase.Phase.TheVariants.{Active};
+ghost use Rattle.dt_machine.specs.Registry.{Belongs, Contents, firing_at};
+ghost use Rattle.dt_machine.specs.Shown.{IsShown};
 ghost use Rattle.dt_meeting.specs.Sharing.{IsShared, is_seen_after, seen_row};
 ghost use Rattle.dt_meeting.specs.Stages.{past, stage};
 ghost use Rattle.dt_meeting.specs.Tracking.{GoIsAnnounced, IsPassedBy, Tracks};
 ghost use Rattle.dt_proto.specs.Alone.{Alone};
 ghost use Rattle.dt_proto.specs.Told.{view_told};
-ghost use Rattle.dt_trail.specs.Items.{StartsWith, TrailItem, fired, own};
+ghost use Rattle.dt_proto.specs.Views.{seen_view};
+ghost use Rattle.dt_trail.specs.Items.{StartsWith, TrailItem, fired, own, whose};
 
 /// Law: a legal row is seen whole, and what is seen of a row begins what is seen of a longer one.
 pub fn rows_are_seen()
@@ -75,20 +81,32 @@ pub fn tracking_goes_on()
 {}
 
 /// Law: in a shared row each firing of the processor so far stands after all items of the trail that the processor knew, and where it is seen there, it is on the
-/// trail just there: none that should have been seen was skipped.
+/// trail just there. So a processor that knew of a session's `go` as it fired has skipped no firing that the session, which still traces, should see.
 pub fn nothing_is_skipped()
-    ensures { (account : Account) (contents : Contents) (cpu : ℕ) (trail : List TrailItem) (knew : List ℕ) (row : List TrailItem) (place count : ℕ)
+    ensures stands { (account : Account) (contents : Contents) (cpu : ℕ) (trail : List TrailItem) (knew : List ℕ) (row : List TrailItem) (place count : ℕ)
         → IsShared account contents cpu trail knew row → slice_get knew place ≡ Some count
         → (before : List TrailItem) × (after : List TrailItem) × (row ≡ before ++ fired cpu place ∷ after)
         × StartsWith trail (seen_row account contents before) × (count ≤ length (seen_row account contents before))
         × (is_seen_after account contents (seen_row account contents before) cpu place ≡ true
         → StartsWith trail (seen_row account contents before ++ fired cpu place ∷ [])) }
+    ensures told { (account : Account) (contents : Contents) (cpu : ℕ) (trail : List TrailItem) (knew : List ℕ) (row : List TrailItem) (place count : ℕ)
+        (earlier : List TrailItem) (item : TrailItem) (firing : Firing)
+        → IsShared account contents cpu trail knew row → IsLegalRow account contents trail
+        → phase account contents.registry (life_of_row account contents trail) ≡ Active
+        → StartsWith trail (earlier ++ item ∷ []) → whose item ≡ 0 → IsGoAfter account contents earlier item
+        → slice_get knew place ≡ Some count → length earlier + 1 ≤ count
+        → firing_at contents.scripts cpu place ≡ Some firing → Belongs contents.registry firing → IsShown account contents.registry firing
+        → of_probe firing.probe (ecbs account contents.registry (life_of_row account contents trail)) ≢ []
+        → (before : List TrailItem) × StartsWith trail (before ++ fired cpu place ∷ []) }
 {}
 
-/// Law: what a consumer is answered alone to a row is what it is answered to the part that is seen, where that is legal: after a shared row the replies that are due are those after
-/// the trail.
+/// Law: what is seen of the view that a row tells is what the part of the row tells that is seen, where that is legal. So what a consumer is answered alone to a row is what it is
+/// answered to that part: after a shared row the replies that are due are those after the trail.
 pub fn answered_alike()
-    ensures { (account : Account) (contents : Contents) (row : List TrailItem) (answers : List Answer)
+    ensures seen { (account : Account) (contents : Contents) (row : List TrailItem)
+        → IsLegalRow account contents (seen_row account contents row)
+        → seen_view account contents.registry (view_told contents (past_of row)) ≡ view_told contents (past_of (seen_row account contents row)) }
+    ensures alone { (account : Account) (contents : Contents) (row : List TrailItem) (answers : List Answer)
         → IsLegalRow account contents (seen_row account contents row)
         → Alone account contents.registry (view_told contents (past_of row)) answers
         ↔ Alone account contents.registry (view_told contents (past_of (seen_row account contents row))) answers }

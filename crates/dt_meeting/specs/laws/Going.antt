@@ -111,7 +111,7 @@ module _ (account : Account) (contents : Contents) where
           staying account contents.registry s cause e (asked said) in
           absurd (let bad : Active ≡ Stopped cause = sym on_after ∙ off in cc bad)
 
-  lived_fired : (row : List TrailItem) (cpu place : ℕ) (firing : Firing) → firing_at contents.scripts cpu place ≡ Some firing
+  pub lived_fired : (row : List TrailItem) (cpu place : ℕ) (firing : Firing) → firing_at contents.scripts cpu place ≡ Some firing
       → Lived (row ++ fired cpu place ∷ []) ≡ fired_item firing ∷ Lived row
   lived_fired row cpu place firing found =
       ap (life_of_trail account contents) (past_of_last row (fired cpu place))

@@ -3,4 +3,4 @@ use Rattle.dt_meeting.specs.laws.Answering as laws
 use Rattle.dt_meeting.proofs.laws.answered_alike.Goals as goal
 
 pub returns : goal.returns
-returns c = laws.answered_alike
+returns c = record { seen = laws.sees_alike; alone = laws.answered_alike }
