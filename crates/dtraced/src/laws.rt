@@ -8,7 +8,7 @@ ghost use Rattle.dt_machine.specs.Registry.{Contents};
 ghost use Rattle.dt_world.specs.Replay.{IsTrailReplay};
 ghost use Rattle.dtraced.specs.Words.{Asks};
 ghost use Rattle.dtraced.specs.declared.words.Words.{Words};
-ghost use Rattle.dtraced.specs.declared.words.Words.TheVariants.{Replay, Check};
+ghost use Rattle.dtraced.specs.declared.words.Words.TheVariants.{Replay, Check, Serve, Send};
 
 use dt_alone::trail_agrees;
 use dt_machine::described_is_sound;
@@ -25,7 +25,8 @@ pub fn written_trails_agree()
 }
 
 /// Law: what the words of a call ask for, by clap's definitions worked out: `dtraced replay m`, `dtraced replay m --trail 5`,
-/// and `dtraced check m t`. Without the trail's file, or with a word too many, they ask for nothing.
+/// `dtraced check m t`, `dtraced serve m f` and `dtraced send p`. Without the trail's file, the folder or the path, or with a word
+/// too many, they ask for nothing.
 pub fn words_ask()
     ensures replay { (machine : Bor (List ℕ)) → machine.now ≡ codes "m"
         → Asks (codes "dtraced" ∷ codes "replay" ∷ codes "m" ∷ []) (Replay machine None) }
@@ -33,7 +34,13 @@ pub fn words_ask()
         → Asks (codes "dtraced" ∷ codes "replay" ∷ codes "m" ∷ codes "--trail" ∷ codes "5" ∷ []) (Replay machine (Some 5)) }
     ensures check { (machine trail : Bor (List ℕ)) → machine.now ≡ codes "m" → trail.now ≡ codes "t"
         → Asks (codes "dtraced" ∷ codes "check" ∷ codes "m" ∷ codes "t" ∷ []) (Check machine trail) }
+    ensures serve { (machine folder : Bor (List ℕ)) → machine.now ≡ codes "m" → folder.now ≡ codes "f"
+        → Asks (codes "dtraced" ∷ codes "serve" ∷ codes "m" ∷ codes "f" ∷ []) (Serve machine folder) }
+    ensures send { (path : Bor (List ℕ)) → path.now ≡ codes "p"
+        → Asks (codes "dtraced" ∷ codes "send" ∷ codes "p" ∷ []) (Send path) }
     ensures no_trail { (asked : Words) → Asks (codes "dtraced" ∷ codes "check" ∷ codes "m" ∷ []) asked → ⊥ }
+    ensures no_folder { (asked : Words) → Asks (codes "dtraced" ∷ codes "serve" ∷ codes "m" ∷ []) asked → ⊥ }
+    ensures no_path { (asked : Words) → Asks (codes "dtraced" ∷ codes "send" ∷ []) asked → ⊥ }
     ensures too_many { (asked : Words)
         → Asks (codes "dtraced" ∷ codes "replay" ∷ codes "m" ∷ codes "t" ∷ []) asked → ⊥ }
 {}
