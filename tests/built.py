@@ -1,5 +1,5 @@
 """What tests/fuzz, tests/refuse and tests/devices share: the worked rows, runs of the built program with what they cost, services of it with their
-clients, and sweeps, in which something happens at one place of each run."""
+clients, and sweeps, in which something happens at one place of each run. The services and clients are those of examples/tests/served.py and bench/serve too."""
 import argparse
 import collections
 import concurrent.futures
@@ -129,8 +129,8 @@ def ended(running):
 class Service:
     """A service of a machine file, in a folder of sockets. One that doesn't end in time is killed, so that nobody waits for it for ever."""
 
-    def __init__(self, program, machine, folder, **more):
-        self.folder = folder
+    def __init__(self, program, machine, folder, patience=PATIENCE, **more):
+        self.folder, self.patience = folder, patience
         self.run = subprocess.Popen([str(program), "serve", str(machine), str(folder)], stdin=subprocess.PIPE, stdout=subprocess.PIPE,
                                     stderr=subprocess.PIPE, **more)
         self.watch = self.watched()
@@ -138,7 +138,7 @@ class Service:
 
     def watched(self):
         """Begins to watch it."""
-        watch = threading.Timer(PATIENCE, self.give_up)
+        watch = threading.Timer(self.patience, self.give_up)
         watch.start()
         return watch
 
@@ -159,8 +159,16 @@ class Service:
             self.run.stdin.flush()
         return self.run.stdout.readline()
 
-    def client(self, account):
-        return Client(self.folder / f"{account}.sock")
+    def socket_of(self, account):
+        return self.folder / f"{account}.sock"
+
+    def client(self, account="root"):
+        return Client(self.socket_of(account))
+
+    def spent(self):
+        """The processor time of all its threads so far, in seconds."""
+        fields = pathlib.Path(f"/proc/{self.run.pid}/stat").read_text(encoding="utf-8").rsplit(")", 1)[1].split()
+        return (int(fields[11]) + int(fields[12])) / os.sysconf("SC_CLK_TCK")
 
     def resident(self):
         """How many bytes of memory it has."""

@@ -8,16 +8,18 @@ import signal
 import socket
 import stat
 import subprocess
+import sys
 import tempfile
 import threading
 import time
 
-from running import FIRINGS_MAX, OK, PROGRAM, fired, judge, machine
+from running import FIRINGS_MAX, LINES_MAX, OK, PROGRAM, fired, judge, machine
 
-PATIENCE = 60
+sys.path.append(str(pathlib.Path(__file__).resolve().parents[2] / "tests"))
+import built
+from built import PATIENCE, STATUS
+
 SEATS = 256
-LINES_MAX = 1_024
-STATUS = b'{"cmd":"status"}\n'
 STATUS_REPLY = b'{"aggdrops":[0],"cause":null,"errors":[0],"exit":null,"ok":true,"phase":"inactive","seen":0}\n'
 FULL = b'{"error":17,"name":"Full"}\n'
 NO_PRIVILEGE = b'{"error":18,"name":"NoPrivilege"}\n'
@@ -25,74 +27,14 @@ QUOTA = b'{"error":15,"name":"Quota"}\n'
 OPEN_STEP = re.compile(r"(open|call|fire|close) ([0-9]+) ?(.*)", re.S)
 
 
-class Service:
-    """A service of a machine file, in a folder of sockets."""
-
-    def __init__(self, path, folder):
-        self.folder = folder
-        self.run = subprocess.Popen([PROGRAM, "serve", str(path), str(folder)], stdin=subprocess.PIPE, stdout=subprocess.PIPE, stderr=subprocess.PIPE)
-        self.begun = self.run.stdout.readline()
-
-    def says(self, line):
-        self.run.stdin.write(line.encode() + b"\n")
-        self.run.stdin.flush()
-        return self.run.stdout.readline().decode().rstrip("\n")
-
-    def socket_of(self, name):
-        return str(self.folder / f"{name}.sock")
-
-    def client(self, name="root"):
-        return Client(self.socket_of(name))
-
-    def end(self, line=b"quit\n"):
-        """What it wrote at the end, with its error and its status."""
-        out, error = self.run.communicate(line, timeout=PATIENCE)
-        return out, error, self.run.returncode
-
-
-class Client:
-    """A connection of an account's client."""
-
-    def __init__(self, path):
-        self.to = socket.socket(socket.AF_UNIX)
-        self.to.settimeout(PATIENCE)
-        self.to.connect(path)
-        self.replies = self.to.makefile("rb")
-
-    def ask(self, line):
-        self.to.sendall(line)
-        return self.reply()
-
-    def reply(self):
-        """The next reply; nothing, where the connection has ended."""
-        try:
-            return self.replies.readline()
-        except ConnectionResetError:
-            return b""
-
-    def close(self):
-        self.replies.close()
-        self.to.close()
-
-
 @contextlib.contextmanager
-def serving(text, **more):
-    """A service of a machine, in a folder of its own."""
+def serving(text):
+    """A service of a machine."""
     with tempfile.TemporaryDirectory() as name:
-        folder = pathlib.Path(name)
-        path = folder / "machine.json"
+        path = pathlib.Path(name) / "machine.json"
         path.write_text(text, encoding="utf-8")
-        sockets = folder / "sockets"
-        sockets.mkdir()
-        service = Service(path, sockets, **more)
-        try:
+        with built.serving(PROGRAM, path) as service:
             yield service
-        finally:
-            service.run.kill()
-            service.run.wait()
-            for stream in (service.run.stdin, service.run.stdout, service.run.stderr):
-                with contextlib.suppress(BrokenPipeError):
-                    stream.close()
 
 
 def played(service, steps):
@@ -108,7 +50,7 @@ def played(service, steps):
             clients[number].stdin.flush()
             found.append(f"{number} {clients[number].stdout.readline().decode()}")
         elif word == "fire":
-            made.append(service.says(f"step {number} 1"))
+            made.append(service.says(f"step {number} 1".encode()))
         else:
             end(clients.pop(number))
     for client in clients.values():
@@ -124,7 +66,7 @@ def makes(text, steps):
         if word == "fire":
             count = min(left[int(number)], 1)
             left[int(number)] -= count
-            yield f"fired {number} {count}"
+            yield f"fired {number} {count}\n".encode()
 
 
 def end(client):
@@ -170,11 +112,7 @@ def status_after_a_while(service):
     """The status line of a new session, once a seat is free: the end of a connection is seen by its thread."""
     for _ in range(PATIENCE * 100):
         client = service.client()
-        try:
-            client.to.sendall(STATUS)
-        except BrokenPipeError:
-            pass
-        reply = client.reply()
+        reply = client.ask(STATUS)
         client.close()
         if reply != FULL:
             return reply
@@ -190,17 +128,14 @@ def comes_and_goes(_folder):
         well = 0
         for _ in range(1_000):
             client = service.client()
-            try:
-                client.to.sendall(b'{"cmd":"sta')
-            except BrokenPipeError:
-                pass
+            client.send(b'{"cmd":"sta')
             client.close()
         yield "a seat after a thousand clients that vanished", status_after_a_while(service), STATUS_REPLY
-        resident = pathlib.Path(f"/proc/{service.run.pid}/statm").read_text(encoding="utf-8").split()[1]
+        resident = service.resident()
         yield "others are served", {client.ask(STATUS) for client in others}, {STATUS_REPLY}
         for client in others:
             client.close()
-        yield "less memory than a gigabyte", int(resident) * os.sysconf("SC_PAGE_SIZE") < 1 << 30, True
+        yield "less memory than a gigabyte", resident < 1 << 30, True
 
 
 def never_reads(_folder):
@@ -218,7 +153,7 @@ def never_reads(_folder):
         found = [other.ask(STATUS) for _ in range(100)]
         yield "another is served beside it", set(found), {STATUS_REPLY}
         yield "and waits for nobody", time.monotonic() - before < 10, True
-        yield "a processor fires beside it", service.says("step 0 1"), "fired 0 1"
+        yield "a processor fires beside it", service.says(b"step 0 1"), b"fired 0 1\n"
         flood.close()
         other.close()
 
@@ -228,16 +163,16 @@ def cut_anywhere(_folder):
     with serving(machine([[]])) as service:
         client = service.client()
         for byte in STATUS[:-1]:
-            client.to.sendall(bytes([byte]))
+            client.send(bytes([byte]))
         yield "a line a byte at a time", client.ask(b"\n"), STATUS_REPLY
-        client.to.sendall(STATUS * 3)
+        client.send(STATUS * 3)
         yield "three lines at once", [client.reply() for _ in range(3)], [STATUS_REPLY] * 3
-        client.to.sendall(b'{"cmd":"status"}')
+        client.send(b'{"cmd":"status"}')
         client.to.shutdown(socket.SHUT_WR)
         yield "a rest is no line", client.reply(), b""
         client.close()
         client = service.client()
-        client.to.sendall(b"x" * 65_537 + b"\n")
+        client.send(b"x" * 65_537 + b"\n")
         yield "a long line", client.reply(), b'{"error":3,"name":"LineLong"}\n'
         client.close()
 
@@ -246,11 +181,11 @@ def session_ends(_folder):
     """A session ends with its `close`, and with the line that is over its quota."""
     with serving(machine([[]], names=("root", "ann", "joe"))) as service:
         client = service.client()
-        client.to.sendall(b'{"cmd":"close"}\n' + STATUS)
+        client.send(b'{"cmd":"close"}\n' + STATUS)
         yield "close", (client.reply(), client.reply()), (OK.encode() + b"\n", b"")
         client.close()
         client = service.client("ann")
-        feeder = threading.Thread(target=feed, args=(client, STATUS * (LINES_MAX + 2)))
+        feeder = threading.Thread(target=client.send, args=(STATUS * (LINES_MAX + 2),))
         feeder.start()
         found = [client.reply() for _ in range(LINES_MAX + 2)]
         feeder.join()
@@ -261,11 +196,6 @@ def session_ends(_folder):
         client.close()
 
 
-def feed(client, text):
-    with contextlib.suppress(BrokenPipeError, ConnectionResetError):
-        client.to.sendall(text)
-
-
 def commands(_folder):
     """The lines that command a service."""
     with serving(machine([[fired(7)] * 3, []])) as service:
@@ -274,17 +204,17 @@ def commands(_folder):
                              ("step 1 4294967295", "fired 1 0"), ("step 2 1", "refused"), ("step 0", "refused"), ("step  0 1", "refused"),
                              ("step 0 1 ", "refused"), ("step 00 1", "refused"), ("step 0 4294967296", "refused"), ("", "refused"),
                              ("Quit", "refused"), ("quit ", "refused"), ("x" * 70_000, "refused")]:
-            yield f"the command '{line[:20]}'", service.says(line), answer
+            yield f"the command '{line[:20]}'", service.says(line.encode()), answer.encode() + b"\n"
         for name in ("root",):
             mode = os.stat(service.socket_of(name))
             yield "a socket is its owner's alone", (stat.S_ISSOCK(mode.st_mode), stat.S_IMODE(mode.st_mode)), (True, 0o600)
         client = service.client()
         yield "a session before the end", client.ask(STATUS) != b"", True
-        yield "quit", service.end(), (b"", b"", 0)
+        yield "quit", service.end().told, (b"", b"", 0)
         yield "the sockets are gone", os.listdir(service.folder), []
         yield "and so is the session", client.reply(), b""
     with serving(machine([[]])) as service:
-        yield "the end of the input", (service.end(b"step 0 1"), os.listdir(service.folder)), ((b"", b"", 0), [])
+        yield "the end of the input", (service.end(b"step 0 1").told, os.listdir(service.folder)), ((b"", b"", 0), [])
     with serving(machine([[]])) as service:
         service.run.stdin.close()
         yield "input that is closed at once", (service.run.wait(PATIENCE), service.run.stdout.read(), os.listdir(service.folder)), (0, b"", [])
@@ -303,7 +233,7 @@ def long_steps(_folder):
                      b'{"cmd":"enable","text":"syscall::read:entry{@c=count()}"}\n', b'{"cmd":"go"}\n'):
             client.ask(line)
         for count, made in ((40_000, 40_000), (FIRINGS_MAX, FIRINGS_MAX - 40_000), (1, 0)):
-            yield f"a step of {count}", service.says(f"step 0 {count}"), f"fired 0 {made}"
+            yield f"a step of {count}", service.says(b"step 0 %d" % count), b"fired 0 %d\n" % made
         yield "what was seen", client.ask(b'{"cmd":"agg","name":"c"}\n'), \
             b'{"fn":"count","name":"c","ok":true,"rows":[{"key":[],"value":%d}]}\n' % FIRINGS_MAX
 

@@ -19,9 +19,10 @@ use Rattle.dt_proto.specs.Alone.{Reached, own_line, firing_made, Alone}
 use Rattle.dt_proto.specs.Line.{ask_in}
 use Rattle.dt_proto.specs.Lines.{LineForm}
 use Rattle.dt_proto.specs.Reply.{reply_text}
+use Rattle.dt_proto.specs.Told.{view_by}
 use Rattle.dt_proto.specs.Legal.{reached_by}
 use Rattle.dt_proto.specs.laws.Legal.{lives}
-use Rattle.dt_server.specs.Served.{IsServed, closes, taken_lines, lines_in, memory_text, row_view, woven}
+use Rattle.dt_server.specs.Served.{IsServed, closes, taken_lines, lines_in, memory_text, woven}
 use Rattle.dt_trail.specs.Items.{TrailItem, line, long_line, fired, own, whose}
 
 -- how many lines were taken
@@ -95,7 +96,7 @@ no_line cpu place rest = let no : (cpu + 1 == 0) ≡ false = grind (arith, nat_t
 
 -- the view of a row with an item more
 view_last : (contents : Contents) (items : List TrailItem) (item : TrailItem)
-    → row_view contents (items ++ item ∷ []) ≡ reached_by contents (told_as item) ++ row_view contents items
+    → view_by contents (map told_as (items ++ item ∷ [])) ≡ reached_by contents (told_as item) ++ view_by contents (map told_as items)
 view_last contents items item = ap (flat_map (reached_by contents)) (past_of_last items item)
 
 -- how many lines are in a view
@@ -117,19 +118,19 @@ firing_is_no_line (Some firing) = refl
 
 -- the view of a row that begins with an item
 view_first : (contents : Contents) (item : TrailItem) (items : List TrailItem)
-    → row_view contents (item ∷ items) ≡ row_view contents items ++ reached_by contents (told_as item)
+    → view_by contents (map told_as (item ∷ items)) ≡ view_by contents (map told_as items) ++ reached_by contents (told_as item)
 view_first contents item items =
     ap (flat_map (reached_by contents)) (past_of_both (item ∷ []) items)
     ∙ flat_map-append (reached_by contents) (past_of items) (told_as item ∷ [])
-    ∙ ap (λ l. row_view contents items ++ l) (append-nil (reached_by contents (told_as item)))
+    ∙ ap (λ l. view_by contents (map told_as items) ++ l) (append-nil (reached_by contents (told_as item)))
 
 asks_first : (contents : Contents) (item : TrailItem) (items : List TrailItem)
-    → asks (row_view contents (item ∷ items)) ≡ asks (row_view contents items) + asks (reached_by contents (told_as item))
+    → asks (view_by contents (map told_as (item ∷ items))) ≡ asks (view_by contents (map told_as items)) + asks (reached_by contents (told_as item))
 asks_first contents item items =
-    ap asks (view_first contents item items) ∙ asks_both (row_view contents items) (reached_by contents (told_as item))
+    ap asks (view_first contents item items) ∙ asks_both (view_by contents (map told_as items)) (reached_by contents (told_as item))
 
 -- a view asks as many lines as its row has
-asks_lines : (contents : Contents) (items : List TrailItem) → asks (row_view contents items) ≡ length (own 0 items)
+asks_lines : (contents : Contents) (items : List TrailItem) → asks (view_by contents (map told_as items)) ≡ length (own 0 items)
 unfolding asks
 asks_lines contents [] = refl
 asks_lines contents (line bytes ∷ items) =
@@ -145,13 +146,13 @@ asks_lines contents (fired cpu place ∷ items) =
     let none = firing_is_no_line (firing_at contents.scripts cpu place) in
     let more = asks_lines contents items in
     ap asks (view_first contents (fired cpu place) items)
-    ∙ asks_both (row_view contents items) (option_to_list (option_map firing_made (firing_at contents.scripts cpu place)))
-    ∙ let e : asks (row_view contents items) + asks (option_to_list (option_map firing_made (firing_at contents.scripts cpu place)))
+    ∙ asks_both (view_by contents (map told_as items)) (option_to_list (option_map firing_made (firing_at contents.scripts cpu place)))
+    ∙ let e : asks (view_by contents (map told_as items)) + asks (option_to_list (option_map firing_made (firing_at contents.scripts cpu place)))
     ≡ length (own 0 items) = omega (arith, none, more) in e ∙ ap length (sym (no_line cpu place items))
 
 module _ (account : Account) (contents : Contents) where
   abbrev AreAlone : List TrailItem → List Answer → Type 0
-  AreAlone items answers = Alone account contents.registry (row_view contents items) answers
+  AreAlone items answers = Alone account contents.registry (view_by contents (map told_as items)) answers
 
   -- a firing asks nothing, nor does a place where no firing is
   firing_asks_nothing : (view : List Reached) (answers : List Answer) (found : Option Firing)
@@ -165,7 +166,7 @@ module _ (account : Account) (contents : Contents) where
   alone_fired items cpu place answers h =
       let P : List Reached → Type 0 = λ view. Alone account contents.registry view answers in
       subst P (sym (view_last contents items (fired cpu place)))
-      (firing_asks_nothing (row_view contents items) answers (firing_at contents.scripts cpu place) h)
+      (firing_asks_nothing (view_by contents (map told_as items)) answers (firing_at contents.scripts cpu place) h)
 
   -- firings more are answered nothing
   alone_longer : (items rest : List TrailItem) (answers : List Answer) → own 0 rest ≡ [] → AreAlone items answers
@@ -193,7 +194,7 @@ module _ (account : Account) (contents : Contents) where
       → trues s.taken ≡ length (map reply_text s.answers)
   served_count lines items text s =
       sym (length-taken_lines s.taken lines s.each) ∙ sym (ap length s.own_lines) ∙ length-map (own 0 items) line_form_of
-      ∙ sym (asks_lines contents items) ∙ sym (answers_count (row_view contents items) s.answers s.alone)
+      ∙ sym (asks_lines contents items) ∙ sym (answers_count (view_by contents (map told_as items)) s.answers s.alone)
       ∙ sym (length-map s.answers reply_text)
 
   pub served_none : IsServed account contents [] [] []
@@ -235,7 +236,7 @@ module _ (account : Account) (contents : Contents) where
 
   -- the view of a row with a line more
   line_view : (items : List TrailItem) (item : TrailItem) → whose item ≡ 0
-      → row_view contents (items ++ item ∷ []) ≡ own_line (line_form_of item) ∷ row_view contents items
+      → view_by contents (map told_as (items ++ item ∷ [])) ≡ own_line (line_form_of item) ∷ view_by contents (map told_as items)
   line_view items (line bytes) mine = view_last contents items (line bytes)
   line_view items long_line mine = view_last contents items long_line
   line_view items (fired cpu place) mine = absurd (omega (arith, mine))

@@ -30,7 +30,7 @@ use Rattle.dt_seat.specs.declared.ending.Ending.TheVariants as endings
 use Rattle.dt_server.specs.declared.ended.Ended.{Ended}
 use Rattle.dt_server.specs.declared.ended.Ended.TheVariants as ended
 use Rattle.dt_server.specs.Served.{IsServed, IsClosed, IsPastQuota, IsCutOff, IsOver, HasServed, memory_text, quota_text}
-use Rattle.dt_server.specs.Talk.{ComesOfAsking, ServesOn, Ends, EndsWithin, IsTalk, IsOfLine, ended_after}
+use Rattle.dt_server.specs.Talk.{ComesOfAsking, ServesOn, ServesToEnd, ServesToEndWithin, IsTalk, IsOfLine, ended_after}
 use Rattle.dt_server.proofs.Answering.{alone_asked, served_longer, served_none, served_refused, served_taken}
 use Rattle.dt_trail.specs.Items.{StartsWith, TrailItem, own, whose}
 
@@ -192,7 +192,7 @@ module _ (account : Account) (contents : Contents) where
       subst P (append_assoc lines first second) (subst Q (append_assoc text m n) (h (lines ++ first) (text ++ m) (g lines text s)))
 
   pub on_and_end : (e : Ended) (a b c : List TrailItem) (first second : List LineForm) (m n : List ℕ) → ServesOn account contents a b first m
-      → Ends account contents e b c second n → Ends account contents e a c (first ++ second) (m ++ n)
+      → ServesToEnd account contents e b c second n → ServesToEnd account contents e a c (first ++ second) (m ++ n)
   on_and_end e a b c first second m n g h lines text s =
       let P : List LineForm → Type 0 = λ l. IsOver account contents e l c (text ++ (m ++ n)) in
       let Q : List ℕ → Type 0 = λ t. IsOver account contents e ((lines ++ first) ++ second) c t in
@@ -217,7 +217,7 @@ module _ (account : Account) (contents : Contents) where
 
   pub answered_some : (said : LineAnswer) (before after : List TrailItem) (form : LineForm) (old new : Option (List ℕ))
       → ComesOfAsking account contents before form said after → Appends old new (answer_text said)
-      → IfSome (ended_after said) (λ e. (text : List ℕ) × Appends old new text × Ends account contents e before after (form ∷ []) text)
+      → IfSome (ended_after said) (λ e. (text : List ℕ) × Appends old new text × ServesToEnd account contents e before after (form ∷ []) text)
   answered_some (answer.Reply bytes) before after form old new a h = tt
   answered_some (answer.Closed bytes) before after form old new a h =
       (bytes.items, h, λ lines text s. told (answer.Closed bytes) lines before after text form s a)
@@ -226,7 +226,7 @@ module _ (account : Account) (contents : Contents) where
   answered_some answer.Memory before after form old new a h = tt
 
   pub talk_ends : (e : Ended) (before after : List TrailItem) (lines : List LineForm) (text : List ℕ) → IsOfLine e
-      → EndsWithin account contents e before after lines text → IsTalk account contents e before after lines text
+      → ServesToEndWithin account contents e before after lines text → IsTalk account contents e before after lines text
   talk_ends ended.Closed before after lines text k h = h
   talk_ends ended.Quota before after lines text k h = h
   talk_ends ended.WriteFault before after lines text k h = h
@@ -234,7 +234,7 @@ module _ (account : Account) (contents : Contents) where
   talk_ends ended.ReadFault before after lines text k h = absurd k
   talk_ends ended.Memory before after lines text k h = absurd k
 
-  within : (e : Ended) (after : List TrailItem) (lines : List LineForm) (text : List ℕ) → EndsWithin account contents e [] after lines text
+  within : (e : Ended) (after : List TrailItem) (lines : List LineForm) (text : List ℕ) → ServesToEndWithin account contents e [] after lines text
       → (asked : List LineForm) × (rest : List LineForm) × (lines ≡ asked ++ rest) × IsOver account contents e asked after text
   within e after lines text h = (h.0, h.1, h.2, h.3 [] [] (served_none account contents))
 

@@ -1,17 +1,17 @@
 -- What a session's lines are answered, as a text.
 use Rattle.std.specs.Prelude.{◌≡◌, ℕ, ◌⊎◌, Bool, true, false, List, [], ◌∷◌, ◌++◌, filter, length, map, take}
 use Rattle.dt_cred.specs.declared.account.Account.{Account}
-use Rattle.dt_legal.specs.Rows.{IsLegalRow, life_of_row, line_form_of, past_of}
+use Rattle.dt_legal.specs.Rows.{IsLegalRow, life_of_row, line_form_of, told_as}
 use Rattle.dt_life.specs.Acceptance.{IsAcceptedClose, is_close}
 use Rattle.dt_life.specs.Answer.{Answer, refused}
 use Rattle.dt_life.specs.Life.{is_over}
 use Rattle.dt_life.specs.declared.refusal.Refusal.TheVariants as refusals
 use Rattle.dt_machine.specs.Registry.{Contents}
-use Rattle.dt_proto.specs.Alone.{Reached, Alone}
+use Rattle.dt_proto.specs.Alone.{Alone}
 use Rattle.dt_proto.specs.Line.{ask_in}
 use Rattle.dt_proto.specs.Lines.{LineForm}
 use Rattle.dt_proto.specs.Reply.{reply_text}
-use Rattle.dt_proto.specs.Told.{view_told}
+use Rattle.dt_proto.specs.Told.{view_by}
 use Rattle.dt_server.specs.declared.ended.Ended.{Ended}
 use Rattle.dt_server.specs.declared.ended.Ended.TheVariants as ended
 use Rattle.dt_trail.specs.Items.{TrailItem, own, whose}
@@ -27,10 +27,6 @@ quota_text = reply_text (refused refusals.Quota)
 -- the session's own lines among the items of its trail, in order
 abbrev pub lines_in : List TrailItem → List LineForm
 lines_in items = map line_form_of (own 0 items)
-
--- what the items say that reached the session, the newest first
-abbrev pub row_view : Contents → List TrailItem → List Reached
-row_view contents items = view_told contents (past_of items)
 
 -- of the lines, those that were taken
 abbrev pub taken_lines : List Bool → List LineForm → List LineForm
@@ -59,7 +55,7 @@ pub record IsServed (account : Account) (contents : Contents) (lines : List Line
   pub own_lines : lines_in items ≡ taken_lines taken lines
   pub unclosed : filter closes (lines_in items) ≡ []
   pub answers : List Answer
-  pub alone : Alone account contents.registry (row_view contents items) answers
+  pub alone : Alone account contents.registry (view_by contents (map told_as items)) answers
   pub text_is : text ≡ woven taken (map reply_text answers)
 
 -- The last of the lines was a `close`, which was accepted, and those before it were served. It is the last item of a legal trail, and its reply, which is the
@@ -76,7 +72,7 @@ pub record IsClosed (account : Account) (contents : Contents) (lines : List Line
   pub closes : IsAcceptedClose account contents.registry (life_of_row account contents earlier) (ask_in (line_form_of item))
   pub legal : IsLegalRow account contents items
   pub answer : Answer
-  pub alone : Alone account contents.registry (row_view contents items) (served.answers ++ answer ∷ [])
+  pub alone : Alone account contents.registry (view_by contents (map told_as items)) (served.answers ++ answer ∷ [])
   pub text_is : text ≡ told ++ reply_text answer
 
 -- The last of the lines was over the quota, and those before it were served.

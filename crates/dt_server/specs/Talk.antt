@@ -32,21 +32,21 @@ module _ (account : Account) (contents : Contents) where
       → IsServed account contents (lines ++ asked) after (text ++ more)
 
   -- The same, where the service ends with the last of these lines.
-  abbrev pub Ends : Ended → (before after : List TrailItem) → List LineForm → List ℕ → Type 0
-  Ends end before after asked more = (lines : List LineForm) (text : List ℕ) → IsServed account contents lines before text
+  abbrev pub ServesToEnd : Ended → (before after : List TrailItem) → List LineForm → List ℕ → Type 0
+  ServesToEnd end before after asked more = (lines : List LineForm) (text : List ℕ) → IsServed account contents lines before text
       → IsOver account contents end (lines ++ asked) after (text ++ more)
 
   -- Of these lines the first were asked, and the service ends with the last of those.
-  abbrev pub EndsWithin : Ended → (before after : List TrailItem) → List LineForm → List ℕ → Type 0
-  EndsWithin end before after lines more = (asked : List LineForm) × (rest : List LineForm) × (lines ≡ asked ++ rest)
-      × Ends end before after asked more
+  abbrev pub ServesToEndWithin : Ended → (before after : List TrailItem) → List LineForm → List ℕ → Type 0
+  ServesToEndWithin end before after lines more = (asked : List LineForm) × (rest : List LineForm) × (lines ≡ asked ++ rest)
+      × ServesToEnd end before after asked more
 
   -- How a service ends whose client wrote these lines: where a line ends it, all before it were served, and else all.
   abbrev pub IsTalk : Ended → (before after : List TrailItem) → List LineForm → List ℕ → Type 0
   IsTalk ended.EndOfInput before after lines more = ServesOn before after lines more
   IsTalk ended.ReadFault before after lines more = ServesOn before after lines more
   IsTalk ended.Memory before after lines more = ⊥
-  IsTalk end before after lines more = EndsWithin end before after lines more
+  IsTalk end before after lines more = ServesToEndWithin end before after lines more
 
 -- The service ends with a line.
 abbrev pub IsOfLine : Ended → Type 0

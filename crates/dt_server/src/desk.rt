@@ -44,7 +44,7 @@ impl Desk {
     }
 
     /// Waits until firings are asked for, and says how many.
-    pub fn asked<R: Wait>(&self, rt: &R) -> u32 {
+    pub(crate) fn asked<R: Wait>(&self, rt: &R) -> u32 {
         let mut slot = self.slot.lock(rt);
         for _ in rt.forever() {
             if let Slot::Asked(count) = *slot {
@@ -56,7 +56,7 @@ impl Desk {
     }
 
     /// Says how many firings were made.
-    pub fn done<R: Wait>(&self, rt: &R, made: u32) {
+    pub(crate) fn done<R: Wait>(&self, rt: &R, made: u32) {
         *self.slot.lock(rt) = Slot::Done(made);
         self.turned.notify_all();
     }

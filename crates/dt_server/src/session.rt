@@ -7,7 +7,7 @@ ghost use Rattle.dt_proto.specs.HasRead.{HasRead};
 ghost use Rattle.dt_proto.specs.Lines.{LineForm, lines_of};
 ghost use Rattle.dt_legal.specs.Rows.{IsLegalRow};
 ghost use Rattle.dt_server.specs.Served.{HasServed};
-ghost use Rattle.dt_server.specs.Talk.{ServesOn, Ends, ComesOfAsking, IsTalk, IsOfLine, ended_after};
+ghost use Rattle.dt_server.specs.Talk.{ServesOn, ServesToEnd, ComesOfAsking, IsTalk, IsOfLine, ended_after};
 ghost use Rattle.dt_trail.specs.Items.{StartsWith, own};
 
 use crate::device::{Sink, Source};
@@ -118,7 +118,7 @@ fn answer_piece<J: HubSite, T: Wait, W: Sink>(
         × (lines_of (input ++ piece.now) ≡ lines_of input ++ asked))) }
     ensures some { IfSome result (λ ended. (text : List ℕ) × (asked : List LineForm)
         × Appends (W.contents sink.old) (W.contents sink.new) text
-        × Ends session.old.account J.contents ended session.old.knows session.new.knows asked text
+        × ServesToEnd session.old.account J.contents ended session.old.knows session.new.knows asked text
         × ((input : List ℕ) → HasRead input lines.old
         → (rest : List LineForm) × (lines_of (input ++ piece.now) ≡ lines_of input ++ asked ++ rest))) }
     ensures kind { IfSome result IsOfLine }
@@ -154,7 +154,7 @@ fn answer_line<J: HubSite, T: Wait, W: Sink>(
     ensures none { IfNone result ((text : List ℕ) × Appends (W.contents sink.old) (W.contents sink.new) text
         × ServesOn session.old.account J.contents session.old.knows session.new.knows (form_lent line.entry ∷ []) text) }
     ensures some { IfSome result (λ ended. (text : List ℕ) × Appends (W.contents sink.old) (W.contents sink.new) text
-        × Ends session.old.account J.contents ended session.old.knows session.new.knows (form_lent line.entry ∷ []) text) }
+        × ServesToEnd session.old.account J.contents ended session.old.knows session.new.knows (form_lent line.entry ∷ []) text) }
     ensures kind { IfSome result IsOfLine }
     ensures failures { IfNone result (W.failures sink.new ≡ W.failures sink.old) }
     ensures write_fault { IfSome result (λ ended. ended ≡ Ended.WriteFault → W.failures sink.new ≡ W.failures sink.old + 1) }

@@ -1,2 +1,3 @@
--- What the prover was told of a seat's word.
+-- What the prover was told of a seat's word, and of what was served.
 pub mod Decimals
+pub mod Views

@@ -4,7 +4,7 @@ use Rattle.std.specs.Io.KnownBytes.{Appends}
 use Rattle.dt_hub.specs.Asking.{answer_text}
 use Rattle.dt_proto.specs.Asked.{form_lent}
 use Rattle.dt_server.specs.declared.ended.Ended.{Ended}
-use Rattle.dt_server.specs.Talk.{ServesOn, Ends}
+use Rattle.dt_server.specs.Talk.{ServesOn, ServesToEnd}
 use Rattle.dt_server.proofs.Talking.{told, cut, answered_none, answered_some}
 use Rattle.dt_server.proofs.session.answer_line.Goals as goal
 
@@ -33,7 +33,7 @@ returns-then-push_all-clause-some g c =
     let old = g.W.Sink.contents c.args.sink.now in
     let new = g.W.Sink.contents c.push_all.new.sink in
     let P : Option Ended → Type 0 = λ o. IfSome o (λ e. (text : List ℕ) × Appends old new text
-    × Ends account contents e before after (form ∷ []) text) in
+    × ServesToEnd account contents e before after (form ∷ []) text) in
     let Q : List ℕ → Type 0 = λ t. Appends old new t in
     subst P (sym c.ended_by.ensures) (answered_some account contents c.ask_line-answer.result before after form old new
     c.ask_line-answer.ensures.asked (subst Q c.text.ensures (c.push_all.ensures.yes c.if-push_all.true)))

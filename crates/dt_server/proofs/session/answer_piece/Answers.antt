@@ -4,7 +4,7 @@ use Rattle.dt_cred.specs.declared.account.Account.{Account}
 use Rattle.dt_proto.specs.Asked.{form_lent}
 use Rattle.dt_proto.specs.HasRead.{HasRead, form_held, line_given}
 use Rattle.dt_proto.specs.Lines.{LineForm, lines_of}
-use Rattle.dt_server.specs.Talk.{ServesOn, Ends}
+use Rattle.dt_server.specs.Talk.{ServesOn, ServesToEnd}
 use Rattle.dt_server.proofs.Streams.{appends_none, appends_more, left}
 use Rattle.dt_server.proofs.Talking.{goes_nowhere, on_and_on, on_and_end, up_to, nothing_read, line_whole, line_part, read_lines}
 use Rattle.dt_server.proofs.session.answer_piece.Goals as goal
@@ -44,7 +44,7 @@ returns-in-Some-clause-some g c =
     let rest = c.loop-rest.rest.now in
     let used = c.feed-fed.result.used in
     let held = form_held c.feed-fed.new.self in
-    let E : Account → Type 0 = λ a. Ends a contents c.in-Some.ended known after (form ∷ []) more.0 in (
+    let E : Account → Type 0 = λ a. ServesToEnd a contents c.in-Some.ended known after (form ∷ []) more.0 in (
       before.1 ++ more.0,
       before.2 ++ form ∷ [],
       appends_more (g.W.Sink.contents c.args.sink.now) (g.W.Sink.contents c.loop-rest.sink)

@@ -1,7 +1,7 @@
 use Rattle.std.proofs.Common.{◌≡◌, ℕ, List, ◌++◌, take, sym, subst, ◌∙◌}
 use Rattle.dt_cred.specs.declared.account.Account.{Account}
 use Rattle.dt_proto.specs.Lines.{LineForm, lines_of}
-use Rattle.dt_server.specs.Talk.{ServesOn, Ends}
+use Rattle.dt_server.specs.Talk.{ServesOn, ServesToEnd}
 use Rattle.dt_server.proofs.Streams.{appends_more, consumes_more}
 use Rattle.dt_server.proofs.Talking.{on_and_on, on_and_end, talk_ends}
 use Rattle.dt_server.proofs.session.talk.Goals as goal
@@ -24,7 +24,7 @@ returns-in-Some-answer_piece-clause-talk g c =
     let e = c.in-Some-answer_piece.ended in
     let piece = take c.in-Ok.n c.pull.new.buf in
     let told = step.4 before.0 before.4 in
-    let E : Account → Type 0 = λ a. Ends a contents e known after step.1 step.0 in (
+    let E : Account → Type 0 = λ a. ServesToEnd a contents e known after step.1 step.0 in (
       before.0 ++ piece,
       before.1 ++ step.0,
       consumes_more (g.R.Source.remaining c.args.source.now) (g.R.Source.remaining c.loop.source)

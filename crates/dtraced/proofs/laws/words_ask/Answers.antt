@@ -24,6 +24,12 @@ followed = codes "dtraced" ∷ codes "replay" ∷ codes "m" ∷ codes "--trail" 
 abbrev checked : List Text
 checked = codes "dtraced" ∷ codes "check" ∷ codes "m" ∷ codes "t" ∷ []
 
+abbrev served : List Text
+served = codes "dtraced" ∷ codes "serve" ∷ codes "m" ∷ codes "f" ∷ []
+
+abbrev sent : List Text
+sent = codes "dtraced" ∷ codes "send" ∷ codes "p" ∷ []
+
 -- a seat's digits
 five : codes "5" ≡ decimal 5
 unfolding digits
@@ -56,12 +62,46 @@ returns-clause-check c = λ machine trail is told. record {
   values = (ap Some (sym is), ap Some (sym told));
 }
 
+pub returns-clause-serve : goal.returns-clause-serve
+unfolding clap_on_literals
+returns-clause-serve c = λ machine folder is told. record {
+  faultless = refl;
+  given = given_by served;
+  named = refl;
+  values = (ap Some (sym is), ap Some (sym told));
+}
+
+pub returns-clause-send : goal.returns-clause-send
+unfolding clap_on_literals
+returns-clause-send c = λ path is. record {
+  faultless = refl;
+  given = given_by sent;
+  named = refl;
+  values = ap Some (sym is);
+}
+
 -- a fault is found
 pub returns-clause-no_trail : goal.returns-clause-no_trail
 unfolding clap_on_literals
 returns-clause-no_trail c = λ asked h.
     let found : is_nothing (fault_of program (codes "dtraced" ∷ codes "check" ∷ codes "m" ∷ [])) ≡ false = refl in
     let none : is_nothing (fault_of program (codes "dtraced" ∷ codes "check" ∷ codes "m" ∷ [])) ≡ true =
+    ap is_nothing h.faultless in
+    cc
+
+pub returns-clause-no_folder : goal.returns-clause-no_folder
+unfolding clap_on_literals
+returns-clause-no_folder c = λ asked h.
+    let found : is_nothing (fault_of program (codes "dtraced" ∷ codes "serve" ∷ codes "m" ∷ [])) ≡ false = refl in
+    let none : is_nothing (fault_of program (codes "dtraced" ∷ codes "serve" ∷ codes "m" ∷ [])) ≡ true =
+    ap is_nothing h.faultless in
+    cc
+
+pub returns-clause-no_path : goal.returns-clause-no_path
+unfolding clap_on_literals
+returns-clause-no_path c = λ asked h.
+    let found : is_nothing (fault_of program (codes "dtraced" ∷ codes "send" ∷ [])) ≡ false = refl in
+    let none : is_nothing (fault_of program (codes "dtraced" ∷ codes "send" ∷ [])) ≡ true =
     ap is_nothing h.faultless in
     cc
 
