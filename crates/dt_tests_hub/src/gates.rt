@@ -160,6 +160,9 @@ fn looks_on<J: HubSite, R: Wait + Abort + Clock>(
     hub.tell(other, receipt);
     assert!(rt; matches!(hub.look(other), Looked::At { .. }));
     assert_eq!(rt; hub.seen(&mut session), 2);
+    let newcomer = opened(rt, alloc, hub, "root");
+    assert_eq!(rt; newcomer.seat().number(), 1);
+    hub.close(rt, newcomer);
     hold.let_go.raise();
     hub.close(rt, session);
 }
