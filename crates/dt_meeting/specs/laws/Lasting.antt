@@ -95,10 +95,10 @@ module _ (account : Account) (contents : Contents) where
   -- an accepted `go` has begun to trace
   pub go_begins : (row : List TrailItem) (item : TrailItem) → whose item ≡ 0 → IsGoAfter account contents row item
       → is_inactive (PhaseOf (row ++ item ∷ [])) ≡ false
-  go_begins row item mine go =
+  go_begins row item mine accepted =
       ap (λ (life : List Item). is_inactive (phase account contents.registry life)) (lived item mine)
-      ∙ ap (λ (said : Result Ask Refusal). is_inactive (phase account contents.registry (asked said ∷ Lived row))) go.3
-      ∙ ap is_inactive (beginning account contents.registry (set_up account contents.registry (Lived row)) go.1 go.2)
+      ∙ ap (λ (said : Result Ask Refusal). is_inactive (phase account contents.registry (asked said ∷ Lived row))) accepted.3
+      ∙ ap is_inactive (beginning account contents.registry (set_up account contents.registry (Lived row)) accepted.1 accepted.2)
       ∙ by_end (end_by account contents.registry (with_event (since_then (set_up account contents.registry (Lived row)) []) began) began)
     where
       lived : (x : TrailItem) → whose x ≡ 0 → Lived (row ++ x ∷ []) ≡ asked (ask_in (line_form_of x)) ∷ Lived row
