@@ -4,7 +4,9 @@ ghost use Rattle.dt_facts.specs.Rule.{both, book, share, lists_begun};
 ghost use Rattle.dt_facts.specs.Handles.{IsOf, IsShare, IsBook, IsBoth, IsBeginning};
 ghost use Rattle.dt_facts.specs.Facts.{Follows, HaveGrown, lists_in, longer_lists};
 
-use crate::rule::{AgreesWithBook, CutsBeginning, ComparesLists, Given, GoesOnTo, Place, Repeats, Shares};
+use crate::rule::{
+    AgreesWithBook, ComparesLists, CutsBeginning, Given, GoesOnTo, Place, Repeats, Shares,
+};
 use crate::word::Facts;
 use std::mem;
 

@@ -12,7 +12,10 @@ use crate::door::Door;
 use crate::inner::{Inner, ROOT, RowSeat};
 use crate::item::Item;
 use crate::law::Law;
-use crate::rule::{ComparesItems, Lays, Learns, Lends, Picked, Plans, ReadsCell, SeesItems, Sets, TellsItems, Turns};
+use crate::rule::{
+    ComparesItems, Lays, Learns, Lends, Picked, Plans, ReadsCell, SeesItems, Sets, TellsItems,
+    Turns,
+};
 use atomic_blocks::rows::{Link, Loose};
 use std::alloc::Global;
 
@@ -119,7 +122,9 @@ pub fn show_all<K, L: Law<K>>(
     ensures met { StartsWith right.me.view.knows seat.old.me.view.knows × (own seat.old.me.view.note right.me.view.knows ≡ own seat.old.me.view.note seat.old.me.view.knows) }
 {
     lend(inner, seat, right);
-    inner.rows.load::<ComparesItems>(seat, ROOT, inner.about.root, 0);
+    inner
+        .rows
+        .load::<ComparesItems>(seat, ROOT, inner.about.root, 0);
     hand_back(inner, seat)
 }
 
