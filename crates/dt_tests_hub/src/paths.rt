@@ -108,3 +108,45 @@ impl Play for LooksFirst {
 fn looks_take_nothing(rt: HostRuntime) -> Result<(), Fail> {
     run(&rt, rt.alloc(), MACHINE, &LooksFirst)
 }
+
+/// A look names nobody on the first seat.
+fn names_nobody<J: HubSite, R: Abort>(rt: &R, hub: &Hub<J>, token: &mut CpuSeat<J>) {
+    match (hub.look(token), Seat::new(0)) {
+        (Looked::At { mask, .. }, Some(seat)) => assert_eq!(rt; mask.life_of(seat), None),
+        _ => assert!(rt; false, "no look"),
+    }
+}
+
+/// What has stopped or closed is named no more.
+struct Withdrawn;
+
+impl Play for Withdrawn {
+    fn play<J: HubSite, R: Wait + Abort>(
+        &self,
+        rt: &R,
+        alloc: Global,
+        hub: &Hub<J>,
+        tokens: Vec<CpuSeat<J>>,
+    ) -> Result<(), Fail> {
+        let mut tokens = tokens;
+        let mut session = opened(rt, alloc, hub, "root");
+        says(rt, alloc, hub, &mut session, ENABLE, ENABLED);
+        says(rt, alloc, hub, &mut session, GO, DONE);
+        looks(rt, hub, &mut tokens[0], 0);
+        says(rt, alloc, hub, &mut session, STOP, DONE);
+        names_nobody(rt, hub, &mut tokens[0]);
+        hub.close(rt, session);
+        let mut session = opened(rt, alloc, hub, "root");
+        says(rt, alloc, hub, &mut session, ENABLE, ENABLED);
+        says(rt, alloc, hub, &mut session, GO, DONE);
+        looks(rt, hub, &mut tokens[0], 1);
+        hub.close(rt, session);
+        names_nobody(rt, hub, &mut tokens[0]);
+        Ok(())
+    }
+}
+
+#[test]
+fn a_publication_goes_with_its_tracing(rt: HostRuntime) -> Result<(), Fail> {
+    run(&rt, rt.alloc(), MACHINE, &Withdrawn)
+}

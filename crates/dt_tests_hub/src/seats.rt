@@ -1,38 +1,55 @@
 //! As many sessions as there are seats, and one too many.
-use crate::calls::{Play, opened, run, says};
+use crate::calls::{Play, at_seat, fired, opened, run, says};
 use crate::paths::{DONE, ENABLE, ENABLED, GO, MACHINE};
 use dt_chain::SEATS;
-use dt_hub::{CpuSeat, Hub, HubSite, OpenFault};
+use dt_hub::{CpuSeat, Fired, Hub, HubSite, NoGate, Offered, OpenFault};
 use std::alloc::Global;
 use std::process::Abort;
 use std::sync::Wait;
 use std::test::Fail;
 
-/// Opens sessions on the seats from this one on, looks that no further one is had, and closes them.
+/// No further session is had.
+fn has_no_seat<J: HubSite, R: Wait + Abort>(rt: &R, alloc: Global, hub: &Hub<J>) {
+    match hub.open(rt, alloc, b"root") {
+        Ok(session) => {
+            hub.close(rt, session);
+            assert!(rt; false, "a session too many");
+        }
+        Err(fault) => assert_eq!(rt; fault, OpenFault::Full),
+    }
+}
+
+/// A processor's only firing is kept at each seat.
+fn keeps_at_all<J: HubSite, R: Wait + Abort>(rt: &R, hub: &Hub<J>, token: &mut CpuSeat<J>) {
+    assert_eq!(rt; fired(rt, hub, token, &NoGate), Fired::At(0));
+    for number in 0..SEATS as u32 {
+        assert_eq!(rt; at_seat(token, number), Offered::Kept);
+    }
+}
+
+/// Opens sessions that trace on the seats from this one on, looks that no further one is had and that a firing is kept by all, and closes them.
 fn opens_from<J: HubSite, R: Wait + Abort>(
     rt: &R,
     alloc: Global,
     hub: &Hub<J>,
+    token: &mut CpuSeat<J>,
     seat: u32,
     left: u32,
 ) {
     if left == 0 {
-        match hub.open(rt, alloc, b"root") {
-            Ok(session) => {
-                hub.close(rt, session);
-                assert!(rt; false, "a session too many");
-            }
-            Err(fault) => assert_eq!(rt; fault, OpenFault::Full),
-        }
+        has_no_seat(rt, alloc, hub);
+        keeps_at_all(rt, hub, token);
         return;
     }
-    let session = opened(rt, alloc, hub, "root");
+    let mut session = opened(rt, alloc, hub, "root");
     assert_eq!(rt; session.seat().number(), seat);
-    opens_from(rt, alloc, hub, seat + 1, left - 1);
+    says(rt, alloc, hub, &mut session, ENABLE, ENABLED);
+    says(rt, alloc, hub, &mut session, GO, DONE);
+    opens_from(rt, alloc, hub, token, seat + 1, left - 1);
     hub.close(rt, session);
 }
 
-/// All seats are taken, twice.
+/// All seats are taken, and trace, twice.
 struct AllSeats;
 
 impl Play for AllSeats {
@@ -43,9 +60,10 @@ impl Play for AllSeats {
         hub: &Hub<J>,
         tokens: Vec<CpuSeat<J>>,
     ) -> Result<(), Fail> {
-        drop(tokens);
-        opens_from(rt, alloc, hub, 0, SEATS as u32);
-        opens_from(rt, alloc, hub, 0, SEATS as u32);
+        let mut tokens = tokens;
+        assert_eq!(rt; tokens.len(), 2);
+        opens_from(rt, alloc, hub, &mut tokens[0], 0, SEATS as u32);
+        opens_from(rt, alloc, hub, &mut tokens[1], 0, SEATS as u32);
         Ok(())
     }
 }

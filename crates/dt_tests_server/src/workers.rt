@@ -1,6 +1,6 @@
 //! A service in this process, and its clients: what they are answered, and that each processor has a thread of its own.
 use dt_chain::SEATS;
-use dt_hub::{Context, Gate, NoGate};
+use dt_hub::{Gate, Moment, NoGate};
 use dt_machine::Machine;
 use dt_names::Name;
 use dt_server::{AccountSocket, Desk, Shared, serve_machine};
@@ -70,17 +70,17 @@ impl<C: Clock> Meeting<C> {
 }
 
 impl<C: Clock> Gate for Meeting<C> {
-    fn at(&self, cpu: u32, _seat: u32, context: Context) {
-        match (cpu, context) {
-            (0, Context::Locked) => {
+    fn at(&self, cpu: u32, _seat: u32, moment: Moment) {
+        match (cpu, moment) {
+            (0, Moment::Locked) => {
                 self.locked.store(true, Ordering::SeqCst);
                 let met = self.waits(&self.passed);
                 self.met.store(met, Ordering::SeqCst);
             }
-            (1, Context::Before) => {
+            (1, Moment::Before) => {
                 let _locked = self.waits(&self.locked);
             }
-            (1, Context::After) => self.passed.store(true, Ordering::SeqCst),
+            (1, Moment::After) => self.passed.store(true, Ordering::SeqCst),
             _ => {}
         }
     }

@@ -1,7 +1,7 @@
 //! What holds of a replay's trail and a check together, of a service's sessions and the world of steps together, and what the program's words ask
 //! for, written out.
 ghost use Rattle.std.specs.Borrow.{Bor};
-ghost use Rattle.std.specs.Prelude.{◌≡◌, ◌⊎◌, ℕ, Bool, List, [], ◌∷◌, Some, None, codes, map};
+ghost use Rattle.std.specs.Prelude.{◌≡◌, ◌⊎◌, ℕ, Bool, List, [], ◌∷◌, Some, None, codes, length, map};
 ghost use Rattle.dt_alone.specs.Verdicts.{IsVerdictOn};
 ghost use Rattle.dt_alone.specs.declared.verdict.Verdict.TheVariants.{Agree};
 ghost use Rattle.dt_cred.specs.Rights.{HasDtrace};
@@ -11,7 +11,7 @@ ghost use Rattle.dt_machine.specs.Reading.{IsDescribed};
 ghost use Rattle.dt_machine.specs.Registry.{Contents, account_of};
 ghost use Rattle.dt_proto.specs.Lines.{LineForm};
 ghost use Rattle.dt_proto.specs.Told.{view_by};
-ghost use Rattle.dt_server.specs.Served.{HasServed, IsServed, woven};
+ghost use Rattle.dt_server.specs.Served.{HasServed, IsServed, lines_in, taken_lines, woven};
 ghost use Rattle.dt_server.specs.declared.ended.Ended.{Ended};
 ghost use Rattle.dt_steps.specs.Ran.{SeatReply, AreReplies, told_to};
 ghost use Rattle.dt_steps.specs.Steps.{StepForm, world_after};
@@ -40,7 +40,7 @@ pub fn written_trails_agree()
 
 /// Law: what a service's session has served is what a session sees in some list of steps: the items of its receipt are the seen view of one there.
 /// And where all that came was answered, what is written to its client are the replies that this session is told there, with the fixed refusal at the places of the
-/// lines for which there was no memory.
+/// lines for which there was no memory: those that aren't among the trail's. Where there was no memory to begin with, nothing was served.
 pub fn served_trails_are_views()
     ensures views { (contents : Contents) (name : List ℕ) (account : Account) (ended : Ended) (lines : List LineForm)
         (items : List TrailItem) (text : List ℕ)
@@ -53,7 +53,8 @@ pub fn served_trails_are_views()
         → IsServed account contents lines items text
         → HasSeen contents.registry steps seat n account (view_by contents (map told_as items))
         → AreReplies contents.registry (world_after contents.registry steps).questions told
-        → (taken : List Bool) × (text ≡ woven taken (told_to seat n (world_after contents.registry steps).questions told)) }
+        → (taken : List Bool) × (length taken ≡ length lines) × (lines_in items ≡ taken_lines taken lines)
+        × (text ≡ woven taken (told_to seat n (world_after contents.registry steps).questions told)) }
 {
     one_reply();
     trail_is_told();

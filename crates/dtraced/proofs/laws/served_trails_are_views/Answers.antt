@@ -19,5 +19,5 @@ returns c = record {
       let own = c.trail_is_told.ensures.alone contents.registry steps seat n account view told seen replies in
       let same : own.0 ≡ served.answers =
       one_alone c.one_reply.ensures account contents.registry view own.0 served.answers own.1 served.alone in
-      (served.taken, served.text_is ∙ ap (woven served.taken) (sym (own.2 ∙ ap (map reply_text) same)));
+      (served.taken, served.each, served.own_lines, served.text_is ∙ ap (woven served.taken) (sym (own.2 ∙ ap (map reply_text) same)));
 }
