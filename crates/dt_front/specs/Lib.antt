@@ -4,3 +4,5 @@ pub mod Escaping
 pub mod Columns
 pub mod Picture
 pub mod PictureForms
+pub mod Rows
+pub mod RowForms

@@ -7,7 +7,9 @@
 mod columns;
 mod escaping;
 mod picture;
+mod row;
 
 pub use columns::{push_blanks, push_left, push_number, push_right};
 pub use escaping::push_shown;
 pub use picture::{PictureRow, push_picture};
+pub use row::{RowProbe, push_full_row, push_rows_head, push_values};
