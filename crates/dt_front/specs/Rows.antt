@@ -5,6 +5,7 @@ use Rattle.std.specs.List.{flat_map, position_or_len}
 use Rattle.std.specs.Int.{bytes_high_first}
 use Rattle.dt_record.specs.Split.{RecordedForm, RecordForm, number, text, frames}
 use Rattle.dt_front.specs.Columns.{at_right}
+use Rattle.dt_front.specs.Parts.{before_byte}
 use Rattle.dt_front.specs.Escaping.{hex_digit, shown}
 
 -- a probe as a row names it: its identifier, and its function and name with a `:` between them
@@ -33,14 +34,10 @@ frame_bytes frame = bytes_high_first 8 frame
 abbrev pub frame_line : ℕ → List ℕ
 frame_line frame = if frame == 0 then [] else codes "\n              0x" ++ flat_map hex_byte (frame_bytes frame)
 
--- a text of a record: what stands before its zeros
-abbrev pub unfilled : List ℕ → List ℕ
-unfilled bytes = take (position_or_len (λ byte. byte == 0) bytes) bytes
-
 -- a value in a row: a number in decimal, a text without its zeros, a stack a frame a line
 abbrev pub value_text : RecordedForm → List ℕ
 value_text (number z) = codes "  " ++ signed_decimal z
-value_text (text bytes) = codes "  " ++ shown (unfilled bytes)
+value_text (text bytes) = codes "  " ++ shown (before_byte 0 bytes)
 value_text (frames list) = flat_map frame_line list
 
 -- A record's row. Without the column of probes only its values stand there.

@@ -6,10 +6,22 @@
 
 mod columns;
 mod escaping;
+mod fields;
+mod parts;
 mod picture;
+mod probes;
+mod records;
+mod refusal;
 mod row;
+mod table;
 
 pub use columns::{push_blanks, push_left, push_number, push_right};
 pub use escaping::push_shown;
+pub use fields::{number_field, text_field};
+pub use parts::{after_byte, before_byte};
 pub use picture::{PictureRow, push_picture};
+pub use probes::{push_probe, push_probes_head};
+pub use records::{push_rows, records_in, unknown_epid};
+pub use refusal::{Refusal, push_caret};
 pub use row::{RowProbe, push_full_row, push_rows_head, push_values};
+pub use table::{KeyPart, push_key, push_number_line, push_title};

@@ -3,11 +3,12 @@ ghost use Rattle.std.specs.Prelude.{◌≡◌, ◌++◌, OnOk, map};
 ghost use Rattle.std.specs.List.{flat_map};
 ghost use Rattle.dt_record.specs.Records.{form_of_record, form_of_recorded};
 ghost use Rattle.dt_front.specs.Rows as spec;
-ghost use Rattle.dt_front.specs.Rows.{frame_line, full_row, hex_byte, row_columns, rows_head, unfilled, value_text, values_text};
+ghost use Rattle.dt_front.specs.Rows.{frame_line, full_row, hex_byte, row_columns, rows_head, value_text, values_text};
 ghost use Rattle.dt_front.specs.RowForms.{form_of_row_probe};
 
 use crate::columns::push_right;
 use crate::escaping::{hex_digit, push_shown};
+use crate::parts::before_byte;
 use dt_record::{Record, Recorded};
 use itoa::Buffer;
 use std::alloc::{AllocError, Global};
@@ -77,7 +78,7 @@ fn push_value(out: &mut Vec<u8>, value: &Recorded) -> Result<(), AllocError>
         }
         Recorded::Text(bytes) => {
             out.extend_from_slice(b"  ")?;
-            push_shown(out, before_zeros(bytes))
+            push_shown(out, before_byte(0, bytes))
         }
         Recorded::Frames(frames) => push_frames(out, frames),
     }
@@ -121,14 +122,4 @@ fn push_hex(out: &mut Vec<u8>, bytes: &[u8]) -> Result<(), AllocError>
         out.push(hex_digit(*byte % 16))?;
     }
     Ok(())
-}
-
-/// What stands before the first zero of a text that is filled with zeros.
-fn before_zeros(bytes: &[u8]) -> &[u8]
-    ensures { result.now ≡ unfilled bytes.now }
-{
-    match bytes.iter().position(|byte| *byte == 0) {
-        Some(end) => &bytes[..end],
-        None => bytes,
-    }
 }
