@@ -5,22 +5,26 @@
 #![tactic(auto)]
 
 mod columns;
+mod distribution;
 mod escaping;
 mod fields;
 mod parts;
 mod picture;
 mod probes;
+mod reading;
 mod records;
 mod refusal;
 mod row;
 mod table;
 
 pub use columns::{push_blanks, push_left, push_number, push_right};
+pub use distribution::{Counted, counts_total, level_rows, power_rows, rows_total};
 pub use escaping::push_shown;
 pub use fields::{number_field, text_field};
 pub use parts::{after_byte, before_byte};
 pub use picture::{PictureRow, push_picture};
 pub use probes::{push_probe, push_probes_head};
+pub use reading::{counts_in, key_in, layout_in, signed_in};
 pub use records::{push_rows, records_in, unknown_epid};
 pub use refusal::{Refusal, push_caret};
 pub use row::{RowProbe, push_full_row, push_rows_head, push_values};

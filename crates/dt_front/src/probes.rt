@@ -2,7 +2,7 @@
 ghost use Rattle.std.specs.Prelude.{◌≡◌, ◌++◌, OnOk};
 ghost use Rattle.dt_front.specs.Columns.{at_right};
 ghost use Rattle.dt_front.specs.Escaping.{shown};
-ghost use Rattle.dt_front.specs.Probes.{probe_line, probes_head};
+ghost use Rattle.dt_front.specs.Probes.{probe_columns, probe_line, probe_names, probes_head};
 
 use crate::columns::push_right;
 use crate::escaping::push_shown;
@@ -21,19 +21,31 @@ pub fn push_probes_head(out: &mut Vec<u8>) -> Result<(), AllocError>
 pub fn push_probe(alloc: Global, out: &mut Vec<u8>, id: u64, name: &[u8]) -> Result<(), AllocError>
     ensures { OnOk result (out.new.items ≡ out.old.items ++ probe_line id name.now) }
 {
-    let after_provider = after_byte(b':', name);
-    let after_module = after_byte(b':', after_provider);
+    push_probe_columns(alloc, out, id, name)?;
+    push_probe_names(alloc, out, after_byte(b':', after_byte(b':', name)))
+}
+
+/// Adds the last columns of a probe's line, its function and its name, by what stands after its module.
+fn push_probe_names(alloc: Global, out: &mut Vec<u8>, after: &[u8]) -> Result<(), AllocError>
+    ensures { OnOk result (out.new.items ≡ out.old.items ++ probe_names after.now) }
+{
+    out.push(b' ')?;
+    push_shown_right(alloc, out, 33, before_byte(b':', after))?;
+    out.push(b' ')?;
+    push_shown(out, after_byte(b':', after))?;
+    out.push(b'\n')?;
+    Ok(())
+}
+
+/// Adds the first columns of a probe's line: its identifier, its provider and its module.
+fn push_probe_columns(alloc: Global, out: &mut Vec<u8>, id: u64, name: &[u8]) -> Result<(), AllocError>
+    ensures { OnOk result (out.new.items ≡ out.old.items ++ probe_columns id name.now) }
+{
     push_right(out, 5, Buffer::new().format(id).as_bytes())?;
     out.push(b' ')?;
     push_shown_right(alloc, out, 10, before_byte(b':', name))?;
     out.push(b' ')?;
-    push_shown_right(alloc, out, 17, before_byte(b':', after_provider))?;
-    out.push(b' ')?;
-    push_shown_right(alloc, out, 33, before_byte(b':', after_module))?;
-    out.push(b' ')?;
-    push_shown(out, after_byte(b':', after_module))?;
-    out.push(b'\n')?;
-    Ok(())
+    push_shown_right(alloc, out, 17, before_byte(b':', after_byte(b':', name)))
 }
 
 /// Adds what a terminal is shown for a text, at the right of a column of this width.

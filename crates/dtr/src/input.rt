@@ -1,0 +1,39 @@
+//! The end of standard input.
+
+use crate::fault::Fault;
+use std::alloc::Global;
+use std::io::Read;
+use std::sync::Arc;
+use std::sync::atomic::{AtomicBool, Ordering};
+use std::thread;
+use std::thread::Threads;
+
+/// Starts a thread that reads standard input, and gives what it sets once the input has ended. The end of the process ends the thread.
+pub(crate) fn watch_input<T: Input + Threads + Send + Sync + Copy + Drop + 'static>(
+    alloc: Global,
+    threads: T,
+) -> Result<Arc<AtomicBool>, Fault> {
+    let ended = Arc::new(alloc, AtomicBool::new(false))?;
+    let theirs = Arc::try_clone(&ended)?;
+    let spawned = thread::spawn(&threads, move || {
+        read_all(&threads);
+        theirs.store(true, Ordering::SeqCst);
+    });
+    match spawned {
+        Ok(handle) => drop(handle),
+        Err(_) => return Err(Fault::Memory),
+    }
+    Ok(ended)
+}
+
+/// Reads standard input to its end, or to its first fault.
+fn read_all<R: Input>(rt: &R) {
+    let mut input = rt.reader();
+    let mut buffer = [0_u8; 512];
+    for _ in 0..u64::MAX {
+        match input.read(&mut buffer) {
+            Ok(0) | Err(_) => return,
+            Ok(_) => {}
+        }
+    }
+}
