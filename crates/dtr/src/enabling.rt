@@ -8,8 +8,8 @@ use dt_front::{Refusal, number_field, push_caret};
 use serde_json::Value;
 use std::alloc::Global;
 
-/// Sets the options, enables the programs, and says how many probes matched. Gives how many enablings there are.
-pub(crate) fn set_up<R: Print + AllocGlobal>(
+/// Sets the options, and enables the programs. Gives how many enablings there are.
+pub(crate) fn set_up<R: Print + Eprint + AllocGlobal>(
     rt: &R,
     session: &mut Session<'_>,
     options: &[&str],
@@ -22,13 +22,11 @@ pub(crate) fn set_up<R: Print + AllocGlobal>(
     for program in programs {
         count = count.saturating_add(enable(rt, session, program)?);
     }
-    let matched = format!(in rt.alloc(); "dtr: {count} {} matched\n", if count == 1 { "probe" } else { "probes" })?;
-    tell(rt, matched.as_bytes());
     Ok(count)
 }
 
 /// Sets an option.
-fn set_option<R: Print + AllocGlobal>(rt: &R, session: &mut Session<'_>, word: &str) -> Result<(), Fault> {
+fn set_option<R: Print + Eprint + AllocGlobal>(rt: &R, session: &mut Session<'_>, word: &str) -> Result<(), Fault> {
     let alloc = rt.alloc();
     let Some(line) = requests::option(alloc, word)? else {
         return Err(Fault::Usage);
@@ -39,7 +37,7 @@ fn set_option<R: Print + AllocGlobal>(rt: &R, session: &mut Session<'_>, word: &
 }
 
 /// Enables a program, and gives how many enablings it made.
-fn enable<R: Print + AllocGlobal>(rt: &R, session: &mut Session<'_>, program: &str) -> Result<u64, Fault> {
+fn enable<R: Print + Eprint + AllocGlobal>(rt: &R, session: &mut Session<'_>, program: &str) -> Result<u64, Fault> {
     let alloc = rt.alloc();
     let line = requests::with_text(alloc, "enable", "text", program)?;
     let reply = session.ask(alloc, &line)?;
@@ -47,14 +45,18 @@ fn enable<R: Print + AllocGlobal>(rt: &R, session: &mut Session<'_>, program: &s
     number_field(&reply, "count").ok_or(Fault::Strange)
 }
 
-/// Begins to trace.
-pub(crate) fn begin<R: Print + AllocGlobal>(rt: &R, session: &mut Session<'_>) -> Result<(), Fault> {
+/// Begins to trace, and says how many probes matched.
+pub(crate) fn begin<R: Print + Eprint + AllocGlobal>(rt: &R, session: &mut Session<'_>, count: u64) -> Result<(), Fault> {
     let reply = session.ask(rt.alloc(), "{\"cmd\":\"go\"}")?;
-    accepted(rt, &reply, "tracing doesn't begin", None)
+    accepted(rt, &reply, "tracing doesn't begin", None)?;
+    let probes = if count == 1 { "probe" } else { "probes" };
+    let matched = format!(in rt.alloc(); "dtr: {count} {probes} matched\n")?;
+    tell(rt, matched.as_bytes());
+    Ok(())
 }
 
 /// Says why a reply is a refusal, where it is one, with the place in a program's text that is meant.
-pub(crate) fn accepted<R: Print + AllocGlobal>(
+pub(crate) fn accepted<R: Print + Eprint + AllocGlobal>(
     rt: &R,
     reply: &Value,
     what: &str,

@@ -13,10 +13,11 @@ use std::sync::atomic::{AtomicBool, Ordering};
 use std::thread;
 use std::time::{Duration, Instant};
 
-/// How long the program sleeps at once: then it looks whether its time is over, or standard input has ended.
-const NAP: Duration = Duration::from_millis(50);
+/// How many milliseconds the program sleeps at once: then it looks whether its time is over, or standard input has ended.
+const NAP: u64 = 50;
 
 /// How a session is followed.
+#[derive(Drop)]
 pub(crate) struct Plan<'a> {
     /// How long there is between two looks, while lines are plenty.
     pub(crate) every: Duration,
@@ -42,7 +43,7 @@ enum Over {
 }
 
 /// Follows a session until its tracing has ended, and writes what was recorded. Gives the status with which a clause exited, where one did.
-pub(crate) fn follow<R: Print + AllocGlobal + Clock, F: Write>(
+pub(crate) fn follow<R: Print + Eprint + AllocGlobal + Clock, F: Write>(
     rt: &R,
     session: &mut Session<'_>,
     known: &mut Known,
@@ -50,14 +51,14 @@ pub(crate) fn follow<R: Print + AllocGlobal + Clock, F: Write>(
     file: &mut Option<F>,
 ) -> Result<Option<i64>, Fault> {
     let begun = Instant::now(rt).map_err(|_| Fault::Clock)?;
-    let mut over = None;
+    let mut cpus = 0_u64;
     for _ in 0..u64::MAX {
-        if let Some(why) = over {
+        if let Some(why) = wait(rt, session, plan, cpus, known, begun)? {
             stop(rt, session, why)?;
         }
         let status = status_of(rt, session)?;
         let stopped = text_field(&status, "phase") == Some("stopped");
-        let cpus = tell_errors(rt, known, &status)?;
+        cpus = tell_errors(rt, known, &status)?;
         let seen = number_field(&status, "seen").ok_or(Fault::Strange)?;
         if stopped || (plan.readable && seen != known.seen) {
             known.seen = seen;
@@ -66,13 +67,12 @@ pub(crate) fn follow<R: Print + AllocGlobal + Clock, F: Write>(
         if stopped {
             return Ok(status.get("exit").and_then(signed_in));
         }
-        over = wait(rt, session, plan, cpus, known, begun)?;
     }
     Ok(None)
 }
 
 /// Ends tracing. Where it has just ended by itself, that is as well.
-fn stop<R: Print + AllocGlobal>(rt: &R, session: &mut Session<'_>, why: Over) -> Result<(), Fault> {
+fn stop<R: Print + Eprint + AllocGlobal>(rt: &R, session: &mut Session<'_>, why: Over) -> Result<(), Fault> {
     if why == Over::Lines {
         tell(rt, b"dtr: the session's 1,024 lines are nearly spent, so tracing ends here\n");
     }
@@ -81,14 +81,14 @@ fn stop<R: Print + AllocGlobal>(rt: &R, session: &mut Session<'_>, why: Over) ->
 }
 
 /// How far the session has come.
-fn status_of<R: Print + AllocGlobal>(rt: &R, session: &mut Session<'_>) -> Result<Value, Fault> {
+fn status_of<R: Print + Eprint + AllocGlobal>(rt: &R, session: &mut Session<'_>) -> Result<Value, Fault> {
     let reply = session.ask(rt.alloc(), "{\"cmd\":\"status\"}")?;
     accepted(rt, &reply, "the session doesn't say how far it is", None)?;
     Ok(reply)
 }
 
 /// Reads all buffers, and writes what was recorded.
-fn take_snaps<R: Print + AllocGlobal, F: Write>(
+fn take_snaps<R: Print + Eprint + AllocGlobal, F: Write>(
     rt: &R,
     session: &mut Session<'_>,
     known: &mut Known,
@@ -105,7 +105,7 @@ fn take_snaps<R: Print + AllocGlobal, F: Write>(
 }
 
 /// Tells which errors and drops of aggregations are new on each processor, and gives how many processors there are.
-fn tell_errors<R: Print + AllocGlobal>(rt: &R, known: &mut Known, status: &Value) -> Result<u64, Fault> {
+fn tell_errors<R: Print + Eprint + AllocGlobal>(rt: &R, known: &mut Known, status: &Value) -> Result<u64, Fault> {
     let (Some(errors), Some(aggdrops)) = (
         status.get("errors").and_then(|errors| errors.as_array()),
         status.get("aggdrops").and_then(|drops| drops.as_array()),
@@ -126,7 +126,7 @@ fn tell_errors<R: Print + AllocGlobal>(rt: &R, known: &mut Known, status: &Value
 }
 
 /// Tells how much a number of a processor has grown, where it has.
-fn tell_more<R: Print + AllocGlobal>(
+fn tell_more<R: Print + Eprint + AllocGlobal>(
     rt: &R,
     told: &mut Vec<u64>,
     cpu: u64,
@@ -168,7 +168,7 @@ fn wait<R: Clock>(
         if waited.as_millis() >= plan.every.as_millis().saturating_mul(u128::from(times)) {
             return Ok(None);
         }
-        thread::sleep(rt, NAP);
+        thread::sleep(rt, Duration::from_millis(NAP));
     }
     Ok(None)
 }

@@ -9,7 +9,7 @@ use std::io::Write;
 use std::rt::Files;
 
 /// Says whether a machine file would be read, and if not, which key is wrong where, with the refusal's number. Gives the status.
-pub(crate) fn judge_machine<R: Files + Print + AllocGlobal>(rt: &R, path: &str) -> Result<u8, Fault> {
+pub(crate) fn judge_machine<R: Files + Print + Eprint + AllocGlobal>(rt: &R, path: &str) -> Result<u8, Fault> {
     let alloc = rt.alloc();
     let text = fs::read(rt, path).map_err(|_| Fault::File)?;
     let fault = match Machine::read(alloc, &text) {

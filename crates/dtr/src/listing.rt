@@ -9,7 +9,7 @@ use dt_front::{number_field, push_probe, push_probes_head, text_field};
 use std::io::Write;
 
 /// Writes the table of the probes that the account may enable and a description asks for.
-pub(crate) fn list_probes<R: Print + AllocGlobal, F: Write>(
+pub(crate) fn list_probes<R: Print + Eprint + AllocGlobal, F: Write>(
     rt: &R,
     session: &mut Session<'_>,
     description: &str,

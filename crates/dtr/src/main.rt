@@ -49,7 +49,7 @@ fn main(rt: HostRuntime) -> ExitCode {
 }
 
 /// Does what the program's words ask for, and gives the status.
-fn execute<R: Files + Net + Env + Print + AllocGlobal + Clock, T: Input + Threads + Send + Sync + Copy + Drop + 'static>(
+fn execute<R: Files + Net + Env + Print + Eprint + AllocGlobal + Clock, T: Input + Threads + Send + Sync + Copy + Drop + 'static>(
     rt: &R,
     threads: T,
 ) -> Result<u8, Fault> {
@@ -95,7 +95,7 @@ fn programs_of<R: Files + AllocGlobal>(rt: &R, words: &Words<'_>) -> Result<Vec<
 }
 
 /// Traces, and gives the status with which a clause exited, or 0.
-fn trace<R: Print + AllocGlobal + Clock, T: Input + Threads + Send + Sync + Copy + Drop + 'static, F: Write>(
+fn trace<R: Print + Eprint + AllocGlobal + Clock, T: Input + Threads + Send + Sync + Copy + Drop + 'static, F: Write>(
     rt: &R,
     threads: T,
     session: &mut Session<'_>,
@@ -109,12 +109,7 @@ fn trace<R: Print + AllocGlobal + Clock, T: Input + Threads + Send + Sync + Copy
     let count = set_up(rt, session, &words.options, programs)?;
     let policy = policy_in(&words.options);
     let mut known = Known::new(alloc, count, policy == "switch")?;
-    begin(rt, session)?;
-    let mut out = Vec::new(alloc);
-    if !shape.quiet && !shape.json {
-        dt_front::push_rows_head(&mut out)?;
-        write_out(rt, file, &mut out)?;
-    }
+    begin(rt, session, count)?;
     let ended = watch_input(alloc, threads)?;
     let plan = Plan {
         every: words.every,
@@ -125,6 +120,7 @@ fn trace<R: Print + AllocGlobal + Clock, T: Input + Threads + Send + Sync + Copy
         shape,
     };
     let exit = follow(rt, session, &mut known, &plan, file)?;
+    let mut out = Vec::new(alloc);
     for aggregation in &aggregations {
         push_table(rt, session, aggregation, shape, &mut out)?;
         write_out(rt, file, &mut out)?;

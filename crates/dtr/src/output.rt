@@ -22,7 +22,7 @@ pub(crate) fn write_out<R: Print, F: Write>(
 }
 
 /// Writes bytes, which are text, to standard error. Where that fails too, the status is all that tells.
-pub(crate) fn tell<R: Print>(rt: &R, bytes: &[u8]) {
+pub(crate) fn tell<R: Eprint>(rt: &R, bytes: &[u8]) {
     if let Ok(text) = str::from_utf8(bytes) {
         let _told = eprint!(rt; "{text}");
     }

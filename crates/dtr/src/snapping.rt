@@ -6,7 +6,7 @@ use crate::json_lines::push_record_line;
 use crate::output::tell;
 use crate::requests;
 use crate::session::Session;
-use dt_front::{RowProbe, after_byte, layout_in, number_field, push_rows, records_in, text_field, unknown_epid};
+use dt_front::{RowProbe, after_byte, layout_in, number_field, push_rows, push_rows_head, records_in, text_field, unknown_epid};
 use dt_record::Layout;
 use serde_json::Value;
 use std::alloc::Global;
@@ -37,6 +37,8 @@ pub(crate) struct Known {
     pub(crate) seen: u64,
     /// Whether drops are told once (under switch), and not again.
     pub(crate) told_once: bool,
+    /// Whether the head of the rows is written.
+    pub(crate) headed: bool,
 }
 
 impl Known {
@@ -56,12 +58,13 @@ impl Known {
             aggdrops: Vec::new(alloc),
             seen: 0,
             told_once,
+            headed: false,
         })
     }
 }
 
 /// Adds the rows of what was recorded on a processor, and tells what was dropped there.
-pub(crate) fn snap<R: Print + AllocGlobal>(
+pub(crate) fn snap<R: Print + Eprint + AllocGlobal>(
     rt: &R,
     session: &mut Session<'_>,
     known: &mut Known,
@@ -87,7 +90,7 @@ pub(crate) fn snap<R: Print + AllocGlobal>(
 /// Adds a row for each record that the bytes hold.
 fn push_records(
     alloc: Global,
-    known: &Known,
+    known: &mut Known,
     cpu: u64,
     shape: Shape,
     bytes: &[u8],
@@ -97,6 +100,10 @@ fn push_records(
         return Err(Fault::Strange);
     };
     if !shape.json {
+        if !shape.quiet && !known.headed && !records.is_empty() {
+            push_rows_head(out)?;
+            known.headed = true;
+        }
         push_rows(alloc, out, shape.quiet, cpu, &known.probes, &records)?;
         return Ok(());
     }
@@ -108,7 +115,7 @@ fn push_records(
 }
 
 /// Asks for the layouts and probes of the records that aren't known yet.
-fn learn<R: Print + AllocGlobal>(
+fn learn<R: Print + Eprint + AllocGlobal>(
     rt: &R,
     session: &mut Session<'_>,
     known: &mut Known,
@@ -124,7 +131,7 @@ fn learn<R: Print + AllocGlobal>(
 }
 
 /// Asks for the layout and the probe of an enabling.
-fn describe<R: Print + AllocGlobal>(
+fn describe<R: Print + Eprint + AllocGlobal>(
     rt: &R,
     session: &mut Session<'_>,
     known: &mut Known,
@@ -153,7 +160,7 @@ fn describe<R: Print + AllocGlobal>(
 }
 
 /// Tells what was dropped on a processor since it was told last, and once whether its buffer is filled.
-fn tell_losses<R: Print + AllocGlobal>(rt: &R, known: &mut Known, cpu: u64, reply: &Value) -> Result<(), Fault> {
+fn tell_losses<R: Print + Eprint + AllocGlobal>(rt: &R, known: &mut Known, cpu: u64, reply: &Value) -> Result<(), Fault> {
     let Some(drops) = number_field(reply, "drops") else {
         return Err(Fault::Strange);
     };

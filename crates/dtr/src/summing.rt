@@ -63,7 +63,7 @@ fn has_name(found: &[Aggregation], name: &str) -> bool {
 }
 
 /// Adds the table of an aggregation, as far as the service answers it.
-pub(crate) fn push_table<R: Print + AllocGlobal>(
+pub(crate) fn push_table<R: Print + Eprint + AllocGlobal>(
     rt: &R,
     session: &mut Session<'_>,
     aggregation: &Aggregation,
