@@ -6,21 +6,21 @@ use Rattle.std.specs.List.{flat_map}
 use Rattle.std.specs.List.{position_or_len}
 use Rattle.std.proofs.lemmas.List.Elements.{All-drop, All-take}
 use Rattle.std.proofs.lemmas.List.Sums.{get_or-le-sum_by, position_or_len_is}
-use Rattle.dt_front.specs.Picture.{PictureRow, is_counted, from_first, picture, picture_head, row_line, shown_rows, total_of}
+use Rattle.dt_front.specs.Picture.{PictureRowForm, is_counted, from_first, picture, picture_head, row_line, shown_rows, total_of}
 
 pub position_or_len-map : {X Y : Type 0} (p : Y → Bool) (f : X → Y) (xs : List X) → position_or_len p (map f xs) ≡ position_or_len (λ x. p (f x)) xs
 position_or_len-map p f [] = refl
 position_or_len-map p f (x ∷ xs) = ap (λ n. cond (not (p (f x))) (1 + n) 0) (position_or_len-map p f xs)
 
 -- each row that is shown counts at most the total
-pub shown_within : (rows : List PictureRow) → All (λ row. row.count ≤ total_of rows) (shown_rows rows)
+pub shown_within : (rows : List PictureRowForm) → All (λ row. row.count ≤ total_of rows) (shown_rows rows)
 shown_within rows =
     All-take (λ row. row.count ≤ total_of rows) _ (from_first rows)
     (All-drop (λ row. row.count ≤ total_of rows) _ rows
     (λ k d within. get_or-le-sum_by (λ row. row.count) rows k d within))
 
 -- The code's rows that are shown are those of their forms.
-pub shown_of_code : {X : Type 0} (f : X → PictureRow) (xs : List X) (l t : ℕ)
+pub shown_of_code : {X : Type 0} (f : X → PictureRowForm) (xs : List X) (l t : ℕ)
     → l ≡ position_or_len is_counted (map f xs) - 1
     → t ≡ position_or_len is_counted (reverse (map f (take (length xs - l) (drop l xs)))) - 1
     → map f (take (length (take (length xs - l) (drop l xs)) - t) (take (length xs - l) (drop l xs))) ≡ shown_rows (map f xs)
@@ -35,7 +35,7 @@ shown_of_code f xs l t leading trailing =
     ∙ ap (λ ys. take (length ys - t) ys) from
     ∙ ap (λ n. take (length (from_first (map f xs)) - n) (from_first (map f xs))) last
 
-pub picture_added : (old begun whole : List ℕ) (rows lines : List PictureRow) (total : ℕ)
+pub picture_added : (old begun whole : List ℕ) (rows lines : List PictureRowForm) (total : ℕ)
     → begun ≡ old ++ picture_head → whole ≡ begun ++ flat_map (row_line total) lines
     → total ≡ total_of rows → lines ≡ shown_rows rows → whole ≡ old ++ picture rows
 picture_added old begun whole rows lines total head body same shown =

@@ -10,8 +10,8 @@ IsPlain byte = (32 ≤ byte) × (byte ≤ 126)
 abbrev pub ArePlain : List ℕ → Type 0
 ArePlain bytes = All IsPlain bytes
 
-abbrev pub is_plain : ℕ → Bool
-is_plain byte = nat_le 32 byte && nat_le byte 126
+abbrev pub is_plain_byte : ℕ → Bool
+is_plain_byte byte = nat_le 32 byte && nat_le byte 126
 
 -- a digit to the base of sixteen, in lower case
 abbrev pub hex_digit : ℕ → ℕ
@@ -22,7 +22,7 @@ hex_digit n = if nat_le n 9 then 48 + n else 87 + n
 abbrev pub shown_byte : ℕ → List ℕ
 shown_byte byte =
     if byte == 92 then 92 ∷ 92 ∷ []
-    else if is_plain byte then byte ∷ []
+    else if is_plain_byte byte then byte ∷ []
     else 92 ∷ 120 ∷ hex_digit (byte / 16) ∷ hex_digit (byte % 16) ∷ []
 
 -- what is shown for bytes: what is shown for each, in order

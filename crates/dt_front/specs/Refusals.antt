@@ -8,12 +8,12 @@ use Rattle.dt_front.specs.Parts.{before_byte}
 use Rattle.dt_front.specs.Escaping.{shown}
 
 -- the text of an object's field, where it is one
-abbrev pub field_text : List ℕ → Data → Option (List ℕ)
-field_text key d = option_and_then as_str (get key d)
+abbrev pub told_text : List ℕ → Data → Option (List ℕ)
+told_text key d = option_and_then as_str (get key d)
 
 -- the number of an object's field, where it is one of 64 bits without a sign
-abbrev pub field_number : List ℕ → Data → Option ℕ
-field_number key d = option_and_then as_u64 (option_and_then as_number (get key d))
+abbrev pub told_number : List ℕ → Data → Option ℕ
+told_number key d = option_and_then as_u64 (option_and_then as_number (get key d))
 
 -- a refusal: its number, and what else is told of it
 pub record RefusalForm : Type 0 where
@@ -27,18 +27,18 @@ pub record RefusalForm : Type 0 where
 abbrev pub refusal_in : Data → Option RefusalForm
 refusal_in d = option_map (λ number. record {
   number = number;
-  at = field_number (codes "at") d;
-  clause = field_number (codes "clause") d;
-  why = field_text (codes "why") d;
-  what = field_text (codes "what") d;
-}) (field_number (codes "error") d)
+  at = told_number (codes "at") d;
+  clause = told_number (codes "clause") d;
+  why = told_text (codes "why") d;
+  what = told_text (codes "what") d;
+}) (told_number (codes "error") d)
 
-abbrev pub is_newline : ℕ → Bool
-is_newline byte = byte == 10
+abbrev pub ends_line : ℕ → Bool
+ends_line byte = byte == 10
 
 -- of bytes, how many come after the last newline
 abbrev pub tail_length : List ℕ → ℕ
-tail_length bytes = position_or_len is_newline (reverse bytes)
+tail_length bytes = position_or_len ends_line (reverse bytes)
 
 -- of a text and a place, what stands on the place's line before it, and what stands there from it on
 abbrev pub before_place : List ℕ → ℕ → List ℕ

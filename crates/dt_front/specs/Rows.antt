@@ -35,14 +35,14 @@ abbrev pub frame_line : ℕ → List ℕ
 frame_line frame = if frame == 0 then [] else codes "\n              0x" ++ flat_map hex_byte (frame_bytes frame)
 
 -- a value in a row: a number in decimal, a text without its zeros, a stack a frame a line
-abbrev pub value_text : RecordedForm → List ℕ
-value_text (number z) = codes "  " ++ signed_decimal z
-value_text (text bytes) = codes "  " ++ shown (before_byte 0 bytes)
-value_text (frames list) = flat_map frame_line list
+abbrev pub recorded_text : RecordedForm → List ℕ
+recorded_text (number z) = codes "  " ++ signed_decimal z
+recorded_text (text bytes) = codes "  " ++ shown (before_byte 0 bytes)
+recorded_text (frames list) = flat_map frame_line list
 
 -- A record's row. Without the column of probes only its values stand there.
 abbrev pub values_text : RecordForm → List ℕ
-values_text r = flat_map value_text r.values ++ codes "\n"
+values_text r = flat_map recorded_text r.values ++ codes "\n"
 
 abbrev pub full_row : ℕ → ProbeForm → RecordForm → List ℕ
 full_row cpu probe r = row_columns cpu probe ++ values_text r

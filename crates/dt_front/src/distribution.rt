@@ -13,7 +13,7 @@ const POWERS: u32 = 63;
 
 /// A count as a reply tells it.
 #[derive(Clone, Copy, Drop)]
-pub struct Counted {
+pub struct RowCount {
     /// The row's name; `None` for the row below all levels.
     pub least: Option<i64>,
     /// How many values it counts.
@@ -21,7 +21,7 @@ pub struct Counted {
 }
 
 /// All rows of a `quantize`, rising.
-pub fn power_rows(alloc: Global, counts: &[Counted]) -> Result<Vec<PictureRow>, AllocError> {
+pub fn power_rows(alloc: Global, counts: &[RowCount]) -> Result<Vec<PictureRow>, AllocError> {
     let mut rows = Vec::new(alloc);
     for back in 0..POWERS {
         push_named(alloc, &mut rows, counts, power(POWERS - 1 - back).wrapping_neg())?;
@@ -39,7 +39,7 @@ fn power(exponent: u32) -> i64 {
 }
 
 /// All rows of an `lquantize`, rising.
-pub fn level_rows(alloc: Global, bounds: Bounds, counts: &[Counted]) -> Result<Vec<PictureRow>, AllocError> {
+pub fn level_rows(alloc: Global, bounds: Bounds, counts: &[RowCount]) -> Result<Vec<PictureRow>, AllocError> {
     let mut rows = Vec::new(alloc);
     rows.push(PictureRow {
         label: labelled(alloc, b"< ", bounds.lower)?,
@@ -64,7 +64,7 @@ pub fn level_rows(alloc: Global, bounds: Bounds, counts: &[Counted]) -> Result<V
 fn push_named(
     alloc: Global,
     rows: &mut Vec<PictureRow>,
-    counts: &[Counted],
+    counts: &[RowCount],
     name: i64,
 ) -> Result<(), AllocError> {
     rows.push(PictureRow {
@@ -82,7 +82,7 @@ fn labelled(alloc: Global, before: &[u8], number: i64) -> Result<Vec<u8>, AllocE
 }
 
 /// What is counted under a name; 0 where nothing is.
-fn count_at(counts: &[Counted], least: Option<i64>) -> u64 {
+fn count_at(counts: &[RowCount], least: Option<i64>) -> u64 {
     for counted in counts {
         if counted.least == least {
             return counted.count;
@@ -103,7 +103,7 @@ pub fn rows_total(rows: &[PictureRow]) -> Option<u64>
 }
 
 /// The values that all counts of a reply tell of, where they are fewer than 2^64.
-pub fn counts_total(counts: &[Counted]) -> Option<u64>
+pub fn counts_total(counts: &[RowCount]) -> Option<u64>
     ensures { IfSome result (λ total. total ≡ sum_by (λ counted. counted.count) counts.now) }
 {
     let mut total = 0_u64;

@@ -19,7 +19,7 @@ mod row;
 mod table;
 
 pub use columns::{push_blanks, push_left, push_number, push_right};
-pub use distribution::{Counted, counts_total, level_rows, power_rows, rows_total};
+pub use distribution::{RowCount, counts_total, level_rows, power_rows, rows_total};
 pub use escaping::push_shown;
 pub use fields::{number_field, text_field};
 pub use laws::shown_is_plain;
@@ -28,6 +28,6 @@ pub use picture::{PictureRow, push_picture};
 pub use probes::{push_probe, push_probes_head};
 pub use reading::{counts_in, key_in, layout_in, signed_in};
 pub use records::{push_rows, records_in, unknown_epid};
-pub use refusal::{Refusal, push_caret};
+pub use refusal::{ToldRefusal, push_caret};
 pub use row::{RowProbe, push_full_row, push_rows_head, push_values};
-pub use table::{KeyPart, push_key, push_number_line, push_title};
+pub use table::{KeyColumn, push_key, push_number_line, push_title};

@@ -3,8 +3,8 @@ ghost use Rattle.std.specs.Prelude.{◌≡◌, IfSome, Some, option_and_then};
 ghost use Rattle.serde_json.specs.Find.{as_i64, as_number};
 ghost use Rattle.serde_json.specs.View.{view};
 
-use crate::distribution::Counted;
-use crate::table::KeyPart;
+use crate::distribution::RowCount;
+use crate::table::KeyColumn;
 use arrayvec::ArrayVec;
 use dt_program::Frames;
 use dt_record::{Field, Layout};
@@ -19,13 +19,13 @@ pub fn signed_in(value: &Value) -> Option<i64>
 }
 
 /// The key that the values of a row's key are; `None` where one is neither a number nor a text.
-pub fn key_in(alloc: Global, values: &[Value]) -> Result<Option<Vec<KeyPart>>, AllocError> {
+pub fn key_in(alloc: Global, values: &[Value]) -> Result<Option<Vec<KeyColumn>>, AllocError> {
     let mut key = Vec::new(alloc);
     for value in values {
         if let Some(number) = value.as_i64() {
-            key.push(KeyPart::Number(number))?;
+            key.push(KeyColumn::Number(number))?;
         } else if let Some(text) = value.as_str() {
-            key.push(KeyPart::Text(Vec::from_slice(alloc, text.as_bytes())?))?;
+            key.push(KeyColumn::Text(Vec::from_slice(alloc, text.as_bytes())?))?;
         } else {
             return Ok(None);
         }
@@ -34,7 +34,7 @@ pub fn key_in(alloc: Global, values: &[Value]) -> Result<Option<Vec<KeyPart>>, A
 }
 
 /// The counts that the values of a distribution are; `None` where one isn't a row's name and its count.
-pub fn counts_in(alloc: Global, values: &[Value]) -> Result<Option<Vec<Counted>>, AllocError> {
+pub fn counts_in(alloc: Global, values: &[Value]) -> Result<Option<Vec<RowCount>>, AllocError> {
     let mut counts = Vec::new(alloc);
     for value in values {
         match counted_in(value) {
@@ -46,14 +46,14 @@ pub fn counts_in(alloc: Global, values: &[Value]) -> Result<Option<Vec<Counted>>
 }
 
 /// The count that a value is.
-fn counted_in(value: &Value) -> Option<Counted> {
+fn counted_in(value: &Value) -> Option<RowCount> {
     let pair = value.as_array()?;
     let count = pair.get(1)?.as_u64()?;
     let least = pair.get(0)?;
     match least.as_i64() {
-        Some(name) => Some(Counted { least: Some(name), count }),
+        Some(name) => Some(RowCount { least: Some(name), count }),
         None => match least {
-            Value::Null => Some(Counted { least: None, count }),
+            Value::Null => Some(RowCount { least: None, count }),
             _ => None,
         },
     }

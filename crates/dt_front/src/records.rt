@@ -5,7 +5,7 @@ ghost use Rattle.dt_record.specs.Layout.{FieldForm};
 ghost use Rattle.dt_record.specs.Records.{form_of_record};
 ghost use Rattle.dt_record.specs.Split.{IsSplit, RecordForm};
 ghost use Rattle.dt_front.specs.Records as spec;
-ghost use Rattle.dt_front.specs.Records.{row_text, rows_text};
+ghost use Rattle.dt_front.specs.Records.{record_row, rows_text};
 ghost use Rattle.dt_front.specs.RowForms.{form_of_row_probe};
 
 use crate::row::{RowProbe, push_full_row, push_values};
@@ -43,7 +43,7 @@ pub fn push_rows(
 
 /// The probe that a record's row names.
 fn probe_of(quiet: bool, probes: &[RowProbe], epid: u32) -> Option<&RowProbe>
-    ensures { option_map (λ probe. form_of_row_probe probe.now) result ≡ spec.probe_of quiet (map form_of_row_probe probes.now) epid }
+    ensures { option_map (λ probe. form_of_row_probe probe.now) result ≡ spec.row_probe quiet (map form_of_row_probe probes.now) epid }
 {
     if quiet {
         None
@@ -61,7 +61,7 @@ fn push_row(
     record: &Record,
 ) -> Result<(), AllocError>
     ensures { OnOk result (out.new.items
-        ≡ out.old.items ++ row_text cpu (option_map (λ probe. form_of_row_probe probe.now) probe.entry) (form_of_record «record».now)) }
+        ≡ out.old.items ++ record_row cpu (option_map (λ probe. form_of_row_probe probe.now) probe.entry) (form_of_record «record».now)) }
 {
     match probe {
         Some(probe) => push_full_row(alloc, out, cpu, probe, record),

@@ -14,7 +14,7 @@ use std::alloc::AllocError;
 
 /// Why a line was refused.
 #[derive(Clone, Copy, Drop)]
-pub struct Refusal<'a> {
+pub struct ToldRefusal<'a> {
     /// The refusal's number.
     pub number: u64,
     /// The first byte of what is wrong, in a program's text.
@@ -27,13 +27,13 @@ pub struct Refusal<'a> {
     pub what: Option<&'a str>,
 }
 
-impl<'a> Refusal<'a> {
+impl<'a> ToldRefusal<'a> {
     /// The refusal that a reply is, if it is one.
     pub fn in_reply(reply: &'a Value) -> Option<Self>
         ensures { option_map form_of_refusal result ≡ spec.refusal_in (view reply.now) }
     {
         match number_field(reply, "error") {
-            Some(number) => Some(Refusal {
+            Some(number) => Some(ToldRefusal {
                 number,
                 at: number_field(reply, "at"),
                 clause: number_field(reply, "clause"),

@@ -3,7 +3,7 @@ ghost use Rattle.std.specs.Prelude.{◌≡◌, ◌++◌, OnOk, map};
 ghost use Rattle.std.specs.List.{flat_map};
 ghost use Rattle.dt_record.specs.Records.{form_of_record, form_of_recorded};
 ghost use Rattle.dt_front.specs.Rows as spec;
-ghost use Rattle.dt_front.specs.Rows.{frame_line, full_row, hex_byte, row_columns, rows_head, value_text, values_text};
+ghost use Rattle.dt_front.specs.Rows.{frame_line, full_row, hex_byte, row_columns, rows_head, recorded_text, values_text};
 ghost use Rattle.dt_front.specs.RowForms.{form_of_row_probe};
 
 use crate::columns::push_right;
@@ -69,7 +69,7 @@ fn push_columns(alloc: Global, out: &mut Vec<u8>, cpu: u64, probe: &RowProbe) ->
 
 /// Adds a value of a row.
 fn push_value(out: &mut Vec<u8>, value: &Recorded) -> Result<(), AllocError>
-    ensures { OnOk result (out.new.items ≡ out.old.items ++ value_text (form_of_recorded value.now)) }
+    ensures { OnOk result (out.new.items ≡ out.old.items ++ recorded_text (form_of_recorded value.now)) }
 {
     match value {
         Recorded::Number(number) => {

@@ -10,7 +10,7 @@ use std::alloc::{AllocError, Global};
 
 /// A part of a key.
 #[derive(Drop)]
-pub enum KeyPart {
+pub enum KeyColumn {
     Number(i64),
     Text(Vec<u8>),
 }
@@ -27,7 +27,7 @@ pub fn push_title(out: &mut Vec<u8>, name: &[u8], function: &[u8]) -> Result<(),
 }
 
 /// Adds the line of a row whose value is a number.
-pub fn push_number_line(alloc: Global, out: &mut Vec<u8>, key: &[KeyPart], value: i64) -> Result<(), AllocError>
+pub fn push_number_line(alloc: Global, out: &mut Vec<u8>, key: &[KeyColumn], value: i64) -> Result<(), AllocError>
     ensures { OnOk result (out.new.items ≡ out.old.items ++ number_line (map form_of_key_part key.now) value) }
 {
     push_key(alloc, out, key)?;
@@ -38,7 +38,7 @@ pub fn push_number_line(alloc: Global, out: &mut Vec<u8>, key: &[KeyPart], value
 }
 
 /// Adds a key's columns.
-pub fn push_key(alloc: Global, out: &mut Vec<u8>, key: &[KeyPart]) -> Result<(), AllocError>
+pub fn push_key(alloc: Global, out: &mut Vec<u8>, key: &[KeyColumn]) -> Result<(), AllocError>
     ensures { OnOk result (out.new.items ≡ out.old.items ++ key_columns (map form_of_key_part key.now)) }
 {
     for part in key {
@@ -48,13 +48,13 @@ pub fn push_key(alloc: Global, out: &mut Vec<u8>, key: &[KeyPart]) -> Result<(),
 }
 
 /// Adds the column of a part of a key.
-fn push_part(alloc: Global, out: &mut Vec<u8>, part: &KeyPart) -> Result<(), AllocError>
+fn push_part(alloc: Global, out: &mut Vec<u8>, part: &KeyColumn) -> Result<(), AllocError>
     ensures { OnOk result (out.new.items ≡ out.old.items ++ key_column (form_of_key_part part.now)) }
 {
     out.extend_from_slice(b"  ")?;
     match part {
-        KeyPart::Number(number) => push_right(out, 10, Buffer::new().format(*number).as_bytes()),
-        KeyPart::Text(bytes) => {
+        KeyColumn::Number(number) => push_right(out, 10, Buffer::new().format(*number).as_bytes()),
+        KeyColumn::Text(bytes) => {
             let mut escaped = Vec::new(alloc);
             push_shown(&mut escaped, bytes)?;
             push_left(out, 20, &escaped)

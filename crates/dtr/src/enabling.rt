@@ -1,10 +1,10 @@
 //! How a session is set up: its options, and its programs.
 
-use crate::fault::Fault;
+use crate::fault::Trouble;
 use crate::output::tell;
 use crate::requests;
 use crate::session::Session;
-use dt_front::{Refusal, number_field, push_caret};
+use dt_front::{ToldRefusal, number_field, push_caret};
 use serde_json::Value;
 use std::alloc::Global;
 
@@ -14,7 +14,7 @@ pub(crate) fn set_up<R: Print + Eprint + AllocGlobal>(
     session: &mut Session<'_>,
     options: &[&str],
     programs: &[String],
-) -> Result<u64, Fault> {
+) -> Result<u64, Trouble> {
     for word in options {
         set_option(rt, session, word)?;
     }
@@ -26,10 +26,10 @@ pub(crate) fn set_up<R: Print + Eprint + AllocGlobal>(
 }
 
 /// Sets an option.
-fn set_option<R: Print + Eprint + AllocGlobal>(rt: &R, session: &mut Session<'_>, word: &str) -> Result<(), Fault> {
+fn set_option<R: Print + Eprint + AllocGlobal>(rt: &R, session: &mut Session<'_>, word: &str) -> Result<(), Trouble> {
     let alloc = rt.alloc();
     let Some(line) = requests::option(alloc, word)? else {
-        return Err(Fault::Usage);
+        return Err(Trouble::Usage);
     };
     let reply = session.ask(alloc, &line)?;
     let told = format!(in alloc; "-x {word}")?;
@@ -37,16 +37,16 @@ fn set_option<R: Print + Eprint + AllocGlobal>(rt: &R, session: &mut Session<'_>
 }
 
 /// Enables a program, and gives how many enablings it made.
-fn enable<R: Print + Eprint + AllocGlobal>(rt: &R, session: &mut Session<'_>, program: &str) -> Result<u64, Fault> {
+fn enable<R: Print + Eprint + AllocGlobal>(rt: &R, session: &mut Session<'_>, program: &str) -> Result<u64, Trouble> {
     let alloc = rt.alloc();
     let line = requests::with_text(alloc, "enable", "text", program)?;
     let reply = session.ask(alloc, &line)?;
     accepted(rt, &reply, "the program is refused", Some(program))?;
-    number_field(&reply, "count").ok_or(Fault::Strange)
+    number_field(&reply, "count").ok_or(Trouble::Strange)
 }
 
 /// Begins to trace, and says how many probes matched.
-pub(crate) fn begin<R: Print + Eprint + AllocGlobal>(rt: &R, session: &mut Session<'_>, count: u64) -> Result<(), Fault> {
+pub(crate) fn begin<R: Print + Eprint + AllocGlobal>(rt: &R, session: &mut Session<'_>, count: u64) -> Result<(), Trouble> {
     let reply = session.ask(rt.alloc(), "{\"cmd\":\"go\"}")?;
     accepted(rt, &reply, "tracing doesn't begin", None)?;
     let probes = if count == 1 { "probe" } else { "probes" };
@@ -61,8 +61,8 @@ pub(crate) fn accepted<R: Print + Eprint + AllocGlobal>(
     reply: &Value,
     what: &str,
     program: Option<&str>,
-) -> Result<(), Fault> {
-    let Some(refusal) = Refusal::in_reply(reply) else {
+) -> Result<(), Trouble> {
+    let Some(refusal) = ToldRefusal::in_reply(reply) else {
         return Ok(());
     };
     let mut told = explained(rt.alloc(), &refusal, what)?;
@@ -71,11 +71,11 @@ pub(crate) fn accepted<R: Print + Eprint + AllocGlobal>(
         push_caret(&mut told, text.as_bytes(), at)?;
     }
     tell(rt, &told);
-    Err(Fault::Refused)
+    Err(Trouble::Refused)
 }
 
 /// The line that says what was refused, and why.
-fn explained(alloc: Global, refusal: &Refusal<'_>, what: &str) -> Result<Vec<u8>, Fault> {
+fn explained(alloc: Global, refusal: &ToldRefusal<'_>, what: &str) -> Result<Vec<u8>, Trouble> {
     let mut told = Vec::from_slice(alloc, b"dtr: ")?;
     dt_front::push_shown(&mut told, what.as_bytes())?;
     told.extend_from_slice(b": ")?;

@@ -5,7 +5,7 @@ use thiserror::Error;
 
 /// Why the program ends with another status than 0. Its text is the line on standard error.
 #[derive(Clone, Copy, Debug, PartialEq, Eq, Error)]
-pub(crate) enum Fault {
+pub(crate) enum Trouble {
     /// The words are none of the program's forms: status 2.
     #[error("usage: dtr SOCKET -l [-n DESCRIPTION]\n       dtr SOCKET {{-n PROGRAM | -s FILE}}.. [-x OPTION=VALUE].. [-q] [--json] [-o FILE] [--every SECONDS] [--for SECONDS]\n       dtr --machine FILE")]
     Usage,
@@ -35,23 +35,23 @@ pub(crate) enum Fault {
     Memory,
 }
 
-impl From<AllocError> for Fault {
-    fn from(_refused: AllocError) -> Fault {
-        Fault::Memory
+impl From<AllocError> for Trouble {
+    fn from(_refused: AllocError) -> Trouble {
+        Trouble::Memory
     }
 }
 
-impl<T: Drop> From<AllocFailed<T>> for Fault {
-    fn from(_refused: AllocFailed<T>) -> Fault {
-        Fault::Memory
+impl<T: Drop> From<AllocFailed<T>> for Trouble {
+    fn from(_refused: AllocFailed<T>) -> Trouble {
+        Trouble::Memory
     }
 }
 
-impl Fault {
+impl Trouble {
     /// The status that the program ends with.
     pub(crate) fn status(self) -> u8 {
         match self {
-            Fault::Usage => 2,
+            Trouble::Usage => 2,
             _ => 1,
         }
     }

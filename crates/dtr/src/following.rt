@@ -1,10 +1,10 @@
 //! A session that traces: when it is looked at, and when it ends.
 
 use crate::enabling::accepted;
-use crate::fault::Fault;
+use crate::fault::Trouble;
 use crate::output::{tell, write_out};
 use crate::session::Session;
-use crate::snapping::{Known, Shape, keep, snap};
+use crate::snapping::{Learnt, RowShape, keep, snap};
 use dt_front::{number_field, signed_in, text_field};
 use serde_json::Value;
 use std::io::Write;
@@ -30,7 +30,7 @@ pub(crate) struct Plan<'a> {
     /// Set once standard input has ended.
     pub(crate) ended: &'a AtomicBool,
     /// How rows are written.
-    pub(crate) shape: Shape,
+    pub(crate) shape: RowShape,
 }
 
 /// Why the program goes on no more.
@@ -46,11 +46,11 @@ enum Over {
 pub(crate) fn follow<R: Print + Eprint + AllocGlobal + Clock, F: Write>(
     rt: &R,
     session: &mut Session<'_>,
-    known: &mut Known,
+    known: &mut Learnt,
     plan: &Plan<'_>,
     file: &mut Option<F>,
-) -> Result<Option<i64>, Fault> {
-    let begun = Instant::now(rt).map_err(|_| Fault::Clock)?;
+) -> Result<Option<i64>, Trouble> {
+    let begun = Instant::now(rt).map_err(|_| Trouble::Clock)?;
     let mut cpus = 0_u64;
     for _ in 0..u64::MAX {
         if let Some(why) = wait(rt, session, plan, cpus, known, begun)? {
@@ -59,7 +59,7 @@ pub(crate) fn follow<R: Print + Eprint + AllocGlobal + Clock, F: Write>(
         let status = status_of(rt, session)?;
         let stopped = text_field(&status, "phase") == Some("stopped");
         cpus = tell_errors(rt, known, &status)?;
-        let seen = number_field(&status, "seen").ok_or(Fault::Strange)?;
+        let seen = number_field(&status, "seen").ok_or(Trouble::Strange)?;
         if stopped || (plan.readable && seen != known.seen) {
             known.seen = seen;
             take_snaps(rt, session, known, cpus, plan.shape, file)?;
@@ -72,7 +72,7 @@ pub(crate) fn follow<R: Print + Eprint + AllocGlobal + Clock, F: Write>(
 }
 
 /// Ends tracing. Where it has just ended by itself, that is as well.
-fn stop<R: Print + Eprint + AllocGlobal>(rt: &R, session: &mut Session<'_>, why: Over) -> Result<(), Fault> {
+fn stop<R: Print + Eprint + AllocGlobal>(rt: &R, session: &mut Session<'_>, why: Over) -> Result<(), Trouble> {
     if why == Over::Lines {
         tell(rt, b"dtr: the session's 1,024 lines are nearly spent, so tracing ends here\n");
     }
@@ -81,7 +81,7 @@ fn stop<R: Print + Eprint + AllocGlobal>(rt: &R, session: &mut Session<'_>, why:
 }
 
 /// How far the session has come.
-fn status_of<R: Print + Eprint + AllocGlobal>(rt: &R, session: &mut Session<'_>) -> Result<Value, Fault> {
+fn status_of<R: Print + Eprint + AllocGlobal>(rt: &R, session: &mut Session<'_>) -> Result<Value, Trouble> {
     let reply = session.ask(rt.alloc(), "{\"cmd\":\"status\"}")?;
     accepted(rt, &reply, "the session doesn't say how far it is", None)?;
     Ok(reply)
@@ -91,11 +91,11 @@ fn status_of<R: Print + Eprint + AllocGlobal>(rt: &R, session: &mut Session<'_>)
 fn take_snaps<R: Print + Eprint + AllocGlobal, F: Write>(
     rt: &R,
     session: &mut Session<'_>,
-    known: &mut Known,
+    known: &mut Learnt,
     cpus: u64,
-    shape: Shape,
+    shape: RowShape,
     file: &mut Option<F>,
-) -> Result<(), Fault> {
+) -> Result<(), Trouble> {
     let mut out = Vec::new(rt.alloc());
     for cpu in 0..cpus {
         snap(rt, session, known, cpu, shape, &mut out)?;
@@ -105,12 +105,12 @@ fn take_snaps<R: Print + Eprint + AllocGlobal, F: Write>(
 }
 
 /// Tells which errors and drops of aggregations are new on each processor, and gives how many processors there are.
-fn tell_errors<R: Print + Eprint + AllocGlobal>(rt: &R, known: &mut Known, status: &Value) -> Result<u64, Fault> {
+fn tell_errors<R: Print + Eprint + AllocGlobal>(rt: &R, known: &mut Learnt, status: &Value) -> Result<u64, Trouble> {
     let (Some(errors), Some(aggdrops)) = (
         status.get("errors").and_then(|errors| errors.as_array()),
         status.get("aggdrops").and_then(|drops| drops.as_array()),
     ) else {
-        return Err(Fault::Strange);
+        return Err(Trouble::Strange);
     };
     let mut cpu = 0_u64;
     for number in errors {
@@ -132,9 +132,9 @@ fn tell_more<R: Print + Eprint + AllocGlobal>(
     cpu: u64,
     number: &Value,
     what: &str,
-) -> Result<(), Fault> {
+) -> Result<(), Trouble> {
     let Some(number) = number.as_u64() else {
-        return Err(Fault::Strange);
+        return Err(Trouble::Strange);
     };
     let before = told.get(cpu as usize).copied().unwrap_or(0);
     if number > before {
@@ -150,21 +150,21 @@ fn wait<R: Clock>(
     session: &Session<'_>,
     plan: &Plan<'_>,
     cpus: u64,
-    known: &Known,
+    known: &Learnt,
     begun: Instant,
-) -> Result<Option<Over>, Fault> {
+) -> Result<Option<Over>, Trouble> {
     let last = plan.last_lines.saturating_add(cpus).saturating_add(unknown(known));
     if session.left <= last.saturating_add(cpus).saturating_add(2) {
         return Ok(Some(Over::Lines));
     }
     let times = 1024 / session.left.max(1);
-    let look = Instant::now(rt).map_err(|_| Fault::Clock)?;
+    let look = Instant::now(rt).map_err(|_| Trouble::Clock)?;
     for _ in 0..u64::MAX {
-        let spent = begun.elapsed(rt).map_err(|_| Fault::Clock)?;
+        let spent = begun.elapsed(rt).map_err(|_| Trouble::Clock)?;
         if plan.ended.load(Ordering::SeqCst) || plan.length.is_some_and(|length| spent >= length) {
             return Ok(Some(Over::Asked));
         }
-        let waited = look.elapsed(rt).map_err(|_| Fault::Clock)?;
+        let waited = look.elapsed(rt).map_err(|_| Trouble::Clock)?;
         if waited.as_millis() >= plan.every.as_millis().saturating_mul(u128::from(times)) {
             return Ok(None);
         }
@@ -174,7 +174,7 @@ fn wait<R: Clock>(
 }
 
 /// How many enablings aren't known yet, at most 64: that many may still have to be asked for.
-fn unknown(known: &Known) -> u64 {
+fn unknown(known: &Learnt) -> u64 {
     let mut count = 0_u64;
     for layout in &known.layouts {
         if layout.fields.is_none() && count < 64 {

@@ -1,6 +1,6 @@
 //! The end of standard input.
 
-use crate::fault::Fault;
+use crate::fault::Trouble;
 use std::alloc::Global;
 use std::io::Read;
 use std::sync::Arc;
@@ -12,7 +12,7 @@ use std::thread::Threads;
 pub(crate) fn watch_input<T: Input + Threads + Send + Sync + Copy + Drop + 'static>(
     alloc: Global,
     threads: T,
-) -> Result<Arc<AtomicBool>, Fault> {
+) -> Result<Arc<AtomicBool>, Trouble> {
     let ended = Arc::new(alloc, AtomicBool::new(false))?;
     let theirs = Arc::try_clone(&ended)?;
     let spawned = thread::spawn(&threads, move || {
@@ -21,7 +21,7 @@ pub(crate) fn watch_input<T: Input + Threads + Send + Sync + Copy + Drop + 'stat
     });
     match spawned {
         Ok(handle) => drop(handle),
-        Err(_) => return Err(Fault::Memory),
+        Err(_) => return Err(Trouble::Memory),
     }
     Ok(ended)
 }

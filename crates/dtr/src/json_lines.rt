@@ -1,6 +1,6 @@
 //! Lines of JSON for other programs.
 
-use crate::fault::Fault;
+use crate::fault::Trouble;
 use crate::requests::{quoted, quoted_bytes};
 use dt_front::{RowProbe, before_byte, push_number};
 use dt_record::{Record, Recorded};
@@ -15,7 +15,7 @@ pub(crate) fn push_record_line(
     cpu: u64,
     probe: Option<&RowProbe>,
     record: &Record,
-) -> Result<(), Fault> {
+) -> Result<(), Trouble> {
     out.extend_from_slice(b"{\"cpu\":")?;
     push_number(out, cpu)?;
     if let Some(probe) = probe {
@@ -38,7 +38,7 @@ pub(crate) fn push_record_line(
 }
 
 /// Adds a value: a number, a text, or the frames of a stack as a list.
-fn push_value(alloc: Global, out: &mut Vec<u8>, value: &Recorded) -> Result<(), Fault> {
+fn push_value(alloc: Global, out: &mut Vec<u8>, value: &Recorded) -> Result<(), Trouble> {
     match value {
         Recorded::Number(number) => out.extend_from_slice(Buffer::new().format(*number).as_bytes())?,
         Recorded::Text(bytes) => {
@@ -50,7 +50,7 @@ fn push_value(alloc: Global, out: &mut Vec<u8>, value: &Recorded) -> Result<(), 
 }
 
 /// Adds the frames of a stack as a list.
-fn push_frames(out: &mut Vec<u8>, frames: &[u64]) -> Result<(), Fault> {
+fn push_frames(out: &mut Vec<u8>, frames: &[u64]) -> Result<(), Trouble> {
     out.push(b'[')?;
     let mut first = true;
     for frame in frames {
@@ -71,7 +71,7 @@ pub(crate) fn push_table_line(
     name: &str,
     function: &str,
     rows: &Value,
-) -> Result<(), Fault> {
+) -> Result<(), Trouble> {
     let name = quoted(alloc, name)?;
     let function = quoted(alloc, function)?;
     let rows = rows.to_string(alloc)?;

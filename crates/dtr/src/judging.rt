@@ -1,6 +1,6 @@
 //! Whether a machine file would be read.
 
-use crate::fault::Fault;
+use crate::fault::Trouble;
 use crate::output::tell;
 use dt_machine::{FaultNumber, Machine};
 use std::fs;
@@ -9,13 +9,13 @@ use std::io::Write;
 use std::rt::Files;
 
 /// Says whether a machine file would be read, and if not, which key is wrong where, with the refusal's number. Gives the status.
-pub(crate) fn judge_machine<R: Files + Print + Eprint + AllocGlobal>(rt: &R, path: &str) -> Result<u8, Fault> {
+pub(crate) fn judge_machine<R: Files + Print + Eprint + AllocGlobal>(rt: &R, path: &str) -> Result<u8, Trouble> {
     let alloc = rt.alloc();
-    let text = fs::read(rt, path).map_err(|_| Fault::File)?;
+    let text = fs::read(rt, path).map_err(|_| Trouble::File)?;
     let fault = match Machine::read(alloc, &text) {
         Ok(machine) => {
             let told = format!(in alloc; "a machine of {} processors and {} accounts\n", machine.cpus(), machine.accounts().len())?;
-            io::writer(rt).write_all(told.as_bytes()).map_err(|_| Fault::Output)?;
+            io::writer(rt).write_all(told.as_bytes()).map_err(|_| Trouble::Output)?;
             return Ok(0);
         }
         Err(fault) => fault,

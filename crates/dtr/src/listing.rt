@@ -1,7 +1,7 @@
 //! The table of probes.
 
 use crate::enabling::accepted;
-use crate::fault::Fault;
+use crate::fault::Trouble;
 use crate::output::write_out;
 use crate::requests;
 use crate::session::Session;
@@ -15,13 +15,13 @@ pub(crate) fn list_probes<R: Print + Eprint + AllocGlobal, F: Write>(
     description: &str,
     quiet: bool,
     file: &mut Option<F>,
-) -> Result<(), Fault> {
+) -> Result<(), Trouble> {
     let alloc = rt.alloc();
     let line = requests::with_text(alloc, "list", "probe", description)?;
     let reply = session.ask(alloc, &line)?;
     accepted(rt, &reply, "the description is refused", Some(description))?;
     let Some(probes) = reply.get("probes").and_then(|probes| probes.as_array()) else {
-        return Err(Fault::Strange);
+        return Err(Trouble::Strange);
     };
     let mut out = Vec::new(alloc);
     if !quiet {
@@ -29,7 +29,7 @@ pub(crate) fn list_probes<R: Print + Eprint + AllocGlobal, F: Write>(
     }
     for probe in probes {
         let (Some(id), Some(name)) = (number_field(probe, "id"), text_field(probe, "name")) else {
-            return Err(Fault::Strange);
+            return Err(Trouble::Strange);
         };
         push_probe(alloc, &mut out, id, name.as_bytes())?;
     }

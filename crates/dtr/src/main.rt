@@ -18,14 +18,14 @@ mod summing;
 mod words;
 
 use enabling::{begin, set_up};
-use fault::Fault;
+use fault::Trouble;
 use following::{Plan, follow};
 use input::watch_input;
 use judging::judge_machine;
 use listing::list_probes;
 use output::write_out;
 use session::Session;
-use snapping::{Known, Shape};
+use snapping::{Learnt, RowShape};
 use std::alloc::Global;
 use std::io::Write;
 use std::net::Net;
@@ -35,7 +35,7 @@ use std::rt::{Clock, Env, Files};
 use std::thread::Threads;
 use std::{env, fs};
 use summing::{aggregations_of, push_table};
-use words::Words;
+use words::Invocation;
 
 fn main(rt: HostRuntime) -> ExitCode {
     match execute(&rt, rt) {
@@ -52,26 +52,26 @@ fn main(rt: HostRuntime) -> ExitCode {
 fn execute<R: Files + Net + Env + Print + Eprint + AllocGlobal + Clock, T: Input + Threads + Send + Sync + Copy + Drop + 'static>(
     rt: &R,
     threads: T,
-) -> Result<u8, Fault> {
-    let args = env::args(rt).map_err(|_| Fault::Usage)?;
+) -> Result<u8, Trouble> {
+    let args = env::args(rt).map_err(|_| Trouble::Usage)?;
     let args = args.collect::<Vec<String>>(rt.alloc())?;
     let words = args.iter().map(|word| word.as_str()).collect::<Vec<&str>>(rt.alloc())?;
-    let words = Words::read(rt.alloc(), &words)?;
+    let words = Invocation::read(rt.alloc(), &words)?;
     if let Some(machine) = words.machine {
         return judge_machine(rt, machine);
     }
     let Some(path) = words.socket else {
-        return Err(Fault::Usage);
+        return Err(Trouble::Usage);
     };
     let programs = programs_of(rt, &words)?;
     if !words.list && programs.is_empty() {
-        return Err(Fault::Usage);
+        return Err(Trouble::Usage);
     }
     let mut file = match words.output {
-        Some(path) => Some(fs::create(rt, path).map_err(|_| Fault::Output)?),
+        Some(path) => Some(fs::create(rt, path).map_err(|_| Trouble::Output)?),
         None => None,
     };
-    let stream = UnixStream::connect(rt, path).map_err(|_| Fault::NoService)?;
+    let stream = UnixStream::connect(rt, path).map_err(|_| Trouble::NoService)?;
     let mut session = Session::new(rt.alloc(), &stream)?;
     if words.list {
         let description = words.programs.first().copied().unwrap_or("");
@@ -82,13 +82,13 @@ fn execute<R: Files + Net + Env + Print + Eprint + AllocGlobal + Clock, T: Input
 }
 
 /// The texts of the programs: those of `-n`, and those of the files of `-s`.
-fn programs_of<R: Files + AllocGlobal>(rt: &R, words: &Words<'_>) -> Result<Vec<String>, Fault> {
+fn programs_of<R: Files + AllocGlobal>(rt: &R, words: &Invocation<'_>) -> Result<Vec<String>, Trouble> {
     let mut programs = Vec::new(rt.alloc());
     for text in &words.programs {
         programs.push(String::from_str(rt.alloc(), text)?)?;
     }
     for path in &words.files {
-        let text = fs::read_to_string(rt, *path).map_err(|_| Fault::File)?;
+        let text = fs::read_to_string(rt, *path).map_err(|_| Trouble::File)?;
         programs.push(text)?;
     }
     Ok(programs)
@@ -99,16 +99,16 @@ fn trace<R: Print + Eprint + AllocGlobal + Clock, T: Input + Threads + Send + Sy
     rt: &R,
     threads: T,
     session: &mut Session<'_>,
-    words: &Words<'_>,
+    words: &Invocation<'_>,
     programs: &[String],
     file: &mut Option<F>,
-) -> Result<u8, Fault> {
+) -> Result<u8, Trouble> {
     let alloc = rt.alloc();
-    let shape = Shape { quiet: words.quiet, json: words.json };
+    let shape = RowShape { quiet: words.quiet, json: words.json };
     let aggregations = aggregations_of(alloc, programs)?;
     let count = set_up(rt, session, &words.options, programs)?;
     let policy = policy_in(&words.options);
-    let mut known = Known::new(alloc, count, policy == "switch")?;
+    let mut known = Learnt::new(alloc, count, policy == "switch")?;
     begin(rt, session, count)?;
     let ended = watch_input(alloc, threads)?;
     let plan = Plan {

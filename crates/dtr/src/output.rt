@@ -1,6 +1,6 @@
 //! Where the program writes: standard output, or the file of `-o`.
 
-use crate::fault::Fault;
+use crate::fault::Trouble;
 use std::io;
 use std::io::Write;
 
@@ -9,7 +9,7 @@ pub(crate) fn write_out<R: Print, F: Write>(
     rt: &R,
     file: &mut Option<F>,
     bytes: &mut Vec<u8>,
-) -> Result<(), Fault> {
+) -> Result<(), Trouble> {
     let written = match file {
         Some(file) => file.write_all(bytes).and_then(|()| file.flush()),
         None => {
@@ -18,7 +18,7 @@ pub(crate) fn write_out<R: Print, F: Write>(
         }
     };
     bytes.clear();
-    written.map_err(|_| Fault::Output)
+    written.map_err(|_| Trouble::Output)
 }
 
 /// Writes bytes, which are text, to standard error. Where that fails too, the status is all that tells.

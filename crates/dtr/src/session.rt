@@ -1,6 +1,6 @@
 //! One session with a service: a line is asked, and its reply is read.
 
-use crate::fault::Fault;
+use crate::fault::Trouble;
 use serde_json::Value;
 use std::alloc::Global;
 use std::io::{BufRead, BufReader, Write};
@@ -21,16 +21,16 @@ pub(crate) struct Session<'a> {
 
 impl<'a> Session<'a> {
     /// A session over a connection.
-    pub(crate) fn new(alloc: Global, stream: &'a UnixStream) -> Result<Self, Fault> {
+    pub(crate) fn new(alloc: Global, stream: &'a UnixStream) -> Result<Self, Trouble> {
         match BufReader::new(alloc, stream) {
             Ok(replies) => Ok(Session { stream, replies, left: LINES }),
-            Err(_) => Err(Fault::Memory),
+            Err(_) => Err(Trouble::Memory),
         }
     }
 
 
     /// Asks a line, which is given without its newline, and reads the reply.
-    pub(crate) fn ask(&mut self, alloc: Global, line: &str) -> Result<Value, Fault> {
+    pub(crate) fn ask(&mut self, alloc: Global, line: &str) -> Result<Value, Trouble> {
         let mut whole = Vec::from_slice(alloc, line.as_bytes())?;
         whole.push(b'\n')?;
         self.left = self.left.saturating_sub(1);
@@ -43,15 +43,15 @@ impl<'a> Session<'a> {
     }
 
     /// Reads a reply.
-    fn reply(&mut self, alloc: Global) -> Result<Value, Fault> {
+    fn reply(&mut self, alloc: Global) -> Result<Value, Trouble> {
         let mut line = Vec::new(alloc);
         if self.replies.read_until(b'\n', &mut line).is_err() || line.last() != Some(&b'\n') {
-            return Err(Fault::Gone);
+            return Err(Trouble::Gone);
         }
         match Value::from_slice(alloc, &line) {
             Ok(reply) => Ok(reply),
-            Err(fault) if fault.is_memory() => Err(Fault::Memory),
-            Err(_) => Err(Fault::Strange),
+            Err(fault) if fault.is_memory() => Err(Trouble::Memory),
+            Err(_) => Err(Trouble::Strange),
         }
     }
 }

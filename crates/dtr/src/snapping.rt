@@ -1,7 +1,7 @@
 //! What was recorded on a processor: its records as rows, or as lines of JSON.
 
 use crate::enabling::accepted;
-use crate::fault::Fault;
+use crate::fault::Trouble;
 use crate::json_lines::push_record_line;
 use crate::output::tell;
 use crate::requests;
@@ -13,7 +13,7 @@ use std::alloc::Global;
 
 /// How rows are written.
 #[derive(Clone, Copy, Drop)]
-pub(crate) struct Shape {
+pub(crate) struct RowShape {
     /// Values alone, without processors and probes.
     pub(crate) quiet: bool,
     /// Lines of JSON.
@@ -22,7 +22,7 @@ pub(crate) struct Shape {
 
 /// What is known of a session that traces.
 #[derive(Drop)]
-pub(crate) struct Known {
+pub(crate) struct Learnt {
     /// The layouts of the enablings, in order of EPID; none where it wasn't asked yet.
     pub(crate) layouts: Vec<Layout>,
     /// Their probes.
@@ -41,16 +41,16 @@ pub(crate) struct Known {
     pub(crate) headed: bool,
 }
 
-impl Known {
+impl Learnt {
     /// Of a session with so many enablings nothing is known yet.
-    pub(crate) fn new(alloc: Global, count: u64, told_once: bool) -> Result<Self, Fault> {
+    pub(crate) fn new(alloc: Global, count: u64, told_once: bool) -> Result<Self, Trouble> {
         let mut layouts = Vec::new(alloc);
         let mut probes = Vec::new(alloc);
         for _ in 0..count.min(1024) {
             layouts.push(Layout { fields: None })?;
             probes.push(RowProbe { id: 0, name: Vec::new(alloc) })?;
         }
-        Ok(Known {
+        Ok(Learnt {
             layouts,
             probes,
             drops: Vec::new(alloc),
@@ -67,20 +67,20 @@ impl Known {
 pub(crate) fn snap<R: Print + Eprint + AllocGlobal>(
     rt: &R,
     session: &mut Session<'_>,
-    known: &mut Known,
+    known: &mut Learnt,
     cpu: u64,
-    shape: Shape,
+    shape: RowShape,
     out: &mut Vec<u8>,
-) -> Result<(), Fault> {
+) -> Result<(), Trouble> {
     let alloc = rt.alloc();
     let line = requests::with_number(alloc, "snap", "cpu", cpu)?;
     let reply = session.ask(alloc, &line)?;
     accepted(rt, &reply, "a buffer can't be read", None)?;
     let Some(digits) = text_field(&reply, "data") else {
-        return Err(Fault::Strange);
+        return Err(Trouble::Strange);
     };
     let Ok(bytes) = hex::decode(alloc, digits.as_bytes()) else {
-        return Err(Fault::Strange);
+        return Err(Trouble::Strange);
     };
     learn(rt, session, known, &bytes)?;
     push_records(alloc, known, cpu, shape, &bytes, out)?;
@@ -90,14 +90,14 @@ pub(crate) fn snap<R: Print + Eprint + AllocGlobal>(
 /// Adds a row for each record that the bytes hold.
 fn push_records(
     alloc: Global,
-    known: &mut Known,
+    known: &mut Learnt,
     cpu: u64,
-    shape: Shape,
+    shape: RowShape,
     bytes: &[u8],
     out: &mut Vec<u8>,
-) -> Result<(), Fault> {
+) -> Result<(), Trouble> {
     let Some(records) = records_in(alloc, &known.layouts, bytes)? else {
-        return Err(Fault::Strange);
+        return Err(Trouble::Strange);
     };
     if !shape.json {
         if !shape.quiet && !known.headed && !records.is_empty() {
@@ -118,9 +118,9 @@ fn push_records(
 fn learn<R: Print + Eprint + AllocGlobal>(
     rt: &R,
     session: &mut Session<'_>,
-    known: &mut Known,
+    known: &mut Learnt,
     bytes: &[u8],
-) -> Result<(), Fault> {
+) -> Result<(), Trouble> {
     for _ in 0..known.layouts.len() {
         match unknown_epid(&known.layouts, bytes) {
             Some(epid) => describe(rt, session, known, epid)?,
@@ -134,18 +134,18 @@ fn learn<R: Print + Eprint + AllocGlobal>(
 fn describe<R: Print + Eprint + AllocGlobal>(
     rt: &R,
     session: &mut Session<'_>,
-    known: &mut Known,
+    known: &mut Learnt,
     epid: u32,
-) -> Result<(), Fault> {
+) -> Result<(), Trouble> {
     let alloc = rt.alloc();
     let line = requests::with_number(alloc, "describe", "epid", u64::from(epid))?;
     let reply = session.ask(alloc, &line)?;
     accepted(rt, &reply, "an enabling isn't described", None)?;
     let Some(words) = reply.get("layout").and_then(|layout| layout.as_array()) else {
-        return Err(Fault::Strange);
+        return Err(Trouble::Strange);
     };
     let (Some(layout), Some(id), Some(name)) = (layout_in(words), number_field(&reply, "id"), text_field(&reply, "probe")) else {
-        return Err(Fault::Strange);
+        return Err(Trouble::Strange);
     };
     let name = Vec::from_slice(alloc, after_byte(b':', after_byte(b':', name.as_bytes())))?;
     let place = (epid as usize).saturating_sub(1);
@@ -155,14 +155,14 @@ fn describe<R: Print + Eprint + AllocGlobal>(
             *probe = RowProbe { id, name };
             Ok(())
         }
-        _ => Err(Fault::Strange),
+        _ => Err(Trouble::Strange),
     }
 }
 
 /// Tells what was dropped on a processor since it was told last, and once whether its buffer is filled.
-fn tell_losses<R: Print + Eprint + AllocGlobal>(rt: &R, known: &mut Known, cpu: u64, reply: &Value) -> Result<(), Fault> {
+fn tell_losses<R: Print + Eprint + AllocGlobal>(rt: &R, known: &mut Learnt, cpu: u64, reply: &Value) -> Result<(), Trouble> {
     let Some(drops) = number_field(reply, "drops") else {
-        return Err(Fault::Strange);
+        return Err(Trouble::Strange);
     };
     let filled = reply.get("filled").and_then(|filled| filled.as_bool()) == Some(true);
     let before = known.drops.get(cpu as usize).copied().unwrap_or(0);
@@ -179,7 +179,7 @@ fn tell_losses<R: Print + Eprint + AllocGlobal>(rt: &R, known: &mut Known, cpu: 
 }
 
 /// Keeps a number of a processor.
-pub(crate) fn keep(numbers: &mut Vec<u64>, cpu: u64, number: u64) -> Result<(), Fault> {
+pub(crate) fn keep(numbers: &mut Vec<u64>, cpu: u64, number: u64) -> Result<(), Trouble> {
     let place = cpu as usize;
     for _ in numbers.len()..place.saturating_add(1) {
         numbers.push(0)?;

@@ -1,13 +1,13 @@
 //! The words that the program is called with.
 
-use crate::fault::Fault;
+use crate::fault::Trouble;
 use clap::{Arg, ArgAction, ArgMatches, Command};
 use std::alloc::{AllocError, Global};
 use std::time::Duration;
 
 /// What the program is asked for.
 #[derive(Drop)]
-pub(crate) struct Words<'a> {
+pub(crate) struct Invocation<'a> {
     /// The path of the service's socket.
     pub(crate) socket: Option<&'a str>,
     /// Whether probes are to be listed.
@@ -32,21 +32,21 @@ pub(crate) struct Words<'a> {
     pub(crate) machine: Option<&'a str>,
 }
 
-impl<'a> Words<'a> {
+impl<'a> Invocation<'a> {
     /// Reads the program's words, of which the first is its own name.
-    pub(crate) fn read(alloc: Global, words: &'a [&'a str]) -> Result<Self, Fault> {
+    pub(crate) fn read(alloc: Global, words: &'a [&'a str]) -> Result<Self, Trouble> {
         let Ok(command) = program(alloc) else {
-            return Err(Fault::Memory);
+            return Err(Trouble::Memory);
         };
         let Ok(given) = command.try_get_matches_from(words) else {
-            return Err(Fault::Usage);
+            return Err(Trouble::Usage);
         };
-        Words::of(alloc, &given)
+        Invocation::of(alloc, &given)
     }
 
     /// What clap found in the words.
-    fn of(alloc: Global, given: &ArgMatches<'a>) -> Result<Self, Fault> {
-        Ok(Words {
+    fn of(alloc: Global, given: &ArgMatches<'a>) -> Result<Self, Trouble> {
+        Ok(Invocation {
             socket: given.get_str("socket"),
             list: given.get_flag("list"),
             programs: all_of(alloc, given, "program")?,
@@ -63,7 +63,7 @@ impl<'a> Words<'a> {
 }
 
 /// All values of an argument, in order.
-fn all_of<'a>(alloc: Global, given: &ArgMatches<'a>, id: &str) -> Result<Vec<&'a str>, Fault> {
+fn all_of<'a>(alloc: Global, given: &ArgMatches<'a>, id: &str) -> Result<Vec<&'a str>, Trouble> {
     let mut all = Vec::new(alloc);
     if let Some(values) = given.get_strs(id) {
         for value in values {
@@ -74,7 +74,7 @@ fn all_of<'a>(alloc: Global, given: &ArgMatches<'a>, id: &str) -> Result<Vec<&'a
 }
 
 /// The time of a word: whole seconds, or seconds and tenths as `0.5`.
-fn seconds_in(word: Option<&str>) -> Result<Option<Duration>, Fault> {
+fn seconds_in(word: Option<&str>) -> Result<Option<Duration>, Trouble> {
     let Some(word) = word else {
         return Ok(None);
     };
@@ -86,7 +86,7 @@ fn seconds_in(word: Option<&str>) -> Result<Option<Duration>, Fault> {
         (Ok(whole), Ok(tenths)) if tenths < 10 => {
             Ok(Some(Duration::from_millis(u64::from(whole) * 1000 + u64::from(tenths) * 100)))
         }
-        _ => Err(Fault::Usage),
+        _ => Err(Trouble::Usage),
     }
 }
 
