@@ -25,11 +25,11 @@ byte_plain byte small =
     let low : byte % 16 < 16 = omega arith in
     let doubled = All-cons IsPlain 92 (92 ∷ []) backslash (All-cons IsPlain 92 [] backslash (All-nil IsPlain)) in
     let digits = All-cons IsPlain (hex_digit (byte / 16)) (hex_digit (byte % 16) ∷ []) (digit_plain (byte / 16) high)
-        (All-cons IsPlain (hex_digit (byte % 16)) [] (digit_plain (byte % 16) low) (All-nil IsPlain)) in
+    (All-cons IsPlain (hex_digit (byte % 16)) [] (digit_plain (byte % 16) low) (All-nil IsPlain)) in
     let escape : List ℕ = 92 ∷ 120 ∷ hex_digit (byte / 16) ∷ hex_digit (byte % 16) ∷ [] in
     let escaped : ArePlain escape =
-        All-cons IsPlain 92 (120 ∷ hex_digit (byte / 16) ∷ hex_digit (byte % 16) ∷ []) backslash
-        (All-cons IsPlain 120 (hex_digit (byte / 16) ∷ hex_digit (byte % 16) ∷ []) x digits) in
+    All-cons IsPlain 92 (120 ∷ hex_digit (byte / 16) ∷ hex_digit (byte % 16) ∷ []) backslash
+    (All-cons IsPlain 120 (hex_digit (byte / 16) ∷ hex_digit (byte % 16) ∷ []) x digits) in
     either (byte == 92) (92 ∷ 92 ∷ []) (if is_plain_byte byte then byte ∷ [] else escape)
     (λ _. doubled)
     (λ _. either (is_plain_byte byte) (byte ∷ []) escape

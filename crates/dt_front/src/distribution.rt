@@ -24,7 +24,12 @@ pub struct RowCount {
 pub fn power_rows(alloc: Global, counts: &[RowCount]) -> Result<Vec<PictureRow>, AllocError> {
     let mut rows = Vec::new(alloc);
     for back in 0..POWERS {
-        push_named(alloc, &mut rows, counts, power(POWERS - 1 - back).wrapping_neg())?;
+        push_named(
+            alloc,
+            &mut rows,
+            counts,
+            power(POWERS - 1 - back).wrapping_neg(),
+        )?;
     }
     push_named(alloc, &mut rows, counts, 0)?;
     for exponent in 0..POWERS {
@@ -39,7 +44,11 @@ fn power(exponent: u32) -> i64 {
 }
 
 /// All rows of an `lquantize`, rising.
-pub fn level_rows(alloc: Global, bounds: Bounds, counts: &[RowCount]) -> Result<Vec<PictureRow>, AllocError> {
+pub fn level_rows(
+    alloc: Global,
+    bounds: Bounds,
+    counts: &[RowCount],
+) -> Result<Vec<PictureRow>, AllocError> {
     let mut rows = Vec::new(alloc);
     rows.push(PictureRow {
         label: labelled(alloc, b"< ", bounds.lower)?,

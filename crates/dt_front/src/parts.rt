@@ -15,7 +15,11 @@ pub fn after_byte(byte: u8, bytes: &[u8]) -> &[u8]
     ensures { result.now ≡ spec.after_byte byte bytes.now }
 {
     let place = place_of(byte, bytes);
-    if place < bytes.len() { &bytes[place + 1..] } else { &[] }
+    if place < bytes.len() {
+        &bytes[place + 1..]
+    } else {
+        &[]
+    }
 }
 
 /// The place of the first such byte, or how many bytes there are.

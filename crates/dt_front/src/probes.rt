@@ -14,7 +14,9 @@ use std::alloc::{AllocError, Global};
 pub fn push_probes_head(out: &mut Vec<u8>) -> Result<(), AllocError>
     ensures { OnOk result (out.new.items ≡ out.old.items ++ probes_head) }
 {
-    out.extend_from_slice(b"   ID   PROVIDER            MODULE                          FUNCTION NAME\n")
+    out.extend_from_slice(
+        b"   ID   PROVIDER            MODULE                          FUNCTION NAME\n",
+    )
 }
 
 /// Adds a probe's line: its identifier, and its four names, which a text gives with `:` between them.
@@ -38,7 +40,12 @@ fn push_probe_names(alloc: Global, out: &mut Vec<u8>, after: &[u8]) -> Result<()
 }
 
 /// Adds the first columns of a probe's line: its identifier, its provider and its module.
-fn push_probe_columns(alloc: Global, out: &mut Vec<u8>, id: u64, name: &[u8]) -> Result<(), AllocError>
+fn push_probe_columns(
+    alloc: Global,
+    out: &mut Vec<u8>,
+    id: u64,
+    name: &[u8],
+) -> Result<(), AllocError>
     ensures { OnOk result (out.new.items ≡ out.old.items ++ probe_columns id name.now) }
 {
     push_right(out, 5, Buffer::new().format(id).as_bytes())?;
@@ -49,7 +56,12 @@ fn push_probe_columns(alloc: Global, out: &mut Vec<u8>, id: u64, name: &[u8]) ->
 }
 
 /// Adds what a terminal is shown for a text, at the right of a column of this width.
-pub(crate) fn push_shown_right(alloc: Global, out: &mut Vec<u8>, width: usize, text: &[u8]) -> Result<(), AllocError>
+pub(crate) fn push_shown_right(
+    alloc: Global,
+    out: &mut Vec<u8>,
+    width: usize,
+    text: &[u8],
+) -> Result<(), AllocError>
     ensures { OnOk result (out.new.items ≡ out.old.items ++ at_right width (shown text.now)) }
 {
     let mut escaped = Vec::new(alloc);

@@ -51,7 +51,10 @@ fn counted_in(value: &Value) -> Option<RowCount> {
     let count = pair.get(1)?.as_u64()?;
     let least = pair.get(0)?;
     match least.as_i64() {
-        Some(name) => Some(RowCount { least: Some(name), count }),
+        Some(name) => Some(RowCount {
+            least: Some(name),
+            count,
+        }),
         None => match least {
             Value::Null => Some(RowCount { least: None, count }),
             _ => None,
@@ -69,7 +72,9 @@ pub fn layout_in(words: &[Value]) -> Option<Layout> {
         }
         fields.push(field);
     }
-    Some(Layout { fields: Some(fields) })
+    Some(Layout {
+        fields: Some(fields),
+    })
 }
 
 /// The field that a word names.

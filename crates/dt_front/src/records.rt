@@ -13,7 +13,11 @@ use dt_record::{EPID_SIZE, Layout, Record, split};
 use std::alloc::{AllocError, Global};
 
 /// The records that bytes are, by the layouts of a consumer's enablings, in order of EPID; `None` where they are no list of whole records of these.
-pub fn records_in(alloc: Global, layouts: &[Layout], bytes: &[u8]) -> Result<Option<Vec<Record>>, AllocError>
+pub fn records_in(
+    alloc: Global,
+    layouts: &[Layout],
+    bytes: &[u8],
+) -> Result<Option<Vec<Record>>, AllocError>
     ensures { IfOk result (λ found. MatchOption found
         ((records : List RecordForm) → IsSplit (map form_of_layout layouts.now) bytes.now records → ⊥)
         (λ records. IsSplit (map form_of_layout layouts.now) bytes.now (map form_of_record records.items))) }
@@ -70,12 +74,13 @@ fn push_row(
 }
 
 /// The EPID of the first record of these bytes whose layout isn't known yet.
-pub fn unknown_epid(layouts: &[Layout], bytes: &[u8]) -> Option<u32>
-{
+pub fn unknown_epid(layouts: &[Layout], bytes: &[u8]) -> Option<u32> {
     let mut rest = bytes;
     while rest.len() >= EPID_SIZE {
         let epid = u32::from_be_bytes([rest[0], rest[1], rest[2], rest[3]]);
-        let size = layouts.get((epid as usize).saturating_sub(1)).map_or(0, Layout::size);
+        let size = layouts
+            .get((epid as usize).saturating_sub(1))
+            .map_or(0, Layout::size);
         if size < EPID_SIZE {
             return Some(epid);
         }

@@ -63,18 +63,33 @@ impl<'a> ToldRefusal<'a> {
         match self.number {
             4 => (self.flaw(), ""),
             5 => ("clause ", " matches no probe that this account may enable"),
-            6 => ("clause ", " records a kernel stack, which wants the privilege dtrace_kernel"),
+            6 => (
+                "clause ",
+                " records a kernel stack, which wants the privilege dtrace_kernel",
+            ),
             7 => ("the action ", " is destructive, and no program may say it"),
-            8 => ("the aggregation @", " is used with another function, other bounds or other kinds of keys elsewhere"),
-            9 => ("there is no room: 1,024 enablings, 64 aggregations, or under fill the bytes of a buffer for END's records", ""),
+            8 => (
+                "the aggregation @",
+                " is used with another function, other bounds or other kinds of keys elsewhere",
+            ),
+            9 => (
+                "there is no room: 1,024 enablings, 64 aggregations, or under fill the bytes of a buffer for END's records",
+                "",
+            ),
             10 => ("this can't be asked while tracing stands as it does", ""),
-            11 => ("no option is called so or takes this value: bufsize (1 to 1048576), bufpolicy (switch, fill, ring), aggsize (8 to 1048576), histsize (1 to 1048576)", ""),
+            11 => (
+                "no option is called so or takes this value: bufsize (1 to 1048576), bufpolicy (switch, fill, ring), aggsize (8 to 1048576), histsize (1 to 1048576)",
+                "",
+            ),
             15 => ("the session's 1,024 lines are spent", ""),
             16 => ("the service has no memory for this now; try again", ""),
             17 => ("all seats of the service are taken; try again later", ""),
             18 => ("this account has no privilege to trace", ""),
             3 => ("the program is too long for a line of 65,536 bytes", ""),
-            _ => ("the service didn't understand dtr: are both of one version?", ""),
+            _ => (
+                "the service didn't understand dtr: are both of one version?",
+                "",
+            ),
         }
     }
 
@@ -82,11 +97,13 @@ impl<'a> ToldRefusal<'a> {
     fn flaw(&self) -> &'static str {
         match self.why {
             Some("Syntax") => "syntax error: no program goes on like this",
-            Some("Probe") => "this describes no probe: a description has one to four fields of patterns, as syscall::read:entry",
+            Some("Probe") =>
+                "this describes no probe: a description has one to four fields of patterns, as syscall::read:entry",
             Some("Action") => "no action or aggregating function is called so",
             Some("Variable") => "no variable is called so",
             Some("TooLong") => "this is too long, or one more than there may be",
-            Some("Range") => "these bounds make no levels: the lower is below the upper, the step divides the range, 512 levels at most",
+            Some("Range") =>
+                "these bounds make no levels: the lower is below the upper, the step divides the range, 512 levels at most",
             _ => "this is no program",
         }
     }

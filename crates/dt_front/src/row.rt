@@ -55,7 +55,12 @@ pub fn push_values(out: &mut Vec<u8>, record: &Record) -> Result<(), AllocError>
 }
 
 /// Adds the columns of a row: its processor and its probe.
-fn push_columns(alloc: Global, out: &mut Vec<u8>, cpu: u64, probe: &RowProbe) -> Result<(), AllocError>
+fn push_columns(
+    alloc: Global,
+    out: &mut Vec<u8>,
+    cpu: u64,
+    probe: &RowProbe,
+) -> Result<(), AllocError>
     ensures { OnOk result (out.new.items ≡ out.old.items ++ row_columns cpu (form_of_row_probe probe.now)) }
 {
     let mut name = Vec::new(alloc);

@@ -27,7 +27,12 @@ pub fn push_title(out: &mut Vec<u8>, name: &[u8], function: &[u8]) -> Result<(),
 }
 
 /// Adds the line of a row whose value is a number.
-pub fn push_number_line(alloc: Global, out: &mut Vec<u8>, key: &[KeyColumn], value: i64) -> Result<(), AllocError>
+pub fn push_number_line(
+    alloc: Global,
+    out: &mut Vec<u8>,
+    key: &[KeyColumn],
+    value: i64,
+) -> Result<(), AllocError>
     ensures { OnOk result (out.new.items ≡ out.old.items ++ number_line (map form_of_key_part key.now) value) }
 {
     push_key(alloc, out, key)?;

@@ -65,10 +65,18 @@ pub(crate) fn follow<R: Print + Eprint + AllocGlobal + Clock, F: Write>(
             take_snaps(rt, session, known, cpus, plan.shape, file)?;
         }
         if stopped {
-            return Ok(status.get("exit").and_then(signed_in));
+            return Ok(exit_in(&status));
         }
     }
     Ok(None)
+}
+
+/// The number with which a clause exited, where one did.
+fn exit_in(status: &Value) -> Option<i64> {
+    match status.get("exit") {
+        Some(exit) => signed_in(exit),
+        None => None,
+    }
 }
 
 /// Ends tracing. Where it has just ended by itself, that is as well.

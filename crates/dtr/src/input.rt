@@ -2,21 +2,22 @@
 
 use crate::fault::Trouble;
 use std::alloc::Global;
-use std::io::Read;
+use std::io::{Read, Stdin};
 use std::sync::Arc;
 use std::sync::atomic::{AtomicBool, Ordering};
 use std::thread;
 use std::thread::Threads;
 
 /// Starts a thread that reads standard input, and gives what it sets once the input has ended. The end of the process ends the thread.
-pub(crate) fn watch_input<T: Input + Threads + Send + Sync + Copy + Drop + 'static>(
+pub(crate) fn watch_input<R: Threads>(
+    rt: &R,
     alloc: Global,
-    threads: T,
+    input: Stdin,
 ) -> Result<Arc<AtomicBool>, Trouble> {
     let ended = Arc::new(alloc, AtomicBool::new(false))?;
     let theirs = Arc::try_clone(&ended)?;
-    let spawned = thread::spawn(&threads, move || {
-        read_all(&threads);
+    let spawned = thread::spawn(rt, move || {
+        read_all(input);
         theirs.store(true, Ordering::SeqCst);
     });
     match spawned {
@@ -27,8 +28,7 @@ pub(crate) fn watch_input<T: Input + Threads + Send + Sync + Copy + Drop + 'stat
 }
 
 /// Reads standard input to its end, or to its first fault.
-fn read_all<R: Input>(rt: &R) {
-    let mut input = rt.reader();
+fn read_all(mut input: Stdin) {
     let mut buffer = [0_u8; 512];
     for _ in 0..u64::MAX {
         match input.read(&mut buffer) {

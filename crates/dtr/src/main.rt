@@ -26,8 +26,7 @@ use listing::list_probes;
 use output::write_out;
 use session::Session;
 use snapping::{Learnt, RowShape};
-use std::alloc::Global;
-use std::io::Write;
+use std::io::{Stdin, Write};
 use std::net::Net;
 use std::os::unix::net::UnixStream;
 use std::process::ExitCode;
@@ -38,7 +37,7 @@ use summing::{aggregations_of, push_table};
 use words::Invocation;
 
 fn main(rt: HostRuntime) -> ExitCode {
-    match execute(&rt, rt) {
+    match execute(&rt, rt.stdin()) {
         Ok(status) => ExitCode::from(status),
         Err(fault) => {
             // Where standard error fails too, the status is all that tells.
@@ -49,9 +48,9 @@ fn main(rt: HostRuntime) -> ExitCode {
 }
 
 /// Does what the program's words ask for, and gives the status.
-fn execute<R: Files + Net + Env + Print + Eprint + AllocGlobal + Clock, T: Input + Threads + Send + Sync + Copy + Drop + 'static>(
+fn execute<R: Files + Net + Env + Print + Eprint + AllocGlobal + Clock + Threads>(
     rt: &R,
-    threads: T,
+    input: Stdin,
 ) -> Result<u8, Trouble> {
     let args = env::args(rt).map_err(|_| Trouble::Usage)?;
     let args = args.collect::<Vec<String>>(rt.alloc())?;
@@ -78,7 +77,7 @@ fn execute<R: Files + Net + Env + Print + Eprint + AllocGlobal + Clock, T: Input
         list_probes(rt, &mut session, description, words.quiet, &mut file)?;
         return Ok(0);
     }
-    trace(rt, threads, &mut session, &words, &programs, &mut file)
+    trace(rt, input, &mut session, &words, &programs, &mut file)
 }
 
 /// The texts of the programs: those of `-n`, and those of the files of `-s`.
@@ -95,9 +94,9 @@ fn programs_of<R: Files + AllocGlobal>(rt: &R, words: &Invocation<'_>) -> Result
 }
 
 /// Traces, and gives the status with which a clause exited, or 0.
-fn trace<R: Print + Eprint + AllocGlobal + Clock, T: Input + Threads + Send + Sync + Copy + Drop + 'static, F: Write>(
+fn trace<R: Print + Eprint + AllocGlobal + Clock + Threads, F: Write>(
     rt: &R,
-    threads: T,
+    input: Stdin,
     session: &mut Session<'_>,
     words: &Invocation<'_>,
     programs: &[String],
@@ -110,7 +109,7 @@ fn trace<R: Print + Eprint + AllocGlobal + Clock, T: Input + Threads + Send + Sy
     let policy = policy_in(&words.options);
     let mut known = Learnt::new(alloc, count, policy == "switch")?;
     begin(rt, session, count)?;
-    let ended = watch_input(alloc, threads)?;
+    let ended = watch_input(rt, alloc, input)?;
     let plan = Plan {
         every: words.every,
         length: words.length,
