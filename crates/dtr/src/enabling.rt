@@ -26,7 +26,11 @@ pub(crate) fn set_up<R: Print + Eprint + AllocGlobal>(
 }
 
 /// Sets an option.
-fn set_option<R: Print + Eprint + AllocGlobal>(rt: &R, session: &mut Session<'_>, word: &str) -> Result<(), Trouble> {
+fn set_option<R: Print + Eprint + AllocGlobal>(
+    rt: &R,
+    session: &mut Session<'_>,
+    word: &str,
+) -> Result<(), Trouble> {
     let alloc = rt.alloc();
     let Some(line) = requests::option(alloc, word)? else {
         return Err(Trouble::Usage);
@@ -37,7 +41,11 @@ fn set_option<R: Print + Eprint + AllocGlobal>(rt: &R, session: &mut Session<'_>
 }
 
 /// Enables a program, and gives how many enablings it made.
-fn enable<R: Print + Eprint + AllocGlobal>(rt: &R, session: &mut Session<'_>, program: &str) -> Result<u64, Trouble> {
+fn enable<R: Print + Eprint + AllocGlobal>(
+    rt: &R,
+    session: &mut Session<'_>,
+    program: &str,
+) -> Result<u64, Trouble> {
     let alloc = rt.alloc();
     let line = requests::with_text(alloc, "enable", "text", program)?;
     let reply = session.ask(alloc, &line)?;
@@ -46,7 +54,11 @@ fn enable<R: Print + Eprint + AllocGlobal>(rt: &R, session: &mut Session<'_>, pr
 }
 
 /// Begins to trace, and says how many probes matched.
-pub(crate) fn begin<R: Print + Eprint + AllocGlobal>(rt: &R, session: &mut Session<'_>, count: u64) -> Result<(), Trouble> {
+pub(crate) fn begin<R: Print + Eprint + AllocGlobal>(
+    rt: &R,
+    session: &mut Session<'_>,
+    count: u64,
+) -> Result<(), Trouble> {
     let reply = session.ask(rt.alloc(), "{\"cmd\":\"go\"}")?;
     accepted(rt, &reply, "tracing doesn't begin", None)?;
     let probes = if count == 1 { "probe" } else { "probes" };

@@ -80,16 +80,26 @@ fn exit_in(status: &Value) -> Option<i64> {
 }
 
 /// Ends tracing. Where it has just ended by itself, that is as well.
-fn stop<R: Print + Eprint + AllocGlobal>(rt: &R, session: &mut Session<'_>, why: Over) -> Result<(), Trouble> {
+fn stop<R: Print + Eprint + AllocGlobal>(
+    rt: &R,
+    session: &mut Session<'_>,
+    why: Over,
+) -> Result<(), Trouble> {
     if why == Over::Lines {
-        tell(rt, b"dtr: the session's 1,024 lines are nearly spent, so tracing ends here\n");
+        tell(
+            rt,
+            b"dtr: the session's 1,024 lines are nearly spent, so tracing ends here\n",
+        );
     }
     let _reply = session.ask(rt.alloc(), "{\"cmd\":\"stop\"}")?;
     Ok(())
 }
 
 /// How far the session has come.
-fn status_of<R: Print + Eprint + AllocGlobal>(rt: &R, session: &mut Session<'_>) -> Result<Value, Trouble> {
+fn status_of<R: Print + Eprint + AllocGlobal>(
+    rt: &R,
+    session: &mut Session<'_>,
+) -> Result<Value, Trouble> {
     let reply = session.ask(rt.alloc(), "{\"cmd\":\"status\"}")?;
     accepted(rt, &reply, "the session doesn't say how far it is", None)?;
     Ok(reply)
@@ -113,7 +123,11 @@ fn take_snaps<R: Print + Eprint + AllocGlobal, F: Write>(
 }
 
 /// Tells which errors and drops of aggregations are new on each processor, and gives how many processors there are.
-fn tell_errors<R: Print + Eprint + AllocGlobal>(rt: &R, known: &mut Learnt, status: &Value) -> Result<u64, Trouble> {
+fn tell_errors<R: Print + Eprint + AllocGlobal>(
+    rt: &R,
+    known: &mut Learnt,
+    status: &Value,
+) -> Result<u64, Trouble> {
     let (Some(errors), Some(aggdrops)) = (
         status.get("errors").and_then(|errors| errors.as_array()),
         status.get("aggdrops").and_then(|drops| drops.as_array()),
@@ -122,12 +136,24 @@ fn tell_errors<R: Print + Eprint + AllocGlobal>(rt: &R, known: &mut Learnt, stat
     };
     let mut cpu = 0_u64;
     for number in errors {
-        tell_more(rt, &mut known.errors, cpu, number, "errors (a division by zero)")?;
+        tell_more(
+            rt,
+            &mut known.errors,
+            cpu,
+            number,
+            "errors (a division by zero)",
+        )?;
         cpu = cpu.saturating_add(1);
     }
     let mut cpu_of_drops = 0_u64;
     for number in aggdrops {
-        tell_more(rt, &mut known.aggdrops, cpu_of_drops, number, "values dropped by aggregations")?;
+        tell_more(
+            rt,
+            &mut known.aggdrops,
+            cpu_of_drops,
+            number,
+            "values dropped by aggregations",
+        )?;
         cpu_of_drops = cpu_of_drops.saturating_add(1);
     }
     Ok(cpu)
@@ -161,7 +187,10 @@ fn wait<R: Clock>(
     known: &Learnt,
     begun: Instant,
 ) -> Result<Option<Over>, Trouble> {
-    let last = plan.last_lines.saturating_add(cpus).saturating_add(unknown(known));
+    let last = plan
+        .last_lines
+        .saturating_add(cpus)
+        .saturating_add(unknown(known));
     if session.left <= last.saturating_add(cpus).saturating_add(2) {
         return Ok(Some(Over::Lines));
     }

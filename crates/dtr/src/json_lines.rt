@@ -40,7 +40,9 @@ pub(crate) fn push_record_line(
 /// Adds a value: a number, a text, or the frames of a stack as a list.
 fn push_value(alloc: Global, out: &mut Vec<u8>, value: &Recorded) -> Result<(), Trouble> {
     match value {
-        Recorded::Number(number) => out.extend_from_slice(Buffer::new().format(*number).as_bytes())?,
+        Recorded::Number(number) => out.extend_from_slice(
+            Buffer::new().format(*number).as_bytes(),
+        )?,
         Recorded::Text(bytes) => {
             out.extend_from_slice(quoted_bytes(alloc, before_byte(0, bytes))?.as_bytes())?;
         }
@@ -75,7 +77,9 @@ pub(crate) fn push_table_line(
     let name = quoted(alloc, name)?;
     let function = quoted(alloc, function)?;
     let rows = rows.to_string(alloc)?;
-    let line = format!(in alloc; "{{\"aggregation\":{name},\"function\":{function},\"rows\":{rows}}}\n")?;
+    let line = format!(in alloc;
+        "{{\"aggregation\":{name},\"function\":{function},\"rows\":{rows}}}\n"
+    )?;
     out.extend_from_slice(line.as_bytes())?;
     Ok(())
 }

@@ -54,7 +54,10 @@ fn execute<R: Files + Net + Env + Print + Eprint + AllocGlobal + Clock + Threads
 ) -> Result<u8, Trouble> {
     let args = env::args(rt).map_err(|_| Trouble::Usage)?;
     let args = args.collect::<Vec<String>>(rt.alloc())?;
-    let words = args.iter().map(|word| word.as_str()).collect::<Vec<&str>>(rt.alloc())?;
+    let words = args
+        .iter()
+        .map(|word| word.as_str())
+        .collect::<Vec<&str>>(rt.alloc())?;
     let words = Invocation::read(rt.alloc(), &words)?;
     if let Some(machine) = words.machine {
         return judge_machine(rt, machine);
@@ -81,7 +84,10 @@ fn execute<R: Files + Net + Env + Print + Eprint + AllocGlobal + Clock + Threads
 }
 
 /// The texts of the programs: those of `-n`, and those of the files of `-s`.
-fn programs_of<R: Files + AllocGlobal>(rt: &R, words: &Invocation<'_>) -> Result<Vec<String>, Trouble> {
+fn programs_of<R: Files + AllocGlobal>(
+    rt: &R,
+    words: &Invocation<'_>,
+) -> Result<Vec<String>, Trouble> {
     let mut programs = Vec::new(rt.alloc());
     for text in &words.programs {
         programs.push(String::from_str(rt.alloc(), text)?)?;
@@ -103,7 +109,10 @@ fn trace<R: Print + Eprint + AllocGlobal + Clock + Threads, F: Write>(
     file: &mut Option<F>,
 ) -> Result<u8, Trouble> {
     let alloc = rt.alloc();
-    let shape = RowShape { quiet: words.quiet, json: words.json };
+    let shape = RowShape {
+        quiet: words.quiet,
+        json: words.json,
+    };
     let aggregations = aggregations_of(alloc, programs)?;
     let count = set_up(rt, session, &words.options, programs)?;
     let policy = policy_in(&words.options);

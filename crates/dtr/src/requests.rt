@@ -19,13 +19,23 @@ pub(crate) fn quoted_bytes(alloc: Global, bytes: &[u8]) -> Result<String, Troubl
 }
 
 /// A command with one field that is a text.
-pub(crate) fn with_text(alloc: Global, cmd: &str, key: &str, text: &str) -> Result<String, Trouble> {
+pub(crate) fn with_text(
+    alloc: Global,
+    cmd: &str,
+    key: &str,
+    text: &str,
+) -> Result<String, Trouble> {
     let value = quoted(alloc, text)?;
     Ok(format!(in alloc; "{{\"cmd\":\"{cmd}\",\"{key}\":{value}}}")?)
 }
 
 /// A command with one field that is a number.
-pub(crate) fn with_number(alloc: Global, cmd: &str, key: &str, number: u64) -> Result<String, Trouble> {
+pub(crate) fn with_number(
+    alloc: Global,
+    cmd: &str,
+    key: &str,
+    number: u64,
+) -> Result<String, Trouble> {
     Ok(format!(in alloc; "{{\"cmd\":\"{cmd}\",\"{key}\":{number}}}")?)
 }
 

@@ -23,11 +23,14 @@ impl<'a> Session<'a> {
     /// A session over a connection.
     pub(crate) fn new(alloc: Global, stream: &'a UnixStream) -> Result<Self, Trouble> {
         match BufReader::new(alloc, stream) {
-            Ok(replies) => Ok(Session { stream, replies, left: LINES }),
+            Ok(replies) => Ok(Session {
+                stream,
+                replies,
+                left: LINES,
+            }),
             Err(_) => Err(Trouble::Memory),
         }
     }
-
 
     /// Asks a line, which is given without its newline, and reads the reply.
     pub(crate) fn ask(&mut self, alloc: Global, line: &str) -> Result<Value, Trouble> {

@@ -6,7 +6,10 @@ use crate::json_lines::push_record_line;
 use crate::output::tell;
 use crate::requests;
 use crate::session::Session;
-use dt_front::{RowProbe, after_byte, layout_in, number_field, push_rows, push_rows_head, records_in, text_field, unknown_epid};
+use dt_front::{
+    RowProbe, after_byte, layout_in, number_field, push_rows, push_rows_head, records_in,
+    text_field, unknown_epid,
+};
 use dt_record::Layout;
 use serde_json::Value;
 use std::alloc::Global;
@@ -48,7 +51,10 @@ impl Learnt {
         let mut probes = Vec::new(alloc);
         for _ in 0..count.min(1024) {
             layouts.push(Layout { fields: None })?;
-            probes.push(RowProbe { id: 0, name: Vec::new(alloc) })?;
+            probes.push(RowProbe {
+                id: 0,
+                name: Vec::new(alloc),
+            })?;
         }
         Ok(Learnt {
             layouts,
@@ -144,7 +150,11 @@ fn describe<R: Print + Eprint + AllocGlobal>(
     let Some(words) = reply.get("layout").and_then(|layout| layout.as_array()) else {
         return Err(Trouble::Strange);
     };
-    let (Some(layout), Some(id), Some(name)) = (layout_in(words), number_field(&reply, "id"), text_field(&reply, "probe")) else {
+    let (Some(layout), Some(id), Some(name)) = (
+        layout_in(words),
+        number_field(&reply, "id"),
+        text_field(&reply, "probe"),
+    ) else {
         return Err(Trouble::Strange);
     };
     let name = Vec::from_slice(alloc, after_byte(b':', after_byte(b':', name.as_bytes())))?;
@@ -160,19 +170,30 @@ fn describe<R: Print + Eprint + AllocGlobal>(
 }
 
 /// Tells what was dropped on a processor since it was told last, and once whether its buffer is filled.
-fn tell_losses<R: Print + Eprint + AllocGlobal>(rt: &R, known: &mut Learnt, cpu: u64, reply: &Value) -> Result<(), Trouble> {
+fn tell_losses<R: Print + Eprint + AllocGlobal>(
+    rt: &R,
+    known: &mut Learnt,
+    cpu: u64,
+    reply: &Value,
+) -> Result<(), Trouble> {
     let Some(drops) = number_field(reply, "drops") else {
         return Err(Trouble::Strange);
     };
     let filled = reply.get("filled").and_then(|filled| filled.as_bool()) == Some(true);
     let before = known.drops.get(cpu as usize).copied().unwrap_or(0);
-    let fresh = if known.told_once { drops } else { drops.saturating_sub(before) };
+    let fresh = if known.told_once {
+        drops
+    } else {
+        drops.saturating_sub(before)
+    };
     if fresh > 0 {
         let told = format!(in rt.alloc(); "dtr: {fresh} records dropped on CPU {cpu}\n")?;
         tell(rt, told.as_bytes());
     }
     if filled && before == 0 {
-        let told = format!(in rt.alloc(); "dtr: the buffer of CPU {cpu} is full: later records aren't kept\n")?;
+        let told = format!(in rt.alloc();
+            "dtr: the buffer of CPU {cpu} is full: later records aren't kept\n"
+        )?;
         tell(rt, told.as_bytes());
     }
     keep(&mut known.drops, cpu, if filled { 1 } else { drops })

@@ -7,7 +7,10 @@ use crate::requests;
 use crate::session::Session;
 use crate::snapping::RowShape;
 use dt_aggfn::Bounds;
-use dt_front::{RowCount, counts_in, counts_total, key_in, level_rows, power_rows, push_key, push_number_line, push_picture, push_title, rows_total, signed_in, text_field};
+use dt_front::{
+    RowCount, counts_in, counts_total, key_in, level_rows, power_rows, push_key, push_number_line,
+    push_picture, push_title, rows_total, signed_in, text_field,
+};
 use dt_lang::{Call, Clause, ParseProgram, Program, Statement};
 use serde_json::Value;
 use std::alloc::Global;
@@ -21,7 +24,10 @@ pub(crate) struct ListedAggregation {
 }
 
 /// The aggregations of the programs, each once, in order. A text that is no program has none.
-pub(crate) fn aggregations_of(alloc: Global, programs: &[String]) -> Result<Vec<ListedAggregation>, Trouble> {
+pub(crate) fn aggregations_of(
+    alloc: Global,
+    programs: &[String],
+) -> Result<Vec<ListedAggregation>, Trouble> {
     let mut found = Vec::new(alloc);
     for text in programs {
         if let Ok(program) = Program::parse(alloc, text.as_bytes()) {
@@ -34,7 +40,11 @@ pub(crate) fn aggregations_of(alloc: Global, programs: &[String]) -> Result<Vec<
 }
 
 /// Adds the aggregations of a clause that aren't there.
-fn add_of_clause(alloc: Global, found: &mut Vec<ListedAggregation>, clause: &Clause) -> Result<(), Trouble> {
+fn add_of_clause(
+    alloc: Global,
+    found: &mut Vec<ListedAggregation>,
+    clause: &Clause,
+) -> Result<(), Trouble> {
     for statement in &clause.statements {
         if let Statement::Aggregate(aggregation) = statement {
             let Ok(name) = str::from_utf8(aggregation.name.as_bytes()) else {
@@ -45,7 +55,10 @@ fn add_of_clause(alloc: Global, found: &mut Vec<ListedAggregation>, clause: &Cla
                     Call::Lquantize(_, bounds) => Some(*bounds),
                     _ => None,
                 };
-                found.push(ListedAggregation { name: String::from_str(alloc, name)?, bounds })?;
+                found.push(ListedAggregation {
+                    name: String::from_str(alloc, name)?,
+                    bounds,
+                })?;
             }
         }
     }
@@ -93,8 +106,16 @@ pub(crate) fn push_table<R: Print + Eprint + AllocGlobal>(
 }
 
 /// Adds a row: its key, and its number or its distribution.
-fn push_row(alloc: Global, aggregation: &ListedAggregation, row: &Value, out: &mut Vec<u8>) -> Result<(), Trouble> {
-    let (Some(key), Some(value)) = (row.get("key").and_then(|key| key.as_array()), row.get("value")) else {
+fn push_row(
+    alloc: Global,
+    aggregation: &ListedAggregation,
+    row: &Value,
+    out: &mut Vec<u8>,
+) -> Result<(), Trouble> {
+    let (Some(key), Some(value)) = (
+        row.get("key").and_then(|key| key.as_array()),
+        row.get("value"),
+    ) else {
         return Err(Trouble::Strange);
     };
     let Some(key) = key_in(alloc, key)? else {
