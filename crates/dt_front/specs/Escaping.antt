@@ -1,0 +1,30 @@
+-- Bytes as a terminal is shown them.
+use Rattle.std.specs.Prelude.{ℕ, ◌+◌, ◌/◌, ◌%◌, ◌≤◌, ◌==◌, ◌&&◌, nat_le, Bool, List, [], ◌∷◌, if◌then◌else◌, All}
+use Rattle.std.specs.List.{flat_map}
+
+-- A byte that a terminal can only show: no control byte, and none of another character set.
+abbrev pub IsPlain : ℕ → Type 0
+IsPlain byte = (32 ≤ byte) × (byte ≤ 126)
+
+-- bytes that a terminal can only show
+abbrev pub ArePlain : List ℕ → Type 0
+ArePlain bytes = All IsPlain bytes
+
+abbrev pub is_plain_byte : ℕ → Bool
+is_plain_byte byte = nat_le 32 byte && nat_le byte 126
+
+-- a digit to the base of sixteen, in lower case
+abbrev pub hex_digit : ℕ → ℕ
+hex_digit n = if nat_le n 9 then 48 + n else 87 + n
+
+-- What is shown for a byte: itself where it is plain; `\\` for a backslash, so that an escape is never taken for the text itself; and
+-- else `\x` and two digits.
+abbrev pub shown_byte : ℕ → List ℕ
+shown_byte byte =
+    if byte == 92 then 92 ∷ 92 ∷ []
+    else if is_plain_byte byte then byte ∷ []
+    else 92 ∷ 120 ∷ hex_digit (byte / 16) ∷ hex_digit (byte % 16) ∷ []
+
+-- what is shown for bytes: what is shown for each, in order
+abbrev pub shown : List ℕ → List ℕ
+shown bytes = flat_map shown_byte bytes

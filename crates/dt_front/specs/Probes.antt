@@ -1,0 +1,24 @@
+-- The table of probes.
+use Rattle.std.specs.Prelude.{ℕ, List, ◌++◌, codes, decimal}
+use Rattle.dt_front.specs.Columns.{at_right}
+use Rattle.dt_front.specs.Escaping.{shown}
+use Rattle.dt_front.specs.Parts.{after_byte, before_byte}
+
+-- the head of the table
+abbrev pub probes_head : List ℕ
+probes_head = codes "   ID   PROVIDER            MODULE                          FUNCTION NAME\n"
+
+-- The first columns of a probe's line: its identifier, its provider and its module. A text gives the four names with `:` between them.
+abbrev pub probe_columns : ℕ → List ℕ → List ℕ
+probe_columns id name =
+    at_right 5 (decimal id) ++ codes " " ++ at_right 10 (shown (before_byte 58 name))
+    ++ codes " " ++ at_right 17 (shown (before_byte 58 (after_byte 58 name)))
+
+-- its last columns, by what stands after its module
+abbrev pub probe_names : List ℕ → List ℕ
+probe_names after =
+    codes " " ++ at_right 33 (shown (before_byte 58 after)) ++ codes " " ++ shown (after_byte 58 after) ++ codes "\n"
+
+-- a probe's line
+abbrev pub probe_line : ℕ → List ℕ → List ℕ
+probe_line id name = probe_columns id name ++ probe_names (after_byte 58 (after_byte 58 name))

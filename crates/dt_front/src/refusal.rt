@@ -1,0 +1,155 @@
+//! Why a line was refused, as a person wants to read it.
+ghost use Rattle.std.specs.Prelude.{◌≡◌, ◌++◌, ◌≤◌, OnOk, drop, length, option_map, take};
+ghost use Rattle.serde_json.specs.View.{view};
+ghost use Rattle.dt_front.specs.Refusals as spec;
+ghost use Rattle.dt_front.specs.Refusals.{before_place, caret_text, from_place, tail_length};
+ghost use Rattle.dt_front.specs.RefusalForms.{form_of_refusal};
+
+use crate::columns::{push_blanks, push_number};
+use crate::escaping::push_shown;
+use crate::fields::{number_field, text_field};
+use crate::parts::before_byte;
+use serde_json::Value;
+use std::alloc::AllocError;
+
+/// Why a line was refused.
+#[derive(Clone, Copy, Drop)]
+pub struct ToldRefusal<'a> {
+    /// The refusal's number.
+    pub number: u64,
+    /// The first byte of what is wrong, in a program's text.
+    pub at: Option<u64>,
+    /// The clause that is meant, counted from 1.
+    pub clause: Option<u64>,
+    /// What a program's text is refused for.
+    pub why: Option<&'a str>,
+    /// The name of what is refused.
+    pub what: Option<&'a str>,
+}
+
+impl<'a> ToldRefusal<'a> {
+    /// The refusal that a reply is, if it is one.
+    pub fn in_reply(reply: &'a Value) -> Option<Self>
+        ensures { option_map form_of_refusal result ≡ spec.refusal_in (view reply.now) }
+    {
+        match number_field(reply, "error") {
+            Some(number) => Some(ToldRefusal {
+                number,
+                at: number_field(reply, "at"),
+                clause: number_field(reply, "clause"),
+                why: text_field(reply, "why"),
+                what: text_field(reply, "what"),
+            }),
+            None => None,
+        }
+    }
+
+    /// Adds a sentence that says why, and ends the line.
+    pub fn push_sentence(&self, out: &mut Vec<u8>) -> Result<(), AllocError> {
+        let (before, after) = self.words();
+        out.extend_from_slice(before.as_bytes())?;
+        if let Some(clause) = self.clause {
+            push_number(out, clause)?;
+        } else if let Some(what) = self.what {
+            push_shown(out, what.as_bytes())?;
+        }
+        out.extend_from_slice(after.as_bytes())?;
+        out.push(b'\n')?;
+        Ok(())
+    }
+
+    /// The words of the sentence before the clause or the name that it tells, and those after it.
+    fn words(&self) -> (&'static str, &'static str) {
+        match self.number {
+            4 => (self.flaw(), ""),
+            5 => ("clause ", " matches no probe that this account may enable"),
+            6 => (
+                "clause ",
+                " records a kernel stack, which wants the privilege dtrace_kernel",
+            ),
+            7 => ("the action ", " is destructive, and no program may say it"),
+            8 => (
+                "the aggregation @",
+                " is used with another function, other bounds or other kinds of keys elsewhere",
+            ),
+            9 => (
+                "there is no room: 1,024 enablings, 64 aggregations, or under fill the bytes of a buffer for END's records",
+                "",
+            ),
+            10 => ("this can't be asked while tracing stands as it does", ""),
+            11 => (
+                "no option is called so or takes this value: bufsize (1 to 1048576), bufpolicy (switch, fill, ring), aggsize (8 to 1048576), histsize (1 to 1048576)",
+                "",
+            ),
+            15 => ("the session's 1,024 lines are spent", ""),
+            16 => ("the service has no memory for this now; try again", ""),
+            17 => ("all seats of the service are taken; try again later", ""),
+            18 => ("this account has no privilege to trace", ""),
+            3 => ("the program is too long for a line of 65,536 bytes", ""),
+            _ => (
+                "the service didn't understand dtr: are both of one version?",
+                "",
+            ),
+        }
+    }
+
+    /// What is wrong with a program's text.
+    fn flaw(&self) -> &'static str {
+        match self.why {
+            Some("Syntax") => "syntax error: no program goes on like this",
+            Some("Probe") =>
+                "this describes no probe: a description has one to four fields of patterns, as syscall::read:entry",
+            Some("Action") => "no action or aggregating function is called so",
+            Some("Variable") => "no variable is called so",
+            Some("TooLong") => "this is too long, or one more than there may be",
+            Some("Range") =>
+                "these bounds make no levels: the lower is below the upper, the step divides the range, 512 levels at most",
+            _ => "this is no program",
+        }
+    }
+}
+
+/// Adds the line of a text that has a place, and below it a caret under the place's byte.
+pub fn push_caret(out: &mut Vec<u8>, text: &[u8], at: usize) -> Result<(), AllocError>
+    requires { at ≤ length text.now }
+    ensures { OnOk result (out.new.items ≡ out.old.items ++ caret_text text.now at) }
+{
+    out.extend_from_slice(b"    ")?;
+    let begun = out.len();
+    push_shown(out, before(text, at))?;
+    let columns = out.len() - begun;
+    push_shown(out, from(text, at))?;
+    out.extend_from_slice(b"\n    ")?;
+    push_blanks(out, columns)?;
+    out.extend_from_slice(b"^\n")
+}
+
+/// What stands on a place's line before it.
+fn before(text: &[u8], at: usize) -> &[u8]
+    requires { at ≤ length text.now }
+    ensures { result.now ≡ before_place text.now at }
+{
+    let head = &text[..at];
+    &head[head.len() - tail_length(head)..]
+}
+
+/// What stands on a place's line from it on.
+fn from(text: &[u8], at: usize) -> &[u8]
+    requires { at ≤ length text.now }
+    ensures { result.now ≡ from_place text.now at }
+{
+    before_byte(b'\n', &text[at..])
+}
+
+/// How many bytes come after the last newline.
+fn tail_length(bytes: &[u8]) -> usize
+    ensures same { result ≡ tail_length bytes.now }
+    ensures within { result ≤ length bytes.now }
+{
+    for back in 0..bytes.len() {
+        if bytes[bytes.len() - 1 - back] == b'\n' {
+            return back;
+        }
+    }
+    bytes.len()
+}

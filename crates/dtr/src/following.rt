@@ -1,0 +1,222 @@
+//! A session that traces: when it is looked at, and when it ends.
+
+use crate::enabling::accepted;
+use crate::fault::Trouble;
+use crate::output::{tell, write_out};
+use crate::session::Session;
+use crate::snapping::{Learnt, RowShape, keep, snap};
+use dt_front::{number_field, signed_in, text_field};
+use serde_json::Value;
+use std::io::Write;
+use std::rt::Clock;
+use std::sync::atomic::{AtomicBool, Ordering};
+use std::thread;
+use std::time::{Duration, Instant};
+
+/// How many milliseconds the program sleeps at once: then it looks whether its time is over, or standard input has ended.
+const NAP: u64 = 50;
+
+/// How a session is followed.
+#[derive(Drop)]
+pub(crate) struct Plan<'a> {
+    /// How long there is between two looks, while lines are plenty.
+    pub(crate) every: Duration,
+    /// For how long it is traced.
+    pub(crate) length: Option<Duration>,
+    /// Whether buffers can be read while it traces.
+    pub(crate) readable: bool,
+    /// How many lines the end takes beside a line for each processor and each enabling that isn't known.
+    pub(crate) last_lines: u64,
+    /// Set once standard input has ended.
+    pub(crate) ended: &'a AtomicBool,
+    /// How rows are written.
+    pub(crate) shape: RowShape,
+}
+
+/// Why the program goes on no more.
+#[derive(Clone, Copy, PartialEq, Eq, Drop)]
+enum Over {
+    /// Its time is over, or standard input ended.
+    Asked,
+    /// The lines of the session are nearly spent.
+    Lines,
+}
+
+/// Follows a session until its tracing has ended, and writes what was recorded. Gives the status with which a clause exited, where one did.
+pub(crate) fn follow<R: Print + Eprint + AllocGlobal + Clock, F: Write>(
+    rt: &R,
+    session: &mut Session<'_>,
+    known: &mut Learnt,
+    plan: &Plan<'_>,
+    file: &mut Option<F>,
+) -> Result<Option<i64>, Trouble> {
+    let begun = Instant::now(rt).map_err(|_| Trouble::Clock)?;
+    let mut cpus = 0_u64;
+    for _ in 0..u64::MAX {
+        if let Some(why) = wait(rt, session, plan, cpus, known, begun)? {
+            stop(rt, session, why)?;
+        }
+        let status = status_of(rt, session)?;
+        let stopped = text_field(&status, "phase") == Some("stopped");
+        cpus = tell_errors(rt, known, &status)?;
+        let seen = number_field(&status, "seen").ok_or(Trouble::Strange)?;
+        if stopped || (plan.readable && seen != known.seen) {
+            known.seen = seen;
+            take_snaps(rt, session, known, cpus, plan.shape, file)?;
+        }
+        if stopped {
+            return Ok(exit_in(&status));
+        }
+    }
+    Ok(None)
+}
+
+/// The number with which a clause exited, where one did.
+fn exit_in(status: &Value) -> Option<i64> {
+    match status.get("exit") {
+        Some(exit) => signed_in(exit),
+        None => None,
+    }
+}
+
+/// Ends tracing. Where it has just ended by itself, that is as well.
+fn stop<R: Print + Eprint + AllocGlobal>(
+    rt: &R,
+    session: &mut Session<'_>,
+    why: Over,
+) -> Result<(), Trouble> {
+    if why == Over::Lines {
+        tell(
+            rt,
+            b"dtr: the session's 1,024 lines are nearly spent, so tracing ends here\n",
+        );
+    }
+    let _reply = session.ask(rt.alloc(), "{\"cmd\":\"stop\"}")?;
+    Ok(())
+}
+
+/// How far the session has come.
+fn status_of<R: Print + Eprint + AllocGlobal>(
+    rt: &R,
+    session: &mut Session<'_>,
+) -> Result<Value, Trouble> {
+    let reply = session.ask(rt.alloc(), "{\"cmd\":\"status\"}")?;
+    accepted(rt, &reply, "the session doesn't say how far it is", None)?;
+    Ok(reply)
+}
+
+/// Reads all buffers, and writes what was recorded.
+fn take_snaps<R: Print + Eprint + AllocGlobal, F: Write>(
+    rt: &R,
+    session: &mut Session<'_>,
+    known: &mut Learnt,
+    cpus: u64,
+    shape: RowShape,
+    file: &mut Option<F>,
+) -> Result<(), Trouble> {
+    let mut out = Vec::new(rt.alloc());
+    for cpu in 0..cpus {
+        snap(rt, session, known, cpu, shape, &mut out)?;
+        write_out(rt, file, &mut out)?;
+    }
+    Ok(())
+}
+
+/// Tells which errors and drops of aggregations are new on each processor, and gives how many processors there are.
+fn tell_errors<R: Print + Eprint + AllocGlobal>(
+    rt: &R,
+    known: &mut Learnt,
+    status: &Value,
+) -> Result<u64, Trouble> {
+    let (Some(errors), Some(aggdrops)) = (
+        status.get("errors").and_then(|errors| errors.as_array()),
+        status.get("aggdrops").and_then(|drops| drops.as_array()),
+    ) else {
+        return Err(Trouble::Strange);
+    };
+    let mut cpu = 0_u64;
+    for number in errors {
+        tell_more(
+            rt,
+            &mut known.errors,
+            cpu,
+            number,
+            "errors (a division by zero)",
+        )?;
+        cpu = cpu.saturating_add(1);
+    }
+    let mut cpu_of_drops = 0_u64;
+    for number in aggdrops {
+        tell_more(
+            rt,
+            &mut known.aggdrops,
+            cpu_of_drops,
+            number,
+            "values dropped by aggregations",
+        )?;
+        cpu_of_drops = cpu_of_drops.saturating_add(1);
+    }
+    Ok(cpu)
+}
+
+/// Tells how much a number of a processor has grown, where it has.
+fn tell_more<R: Print + Eprint + AllocGlobal>(
+    rt: &R,
+    told: &mut Vec<u64>,
+    cpu: u64,
+    number: &Value,
+    what: &str,
+) -> Result<(), Trouble> {
+    let Some(number) = number.as_u64() else {
+        return Err(Trouble::Strange);
+    };
+    let before = told.get(cpu as usize).copied().unwrap_or(0);
+    if number > before {
+        let line = format!(in rt.alloc(); "dtr: {} {what} on CPU {cpu}\n", number - before)?;
+        tell(rt, line.as_bytes());
+    }
+    keep(told, cpu, number)
+}
+
+/// Waits for the next look, and says whether tracing is to end, and why. The fewer lines are left, the longer it waits.
+fn wait<R: Clock>(
+    rt: &R,
+    session: &Session<'_>,
+    plan: &Plan<'_>,
+    cpus: u64,
+    known: &Learnt,
+    begun: Instant,
+) -> Result<Option<Over>, Trouble> {
+    let last = plan
+        .last_lines
+        .saturating_add(cpus)
+        .saturating_add(unknown(known));
+    if session.left <= last.saturating_add(cpus).saturating_add(2) {
+        return Ok(Some(Over::Lines));
+    }
+    let times = 1024 / session.left.max(1);
+    let look = Instant::now(rt).map_err(|_| Trouble::Clock)?;
+    for _ in 0..u64::MAX {
+        let spent = begun.elapsed(rt).map_err(|_| Trouble::Clock)?;
+        if plan.ended.load(Ordering::SeqCst) || plan.length.is_some_and(|length| spent >= length) {
+            return Ok(Some(Over::Asked));
+        }
+        let waited = look.elapsed(rt).map_err(|_| Trouble::Clock)?;
+        if waited.as_millis() >= plan.every.as_millis().saturating_mul(u128::from(times)) {
+            return Ok(None);
+        }
+        thread::sleep(rt, Duration::from_millis(NAP));
+    }
+    Ok(None)
+}
+
+/// How many enablings aren't known yet, at most 64: that many may still have to be asked for.
+fn unknown(known: &Learnt) -> u64 {
+    let mut count = 0_u64;
+    for layout in &known.layouts {
+        if layout.fields.is_none() && count < 64 {
+            count += 1;
+        }
+    }
+    count
+}

@@ -1,0 +1,61 @@
+//! Whether a machine file would be read.
+
+use crate::fault::Trouble;
+use crate::output::tell;
+use dt_machine::{FaultNumber, Machine};
+use std::io::Write;
+use std::rt::Files;
+use std::{fs, io};
+
+/// Says whether a machine file would be read, and if not, which key is wrong where, with the refusal's number. Gives the status.
+pub(crate) fn judge_machine<R: Files + Print + Eprint + AllocGlobal>(
+    rt: &R,
+    path: &str,
+) -> Result<u8, Trouble> {
+    let alloc = rt.alloc();
+    let text = fs::read(rt, path).map_err(|_| Trouble::File)?;
+    let fault = match Machine::read(alloc, &text) {
+        Ok(machine) => {
+            let told = format!(in alloc;
+                "a machine of {} processors and {} accounts\n",
+                machine.cpus(),
+                machine.accounts().len()
+            )?;
+            io::writer(rt)
+                .write_all(told.as_bytes())
+                .map_err(|_| Trouble::Output)?;
+            return Ok(0);
+        }
+        Err(fault) => fault,
+    };
+    let why = rule_of(fault.number);
+    let told = match fault.found {
+        Some(found) => format!(in alloc;
+            "dtr: refused {}: {found} is wrong: {why}\n",
+            fault.number
+        )?,
+        None => format!(in alloc; "dtr: refused {}: {why}\n", fault.number)?,
+    };
+    tell(rt, told.as_bytes());
+    Ok(1)
+}
+
+/// What the part of a machine file has to be that is refused by this number.
+fn rule_of(number: FaultNumber) -> &'static str {
+    match number {
+        FaultNumber::Json => "the file is no JSON, or no UTF-8",
+        FaultNumber::Shape => "a wanted key is missing, or a value is of the wrong kind",
+        FaultNumber::Cpus => "there are 1 to 64 processors",
+        FaultNumber::Account =>
+            "an account has a name of 1 to 31 of a-z 0-9 _ -, its own, a uid of 32 bits, and known privileges; 16 at most",
+        FaultNumber::Process =>
+            "a process has a pid up to 999999, its own, a uid of 32 bits, and a name of up to 31 visible bytes or blanks; 1,024 at most",
+        FaultNumber::Probe =>
+            "a probe is four names with : between them, its own, not of the provider dtrace, and a pid provider's process is in the list; 4,096 at most",
+        FaultNumber::Script => "there is one script for each processor, of 65,536 firings at most",
+        FaultNumber::Firing =>
+            "a firing names a probe and a process that are there, and its numbers are in their ranges",
+        FaultNumber::Foreign => "a pid provider's probe fires in its own process alone",
+        FaultNumber::Memory => "memory ran out",
+    }
+}

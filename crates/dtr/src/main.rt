@@ -1,0 +1,157 @@
+//! `dtr`, which traces from a terminal: a one-liner in, rows, tables and pictures of distributions out. It is a client of a service, `dtraced serve`.
+//!
+//! What stands here are words, the socket, time and files. What is printed for the values that a service answers is what `dt_front` is proved to print.
+#![tactic(auto)]
+
+mod enabling;
+mod fault;
+mod following;
+mod input;
+mod json_lines;
+mod judging;
+mod listing;
+mod output;
+mod requests;
+mod session;
+mod snapping;
+mod summing;
+mod words;
+
+use enabling::{begin, set_up};
+use fault::Trouble;
+use following::{Plan, follow};
+use input::watch_input;
+use judging::judge_machine;
+use listing::list_probes;
+use output::write_out;
+use session::Session;
+use snapping::{Learnt, RowShape};
+use std::io::{Stdin, Write};
+use std::net::Net;
+use std::os::unix::net::UnixStream;
+use std::process::ExitCode;
+use std::rt::{Clock, Env, Files};
+use std::thread::Threads;
+use std::{env, fs};
+use summing::{aggregations_of, push_table};
+use words::Invocation;
+
+fn main(rt: HostRuntime) -> ExitCode {
+    match execute(&rt, rt.stdin()) {
+        Ok(status) => ExitCode::from(status),
+        Err(fault) => {
+            // Where standard error fails too, the status is all that tells.
+            let _told = eprintln!(rt; "{fault}");
+            ExitCode::from(fault.status())
+        }
+    }
+}
+
+/// Does what the program's words ask for, and gives the status.
+fn execute<R: Files + Net + Env + Print + Eprint + AllocGlobal + Clock + Threads>(
+    rt: &R,
+    input: Stdin,
+) -> Result<u8, Trouble> {
+    let args = env::args(rt).map_err(|_| Trouble::Usage)?;
+    let args = args.collect::<Vec<String>>(rt.alloc())?;
+    let words = args
+        .iter()
+        .map(|word| word.as_str())
+        .collect::<Vec<&str>>(rt.alloc())?;
+    let words = Invocation::read(rt.alloc(), &words)?;
+    if let Some(machine) = words.machine {
+        return judge_machine(rt, machine);
+    }
+    let Some(path) = words.socket else {
+        return Err(Trouble::Usage);
+    };
+    let programs = programs_of(rt, &words)?;
+    if !words.list && programs.is_empty() {
+        return Err(Trouble::Usage);
+    }
+    let mut file = match words.output {
+        Some(path) => Some(fs::create(rt, path).map_err(|_| Trouble::Output)?),
+        None => None,
+    };
+    let stream = UnixStream::connect(rt, path).map_err(|_| Trouble::NoService)?;
+    let mut session = Session::new(rt.alloc(), &stream)?;
+    if words.list {
+        let description = words.programs.first().copied().unwrap_or("");
+        list_probes(rt, &mut session, description, words.quiet, &mut file)?;
+        return Ok(0);
+    }
+    trace(rt, input, &mut session, &words, &programs, &mut file)
+}
+
+/// The texts of the programs: those of `-n`, and those of the files of `-s`.
+fn programs_of<R: Files + AllocGlobal>(
+    rt: &R,
+    words: &Invocation<'_>,
+) -> Result<Vec<String>, Trouble> {
+    let mut programs = Vec::new(rt.alloc());
+    for text in &words.programs {
+        programs.push(String::from_str(rt.alloc(), text)?)?;
+    }
+    for path in &words.files {
+        let text = fs::read_to_string(rt, *path).map_err(|_| Trouble::File)?;
+        programs.push(text)?;
+    }
+    Ok(programs)
+}
+
+/// Traces, and gives the status with which a clause exited, or 0.
+fn trace<R: Print + Eprint + AllocGlobal + Clock + Threads, F: Write>(
+    rt: &R,
+    input: Stdin,
+    session: &mut Session<'_>,
+    words: &Invocation<'_>,
+    programs: &[String],
+    file: &mut Option<F>,
+) -> Result<u8, Trouble> {
+    let alloc = rt.alloc();
+    let shape = RowShape {
+        quiet: words.quiet,
+        json: words.json,
+    };
+    let aggregations = aggregations_of(alloc, programs)?;
+    let count = set_up(rt, session, &words.options, programs)?;
+    let policy = policy_in(&words.options);
+    let mut known = Learnt::new(alloc, count, policy == "switch")?;
+    begin(rt, session, count)?;
+    let ended = watch_input(rt, alloc, input)?;
+    let plan = Plan {
+        every: words.every,
+        length: words.length,
+        readable: policy != "ring",
+        last_lines: (aggregations.len() as u64).saturating_add(4),
+        ended: &ended,
+        shape,
+    };
+    let exit = follow(rt, session, &mut known, &plan, file)?;
+    let mut out = Vec::new(alloc);
+    for aggregation in &aggregations {
+        push_table(rt, session, aggregation, shape, &mut out)?;
+        write_out(rt, file, &mut out)?;
+    }
+    let _closed = session.ask(alloc, "{\"cmd\":\"close\"}")?;
+    Ok(status_of_exit(exit))
+}
+
+/// The status of a program whose clause exited with this number: the number itself where it is a status, and else 1; 0 where none exited.
+fn status_of_exit(exit: Option<i64>) -> u8 {
+    match exit {
+        Some(number) => u8::try_from(number).unwrap_or(1),
+        None => 0,
+    }
+}
+
+/// The policy of buffers that the options ask for.
+fn policy_in<'a>(options: &[&'a str]) -> &'a str {
+    let mut policy = "switch";
+    for option in options {
+        if let Some(value) = option.strip_prefix("bufpolicy=") {
+            policy = value;
+        }
+    }
+    policy
+}

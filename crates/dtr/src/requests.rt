@@ -1,0 +1,53 @@
+//! The lines that the program asks.
+
+use crate::fault::Trouble;
+use serde_json::Value;
+use std::alloc::Global;
+
+/// A text as JSON has it.
+pub(crate) fn quoted(alloc: Global, text: &str) -> Result<String, Trouble> {
+    Ok(Value::String(String::from_str(alloc, text)?).to_string(alloc)?)
+}
+
+/// Bytes as JSON has a text: each the character of its number.
+pub(crate) fn quoted_bytes(alloc: Global, bytes: &[u8]) -> Result<String, Trouble> {
+    let mut text = String::new(alloc);
+    for byte in bytes {
+        text.push(char::from(*byte))?;
+    }
+    quoted(alloc, &text)
+}
+
+/// A command with one field that is a text.
+pub(crate) fn with_text(
+    alloc: Global,
+    cmd: &str,
+    key: &str,
+    text: &str,
+) -> Result<String, Trouble> {
+    let value = quoted(alloc, text)?;
+    Ok(format!(in alloc; "{{\"cmd\":\"{cmd}\",\"{key}\":{value}}}")?)
+}
+
+/// A command with one field that is a number.
+pub(crate) fn with_number(
+    alloc: Global,
+    cmd: &str,
+    key: &str,
+    number: u64,
+) -> Result<String, Trouble> {
+    Ok(format!(in alloc; "{{\"cmd\":\"{cmd}\",\"{key}\":{number}}}")?)
+}
+
+/// The `option` of a word `name=value`: a value of digits alone is a number, any other a text. `None` where the word has no `=`.
+pub(crate) fn option(alloc: Global, word: &str) -> Result<Option<String>, Trouble> {
+    let Some((name, value)) = word.split_once('=') else {
+        return Ok(None);
+    };
+    let name = quoted(alloc, name)?;
+    let value = match value.parse::<u64>() {
+        Ok(number) => format!(in alloc; "{number}")?,
+        Err(_) => quoted(alloc, value)?,
+    };
+    Ok(Some(format!(in alloc; "{{\"cmd\":\"option\",\"name\":{name},\"value\":{value}}}")?))
+}

@@ -1,0 +1,60 @@
+//! One session with a service: a line is asked, and its reply is read.
+
+use crate::fault::Trouble;
+use serde_json::Value;
+use std::alloc::Global;
+use std::io::{BufRead, BufReader, Write};
+use std::net::Shutdown;
+use std::os::unix::net::UnixStream;
+
+/// How many lines a session may ask.
+const LINES: u64 = 1024;
+
+/// A session.
+#[derive(Drop)]
+pub(crate) struct Session<'a> {
+    stream: &'a UnixStream,
+    replies: BufReader<&'a UnixStream>,
+    /// How many lines may still be asked.
+    pub(crate) left: u64,
+}
+
+impl<'a> Session<'a> {
+    /// A session over a connection.
+    pub(crate) fn new(alloc: Global, stream: &'a UnixStream) -> Result<Self, Trouble> {
+        match BufReader::new(alloc, stream) {
+            Ok(replies) => Ok(Session {
+                stream,
+                replies,
+                left: LINES,
+            }),
+            Err(_) => Err(Trouble::Memory),
+        }
+    }
+
+    /// Asks a line, which is given without its newline, and reads the reply.
+    pub(crate) fn ask(&mut self, alloc: Global, line: &str) -> Result<Value, Trouble> {
+        let mut whole = Vec::from_slice(alloc, line.as_bytes())?;
+        whole.push(b'\n')?;
+        self.left = self.left.saturating_sub(1);
+        let mut to = self.stream;
+        // a service without a seat says so and ends, maybe before the line was sent: its reply is read all the same
+        if to.write_all(&whole).is_err() {
+            let _ended = self.stream.shutdown(Shutdown::Write);
+        }
+        self.reply(alloc)
+    }
+
+    /// Reads a reply.
+    fn reply(&mut self, alloc: Global) -> Result<Value, Trouble> {
+        let mut line = Vec::new(alloc);
+        if self.replies.read_until(b'\n', &mut line).is_err() || line.last() != Some(&b'\n') {
+            return Err(Trouble::Gone);
+        }
+        match Value::from_slice(alloc, &line) {
+            Ok(reply) => Ok(reply),
+            Err(fault) if fault.is_memory() => Err(Trouble::Memory),
+            Err(_) => Err(Trouble::Strange),
+        }
+    }
+}

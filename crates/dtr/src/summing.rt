@@ -1,0 +1,160 @@
+//! The aggregations of the programs, as tables and pictures.
+
+use crate::enabling::accepted;
+use crate::fault::Trouble;
+use crate::json_lines::push_table_line;
+use crate::requests;
+use crate::session::Session;
+use crate::snapping::RowShape;
+use dt_aggfn::Bounds;
+use dt_front::{
+    RowCount, counts_in, counts_total, key_in, level_rows, power_rows, push_key, push_number_line,
+    push_picture, push_title, rows_total, signed_in, text_field,
+};
+use dt_lang::{Call, Clause, ParseProgram, Program, Statement};
+use serde_json::Value;
+use std::alloc::Global;
+
+/// An aggregation of a program.
+#[derive(Drop)]
+pub(crate) struct ListedAggregation {
+    name: String,
+    /// The levels of an `lquantize`.
+    bounds: Option<Bounds>,
+}
+
+/// The aggregations of the programs, each once, in order. A text that is no program has none.
+pub(crate) fn aggregations_of(
+    alloc: Global,
+    programs: &[String],
+) -> Result<Vec<ListedAggregation>, Trouble> {
+    let mut found = Vec::new(alloc);
+    for text in programs {
+        if let Ok(program) = Program::parse(alloc, text.as_bytes()) {
+            for clause in &program.clauses {
+                add_of_clause(alloc, &mut found, clause)?;
+            }
+        }
+    }
+    Ok(found)
+}
+
+/// Adds the aggregations of a clause that aren't there.
+fn add_of_clause(
+    alloc: Global,
+    found: &mut Vec<ListedAggregation>,
+    clause: &Clause,
+) -> Result<(), Trouble> {
+    for statement in &clause.statements {
+        if let Statement::Aggregate(aggregation) = statement {
+            let Ok(name) = str::from_utf8(aggregation.name.as_bytes()) else {
+                return Err(Trouble::Strange);
+            };
+            if !has_name(found, name) {
+                let bounds = match &aggregation.call {
+                    Call::Lquantize(_, bounds) => Some(*bounds),
+                    _ => None,
+                };
+                found.push(ListedAggregation {
+                    name: String::from_str(alloc, name)?,
+                    bounds,
+                })?;
+            }
+        }
+    }
+    Ok(())
+}
+
+/// Whether an aggregation of this name is there.
+fn has_name(found: &[ListedAggregation], name: &str) -> bool {
+    for aggregation in found {
+        if aggregation.name.as_str() == name {
+            return true;
+        }
+    }
+    false
+}
+
+/// Adds the table of an aggregation, as far as the service answers it.
+pub(crate) fn push_table<R: Print + Eprint + AllocGlobal>(
+    rt: &R,
+    session: &mut Session<'_>,
+    aggregation: &ListedAggregation,
+    shape: RowShape,
+    out: &mut Vec<u8>,
+) -> Result<(), Trouble> {
+    let alloc = rt.alloc();
+    let line = requests::with_text(alloc, "agg", "name", &aggregation.name)?;
+    let reply = session.ask(alloc, &line)?;
+    accepted(rt, &reply, "an aggregation can't be read", None)?;
+    let (Some(function), Some(rows)) = (text_field(&reply, "fn"), reply.get("rows")) else {
+        return Err(Trouble::Strange);
+    };
+    if shape.json {
+        return push_table_line(alloc, out, &aggregation.name, function, rows);
+    }
+    let Some(rows) = rows.as_array() else {
+        return Err(Trouble::Strange);
+    };
+    if !shape.quiet {
+        push_title(out, aggregation.name.as_bytes(), function.as_bytes())?;
+    }
+    for row in rows {
+        push_row(alloc, aggregation, row, out)?;
+    }
+    Ok(())
+}
+
+/// Adds a row: its key, and its number or its distribution.
+fn push_row(
+    alloc: Global,
+    aggregation: &ListedAggregation,
+    row: &Value,
+    out: &mut Vec<u8>,
+) -> Result<(), Trouble> {
+    let (Some(key), Some(value)) = (
+        row.get("key").and_then(|key| key.as_array()),
+        row.get("value"),
+    ) else {
+        return Err(Trouble::Strange);
+    };
+    let Some(key) = key_in(alloc, key)? else {
+        return Err(Trouble::Strange);
+    };
+    if let Some(number) = signed_in(value) {
+        push_number_line(alloc, out, &key, number)?;
+        return Ok(());
+    }
+    let Some(counts) = value.as_array() else {
+        return Err(Trouble::Strange);
+    };
+    let Some(counts) = counts_in(alloc, counts)? else {
+        return Err(Trouble::Strange);
+    };
+    if !key.is_empty() {
+        push_key(alloc, out, &key)?;
+        out.push(b'\n')?;
+    }
+    push_distribution(alloc, aggregation.bounds, &counts, out)
+}
+
+/// Adds the picture of a distribution. Counts of rows that the function doesn't have are none that dtr understands.
+fn push_distribution(
+    alloc: Global,
+    bounds: Option<Bounds>,
+    counts: &[RowCount],
+    out: &mut Vec<u8>,
+) -> Result<(), Trouble> {
+    let rows = match bounds {
+        Some(bounds) => level_rows(alloc, bounds, counts)?,
+        None => power_rows(alloc, counts)?,
+    };
+    let (Some(shown), Some(answered)) = (rows_total(&rows), counts_total(counts)) else {
+        return Err(Trouble::Strange);
+    };
+    if shown != answered {
+        return Err(Trouble::Strange);
+    }
+    push_picture(out, &rows)?;
+    Ok(())
+}

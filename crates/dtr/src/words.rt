@@ -1,0 +1,117 @@
+//! The words that the program is called with.
+
+use crate::fault::Trouble;
+use clap::{Arg, ArgAction, ArgMatches, Command};
+use std::alloc::{AllocError, Global};
+use std::time::Duration;
+
+/// What the program is asked for.
+#[derive(Drop)]
+pub(crate) struct Invocation<'a> {
+    /// The path of the service's socket.
+    pub(crate) socket: Option<&'a str>,
+    /// Whether probes are to be listed.
+    pub(crate) list: bool,
+    /// Programs, or with `-l` a description.
+    pub(crate) programs: Vec<&'a str>,
+    /// Files with programs.
+    pub(crate) files: Vec<&'a str>,
+    /// Options of the session, each `name=value`.
+    pub(crate) options: Vec<&'a str>,
+    /// Whether rows have values alone.
+    pub(crate) quiet: bool,
+    /// Whether lines of JSON are wanted.
+    pub(crate) json: bool,
+    /// The file to write to in place of standard output.
+    pub(crate) output: Option<&'a str>,
+    /// How long the program waits between two looks at most.
+    pub(crate) every: Duration,
+    /// For how long it traces.
+    pub(crate) length: Option<Duration>,
+    /// The machine file that is to be judged.
+    pub(crate) machine: Option<&'a str>,
+}
+
+impl<'a> Invocation<'a> {
+    /// Reads the program's words, of which the first is its own name.
+    pub(crate) fn read(alloc: Global, words: &'a [&'a str]) -> Result<Self, Trouble> {
+        let Ok(command) = program(alloc) else {
+            return Err(Trouble::Memory);
+        };
+        let Ok(given) = command.try_get_matches_from(words) else {
+            return Err(Trouble::Usage);
+        };
+        Invocation::of(alloc, &given)
+    }
+
+    /// What clap found in the words.
+    fn of(alloc: Global, given: &ArgMatches<'a>) -> Result<Self, Trouble> {
+        Ok(Invocation {
+            socket: given.get_str("socket"),
+            list: given.get_flag("list"),
+            programs: all_of(alloc, given, "program")?,
+            files: all_of(alloc, given, "script")?,
+            options: all_of(alloc, given, "option")?,
+            quiet: given.get_flag("quiet"),
+            json: given.get_flag("json"),
+            output: given.get_str("output"),
+            every: seconds_in(given.get_str("every"))?.unwrap_or(Duration::from_secs(1)),
+            length: seconds_in(given.get_str("for"))?,
+            machine: given.get_str("machine"),
+        })
+    }
+}
+
+/// All values of an argument, in order.
+fn all_of<'a>(alloc: Global, given: &ArgMatches<'a>, id: &str) -> Result<Vec<&'a str>, Trouble> {
+    let mut all = Vec::new(alloc);
+    if let Some(values) = given.get_strs(id) {
+        for value in values {
+            all.push(*value)?;
+        }
+    }
+    Ok(all)
+}
+
+/// The time of a word: whole seconds, or seconds and tenths as `0.5`.
+fn seconds_in(word: Option<&str>) -> Result<Option<Duration>, Trouble> {
+    let Some(word) = word else {
+        return Ok(None);
+    };
+    let (whole, tenths) = match word.split_once('.') {
+        Some((whole, tenths)) => (whole, tenths),
+        None => (word, "0"),
+    };
+    match (whole.parse::<u32>(), tenths.parse::<u8>()) {
+        (Ok(whole), Ok(tenths)) if tenths < 10 => {
+            Ok(Some(Duration::from_millis(u64::from(whole) * 1000 + u64::from(tenths) * 100)))
+        }
+        _ => Err(Trouble::Usage),
+    }
+}
+
+/// The forms of the program's words.
+fn program<'a>(alloc: Global) -> Result<Command<'a>, AllocError> {
+    Command::new(alloc, "dtr")
+        .arg(Arg::new(alloc, "socket").action(ArgAction::Set))?
+        .arg(flag(alloc, "list").short('l'))?
+        .arg(value(alloc, "program", ArgAction::Append).short('n'))?
+        .arg(value(alloc, "script", ArgAction::Append).short('s'))?
+        .arg(value(alloc, "option", ArgAction::Append).short('x'))?
+        .arg(flag(alloc, "quiet").short('q'))?
+        .arg(value(alloc, "output", ArgAction::Set).short('o'))?
+        .arg(flag(alloc, "json").long("json"))?
+        .arg(value(alloc, "every", ArgAction::Set).long("every"))?
+        .arg(value(alloc, "for", ArgAction::Set).long("for"))?
+        .arg(value(alloc, "machine", ArgAction::Set).long("machine"))
+}
+
+/// An argument that is there or not.
+fn flag<'a>(alloc: Global, id: &'a str) -> Arg<'a> {
+    Arg::new(alloc, id).action(ArgAction::SetTrue)
+}
+
+/// An argument that has a value, which may begin with a `-`.
+fn value<'a>(alloc: Global, id: &'a str, action: ArgAction) -> Arg<'a> {
+    Arg::new(alloc, id).action(action).allow_hyphen_values(true)
+}
