@@ -4,6 +4,8 @@ import json
 import os
 import pathlib
 import re
+import resource
+import shutil
 import signal
 import socket
 import stat
@@ -20,6 +22,7 @@ import built
 from built import PATIENCE, STATUS
 
 SEATS = 256
+NOBODY = 65_534
 STATUS_REPLY = b'{"aggdrops":[0],"cause":null,"errors":[0],"exit":null,"ok":true,"phase":"inactive","seen":0}\n'
 FULL = b'{"error":17,"name":"Full"}\n'
 NO_PRIVILEGE = b'{"error":18,"name":"NoPrivilege"}\n'
@@ -158,6 +161,20 @@ def never_reads(_folder):
         other.close()
 
 
+def stalls(_folder):
+    """A client that stops in the middle of a line, beside another, and a service that has nothing to do."""
+    with serving(machine([[]])) as service:
+        stalled, other = service.client(), service.client()
+        stalled.send(STATUS[:10])
+        yield "another is served while half a line waits", [other.ask(STATUS) for _ in range(3)], [STATUS_REPLY] * 3
+        before = service.spent()
+        time.sleep(1)
+        yield "a service with nothing to do takes no processor time", service.spent() - before < 0.1, True
+        yield "the line's other half", stalled.ask(STATUS[10:]), STATUS_REPLY
+        stalled.close()
+        other.close()
+
+
 def cut_anywhere(_folder):
     """Lines that come a byte at a time, several in one piece, and a rest that is no line."""
     with serving(machine([[]])) as service:
@@ -238,6 +255,23 @@ def long_steps(_folder):
             b'{"fn":"count","name":"c","ok":true,"rows":[{"key":[],"value":%d}]}\n' % FIRINGS_MAX
 
 
+def no_threads(folder):
+    """A service that may start no thread: by somebody who isn't root, for whom there is a limit."""
+    sockets = folder / "sockets"
+    sockets.mkdir()
+    program, path = folder / "dtraced", folder / "machine.json"
+    shutil.copy(PROGRAM, program)
+    path.write_text(machine([[]]), encoding="utf-8")
+    who = {}
+    if os.geteuid() == 0:
+        who = {"user": NOBODY}
+        folder.chmod(0o755)
+        os.chown(sockets, NOBODY, NOBODY)
+    ran = subprocess.run([str(program), "serve", str(path), str(sockets)], stdin=subprocess.DEVNULL, stdout=subprocess.PIPE, stderr=subprocess.PIPE,
+                         check=False, timeout=PATIENCE, preexec_fn=lambda: resource.setrlimit(resource.RLIMIT_NPROC, (1, 1)), **who)
+    yield "no thread", (ran.stdout, ran.stderr, ran.returncode, os.listdir(sockets)), (b"", b"fault\n", 1, [])
+
+
 def refused(folder):
     """Services that don't start."""
     path = folder / "machine.json"
@@ -262,4 +296,4 @@ def refused(folder):
 
 
 signal.signal(signal.SIGPIPE, signal.SIG_IGN)
-judge(rows, all_seats, comes_and_goes, never_reads, cut_anywhere, session_ends, commands, long_steps, refused)
+judge(rows, all_seats, comes_and_goes, never_reads, stalls, cut_anywhere, session_ends, commands, long_steps, no_threads, refused)
