@@ -72,6 +72,22 @@ enum Work<J: HubSite> {
     FireRows(CpuSeat<J>),
     /// Asks a row's lines before all firings and after them.
     Ask(Row),
+    /// Nothing.
+    Rest,
+}
+
+/// The works of two threads.
+#[derive(Drop)]
+struct Two<J: HubSite> {
+    one: Work<J>,
+    other: Work<J>,
+}
+
+/// The works of four.
+#[derive(Drop)]
+struct Four<J: HubSite> {
+    first: Two<J>,
+    second: Two<J>,
 }
 
 /// What threads have counted: the firings that were kept, as the processors were told, and those that stood on the sessions' trails.
@@ -238,27 +254,77 @@ fn does<J: HubSite, R: Wait + Abort + Clock>(
             assert!(rt; played.is_ok(), "out of memory");
             NOTHING
         }
+        Work::Rest => NOTHING,
     }
 }
 
-/// All works at once, each on a thread of its own.
-fn all_do<J: HubSite + Send + Sync, R: Threads + Wait + Abort + Clock + Sync>(
+/// Two works at once.
+fn two_do<J: HubSite + Send + Sync, R: Threads + Wait + Abort + Clock + Sync>(
     rt: &R,
     alloc: Global,
     hub: &Hub<J>,
     board: &Board,
-    works: Vec<Work<J>>,
+    two: Two<J>,
 ) -> Tally {
-    let mut works = works;
-    let Some(work) = works.pop() else {
-        return NOTHING;
-    };
-    let (one, others) = join(
+    let Two { one, other } = two;
+    let (first, second) = join(
         rt,
-        move || does(rt, alloc, hub, board, work),
-        move || all_do(rt, alloc, hub, board, works),
+        move || does(rt, alloc, hub, board, one),
+        move || does(rt, alloc, hub, board, other),
     );
-    one.and(others)
+    first.and(second)
+}
+
+/// Four works at once.
+fn four_do<J: HubSite + Send + Sync, R: Threads + Wait + Abort + Clock + Sync>(
+    rt: &R,
+    alloc: Global,
+    hub: &Hub<J>,
+    board: &Board,
+    four: Four<J>,
+) -> Tally {
+    let Four { first, second } = four;
+    let (one, other) = join(
+        rt,
+        move || two_do(rt, alloc, hub, board, first),
+        move || two_do(rt, alloc, hub, board, second),
+    );
+    one.and(other)
+}
+
+/// Eight works at once.
+fn eight_do<J: HubSite + Send + Sync, R: Threads + Wait + Abort + Clock + Sync>(
+    rt: &R,
+    alloc: Global,
+    hub: &Hub<J>,
+    board: &Board,
+    processors: Four<J>,
+    sessions: Four<J>,
+) -> Tally {
+    let (one, other) = join(
+        rt,
+        move || four_do(rt, alloc, hub, board, processors),
+        move || four_do(rt, alloc, hub, board, sessions),
+    );
+    one.and(other)
+}
+
+/// Two processors, of those that are left.
+fn two_processors<J: HubSite>(tokens: &mut Vec<CpuSeat<J>>) -> Option<Two<J>> {
+    let one = tokens.pop()?;
+    let other = tokens.pop()?;
+    Some(Two {
+        one: Work::Fire(one),
+        other: Work::Fire(other),
+    })
+}
+
+/// A session thread of each account.
+fn two_accounts<J: HubSite>() -> Two<J> {
+    Two {
+        one: Work::Trace("root"),
+        other: Work::Trace("ann"),
+    }
 }
 
 /// Four processors and four sessions' threads.
@@ -268,16 +334,18 @@ pub(crate) fn plays<J: HubSite + Send + Sync, R: Threads + Wait + Abort + Clock 
     hub: &Hub<J>,
     tokens: Vec<CpuSeat<J>>,
 ) -> Result<(), Fail> {
+    let mut tokens = tokens;
     let text = machine(alloc)?;
     let board = Board::new(Machine::read(alloc, text.as_bytes())?, 4);
-    let mut works = Vec::new(alloc);
-    for token in tokens {
-        works.push(Work::Fire(token))?;
-    }
-    for name in ["root", "ann", "root", "ann"] {
-        works.push(Work::Trace(name))?;
-    }
-    let tally = all_do(rt, alloc, hub, &board, works);
+    let processors = Four {
+        first: two_processors(&mut tokens).ok_or("no processors")?,
+        second: two_processors(&mut tokens).ok_or("no processors")?,
+    };
+    let sessions = Four {
+        first: two_accounts(),
+        second: two_accounts(),
+    };
+    let tally = eight_do(rt, alloc, hub, &board, processors, sessions);
     assert_eq!(rt; tally.kept, tally.seen);
     assert!(rt; tally.kept > 0, "no firing was kept");
     Ok(())
@@ -290,15 +358,31 @@ pub(crate) fn plays_rows<J: HubSite + Send + Sync, R: Threads + Wait + Abort + C
     hub: &Hub<J>,
     tokens: Vec<CpuSeat<J>>,
 ) -> Result<(), Fail> {
+    let mut tokens = tokens;
     let board = Board::new(Machine::read(alloc, rows::MACHINE.as_bytes())?, 0);
-    let mut works = Vec::new(alloc);
-    for token in tokens {
-        works.push(Work::FireRows(token))?;
-    }
-    for row in [Row::Switch, Row::History, Row::Store] {
-        works.push(Work::Ask(row))?;
-    }
-    let _tally = all_do(rt, alloc, hub, &board, works);
+    let one = tokens.pop().ok_or("a processor")?;
+    let other = tokens.pop().ok_or("a processor")?;
+    let processors = Four {
+        first: Two {
+            one: Work::FireRows(one),
+            other: Work::FireRows(other),
+        },
+        second: Two {
+            one: Work::Rest,
+            other: Work::Rest,
+        },
+    };
+    let sessions = Four {
+        first: Two {
+            one: Work::Ask(Row::Switch),
+            other: Work::Ask(Row::History),
+        },
+        second: Two {
+            one: Work::Ask(Row::Store),
+            other: Work::Rest,
+        },
+    };
+    let _tally = eight_do(rt, alloc, hub, &board, processors, sessions);
     Ok(())
 }
 

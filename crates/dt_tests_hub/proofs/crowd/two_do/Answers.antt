@@ -1,4 +1,4 @@
--- What is to be shown of `all_do`: what the first thread captures may go there.
+-- What is to be shown of `two_do`: what the first thread captures may go there.
 use denote.Exit.{no}
 use denote.Param.{param}
 use denote.Param.Send.{IsSend, IsSync, sendable, shr_send}
@@ -10,7 +10,7 @@ use Rattle.std.proofs.Crossing as std
 use Rattle.std.specs.contracts.alloc.Global as global
 use Rattle.dt_tests_hub.proofs.crowd.Board.TheSendSync as board_crossing
 use Rattle.dt_tests_hub.proofs.crowd.Work.TheSendSync as work_crossing
-use Rattle.dt_tests_hub.proofs.crowd.all_do.Goals as goal
+use Rattle.dt_tests_hub.proofs.crowd.two_do.Goals as goal
 use Rattle.dt_tests_hub.specs.contracts.crowd.Board as board
 use Rattle.dt_tests_hub.specs.contracts.crowd.Work as work
 
