@@ -129,6 +129,7 @@ impl Play for Withdrawn {
         tokens: Vec<CpuSeat<J>>,
     ) -> Result<(), Fail> {
         let mut tokens = tokens;
+        assert_eq!(rt; tokens.len(), 2);
         let mut session = opened(rt, alloc, hub, "root");
         says(rt, alloc, hub, &mut session, ENABLE, ENABLED);
         says(rt, alloc, hub, &mut session, GO, DONE);
