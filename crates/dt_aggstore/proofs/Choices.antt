@@ -1,5 +1,6 @@
 -- A past has one choice, and one event more is chosen or it isn't.
 use Rattle.std.proofs.Common.{◌≡◌, ℕ, zero, suc, ◌+◌, ◌<◌, ◌≤◌, ◌↔◌, ⊎_elim, inl, inr, ℤ, Bool, true, false, List, []}
+use Rattle.std.proofs.Math.Bool.{or-true}
 use Rattle.std.proofs.Common.{◌∷◌, ◌++◌, length, get_or, take, Some, refl, sym, ap, ◌∙◌, subst, IsTrue, ◌||◌, arith}
 use Rattle.std.specs.Prelude.{slice_get, nat_le}
 use Rattle.std.specs.List.{fold}
@@ -126,10 +127,6 @@ module _ (past : Past) (chosen : List Bool) (event : Event) (b : Bool) (choice :
 
 -- ---- some choice
 
-or_true : (b : Bool) → (b || true) ≡ true
-or_true true = refl
-or_true false = refl
-
 -- the test of what is kept tells it
 pub kept_exactly : (size : ℕ) (events : List Event) (chosen : List Bool) (event : Event)
     → IsTrue (is_kept size events chosen event) ↔ IsKept size events chosen event
@@ -143,7 +140,7 @@ kept_exactly size events chosen (given aggregation key value) =
           (or_cases among (nat_le cost size) kept)),
       (λ kept. ⊎_elim
           (λ yes. ap (λ b. b || nat_le cost size) (has_from_contains (held_after events chosen) entry yes))
-          (λ fits. ap (λ b. among || b) (le-leb cost size fits) ∙ or_true among)
+          (λ fits. ap (λ b. among || b) (le-leb cost size fits) ∙ or-true among)
           kept),
     )
 kept_exactly size events chosen (truncated aggregation) = ((λ e. absurd (false≢true e)), (λ none. absurd none))

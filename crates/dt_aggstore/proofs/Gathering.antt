@@ -1,5 +1,6 @@
 -- The bags of a store's entries, gathered one after another.
 use Rattle.std.proofs.Common.{◌≡◌, ℕ, ◌+◌, ◌<◌, ⊎_elim, ℤ, Bool, true, false, cond, ◌||◌, ◌&&◌, List, [], ◌∷◌, ◌++◌}
+use Rattle.std.proofs.Math.Bool.{or-true}
 use Rattle.std.proofs.Common.{length, get_or, take, drop, refl, sym, ap, ◌∙◌, subst, arith}
 use Rattle.std.specs.Prelude.{slice_range}
 use Rattle.std.proofs.lemmas.Bool.{false≢true}
@@ -40,10 +41,6 @@ or_false : (b : Bool) → (b || (false || false)) ≡ b
 or_false true = refl
 or_false false = refl
 
-or_true : (b : Bool) → (b || (true || false)) ≡ true
-or_true true = refl
-or_true false = refl
-
 module _ (past : Past) (store : AggStore) (at : IsAt past store) (aggregation : Aggregation) (bags : Key
     → List ℤ) where
   abbrev Own : Key → List ℤ
@@ -83,7 +80,7 @@ module _ (past : Past) (store : AggStore) (at : IsAt past store) (aggregation : 
       (has-push (entry_of aggregation key) before e
       ∙ ap (λ x. has (entry_of aggregation key) before || (same_entry x (entry_of aggregation key) || false)) entry
       ∙ ap (λ b. has (entry_of aggregation key) before || (b || false)) (own_entry (entry_of aggregation key))
-      ∙ or_true (has (entry_of aggregation key) before))))
+      ∙ or-true (has (entry_of aggregation key) before))))
       (λ no.
       ap (λ b. cond b (Gathered before key ++ Own e.key) (Gathered before key)) no
       ∙ sym (ap (λ b. cond b (bags key ++ Own key) (bags key))

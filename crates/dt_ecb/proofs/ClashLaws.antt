@@ -1,12 +1,13 @@
 -- The first use that clashes: there is one exactly where some use clashes.
 use Rattle.std.proofs.Common.{◌≡◌, ℕ, zero, suc, ◌<◌, ◌||◌, Bool, true, false, List, [], ◌∷◌, ◌++◌, Option, Some, None}
+use Rattle.std.proofs.Math.Bool.{or-true}
 use Rattle.std.proofs.Common.{take, refl, sym, ap, ◌∙◌, ⊎_elim, arith}
 use Rattle.std.specs.List.{slice_get}
 use Rattle.std.specs.Option.{IfSome}
 use Rattle.std.proofs.lemmas.Bool.{cases_Bool, cases_lt}
 use Rattle.std.proofs.lemmas.List.{append_assoc, append-nil}
 use Rattle.dt_ecb.specs.Shapes.{ShapeForm, clashes, any_clash, IsFirstClash}
-use Rattle.dt_ecb.proofs.FirstLemmas.{different, or_true}
+use Rattle.dt_ecb.proofs.FirstLemmas.{different}
 
 -- a use clashes after others: with the accepted ones and those of the program before it
 abbrev clashes_after : List ShapeForm → List ShapeForm → ℕ → ShapeForm → Bool
@@ -78,7 +79,7 @@ any_at accepted (x ∷ uses) zero one e h =
 any_at accepted (x ∷ uses) (suc i) one e h =
     ap (λ b. clashes accepted x || b)
     (any_at (accepted ++ x ∷ []) uses i one e (sym (clashes_later accepted x uses i one) ∙ h))
-    ∙ or_true (clashes accepted x)
+    ∙ or-true (clashes accepted x)
 
 -- where there is a first one, some use clashes
 pub any_from_clash : (accepted uses : List ShapeForm) (name : List ℕ) → IsFirstClash accepted uses name

@@ -1,5 +1,6 @@
 -- The first clause for which a test holds.
 use Rattle.std.proofs.Common.{◌≡◌, ℕ, zero, suc, ◌+◌, ◌<◌, ◌||◌, Bool, true, false, List, [], ◌∷◌, Option, Some, None}
+use Rattle.std.proofs.Math.Bool.{or-true}
 use Rattle.std.proofs.Common.{length, get_or, take, map, refl, sym, ap, ◌∙◌, ⊎_elim, arith}
 use Rattle.std.specs.List.{slice_get, list_any}
 use Rattle.std.specs.Option.{IfSome, IsSomeAnd}
@@ -22,16 +23,12 @@ pub different : (b : Bool) → b ≡ true → b ≡ false → ⊥
 different true t f = cc
 different false t f = cc
 
-pub or_true : (b : Bool) → (b || true) ≡ true
-or_true true = refl
-or_true false = refl
-
 -- an element that passes
 any_at : {X : Type 0} (test : X → Bool) (xs : List X) (i : ℕ) → IsSomeAnd (slice_get xs i) (λ x. test x ≡ true)
     → list_any test xs ≡ true
 any_at test [] i h = absurd h
 any_at test (x ∷ xs) zero h = ap (λ b. b || list_any test xs) h
-any_at test (x ∷ xs) (suc i) h = ap (λ b. test x || b) (any_at test xs i h) ∙ or_true (test x)
+any_at test (x ∷ xs) (suc i) h = ap (λ b. test x || b) (any_at test xs i h) ∙ or-true (test x)
 
 module _ (test : ClauseForm → Bool) where
   first_next : (x : ClauseForm) (xs : List ClauseForm) (n : ℕ) → test x ≡ false → IsFirstSuch test xs n

@@ -125,10 +125,6 @@ star_bits x s false later true b k e = omega arith
 star_bits x s false true false b k e = absurd (false≢true (k refl))
 star_bits x s false false false b k e = omega arith
 
-or_true : (b : Bool) → (b || true) ≡ true
-or_true true = refl
-or_true false = refl
-
 star_none : (items : List PatternItem) (text : List ℕ) → is_match items text ≡ true
     → is_match (Star ∷ items) text ≡ true
 star_none items [] e = e

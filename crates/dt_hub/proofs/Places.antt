@@ -16,6 +16,7 @@ use Rattle.dt_seat.specs.declared.held.Held.TheVariants.{Kept, Unseen, Gone}
 use Rattle.dt_trail.specs.Items.{TrailItem, line, long_line, fired, own}
 use Rattle.dt_trail.specs.Known.{Noted}
 use Rattle.dt_trail.specs.declared.law.Named.{Named}
+use Rattle.dt_seat.specs.laws.Notes.{noted_here}
 
 all_both : {X : Type 0} (P : X → Type 0) (xs ys : List X) → AllByRecursion P xs → AllByRecursion P ys → AllByRecursion P (xs ++ ys)
 all_both P [] ys h k = k
@@ -48,12 +49,6 @@ below_in : (cpu place life : ℕ) (took : Option LastNote) (knows : List TrailIt
     → AreBelowPlace cpu place (noted_in life took knows)
 below_in cpu place life None knows h = tt
 below_in cpu place life (Some last) knows h = below_if cpu place (last.life == life) knows h
-
--- a note of the life knows just what it knows
-noted_here : (life : ℕ) (row : Named Account) (took : Option LastNote) (knows : List TrailItem)
-    → took ≡ Some (last_note life row) → noted_in life took knows ≡ knows
-noted_here life row took knows e =
-    ap (λ (t : Option LastNote). noted_in life t knows) e ∙ ap (λ (b : Bool). cond b knows []) (eq-eqb life life refl)
 
 lower_kept : (firing : Firing) (held : Held) → AllByRecursion (IsAtLowerPlace (firing.place + 1)) (kept_items held firing)
 lower_kept firing Kept = (omega arith, tt)

@@ -26,12 +26,3 @@ pub read_on : (input taken bytes : List ℕ) (lines : Lines) → HasRead ((input
     → HasRead (input ++ (taken ++ bytes)) lines
 read_on input taken bytes lines read =
     let P : List ℕ → Type 0 = λ all. HasRead all lines in subst P (append_assoc input taken bytes) read
-
--- what is left of a piece, as a slice has it
-pub left : (piece taken rest : List ℕ) (used : ℕ) → piece ≡ taken ++ rest
-    → piece ≡ (taken ++ take used rest) ++ take (length rest - used) (drop used rest)
-left piece taken rest used is =
-    is ∙ ap (λ more. taken ++ more) (sym (take-append-drop used rest))
-    ∙ sym (append_assoc taken (take used rest) (drop used rest))
-    ∙ ap (λ more. (taken ++ take used rest) ++ more)
-    (sym (ap (λ n. take n (drop used rest)) (sym (length-drop used rest)) ∙ take-length (drop used rest)))

@@ -2,6 +2,7 @@
 
 pub mod Parts
 pub mod Splitting
+pub mod Taken
 pub mod TrailItems
 pub mod Views
 pub mod Accounts

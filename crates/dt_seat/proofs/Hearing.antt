@@ -13,11 +13,11 @@ use Rattle.dt_facts.specs.laws.Lives.{row_stays}
 use Rattle.dt_seat.specs.Keeps.{IsToldOf, known_in, told_in}
 use Rattle.dt_seat.specs.Receipts.{later_told, told_of}
 use Rattle.dt_seat.specs.declared.told_of.ToldOf.{ToldOf}
-use Rattle.dt_legal.specs.laws.Starts.{starts_self}
 use Rattle.dt_seat.proofs.Begins.{as_prefix, as_start}
 use Rattle.dt_seat.proofs.Known.{by_telling, named_over, told_elsewhere, told_here}
 use Rattle.dt_trail.specs.Items.{StartsWith, TrailItem, longer}
 use Rattle.dt_trail.specs.Known.{Heard}
+use Rattle.dt_trail.specs.laws.Starts.{starts_self}
 
 same_known : (l : ℕ) (took : Option LastNote) (knows : List TrailItem) (one other : Option ToldOf) → told_in l one ≡ told_in l other
     → known_in l took knows one ≡ known_in l took knows other

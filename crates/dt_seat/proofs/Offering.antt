@@ -7,9 +7,10 @@ use Rattle.dt_life.specs.Life.{is_over}
 use Rattle.dt_machine.specs.Registry.{Contents}
 use Rattle.dt_seat.specs.Seats.{TrailGoesOn}
 use Rattle.dt_seat.specs.Trailed.{row_after, row_offered, with_items}
-use Rattle.dt_legal.specs.laws.Starts.{starts_more, starts_self, starts_trans}
+use Rattle.dt_legal.specs.laws.Starts.{starts_more}
 use Rattle.dt_trail.specs.Items.{StartsWith, TrailItem, fired}
 use Rattle.dt_trail.specs.Known.{Known}
+use Rattle.dt_trail.specs.laws.Starts.{starts_self, starts_trans}
 
 pub goes_on_self : (trail : Known Account) → TrailGoesOn trail trail
 goes_on_self trail = record { row = refl; longer = starts_self trail.knows; cells = omega arith }

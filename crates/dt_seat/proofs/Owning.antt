@@ -17,12 +17,6 @@ pub noted_earlier : (life : ℕ) (took : Option LastNote) (knows : List TrailIte
 noted_earlier life None knows h = refl
 noted_earlier life (Some last) knows h = ap (λ (b : Bool). cond b knows []) (ne_eqb last.life life (λ e. absurd (omega (arith, h, e))))
 
--- a note of this life knows just what it knows
-pub noted_here : (life : ℕ) (row : Named Account) (took : Option LastNote) (knows : List TrailItem)
-    → took ≡ Some (last_note life row) → noted_in life took knows ≡ knows
-noted_here life row took knows e =
-    ap (λ (t : Option LastNote). noted_in life t knows) e ∙ ap (λ (b : Bool). cond b knows []) (eq-eqb life life refl)
-
 own_fired : (cpu place : ℕ) (row : List TrailItem) → own (cpu + 1) (row ++ fired cpu place ∷ []) ≡ own (cpu + 1) row ++ fired cpu place ∷ []
 own_fired cpu place row =
     filter-append (λ x. whose x == cpu + 1) row (fired cpu place ∷ [])

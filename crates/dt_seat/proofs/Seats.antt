@@ -16,7 +16,6 @@ use Rattle.dt_life.specs.Sees.{Sees}
 use Rattle.dt_life.specs.laws.Lists.{replaced}
 use Rattle.dt_life.specs.laws.Options.{if_some_map}
 use Rattle.dt_machine.specs.Registry.{Contents}
-use Rattle.dt_legal.specs.laws.Starts.{starts_trans}
 use Rattle.dt_seat.proofs.Known.{by_note, not_by_note}
 use Rattle.dt_seat.specs.Keeps.{Carries, Followed, IsKeptFor, KeptNote, known_by, known_in, known_of, told_in}
 use Rattle.dt_seat.specs.Seats.{IsRepliedTo, ComesOfFiring, IsTaken, Reaches, ending_of}
@@ -27,6 +26,7 @@ use Rattle.dt_seat.specs.declared.present.Present.{Present}
 use Rattle.dt_trail.specs.Items.{TrailItem, fired, own, whose}
 use Rattle.dt_trail.specs.Known.{Grows, Meets, Noted, noted}
 use Rattle.dt_trail.specs.declared.law.Named.{Named}
+use Rattle.dt_trail.specs.laws.Starts.{starts_trans}
 
 -- an item of another note adds nothing to a note's own
 pub own_of_other : (note : ℕ) (row : List TrailItem) (item : TrailItem) → whose item ≢ note

@@ -12,7 +12,6 @@ use Rattle.dt_machine.specs.Registry.{Contents}
 use Rattle.dt_seat.specs.Knowledge.{AreUnknownFrom, KnownItems, known_items, steps_in}
 use Rattle.dt_seat.specs.Sessions.{IsNotebook, IsSessionOn, lines_from}
 use Rattle.dt_seat.specs.declared.line_kept.LineKept.{LineKept}
-use Rattle.dt_legal.specs.laws.Starts.{starts_trans}
 use Rattle.dt_seat.proofs.Begins.{as_prefix, lines_met}
 use Rattle.dt_seat.proofs.Published.{published_line, published_on}
 use Rattle.dt_chain.specs.Writes.{Write}
@@ -24,6 +23,7 @@ use Rattle.dt_trail.specs.Known.{Grows, Meets, Noted, noted}
 use Rattle.dt_trail.specs.declared.law.Named.{Named}
 use Rattle.std.specs.List.{Contains}
 use mathlib.Core.List.{IsPrefix}
+use Rattle.dt_trail.specs.laws.Starts.{starts_trans}
 
 -- one list has one open life
 pub one_open : (steps : List LifeStep) (life other : ℕ) (row theirs : Named Account) → IsOpenAs life row steps → IsOpenAs other theirs steps

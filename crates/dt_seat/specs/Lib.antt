@@ -11,3 +11,5 @@ pub mod Keeps
 pub mod Names
 -- Private to the proofs: what the facts of a seat's lives say, and of what its sessions knew. No promise of a call names them.
 pub mod Knowledge
+-- The laws of these.
+pub mod laws

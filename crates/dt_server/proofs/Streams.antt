@@ -32,12 +32,3 @@ consumes_more None middle new xs ys h k = tt
 consumes_more (Some os) None new xs ys h k = absurd h
 consumes_more (Some os) (Some ms) None xs ys h k = absurd k
 consumes_more (Some os) (Some ms) (Some ns) xs ys h k = h ∙ ap (λ l. xs ++ l) k ∙ sym (append_assoc xs ys ns)
-
--- a piece of which some more was taken
-pub left : (piece taken rest : List ℕ) (used : ℕ) → piece ≡ taken ++ rest
-    → piece ≡ (taken ++ take used rest) ++ take (length rest - used) (drop used rest)
-left piece taken rest used is =
-    is ∙ ap (λ more. taken ++ more) (sym (take-append-drop used rest))
-    ∙ sym (append_assoc taken (take used rest) (drop used rest))
-    ∙ ap (λ more. (taken ++ take used rest) ++ more)
-    (sym (ap (λ n. take n (drop used rest)) (sym (length-drop used rest)) ∙ take-length (drop used rest)))

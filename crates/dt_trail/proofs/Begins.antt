@@ -7,12 +7,7 @@ use Rattle.std.proofs.lemmas.Bool.Decides.{nat_tests}
 use mathlib.Core.Option.{some, some-ne-none, some-injective}
 use lib.ListN.{get_elem?}
 use Rattle.dt_trail.specs.Items.{TrailItem, line, long_line, fired, whose, code, IsReal, AllReal, own, code_at, StartsWith, longer, IsWordAt}
-
-pub starts_self : (xs : List TrailItem) → StartsWith xs xs
-starts_self xs = ([], sym (append-nil xs))
-
-pub starts_trans : (row xs ys : List TrailItem) → StartsWith row ys → StartsWith ys xs → StartsWith row xs
-starts_trans row xs ys a b = (b.0 ++ a.0, a.1 ∙ ap (λ l. l ++ a.0) b.1 ∙ append_assoc xs b.0 a.0)
+use Rattle.dt_trail.specs.laws.Starts.{starts_self, starts_trans}
 
 pub starts_length : (row xs : List TrailItem) → StartsWith row xs → length xs ≤ length row
 starts_length row xs a = omega (arith, ap length a.1 ∙ length-append xs a.0)
@@ -62,7 +57,7 @@ own_rest n row xs a e = nothing_more (own n xs) (own n a.0) (sym (own-append n x
 pub own_longer : (n : ℕ) (row xs ys : List TrailItem) → StartsWith row ys → StartsWith ys xs → own n row ≡ own n xs → own n row ≡ own n ys
 unfolding starts_trans
 own_longer n row xs ys a b e =
-    let c = starts_trans row xs ys a b in
+    let c = starts_trans row ys xs a b in
     let none : own n (b.0 ++ a.0) ≡ [] = own_rest n row xs c e in
     let first : own n b.0 ≡ [] = front_empty (own n b.0) (own n a.0) (sym (own-append n b.0 a.0) ∙ none) in
     e ∙ sym (append-nil (own n xs)) ∙ ap (λ l. own n xs ++ l) (sym first) ∙ sym (own-append n xs b.0) ∙ ap (own n) (sym b.1)

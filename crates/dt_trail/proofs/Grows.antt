@@ -11,7 +11,8 @@ use Rattle.dt_trail.specs.declared.rule.TrailView.{TrailView}
 use Rattle.dt_trail.specs.Items.{TrailItem, whose, code, IsReal, AllReal, own, code_at, StartsWith}
 use Rattle.dt_trail.specs.Blocks.{flat, before, BlockLiesAt}
 use Rattle.dt_trail.specs.Rule.{NoSlot, RowWorld, FitsRow, ShowsRow, Kept, Turn, appender, IsSet}
-use Rattle.dt_trail.proofs.Begins.{starts_self, starts_trans, own_pushed_else, All-push}
+use Rattle.dt_trail.specs.laws.Starts.{starts_self, starts_trans}
+use Rattle.dt_trail.proofs.Begins.{own_pushed_else, All-push}
 use Rattle.dt_trail.proofs.Flats.{flat_at, flat_set, flat_push, before_push, before_next, before_all, words_push, words_more, past}
 use Rattle.dt_trail.proofs.Fitting.{off, fits_set, Alike, alike_set, stands_alike, laid_alike, in_block}
 
@@ -89,13 +90,13 @@ module _ {K : Type 0} (lawful : K → List TrailItem → Type 0) (root : Ptr) (a
           let g0 : StartsWith ks u.knows = subst (λ l. StartsWith l u.knows) whole.1 g.begins in
           let live = f.live refl in record {
             account = g.account;
-            begins = starts_trans items u.knows ks (x ∷ [], refl) g0;
+            begins = starts_trans items ks u.knows (x ∷ [], refl) g0;
             live = (λ l. let a = g.live l in
                 let other : u.note ≢ n = (λ same. apart (sym a.0 ∙ (ap h.world.place same ∙ live.0))) in
                 (a.0, a.1, own_pushed_else u.note ks x (λ same. other (sym same ∙ mine)) ∙ (ap (own u.note) (sym whole.1) ∙ a.2)));
             owns = (λ o. absurd (apart (sym (g.owns o).0 ∙ whole.0)));
             makes = (λ o. absurd (apart (sym (g.owns (g.makes o).0).0 ∙ whole.0)));
-            had = starts_trans items u.had ks (x ∷ [], refl) (subst (λ l. StartsWith l u.had) whole.1 g.had);
+            had = starts_trans items ks u.had (x ∷ [], refl) (subst (λ l. StartsWith l u.had) whole.1 g.had);
             had_own = (λ o _. absurd (apart (sym (g.owns o).0 ∙ whole.0)));
             stands = (λ p. stands_alike bs new u.door alike (g.stands p));
             extent = (λ o. absurd (apart (sym (g.owns o).0 ∙ whole.0)));

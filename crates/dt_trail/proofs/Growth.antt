@@ -3,7 +3,8 @@ use Rattle.std.proofs.Common.{◌≢◌, [], ◌∷◌, ◌++◌, refl, sym, ◌
 use Rattle.dt_trail.specs.Items.{whose}
 use Rattle.dt_trail.specs.declared.seen.Seen.{Seen}
 use Rattle.dt_trail.specs.Known.{Noted, KnowsNext, Grows}
-use Rattle.dt_trail.proofs.Begins.{starts_self, starts_trans, own_pushed_else}
+use Rattle.dt_trail.specs.laws.Starts.{starts_self, starts_trans}
+use Rattle.dt_trail.proofs.Begins.{own_pushed_else}
 
 module _ {K : Type 0} where
   pub grows_self : (a : Noted K) → Grows a a
@@ -15,6 +16,6 @@ module _ {K : Type 0} where
       subst (λ (n : Noted K). Grows a n) (sym k.next) (record {
         row = g.row;
         number = g.number;
-        longer = starts_trans (b.knows ++ k.item ∷ []) a.knows b.knows (k.item ∷ [], refl) g.longer;
+        longer = starts_trans (b.knows ++ k.item ∷ []) b.knows a.knows (k.item ∷ [], refl) g.longer;
         same_own = own_pushed_else a.number b.knows k.item other ∙ g.same_own;
       })

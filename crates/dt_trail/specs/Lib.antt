@@ -10,3 +10,5 @@ pub mod Blocks
 pub mod Rule
 pub mod Placed
 pub mod Insides
+-- The laws of these.
+pub mod laws

@@ -3,13 +3,6 @@ use Rattle.std.proofs.Common.{◌≡◌, ◌≢◌, ◌==◌, ℕ, Bool, cond, L
 use Rattle.std.proofs.lemmas.List.Elements.{filter-append}
 use Rattle.dt_trail.specs.Items.{StartsWith, TrailItem, own, whose}
 
-pub starts_self : (row : List TrailItem) → StartsWith row row
-starts_self row = ([], sym (append-nil row))
-
-pub starts_trans : (row mid known : List TrailItem) → StartsWith row mid → StartsWith mid known → StartsWith row known
-starts_trans row mid known a b =
-    (b.0 ++ a.0, a.1 ∙ ap (λ (l : List TrailItem). l ++ a.0) b.1 ∙ append_assoc known b.0 a.0)
-
 pub starts_more : (row : List TrailItem) (item : TrailItem) → StartsWith (row ++ item ∷ []) row
 starts_more row item = (item ∷ [], refl)
 

@@ -7,7 +7,7 @@ use Rattle.dt_cred.specs.declared.account.Account.{Account}
 use Rattle.dt_cred.specs.declared.firing.Firing.{Firing}
 use Rattle.dt_legal.specs.Rows.{IsLegalRow, life_of_row, past_of, told_as}
 use Rattle.dt_legal.specs.laws.Beginning.{legal_beginning, past_of_last}
-use Rattle.dt_legal.specs.laws.Starts.{starts_self, starts_trans, starts_more}
+use Rattle.dt_legal.specs.laws.Starts.{starts_more}
 use Rattle.dt_life.specs.Sees.{Sees}
 use Rattle.dt_life.specs.Tests.{is_seen}
 use Rattle.dt_life.specs.laws.Seeing.{seen_to, unseen_to}
@@ -15,6 +15,7 @@ use Rattle.dt_machine.specs.Registry.{Contents, firing_at}
 use Rattle.dt_meeting.specs.Sharing.{is_seen_after, seen_row, seen_with}
 use Rattle.dt_proto.specs.Legal.{IsLegal}
 use Rattle.dt_trail.specs.Items.{StartsWith, TrailItem, line, long_line, fired}
+use Rattle.dt_trail.specs.laws.Starts.{starts_self, starts_trans}
 
 module _ (account : Account) (contents : Contents) where
   pub seen_last : (row : List TrailItem) (item : TrailItem)

@@ -3,9 +3,10 @@ use Rattle.std.proofs.Common.{◌≡◌, ◌++◌, take, map, ap, sym, ◌∙◌
 use Rattle.dt_proto.specs.Asked.{form_asked}
 use Rattle.dt_proto.specs.HasRead.{form_held, line_given}
 use Rattle.dt_proto.specs.Lines.{lines_of}
-use Rattle.dt_proto.proofs.Giving.{given_line, given_none, read_on, left}
+use Rattle.dt_proto.proofs.Giving.{given_line, given_none, read_on}
 use Rattle.dt_proto.proofs.pieces.take_piece.Goals as goal
 use Rattle.dt_proto.proofs.pieces.take_piece.Goals.{then-fed+in_ok-to_asked+in_ok-push, else-fed}
+use Rattle.dt_proto.specs.laws.Taken.{left_of_piece}
 
 pub loop-rest-preserved : goal.loop-rest-preserved
 loop-rest-preserved c =
@@ -16,7 +17,7 @@ loop-rest-preserved c =
     let whole = c.feed-fed.result.whole in
     let bytes = take c.feed-fed.result.used c.loop-rest.rest.now in (
       before.0 ++ bytes,
-      left c.args.piece.now before.0 c.loop-rest.rest.now c.feed-fed.result.used before.1,
+      left_of_piece c.args.piece.now before.0 c.loop-rest.rest.now c.feed-fed.result.used before.1,
       λ input read given.
           let told = before.2 input read given in
           let lines : map form_asked given_now ≡ lines_of (input ++ before.0) ++ line_given whole form =

@@ -3,7 +3,6 @@ use Rattle.std.proofs.Common.{◌≡◌, ap, sym, ◌∙◌, subst}
 use Rattle.std.specs.List.{Contains}
 use Rattle.dt_chain.specs.Writes.{Write}
 use Rattle.dt_cred.specs.declared.account.Account.{Account}
-use Rattle.dt_legal.specs.laws.Starts.{starts_trans}
 use Rattle.dt_seat.proofs.Offering.{goes_on_asked, goes_on_wider, starts_after}
 use Rattle.dt_seat.proofs.Published.{contained_still}
 use Rattle.dt_seat.proofs.Seats.{answered_from, taken_asked}
@@ -15,6 +14,7 @@ use Rattle.dt_seat.specs.Trailed.{row_after}
 use Rattle.dt_trail.specs.Items.{StartsWith}
 use Rattle.dt_trail.specs.Known.{Known, Noted, noted}
 use Rattle.dt_trail.specs.declared.law.Named.{Named}
+use Rattle.dt_trail.specs.laws.Starts.{starts_trans}
 
 pub returns-in_err-published-clause-notebook : goal.returns-in_err-published-clause-notebook
 returns-in_err-published-clause-notebook g c =

@@ -7,7 +7,8 @@ use Rattle.dt_seat.proofs.Offering.{goes_on_offered}
 use Rattle.dt_seat.proofs.Seats.{taken_offered, held_kept, held_unseen, some_same}
 use Rattle.dt_seat.proofs.present.hold_at.Goals as goal
 use Rattle.dt_seat.proofs.present.hold_at.Goals.{then-is_seen, else-is_seen}
-use Rattle.dt_seat.proofs.Owning.{noted_here, own_kept, own_unseen}
+use Rattle.dt_seat.proofs.Owning.{own_kept, own_unseen}
+use Rattle.dt_seat.specs.laws.Notes.{noted_here}
 use Rattle.dt_seat.specs.Keeps.{Carries, Followed, known_by, known_of, noted_of}
 use Rattle.dt_seat.specs.Trailed.{IsTrailed}
 use Rattle.dt_trail.specs.Items.{own}

@@ -5,10 +5,11 @@ use Rattle.dt_proto.specs.Asked.{form_lent}
 use Rattle.dt_proto.specs.HasRead.{HasRead, form_held, line_given}
 use Rattle.dt_proto.specs.Lines.{LineForm, lines_of}
 use Rattle.dt_server.specs.Talk.{ServesOn, ServesToEnd}
-use Rattle.dt_server.proofs.Streams.{appends_none, appends_more, left}
+use Rattle.dt_server.proofs.Streams.{appends_none, appends_more}
 use Rattle.dt_server.proofs.Talking.{goes_nowhere, on_and_on, on_and_end, up_to, nothing_read, line_whole, line_part, read_lines}
 use Rattle.dt_server.proofs.session.answer_piece.Goals as goal
 use Rattle.dt_server.proofs.session.answer_piece.Goals.{then-fed+in_default, else-fed}
+use Rattle.dt_proto.specs.laws.Taken.{left_of_piece}
 
 pub loop-rest-init : goal.loop-rest-init
 loop-rest-init g c = (
@@ -80,7 +81,7 @@ loop-rest-preserved g c =
             before.0 ++ bytes,
             before.1 ++ more.0,
             before.2 ++ form ∷ [],
-            left c.args.piece.now before.0 rest used before.3,
+            left_of_piece c.args.piece.now before.0 rest used before.3,
             appends_more (g.W.Sink.contents c.args.sink.now) (g.W.Sink.contents c.loop-rest.sink)
                 (g.W.Sink.contents w.answer_line.new.sink) before.1 more.0 before.4 more.1,
             on_and_on account contents first known after before.2 (form ∷ []) before.1 more.0
@@ -100,7 +101,7 @@ loop-rest-preserved g c =
         before.0 ++ bytes,
         before.1,
         before.2,
-        left c.args.piece.now before.0 rest used before.3,
+        left_of_piece c.args.piece.now before.0 rest used before.3,
         before.4,
         before.5,
         λ input read.

@@ -1,7 +1,8 @@
 use Rattle.std.proofs.Common.{◌≡◌, ◌++◌, ◌∙◌, ℕ, List, [], refl, take, length, ap, sym, subst}
 use Rattle.std.proofs.Math.Seq.{take-append_seam}
 use Rattle.std.specs.Io.KnownBytes.{Appends}
-use Rattle.dt_server.proofs.Streams.{appends_kept, appends_more, appends_none, left}
+use Rattle.dt_server.proofs.Streams.{appends_kept, appends_more, appends_none}
+use Rattle.dt_proto.specs.laws.Taken.{left_of_piece}
 use Rattle.dt_server.proofs.session.push_all.Goals as goal
 
 pub loop-rest-init : goal.loop-rest-init
@@ -11,7 +12,7 @@ pub loop-rest-preserved : goal.loop-rest-preserved
 loop-rest-preserved g c =
     let before = c.loop-rest.invariant in (
       before.0 ++ take c.in-Ok.n c.loop-rest.rest.now,
-      left c.args.bytes.now before.0 c.loop-rest.rest.now c.in-Ok.n before.1,
+      left_of_piece c.args.bytes.now before.0 c.loop-rest.rest.now c.in-Ok.n before.1,
       appends_more (g.W.Sink.contents c.args.sink.now) (g.W.Sink.contents c.loop-rest.sink)
           (g.W.Sink.contents c.push.new.self) before.0 (take c.in-Ok.n c.loop-rest.rest.now) before.2 c.in-Ok.ensures.bytes,
       c.in-Ok.ensures.failures ∙ before.3,

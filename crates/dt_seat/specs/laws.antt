@@ -1,0 +1,2 @@
+-- What holds of these, for those who prove over seats.
+pub mod Notes

@@ -1,0 +1,2 @@
+-- What holds of beginnings, for those who prove over trails.
+pub mod Starts
