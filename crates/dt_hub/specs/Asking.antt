@@ -9,8 +9,8 @@ use Rattle.dt_machine.specs.Registry.{Contents}
 use Rattle.dt_proto.specs.Reply.{reply_text}
 use Rattle.dt_seat.specs.Seats.{IsRepliedTo}
 use Rattle.dt_seat.specs.Sessions.{Sat}
-use Rattle.dt_seat.specs.declared.ending.Ending.{Ending}
-use Rattle.dt_seat.specs.declared.ending.Ending.TheVariants.{GoesOn, Closes, OverQuota}
+use Rattle.dt_seat.specs.declared.after_line.AfterLine.{AfterLine}
+use Rattle.dt_seat.specs.declared.after_line.AfterLine.TheVariants.{GoesOn, Closes, OverQuota}
 use Rattle.dt_trail.specs.Items.{StartsWith, TrailItem, own}
 
 -- the bytes that are answered
@@ -21,7 +21,7 @@ answer_text (answers.Quota text) = text.items
 answer_text answers.Memory = reply_text (refused refusals.Memory)
 
 -- the answer that this reply comes to, by whether the session goes on
-abbrev pub answered_by : Vec ℕ Global → Ending → LineAnswer
+abbrev pub answered_by : Vec ℕ Global → AfterLine → LineAnswer
 answered_by text GoesOn = answers.Reply text
 answered_by text Closes = answers.Closed text
 answered_by text OverQuota = answers.Quota text

@@ -4,7 +4,7 @@ ghost use Rattle.dt_hub.specs.Asking.{answer_text, answered_by};
 ghost use Rattle.dt_hub.specs.declared.answered.LineAnswer.TheVariants as answers;
 
 use dt_proto::memory_line;
-use dt_seat::{Ending, Replied};
+use dt_seat::{AfterLine, Replied};
 use std::alloc::AllocError;
 
 /// What a line is answered.
@@ -29,9 +29,9 @@ impl LineAnswer {
             return LineAnswer::Memory;
         };
         match ending {
-            Ending::GoesOn => LineAnswer::Reply(text),
-            Ending::Closes => LineAnswer::Closed(text),
-            Ending::OverQuota => LineAnswer::Quota(text),
+            AfterLine::GoesOn => LineAnswer::Reply(text),
+            AfterLine::Closes => LineAnswer::Closed(text),
+            AfterLine::OverQuota => LineAnswer::Quota(text),
         }
     }
 

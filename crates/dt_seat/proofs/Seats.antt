@@ -18,8 +18,8 @@ use Rattle.dt_life.specs.laws.Options.{if_some_map}
 use Rattle.dt_machine.specs.Registry.{Contents}
 use Rattle.dt_seat.proofs.Known.{by_note, not_by_note}
 use Rattle.dt_seat.specs.Keeps.{Carries, Followed, IsKeptFor, KeptNote, known_by, known_in, known_of, told_in}
-use Rattle.dt_seat.specs.Seats.{IsRepliedTo, ComesOfFiring, IsTaken, Reaches, ending_of}
-use Rattle.dt_seat.specs.declared.ending.Ending.{Ending}
+use Rattle.dt_seat.specs.Seats.{IsRepliedTo, ComesOfFiring, IsTaken, Reaches, after_line_of}
+use Rattle.dt_seat.specs.declared.after_line.AfterLine.{AfterLine}
 use Rattle.dt_seat.specs.declared.held.Held.TheVariants.{Kept as WasKept, Unseen}
 use Rattle.dt_seat.specs.Trailed.{IsDue, IsTrailed, row_after, row_offered, with_items}
 use Rattle.dt_seat.specs.declared.present.Present.{Present}
@@ -198,9 +198,9 @@ pub grows_not : (old : Noted Account) → Grows old old
 grows_not old = record { row = refl; number = refl; longer = ([], sym (append-nil old.knows)); same_own = refl }
 
 pub answered_from : (contents : Contents) (account : Account) (old mid : Noted Account) (trail : List TrailItem) (item : TrailItem)
-    (text : List ℕ) (ending : Ending) (after : List TrailItem) → old.number ≡ 0 → Grows old mid → Meets trail mid
+    (text : List ℕ) (ending : AfterLine) (after : List TrailItem) → old.number ≡ 0 → Grows old mid → Meets trail mid
     → IsLegalRow account contents trail → IsDue account contents trail (line_form_of item) text
-    → ending ≡ ending_of account contents trail item → after ≡ row_after account contents trail item
+    → ending ≡ after_line_of account contents trail item → after ≡ row_after account contents trail item
     → IsRepliedTo contents account old.knows item text ending after
 answered_from contents account old mid trail item text ending after zero grows met legal due ends is = record {
   trail = trail;

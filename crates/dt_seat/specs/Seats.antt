@@ -16,8 +16,8 @@ use Rattle.dt_seat.specs.Keeps.{Carries, Followed, IsKeptFor, IsLeft, KeptNote, 
 use Rattle.dt_seat.specs.Knowledge.{AreUnknownFrom, SaysLives, known_items, steps_in}
 use Rattle.dt_seat.specs.Names.{known_name}
 use Rattle.dt_seat.specs.Trailed.{IsDue, IsTrailed, row_after}
-use Rattle.dt_seat.specs.declared.ending.Ending.{Ending}
-use Rattle.dt_seat.specs.declared.ending.Ending.TheVariants.{GoesOn, Closes, OverQuota}
+use Rattle.dt_seat.specs.declared.after_line.AfterLine.{AfterLine}
+use Rattle.dt_seat.specs.declared.after_line.AfterLine.TheVariants.{GoesOn, Closes, OverQuota}
 use Rattle.dt_seat.specs.declared.held.Held.{Held}
 use Rattle.dt_seat.specs.declared.held.Held.TheVariants.{Kept as WasKept, Unseen, Gone}
 use Rattle.dt_seat.specs.declared.idle.Idle.{Idle}
@@ -118,19 +118,19 @@ kept_items (Unseen known) firing = []
 kept_items Gone firing = []
 
 -- whether a session goes on after a line that is asked after this trail: not where the line is over the quota, and not where it is a `close` within it
-abbrev pub ending_of : Account → Contents → List TrailItem → TrailItem → Ending
-ending_of account contents trail item =
+abbrev pub after_line_of : Account → Contents → List TrailItem → TrailItem → AfterLine
+after_line_of account contents trail item =
     if is_over (life_of_row account contents trail) then OverQuota else (if is_close (ask_in (line_form_of item)) then Closes else GoesOn)
 
 -- What a session is answered to a line: the reply that is due after a trail that begins with what it knew, has its lines and no further
 -- one, and is legal, and whether the session goes on after it; the session then knows this trail and the line, which is no part of it where
 -- it is over the quota.
 pub record IsRepliedTo (contents : Contents) (account : Account) (known : List TrailItem) (item : TrailItem) (text : List ℕ)
-    (ending : Ending) (after : List TrailItem) : Type 0 where
+    (ending : AfterLine) (after : List TrailItem) : Type 0 where
   pub trail : List TrailItem
   pub begins : StartsWith trail known
   pub lines : own 0 trail ≡ own 0 known
   pub legal : IsLegalRow account contents trail
   pub due : IsDue account contents trail (line_form_of item) text
   pub after_is : after ≡ row_after account contents trail item
-  pub ending_is : ending ≡ ending_of account contents trail item
+  pub ending_is : ending ≡ after_line_of account contents trail item

@@ -10,7 +10,7 @@ ghost use Rattle.dt_seat.specs.Trailed.{IsWideEnough, IsTrailed, item_of_line};
 ghost use Rattle.dt_trail.specs.Items.{StartsWith};
 ghost use Rattle.dt_trail.specs.Known.{Grows};
 
-use crate::ending::Ending;
+use crate::after_line::AfterLine;
 use crate::keep::Keep;
 use crate::notebook::{Notebook, take_down};
 use crate::present::Present;
@@ -163,7 +163,7 @@ pub(crate) fn ask_at<J: HubSite, R: Wait>(
         asked,
     )?;
     notebook.lines.reserve(1)?;
-    let ending = Ending::of(&prepared.draft);
+    let ending = AfterLine::of(&prepared.draft);
     let is_go = prepared.draft.publishes();
     let note = &mut notebook.note;
     let published = make_ready(rt, alloc, chains, number, life, present, note, is_go)?;

@@ -1,8 +1,8 @@
 //! What lies under the lock of a seat.
 #![tactic(auto)]
 
+mod after_line;
 mod asking;
-mod ending;
 mod follower;
 mod held;
 mod idle;
@@ -26,7 +26,7 @@ mod telling;
 mod told_of;
 mod trailed;
 
-pub use ending::Ending;
+pub use after_line::AfterLine;
 pub use follower::Follower;
 pub use held::Held;
 pub use known_item::KnownItem;

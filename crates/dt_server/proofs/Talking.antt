@@ -24,9 +24,9 @@ use Rattle.dt_proto.specs.Lines.{LineForm, lines_of, rest_of}
 use Rattle.dt_proto.specs.Reply.{reply_text}
 use Rattle.dt_proto.specs.declared.lines.Lines.{Lines}
 use Rattle.dt_proto.specs.laws.Parts.{lines-append}
-use Rattle.dt_seat.specs.Seats.{IsRepliedTo, ending_of}
-use Rattle.dt_seat.specs.declared.ending.Ending.{Ending}
-use Rattle.dt_seat.specs.declared.ending.Ending.TheVariants as endings
+use Rattle.dt_seat.specs.Seats.{IsRepliedTo, after_line_of}
+use Rattle.dt_seat.specs.declared.after_line.AfterLine.{AfterLine}
+use Rattle.dt_seat.specs.declared.after_line.AfterLine.TheVariants as endings
 use Rattle.dt_server.specs.declared.ended.Ended.{Ended}
 use Rattle.dt_server.specs.declared.ended.Ended.TheVariants as ended
 use Rattle.dt_server.specs.Served.{IsServed, IsClosed, IsPastQuota, IsCutOff, IsOver, HasServed, memory_text, quota_text}
@@ -67,12 +67,12 @@ module _ (account : Account) (contents : Contents) where
   lived row = life_of_row account contents row
 
   -- what was served before the line, and what the session then knew
-  record IsMet (lines : List LineForm) (known : List TrailItem) (item : TrailItem) (text reply : List ℕ) (end : Ending) (after : List TrailItem) : Type 0 where
+  record IsMet (lines : List LineForm) (known : List TrailItem) (item : TrailItem) (text reply : List ℕ) (end : AfterLine) (after : List TrailItem) : Type 0 where
     served_before : IsServed account contents lines known text
     replied : IsRepliedTo contents account known item reply end after
 
   -- the firings that came before the line
-  before_line : (lines : List LineForm) (known after : List TrailItem) (item : TrailItem) (text reply : List ℕ) (end : Ending)
+  before_line : (lines : List LineForm) (known after : List TrailItem) (item : TrailItem) (text reply : List ℕ) (end : AfterLine)
       → (m : IsMet lines known item text reply end after) → IsServed account contents lines m.replied.trail text
   before_line lines known after item text reply end m =
       let r = m.replied in

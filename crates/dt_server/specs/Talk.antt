@@ -7,7 +7,7 @@ use Rattle.dt_legal.specs.Rows.{IsLegalRow, line_form_of}
 use Rattle.dt_machine.specs.Registry.{Contents}
 use Rattle.dt_proto.specs.Lines.{LineForm}
 use Rattle.dt_seat.specs.Seats.{IsRepliedTo}
-use Rattle.dt_seat.specs.declared.ending.Ending.TheVariants as endings
+use Rattle.dt_seat.specs.declared.after_line.AfterLine.TheVariants as endings
 use Rattle.dt_server.specs.Served.{IsServed, IsOver}
 use Rattle.dt_server.specs.declared.ended.Ended.{Ended}
 use Rattle.dt_server.specs.declared.ended.Ended.TheVariants as ended

@@ -3,7 +3,7 @@ use std::sync::{Condvar, Mutex, Wait};
 
 /// What lies on a desk.
 #[derive(Clone, Copy, Debug, PartialEq, Eq)]
-enum Slot {
+enum Task {
     /// Nothing: the processor waits for work.
     Idle,
     /// So many firings are to be made.
@@ -15,7 +15,7 @@ enum Slot {
 /// Where one thread asks a processor's thread for firings, and waits until they are made. One thread asks at a time.
 #[derive(Drop)]
 pub struct Desk {
-    slot: Mutex<Slot>,
+    slot: Mutex<Task>,
     turned: Condvar,
 }
 
@@ -23,19 +23,19 @@ impl Desk {
     /// A desk with nothing on it.
     pub fn new() -> Desk {
         Desk {
-            slot: Mutex::new(Slot::Idle),
+            slot: Mutex::new(Task::Idle),
             turned: Condvar::new(),
         }
     }
 
     /// Asks for so many firings, and waits until the processor says how many it made.
     pub fn step<R: Wait>(&self, rt: &R, count: u32) -> u32 {
-        *self.slot.lock(rt) = Slot::Asked(count);
+        *self.slot.lock(rt) = Task::Asked(count);
         self.turned.notify_all();
         let mut slot = self.slot.lock(rt);
         for _ in rt.forever() {
-            if let Slot::Done(made) = *slot {
-                *slot = Slot::Idle;
+            if let Task::Done(made) = *slot {
+                *slot = Task::Idle;
                 return made;
             }
             slot = self.turned.wait(rt, slot);
@@ -47,7 +47,7 @@ impl Desk {
     pub(crate) fn asked<R: Wait>(&self, rt: &R) -> u32 {
         let mut slot = self.slot.lock(rt);
         for _ in rt.forever() {
-            if let Slot::Asked(count) = *slot {
+            if let Task::Asked(count) = *slot {
                 return count;
             }
             slot = self.turned.wait(rt, slot);
@@ -57,7 +57,7 @@ impl Desk {
 
     /// Says how many firings were made.
     pub(crate) fn done<R: Wait>(&self, rt: &R, made: u32) {
-        *self.slot.lock(rt) = Slot::Done(made);
+        *self.slot.lock(rt) = Task::Done(made);
         self.turned.notify_all();
     }
 }

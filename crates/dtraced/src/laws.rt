@@ -78,6 +78,12 @@ pub fn words_ask()
     ensures no_trail { (asked : Words) → Asks (codes "dtraced" ∷ codes "check" ∷ codes "m" ∷ []) asked → ⊥ }
     ensures no_folder { (asked : Words) → Asks (codes "dtraced" ∷ codes "serve" ∷ codes "m" ∷ []) asked → ⊥ }
     ensures no_path { (asked : Words) → Asks (codes "dtraced" ∷ codes "send" ∷ []) asked → ⊥ }
-    ensures too_many { (asked : Words)
+    ensures replay_too_many { (asked : Words)
         → Asks (codes "dtraced" ∷ codes "replay" ∷ codes "m" ∷ codes "t" ∷ []) asked → ⊥ }
+    ensures check_too_many { (asked : Words)
+        → Asks (codes "dtraced" ∷ codes "check" ∷ codes "m" ∷ codes "t" ∷ codes "u" ∷ []) asked → ⊥ }
+    ensures serve_too_many { (asked : Words)
+        → Asks (codes "dtraced" ∷ codes "serve" ∷ codes "m" ∷ codes "f" ∷ codes "u" ∷ []) asked → ⊥ }
+    ensures send_too_many { (asked : Words)
+        → Asks (codes "dtraced" ∷ codes "send" ∷ codes "p" ∷ codes "u" ∷ []) asked → ⊥ }
 {}

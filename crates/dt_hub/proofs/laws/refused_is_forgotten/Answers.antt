@@ -7,7 +7,7 @@ use Rattle.dt_hub.specs.declared.answered.LineAnswer.TheVariants as answers
 use Rattle.dt_machine.specs.Registry.{Contents}
 use Rattle.dt_seat.specs.Seats.{IsRepliedTo}
 use Rattle.dt_seat.specs.Sessions.{Sat}
-use Rattle.dt_seat.specs.declared.ending.Ending.{Ending}
+use Rattle.dt_seat.specs.declared.after_line.AfterLine.{AfterLine}
 use Rattle.dt_trail.specs.Items.{StartsWith, TrailItem, own}
 use Rattle.dt_hub.proofs.laws.refused_is_forgotten.Goals as goal
 
@@ -16,7 +16,7 @@ begins_with row mid known a b =
     (b.0 ++ a.0, a.1 ∙ ap (λ (l : List TrailItem). l ++ a.0) b.1 ∙ append_assoc known b.0 a.0)
 
 -- a reply that is due after what a session knows is due after what it knew before, where it has no further line since
-replied_before : (contents : Contents) (account other : Account) (known mid : List TrailItem) (item : TrailItem) (text : List ℕ) (ending : Ending)
+replied_before : (contents : Contents) (account other : Account) (known mid : List TrailItem) (item : TrailItem) (text : List ℕ) (ending : AfterLine)
     (after : List TrailItem) → other ≡ account → StartsWith mid known → own 0 mid ≡ own 0 known
     → IsRepliedTo contents other mid item text ending after → IsRepliedTo contents account known item text ending after
 replied_before contents account other known mid item text ending after same longer lines h =

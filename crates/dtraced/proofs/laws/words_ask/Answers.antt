@@ -4,7 +4,8 @@ use Rattle.std.specs.Fmt.{decimal, digits}
 use Rattle.std.specs.Option.{option_map_or}
 use Rattle.clap.specs.Words.{Row, Text, fault_of, subcommand_of}
 use Rattle.clap.proofs.OnLiterals.{clap_on_literals}
-use Rattle.dtraced.specs.Words.{program}
+use Rattle.dtraced.specs.Words.{Asks, program}
+use Rattle.dtraced.specs.declared.words.Words.{Words}
 use Rattle.dtraced.proofs.laws.words_ask.Goals as goal
 
 -- the values that a subcommand is given
@@ -80,36 +81,36 @@ returns-clause-send c = λ path is. record {
   values = ap Some (sym is);
 }
 
--- a fault is found
+-- where a fault is found, nothing is asked for
+refused : (words : List Text) (asked : Words) → is_nothing (fault_of program words) ≡ false → Asks words asked → ⊥
+refused words asked found h =
+    let none : is_nothing (fault_of program words) ≡ true = ap is_nothing h.faultless in
+    cc
+
 pub returns-clause-no_trail : goal.returns-clause-no_trail
 unfolding clap_on_literals
-returns-clause-no_trail c = λ asked h.
-    let found : is_nothing (fault_of program (codes "dtraced" ∷ codes "check" ∷ codes "m" ∷ [])) ≡ false = refl in
-    let none : is_nothing (fault_of program (codes "dtraced" ∷ codes "check" ∷ codes "m" ∷ [])) ≡ true =
-    ap is_nothing h.faultless in
-    cc
+returns-clause-no_trail c = λ asked h. refused (codes "dtraced" ∷ codes "check" ∷ codes "m" ∷ []) asked refl h
 
 pub returns-clause-no_folder : goal.returns-clause-no_folder
 unfolding clap_on_literals
-returns-clause-no_folder c = λ asked h.
-    let found : is_nothing (fault_of program (codes "dtraced" ∷ codes "serve" ∷ codes "m" ∷ [])) ≡ false = refl in
-    let none : is_nothing (fault_of program (codes "dtraced" ∷ codes "serve" ∷ codes "m" ∷ [])) ≡ true =
-    ap is_nothing h.faultless in
-    cc
+returns-clause-no_folder c = λ asked h. refused (codes "dtraced" ∷ codes "serve" ∷ codes "m" ∷ []) asked refl h
 
 pub returns-clause-no_path : goal.returns-clause-no_path
 unfolding clap_on_literals
-returns-clause-no_path c = λ asked h.
-    let found : is_nothing (fault_of program (codes "dtraced" ∷ codes "send" ∷ [])) ≡ false = refl in
-    let none : is_nothing (fault_of program (codes "dtraced" ∷ codes "send" ∷ [])) ≡ true =
-    ap is_nothing h.faultless in
-    cc
+returns-clause-no_path c = λ asked h. refused (codes "dtraced" ∷ codes "send" ∷ []) asked refl h
 
-pub returns-clause-too_many : goal.returns-clause-too_many
+pub returns-clause-replay_too_many : goal.returns-clause-replay_too_many
 unfolding clap_on_literals
-returns-clause-too_many c = λ asked h.
-    let found : is_nothing (fault_of program (codes "dtraced" ∷ codes "replay" ∷ codes "m" ∷ codes "t" ∷ [])) ≡ false =
-    refl in
-    let none : is_nothing (fault_of program (codes "dtraced" ∷ codes "replay" ∷ codes "m" ∷ codes "t" ∷ [])) ≡ true =
-    ap is_nothing h.faultless in
-    cc
+returns-clause-replay_too_many c = λ asked h. refused (codes "dtraced" ∷ codes "replay" ∷ codes "m" ∷ codes "t" ∷ []) asked refl h
+
+pub returns-clause-check_too_many : goal.returns-clause-check_too_many
+unfolding clap_on_literals
+returns-clause-check_too_many c = λ asked h. refused (codes "dtraced" ∷ codes "check" ∷ codes "m" ∷ codes "t" ∷ codes "u" ∷ []) asked refl h
+
+pub returns-clause-serve_too_many : goal.returns-clause-serve_too_many
+unfolding clap_on_literals
+returns-clause-serve_too_many c = λ asked h. refused (codes "dtraced" ∷ codes "serve" ∷ codes "m" ∷ codes "f" ∷ codes "u" ∷ []) asked refl h
+
+pub returns-clause-send_too_many : goal.returns-clause-send_too_many
+unfolding clap_on_literals
+returns-clause-send_too_many c = λ asked h. refused (codes "dtraced" ∷ codes "send" ∷ codes "p" ∷ codes "u" ∷ []) asked refl h

@@ -5,14 +5,14 @@ ghost use Rattle.dt_cred.specs.declared.account.Account.{Account};
 ghost use Rattle.dt_legal.specs.Rows.{line_form_of, life_of_row};
 ghost use Rattle.dt_machine.specs.Registry.{Contents};
 ghost use Rattle.dt_proto.specs.Line.{ask_in};
-ghost use Rattle.dt_seat.specs.Seats.{ending_of};
+ghost use Rattle.dt_seat.specs.Seats.{after_line_of};
 ghost use Rattle.dt_trail.specs.Items.{TrailItem};
 
 use dt_consumer::Draft;
 
 /// Whether a session goes on after a line.
 #[derive(Clone, Copy, Debug, PartialEq, Eq)]
-pub enum Ending {
+pub enum AfterLine {
     /// It goes on.
     GoesOn,
     /// The line was a `close` that was accepted: the session is to be closed.
@@ -21,19 +21,19 @@ pub enum Ending {
     OverQuota,
 }
 
-impl Ending {
+impl AfterLine {
     /// Whether the session goes on after the line of this draft.
-    pub(crate) fn of(draft: &Draft) -> Ending
+    pub(crate) fn of(draft: &Draft) -> AfterLine
         ensures { (account : Account) (contents : Contents) (trail : List TrailItem) (item : TrailItem)
             → IsDraftOf account contents.registry (life_of_row account contents trail) (ask_in (line_form_of item)) draft.now
-            → result ≡ ending_of account contents trail item }
+            → result ≡ after_line_of account contents trail item }
     {
         if draft.is_over_quota() {
-            return Ending::OverQuota;
+            return AfterLine::OverQuota;
         }
         if draft.closes() {
-            return Ending::Closes;
+            return AfterLine::Closes;
         }
-        Ending::GoesOn
+        AfterLine::GoesOn
     }
 }
