@@ -38,7 +38,7 @@ length-taken_lines (t ∷ taken) [] e = absurd (omega (arith, e))
 length-taken_lines (true ∷ taken) (one ∷ lines) e = ap suc (length-taken_lines taken lines (omega (arith, e)))
 length-taken_lines (false ∷ taken) (one ∷ lines) e = length-taken_lines taken lines (omega (arith, e))
 
-kept-taken : (taken : List Bool) (lines : List LineForm) (form : LineForm) → length taken ≡ length lines
+pub kept-taken : (taken : List Bool) (lines : List LineForm) (form : LineForm) → length taken ≡ length lines
     → taken_lines (taken ++ true ∷ []) (lines ++ form ∷ []) ≡ taken_lines taken lines ++ form ∷ []
 kept-taken [] [] form e = refl
 kept-taken [] (one ∷ lines) form e = absurd (omega (arith, e))
@@ -62,7 +62,7 @@ woven-refused (true ∷ taken) (reply ∷ replies) =
 woven-refused (false ∷ taken) replies =
     ap (λ t. memory_text ++ t) (woven-refused taken replies) ∙ sym (append_assoc memory_text (woven taken replies) memory_text)
 
-woven-taken : (taken : List Bool) (replies : List (List ℕ)) (reply : List ℕ) → trues taken ≡ length replies
+pub woven-taken : (taken : List Bool) (replies : List (List ℕ)) (reply : List ℕ) → trues taken ≡ length replies
     → woven (taken ++ true ∷ []) (replies ++ reply ∷ []) ≡ woven taken replies ++ reply
 unfolding trues
 woven-taken [] [] reply e = append-nil reply
@@ -73,7 +73,7 @@ woven-taken (true ∷ taken) (other ∷ replies) reply e =
 woven-taken (false ∷ taken) replies reply e =
     ap (λ t. memory_text ++ t) (woven-taken taken replies reply e) ∙ sym (append_assoc memory_text (woven taken replies) reply)
 
-one_more : (taken : List Bool) (lines : List LineForm) (t : Bool) (form : LineForm) → length taken ≡ length lines
+pub one_more : (taken : List Bool) (lines : List LineForm) (t : Bool) (form : LineForm) → length taken ≡ length lines
     → length (taken ++ t ∷ []) ≡ length (lines ++ form ∷ [])
 one_more taken lines t form e = length-append taken (t ∷ []) ∙ ap (λ n. n + 1) e ∙ sym (length-append lines (form ∷ []))
 
@@ -81,7 +81,7 @@ one_more taken lines t form e = length-append taken (t ∷ []) ∙ ap (λ n. n +
 own_line_last : (items : List TrailItem) (item : TrailItem) → whose item ≡ 0 → own 0 (items ++ item ∷ []) ≡ own 0 items ++ item ∷ []
 own_line_last items item mine = filter-append (λ x. whose x == 0) items (item ∷ []) ∙ ap (λ l. own 0 items ++ l) (rw mine refl)
 
-lines_last : (items : List TrailItem) (item : TrailItem) → whose item ≡ 0
+pub lines_last : (items : List TrailItem) (item : TrailItem) → whose item ≡ 0
     → lines_in (items ++ item ∷ []) ≡ lines_in items ++ line_form_of item ∷ []
 lines_last items item mine = ap (map line_form_of) (own_line_last items item mine) ∙ map-append line_form_of (own 0 items) (item ∷ [])
 
@@ -190,7 +190,7 @@ module _ (account : Account) (contents : Contents) where
       ap length h.4 ∙ length-append h.0 (h.1 ∷ []) ∙ let before = answers_count view h.0 h.2 in omega (arith, before)
   answers_count (firing_made firing ∷ view) answers h = answers_count view answers h
 
-  served_count : (lines : List LineForm) (items : List TrailItem) (text : List ℕ) (s : IsServed account contents lines items text)
+  pub served_count : (lines : List LineForm) (items : List TrailItem) (text : List ℕ) (s : IsServed account contents lines items text)
       → trues s.taken ≡ length (map reply_text s.answers)
   served_count lines items text s =
       sym (length-taken_lines s.taken lines s.each) ∙ sym (ap length s.own_lines) ∙ length-map (own 0 items) line_form_of

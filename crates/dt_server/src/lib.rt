@@ -8,6 +8,7 @@
 mod desk;
 mod device;
 mod ended;
+mod laws;
 mod listening;
 mod serving;
 mod session;
@@ -17,6 +18,7 @@ mod working;
 pub use desk::Desk;
 pub use device::{Counted, Failure, Sink, Source};
 pub use ended::Ended;
+pub use laws::closed_is_woven;
 pub use serving::serve_machine;
 pub use session::serve_session;
 pub use shared::{AccountSocket, Shared};

@@ -11,7 +11,7 @@ ghost use Rattle.dt_machine.specs.Reading.{IsDescribed};
 ghost use Rattle.dt_machine.specs.Registry.{Contents, account_of};
 ghost use Rattle.dt_proto.specs.Lines.{LineForm};
 ghost use Rattle.dt_proto.specs.Told.{view_by};
-ghost use Rattle.dt_server.specs.Served.{HasServed, IsServed, lines_in, taken_lines, woven};
+ghost use Rattle.dt_server.specs.Served.{HasServed, IsClosed, IsServed, lines_in, taken_lines, woven};
 ghost use Rattle.dt_server.specs.declared.ended.Ended.{Ended};
 ghost use Rattle.dt_steps.specs.Ran.{SeatReply, AreReplies, told_to};
 ghost use Rattle.dt_steps.specs.Steps.{StepForm, world_after};
@@ -25,6 +25,7 @@ ghost use Rattle.dtraced.specs.declared.words.Words.TheVariants.{Replay, Check, 
 use dt_alone::trail_agrees;
 use dt_life::one_reply;
 use dt_machine::described_is_sound;
+use dt_server::closed_is_woven;
 use dt_steps::{trail_is_told, trail_is_view};
 
 /// Law: a check answers `agree` of whatever a replay writes as the trail of a seat. Where no session was on the seat,
@@ -39,8 +40,8 @@ pub fn written_trails_agree()
 }
 
 /// Law: what a service's session has served is what a session sees in some list of steps: the items of its receipt are the seen view of one there.
-/// And where all that came was answered, what is written to its client are the replies that this session is told there, with the fixed refusal at the places of the
-/// lines for which there was no memory: those that aren't among the trail's. Where there was no memory to begin with, nothing was served.
+/// And where all that came was answered, or all up to an accepted `close`, what is written to its client are the replies that this session is told there, with the fixed
+/// refusal at the places of the lines for which there was no memory: those that aren't among the trail's. Where there was no memory to begin with, nothing was served.
 pub fn served_trails_are_views()
     ensures views { (contents : Contents) (name : List ℕ) (account : Account) (ended : Ended) (lines : List LineForm)
         (items : List TrailItem) (text : List ℕ)
@@ -55,7 +56,15 @@ pub fn served_trails_are_views()
         → AreReplies contents.registry (world_after contents.registry steps).questions told
         → (taken : List Bool) × (length taken ≡ length lines) × (lines_in items ≡ taken_lines taken lines)
         × (text ≡ woven taken (told_to seat n (world_after contents.registry steps).questions told)) }
+    ensures told_closed { (contents : Contents) (account : Account) (lines : List LineForm) (items : List TrailItem) (text : List ℕ)
+        (steps : List StepForm) (seat n : ℕ) (told : List SeatReply)
+        → IsClosed account contents lines items text
+        → HasSeen contents.registry steps seat n account (view_by contents (map told_as items))
+        → AreReplies contents.registry (world_after contents.registry steps).questions told
+        → (taken : List Bool) × (length taken ≡ length lines) × (lines_in items ≡ taken_lines taken lines)
+        × (text ≡ woven taken (told_to seat n (world_after contents.registry steps).questions told)) }
 {
+    closed_is_woven();
     one_reply();
     trail_is_told();
     trail_is_view();

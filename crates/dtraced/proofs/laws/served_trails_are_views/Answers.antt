@@ -20,4 +20,10 @@ returns c = record {
       let same : own.0 ≡ served.answers =
       one_alone c.one_reply.ensures account contents.registry view own.0 served.answers own.1 served.alone in
       (served.taken, served.each, served.own_lines, served.text_is ∙ ap (woven served.taken) (sym (own.2 ∙ ap (map reply_text) same)));
+  told_closed = λ contents account lines items text steps seat n told closed seen replies.
+      let view = view_by contents (map told_as items) in
+      let own = c.trail_is_told.ensures.alone contents.registry steps seat n account view told seen replies in
+      let w = c.closed_is_woven.ensures account contents lines items text closed in
+      let same : own.0 ≡ w.3 = one_alone c.one_reply.ensures account contents.registry view own.0 w.3 own.1 w.4 in
+      (w.0, w.1, w.2, w.5 ∙ ap (woven w.0) (sym (own.2 ∙ ap (map reply_text) same)));
 }
