@@ -3,6 +3,7 @@
 //! What stands here are words, the socket, time and files. What is printed for the values that a service answers is what `dt_front` is proved to print.
 #![tactic(auto)]
 
+mod checking;
 mod enabling;
 mod fault;
 mod following;
@@ -11,12 +12,15 @@ mod json_lines;
 mod judging;
 mod listing;
 mod output;
+mod page;
 mod requests;
 mod session;
 mod snapping;
 mod summing;
+mod trail_lines;
 mod words;
 
+use checking::judge_trail;
 use enabling::{begin, set_up};
 use fault::Trouble;
 use following::{Plan, follow};
@@ -24,9 +28,10 @@ use input::watch_input;
 use judging::judge_machine;
 use listing::list_probes;
 use output::write_out;
+use page::page_width;
 use session::Session;
 use snapping::{Learnt, RowShape};
-use std::io::{Stdin, Write};
+use std::io::{IsTerminal, Stdin, Write};
 use std::net::Net;
 use std::os::unix::net::UnixStream;
 use std::process::ExitCode;
@@ -37,7 +42,7 @@ use summing::{aggregations_of, push_table};
 use words::Invocation;
 
 fn main(rt: HostRuntime) -> ExitCode {
-    match execute(&rt, rt.stdin()) {
+    match execute(&rt, rt.stdin(), rt.stdout().is_terminal()) {
         Ok(status) => ExitCode::from(status),
         Err(fault) => {
             // Where standard error fails too, the status is all that tells.
@@ -47,10 +52,11 @@ fn main(rt: HostRuntime) -> ExitCode {
     }
 }
 
-/// Does what the program's words ask for, and gives the status.
+/// Does what the program's words ask for, and gives the status. `terminal` says whether standard output is one.
 fn execute<R: Files + Net + Env + Print + Eprint + AllocGlobal + Clock + Threads>(
     rt: &R,
     input: Stdin,
+    terminal: bool,
 ) -> Result<u8, Trouble> {
     let args = env::args(rt).map_err(|_| Trouble::Usage)?;
     let args = args.collect::<Vec<String>>(rt.alloc())?;
@@ -62,10 +68,29 @@ fn execute<R: Files + Net + Env + Print + Eprint + AllocGlobal + Clock + Threads
     if let Some(machine) = words.machine {
         return judge_machine(rt, machine);
     }
-    let Some(path) = words.socket else {
+    let Some(path) = words.path else {
         return Err(Trouble::Usage);
     };
-    let programs = programs_of(rt, &words)?;
+    if let Some(machine) = words.trail {
+        return judge_trail(rt, machine, path);
+    }
+    serve_words(rt, input, terminal, &words, path)
+}
+
+/// Traces on the service at this path, or lists its probes, and gives the status.
+fn serve_words<R: Files + Net + Env + Print + Eprint + AllocGlobal + Clock + Threads>(
+    rt: &R,
+    input: Stdin,
+    terminal: bool,
+    words: &Invocation<'_>,
+    path: &str,
+) -> Result<u8, Trouble> {
+    let shape = RowShape {
+        page: page_width(rt, words.width, terminal && words.output.is_none()),
+        quiet: words.quiet,
+        json: words.json,
+    };
+    let programs = programs_of(rt, words)?;
     if !words.list && programs.is_empty() {
         return Err(Trouble::Usage);
     }
@@ -77,10 +102,10 @@ fn execute<R: Files + Net + Env + Print + Eprint + AllocGlobal + Clock + Threads
     let mut session = Session::new(rt.alloc(), &stream)?;
     if words.list {
         let description = words.programs.first().copied().unwrap_or("");
-        list_probes(rt, &mut session, description, words.quiet, &mut file)?;
+        list_probes(rt, &mut session, description, shape, &mut file)?;
         return Ok(0);
     }
-    trace(rt, input, &mut session, &words, &programs, &mut file)
+    trace(rt, input, &mut session, words, shape, &programs, &mut file)
 }
 
 /// The texts of the programs: those of `-n`, and those of the files of `-s`.
@@ -105,14 +130,11 @@ fn trace<R: Print + Eprint + AllocGlobal + Clock + Threads, F: Write>(
     input: Stdin,
     session: &mut Session<'_>,
     words: &Invocation<'_>,
+    shape: RowShape,
     programs: &[String],
     file: &mut Option<F>,
 ) -> Result<u8, Trouble> {
     let alloc = rt.alloc();
-    let shape = RowShape {
-        quiet: words.quiet,
-        json: words.json,
-    };
     let aggregations = aggregations_of(alloc, programs)?;
     let count = set_up(rt, session, &words.options, programs)?;
     let policy = policy_in(&words.options);
@@ -127,10 +149,10 @@ fn trace<R: Print + Eprint + AllocGlobal + Clock + Threads, F: Write>(
         ended: &ended,
         shape,
     };
-    let exit = follow(rt, session, &mut known, &plan, file)?;
+    let exit = follow(rt, session, &mut known, &plan, file).map_err(Trouble::in_tracing)?;
     let mut out = Vec::new(alloc);
     for aggregation in &aggregations {
-        push_table(rt, session, aggregation, shape, &mut out)?;
+        push_table(rt, session, aggregation, shape, &mut out).map_err(Trouble::in_tracing)?;
         write_out(rt, file, &mut out)?;
     }
     let _closed = session.ask(alloc, "{\"cmd\":\"close\"}")?;
