@@ -15,6 +15,7 @@ use std::rt::Files;
 /// Says whether a trail agrees with what its session was to be answered on a machine, and if not, which line is wrong, and what was due. Gives the status.
 pub(crate) fn judge_trail<R: Files + Print + Eprint + AllocGlobal>(
     rt: &R,
+    width: usize,
     machine: &str,
     trail: &str,
 ) -> Result<u8, Trouble> {
@@ -32,7 +33,7 @@ pub(crate) fn judge_trail<R: Files + Print + Eprint + AllocGlobal>(
             write_answer(rt, told.as_bytes())?;
             return Ok(0);
         }
-        Ok(Verdict::Differs(reply)) => difference(alloc, &machine, &lines, reply)?,
+        Ok(Verdict::Differs(reply)) => difference(alloc, width, &machine, &lines, reply)?,
         Ok(Verdict::Illegal(item)) => out_of_place(alloc, &machine, &lines, item)?,
         Err(CheckFault::Text) => no_trail(alloc, &machine, &lines, text.last() == Some(&b'\n'))?,
         Err(CheckFault::Memory) => return Err(Trouble::Memory),
@@ -44,6 +45,7 @@ pub(crate) fn judge_trail<R: Files + Print + Eprint + AllocGlobal>(
 /// What is told of the first reply that isn't the one that was due.
 fn difference(
     alloc: Global,
+    width: usize,
     machine: &Machine,
     lines: &[&[u8]],
     number: usize,
@@ -62,7 +64,7 @@ fn difference(
     told.extend_from_slice(b"dtr: due was, with the first byte that differs marked\n")?;
     let due = due_reply(alloc, machine, lines, place)?;
     let at = first_difference(line_at(lines, place), &due).min(due.len());
-    push_caret(&mut told, &due, at)?;
+    push_caret(alloc, &mut told, width.max(1), &due, at)?;
     Ok(told)
 }
 

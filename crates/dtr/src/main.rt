@@ -28,7 +28,7 @@ use input::watch_input;
 use judging::judge_machine;
 use listing::list_probes;
 use output::write_out;
-use page::page_width;
+use page::{Terminals, Widths, widths_of};
 use session::Session;
 use snapping::{Learnt, RowShape};
 use std::io::{IsTerminal, Stdin, Write};
@@ -42,7 +42,11 @@ use summing::{aggregations_of, push_table};
 use words::Invocation;
 
 fn main(rt: HostRuntime) -> ExitCode {
-    match execute(&rt, rt.stdin(), rt.stdout().is_terminal()) {
+    let terminals = Terminals {
+        rows: rt.stdout().is_terminal(),
+        messages: rt.stderr().is_terminal(),
+    };
+    match execute(&rt, rt.stdin(), terminals) {
         Ok(status) => ExitCode::from(status),
         Err(fault) => {
             // Where standard error fails too, the status is all that tells.
@@ -52,11 +56,11 @@ fn main(rt: HostRuntime) -> ExitCode {
     }
 }
 
-/// Does what the program's words ask for, and gives the status. `terminal` says whether standard output is one.
+/// Does what the program's words ask for, and gives the status.
 fn execute<R: Files + Net + Env + Print + Eprint + AllocGlobal + Clock + Threads>(
     rt: &R,
     input: Stdin,
-    terminal: bool,
+    terminals: Terminals,
 ) -> Result<u8, Trouble> {
     let args = env::args(rt).map_err(|_| Trouble::Usage)?;
     let args = args.collect::<Vec<String>>(rt.alloc())?;
@@ -68,25 +72,27 @@ fn execute<R: Files + Net + Env + Print + Eprint + AllocGlobal + Clock + Threads
     if let Some(machine) = words.machine {
         return judge_machine(rt, machine);
     }
+    let rows = terminals.rows && words.output.is_none();
+    let widths = widths_of(rt, words.width, Terminals { rows, ..terminals });
     let Some(path) = words.path else {
         return Err(Trouble::Usage);
     };
     if let Some(machine) = words.trail {
-        return judge_trail(rt, machine, path);
+        return judge_trail(rt, widths.messages, machine, path);
     }
-    serve_words(rt, input, terminal, &words, path)
+    serve_words(rt, input, widths, &words, path)
 }
 
 /// Traces on the service at this path, or lists its probes, and gives the status.
 fn serve_words<R: Files + Net + Env + Print + Eprint + AllocGlobal + Clock + Threads>(
     rt: &R,
     input: Stdin,
-    terminal: bool,
+    widths: Widths,
     words: &Invocation<'_>,
     path: &str,
 ) -> Result<u8, Trouble> {
     let shape = RowShape {
-        page: page_width(rt, words.width, terminal && words.output.is_none()),
+        widths,
         quiet: words.quiet,
         json: words.json,
     };
@@ -136,7 +142,7 @@ fn trace<R: Print + Eprint + AllocGlobal + Clock + Threads, F: Write>(
 ) -> Result<u8, Trouble> {
     let alloc = rt.alloc();
     let aggregations = aggregations_of(alloc, programs)?;
-    let count = set_up(rt, session, &words.options, programs)?;
+    let count = set_up(rt, session, shape.widths.messages, &words.options, programs)?;
     let policy = policy_in(&words.options);
     let mut known = Learnt::new(alloc, count, policy == "switch")?;
     begin(rt, session, count)?;

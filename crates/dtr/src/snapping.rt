@@ -4,6 +4,7 @@ use crate::enabling::accepted;
 use crate::fault::Trouble;
 use crate::json_lines::push_record_line;
 use crate::output::tell;
+use crate::page::Widths;
 use crate::requests;
 use crate::session::Session;
 use dt_front::{
@@ -17,8 +18,8 @@ use std::alloc::Global;
 /// How rows are written.
 #[derive(Clone, Copy, Drop)]
 pub(crate) struct RowShape {
-    /// How wide the page is.
-    pub(crate) page: usize,
+    /// How wide rows, tables and messages are.
+    pub(crate) widths: Widths,
     /// Values alone, without processors and probes.
     pub(crate) quiet: bool,
     /// Lines of JSON.
@@ -109,13 +110,13 @@ fn push_records(
     };
     if !shape.json {
         if !shape.quiet && !known.headed && !records.is_empty() {
-            push_rows_head(out, shape.page)?;
+            push_rows_head(out, shape.widths.page)?;
             known.headed = true;
         }
         push_rows(
             alloc,
             out,
-            shape.page,
+            shape.widths.page,
             shape.quiet,
             cpu,
             &known.probes,

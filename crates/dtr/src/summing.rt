@@ -100,7 +100,7 @@ pub(crate) fn push_table<R: Print + Eprint + AllocGlobal>(
         push_title(out, aggregation.name.as_bytes(), function.as_bytes())?;
     }
     for row in rows {
-        push_row(alloc, shape.page, aggregation, row, out)?;
+        push_row(alloc, shape.widths.page, aggregation, row, out)?;
     }
     Ok(())
 }
