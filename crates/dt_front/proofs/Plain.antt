@@ -1,5 +1,5 @@
 -- What is shown is plain.
-use Rattle.std.proofs.Common.{◌≡◌, ℕ, suc, ◌+◌, ◌/◌, ◌%◌, ◌<◌, ◌≤◌, ◌==◌, nat_le, Bool, true, false, List, [], ◌∷◌, ◌++◌, All, if◌then◌else◌, refl, arith, rules}
+use Rattle.std.proofs.Common.{◌≡◌, ℕ, suc, ◌+◌, ◌/◌, ◌%◌, ◌<◌, ◌==◌, nat_le, Bool, true, false, List, [], ◌∷◌, All, if◌then◌else◌, refl, arith, rules}
 use Rattle.std.proofs.lemmas.List.Elements.{All-append, All-cons, All-nil}
 use Rattle.dt_front.specs.Escaping.{ArePlain, IsPlain, hex_digit, is_plain_byte, shown, shown_byte}
 

@@ -6,7 +6,7 @@ use Rattle.std.specs.List.{flat_map}
 use Rattle.std.specs.List.{position_or_len}
 use Rattle.std.proofs.lemmas.List.Elements.{All-drop, All-take}
 use Rattle.std.proofs.lemmas.List.Sums.{get_or-le-sum_by, position_or_len_is}
-use Rattle.dt_front.specs.Picture.{PictureRowForm, is_counted, from_first, picture, picture_head, row_line, shown_rows, total_of}
+use Rattle.dt_front.specs.Picture.{PictureRowForm, bar_width, is_counted, from_first, picture, picture_head, row_line, shown_rows, total_of}
 
 pub position_or_len-map : {X Y : Type 0} (p : Y → Bool) (f : X → Y) (xs : List X) → position_or_len p (map f xs) ≡ position_or_len (λ x. p (f x)) xs
 position_or_len-map p f [] = refl
@@ -35,13 +35,15 @@ shown_of_code f xs l t leading trailing =
     ∙ ap (λ ys. take (length ys - t) ys) from
     ∙ ap (λ n. take (length (from_first (map f xs)) - n) (from_first (map f xs))) last
 
-pub picture_added : (old begun whole : List ℕ) (rows lines : List PictureRowForm) (total : ℕ)
-    → begun ≡ old ++ picture_head → whole ≡ begun ++ flat_map (row_line total) lines
-    → total ≡ total_of rows → lines ≡ shown_rows rows → whole ≡ old ++ picture rows
-picture_added old begun whole rows lines total head body same shown =
-    body ∙ ap (λ xs. xs ++ flat_map (row_line total) lines) head
-    ∙ append_assoc old picture_head (flat_map (row_line total) lines)
-    ∙ ap (λ xs. old ++ (picture_head ++ xs)) (ap (λ n. flat_map (row_line n) lines) same ∙ ap (λ ys. flat_map (row_line (total_of rows)) ys) shown)
+pub picture_added : (page longest : ℕ) (old begun whole : List ℕ) (rows lines : List PictureRowForm) (total : ℕ)
+    → longest ≡ bar_width page → begun ≡ old ++ picture_head longest → whole ≡ begun ++ flat_map (row_line longest total) lines
+    → total ≡ total_of rows → lines ≡ shown_rows rows → whole ≡ old ++ picture page rows
+picture_added page longest old begun whole rows lines total width head body same shown =
+    body ∙ ap (λ xs. xs ++ flat_map (row_line longest total) lines) head
+    ∙ append_assoc old (picture_head longest) (flat_map (row_line longest total) lines)
+    ∙ ap (λ xs. old ++ (picture_head longest ++ xs))
+    (ap (λ n. flat_map (row_line longest n) lines) same ∙ ap (λ ys. flat_map (row_line longest (total_of rows)) ys) shown)
+    ∙ ap (λ n. old ++ (picture_head n ++ flat_map (row_line n (total_of rows)) (shown_rows rows))) width
 
 pub map-reverse : {X Y : Type 0} (f : X → Y) (xs : List X) → map f (reverse xs) ≡ reverse (map f xs)
 map-reverse f [] = refl

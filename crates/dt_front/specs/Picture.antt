@@ -1,5 +1,5 @@
 -- A distribution as the picture that DTrace draws.
-use Rattle.std.specs.Prelude.{ℕ, ◌+◌, ◌-◌, ◌*◌, ◌/◌, ◌==◌, List, ◌++◌, length, sum_by, drop, take, reverse, nat_lt, replicate, codes, decimal, if◌then◌else◌, Bool}
+use Rattle.std.specs.Prelude.{ℕ, ◌+◌, ◌-◌, ◌*◌, ◌/◌, ◌==◌, max, min, List, ◌++◌, length, sum_by, drop, take, reverse, nat_lt, replicate, codes, decimal, if◌then◌else◌, Bool}
 use Rattle.std.specs.List.{flat_map, position_or_len}
 use Rattle.dt_front.specs.Columns.{at_right, blanks}
 
@@ -15,22 +15,22 @@ is_counted row = nat_lt 0 row.count
 abbrev pub total_of : List PictureRowForm → ℕ
 total_of rows = sum_by (λ row. row.count) rows
 
--- how many columns the longest bar has
-abbrev pub bar_width : ℕ
-bar_width = 40
+-- how many columns the longest bar has on a page of this width: 40, fewer where the page has fewer than 66, and never fewer than 14
+abbrev pub bar_width : ℕ → ℕ
+bar_width page = max 14 (min 40 (page - 26))
 
--- The columns of a bar: as many of 40 as a count is of the total, to the nearest whole number, and a half up; none where the total is 0.
-abbrev pub bar_columns : ℕ → ℕ → ℕ
-bar_columns count total = if total == 0 then 0 else (2 * bar_width * count + total) / (2 * total)
+-- The columns of a bar: as many of the longest one's as a count is of the total, to the nearest whole number, and a half up; none where the total is 0.
+abbrev pub bar_columns : ℕ → ℕ → ℕ → ℕ
+bar_columns longest count total = if total == 0 then 0 else (2 * longest * count + total) / (2 * total)
 
 -- the bar, with blanks up to the last column
-abbrev pub bar : ℕ → List ℕ
-bar columns = replicate columns 64 ++ blanks (bar_width - columns)
+abbrev pub bar : ℕ → ℕ → List ℕ
+bar longest columns = replicate columns 64 ++ blanks (longest - columns)
 
 -- a row's line: its name, its bar and its count, without blanks after it
-abbrev pub row_line : ℕ → PictureRowForm → List ℕ
-row_line total row =
-    at_right 16 row.label ++ codes " |" ++ bar (bar_columns row.count total) ++ codes " " ++ decimal row.count ++ codes "\n"
+abbrev pub row_line : ℕ → ℕ → PictureRowForm → List ℕ
+row_line longest total row =
+    at_right 16 row.label ++ codes " |" ++ bar longest (bar_columns longest row.count total) ++ codes " " ++ decimal row.count ++ codes "\n"
 
 -- The rows that are shown: from the first with a count to the last, with one empty row at each end, where there is one.
 abbrev pub from_first : List PictureRowForm → List PictureRowForm
@@ -42,10 +42,14 @@ to_last rows = take (length rows - (position_or_len is_counted (reverse rows) - 
 abbrev pub shown_rows : List PictureRowForm → List PictureRowForm
 shown_rows rows = to_last (from_first rows)
 
--- the head of the picture
-abbrev pub picture_head : List ℕ
-picture_head = codes "           value  ------------- Distribution ------------- count\n"
+-- the word above the bars, in the midst of as many dashes as give it their width
+abbrev pub bars_head : ℕ → List ℕ
+bars_head longest = replicate ((longest - 14) / 2) 45 ++ codes " Distribution " ++ replicate (longest - 14 - (longest - 14) / 2) 45
 
--- the picture: its head, and a line for each row that is shown
-abbrev pub picture : List PictureRowForm → List ℕ
-picture rows = picture_head ++ flat_map (row_line (total_of rows)) (shown_rows rows)
+-- the head of the picture
+abbrev pub picture_head : ℕ → List ℕ
+picture_head longest = codes "           value  " ++ bars_head longest ++ codes " count\n"
+
+-- the picture on a page of this width: its head, and a line for each row that is shown
+abbrev pub picture : ℕ → List PictureRowForm → List ℕ
+picture page rows = picture_head (bar_width page) ++ flat_map (row_line (bar_width page) (total_of rows)) (shown_rows rows)

@@ -1,4 +1,4 @@
--- The rows of the records that bytes hold.
+-- The rows of records.
 use Rattle.std.specs.Prelude.{ℕ, ◌-◌, List, Bool, Option, Some, None, if◌then◌else◌, slice_get}
 use Rattle.std.specs.List.{flat_map}
 use Rattle.dt_record.specs.Split.{RecordForm}
@@ -8,10 +8,10 @@ use Rattle.dt_front.specs.Rows.{ProbeForm, full_row, values_text}
 abbrev pub row_probe : Bool → List ProbeForm → ℕ → Option ProbeForm
 row_probe quiet probes epid = if quiet then None else slice_get probes (epid - 1)
 
-abbrev pub record_row : ℕ → Option ProbeForm → RecordForm → List ℕ
-record_row cpu None r = values_text r
-record_row cpu (Some probe) r = full_row cpu probe r
+abbrev pub record_row : ℕ → ℕ → Option ProbeForm → RecordForm → List ℕ
+record_row page cpu None r = values_text r
+record_row page cpu (Some probe) r = full_row page cpu probe r
 
--- a row for each record of a processor, in order
-abbrev pub rows_text : Bool → ℕ → List ProbeForm → List RecordForm → List ℕ
-rows_text quiet cpu probes records = flat_map (λ r. record_row cpu (row_probe quiet probes r.epid) r) records
+-- a row for each record of a processor, in order, on a page of this width
+abbrev pub rows_text : ℕ → Bool → ℕ → List ProbeForm → List RecordForm → List ℕ
+rows_text page quiet cpu probes records = flat_map (λ r. record_row page cpu (row_probe quiet probes r.epid) r) records

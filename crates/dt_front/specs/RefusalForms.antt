@@ -1,5 +1,5 @@
 -- Refusals without where their texts lie in memory.
-use Rattle.std.specs.Prelude.{Option, option_map}
+use Rattle.std.specs.Prelude.{option_map}
 use Rattle.dt_front.specs.Refusals.{RefusalForm}
 use Rattle.dt_front.specs.declared.refusal.ToldRefusal.{ToldRefusal}
 

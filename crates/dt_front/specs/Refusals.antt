@@ -1,5 +1,5 @@
 -- Why a line was refused, and the program's text with a caret under the byte that is wrong.
-use Rattle.std.specs.Prelude.{ℕ, ◌-◌, ◌==◌, Bool, List, ◌++◌, codes, drop, take, length, reverse, Option, option_map, option_and_then}
+use Rattle.std.specs.Prelude.{ℕ, ◌-◌, ◌%◌, ◌==◌, Bool, List, [], ◌++◌, if◌then◌else◌, codes, drop, take, length, reverse, Option, option_map, option_and_then}
 use Rattle.std.specs.List.{position_or_len}
 use Rattle.serde_json.specs.Data.{Data}
 use Rattle.serde_json.specs.Find.{get, as_str, as_number, as_u64}
@@ -47,8 +47,25 @@ before_place text at = drop (length (take at text) - tail_length (take at text))
 abbrev pub from_place : List ℕ → ℕ → List ℕ
 from_place text at = before_byte 10 (drop at text)
 
--- The line of a place as a terminal is shown it, and below it a caret in the column of the place's byte.
-abbrev pub caret_text : List ℕ → ℕ → List ℕ
-caret_text text at =
-    codes "    " ++ shown (before_place text at) ++ shown (from_place text at) ++ codes "\n    "
-    ++ blanks (length (shown (before_place text at))) ++ codes "^\n"
+-- on a page of this width, the column of a place, from 0 on, on whose line so many columns are before it; and how many its row has from there on
+abbrev pub caret_column : ℕ → ℕ → ℕ
+caret_column page columns = columns % page
+
+abbrev pub columns_left : ℕ → ℕ → ℕ
+columns_left page columns = page - columns % page
+
+-- a line, where it isn't empty
+abbrev pub rest_line : List ℕ → List ℕ
+rest_line bytes = if length bytes == 0 then [] else bytes ++ codes "\n"
+
+-- A line as a page of this width shows it, and a caret in the column of a place and below the row that has it. What comes before the place and from it on
+-- is given; what has no room in that row comes below the caret.
+abbrev pub marked_line : ℕ → List ℕ → List ℕ → List ℕ
+marked_line page before from =
+    before ++ take (columns_left page (length before)) from ++ codes "\n"
+    ++ blanks (caret_column page (length before)) ++ codes "^\n"
+    ++ rest_line (drop (columns_left page (length before)) from)
+
+-- The line of a place as a terminal is shown it, after four blanks, and a caret under the place's byte.
+abbrev pub caret_text : ℕ → List ℕ → ℕ → List ℕ
+caret_text page text at = marked_line page (codes "    " ++ shown (before_place text at)) (shown (from_place text at))

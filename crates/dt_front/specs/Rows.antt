@@ -1,7 +1,7 @@
 -- Records as rows.
-use Rattle.std.specs.Prelude.{ℕ, ◌/◌, ◌%◌, ◌==◌, List, [], ◌∷◌, ◌++◌, take, codes, decimal, if◌then◌else◌}
+use Rattle.std.specs.Prelude.{ℕ, ◌-◌, max, min, ◌/◌, ◌%◌, ◌==◌, List, [], ◌∷◌, ◌++◌, codes, decimal, if◌then◌else◌}
 use Rattle.std.specs.Fmt.{signed_decimal}
-use Rattle.std.specs.List.{flat_map, position_or_len}
+use Rattle.std.specs.List.{flat_map}
 use Rattle.std.specs.Int.{bytes_high_first}
 use Rattle.dt_record.specs.Split.{RecordedForm, RecordForm, number, text, frames}
 use Rattle.dt_front.specs.Columns.{at_right}
@@ -13,14 +13,18 @@ pub record ProbeForm : Type 0 where
   pub id : ℕ
   pub name : List ℕ
 
+-- how many columns the names of probes have on a page of this width: 32, fewer where the page has fewer than 52, and never fewer than 20
+abbrev pub name_width : ℕ → ℕ
+name_width page = max 20 (min 32 (page - 20))
+
 -- the head of all rows
-abbrev pub rows_head : List ℕ
-rows_head = codes "CPU     ID                    FUNCTION:NAME\n"
+abbrev pub rows_head : ℕ → List ℕ
+rows_head page = codes "CPU     ID " ++ at_right (name_width page) (codes "FUNCTION:NAME") ++ codes "\n"
 
 -- the columns of a row: its processor and its probe
-abbrev pub row_columns : ℕ → ProbeForm → List ℕ
-row_columns cpu probe =
-    at_right 3 (decimal cpu) ++ codes " " ++ at_right 6 (decimal probe.id) ++ codes " " ++ at_right 32 (shown probe.name)
+abbrev pub row_columns : ℕ → ℕ → ProbeForm → List ℕ
+row_columns page cpu probe =
+    at_right 3 (decimal cpu) ++ codes " " ++ at_right 6 (decimal probe.id) ++ codes " " ++ at_right (name_width page) (shown probe.name)
 
 -- a byte in two digits to the base of sixteen
 abbrev pub hex_byte : ℕ → List ℕ
@@ -44,5 +48,5 @@ recorded_text (frames list) = flat_map frame_line list
 abbrev pub values_text : RecordForm → List ℕ
 values_text r = flat_map recorded_text r.values ++ codes "\n"
 
-abbrev pub full_row : ℕ → ProbeForm → RecordForm → List ℕ
-full_row cpu probe r = row_columns cpu probe ++ values_text r
+abbrev pub full_row : ℕ → ℕ → ProbeForm → RecordForm → List ℕ
+full_row page cpu probe r = row_columns page cpu probe ++ values_text r

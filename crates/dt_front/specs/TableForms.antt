@@ -1,5 +1,4 @@
 -- Keys without where their texts lie in memory.
-use Rattle.std.specs.Prelude.{◌≡◌}
 use Rattle.dt_front.specs.Tables.{KeyForm, number, text}
 use Rattle.dt_front.specs.declared.table.KeyColumn.{KeyColumn}
 use Rattle.dt_front.specs.declared.table.KeyColumn.TheVariants.{Number, Text}

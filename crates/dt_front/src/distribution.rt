@@ -1,5 +1,5 @@
 //! The rows of a distribution, with those that count nothing.
-ghost use Rattle.std.specs.Prelude.{◌≡◌, IfSome, map, sum_by};
+ghost use Rattle.std.specs.Prelude.{◌≡◌, ◌≤◌, ◌^◌, MatchOption, map, sum_by};
 ghost use Rattle.dt_front.specs.Picture.{total_of};
 ghost use Rattle.dt_front.specs.PictureForms.{form_of_picture_row};
 
@@ -100,24 +100,34 @@ fn count_at(counts: &[RowCount], least: Option<i64>) -> u64 {
     0
 }
 
-/// The values that all rows count, where they are fewer than 2^64.
+/// The values that all rows count. `None` where they are 2^64 or more.
 pub fn rows_total(rows: &[PictureRow]) -> Option<u64>
-    ensures { IfSome result (λ total. total ≡ total_of (map form_of_picture_row rows.now)) }
+    ensures { MatchOption result
+        (2 ^ 64 ≤ total_of (map form_of_picture_row rows.now))
+        (λ total. total ≡ total_of (map form_of_picture_row rows.now)) }
 {
     let mut total = 0_u64;
     for row in rows {
-        total = total.checked_add(row.count)?;
+        match total.checked_add(row.count) {
+            Some(more) => total = more,
+            None => return None,
+        }
     }
     Some(total)
 }
 
-/// The values that all counts of a reply tell of, where they are fewer than 2^64.
+/// The values that all counts of a reply tell of. `None` where they are 2^64 or more.
 pub fn counts_total(counts: &[RowCount]) -> Option<u64>
-    ensures { IfSome result (λ total. total ≡ sum_by (λ counted. counted.count) counts.now) }
+    ensures { MatchOption result
+        (2 ^ 64 ≤ sum_by (λ counted. counted.count) counts.now)
+        (λ total. total ≡ sum_by (λ counted. counted.count) counts.now) }
 {
     let mut total = 0_u64;
     for counted in counts {
-        total = total.checked_add(counted.count)?;
+        match total.checked_add(counted.count) {
+            Some(more) => total = more,
+            None => return None,
+        }
     }
     Some(total)
 }

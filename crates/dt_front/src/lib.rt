@@ -27,7 +27,7 @@ pub use parts::{after_byte, before_byte};
 pub use picture::{PictureRow, push_picture};
 pub use probes::{push_probe, push_probes_head};
 pub use reading::{counts_in, key_in, layout_in, signed_in};
-pub use records::{push_rows, records_in, unknown_epid};
+pub use records::{push_rows, unknown_epid};
 pub use refusal::{ToldRefusal, push_caret};
 pub use row::{RowProbe, push_full_row, push_rows_head, push_values};
 pub use table::{KeyColumn, push_key, push_number_line, push_title};

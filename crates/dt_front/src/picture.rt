@@ -2,20 +2,23 @@
 ghost use Rattle.std.specs.Prelude.{◌≡◌, ◌++◌, ◌≤◌, ◌<◌, ◌^◌, OnOk, All, length, map, reverse};
 ghost use Rattle.std.specs.List.{flat_map, position_or_len};
 ghost use Rattle.dt_front.specs.Picture as spec;
-ghost use Rattle.dt_front.specs.Picture.{bar, bar_width, is_counted, picture, row_line, shown_rows, total_of};
+ghost use Rattle.dt_front.specs.Picture.{bar, bar_width, bars_head, is_counted, picture, picture_head, row_line, shown_rows, total_of};
 ghost use Rattle.dt_front.specs.PictureForms.{form_of_picture_row};
 
 use crate::columns::{push_blanks, push_number, push_repeated, push_right};
 use std::alloc::AllocError;
 
-/// How many columns the longest bar has.
-const BAR_WIDTH: usize = 40;
+/// How many columns the longest bar has at most.
+const BAR_MAX: usize = 40;
+
+/// How many columns the longest bar has at least: those of the word above it.
+const BAR_MIN: usize = 14;
+
+/// How many columns a line has beside its bar, where its count has seven digits.
+const BESIDE_BAR: usize = 26;
 
 /// How many columns the rows' names have.
 const LABEL_WIDTH: usize = 16;
-
-/// The picture's first line.
-const PICTURE_HEAD: &[u8] = b"           value  ------------- Distribution ------------- count\n";
 
 /// A row of a distribution.
 #[derive(Drop)]
@@ -26,36 +29,64 @@ pub struct PictureRow {
     pub count: u64,
 }
 
-/// The columns of a bar for so many of a total.
-fn bar_columns(count: u64, total: u64) -> usize
-    requires { count ≤ total }
-    ensures columns { result ≡ spec.bar_columns count total }
-    ensures within { result ≤ bar_width }
+/// How many columns the longest bar has on a page of this width.
+fn bar_width(page: usize) -> usize
+    ensures { result ≡ bar_width page }
+{
+    page.saturating_sub(BESIDE_BAR).min(BAR_MAX).max(BAR_MIN)
+}
+
+/// The columns of a bar for so many of a total, where the longest bar has so many.
+fn bar_columns(longest: usize, count: u64, total: u64) -> usize
+    requires short { longest ≤ 40 }
+    requires part { count ≤ total }
+    ensures columns { result ≡ spec.bar_columns longest count total }
+    ensures within { result ≤ longest }
 {
     if total == 0 {
         return 0;
     }
-    let doubled = 2 * BAR_WIDTH as u128 * u128::from(count) + u128::from(total);
+    let doubled = 2 * longest as u128 * u128::from(count) + u128::from(total);
     (doubled / (2 * u128::from(total))) as usize
 }
 
-/// Adds a bar of so many columns, with blanks up to the last column.
-fn push_bar(out: &mut Vec<u8>, columns: usize) -> Result<(), AllocError>
-    requires { columns ≤ bar_width }
-    ensures { OnOk result (out.new.items ≡ out.old.items ++ bar columns) }
+/// Adds a bar of so many columns, with blanks up to the last column of the longest.
+fn push_bar(out: &mut Vec<u8>, longest: usize, columns: usize) -> Result<(), AllocError>
+    requires { columns ≤ longest }
+    ensures { OnOk result (out.new.items ≡ out.old.items ++ bar longest columns) }
 {
     push_repeated(out, b'@', columns)?;
-    push_blanks(out, BAR_WIDTH - columns)
+    push_blanks(out, longest - columns)
 }
 
-/// Adds the picture of a distribution.
-pub fn push_picture(out: &mut Vec<u8>, rows: &[PictureRow]) -> Result<(), AllocError>
-    requires { total_of (map form_of_picture_row rows.now) < 2 ^ 64 }
-    ensures { OnOk result (out.new.items ≡ out.old.items ++ picture (map form_of_picture_row rows.now)) }
+/// Adds the head of a picture whose longest bar has so many columns.
+fn push_head(out: &mut Vec<u8>, longest: usize) -> Result<(), AllocError>
+    ensures { OnOk result (out.new.items ≡ out.old.items ++ picture_head longest) }
 {
-    out.extend_from_slice(PICTURE_HEAD)?;
+    out.extend_from_slice(b"           value  ")?;
+    push_bars_head(out, longest)?;
+    out.extend_from_slice(b" count\n")
+}
+
+/// Adds the word above the bars, with dashes around it.
+fn push_bars_head(out: &mut Vec<u8>, longest: usize) -> Result<(), AllocError>
+    ensures { OnOk result (out.new.items ≡ out.old.items ++ bars_head longest) }
+{
+    let dashes = longest.saturating_sub(BAR_MIN);
+    push_repeated(out, b'-', dashes / 2)?;
+    out.extend_from_slice(b" Distribution ")?;
+    push_repeated(out, b'-', dashes - dashes / 2)
+}
+
+/// Adds the picture of a distribution on a page of this width.
+pub fn push_picture(out: &mut Vec<u8>, page: usize, rows: &[PictureRow]) -> Result<(), AllocError>
+    requires { total_of (map form_of_picture_row rows.now) < 2 ^ 64 }
+    ensures { OnOk result (out.new.items ≡ out.old.items ++ picture page (map form_of_picture_row rows.now)) }
+{
+    let longest = bar_width(page);
+    push_head(out, longest)?;
     let total = total_of(rows);
-    push_rows(out, shown_rows(rows), total)
+    push_rows(out, shown_rows(rows), longest, total)
 }
 
 /// The values that all rows count.
@@ -98,25 +129,37 @@ fn trailing_empty(rows: &[PictureRow]) -> usize
     rows.len()
 }
 
-/// Adds a line for each row, whose bars are parts of a total.
-fn push_rows(out: &mut Vec<u8>, rows: &[PictureRow], total: u64) -> Result<(), AllocError>
-    requires { All (λ row. row.count ≤ total) (map form_of_picture_row rows.now) }
-    ensures { OnOk result (out.new.items ≡ out.old.items ++ flat_map (row_line total) (map form_of_picture_row rows.now)) }
+/// Adds a line for each row, whose bars are parts of a total, the longest of so many columns.
+fn push_rows(
+    out: &mut Vec<u8>,
+    rows: &[PictureRow],
+    longest: usize,
+    total: u64,
+) -> Result<(), AllocError>
+    requires short { longest ≤ 40 }
+    requires parts { All (λ row. row.count ≤ total) (map form_of_picture_row rows.now) }
+    ensures { OnOk result (out.new.items ≡ out.old.items ++ flat_map (row_line longest total) (map form_of_picture_row rows.now)) }
 {
     for row in rows {
-        push_row(out, row, total)?;
+        push_row(out, row, longest, total)?;
     }
     Ok(())
 }
 
 /// Adds the line of a row, whose bar is a part of a total.
-fn push_row(out: &mut Vec<u8>, row: &PictureRow, total: u64) -> Result<(), AllocError>
-    requires { row.now.count ≤ total }
-    ensures { OnOk result (out.new.items ≡ out.old.items ++ row_line total (form_of_picture_row row.now)) }
+fn push_row(
+    out: &mut Vec<u8>,
+    row: &PictureRow,
+    longest: usize,
+    total: u64,
+) -> Result<(), AllocError>
+    requires short { longest ≤ 40 }
+    requires part { row.now.count ≤ total }
+    ensures { OnOk result (out.new.items ≡ out.old.items ++ row_line longest total (form_of_picture_row row.now)) }
 {
     push_right(out, LABEL_WIDTH, &row.label)?;
     out.extend_from_slice(b" |")?;
-    push_bar(out, bar_columns(row.count, total))?;
+    push_bar(out, longest, bar_columns(longest, row.count, total))?;
     out.push(b' ')?;
     push_number(out, row.count)?;
     out.push(b'\n')?;

@@ -2,7 +2,7 @@
 ghost use Rattle.std.specs.Prelude.{◌≡◌, ◌++◌, OnOk};
 ghost use Rattle.dt_front.specs.Columns.{at_right};
 ghost use Rattle.dt_front.specs.Escaping.{shown};
-ghost use Rattle.dt_front.specs.Probes.{probe_columns, probe_line, probe_names, probes_head};
+ghost use Rattle.dt_front.specs.Probes.{narrow_line, probe_columns, probe_line, probe_names, table_head, table_line};
 
 use crate::columns::push_right;
 use crate::escaping::push_shown;
@@ -10,17 +10,51 @@ use crate::parts::{after_byte, before_byte};
 use itoa::Buffer;
 use std::alloc::{AllocError, Global};
 
-/// Adds the head of the table of probes.
-pub fn push_probes_head(out: &mut Vec<u8>) -> Result<(), AllocError>
-    ensures { OnOk result (out.new.items ≡ out.old.items ++ probes_head) }
+/// The least width of a page on which each name has a column.
+const TABLE_WIDTH: usize = 80;
+
+/// Adds the head of the table of probes on a page of this width.
+pub fn push_probes_head(out: &mut Vec<u8>, page: usize) -> Result<(), AllocError>
+    ensures { OnOk result (out.new.items ≡ out.old.items ++ table_head page) }
 {
+    if page < TABLE_WIDTH {
+        return out.extend_from_slice(b"   ID PROBE\n");
+    }
     out.extend_from_slice(
         b"   ID   PROVIDER            MODULE                          FUNCTION NAME\n",
     )
 }
 
-/// Adds a probe's line: its identifier, and its four names, which a text gives with `:` between them.
-pub fn push_probe(alloc: Global, out: &mut Vec<u8>, id: u64, name: &[u8]) -> Result<(), AllocError>
+/// Adds a probe's line on a page of this width: its identifier, and its four names, which a text gives with `:` between them.
+pub fn push_probe(
+    alloc: Global,
+    out: &mut Vec<u8>,
+    page: usize,
+    id: u64,
+    name: &[u8],
+) -> Result<(), AllocError>
+    ensures { OnOk result (out.new.items ≡ out.old.items ++ table_line page id name.now) }
+{
+    if page < TABLE_WIDTH {
+        push_narrow(out, id, name)
+    } else {
+        push_in_columns(alloc, out, id, name)
+    }
+}
+
+/// Adds a probe's line with its names as they are given.
+fn push_narrow(out: &mut Vec<u8>, id: u64, name: &[u8]) -> Result<(), AllocError>
+    ensures { OnOk result (out.new.items ≡ out.old.items ++ narrow_line id name.now) }
+{
+    push_right(out, 5, Buffer::new().format(id).as_bytes())?;
+    out.push(b' ')?;
+    push_shown(out, name)?;
+    out.push(b'\n')?;
+    Ok(())
+}
+
+/// Adds a probe's line with a column for each of its names.
+fn push_in_columns(alloc: Global, out: &mut Vec<u8>, id: u64, name: &[u8]) -> Result<(), AllocError>
     ensures { OnOk result (out.new.items ≡ out.old.items ++ probe_line id name.now) }
 {
     push_probe_columns(alloc, out, id, name)?;

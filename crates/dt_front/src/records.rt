@@ -1,46 +1,31 @@
-//! The rows of the records that bytes hold.
-ghost use Rattle.std.specs.Prelude.{◌≡◌, ◌++◌, ◌-◌, ◌≤◌, IfOk, IfSome, MatchOption, None, OnOk, Option, Some, List, map, option_map, slice_get};
-ghost use Rattle.dt_record.specs.Fields.{form_of_layout};
-ghost use Rattle.dt_record.specs.Layout.{FieldForm};
+//! The rows of records.
+ghost use Rattle.std.specs.Prelude.{◌≡◌, ◌++◌, OnOk, map, option_map};
 ghost use Rattle.dt_record.specs.Records.{form_of_record};
-ghost use Rattle.dt_record.specs.Split.{IsSplit, RecordForm};
 ghost use Rattle.dt_front.specs.Records as spec;
 ghost use Rattle.dt_front.specs.Records.{record_row, rows_text};
 ghost use Rattle.dt_front.specs.RowForms.{form_of_row_probe};
 
 use crate::row::{RowProbe, push_full_row, push_values};
-use dt_record::{EPID_SIZE, Layout, Record, split};
+use dt_record::{EPID_SIZE, Layout, Record};
 use std::alloc::{AllocError, Global};
 
-/// The records that bytes are, by the layouts of a consumer's enablings, in order of EPID; `None` where they are no list of whole records of these.
-pub fn records_in(
-    alloc: Global,
-    layouts: &[Layout],
-    bytes: &[u8],
-) -> Result<Option<Vec<Record>>, AllocError>
-    ensures { IfOk result (λ found. MatchOption found
-        ((records : List RecordForm) → IsSplit (map form_of_layout layouts.now) bytes.now records → ⊥)
-        (λ records. IsSplit (map form_of_layout layouts.now) bytes.now (map form_of_record records.items))) }
-{
-    split(alloc, layouts, bytes)
-}
-
-/// Adds a row for each record of a processor, in order. Probes are those of the enablings, in order of EPID; without the column of probes (`quiet`) a row
-/// has the record's values alone.
+/// Adds a row for each record of a processor, in order, on a page of this width. Probes are those of the enablings, in order of EPID; without the column of
+/// probes (`quiet`) a row has the record's values alone.
 pub fn push_rows(
     alloc: Global,
     out: &mut Vec<u8>,
+    page: usize,
     quiet: bool,
     cpu: u64,
     probes: &[RowProbe],
     records: &[Record],
 ) -> Result<(), AllocError>
     ensures { OnOk result (out.new.items
-        ≡ out.old.items ++ rows_text quiet cpu (map form_of_row_probe probes.now) (map form_of_record records.now)) }
+        ≡ out.old.items ++ rows_text page quiet cpu (map form_of_row_probe probes.now) (map form_of_record records.now)) }
 {
     for record in records {
         let probe = probe_of(quiet, probes, record.epid);
-        push_row(alloc, out, cpu, probe, record)?;
+        push_row(alloc, out, page, cpu, probe, record)?;
     }
     Ok(())
 }
@@ -60,15 +45,16 @@ fn probe_of(quiet: bool, probes: &[RowProbe], epid: u32) -> Option<&RowProbe>
 fn push_row(
     alloc: Global,
     out: &mut Vec<u8>,
+    page: usize,
     cpu: u64,
     probe: Option<&RowProbe>,
     record: &Record,
 ) -> Result<(), AllocError>
     ensures { OnOk result (out.new.items
-        ≡ out.old.items ++ record_row cpu (option_map (λ probe. form_of_row_probe probe.now) probe.entry) (form_of_record «record».now)) }
+        ≡ out.old.items ++ record_row page cpu (option_map (λ probe. form_of_row_probe probe.now) probe.entry) (form_of_record «record».now)) }
 {
     match probe {
-        Some(probe) => push_full_row(alloc, out, cpu, probe, record),
+        Some(probe) => push_full_row(alloc, out, page, cpu, probe, record),
         None => push_values(out, record),
     }
 }

@@ -1,8 +1,8 @@
 //! Why a line was refused, as a person wants to read it.
-ghost use Rattle.std.specs.Prelude.{◌≡◌, ◌++◌, ◌≤◌, OnOk, drop, length, option_map, take};
+ghost use Rattle.std.specs.Prelude.{◌≡◌, ◌++◌, ◌≤◌, ◌<◌, OnOk, drop, length, option_map, take};
 ghost use Rattle.serde_json.specs.View.{view};
 ghost use Rattle.dt_front.specs.Refusals as spec;
-ghost use Rattle.dt_front.specs.Refusals.{before_place, caret_text, from_place, tail_length};
+ghost use Rattle.dt_front.specs.Refusals.{before_place, caret_text, from_place, marked_line, rest_line, tail_length};
 ghost use Rattle.dt_front.specs.RefusalForms.{form_of_refusal};
 
 use crate::columns::{push_blanks, push_number};
@@ -10,7 +10,7 @@ use crate::escaping::push_shown;
 use crate::fields::{number_field, text_field};
 use crate::parts::before_byte;
 use serde_json::Value;
-use std::alloc::AllocError;
+use std::alloc::{AllocError, Global};
 
 /// Why a line was refused.
 #[derive(Clone, Copy, Drop)]
@@ -109,19 +109,50 @@ impl<'a> ToldRefusal<'a> {
     }
 }
 
-/// Adds the line of a text that has a place, and below it a caret under the place's byte.
-pub fn push_caret(out: &mut Vec<u8>, text: &[u8], at: usize) -> Result<(), AllocError>
-    requires { at ≤ length text.now }
-    ensures { OnOk result (out.new.items ≡ out.old.items ++ caret_text text.now at) }
+/// Adds the line of a text that has a place, on a page of this width, and a caret under the place's byte: below the row of the page that has it.
+pub fn push_caret(
+    alloc: Global,
+    out: &mut Vec<u8>,
+    page: usize,
+    text: &[u8],
+    at: usize,
+) -> Result<(), AllocError>
+    requires wide { 0 < page }
+    requires inside { at ≤ length text.now }
+    ensures { OnOk result (out.new.items ≡ out.old.items ++ caret_text page text.now at) }
 {
-    out.extend_from_slice(b"    ")?;
-    let begun = out.len();
-    push_shown(out, before(text, at))?;
-    let columns = out.len() - begun;
-    push_shown(out, from(text, at))?;
-    out.extend_from_slice(b"\n    ")?;
-    push_blanks(out, columns)?;
-    out.extend_from_slice(b"^\n")
+    let mut head = Vec::from_slice(alloc, b"    ")?;
+    push_shown(&mut head, before(text, at))?;
+    let mut tail = Vec::new(alloc);
+    push_shown(&mut tail, from(text, at))?;
+    push_marked(out, page, &head, &tail)
+}
+
+/// Adds a line of a page of this width, and a caret under the byte after which its second part begins.
+fn push_marked(out: &mut Vec<u8>, page: usize, head: &[u8], tail: &[u8]) -> Result<(), AllocError>
+    requires { 0 < page }
+    ensures { OnOk result (out.new.items ≡ out.old.items ++ marked_line page head.now tail.now) }
+{
+    let column = head.len() % page;
+    let left = (page - column).min(tail.len());
+    out.extend_from_slice(head)?;
+    out.extend_from_slice(&tail[..left])?;
+    out.push(b'\n')?;
+    push_blanks(out, column)?;
+    out.extend_from_slice(b"^\n")?;
+    push_rest(out, &tail[left..])
+}
+
+/// Adds a line, where it isn't empty.
+fn push_rest(out: &mut Vec<u8>, rest: &[u8]) -> Result<(), AllocError>
+    ensures { OnOk result (out.new.items ≡ out.old.items ++ rest_line rest.now) }
+{
+    if rest.is_empty() {
+        return Ok(());
+    }
+    out.extend_from_slice(rest)?;
+    out.push(b'\n')?;
+    Ok(())
 }
 
 /// What stands on a place's line before it.

@@ -22,24 +22,35 @@ pub struct RowProbe {
     pub name: Vec<u8>,
 }
 
-/// Adds the head of all rows.
-pub fn push_rows_head(out: &mut Vec<u8>) -> Result<(), AllocError>
-    ensures { OnOk result (out.new.items ≡ out.old.items ++ rows_head) }
+/// How many columns the names of probes have on a page of this width.
+fn name_width(page: usize) -> usize
+    ensures { result ≡ spec.name_width page }
 {
-    out.extend_from_slice(b"CPU     ID                    FUNCTION:NAME\n")
+    page.saturating_sub(20).min(32).max(20)
 }
 
-/// Adds a record's row: its processor, its probe and its values.
+/// Adds the head of all rows on a page of this width.
+pub fn push_rows_head(out: &mut Vec<u8>, page: usize) -> Result<(), AllocError>
+    ensures { OnOk result (out.new.items ≡ out.old.items ++ rows_head page) }
+{
+    out.extend_from_slice(b"CPU     ID ")?;
+    push_right(out, name_width(page), b"FUNCTION:NAME")?;
+    out.push(b'\n')?;
+    Ok(())
+}
+
+/// Adds a record's row on a page of this width: its processor, its probe and its values.
 pub fn push_full_row(
     alloc: Global,
     out: &mut Vec<u8>,
+    page: usize,
     cpu: u64,
     probe: &RowProbe,
     record: &Record,
 ) -> Result<(), AllocError>
-    ensures { OnOk result (out.new.items ≡ out.old.items ++ full_row cpu (form_of_row_probe probe.now) (form_of_record «record».now)) }
+    ensures { OnOk result (out.new.items ≡ out.old.items ++ full_row page cpu (form_of_row_probe probe.now) (form_of_record «record».now)) }
 {
-    push_columns(alloc, out, cpu, probe)?;
+    push_columns(alloc, out, page, cpu, probe)?;
     push_values(out, record)
 }
 
@@ -58,10 +69,11 @@ pub fn push_values(out: &mut Vec<u8>, record: &Record) -> Result<(), AllocError>
 fn push_columns(
     alloc: Global,
     out: &mut Vec<u8>,
+    page: usize,
     cpu: u64,
     probe: &RowProbe,
 ) -> Result<(), AllocError>
-    ensures { OnOk result (out.new.items ≡ out.old.items ++ row_columns cpu (form_of_row_probe probe.now)) }
+    ensures { OnOk result (out.new.items ≡ out.old.items ++ row_columns page cpu (form_of_row_probe probe.now)) }
 {
     let mut name = Vec::new(alloc);
     push_shown(&mut name, &probe.name)?;
@@ -69,7 +81,7 @@ fn push_columns(
     out.push(b' ')?;
     push_right(out, 6, Buffer::new().format(probe.id).as_bytes())?;
     out.push(b' ')?;
-    push_right(out, 32, &name)
+    push_right(out, name_width(page), &name)
 }
 
 /// Adds a value of a row.

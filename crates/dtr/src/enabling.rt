@@ -12,6 +12,7 @@ use std::alloc::Global;
 pub(crate) fn set_up<R: Print + Eprint + AllocGlobal>(
     rt: &R,
     session: &mut Session<'_>,
+    width: usize,
     options: &[&str],
     programs: &[String],
 ) -> Result<u64, Trouble> {
@@ -20,7 +21,7 @@ pub(crate) fn set_up<R: Print + Eprint + AllocGlobal>(
     }
     let mut count = 0_u64;
     for program in programs {
-        count = count.saturating_add(enable(rt, session, program)?);
+        count = count.saturating_add(enable(rt, session, width, program)?);
     }
     Ok(count)
 }
@@ -44,12 +45,13 @@ fn set_option<R: Print + Eprint + AllocGlobal>(
 fn enable<R: Print + Eprint + AllocGlobal>(
     rt: &R,
     session: &mut Session<'_>,
+    width: usize,
     program: &str,
 ) -> Result<u64, Trouble> {
     let alloc = rt.alloc();
     let line = requests::with_text(alloc, "enable", "text", program)?;
     let reply = session.ask(alloc, &line)?;
-    accepted(rt, &reply, "the program is refused", Some(program))?;
+    accepted(rt, &reply, "the program is refused", Some((program, width)))?;
     number_field(&reply, "count").ok_or(Trouble::Strange)
 }
 
@@ -67,20 +69,20 @@ pub(crate) fn begin<R: Print + Eprint + AllocGlobal>(
     Ok(())
 }
 
-/// Says why a reply is a refusal, where it is one, with the place in a program's text that is meant.
+/// Says why a reply is a refusal, where it is one, with the place in a program's text that is meant. The text is given with the width of messages.
 pub(crate) fn accepted<R: Print + Eprint + AllocGlobal>(
     rt: &R,
     reply: &Value,
     what: &str,
-    program: Option<&str>,
+    program: Option<(&str, usize)>,
 ) -> Result<(), Trouble> {
     let Some(refusal) = ToldRefusal::in_reply(reply) else {
         return Ok(());
     };
     let mut told = explained(rt.alloc(), &refusal, what)?;
-    if let (Some(text), Some(at)) = (program, refusal.at) {
+    if let (Some((text, width)), Some(at)) = (program, refusal.at) {
         let at = usize::try_from(at).unwrap_or(usize::MAX).min(text.len());
-        push_caret(&mut told, text.as_bytes(), at)?;
+        push_caret(rt.alloc(), &mut told, width.max(1), text.as_bytes(), at)?;
     }
     tell(rt, &told);
     Err(Trouble::Refused)

@@ -7,11 +7,14 @@ use thiserror::Error;
 #[derive(Clone, Copy, Debug, PartialEq, Eq, Error)]
 pub(crate) enum Trouble {
     /// The words are none of the program's forms: status 2.
-    #[error("usage: dtr SOCKET -l [-n DESCRIPTION]\n       dtr SOCKET {{-n PROGRAM | -s FILE}}.. [-x OPTION=VALUE].. [-q] [--json] [-o FILE] [--every SECONDS] [--for SECONDS]\n       dtr --machine FILE")]
+    #[error("usage: dtr SOCKET -l [-n DESCRIPTION] [-q] [-o FILE] [--width COLUMNS]\n       dtr SOCKET {{-n PROGRAM | -s FILE}}.. [-x OPTION=VALUE].. [-q] [--json]\n           [-o FILE] [--every SECONDS] [--for SECONDS] [--width COLUMNS]\n       dtr --machine FILE\n       dtr --trail MACHINE TRAIL")]
     Usage,
     /// What was refused is told already.
     #[error("dtr: nothing was traced")]
     Refused,
+    /// What was refused while it traced is told already.
+    #[error("dtr: tracing ended by this")]
+    Cut,
     /// Nobody serves at the socket's path.
     #[error("dtr: no service answers at this socket; is the path right, does `dtraced serve` run, and may you write to it?")]
     NoService,
@@ -48,6 +51,14 @@ impl<T: Drop> From<AllocFailed<T>> for Trouble {
 }
 
 impl Trouble {
+    /// The same, where it traces already.
+    pub(crate) fn in_tracing(self) -> Trouble {
+        match self {
+            Trouble::Refused => Trouble::Cut,
+            other => other,
+        }
+    }
+
     /// The status that the program ends with.
     pub(crate) fn status(self) -> u8 {
         match self {

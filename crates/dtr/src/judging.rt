@@ -1,45 +1,57 @@
 //! Whether a machine file would be read.
 
 use crate::fault::Trouble;
-use crate::output::tell;
-use dt_machine::{FaultNumber, Machine};
-use std::io::Write;
+use crate::output::{tell, write_answer};
+use dt_machine::{FaultNumber, Machine, MachineFault};
+use std::fs;
 use std::rt::Files;
-use std::{fs, io};
 
 /// Says whether a machine file would be read, and if not, which key is wrong where, with the refusal's number. Gives the status.
 pub(crate) fn judge_machine<R: Files + Print + Eprint + AllocGlobal>(
     rt: &R,
     path: &str,
 ) -> Result<u8, Trouble> {
-    let alloc = rt.alloc();
-    let text = fs::read(rt, path).map_err(|_| Trouble::File)?;
-    let fault = match Machine::read(alloc, &text) {
-        Ok(machine) => {
-            let told = format!(in alloc;
-                "a machine of {} processors and {} accounts\n",
-                machine.cpus(),
-                machine.accounts().len()
-            )?;
-            io::writer(rt)
-                .write_all(told.as_bytes())
-                .map_err(|_| Trouble::Output)?;
-            return Ok(0);
-        }
-        Err(fault) => fault,
+    let Some(machine) = read_machine(rt, path)? else {
+        return Ok(1);
     };
+    let told = format!(in rt.alloc();
+        "a machine of {} processors and {} accounts\n",
+        machine.cpus(),
+        machine.accounts().len()
+    )?;
+    write_answer(rt, told.as_bytes())?;
+    Ok(0)
+}
+
+/// The machine of a file. Where it is refused, that is told, and there is none.
+pub(crate) fn read_machine<R: Files + Eprint + AllocGlobal>(
+    rt: &R,
+    path: &str,
+) -> Result<Option<Machine>, Trouble> {
+    let text = fs::read(rt, path).map_err(|_| Trouble::File)?;
+    match Machine::read(rt.alloc(), &text) {
+        Ok(machine) => Ok(Some(machine)),
+        Err(fault) => {
+            tell_fault(rt, fault)?;
+            Ok(None)
+        }
+    }
+}
+
+/// Tells why a machine file is refused.
+fn tell_fault<R: Eprint + AllocGlobal>(rt: &R, fault: MachineFault) -> Result<(), Trouble> {
+    let alloc = rt.alloc();
     let why = rule_of(fault.number);
     let told = match fault.found {
         Some(found) => format!(in alloc;
-            "dtr: refused {}: {found} is wrong: {why}\n",
+            "dtr: machine refused {}: {found} is wrong: {why}\n",
             fault.number
         )?,
-        None => format!(in alloc; "dtr: refused {}: {why}\n", fault.number)?,
+        None => format!(in alloc; "dtr: machine refused {}: {why}\n", fault.number)?,
     };
     tell(rt, told.as_bytes());
-    Ok(1)
+    Ok(())
 }
-
 /// What the part of a machine file has to be that is refused by this number.
 fn rule_of(number: FaultNumber) -> &'static str {
     match number {

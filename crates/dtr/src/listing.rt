@@ -5,6 +5,7 @@ use crate::fault::Trouble;
 use crate::output::write_out;
 use crate::requests;
 use crate::session::Session;
+use crate::snapping::RowShape;
 use dt_front::{number_field, push_probe, push_probes_head, text_field};
 use std::io::Write;
 
@@ -13,25 +14,30 @@ pub(crate) fn list_probes<R: Print + Eprint + AllocGlobal, F: Write>(
     rt: &R,
     session: &mut Session<'_>,
     description: &str,
-    quiet: bool,
+    shape: RowShape,
     file: &mut Option<F>,
 ) -> Result<(), Trouble> {
     let alloc = rt.alloc();
     let line = requests::with_text(alloc, "list", "probe", description)?;
     let reply = session.ask(alloc, &line)?;
-    accepted(rt, &reply, "the description is refused", Some(description))?;
+    accepted(
+        rt,
+        &reply,
+        "the description is refused",
+        Some((description, shape.widths.messages)),
+    )?;
     let Some(probes) = reply.get("probes").and_then(|probes| probes.as_array()) else {
         return Err(Trouble::Strange);
     };
     let mut out = Vec::new(alloc);
-    if !quiet {
-        push_probes_head(&mut out)?;
+    if !shape.quiet {
+        push_probes_head(&mut out, shape.widths.page)?;
     }
     for probe in probes {
         let (Some(id), Some(name)) = (number_field(probe, "id"), text_field(probe, "name")) else {
             return Err(Trouble::Strange);
         };
-        push_probe(alloc, &mut out, id, name.as_bytes())?;
+        push_probe(alloc, &mut out, shape.widths.page, id, name.as_bytes())?;
     }
     write_out(rt, file, &mut out)
 }

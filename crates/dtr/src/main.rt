@@ -3,6 +3,7 @@
 //! What stands here are words, the socket, time and files. What is printed for the values that a service answers is what `dt_front` is proved to print.
 #![tactic(auto)]
 
+mod checking;
 mod enabling;
 mod fault;
 mod following;
@@ -11,12 +12,15 @@ mod json_lines;
 mod judging;
 mod listing;
 mod output;
+mod page;
 mod requests;
 mod session;
 mod snapping;
 mod summing;
+mod trail_lines;
 mod words;
 
+use checking::judge_trail;
 use enabling::{begin, set_up};
 use fault::Trouble;
 use following::{Plan, follow};
@@ -24,9 +28,10 @@ use input::watch_input;
 use judging::judge_machine;
 use listing::list_probes;
 use output::write_out;
+use page::{Terminals, Widths, widths_of};
 use session::Session;
 use snapping::{Learnt, RowShape};
-use std::io::{Stdin, Write};
+use std::io::{IsTerminal, Stdin, Write};
 use std::net::Net;
 use std::os::unix::net::UnixStream;
 use std::process::ExitCode;
@@ -37,7 +42,11 @@ use summing::{aggregations_of, push_table};
 use words::Invocation;
 
 fn main(rt: HostRuntime) -> ExitCode {
-    match execute(&rt, rt.stdin()) {
+    let terminals = Terminals {
+        rows: rt.stdout().is_terminal(),
+        messages: rt.stderr().is_terminal(),
+    };
+    match execute(&rt, rt.stdin(), terminals) {
         Ok(status) => ExitCode::from(status),
         Err(fault) => {
             // Where standard error fails too, the status is all that tells.
@@ -51,6 +60,7 @@ fn main(rt: HostRuntime) -> ExitCode {
 fn execute<R: Files + Net + Env + Print + Eprint + AllocGlobal + Clock + Threads>(
     rt: &R,
     input: Stdin,
+    terminals: Terminals,
 ) -> Result<u8, Trouble> {
     let args = env::args(rt).map_err(|_| Trouble::Usage)?;
     let args = args.collect::<Vec<String>>(rt.alloc())?;
@@ -62,10 +72,31 @@ fn execute<R: Files + Net + Env + Print + Eprint + AllocGlobal + Clock + Threads
     if let Some(machine) = words.machine {
         return judge_machine(rt, machine);
     }
-    let Some(path) = words.socket else {
+    let rows = terminals.rows && words.output.is_none();
+    let widths = widths_of(rt, words.width, Terminals { rows, ..terminals });
+    let Some(path) = words.path else {
         return Err(Trouble::Usage);
     };
-    let programs = programs_of(rt, &words)?;
+    if let Some(machine) = words.trail {
+        return judge_trail(rt, widths.messages, machine, path);
+    }
+    serve_words(rt, input, widths, &words, path)
+}
+
+/// Traces on the service at this path, or lists its probes, and gives the status.
+fn serve_words<R: Files + Net + Env + Print + Eprint + AllocGlobal + Clock + Threads>(
+    rt: &R,
+    input: Stdin,
+    widths: Widths,
+    words: &Invocation<'_>,
+    path: &str,
+) -> Result<u8, Trouble> {
+    let shape = RowShape {
+        widths,
+        quiet: words.quiet,
+        json: words.json,
+    };
+    let programs = programs_of(rt, words)?;
     if !words.list && programs.is_empty() {
         return Err(Trouble::Usage);
     }
@@ -77,10 +108,10 @@ fn execute<R: Files + Net + Env + Print + Eprint + AllocGlobal + Clock + Threads
     let mut session = Session::new(rt.alloc(), &stream)?;
     if words.list {
         let description = words.programs.first().copied().unwrap_or("");
-        list_probes(rt, &mut session, description, words.quiet, &mut file)?;
+        list_probes(rt, &mut session, description, shape, &mut file)?;
         return Ok(0);
     }
-    trace(rt, input, &mut session, &words, &programs, &mut file)
+    trace(rt, input, &mut session, words, shape, &programs, &mut file)
 }
 
 /// The texts of the programs: those of `-n`, and those of the files of `-s`.
@@ -105,16 +136,13 @@ fn trace<R: Print + Eprint + AllocGlobal + Clock + Threads, F: Write>(
     input: Stdin,
     session: &mut Session<'_>,
     words: &Invocation<'_>,
+    shape: RowShape,
     programs: &[String],
     file: &mut Option<F>,
 ) -> Result<u8, Trouble> {
     let alloc = rt.alloc();
-    let shape = RowShape {
-        quiet: words.quiet,
-        json: words.json,
-    };
     let aggregations = aggregations_of(alloc, programs)?;
-    let count = set_up(rt, session, &words.options, programs)?;
+    let count = set_up(rt, session, shape.widths.messages, &words.options, programs)?;
     let policy = policy_in(&words.options);
     let mut known = Learnt::new(alloc, count, policy == "switch")?;
     begin(rt, session, count)?;
@@ -127,10 +155,10 @@ fn trace<R: Print + Eprint + AllocGlobal + Clock + Threads, F: Write>(
         ended: &ended,
         shape,
     };
-    let exit = follow(rt, session, &mut known, &plan, file)?;
+    let exit = follow(rt, session, &mut known, &plan, file).map_err(Trouble::in_tracing)?;
     let mut out = Vec::new(alloc);
     for aggregation in &aggregations {
-        push_table(rt, session, aggregation, shape, &mut out)?;
+        push_table(rt, session, aggregation, shape, &mut out).map_err(Trouble::in_tracing)?;
         write_out(rt, file, &mut out)?;
     }
     let _closed = session.ask(alloc, "{\"cmd\":\"close\"}")?;

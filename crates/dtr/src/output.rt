@@ -27,3 +27,11 @@ pub(crate) fn tell<R: Eprint>(rt: &R, bytes: &[u8]) {
         let _told = eprint!(rt; "{text}");
     }
 }
+
+/// Writes to standard output what a file was judged.
+pub(crate) fn write_answer<R: Print>(rt: &R, bytes: &[u8]) -> Result<(), Trouble> {
+    let mut out = io::writer(rt);
+    out.write_all(bytes)
+        .and_then(|()| out.flush())
+        .map_err(|_| Trouble::Output)
+}

@@ -4,19 +4,22 @@ use crate::enabling::accepted;
 use crate::fault::Trouble;
 use crate::json_lines::push_record_line;
 use crate::output::tell;
+use crate::page::Widths;
 use crate::requests;
 use crate::session::Session;
 use dt_front::{
-    RowProbe, after_byte, layout_in, number_field, push_rows, push_rows_head, records_in,
-    text_field, unknown_epid,
+    RowProbe, after_byte, layout_in, number_field, push_rows, push_rows_head, text_field,
+    unknown_epid,
 };
-use dt_record::Layout;
+use dt_record::{Layout, split};
 use serde_json::Value;
 use std::alloc::Global;
 
 /// How rows are written.
 #[derive(Clone, Copy, Drop)]
 pub(crate) struct RowShape {
+    /// How wide rows, tables and messages are.
+    pub(crate) widths: Widths,
     /// Values alone, without processors and probes.
     pub(crate) quiet: bool,
     /// Lines of JSON.
@@ -102,15 +105,23 @@ fn push_records(
     bytes: &[u8],
     out: &mut Vec<u8>,
 ) -> Result<(), Trouble> {
-    let Some(records) = records_in(alloc, &known.layouts, bytes)? else {
+    let Some(records) = split(alloc, &known.layouts, bytes)? else {
         return Err(Trouble::Strange);
     };
     if !shape.json {
         if !shape.quiet && !known.headed && !records.is_empty() {
-            push_rows_head(out)?;
+            push_rows_head(out, shape.widths.page)?;
             known.headed = true;
         }
-        push_rows(alloc, out, shape.quiet, cpu, &known.probes, &records)?;
+        push_rows(
+            alloc,
+            out,
+            shape.widths.page,
+            shape.quiet,
+            cpu,
+            &known.probes,
+            &records,
+        )?;
         return Ok(());
     }
     for record in &records {

@@ -100,7 +100,7 @@ pub(crate) fn push_table<R: Print + Eprint + AllocGlobal>(
         push_title(out, aggregation.name.as_bytes(), function.as_bytes())?;
     }
     for row in rows {
-        push_row(alloc, aggregation, row, out)?;
+        push_row(alloc, shape.widths.page, aggregation, row, out)?;
     }
     Ok(())
 }
@@ -108,6 +108,7 @@ pub(crate) fn push_table<R: Print + Eprint + AllocGlobal>(
 /// Adds a row: its key, and its number or its distribution.
 fn push_row(
     alloc: Global,
+    page: usize,
     aggregation: &ListedAggregation,
     row: &Value,
     out: &mut Vec<u8>,
@@ -135,12 +136,13 @@ fn push_row(
         push_key(alloc, out, &key)?;
         out.push(b'\n')?;
     }
-    push_distribution(alloc, aggregation.bounds, &counts, out)
+    push_distribution(alloc, page, aggregation.bounds, &counts, out)
 }
 
 /// Adds the picture of a distribution. Counts of rows that the function doesn't have are none that dtr understands.
 fn push_distribution(
     alloc: Global,
+    page: usize,
     bounds: Option<Bounds>,
     counts: &[RowCount],
     out: &mut Vec<u8>,
@@ -155,6 +157,6 @@ fn push_distribution(
     if shown != answered {
         return Err(Trouble::Strange);
     }
-    push_picture(out, &rows)?;
+    push_picture(out, page, &rows)?;
     Ok(())
 }

@@ -1,6 +1,7 @@
 //! The words that the program is called with.
 
 use crate::fault::Trouble;
+use crate::page::PAGE_MIN;
 use clap::{Arg, ArgAction, ArgMatches, Command};
 use std::alloc::{AllocError, Global};
 use std::time::Duration;
@@ -8,8 +9,8 @@ use std::time::Duration;
 /// What the program is asked for.
 #[derive(Drop)]
 pub(crate) struct Invocation<'a> {
-    /// The path of the service's socket.
-    pub(crate) socket: Option<&'a str>,
+    /// The path of the service's socket, or with `--trail` of the trail.
+    pub(crate) path: Option<&'a str>,
     /// Whether probes are to be listed.
     pub(crate) list: bool,
     /// Programs, or with `-l` a description.
@@ -28,8 +29,12 @@ pub(crate) struct Invocation<'a> {
     pub(crate) every: Duration,
     /// For how long it traces.
     pub(crate) length: Option<Duration>,
+    /// How wide the page is.
+    pub(crate) width: Option<usize>,
     /// The machine file that is to be judged.
     pub(crate) machine: Option<&'a str>,
+    /// The machine file of a trail that is to be judged.
+    pub(crate) trail: Option<&'a str>,
 }
 
 impl<'a> Invocation<'a> {
@@ -47,7 +52,7 @@ impl<'a> Invocation<'a> {
     /// What clap found in the words.
     fn of(alloc: Global, given: &ArgMatches<'a>) -> Result<Self, Trouble> {
         Ok(Invocation {
-            socket: given.get_str("socket"),
+            path: given.get_str("path"),
             list: given.get_flag("list"),
             programs: all_of(alloc, given, "program")?,
             files: all_of(alloc, given, "script")?,
@@ -57,7 +62,9 @@ impl<'a> Invocation<'a> {
             output: given.get_str("output"),
             every: seconds_in(given.get_str("every"))?.unwrap_or(Duration::from_secs(1)),
             length: seconds_in(given.get_str("for"))?,
+            width: width_in(given.get_str("width"))?,
             machine: given.get_str("machine"),
+            trail: given.get_str("trail"),
         })
     }
 }
@@ -90,10 +97,21 @@ fn seconds_in(word: Option<&str>) -> Result<Option<Duration>, Trouble> {
     }
 }
 
+/// The width of a word: a number of columns, 40 or more.
+fn width_in(word: Option<&str>) -> Result<Option<usize>, Trouble> {
+    let Some(word) = word else {
+        return Ok(None);
+    };
+    match word.parse::<usize>() {
+        Ok(width) if width >= PAGE_MIN => Ok(Some(width)),
+        _ => Err(Trouble::Usage),
+    }
+}
+
 /// The forms of the program's words.
 fn program<'a>(alloc: Global) -> Result<Command<'a>, AllocError> {
     Command::new(alloc, "dtr")
-        .arg(Arg::new(alloc, "socket").action(ArgAction::Set))?
+        .arg(Arg::new(alloc, "path").action(ArgAction::Set))?
         .arg(flag(alloc, "list").short('l'))?
         .arg(value(alloc, "program", ArgAction::Append).short('n'))?
         .arg(value(alloc, "script", ArgAction::Append).short('s'))?
@@ -103,7 +121,9 @@ fn program<'a>(alloc: Global) -> Result<Command<'a>, AllocError> {
         .arg(flag(alloc, "json").long("json"))?
         .arg(value(alloc, "every", ArgAction::Set).long("every"))?
         .arg(value(alloc, "for", ArgAction::Set).long("for"))?
-        .arg(value(alloc, "machine", ArgAction::Set).long("machine"))
+        .arg(value(alloc, "width", ArgAction::Set).long("width"))?
+        .arg(value(alloc, "machine", ArgAction::Set).long("machine"))?
+        .arg(value(alloc, "trail", ArgAction::Set).long("trail"))
 }
 
 /// An argument that is there or not.

@@ -10,7 +10,7 @@ push_row-requires c =
     let k = c.loop-row.row-index in
     let row = c.row-item.result in
     let within : k < length (map form_of_picture_row rows) = omega (arith, length-map rows form_of_picture_row, c.loop-row-test.true) in
-    let bound = c.requires k (form_of_picture_row row) within in
+    let bound = c.requires.parts k (form_of_picture_row row) within in
     let same = ap (λ r. r.count) (get_or-map form_of_picture_row rows k row (form_of_picture_row row) c.loop-row-test.true)
     ∙ ap (λ r. r.count) (sym c.row-item.is) in
     omega (arith, bound, same)

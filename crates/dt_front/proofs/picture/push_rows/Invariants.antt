@@ -7,4 +7,4 @@ use Rattle.dt_front.proofs.picture.push_rows.Given as goal
 
 abbrev pub invariant-loop-row : goal.invariant-loop-row
 invariant-loop-row l = l.out.items ≡ l.fn.out.items
-    ++ flat_map (row_line l.total) (map form_of_picture_row (take l.row-index l.rows))
+    ++ flat_map (row_line l.longest l.total) (map form_of_picture_row (take l.row-index l.rows))

@@ -7,4 +7,4 @@ use Rattle.dt_front.proofs.records.push_rows.Given as goal
 
 abbrev pub invariant-loop-record : goal.invariant-loop-record
 invariant-loop-record l = l.out.items
-    ≡ l.fn.out.items ++ rows_text l.quiet l.cpu (map form_of_row_probe l.probes) (map form_of_record (take l.record-index l.records))
+    ≡ l.fn.out.items ++ rows_text l.page l.quiet l.cpu (map form_of_row_probe l.probes) (map form_of_record (take l.record-index l.records))

@@ -1,0 +1,210 @@
+//! Whether a trail agrees with what its session was to be answered.
+
+use crate::fault::Trouble;
+use crate::judging::read_machine;
+use crate::output::{tell, write_answer};
+use crate::trail_lines::{firing_in, flaw_in, lines_of, place_in, place_of_item, place_of_reply};
+use dt_alone::{CheckFault, Item, Verdict, alone, check};
+use dt_front::{push_caret, push_number, push_shown};
+use dt_machine::Machine;
+use dt_proto::Asked;
+use std::alloc::Global;
+use std::fs;
+use std::rt::Files;
+
+/// Says whether a trail agrees with what its session was to be answered on a machine, and if not, which line is wrong, and what was due. Gives the status.
+pub(crate) fn judge_trail<R: Files + Print + Eprint + AllocGlobal>(
+    rt: &R,
+    width: usize,
+    machine: &str,
+    trail: &str,
+) -> Result<u8, Trouble> {
+    let alloc = rt.alloc();
+    let Some(machine) = read_machine(rt, machine)? else {
+        return Ok(1);
+    };
+    let text = fs::read(rt, trail).map_err(|_| Trouble::File)?;
+    let lines = lines_of(alloc, &text)?;
+    let told = match check(alloc, &machine, &text) {
+        Ok(Verdict::Agree(replies)) => {
+            let told = format!(in alloc;
+                "the trail agrees: all {replies} replies are those that were due\n"
+            )?;
+            write_answer(rt, told.as_bytes())?;
+            return Ok(0);
+        }
+        Ok(Verdict::Differs(reply)) => difference(alloc, width, &machine, &lines, reply)?,
+        Ok(Verdict::Illegal(item)) => out_of_place(alloc, &machine, &lines, item)?,
+        Err(CheckFault::Text) => no_trail(alloc, &machine, &lines, text.last() == Some(&b'\n'))?,
+        Err(CheckFault::Memory) => return Err(Trouble::Memory),
+    };
+    tell(rt, &told);
+    Ok(1)
+}
+
+/// What is told of the first reply that isn't the one that was due.
+fn difference(
+    alloc: Global,
+    width: usize,
+    machine: &Machine,
+    lines: &[&[u8]],
+    number: usize,
+) -> Result<Vec<u8>, Trouble> {
+    let mut told = Vec::new(alloc);
+    let Some(place) = place_of_reply(lines, number) else {
+        told.extend_from_slice(b"dtr: the trail differs\n")?;
+        return Ok(told);
+    };
+    told.extend_from_slice(b"dtr: the trail differs: line ")?;
+    push_place(&mut told, place)?;
+    told.extend_from_slice(b" isn't the reply that was due\ndtr: asked was\n")?;
+    push_line(&mut told, line_at(lines, place.saturating_sub(1)))?;
+    told.extend_from_slice(b"dtr: the trail has\n")?;
+    push_line(&mut told, line_at(lines, place))?;
+    told.extend_from_slice(b"dtr: due was, with the first byte that differs marked\n")?;
+    let due = due_reply(alloc, machine, lines, place)?;
+    let at = first_difference(line_at(lines, place), &due).min(due.len());
+    push_caret(alloc, &mut told, width.max(1), &due, at)?;
+    Ok(told)
+}
+
+/// The line of the reply that was due at a place.
+fn due_reply(
+    alloc: Global,
+    machine: &Machine,
+    lines: &[&[u8]],
+    place: usize,
+) -> Result<Vec<u8>, Trouble> {
+    let mut due = Vec::from_slice(alloc, b"reply ")?;
+    let head = line_at(lines, 0);
+    let name = head.strip_prefix(b"account ").unwrap_or(head);
+    if let Some(account) = machine.account(name) {
+        let items = items_before(alloc, machine, lines, place)?;
+        let replies = alone(alloc, account, machine, &items)?;
+        if let Some(reply) = replies.last() {
+            due.extend_from_slice(reply.strip_suffix(b"\n").unwrap_or(reply))?;
+        }
+    }
+    Ok(due)
+}
+
+/// What reached the session by the lines before a place.
+fn items_before(
+    alloc: Global,
+    machine: &Machine,
+    lines: &[&[u8]],
+    place: usize,
+) -> Result<Vec<Item>, Trouble> {
+    let mut items = Vec::new(alloc);
+    for line in lines.iter().take(place) {
+        if let Some(asked) = line.strip_prefix(b"line ") {
+            items.push(Item::Line(Asked::Line(Vec::from_slice(alloc, asked)?)))?;
+        } else if *line == b"long".as_slice() {
+            items.push(Item::Line(Asked::Long))?;
+        } else if let Some(firing) = firing_in(machine, line) {
+            items.push(Item::Firing(*firing))?;
+        }
+    }
+    Ok(items)
+}
+
+/// What is told of the first line that may not stand where it does.
+fn out_of_place(
+    alloc: Global,
+    machine: &Machine,
+    lines: &[&[u8]],
+    number: usize,
+) -> Result<Vec<u8>, Trouble> {
+    let mut told = Vec::new(alloc);
+    let Some(place) = place_of_item(lines, number) else {
+        told.extend_from_slice(b"dtr: a line may not stand where it does\n")?;
+        return Ok(told);
+    };
+    told.extend_from_slice(b"dtr: line ")?;
+    push_place(&mut told, place)?;
+    told.extend_from_slice(b" may not stand there: ")?;
+    told.extend_from_slice(why_not(machine, lines, place).as_bytes())?;
+    told.push(b'\n')?;
+    push_line(&mut told, line_at(lines, place))?;
+    Ok(told)
+}
+
+/// Why a line may not stand at its place.
+fn why_not(machine: &Machine, lines: &[&[u8]], place: usize) -> &'static str {
+    let line = line_at(lines, place);
+    let Some((cpu, number)) = place_in(line) else {
+        return "the session has asked its 1,024 lines before it";
+    };
+    if machine.firing(cpu, number).is_none() {
+        return "the machine's scripts have no such firing";
+    }
+    if has_come(lines, place, cpu, number) {
+        return "this firing, or a later one of its processor, came before it";
+    }
+    "the session doesn't trace there, or has enabled nothing that sees this firing"
+}
+
+/// Whether a firing of a processor, or a later one, stands before a place.
+fn has_come(lines: &[&[u8]], place: usize, cpu: u32, number: u32) -> bool {
+    for line in lines.iter().take(place) {
+        if let Some((earlier_cpu, earlier)) = place_in(line) {
+            if earlier_cpu == cpu && earlier >= number {
+                return true;
+            }
+        }
+    }
+    false
+}
+
+/// What is told of a text that is no trail.
+fn no_trail(
+    alloc: Global,
+    machine: &Machine,
+    lines: &[&[u8]],
+    ended: bool,
+) -> Result<Vec<u8>, Trouble> {
+    let mut told = Vec::from_slice(alloc, b"dtr: trail refused: ")?;
+    let Some(flaw) = flaw_in(machine, lines, ended) else {
+        told.extend_from_slice(b"the text is no trail of a session on this machine\n")?;
+        return Ok(told);
+    };
+    told.extend_from_slice(b"line ")?;
+    push_place(&mut told, flaw.place)?;
+    told.extend_from_slice(b" is wrong: ")?;
+    told.extend_from_slice(flaw.why.as_bytes())?;
+    told.push(b'\n')?;
+    push_line(&mut told, line_at(lines, flaw.place))?;
+    Ok(told)
+}
+
+/// The line at a place; none has no bytes.
+fn line_at<'a>(lines: &[&'a [u8]], place: usize) -> &'a [u8] {
+    match lines.get(place) {
+        Some(line) => line,
+        None => &[],
+    }
+}
+
+/// Adds the number of the line at a place, counted from 1.
+fn push_place(told: &mut Vec<u8>, place: usize) -> Result<(), Trouble> {
+    push_number(told, (place as u64).saturating_add(1))?;
+    Ok(())
+}
+
+/// Adds a line as a terminal is shown it.
+fn push_line(told: &mut Vec<u8>, line: &[u8]) -> Result<(), Trouble> {
+    told.extend_from_slice(b"    ")?;
+    push_shown(told, line)?;
+    told.push(b'\n')?;
+    Ok(())
+}
+
+/// The first place at which what was due isn't what is given.
+fn first_difference(given: &[u8], due: &[u8]) -> usize {
+    for place in 0..due.len() {
+        if given.get(place) != due.get(place) {
+            return place;
+        }
+    }
+    due.len()
+}
