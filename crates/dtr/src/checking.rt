@@ -28,7 +28,7 @@ pub(crate) fn judge_trail<R: Files + Print + Eprint + AllocGlobal>(
     let told = match check(alloc, &machine, &text) {
         Ok(Verdict::Agree(replies)) => {
             let told = format!(in alloc;
-                "the trail agrees: all {replies} replies are those that were due\n"
+                "the trail agrees: of its {replies} replies each is the one that was due\n"
             )?;
             write_answer(rt, told.as_bytes())?;
             return Ok(0);

@@ -71,13 +71,13 @@ pub(crate) fn firing_in<'m>(machine: &'m Machine, line: &[u8]) -> Option<&'m Fir
 
 /// The place of the reply of this number, counted from 1.
 pub(crate) fn place_of_reply(lines: &[&[u8]], number: usize) -> Option<usize> {
-    let mut count = 0_usize;
+    let mut left = number;
     for place in 1..lines.len() {
         if kind_of(lines[place]) == LineKind::Reply {
-            count += 1;
-        }
-        if count == number {
-            return Some(place);
+            left = left.saturating_sub(1);
+            if left == 0 {
+                return Some(place);
+            }
         }
     }
     None
@@ -85,13 +85,13 @@ pub(crate) fn place_of_reply(lines: &[&[u8]], number: usize) -> Option<usize> {
 
 /// The place of the line with which the item of this number, counted from 1, begins.
 pub(crate) fn place_of_item(lines: &[&[u8]], number: usize) -> Option<usize> {
-    let mut count = 0_usize;
+    let mut left = number;
     for place in 1..lines.len() {
         if kind_of(lines[place]) != LineKind::Reply {
-            count += 1;
-        }
-        if count == number {
-            return Some(place);
+            left = left.saturating_sub(1);
+            if left == 0 {
+                return Some(place);
+            }
         }
     }
     None
