@@ -26,7 +26,7 @@ use Rattle.dt_server.specs.Served.{IsServed, closes, taken_lines, lines_in, memo
 use Rattle.dt_trail.specs.Items.{TrailItem, line, long_line, fired, own, whose}
 
 -- how many lines were taken
-trues : List Bool → ℕ
+pub trues : List Bool → ℕ
 trues [] = 0
 trues (true ∷ more) = suc (trues more)
 trues (false ∷ more) = trues more
