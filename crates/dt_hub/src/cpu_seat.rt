@@ -9,7 +9,7 @@ ghost use Rattle.dt_hub.specs.Processors.{knew_at_seats, places_in};
 ghost use Rattle.dt_seat.specs.Keeps.{followed_at};
 
 use crate::offered::Offered;
-use dt_chain::{ChainReader, SEATS, Seat, SeatMask};
+use dt_chain::{ChainReader, Front, SEATS, Seat, SeatMask};
 use dt_facts::{Both, Facts};
 use dt_seat::{Follower, Held, HubSite};
 use std::alloc::{AllocError, Global};
@@ -93,6 +93,14 @@ impl<J: HubSite> CpuSeat<J> {
         ensures { result ≡ self.now.cpu }
     {
         self.cpu
+    }
+
+    /// The writes of the chains that the processor has seen, as a token: its last look found just what these name. Fronts of one hub are beginnings of
+    /// one list, so of two of them, of whichever processors, one begins the other (`Front::begins`).
+    pub fn writes(&self) -> Front<J>
+        ensures { result ≡ self.now.seen }
+    {
+        self.reader.seen()
     }
 
     /// The seats that the last firing named, each with the life that was named.

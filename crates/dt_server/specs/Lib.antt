@@ -3,6 +3,6 @@
 -- What is promised.
 
 pub mod Served
--- What is private to the proof: how a service goes on, line by line.
+-- Private to the proofs: how a service goes on, line by line. No promise of a call names it.
 
 pub mod Talk

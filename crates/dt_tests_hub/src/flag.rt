@@ -24,10 +24,14 @@ impl Flag {
         self.raised.store(true, Ordering::SeqCst);
     }
 
+    pub(crate) fn is_raised(&self) -> bool {
+        self.raised.load(Ordering::SeqCst)
+    }
+
     /// Waits until it is raised. The test fails if nobody raises it.
     pub(crate) fn wait<R: Clock + Abort>(&self, rt: &R) {
         for _ in 0..SLEEPS {
-            if self.raised.load(Ordering::SeqCst) {
+            if self.is_raised() {
                 return;
             }
             thread::sleep(rt, Duration::from_millis(1));

@@ -8,8 +8,11 @@ use std::alloc::Global;
 use std::process::Abort;
 use std::sync::Wait;
 use std::test::Fail;
-use std::thread::{Threads, join};
-use std::time::Clock;
+use std::thread::{self, Threads, join};
+use std::time::{Clock, Duration};
+
+/// How many milliseconds the processor stays once it may go on, so that who doesn't wait for it is seen to be early.
+const PAUSE: u64 = 200;
 
 /// Processor 0 is held at one moment of a firing, until it is let go.
 #[derive(Drop)]
@@ -22,6 +25,8 @@ struct Hold<'a, R: Clock + Abort> {
     held: Flag,
     /// The processor may go on.
     let_go: Flag,
+    /// It goes on.
+    goes_on: Flag,
     /// It has fired.
     fired: Flag,
 }
@@ -34,6 +39,7 @@ impl<'a, R: Clock + Abort> Hold<'a, R> {
             traces: Flag::new(),
             held: Flag::new(),
             let_go: Flag::new(),
+            goes_on: Flag::new(),
             fired: Flag::new(),
         }
     }
@@ -44,6 +50,8 @@ impl<R: Clock + Abort> Gate for Hold<'_, R> {
         if cpu == 0 && moment == self.moment {
             self.held.raise();
             self.let_go.wait(self.rt);
+            thread::sleep(self.rt, Duration::from_millis(PAUSE));
+            self.goes_on.raise();
         }
     }
 }
@@ -59,13 +67,15 @@ pub(crate) enum Meanwhile {
     Changes,
     /// Another processor looks and is told, and the session sees its trail.
     LooksOn,
+    /// The session asks a line.
+    Asks,
 }
 
 impl Meanwhile {
     /// Where the processor is held.
     fn moment(self) -> Moment {
         match self {
-            Meanwhile::LooksOn => Moment::Locked,
+            Meanwhile::LooksOn | Meanwhile::Asks => Moment::Locked,
             _ => Moment::Before,
         }
     }
@@ -75,7 +85,7 @@ impl Meanwhile {
         match self {
             Meanwhile::Stops => Offered::Unseen { known: 3 },
             Meanwhile::Closes | Meanwhile::Changes => Offered::Gone,
-            Meanwhile::LooksOn => Offered::Kept,
+            Meanwhile::LooksOn | Meanwhile::Asks => Offered::Kept,
         }
     }
 }
@@ -167,6 +177,15 @@ fn looks_on<J: HubSite, R: Wait + Abort + Clock>(
     hub.close(rt, session);
 }
 
+/// A line is answered once the processor has let the lock go.
+fn asks<J: HubSite, R: Wait + Abort + Clock>(rt: &R, alloc: Global, hub: &Hub<J>, hold: &Hold<R>) {
+    let mut session = traces(rt, alloc, hub, hold);
+    hold.let_go.raise();
+    says(rt, alloc, hub, &mut session, STOP, DONE);
+    assert!(rt; hold.goes_on.is_raised(), "answered beside the lock");
+    hub.close(rt, session);
+}
+
 /// Processor 0 on a thread of its own, beside that of the session.
 fn beside<J: HubSite + Send + Sync, R: Threads + Wait + Abort + Clock + Sync>(
     rt: &R,
@@ -185,6 +204,7 @@ fn beside<J: HubSite + Send + Sync, R: Threads + Wait + Abort + Clock + Sync>(
             Meanwhile::Closes => closes(rt, alloc, hub, hold),
             Meanwhile::Changes => changes(rt, alloc, hub, hold),
             Meanwhile::LooksOn => looks_on(rt, alloc, hub, hold, other),
+            Meanwhile::Asks => asks(rt, alloc, hub, hold),
         },
     );
     came
@@ -225,4 +245,10 @@ fn a_life_that_is_over_is_gone(rt: HostRuntime) -> Result<(), Fail> {
 #[test]
 fn nobody_waits_for_the_lock_of_a_firing(rt: HostRuntime) -> Result<(), Fail> {
     run(&rt, rt.alloc(), MACHINE, Scene::Held(Meanwhile::LooksOn))
+}
+
+/// A line of the session whose lock a firing has is answered after it.
+#[test]
+fn a_line_waits_for_the_lock_of_a_firing(rt: HostRuntime) -> Result<(), Fail> {
+    run(&rt, rt.alloc(), MACHINE, Scene::Held(Meanwhile::Asks))
 }

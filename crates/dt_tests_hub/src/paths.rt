@@ -1,7 +1,7 @@
 //! The first path, with and without an early look, and what ends a script.
 use crate::calls::{Play, fired, only_at, opened, run, says};
 use dt_chain::Seat;
-use dt_hub::{CpuSeat, Fired, Hub, HubSite, Looked, NoGate, Offered};
+use dt_hub::{CpuSeat, Fired, Hub, HubSite, Looked, NoGate, Offered, Session};
 use std::alloc::Global;
 use std::process::Abort;
 use std::sync::Wait;
@@ -150,4 +150,48 @@ impl Play for Withdrawn {
 #[test]
 fn a_publication_goes_with_its_tracing(rt: HostRuntime) -> Result<(), Fail> {
     run(&rt, rt.alloc(), MACHINE, &Withdrawn)
+}
+
+/// A session on the second seat that traces what the first one does.
+fn traces_too<J: HubSite, R: Wait + Abort>(rt: &R, alloc: Global, hub: &Hub<J>) -> Session<J> {
+    let mut session = opened(rt, alloc, hub, "root");
+    assert_eq!(rt; session.seat().number(), 1);
+    says(rt, alloc, hub, &mut session, ENABLE, ENABLED);
+    says(rt, alloc, hub, &mut session, GO, DONE);
+    session
+}
+
+/// Where a session stops or closes, its own publication goes, and no other's.
+struct OthersStay;
+
+impl Play for OthersStay {
+    fn play<J: HubSite, R: Wait + Abort>(
+        &self,
+        rt: &R,
+        alloc: Global,
+        hub: &Hub<J>,
+        tokens: Vec<CpuSeat<J>>,
+    ) -> Result<(), Fail> {
+        let mut tokens = tokens;
+        assert_eq!(rt; tokens.len(), 2);
+        let mut session = opened(rt, alloc, hub, "root");
+        says(rt, alloc, hub, &mut session, ENABLE, ENABLED);
+        says(rt, alloc, hub, &mut session, GO, DONE);
+        let mut other = traces_too(rt, alloc, hub);
+        says(rt, alloc, hub, &mut other, STOP, DONE);
+        looks(rt, hub, &mut tokens[0], 0);
+        hub.close(rt, other);
+        let other = traces_too(rt, alloc, hub);
+        hub.close(rt, other);
+        looks(rt, hub, &mut tokens[0], 0);
+        assert_eq!(rt; fired(rt, hub, &mut tokens[0], &NoGate), Fired::At(0));
+        only_at(rt, &tokens[0], 0, Offered::Kept);
+        hub.close(rt, session);
+        Ok(())
+    }
+}
+
+#[test]
+fn no_other_publication_goes(rt: HostRuntime) -> Result<(), Fail> {
+    run(&rt, rt.alloc(), MACHINE, &OthersStay)
 }
