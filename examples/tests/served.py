@@ -111,29 +111,56 @@ def all_seats(_folder):
             client.close()
 
 
-def status_after_a_while(service):
-    """The status line of a new session, once a seat is free: the end of a connection is seen by its thread."""
-    for _ in range(PATIENCE * 100):
+def seated(service):
+    """A new client that was answered, once a seat is free: the end of a connection is seen by its thread. None: no seat became free."""
+    end = time.monotonic() + PATIENCE
+    while time.monotonic() < end:
         client = service.client()
-        reply = client.ask(STATUS)
+        if client.ask(STATUS) == STATUS_REPLY:
+            return client
         client.close()
-        if reply != FULL:
-            return reply
-        time.sleep(0.01)
-    return FULL
+        time.sleep(0.001)
+    return None
+
+
+def status_after_a_while(service):
+    """The status line of a new session, once a seat is free."""
+    client = seated(service)
+    if not client:
+        return FULL
+    reply = client.ask(STATUS)
+    client.close()
+    return reply
+
+
+def killed_in_a_line(service):
+    """Whether a client in a process of its own was answered; then it is killed in the middle of a line."""
+    told, tell = os.pipe()
+    process = os.fork()
+    if process == 0:
+        try:
+            client = seated(service)
+            if client:
+                client.send(STATUS[:10])
+            os.write(tell, b"1" if client else b"0")
+            signal.pause()
+        finally:
+            os._exit(1)
+    answered = os.read(told, 1) == b"1"
+    os.kill(process, signal.SIGKILL)
+    os.waitpid(process, 0)
+    os.close(told)
+    os.close(tell)
+    return answered
 
 
 def comes_and_goes(_folder):
-    """A client that is killed in the middle of a line, a thousand times, while all other seats are taken."""
+    """A client that is killed in the middle of a line, and its seat opened again, a thousand times, while all other seats are taken."""
     with serving(machine([[]])) as service:
         others = [service.client() for _ in range(SEATS - 1)]
-        assert all(client.ask(STATUS) for client in others)
-        well = 0
-        for _ in range(1_000):
-            client = service.client()
-            client.send(b'{"cmd":"sta')
-            client.close()
-        yield "a seat after a thousand clients that vanished", status_after_a_while(service), STATUS_REPLY
+        yield "all other seats are taken", {client.ask(STATUS) for client in others}, {STATUS_REPLY}
+        yield "each of a thousand clients that were killed was answered", sum(killed_in_a_line(service) for _ in range(1_000)), 1_000
+        yield "a seat after them", status_after_a_while(service), STATUS_REPLY
         resident = service.resident()
         yield "others are served", {client.ask(STATUS) for client in others}, {STATUS_REPLY}
         for client in others:
