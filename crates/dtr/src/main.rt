@@ -69,6 +69,10 @@ fn execute<R: Files + Net + Env + Print + Eprint + AllocGlobal + Clock + Threads
         .map(|word| word.as_str())
         .collect::<Vec<&str>>(rt.alloc())?;
     let words = Invocation::read(rt.alloc(), &words)?;
+    let is_judged = words.machine.is_some() || words.trail.is_some();
+    if is_judged != words.is_judgement() {
+        return Err(Trouble::Usage);
+    }
     if let Some(machine) = words.machine {
         return judge_machine(rt, machine);
     }
@@ -96,15 +100,15 @@ fn serve_words<R: Files + Net + Env + Print + Eprint + AllocGlobal + Clock + Thr
         quiet: words.quiet,
         json: words.json,
     };
-    let programs = programs_of(rt, words)?;
-    if !words.list && programs.is_empty() {
+    if !words.is_session() {
         return Err(Trouble::Usage);
     }
+    let programs = programs_of(rt, words)?;
+    let stream = UnixStream::connect(rt, path).map_err(|_| Trouble::NoService)?;
     let mut file = match words.output {
         Some(path) => Some(fs::create(rt, path).map_err(|_| Trouble::Output)?),
         None => None,
     };
-    let stream = UnixStream::connect(rt, path).map_err(|_| Trouble::NoService)?;
     let mut session = Session::new(rt.alloc(), &stream)?;
     if words.list {
         let description = words.programs.first().copied().unwrap_or("");

@@ -39,9 +39,11 @@ pub(crate) struct Learnt {
     pub(crate) errors: Vec<u64>,
     /// The drops of aggregations that were told, by processor.
     pub(crate) aggdrops: Vec<u64>,
+    /// How many bytes of a buffer that keeps what it has were written as rows, by processor.
+    pub(crate) written: Vec<u64>,
     /// How many firings were seen at the last look.
     pub(crate) seen: u64,
-    /// Whether drops are told once (under switch), and not again.
+    /// Whether a buffer gives its records and tells its drops once (under switch), and not again.
     pub(crate) told_once: bool,
     /// Whether the head of the rows is written.
     pub(crate) headed: bool,
@@ -65,6 +67,7 @@ impl Learnt {
             drops: Vec::new(alloc),
             errors: Vec::new(alloc),
             aggdrops: Vec::new(alloc),
+            written: Vec::new(alloc),
             seen: 0,
             told_once,
             headed: false,
@@ -91,9 +94,23 @@ pub(crate) fn snap<R: Print + Eprint + AllocGlobal>(
     let Ok(bytes) = hex::decode(alloc, digits.as_bytes()) else {
         return Err(Trouble::Strange);
     };
-    learn(rt, session, known, &bytes)?;
-    push_records(alloc, known, cpu, shape, &bytes, out)?;
+    let fresh = fresh_in(known, cpu, &bytes)?;
+    learn(rt, session, known, fresh)?;
+    push_records(alloc, known, cpu, shape, fresh, out)?;
     tell_losses(rt, known, cpu, &reply)
+}
+
+/// Those of a buffer's bytes that aren't written yet: under fill a buffer is read again from its beginning.
+fn fresh_in<'b>(known: &mut Learnt, cpu: u64, bytes: &'b [u8]) -> Result<&'b [u8], Trouble> {
+    if known.told_once {
+        return Ok(bytes);
+    }
+    let written = known.written.get(cpu as usize).copied().unwrap_or(0) as usize;
+    if written > bytes.len() {
+        return Err(Trouble::Strange);
+    }
+    keep(&mut known.written, cpu, bytes.len() as u64)?;
+    Ok(&bytes[written..])
 }
 
 /// Adds a row for each record that the bytes hold.

@@ -49,6 +49,30 @@ impl<'a> Invocation<'a> {
         Invocation::of(alloc, &given)
     }
 
+    /// Whether the words ask for nothing beside a machine or a trail that is to be judged.
+    pub(crate) fn is_judgement(&self) -> bool {
+        self.programs.is_empty()
+            && self.files.is_empty()
+            && self.options.is_empty()
+            && self.output.is_none()
+            && self.length.is_none()
+            && !(self.list || self.quiet || self.json)
+            && self.path.is_some() == self.trail.is_some()
+            && self.machine.is_some() != self.trail.is_some()
+    }
+
+    /// Whether the words ask for a list of probes, or for tracing, and for nothing of the other.
+    pub(crate) fn is_session(&self) -> bool {
+        if !self.list {
+            return !(self.programs.is_empty() && self.files.is_empty());
+        }
+        self.programs.len() <= 1
+            && self.files.is_empty()
+            && self.options.is_empty()
+            && self.length.is_none()
+            && !self.json
+    }
+
     /// What clap found in the words.
     fn of(alloc: Global, given: &ArgMatches<'a>) -> Result<Self, Trouble> {
         Ok(Invocation {
@@ -60,7 +84,7 @@ impl<'a> Invocation<'a> {
             quiet: given.get_flag("quiet"),
             json: given.get_flag("json"),
             output: given.get_str("output"),
-            every: seconds_in(given.get_str("every"))?.unwrap_or(Duration::from_secs(1)),
+            every: every_in(given.get_str("every"))?,
             length: seconds_in(given.get_str("for"))?,
             width: width_in(given.get_str("width"))?,
             machine: given.get_str("machine"),
@@ -94,6 +118,15 @@ fn seconds_in(word: Option<&str>) -> Result<Option<Duration>, Trouble> {
             Ok(Some(Duration::from_millis(u64::from(whole) * 1000 + u64::from(tenths) * 100)))
         }
         _ => Err(Trouble::Usage),
+    }
+}
+
+/// How long there is between two looks: more than no time, and a second where no word tells it.
+fn every_in(word: Option<&str>) -> Result<Duration, Trouble> {
+    match seconds_in(word)? {
+        None => Ok(Duration::from_secs(1)),
+        Some(every) if every.as_millis() > 0 => Ok(every),
+        Some(_) => Err(Trouble::Usage),
     }
 }
 
