@@ -5,6 +5,7 @@ use crate::rows::{Row, fires_row, plays_row};
 use crate::scenes::{Scene, run};
 use crate::trail_text::trail_text;
 use dt_alone::{Verdict, check};
+use dt_chain::SEATS;
 use dt_hub::{CpuSeat, Fired, Hub, HubSite, NoGate, Offered, Session};
 use dt_machine::Machine;
 use std::alloc::{AllocError, Global};
@@ -26,9 +27,6 @@ const FIRINGS: &str =
 
 /// How often.
 const TIMES: u32 = 2_500;
-
-/// As many sessions are open at once as there are session threads, on the first seats.
-const SESSIONS: u32 = 4;
 
 /// What a session asks before and while it traces.
 const LINES: [&str; 3] = [
@@ -138,10 +136,10 @@ impl Board {
     }
 }
 
-/// How many sessions kept a processor's last firing.
+/// How many sessions kept a processor's last firing, on whichever seats they are: who opens a session passes over a seat that is locked.
 fn kept_by<J: HubSite>(token: &CpuSeat<J>) -> u64 {
     let mut count = 0u64;
-    for seat in 0..SESSIONS {
+    for seat in 0..SEATS as u32 {
         if at_seat(token, seat) == Offered::Kept {
             count = count.wrapping_add(1);
         }
