@@ -1,20 +1,21 @@
 -- Which class of probes a provider's name stands for.
 use Rattle.std.specs.Prelude.{◌≡◌, ◌≢◌, ℕ, ◌+◌, ◌-◌, ◌*◌, ◌<◌, ◌≤◌, List, ◌++◌, length, slice_index, fold, All, codes}
+use Rattle.dt_names.specs.Bytes.{zero_digit, nine_digit}
 use Rattle.dt_cred.specs.declared.class.Class.{Class}
 use Rattle.dt_cred.specs.declared.class.Class.TheVariants.{Dtrace, Syscall, Profile, Pid, Other}
 
 abbrev pub IsDigit : ℕ → Type 0
-IsDigit byte = (48 ≤ byte) × (byte ≤ 57)
+IsDigit byte = (zero_digit ≤ byte) × (byte ≤ nine_digit)
 
 -- the number that decimal digits stand for
 abbrev pub number_of : List ℕ → ℕ
-number_of digits = fold (λ number digit. 10 * number + (digit - 48)) 0 digits
+number_of digits = fold (λ number digit. 10 * number + (digit - zero_digit)) 0 digits
 
 -- The digits write a decimal number without a leading zero; zero is a single 0.
 pub record WritesDecimal (digits : List ℕ) : Type 0 where
   pub some : 0 < length digits
   pub each : All IsDigit digits
-  pub no_leading_zero : slice_index digits 0 ≡ 48 → length digits ≡ 1
+  pub no_leading_zero : slice_index digits 0 ≡ zero_digit → length digits ≡ 1
 
 -- The provider is `pid` and the decimal number of a process.
 pub record NamesProcess (provider : List ℕ) (pid : ℕ) : Type 0 where

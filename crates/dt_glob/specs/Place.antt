@@ -5,17 +5,18 @@ use Rattle.dt_glob.specs.declared.place.PatternPlace.{PatternPlace}
 use Rattle.dt_glob.specs.declared.place.PatternPlace.TheVariants.{Outside, Opened, Negated, Inside}
 use Rattle.dt_glob.specs.declared.fault.GlobFault.{GlobFault}
 use Rattle.dt_glob.specs.declared.fault.GlobFault.TheVariants.{EmptySet}
-use Rattle.dt_glob.specs.Sign.{opening_bracket, closing_bracket, bang}
+use Rattle.dt_glob.specs.Sign.{opening_bracket, closing_bracket, bang, opening_byte, closing_byte, bang_byte}
 use Rattle.dt_glob.specs.Spells.{Lacks, BeginsWithSign, mark}
 use Rattle.dt_glob.specs.Fault.{AreItems}
 use Rattle.dt_glob.specs.Reading.{is_plain}
 
 -- where one more sign leads
 abbrev pub step_of : PatternPlace → PatternSign → Result PatternPlace GlobFault
-step_of Outside sign = if is_plain 91 sign then Ok Opened else Ok Outside
-step_of Opened sign = if is_plain 93 sign then Err EmptySet else (if is_plain 33 sign then Ok Negated else Ok Inside)
-step_of Negated sign = if is_plain 93 sign then Err EmptySet else Ok Inside
-step_of Inside sign = if is_plain 93 sign then Ok Outside else Ok Inside
+step_of Outside sign = if is_plain opening_byte sign then Ok Opened else Ok Outside
+step_of Opened sign =
+    if is_plain closing_byte sign then Err EmptySet else (if is_plain bang_byte sign then Ok Negated else Ok Inside)
+step_of Negated sign = if is_plain closing_byte sign then Err EmptySet else Ok Inside
+step_of Inside sign = if is_plain closing_byte sign then Ok Outside else Ok Inside
 
 -- whole items and the front of a set, which has an element already
 pub record IsInside (signs : List PatternSign) : Type 0 where

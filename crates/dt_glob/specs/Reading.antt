@@ -7,7 +7,7 @@ use Rattle.dt_glob.specs.declared.element.Element.{Element}
 use Rattle.dt_glob.specs.declared.element.Element.TheVariants.{Single, Range}
 use Rattle.dt_glob.specs.declared.fault.GlobFault.{GlobFault}
 use Rattle.dt_glob.specs.declared.fault.GlobFault.TheVariants.{Unclosed, EmptySet, LoneEscape}
-use Rattle.dt_glob.specs.Sign.{byte_of}
+use Rattle.dt_glob.specs.Sign.{byte_of, escape, star_byte, question_byte, opening_byte, closing_byte, bang_byte, dash_byte}
 use Rattle.dt_glob.specs.PatternItem.{PatternItem, Star, AnyByte, Literal, OneOf}
 
 abbrev pub is_plain : ℕ → PatternSign → Bool
@@ -25,22 +25,23 @@ behind sign read = record read { signs = sign ∷ read.signs }
 unfoldable pub signs_of : List ℕ → Signs
 signs_of [] = record { signs = []; lone = false }
 signs_of (byte ∷ []) =
-    if byte == 92 then record { signs = []; lone = true } else record { signs = Plain byte ∷ []; lone = false }
+    if byte == escape then record { signs = []; lone = true } else record { signs = Plain byte ∷ []; lone = false }
 signs_of (byte ∷ next ∷ text) =
-    if byte == 92 then behind (Escaped next) (signs_of text) else behind (Plain byte) (signs_of (next ∷ text))
+    if byte == escape then behind (Escaped next) (signs_of text) else behind (Plain byte) (signs_of (next ∷ text))
 
 unfoldable pub elements_of : List PatternSign → List Element
 elements_of [] = []
 elements_of (sign ∷ []) = Single (byte_of sign) ∷ []
 elements_of (sign ∷ next ∷ []) = Single (byte_of sign) ∷ Single (byte_of next) ∷ []
 elements_of (sign ∷ next ∷ last ∷ signs) =
-    if is_plain 45 sign then Single (byte_of sign) ∷ elements_of (next ∷ last ∷ signs)
-    else (if is_plain 45 next then Range (byte_of sign) (byte_of last) ∷ elements_of signs
+    if is_plain dash_byte sign then Single (byte_of sign) ∷ elements_of (next ∷ last ∷ signs)
+    else (if is_plain dash_byte next then Range (byte_of sign) (byte_of last) ∷ elements_of signs
     else Single (byte_of sign) ∷ elements_of (next ∷ last ∷ signs))
 
 -- an item that is no set
 abbrev pub item_of_sign : PatternSign → PatternItem
-item_of_sign (Plain byte) = if byte == 42 then Star else (if byte == 63 then AnyByte else Literal byte)
+item_of_sign (Plain byte) =
+    if byte == star_byte then Star else (if byte == question_byte then AnyByte else Literal byte)
 item_of_sign (Escaped byte) = Literal byte
 
 abbrev pub also : PatternItem → Result (List PatternItem) GlobFault → Result (List PatternItem) GlobFault
@@ -50,9 +51,10 @@ also item (Err fault) = Err fault
 -- a set of this inside, and then the rest
 abbrev pub set_and : List PatternSign → Result (List PatternItem) GlobFault → Result (List PatternItem) GlobFault
 set_and [] rest = Err EmptySet
-set_and (sign ∷ []) rest = if is_plain 33 sign then Err EmptySet else also (OneOf false (elements_of (sign ∷ []))) rest
+set_and (sign ∷ []) rest =
+    if is_plain bang_byte sign then Err EmptySet else also (OneOf false (elements_of (sign ∷ []))) rest
 set_and (sign ∷ next ∷ signs) rest =
-    if is_plain 33 sign then also (OneOf true (elements_of (next ∷ signs))) rest
+    if is_plain bang_byte sign then also (OneOf true (elements_of (next ∷ signs))) rest
     else also (OneOf false (elements_of (sign ∷ next ∷ signs))) rest
 
 -- `inside` is what has come of an open set
@@ -60,9 +62,10 @@ unfoldable pub items_from : Bool → Option (List PatternSign) → List PatternS
 items_from lone None [] = if lone then Err LoneEscape else Ok []
 items_from lone (Some inside) [] = if lone then Err LoneEscape else Err Unclosed
 items_from lone None (sign ∷ signs) =
-    if is_plain 91 sign then items_from lone (Some []) signs else also (item_of_sign sign) (items_from lone None signs)
+    if is_plain opening_byte sign then items_from lone (Some []) signs
+    else also (item_of_sign sign) (items_from lone None signs)
 items_from lone (Some inside) (sign ∷ signs) =
-    if is_plain 93 sign then set_and inside (items_from lone None signs)
+    if is_plain closing_byte sign then set_and inside (items_from lone None signs)
     else items_from lone (Some (inside ++ sign ∷ [])) signs
 
 -- the items of a text, or its first fault

@@ -31,21 +31,40 @@ abbrev pub AreSigns : List PatternSign → Type 0
 AreSigns [] = Unit {0}
 AreSigns (sign ∷ signs) = IsSign sign × AreSigns signs
 
--- the signs that have a meaning: a star, a question mark, brackets, an exclamation mark and a dash
+-- the bytes that have a meaning where they are plain: a star, a question mark, brackets, an exclamation mark and a dash
+abbrev pub star_byte : ℕ
+star_byte = 42
+
+abbrev pub question_byte : ℕ
+question_byte = 63
+
+abbrev pub opening_byte : ℕ
+opening_byte = 91
+
+abbrev pub closing_byte : ℕ
+closing_byte = 93
+
+abbrev pub bang_byte : ℕ
+bang_byte = 33
+
+abbrev pub dash_byte : ℕ
+dash_byte = 45
+
+-- the signs that have a meaning
 abbrev pub star : PatternSign
-star = Plain 42
+star = Plain star_byte
 
 abbrev pub question : PatternSign
-question = Plain 63
+question = Plain question_byte
 
 abbrev pub opening_bracket : PatternSign
-opening_bracket = Plain 91
+opening_bracket = Plain opening_byte
 
 abbrev pub closing_bracket : PatternSign
-closing_bracket = Plain 93
+closing_bracket = Plain closing_byte
 
 abbrev pub bang : PatternSign
-bang = Plain 33
+bang = Plain bang_byte
 
 abbrev pub dash : PatternSign
-dash = Plain 45
+dash = Plain dash_byte

@@ -4,7 +4,7 @@ use Rattle.dt_glob.specs.declared.sign.PatternSign.{PatternSign}
 use Rattle.dt_glob.specs.declared.element.Element.{Element}
 use Rattle.dt_glob.specs.declared.token.PatternToken.{PatternToken}
 use Rattle.dt_glob.specs.declared.token.PatternToken.TheVariants as token
-use Rattle.dt_glob.specs.Sign.{text_of_signs, AreSigns, closing_bracket}
+use Rattle.dt_glob.specs.Sign.{text_of_signs, AreSigns, closing_bracket, closing_byte}
 use Rattle.dt_glob.specs.PatternItem.{PatternItem, Star, AnyByte, Literal, OneOf}
 use Rattle.dt_glob.specs.Spells.{Lacks, SpellsElements, SpellsSet, Spells}
 
@@ -43,11 +43,11 @@ pub record ClosesAt (text inside rest : List ℕ) : Type 0 where
   pub inside_is : inside ≡ text_of_signs signs
   pub are_signs : AreSigns signs
   pub unended : Lacks closing_bracket signs
-  pub cut : text ≡ inside ++ 93 ∷ rest
+  pub cut : text ≡ inside ++ closing_byte ∷ rest
 
 -- the text, after a `[`, begins with the rest of this set
 pub record BeginsSet (text : List ℕ) (negated : Bool) (elements : List Element) (behind : List ℕ) : Type 0 where
   pub inner : List PatternSign
-  pub written : text ≡ text_of_signs inner ++ 93 ∷ behind
+  pub written : text ≡ text_of_signs inner ++ closing_byte ∷ behind
   pub are_signs : AreSigns inner
   pub spells : SpellsSet inner negated elements

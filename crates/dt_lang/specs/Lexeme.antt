@@ -8,6 +8,7 @@ use Rattle.dt_program.specs.declared.description.Description.{Description}
 use Rattle.dt_program.specs.declared.description.DescriptionFault.{DescriptionFault}
 use Rattle.dt_lang.specs.declared.fault.Limit.{Limit}
 use Rattle.dt_lang.specs.declared.fault.Limit.TheVariants.{StringBytes, NameBytes}
+use Rattle.dt_names.specs.Bytes.{quote, asterisk, slash, colon, at_sign}
 use Rattle.dt_names.specs.Name.{IsNameByte}
 use Rattle.dt_names.specs.Limits.{short_text_max}
 use Rattle.dt_lang.specs.declared.lexer.Lexeme.{Lexeme}
@@ -46,16 +47,16 @@ IsAggregationName name = (name ≡ []) ⊎ IsIdentifier name
 abbrev pub IsBodyToken : List ℕ → Token → Type 0
 IsBodyToken bytes (token.Word w) = IsIdentifier bytes × IsWord bytes w
 IsBodyToken bytes (token.Number z) = (n : ℕ) × IsNumber bytes n × (z ≡ wrapped (pos n))
-IsBodyToken bytes (token.String t) = (bytes ≡ 34 ∷ (t ++ (34 ∷ []))) × AllPass is_string_byte t
+IsBodyToken bytes (token.String t) = (bytes ≡ quote ∷ (t ++ (quote ∷ []))) × AllPass is_string_byte t
     × (length t ≤ short_text_max)
-IsBodyToken bytes (token.Aggregation name) = (bytes ≡ 64 ∷ name) × IsAggregationName name × (length name ≤ short_text_max)
+IsBodyToken bytes (token.Aggregation name) = (bytes ≡ at_sign ∷ name) × IsAggregationName name × (length name ≤ short_text_max)
 IsBodyToken bytes (token.Sign s) = bytes ≡ spelling s
 IsBodyToken bytes (token.Description d) = ⊥
 
 -- a `"` and bytes of a string, or a `@` and an identifier
 abbrev pub BeginsLong : List ℕ → (inside : List ℕ) → Limit → Type 0
-BeginsLong bytes inside StringBytes = (bytes ≡ 34 ∷ inside) × AllPass is_string_byte inside
-BeginsLong bytes inside NameBytes = (bytes ≡ 64 ∷ inside) × IsIdentifier inside
+BeginsLong bytes inside StringBytes = (bytes ≡ quote ∷ inside) × AllPass is_string_byte inside
+BeginsLong bytes inside NameBytes = (bytes ≡ at_sign ∷ inside) × IsIdentifier inside
 BeginsLong bytes inside _ = ⊥
 
 -- too many of these bytes for a token
@@ -66,7 +67,7 @@ pub record IsOverlong (bytes : List ℕ) (limit : Limit) : Type 0 where
 
 -- a comment's beginning, which where no blanks stand is one of a comment that isn't closed
 abbrev pub OPENING : List ℕ
-OPENING = 47 ∷ 42 ∷ []
+OPENING = slash ∷ asterisk ∷ []
 
 -- What the bytes are in a predicate or a body. What begins with a digit is a number, or no token as a whole.
 abbrev pub IsBodyPiece : List ℕ → Piece → Type 0
@@ -84,7 +85,7 @@ IsHeadSign _ = ⊥
 
 -- a byte of a description: a name byte, or a colon between fields
 abbrev pub IsDescriptionByte : ℕ → Type 0
-IsDescriptionByte byte = IsNameByte byte ⊎ (byte ≡ 58)
+IsDescriptionByte byte = IsNameByte byte ⊎ (byte ≡ colon)
 
 -- how the bytes are read as a description
 abbrev pub IsDescriptionToken : List ℕ → Result Description DescriptionFault → Type 0

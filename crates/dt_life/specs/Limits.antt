@@ -9,6 +9,10 @@ lines_max = 1024
 abbrev pub buffer_size_default : ℕ
 buffer_size_default = 65536
 
+-- the fewest bytes that `bufsize` may ask for
+abbrev pub buffer_size_min : ℕ
+buffer_size_min = 1
+
 -- how many bytes the entries of aggregations may cost where no option says otherwise
 abbrev pub aggsize_default : ℕ
 aggsize_default = 65536
@@ -20,6 +24,10 @@ aggsize_min = 8
 -- after how many seen firings tracing ends where no option says otherwise
 abbrev pub history_default : ℕ
 history_default = 4096
+
+-- the fewest firings that `histsize` may ask for
+abbrev pub history_min : ℕ
+history_min = 1
 
 -- the most firings that `histsize` may ask for
 abbrev pub history_max : ℕ

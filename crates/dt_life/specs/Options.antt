@@ -9,7 +9,7 @@ use Rattle.dt_buffer.specs.declared.policy.Policy.{Policy}
 use Rattle.dt_buffer.specs.declared.policy.Policy.TheVariants.{Switch, Fill, Ring}
 use Rattle.dt_life.specs.declared.command.OptionValue.{OptionValue}
 use Rattle.dt_life.specs.declared.command.OptionValue.TheVariants.{Number, Text, Other}
-use Rattle.dt_life.specs.Limits.{aggsize_default, aggsize_min, buffer_size_default, history_default, history_max}
+use Rattle.dt_life.specs.Limits.{aggsize_default, aggsize_min, buffer_size_default, buffer_size_min, history_default, history_max, history_min}
 
 -- The options: how many bytes a principal buffer has, by which policy it keeps records, how many bytes the entries of
 -- aggregations may cost on each processor, and after how many seen firings tracing ends.
@@ -54,10 +54,11 @@ policy_of word =
 
 abbrev pub number_set : List ℕ → ℕ → Option Setting
 number_set name n =
-    if bytes_eq name (codes "bufsize") then (if in_range 1 buffer_size_max n then Some (size n) else None) else
+    if bytes_eq name (codes "bufsize") then (if in_range buffer_size_min buffer_size_max n then Some (size n) else None) else
     (if bytes_eq name (codes "aggsize") then
     (if in_range aggsize_min aggsize_max n then Some (entries n) else None) else
-    (if bytes_eq name (codes "histsize") then (if in_range 1 history_max n then Some (history n) else None) else None))
+    (if bytes_eq name (codes "histsize") then
+    (if in_range history_min history_max n then Some (history n) else None) else None))
 
 -- what a name and a value set: nothing where there is no such option, or the value isn't one of it
 abbrev pub setting_of : List ℕ → OptionValue → Option Setting

@@ -32,7 +32,10 @@ pub use laws::{
     some_reply, tests_agree,
 };
 pub use limit_laws::limits_agree;
-pub use limits::{AGGSIZE, AGGSIZE_MIN, BEGIN, BUFFER_SIZE, END, HISTORY, HISTORY_MAX, LINES_MAX};
+pub use limits::{
+    AGGSIZE, AGGSIZE_MIN, BEGIN, BUFFER_SIZE, BUFFER_SIZE_MIN, END, HISTORY, HISTORY_MAX,
+    HISTORY_MIN, LINES_MAX,
+};
 pub use named_aggregation::NamedAggregation;
 pub use options::Options;
 pub use own::{own_firing, own_process};

@@ -1,10 +1,13 @@
-//! The crate's limits, by name: contracts, definitions and code cite these.
+//! The crate's limits, by name. The definitions have their own in `specs/Limits.antt`; the law `limits_agree` says that both are the same.
 
 /// The most lines of one session.
 pub const LINES_MAX: u32 = 1024;
 
 /// How many bytes a principal buffer has where no option says otherwise. The most are dt_buffer's `SIZE_MAX`.
 pub const BUFFER_SIZE: usize = 65_536;
+
+/// The fewest bytes that `bufsize` may ask for.
+pub const BUFFER_SIZE_MIN: usize = 1;
 
 /// How many bytes the entries of aggregations may cost on each processor where no option says otherwise. The most are
 /// dt_aggstore's `AGGSIZE_MAX`.
@@ -15,6 +18,9 @@ pub const AGGSIZE_MIN: usize = 8;
 
 /// After how many seen firings tracing ends, where no option says otherwise.
 pub const HISTORY: u32 = 4_096;
+
+/// The fewest firings that `histsize` may ask for.
+pub const HISTORY_MIN: u32 = 1;
 
 /// The most firings that `histsize` may ask for.
 pub const HISTORY_MAX: u32 = 1_048_576;

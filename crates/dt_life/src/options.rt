@@ -6,7 +6,9 @@ ghost use Rattle.dt_life.specs.Options as spec;
 ghost use Rattle.dt_life.specs.declared.limits.TheConstants.{HISTORY_MAX};
 
 use crate::command::OptionValue;
-use crate::limits::{AGGSIZE, AGGSIZE_MIN, BUFFER_SIZE, HISTORY, HISTORY_MAX};
+use crate::limits::{
+    AGGSIZE, AGGSIZE_MIN, BUFFER_SIZE, BUFFER_SIZE_MIN, HISTORY, HISTORY_MAX, HISTORY_MIN,
+};
 use crate::phase::Phase;
 use dt_aggstore::AGGSIZE_MAX;
 use dt_buffer::{Policy, SIZE_MAX};
@@ -87,7 +89,10 @@ impl Options {
         ensures { option_map form_of_options result
             ≡ option_map (with_setting (form_of_options self)) (number_set name.now number) }
     {
-        if name == "bufsize" && 1 <= number && number <= SIZE_MAX as u64 {
+        if name == "bufsize"
+            && BUFFER_SIZE_MIN as u64 <= number
+            && number <= SIZE_MAX as u64
+        {
             Some(Options {
                 bufsize: number as usize,
                 bufpolicy: self.bufpolicy,
@@ -104,7 +109,10 @@ impl Options {
                 aggsize: number as usize,
                 histsize: self.histsize,
             })
-        } else if name == "histsize" && 1 <= number && number <= u64::from(HISTORY_MAX) {
+        } else if name == "histsize"
+            && u64::from(HISTORY_MIN) <= number
+            && number <= u64::from(HISTORY_MAX)
+        {
             Some(Options {
                 bufsize: self.bufsize,
                 bufpolicy: self.bufpolicy,

@@ -3,6 +3,7 @@ use Rattle.std.specs.Prelude.{◌≡◌, ◌≢◌, ℕ, ℤ, pos, ◌+◌, ◌-
 use Rattle.std.specs.List.{list_any}
 use Rattle.std.specs.Str.{bytes_eq}
 use Rattle.serde_json.specs.Data.{Data}
+use Rattle.dt_names.specs.Bytes.{hyphen, zero_digit, nine_digit, underscore, small_a, small_z}
 use Rattle.dt_names.specs.Tuple.{SpellsTuple}
 use Rattle.dt_names.specs.Limits.{name_max}
 use Rattle.dt_names.specs.Limits.{short_text_max}
@@ -141,7 +142,8 @@ IsGivenBelow limit number = IsSomeAnd number (λ n. n < limit)
 
 -- a small letter, a digit, an underscore or a hyphen
 abbrev pub IsAccountByte : ℕ → Type 0
-IsAccountByte byte = ((97 ≤ byte) × (byte ≤ 122)) ⊎ (((48 ≤ byte) × (byte ≤ 57)) ⊎ ((byte ≡ 95) ⊎ (byte ≡ 45)))
+IsAccountByte byte = ((small_a ≤ byte) × (byte ≤ small_z))
+    ⊎ (((zero_digit ≤ byte) × (byte ≤ nine_digit)) ⊎ ((byte ≡ underscore) ⊎ (byte ≡ hyphen)))
 
 abbrev pub IsPriv : List ℕ → Type 0
 IsPriv text = (text ≡ codes "dtrace_user")

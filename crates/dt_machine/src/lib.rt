@@ -6,9 +6,10 @@
 //! of either.
 //!
 //! `Machine`'s readers and [`Interest`] take no memory. Whether a firing belongs to a machine is [`Machine::context`],
-//! and the reading of the file asks the same code. The limits are the constants of this crate, and contracts and
-//! definitions cite them. `specs/Registry.antt` is how crates above see a machine, and `specs/Reading.antt` what a file
-//! describes, over the rows of `specs/Rows.antt` and the kinds of `specs/Shape.antt`.
+//! and the reading of the file asks the same code. The limits are constants of this crate; the definitions have their own
+//! in `specs/Limits.antt`, and the law `limits_agree` says that both are the same. `specs/Registry.antt` is how crates
+//! above see a machine, and `specs/Reading.antt` what a file describes, over the rows of `specs/Rows.antt` and the kinds
+//! of `specs/Shape.antt`.
 #![tactic(auto)]
 
 mod accounts;

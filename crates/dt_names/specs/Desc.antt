@@ -1,6 +1,7 @@
 -- What a probe description asks for, and which fault a text shows that is none.
 use Rattle.std.specs.Prelude.{◌≡◌, ◌≢◌, ℕ, ◌-◌, ◌<◌, ◌≤◌, ◌==◌, Bool, List, [], ◌∷◌, ◌++◌, length, take, replicate, slice_index, count_by}
 use Rattle.std.specs.List.{AllByRecursion, slice_split}
+use Rattle.dt_names.specs.Bytes.{colon}
 use Rattle.dt_names.specs.Name.{IsNameByte}
 use Rattle.dt_names.specs.declared.desc.NameFault.{NameFault}
 use Rattle.dt_names.specs.declared.desc.NameFault.TheVariants.{BadByte, TooLong, TooManyFields}
@@ -19,7 +20,7 @@ abbrev pub desc_of : ProbeDesc → Desc
 desc_of d = record { provider = d.provider.now; «module» = d.module.now; function = d.function.now; name = d.name.now }
 
 abbrev pub is_colon : ℕ → Bool
-is_colon byte = byte == 58
+is_colon byte = byte == colon
 
 -- the parts between the colons
 abbrev pub fields : List ℕ → List (List ℕ)
@@ -40,15 +41,15 @@ pub record Describes (text : List ℕ) (desc : Desc) : Type 0 where
 
 -- the bytes from place `from` on and before place `at` are no colons
 abbrev pub NoColonWithin : List ℕ → ℕ → ℕ → Type 0
-NoColonWithin text from at = (k : ℕ) → from ≤ k → k < at → slice_index text k ≢ 58
+NoColonWithin text from at = (k : ℕ) → from ≤ k → k < at → slice_index text k ≢ colon
 
 -- The byte at a place shows a fault: one that is neither a name byte nor a colon, the 64th byte of a field, the
 -- fourth colon.
 abbrev pub ShowsFault : List ℕ → ℕ → NameFault → Type 0
-ShowsFault text at BadByte = (IsNameByte (slice_index text at) → ⊥) × (slice_index text at ≢ 58)
+ShowsFault text at BadByte = (IsNameByte (slice_index text at) → ⊥) × (slice_index text at ≢ colon)
 ShowsFault text at TooLong = IsNameByte (slice_index text at) × (field_max ≤ at)
     × NoColonWithin text (at - field_max) at
-ShowsFault text at TooManyFields = (slice_index text at ≡ 58) × (count_by is_colon (take at text) ≡ fields_max - 1)
+ShowsFault text at TooManyFields = (slice_index text at ≡ colon) × (count_by is_colon (take at text) ≡ fields_max - 1)
 
 -- no byte before this place shows a fault
 abbrev pub NoneShown : List ℕ → ℕ → Type 0

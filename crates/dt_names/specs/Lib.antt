@@ -2,6 +2,7 @@
 
 -- What is promised.
 pub mod Limits
+pub mod Bytes
 pub mod ShortText
 pub mod Name
 pub mod Desc

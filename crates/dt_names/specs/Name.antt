@@ -1,17 +1,18 @@
 -- What a name is.
 use Rattle.std.specs.Prelude.{◌≢◌, ℕ, ◌≤◌, List, length, All}
+use Rattle.dt_names.specs.Bytes.{colon, comma, slash, open_brace, close_brace, quote}
 use Rattle.dt_names.specs.Limits.{name_max}
 
 -- A name byte is a visible ASCII character, but none of : , / { } and the double quote.
 pub record IsNameByte (byte : ℕ) : Type 0 where
   pub above_blanks : 33 ≤ byte
   pub below_delete : byte ≤ 126
-  pub no_colon : byte ≢ 58
-  pub no_comma : byte ≢ 44
-  pub no_slash : byte ≢ 47
-  pub no_open_brace : byte ≢ 123
-  pub no_close_brace : byte ≢ 125
-  pub no_quote : byte ≢ 34
+  pub no_colon : byte ≢ colon
+  pub no_comma : byte ≢ comma
+  pub no_slash : byte ≢ slash
+  pub no_open_brace : byte ≢ open_brace
+  pub no_close_brace : byte ≢ close_brace
+  pub no_quote : byte ≢ quote
 
 -- A name has at most 31 bytes, each of them a name byte.
 pub record IsName (bytes : List ℕ) : Type 0 where

@@ -48,8 +48,9 @@ fn count_of_colons(text: &[u8]) -> usize
 impl fmt::Display for ProbeTuple {
     ghost use Rattle.std.specs.Prelude.{Some, [], ◌∷◌};
     ghost use Rattle.std.specs.List.{join_with_byte};
+    ghost use Rattle.dt_names.specs.Bytes.{colon};
 
-    ghost output = { λ tuple. Some (join_with_byte 58 (tuple.provider ∷ tuple.module ∷ tuple.function ∷ tuple.name ∷ [])) };
+    ghost output = { λ tuple. Some (join_with_byte colon (tuple.provider ∷ tuple.module ∷ tuple.function ∷ tuple.name ∷ [])) };
 
     fn fmt<W: fmt::Write>(&self, f: &mut fmt::Formatter<W>) -> fmt::Result {
         let ProbeTuple {

@@ -1,13 +1,14 @@
 -- The lines of an input, each with its form.
 use Rattle.std.specs.Prelude.{ℕ, ◌+◌, ◌==◌, Bool, List, [], ◌∷◌, length, map, min, nat_lt, Contains, if◌then◌else◌}
 use Rattle.std.specs.List.{slice_split, position_or_len}
+use Rattle.dt_names.specs.Bytes.{newline}
 use Rattle.dt_proto.specs.Limits.{line_max}
 
 abbrev pub is_newline : ℕ → Bool
-is_newline byte = byte == 10
+is_newline byte = byte == newline
 
 abbrev pub HasNewline : List ℕ → Type 0
-HasNewline text = Contains text 10
+HasNewline text = Contains text newline
 
 -- a line's form: its bytes without the newline, or that it is long
 pub data LineForm : Type 0 where

@@ -6,6 +6,7 @@ use Rattle.serde_json.specs.Data.{Data, null, boolean, string, array, object, Me
 use Rattle.serde_json.specs.View.{items_of}
 use Rattle.serde_json.specs.Written.{compact_text}
 use Rattle.dt_cred.specs.declared.probe.Probe.{Probe}
+use Rattle.dt_names.specs.Bytes.{newline, colon}
 use Rattle.dt_names.specs.declared.tuple.ProbeTuple.{ProbeTuple}
 use Rattle.dt_lang.specs.Fault.{why_word}
 use Rattle.dt_lang.specs.Word.{name_of_destructive}
@@ -48,7 +49,7 @@ ok_and more = member (codes "ok") (boolean true) more
 
 -- a probe's four names with colons between them
 abbrev pub tuple_text : ProbeTuple → List ℕ
-tuple_text tuple = join_with_byte 58 (tuple.provider ∷ tuple.module ∷ tuple.function ∷ tuple.name ∷ [])
+tuple_text tuple = join_with_byte colon (tuple.provider ∷ tuple.module ∷ tuple.function ∷ tuple.name ∷ [])
 
 abbrev pub probe_data : Probe → Data
 probe_data probe = object (member (codes "id") (of_number probe.id) (member (codes "name") (string (tuple_text
@@ -131,4 +132,4 @@ quoted_word field = codes "\"" ++ field_word field ++ codes "\""
 
 -- the line with its newline
 abbrev pub reply_text : Answer → List ℕ
-reply_text answer = compact_text (object (reply_members answer)) ++ 10 ∷ []
+reply_text answer = compact_text (object (reply_members answer)) ++ newline ∷ []
