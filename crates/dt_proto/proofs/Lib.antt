@@ -7,6 +7,7 @@ pub mod Decimals
 pub mod Texts
 pub mod Floats
 pub mod ItemTexts
+pub mod Joined
 pub mod ListedTexts
 pub mod StatusTexts
 pub mod DescribedTexts

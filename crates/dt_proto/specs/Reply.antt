@@ -6,7 +6,7 @@ use Rattle.serde_json.specs.Data.{Data, null, boolean, string, array, object, Me
 use Rattle.serde_json.specs.View.{items_of}
 use Rattle.serde_json.specs.Written.{compact_text}
 use Rattle.dt_cred.specs.declared.probe.Probe.{Probe}
-use Rattle.dt_names.specs.Bytes.{newline, colon}
+use Rattle.dt_names.specs.Bytes.{newline, comma, colon}
 use Rattle.dt_names.specs.declared.tuple.ProbeTuple.{ProbeTuple}
 use Rattle.dt_lang.specs.Fault.{why_word}
 use Rattle.dt_lang.specs.Word.{name_of_destructive}
@@ -109,7 +109,7 @@ probe_text probe = codes "{\"id\":" ++ decimal probe.id ++ codes ",\"name\":" ++
 
 -- numbers with commas between them
 abbrev pub numbers_text : List ℕ → List ℕ
-numbers_text numbers = join_with_byte 44 (map decimal numbers)
+numbers_text numbers = join_with_byte comma (map decimal numbers)
 
 -- the text of a status whose cause, exit and phase have these texts
 abbrev pub status_text : (cause exit phase : List ℕ) (seen : ℕ) (errors aggdrops : List ℕ) → List ℕ

@@ -5,6 +5,7 @@ use Rattle.std.specs.List.{before_first, join_with_byte}
 use Rattle.serde_json.specs.Data.{Data, null, string, array, object, no_members, member}
 use Rattle.serde_json.specs.View.{items_of}
 use Rattle.serde_json.specs.Written.{compact_text}
+use Rattle.dt_names.specs.Bytes.{comma}
 use Rattle.dt_aggfn.specs.Answers.{AnswerForm, number, rows}
 use Rattle.dt_aggfn.specs.declared.function.AggFn.{AggFn}
 use Rattle.dt_aggfn.specs.declared.function.AggFn.TheVariants.{Count, Sum, Avg, Min, Max, Quantize, Lquantize}
@@ -64,9 +65,9 @@ counted_text counted = codes "[" ++ least_text counted.0 ++ codes "," ++ decimal
 
 abbrev pub value_text : AnswerForm → List ℕ
 value_text (number z) = signed_decimal z
-value_text (rows counted) = codes "[" ++ join_with_byte 44 (map counted_text counted) ++ codes "]"
+value_text (rows counted) = codes "[" ++ join_with_byte comma (map counted_text counted) ++ codes "]"
 
 abbrev pub row_text : RowForm → List ℕ
 row_text row =
-    codes "{\"key\":[" ++ join_with_byte 44 (map part_text row.key) ++ codes "],\"value\":" ++ value_text row.value
+    codes "{\"key\":[" ++ join_with_byte comma (map part_text row.key) ++ codes "],\"value\":" ++ value_text row.value
     ++ codes "}"

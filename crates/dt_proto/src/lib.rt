@@ -23,6 +23,7 @@ mod limits;
 mod line;
 mod lines;
 mod pieces;
+mod probes;
 mod reply;
 mod rows;
 mod text;

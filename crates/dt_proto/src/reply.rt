@@ -3,12 +3,12 @@ ghost use Rattle.std.specs.Prelude.{◌≡◌, ℕ, ◌<◌, ℤ, List, [], ◌+
 ghost use Rattle.std.specs.Fmt.{signed_decimal};
 ghost use Rattle.std.specs.List.{AllByRecursion, join_with_byte};
 ghost use Rattle.dt_aggfn.specs.declared.function.AggFn.{AggFn};
-ghost use Rattle.dt_aggstore.specs.EntryNames.{form_of_row};
 ghost use Rattle.dt_aggstore.specs.Table.{RowForm};
 ghost use Rattle.dt_cred.specs.declared.probe.Probe.{Probe};
 ghost use Rattle.serde_json.specs.Data.{object, string};
 ghost use Rattle.serde_json.specs.View.{view};
 ghost use Rattle.hex.specs.Hex.{encode_lower};
+ghost use Rattle.dt_names.specs.Bytes.{comma};
 ghost use Rattle.dt_life.specs.Answer.{Answer, done, enabled, snapped, aggregated, status, listed, described, refused, answer_of};
 ghost use Rattle.dt_life.specs.declared.phase.Phase.{Phase};
 ghost use Rattle.dt_life.specs.declared.phase.End.TheVariants.{Stop, Exit, History};
@@ -20,15 +20,12 @@ ghost use Rattle.dt_ecb.specs.declared.fault.RestrictedAction.TheVariants.{Stack
 ghost use Rattle.serde_json.specs.Written.{compact_text};
 ghost use Rattle.dt_record.specs.Fields.{form_of_field, form_of_layout};
 ghost use Rattle.dt_record.specs.Layout.{FieldForm, layout_size};
-ghost use Rattle.dt_proto.specs.Reply.{describe_text, field_data, quoted_word, fields_in, refusal_members, probe_data, probe_text, reply_members, reply_text, status_text};
+ghost use Rattle.dt_proto.specs.Reply.{describe_text, field_data, quoted_word, fields_in, refusal_members, probe_text, reply_members, reply_text, status_text};
 ghost use Rattle.dt_proto.specs.Rows.{function_word, row_text};
 ghost use Rattle.dt_proto.specs.Scalars.{characters};
 
-use crate::rows::{row_values, word_of};
 use crate::text::text_of;
-use crate::written::{enabled_line, snapped_line, status_line};
-use dt_aggfn::AggFn;
-use dt_aggstore::Row;
+use crate::written::{enabled_line, listed_line, snapped_line, status_line, table_line};
 use dt_cred::Probe;
 use dt_life::{Refusal, Reply};
 use dt_record::{Field, Layout};
@@ -52,17 +49,14 @@ pub fn reply_bytes(alloc: Global, reply: &Reply) -> Result<Vec<u8>, AllocError>
             name,
             function,
             rows,
-        } => line_of(
-            alloc,
-            &table_value(alloc, name.as_bytes(), *function, rows)?,
-        ),
+        } => table_line(alloc, name.as_bytes(), *function, rows),
         Reply::Status {
             phase,
             seen,
             errors,
             aggdrops,
         } => status_line(alloc, *phase, *seen, errors, aggdrops),
-        Reply::Listed { probes } => line_of(alloc, &listed_value(alloc, probes)?),
+        Reply::Listed { probes } => listed_line(alloc, probes),
         Reply::Described {
             epid,
             probe,
@@ -88,31 +82,6 @@ fn line_of(alloc: Global, value: &Value) -> Result<Vec<u8>, AllocError>
     let mut line = value.to_vec(alloc)?;
     line.push(b'\n')?;
     Ok(line)
-}
-
-fn listed_value(alloc: Global, probes: &[Probe]) -> Result<Value, AllocError>
-    ensures { IfOk result (λ value. view value ≡ object (reply_members (listed probes.now))) }
-{
-    let mut values = Vec::new(alloc);
-    for probe in probes {
-        values.push(probe_value(alloc, probe)?)?;
-    }
-    json!(in alloc; {"ok": true, "probes": values})
-}
-
-/// The table of an aggregation.
-fn table_value(
-    alloc: Global,
-    name: &[u8],
-    function: AggFn,
-    rows: &[Row],
-) -> Result<Value, AllocError>
-    ensures { IfOk result (λ value. view value
-        ≡ object (reply_members (aggregated name.now function (map form_of_row rows.now)))) }
-{
-    let name = text_of(alloc, name)?;
-    let rows = row_values(alloc, rows)?;
-    json!(in alloc; {"fn": word_of(function), "name": name, "ok": true, "rows": rows})
 }
 
 fn described_value(
@@ -151,13 +120,6 @@ fn field_value(alloc: Global, field: Field) -> Result<Value, AllocError>
         Field::Ustack(frames) => format!(in alloc; "ustack{}", frames.count)?,
     };
     Ok(Value::String(word))
-}
-
-fn probe_value(alloc: Global, probe: &Probe) -> Result<Value, AllocError>
-    ensures { IfOk result (λ value. view value ≡ probe_data probe.now) }
-{
-    let name = probe.tuple.to_string(alloc)?;
-    json!(in alloc; {"id": probe.id, "name": name})
 }
 
 fn refusal_value(alloc: Global, refusal: Refusal) -> Result<Value, AllocError>
@@ -199,14 +161,14 @@ pub fn reply_texts()
         ++ codes "\",\"drops\":" ++ decimal drops
         ++ codes ",\"filled\":" ++ (if filled then codes "true" else codes "false") ++ codes ",\"ok\":true}\n" }
     ensures listed { (probes : List Probe) → reply_text (listed probes)
-        ≡ codes "{\"ok\":true,\"probes\":[" ++ join_with_byte 44 (map probe_text probes) ++ codes "]}\n" }
+        ≡ codes "{\"ok\":true,\"probes\":[" ++ join_with_byte comma (map probe_text probes) ++ codes "]}\n" }
 
     // the reply to an `agg`: the name as JSON quotes it, the rows with commas between them
     ensures aggregated { (name : List ℕ) (function : AggFn) (rows : List RowForm)
         → reply_text (aggregated name function rows)
         ≡ codes "{\"fn\":\"" ++ function_word function ++ codes "\",\"name\":"
         ++ compact_text (string (characters name)) ++ codes ",\"ok\":true,\"rows\":["
-        ++ join_with_byte 44 (map row_text rows) ++ codes "]}\n" }
+        ++ join_with_byte comma (map row_text rows) ++ codes "]}\n" }
 
     ensures inactive { (seen : ℕ) (errors aggdrops : List ℕ) → reply_text (status Phase.Inactive seen errors aggdrops)
         ≡ status_text (codes "null") (codes "null") (codes "inactive") seen errors aggdrops }
@@ -226,7 +188,7 @@ pub fn reply_texts()
         ≡ status_text (codes "null") (codes "null") (codes "stopped") seen errors aggdrops }
     ensures described { (epid : ℕ) (probe : Probe) (fields : List FieldForm)
         → reply_text (described epid probe (Some fields))
-        ≡ describe_text epid probe (join_with_byte 44 (map quoted_word fields)) (decimal (layout_size (Some fields))) }
+        ≡ describe_text epid probe (join_with_byte comma (map quoted_word fields)) (decimal (layout_size (Some fields))) }
     ensures described_unrecorded { (epid : ℕ) (probe : Probe) → reply_text (described epid probe None)
         ≡ describe_text epid probe [] (codes "0") }
 

@@ -1,14 +1,15 @@
-//! The rows of an aggregation as JSON.
-ghost use Rattle.std.specs.Prelude.{◌≡◌, IfOk, map};
-ghost use Rattle.serde_json.specs.View.{view};
+//! The rows of an aggregation, written without a JSON value for each: a table may have a million.
+ghost use Rattle.std.specs.Prelude.{◌≡◌, ◌∷◌, ◌++◌, OnOk, map};
+ghost use Rattle.std.specs.List.{flat_map, join_with_byte};
+ghost use Rattle.dt_names.specs.Bytes.{comma};
 ghost use Rattle.dt_aggfn.specs.Answers.{form_of_answer, form_of_counted_row};
 ghost use Rattle.dt_aggstore.specs.EntryNames.{form_of_row};
-ghost use Rattle.dt_proto.specs.Rows.{counted_data, function_word, least_data, part_data, row_data, value_data};
+ghost use Rattle.dt_proto.specs.Rows.{counted_text, function_word, least_text, part_text, row_text, value_text};
 
-use crate::text::{before_zeros, text_of};
+use crate::text::{before_zeros, push_string, text_of};
+use crate::written::{push_number, push_signed};
 use dt_aggfn::{AggFn, CellAnswer, CountedRow};
 use dt_aggstore::{KeyPart, Row};
-use serde_json::{Value, json};
 use std::alloc::{AllocError, Global};
 
 /// The word for an aggregating function, as replies and programs carry it.
@@ -26,76 +27,139 @@ pub(crate) fn word_of(function: AggFn) -> &'static str
     }
 }
 
-/// Each row as an object of its key and its value.
-pub(crate) fn row_values(alloc: Global, rows: &[Row]) -> Result<Vec<Value>, AllocError>
-    ensures { IfOk result (λ values. map view values.items ≡ map row_data (map form_of_row rows.now)) }
+/// Adds each row as an object of its key and its value, with commas between them.
+pub(crate) fn push_rows(
+    alloc: Global,
+    line: &mut Vec<u8>,
+    rows: &[Row],
+) -> Result<(), AllocError>
+    ensures { OnOk result (line.new.items
+        ≡ line.old.items ++ join_with_byte comma (map row_text (map form_of_row rows.now))) }
 {
-    let mut values = Vec::new(alloc);
+    match rows.split_first() {
+        Some((first, more)) => {
+            push_row(alloc, line, first)?;
+            push_more_rows(alloc, line, more)
+        }
+        None => Ok(()),
+    }
+}
+
+/// Adds rows, each after a comma.
+fn push_more_rows(alloc: Global, line: &mut Vec<u8>, rows: &[Row]) -> Result<(), AllocError>
+    ensures { OnOk result (line.new.items
+        ≡ line.old.items ++ flat_map (λ row. comma ∷ row_text row) (map form_of_row rows.now)) }
+{
     for row in rows {
-        values.push(row_value(alloc, row)?)?;
+        line.push(b',')?;
+        push_row(alloc, line, row)?;
     }
-    Ok(values)
+    Ok(())
 }
 
-fn row_value(alloc: Global, row: &Row) -> Result<Value, AllocError>
-    ensures { IfOk result (λ value. view value ≡ row_data (form_of_row row.now)) }
+fn push_row(alloc: Global, line: &mut Vec<u8>, row: &Row) -> Result<(), AllocError>
+    ensures { OnOk result (line.new.items ≡ line.old.items ++ row_text (form_of_row row.now)) }
 {
-    let key = part_values(alloc, row.key.parts.as_slice())?;
-    let value = answer_value(alloc, &row.value)?;
-    json!(in alloc; {"key": key, "value": value})
+    line.extend_from_slice(b"{\"key\":[")?;
+    push_parts(alloc, line, row.key.parts.as_slice())?;
+    line.extend_from_slice(b"],\"value\":")?;
+    push_answer(line, &row.value)?;
+    line.push(b'}')?;
+    Ok(())
 }
 
-fn part_values(alloc: Global, parts: &[KeyPart]) -> Result<Vec<Value>, AllocError>
-    ensures { IfOk result (λ values. map view values.items ≡ map part_data parts.now) }
+/// Adds the parts of a key, with commas between them.
+fn push_parts(alloc: Global, line: &mut Vec<u8>, parts: &[KeyPart]) -> Result<(), AllocError>
+    ensures { OnOk result (line.new.items ≡ line.old.items ++ join_with_byte comma (map part_text parts.now)) }
 {
-    let mut values = Vec::new(alloc);
+    match parts.split_first() {
+        Some((first, more)) => {
+            push_part(alloc, line, first)?;
+            push_more_parts(alloc, line, more)
+        }
+        None => Ok(()),
+    }
+}
+
+/// Adds parts of a key, each after a comma.
+fn push_more_parts(alloc: Global, line: &mut Vec<u8>, parts: &[KeyPart]) -> Result<(), AllocError>
+    ensures { OnOk result (line.new.items ≡ line.old.items ++ flat_map (λ part. comma ∷ part_text part) parts.now) }
+{
     for part in parts {
-        values.push(part_value(alloc, part)?)?;
+        line.push(b',')?;
+        push_part(alloc, line, part)?;
     }
-    Ok(values)
+    Ok(())
 }
 
-fn part_value(alloc: Global, part: &KeyPart) -> Result<Value, AllocError>
-    ensures { IfOk result (λ value. view value ≡ part_data part.now) }
+fn push_part(alloc: Global, line: &mut Vec<u8>, part: &KeyPart) -> Result<(), AllocError>
+    ensures { OnOk result (line.new.items ≡ line.old.items ++ part_text part.now) }
 {
     match part {
-        KeyPart::Number(number) => Ok(Value::from(*number)),
-        KeyPart::Text(bytes) => Ok(Value::String(text_of(alloc, before_zeros(bytes))?)),
+        KeyPart::Number(number) => push_signed(line, *number),
+        KeyPart::Text(bytes) => push_string(alloc, line, text_of(alloc, before_zeros(bytes))?),
     }
 }
 
-fn answer_value(alloc: Global, answer: &CellAnswer) -> Result<Value, AllocError>
-    ensures { IfOk result (λ value. view value ≡ value_data (form_of_answer answer.now)) }
+/// Adds what a function makes of the values of a key: a number, or a list of counts.
+fn push_answer(line: &mut Vec<u8>, answer: &CellAnswer) -> Result<(), AllocError>
+    ensures { OnOk result (line.new.items ≡ line.old.items ++ value_text (form_of_answer answer.now)) }
 {
     match answer {
-        CellAnswer::Number(number) => Ok(Value::from(*number)),
-        CellAnswer::Rows(rows) => Ok(Value::Array(counted_values(alloc, rows)?)),
+        CellAnswer::Number(number) => push_signed(line, *number),
+        CellAnswer::Rows(rows) => {
+            line.push(b'[')?;
+            push_counts(line, rows)?;
+            line.push(b']')?;
+            Ok(())
+        }
     }
 }
 
-fn counted_values(alloc: Global, rows: &[CountedRow]) -> Result<Vec<Value>, AllocError>
-    ensures { IfOk result (λ values. map view values.items ≡ map counted_data (map form_of_counted_row rows.now)) }
+/// Adds counted rows, with commas between them.
+fn push_counts(line: &mut Vec<u8>, rows: &[CountedRow]) -> Result<(), AllocError>
+    ensures { OnOk result (line.new.items
+        ≡ line.old.items ++ join_with_byte comma (map counted_text (map form_of_counted_row rows.now))) }
 {
-    let mut values = Vec::new(alloc);
+    match rows.split_first() {
+        Some((first, more)) => {
+            push_count(line, *first)?;
+            push_more_counts(line, more)
+        }
+        None => Ok(()),
+    }
+}
+
+/// Adds counted rows, each after a comma.
+fn push_more_counts(line: &mut Vec<u8>, rows: &[CountedRow]) -> Result<(), AllocError>
+    ensures { OnOk result (line.new.items
+        ≡ line.old.items ++ flat_map (λ row. comma ∷ counted_text row) (map form_of_counted_row rows.now)) }
+{
     for row in rows {
-        values.push(counted_value(alloc, *row)?)?;
+        line.push(b',')?;
+        push_count(line, *row)?;
     }
-    Ok(values)
+    Ok(())
 }
 
-fn counted_value(alloc: Global, row: CountedRow) -> Result<Value, AllocError>
-    ensures { IfOk result (λ value. view value ≡ counted_data (form_of_counted_row row)) }
+/// Adds the least value of a row and its count.
+fn push_count(line: &mut Vec<u8>, row: CountedRow) -> Result<(), AllocError>
+    ensures { OnOk result (line.new.items ≡ line.old.items ++ counted_text (form_of_counted_row row)) }
 {
-    let least = least_value(row.least);
-    json!(in alloc; [least, row.count])
+    line.push(b'[')?;
+    push_least(line, row.least)?;
+    line.push(b',')?;
+    push_number(line, row.count)?;
+    line.push(b']')?;
+    Ok(())
 }
 
-/// The least value of a row; null for the row below all levels.
-fn least_value(least: Option<i64>) -> Value
-    ensures { view result ≡ least_data least }
+/// Adds the least value of a row; null for the row below all levels.
+fn push_least(line: &mut Vec<u8>, least: Option<i64>) -> Result<(), AllocError>
+    ensures { OnOk result (line.new.items ≡ line.old.items ++ least_text least) }
 {
     match least {
-        Some(least) => Value::from(least),
-        None => Value::Null,
+        Some(least) => push_signed(line, least),
+        None => line.extend_from_slice(b"null"),
     }
 }

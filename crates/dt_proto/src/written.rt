@@ -1,9 +1,17 @@
 //! Lines of replies that are written without a JSON value: to build one costs several times what the line itself does.
-ghost use Rattle.std.specs.Prelude.{◌≡◌, ◌++◌, if◌then◌else◌, IfOk, OnOk, codes, decimal};
+ghost use Rattle.std.specs.Prelude.{◌≡◌, ◌++◌, if◌then◌else◌, IfOk, OnOk, codes, decimal, map};
+ghost use Rattle.std.specs.Fmt.{signed_decimal};
 ghost use Rattle.serde_json.specs.Written.{compact_text};
-ghost use Rattle.dt_life.specs.Answer.{enabled, snapped, status};
+ghost use Rattle.dt_aggstore.specs.EntryNames.{form_of_row};
+ghost use Rattle.dt_life.specs.Answer.{aggregated, enabled, listed, snapped, status};
 ghost use Rattle.dt_proto.specs.Reply.{cause_data, exit_data, numbers_text, reply_text};
 
+use crate::probes::push_probes;
+use crate::rows::{push_rows, word_of};
+use crate::text::{push_string, text_of};
+use dt_aggfn::AggFn;
+use dt_aggstore::Row;
+use dt_cred::Probe;
 use dt_life::{End, Phase};
 use itoa::Buffer;
 use std::alloc::{AllocError, Global};
@@ -72,6 +80,35 @@ pub(crate) fn status_line(
     Ok(line)
 }
 
+/// The line of listed probes, with its newline.
+pub(crate) fn listed_line(alloc: Global, probes: &[Probe]) -> Result<Vec<u8>, AllocError>
+    ensures { IfOk result (λ line. line.items ≡ reply_text (listed probes.now)) }
+{
+    let mut line = begun(alloc, ROOM, b"{\"ok\":true,\"probes\":[")?;
+    push_probes(alloc, &mut line, probes)?;
+    line.extend_from_slice(b"]}\n")?;
+    Ok(line)
+}
+
+/// The line of an aggregation's table, with its newline.
+pub(crate) fn table_line(
+    alloc: Global,
+    name: &[u8],
+    function: AggFn,
+    rows: &[Row],
+) -> Result<Vec<u8>, AllocError>
+    ensures { IfOk result (λ line. line.items ≡ reply_text (aggregated name.now function (map form_of_row rows.now))) }
+{
+    let mut line = begun(alloc, ROOM, b"{\"fn\":\"")?;
+    line.extend_from_slice(word_of(function).as_bytes())?;
+    line.extend_from_slice(b"\",\"name\":")?;
+    push_string(alloc, &mut line, text_of(alloc, name)?)?;
+    line.extend_from_slice(b",\"ok\":true,\"rows\":[")?;
+    push_rows(alloc, &mut line, rows)?;
+    line.extend_from_slice(b"]}\n")?;
+    Ok(line)
+}
+
 /// A line that begins with this text, with room for so many bytes.
 fn begun(alloc: Global, room: usize, text: &[u8]) -> Result<Vec<u8>, AllocError>
     ensures { IfOk result (λ line. line.items ≡ text.now) }
@@ -128,8 +165,15 @@ fn push_numbers(line: &mut Vec<u8>, numbers: &[u64]) -> Result<(), AllocError>
 }
 
 /// Adds a number's decimal digits.
-fn push_number(line: &mut Vec<u8>, number: u64) -> Result<(), AllocError>
+pub(crate) fn push_number(line: &mut Vec<u8>, number: u64) -> Result<(), AllocError>
     ensures { OnOk result (line.new.items ≡ line.old.items ++ decimal number) }
+{
+    line.extend_from_slice(Buffer::new().format(number).as_bytes())
+}
+
+/// Adds a number's decimal digits, after its sign where it is below 0.
+pub(crate) fn push_signed(line: &mut Vec<u8>, number: i64) -> Result<(), AllocError>
+    ensures { OnOk result (line.new.items ≡ line.old.items ++ signed_decimal number) }
 {
     line.extend_from_slice(Buffer::new().format(number).as_bytes())
 }

@@ -15,7 +15,7 @@ enum Task {
 /// Where one thread asks a processor's thread for firings, and waits until they are made. One thread asks at a time.
 #[derive(Drop)]
 pub struct Desk {
-    slot: Mutex<Task>,
+    task: Mutex<Task>,
     turned: Condvar,
 }
 
@@ -23,41 +23,41 @@ impl Desk {
     /// A desk with nothing on it.
     pub fn new() -> Desk {
         Desk {
-            slot: Mutex::new(Task::Idle),
+            task: Mutex::new(Task::Idle),
             turned: Condvar::new(),
         }
     }
 
     /// Asks for so many firings, and waits until the processor says how many it made.
     pub fn step<R: Wait>(&self, rt: &R, count: u32) -> u32 {
-        *self.slot.lock(rt) = Task::Asked(count);
+        *self.task.lock(rt) = Task::Asked(count);
         self.turned.notify_all();
-        let mut slot = self.slot.lock(rt);
+        let mut task = self.task.lock(rt);
         for _ in rt.forever() {
-            if let Task::Done(made) = *slot {
-                *slot = Task::Idle;
+            if let Task::Done(made) = *task {
+                *task = Task::Idle;
                 return made;
             }
-            slot = self.turned.wait(rt, slot);
+            task = self.turned.wait(rt, task);
         }
         unreachable!()
     }
 
     /// Waits until firings are asked for, and says how many.
     pub(crate) fn asked<R: Wait>(&self, rt: &R) -> u32 {
-        let mut slot = self.slot.lock(rt);
+        let mut task = self.task.lock(rt);
         for _ in rt.forever() {
-            if let Task::Asked(count) = *slot {
+            if let Task::Asked(count) = *task {
                 return count;
             }
-            slot = self.turned.wait(rt, slot);
+            task = self.turned.wait(rt, task);
         }
         unreachable!()
     }
 
     /// Says how many firings were made.
     pub(crate) fn done<R: Wait>(&self, rt: &R, made: u32) {
-        *self.slot.lock(rt) = Task::Done(made);
+        *self.task.lock(rt) = Task::Done(made);
         self.turned.notify_all();
     }
 }

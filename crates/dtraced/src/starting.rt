@@ -8,7 +8,7 @@ use dt_names::Name;
 use dt_proto::Lines;
 use dt_server::{AccountSocket, Desk, Shared, serve_machine};
 use dt_world::write_whole;
-use std::alloc::{AllocError, Global};
+use std::alloc::Global;
 use std::net::Net;
 use std::os::unix::fs::PermissionsExt;
 use std::os::unix::net::UnixListener;

@@ -1,0 +1,11 @@
+-- The counted rows so far are added.
+use Rattle.std.proofs.Common.{◌≡◌, ◌∷◌, ◌++◌, map, take}
+use Rattle.std.specs.List.{flat_map}
+use Rattle.dt_names.specs.Bytes.{comma}
+use Rattle.dt_aggfn.specs.Answers.{form_of_counted_row}
+use Rattle.dt_proto.specs.Rows.{counted_text}
+use Rattle.dt_proto.proofs.rows.push_more_counts.Given as goal
+
+abbrev pub invariant-loop-row : goal.invariant-loop-row
+invariant-loop-row l = l.line.items
+    ≡ l.fn.line.items ++ flat_map (λ row. comma ∷ counted_text row) (map form_of_counted_row (take l.row-index l.rows))
