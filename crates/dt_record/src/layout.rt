@@ -41,7 +41,7 @@ impl Layout {
     pub fn of(clause: &Clause) -> Self
         ensures { form_of_layout result ≡ layout_of (form_of_clause clause.now) }
     {
-        let fields = if leaves_record(&clause.statements) {
+        let fields = if leaves_record(clause) {
             Some(fields(&clause.statements))
         } else {
             None

@@ -28,5 +28,6 @@ pub use limit_laws::limits_agree;
 pub use limits::{EPID_SIZE, RECORD_MAX, VALUES_MAX};
 pub use parts::Taken;
 pub use recorded::{Record, Recorded};
+pub use recording::leaves_record;
 pub use splitting::split;
 pub use taking::taken;

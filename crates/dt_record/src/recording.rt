@@ -1,10 +1,10 @@
-//! Which statements put something into the record.
+//! Which clauses leave a record.
 ghost use Rattle.std.specs.Prelude.{◌≡◌, map};
 ghost use Rattle.std.specs.List.{list_any};
-ghost use Rattle.dt_program.specs.Clause.{form_of_statement};
+ghost use Rattle.dt_program.specs.Clause.{form_of_clause, form_of_statement};
 ghost use Rattle.dt_record.specs.Taking as spec;
 
-use dt_program::Statement;
+use dt_program::{Clause, Statement};
 
 /// Whether a statement puts something into the record.
 fn is_recording(statement: &Statement) -> bool
@@ -23,9 +23,16 @@ fn any_records(statements: &[Statement]) -> bool
     statements.iter().any(|statement| is_recording(statement))
 }
 
-/// Whether a clause of these statements leaves a record: one of them records something, or there is none.
-pub(crate) fn leaves_record(statements: &[Statement]) -> bool
+/// Whether statements leave a record: one of them records something, or there is none.
+fn leave_record(statements: &[Statement]) -> bool
     ensures { result ≡ spec.leaves_record (map form_of_statement statements.now) }
 {
     statements.is_empty() || any_records(statements)
+}
+
+/// Whether a clause leaves a record where it is taken: one of its statements records something, or it has none.
+pub fn leaves_record(clause: &Clause) -> bool
+    ensures { result ≡ spec.leaves_record (form_of_clause clause.now).statements }
+{
+    leave_record(&clause.statements)
 }

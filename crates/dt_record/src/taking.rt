@@ -7,6 +7,7 @@ ghost use Rattle.dt_expr.specs.Scene.{scene_of};
 ghost use Rattle.dt_program.specs.Clause.{form_of_clause, form_of_statement};
 ghost use Rattle.dt_record.specs.Forms.{form_of_taken, outcome_of};
 ghost use Rattle.dt_record.specs.Taking.{Effect, abandoned, leaves, passed_over, each, effect, predicate_value, taken_of, taking};
+ghost use Rattle.dt_record.specs.Taking as spec;
 ghost use Rattle.dt_program.specs.declared.clause.TheConstants.{STATEMENTS_MAX};
 
 use crate::parts::Taken;
@@ -61,22 +62,42 @@ impl Taken {
             ≡ (if held then leaves (form_of_taken self.new) else passed_over))
             (λ _. taking epid (scene_of scene.now) (form_of_clause clause.now) ≡ abandoned) }
     {
+        self.take_known(epid, clause, leaves_record(clause), scene)
+    }
+
+    /// The same for a clause of which it is known whether it leaves a record: who takes a clause again and again asks
+    /// [`leaves_record`] once.
+    pub fn take_known(
+        &mut self,
+        epid: u32,
+        clause: &Clause,
+        records: bool,
+        scene: &Scene,
+    ) -> Result<bool, EvalFault>
+        requires { records ≡ spec.leaves_record (form_of_clause clause.now).statements }
+        ensures { MatchResult result
+            (λ held. taking epid (scene_of scene.now) (form_of_clause clause.now)
+            ≡ (if held then leaves (form_of_taken self.new) else passed_over))
+            (λ _. taking epid (scene_of scene.now) (form_of_clause clause.now) ≡ abandoned) }
+    {
         // where the predicate is 0 the clause does nothing: no expression of its statements is evaluated
         if !predicate_holds(&clause.predicate, scene)? {
             return Ok(false);
         }
-        self.take_statements(epid, &clause.statements, scene)?;
+        self.take_statements(epid, records, &clause.statements, scene)?;
         Ok(true)
     }
 
-    /// Takes the statements of a clause, one after another.
+    /// Takes the statements of a clause, one after another. Whether they leave a record is known.
     fn take_statements(
         &mut self,
         epid: u32,
+        records: bool,
         statements: &[Statement],
         scene: &Scene,
     ) -> Result<(), EvalFault>
-        requires { length statements.now ≤ STATEMENTS_MAX }
+        requires few { length statements.now ≤ STATEMENTS_MAX }
+        requires known { records ≡ spec.leaves_record (map form_of_statement statements.now) }
         // what is left comes of all statements' effects; a fault exactly where one of them has no effect
         ensures { MatchResult result
             (λ _. (effects : List Effect)
@@ -84,7 +105,7 @@ impl Taken {
             × (form_of_taken self.new ≡ taken_of epid (map form_of_statement statements.now) effects))
             (λ _. each (effect (scene_of scene.now)) (map form_of_statement statements.now) ≡ None) }
     {
-        self.begin(epid, leaves_record(statements));
+        self.begin(epid, records);
         for statement in statements {
             self.add(statement, scene)?;
         }

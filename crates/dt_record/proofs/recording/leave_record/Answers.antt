@@ -1,11 +1,11 @@
--- What the proof of `leaves_record` is told at its goals.
+-- What the proof of `leave_record` is told at its goals.
 use Rattle.std.proofs.Common.{ap, sym, ◌∙◌, ◌==◌, ◌||◌, map}
 use Rattle.std.specs.List.{list_any}
 use Rattle.std.proofs.lemmas.List.{length-map}
 use Rattle.dt_program.specs.Clause.{form_of_statement}
 use Rattle.dt_record.specs.Taking as spec
 use Rattle.dt_record.proofs.Loops.{list_any-map}
-use Rattle.dt_record.proofs.recording.leaves_record.Goals as goal
+use Rattle.dt_record.proofs.recording.leave_record.Goals as goal
 
 pub returns-else-is_empty : goal.returns-else-is_empty
 returns-else-is_empty c =
