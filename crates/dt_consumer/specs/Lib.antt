@@ -8,5 +8,6 @@ pub mod StandsFor
 pub mod Draft
 -- Private to the proofs: no promise names them.
 pub mod Counts
+pub mod Recording
 -- The laws of these.
 pub mod laws

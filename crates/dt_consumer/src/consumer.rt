@@ -43,8 +43,8 @@ impl Consumer {
     ghost use Rattle.dt_life.specs.declared.refusal.Refusal.{Refusal};
     ghost use Rattle.dt_consumer.specs.StandsFor.{StandsFor};
 
-    /// A consumer that has asked nothing, with the room for all that it may enable. The machine is the one that the
-    /// contract speaks of; nothing is read of it.
+    /// A consumer that has asked nothing, with the room for all that it may enable. The machine is there for the contract: it
+    /// says on which machine the consumer stands for its life. Nothing is read of it.
     pub fn new(alloc: Global, account: Account, _machine: &Machine) -> Result<Self, AllocError>
         ensures { IfOk result (λ consumer. StandsFor account _machine.now.registry consumer []) }
     {
@@ -154,7 +154,8 @@ impl Consumer {
         if !tracing.wants(firing.cpu, firing.probe) {
             return false;
         }
-        tracing.see(&self.account, machine, self.programs.clauses(), context);
+        let (clauses, records) = (self.programs.clauses(), self.programs.records());
+        tracing.see(&self.account, machine, clauses, records, context);
         true
     }
 
@@ -235,8 +236,11 @@ impl Consumer {
             → Drafted account machine.now.registry life line Change.Stop
             → StandsFor account machine.now.registry self.new (after_line life line) }
     {
+        // Always so where it stands for the life after which the `stop` was drafted: its phase is active, and a consumer that
+        // never traced is inactive or stopped (`IsUntraced`).
         if let Some(tracing) = &mut self.tracing {
-            tracing.stop(&self.account, machine, self.programs.clauses());
+            let (clauses, records) = (self.programs.clauses(), self.programs.records());
+            tracing.stop(&self.account, machine, clauses, records);
         }
         self.lines = self.lines.saturating_add(1);
     }
@@ -247,6 +251,7 @@ impl Consumer {
             → StandsFor account registry self.old life → Drafted account registry life line (Change.Snap cpu)
             → StandsFor account registry self.new (after_line life line) }
     {
+        // closed before its `go`, it has no buffer, and the `snap` is only counted
         if let Some(tracing) = &mut self.tracing {
             tracing.snap(cpu);
         }
@@ -259,6 +264,7 @@ impl Consumer {
             → StandsFor account registry self.old life → Drafted account registry life line (Change.Trunc aggregation)
             → StandsFor account registry self.new (after_line life line) }
     {
+        // closed before its `go`, it has no store, and the `trunc` is only counted
         if let Some(tracing) = &mut self.tracing {
             tracing.trunc(aggregation);
         }

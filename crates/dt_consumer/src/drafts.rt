@@ -282,17 +282,16 @@ impl Consumer {
             return Ok(Draft::refused(Refusal::Busy));
         }
         Ok(Draft {
-            reply: self.shown(alloc, machine, cpu)?,
+            reply: self.shown(alloc, cpu)?,
             change: Change::Snap { cpu: cpu as usize },
         })
     }
 
     /// What the buffer of a processor shows: nothing where the session was closed before tracing began.
-    fn shown(&self, alloc: Global, machine: &Machine, cpu: u32) -> Result<Reply, AllocError>
-        requires { cpu < machine.now.registry.cpus }
-        ensures { IfOk result (λ reply. (account : Account) (life : List Item)
-            → StandsFor account machine.now.registry self.now life
-            → Accepted account machine.now.registry life (snap cpu) (answer_of reply)) }
+    fn shown(&self, alloc: Global, cpu: u32) -> Result<Reply, AllocError>
+        ensures { IfOk result (λ reply. (account : Account) (registry : Registry) (life : List Item)
+            → StandsFor account registry self.now life → cpu < registry.cpus
+            → Accepted account registry life (snap cpu) (answer_of reply)) }
     {
         // closed before its `go`, the consumer has no buffer, and a `snap` tells of an empty one
         let Some(processor) = self.processor(cpu) else {

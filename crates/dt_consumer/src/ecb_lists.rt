@@ -40,7 +40,8 @@ impl EcbList {
         let mut lists = EcbList::none(alloc, count)?;
         for ecb in ecbs {
             let probe = ecb.probe as usize;
-            // no ECB names a probe that the machine lacks
+            // Always so where the ECBs are those of a consumer on the machine that has as many probes (`AreEcbs`); an `Ecb` by
+            // itself says nothing of a machine.
             if probe < lists.len() {
                 lists[probe].ecbs.push(*ecb)?;
             }

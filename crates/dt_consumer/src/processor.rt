@@ -151,7 +151,8 @@ impl Processor {
         ensures gives { added_of store.new ≤ added_of store.old + STATEMENTS_MAX }
     {
         let clause = &enabled.clauses[ecb.clause];
-        match left.take(ecb.epid, clause, &scene_at(context, ecb.epid)) {
+        let records = enabled.records[ecb.clause];
+        match left.take_known(ecb.epid, clause, records, &scene_at(context, ecb.epid)) {
             Ok(true) => {
                 if let Some(bytes) = &left.bytes {
                     let _put = self.buffer.put(bytes, in_end);

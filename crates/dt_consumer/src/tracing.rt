@@ -3,6 +3,7 @@ ghost use Rattle.std.specs.Prelude.{◌≡◌, ◌≤◌, ◌<◌, ◌+◌, ◌*
 ghost use Rattle.dt_ecb.specs.declared.limits.TheConstants.{ECBS_MAX};
 ghost use Rattle.dt_consumer.specs.Counts.{AtMost, GIVES_MAX, own_firings, must_be_left};
 ghost use Rattle.dt_consumer.specs.Placing.{ArePlaced};
+ghost use Rattle.dt_consumer.specs.Recording.{leave_records};
 ghost use Rattle.dt_life.specs.Uses.{GivenAtMost};
 ghost use Rattle.dt_life.specs.declared.limits.TheConstants.{END, HISTORY_MAX};
 
@@ -85,7 +86,13 @@ impl Tracing {
         let Some(end) = End::after(exit, 0, options.histsize) else {
             return Ok(tracing);
         };
-        tracing.finish(end, account, machine, programs.clauses());
+        tracing.finish(
+            end,
+            account,
+            machine,
+            programs.clauses(),
+            programs.records(),
+        );
         Ok(tracing)
     }
 
@@ -123,6 +130,7 @@ impl Tracing {
         };
         let enabled = Enabled {
             clauses: programs.clauses(),
+            records: programs.records(),
             uses: &uses,
         };
         let exit = processors.take(&enabled, &lists[BEGIN as usize], &context);
@@ -180,10 +188,12 @@ impl Tracing {
         account: &Account,
         machine: &Machine,
         clauses: &[Clause],
+        records: &[bool],
         context: &Context,
     )
         requires going { self.old.course ≡ Course.Running }
         requires same { vec_len self.old.uses ≡ length clauses.now }
+        requires recorded { records.now ≡ leave_records clauses.now }
         requires there { context.now.firing.now.cpu < vec_len self.old.processors.all }
         requires known { context.now.firing.now.probe < vec_len self.old.lists }
         ensures uses { self.new.uses ≡ self.old.uses }
@@ -196,6 +206,7 @@ impl Tracing {
     {
         let enabled = Enabled {
             clauses,
+            records,
             uses: &self.uses,
         };
         let list = &self.lists[context.firing.probe as usize];
@@ -215,9 +226,11 @@ impl Tracing {
         account: &Account,
         machine: &Machine,
         clauses: &[Clause],
+        records: &[bool],
     )
         requires going { self.old.course ≡ Course.Running }
         requires same { vec_len self.old.uses ≡ length clauses.now }
+        requires recorded { records.now ≡ leave_records clauses.now }
         ensures uses { self.new.uses ≡ self.old.uses }
         ensures ended { (s : SetUp) → IsTracing account.now machine.now.registry s self.old
             → map form_of_clause clauses.now ≡ s.clauses
@@ -226,6 +239,7 @@ impl Tracing {
         self.course = Course::Over(Some(end));
         let enabled = Enabled {
             clauses,
+            records,
             uses: &self.uses,
         };
         let list = &self.lists[END as usize];
@@ -233,15 +247,24 @@ impl Tracing {
     }
 
     /// Ends tracing by a `stop`, where it goes on.
-    pub(crate) fn stop(&mut self, account: &Account, machine: &Machine, clauses: &[Clause])
-        requires { vec_len self.old.uses ≡ length clauses.now }
+    pub(crate) fn stop(
+        &mut self,
+        account: &Account,
+        machine: &Machine,
+        clauses: &[Clause],
+        records: &[bool],
+    )
+        requires same { vec_len self.old.uses ≡ length clauses.now }
+        requires recorded { records.now ≡ leave_records clauses.now }
         ensures uses { self.new.uses ≡ self.old.uses }
         ensures ended { (s : SetUp) → IsTracing account.now machine.now.registry s self.old
             → map form_of_clause clauses.now ≡ s.clauses → phase_of s ≡ Active
             → IsTracing account.now machine.now.registry (with_event s (ends End.Stop)) self.new }
     {
+        // Always so where the consumer stands for the life after which the `stop` was drafted: its phase is active. Another one,
+        // that ended by a firing since, stays as it is.
         if self.is_running() {
-            self.finish(End::Stop, account, machine, clauses);
+            self.finish(End::Stop, account, machine, clauses, records);
         }
     }
 
@@ -253,6 +276,7 @@ impl Tracing {
         ensures over { (account : Account) (registry : Registry) (s : SetUp) → IsTracing account registry s self.old
             → is_stopped (phase_of s) ≡ true → IsTracing account registry s self.new }
     {
+        // a `close` is accepted in every phase: where tracing is over, why it ended stays
         if self.is_running() {
             self.course = Course::Over(None);
         }
@@ -264,6 +288,8 @@ impl Tracing {
         ensures snapped { (account : Account) (registry : Registry) (s : SetUp) → IsTracing account registry s self.old
             → IsTracing account registry (with_event s (snapped cpu)) self.new }
     {
+        // Always so where it traces on the machine of the `snap` (`all_processors` of `IsTracing`): the draft asked for a processor
+        // of that machine. On a processor that isn't there nothing was taken.
         if cpu < self.processors.all.len() {
             self.processors.all[cpu].snap();
         }

@@ -102,7 +102,8 @@ impl Use {
             → IsAt (given_then past (contribution_at (form_of_use self.now) (drop place values.now))) store.new }
         ensures counts { added_of store.new ≤ added_of store.old + 1 }
     {
-        // each aggregation that an accepted program names is known, so this end is never met
+        // Never met where the uses are those of a consumer's clauses (`AreUses`): the shapes by which they were found have a
+        // shape for each name of these clauses, with bounds that were read. It gives nothing, as `contribution_at` says.
         let Some(aggregation) = self.aggregation else {
             return;
         };

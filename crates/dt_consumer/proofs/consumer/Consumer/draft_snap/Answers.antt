@@ -11,4 +11,4 @@ returns-clause-drafted c = λ account life m.
     (sym (c.is_readable.ensures (set_up account registry life) m.stands.keeps.options
     ∙ ap (is_readable (set_up account registry life)) (c.phase.ensures account registry life m.stands))
     ∙ c.if-not-is_readable.false)
-    (c.in_ok-shown.ensures account life m.stands)
+    (c.in_ok-shown.ensures account registry life m.stands (omega arith))

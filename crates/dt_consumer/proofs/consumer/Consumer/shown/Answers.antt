@@ -1,5 +1,5 @@
 -- A buffer shows its past; where the consumer never traced, nothing.
-use Rattle.std.proofs.Common.{false, [], refl, ap, arith}
+use Rattle.std.proofs.Common.{false, [], refl, ap}
 use Rattle.dt_life.specs.Answer.{snapped}
 use Rattle.dt_life.specs.Buffers.{past}
 use Rattle.dt_life.specs.Life.{set_up}
@@ -8,10 +8,9 @@ use Rattle.dt_consumer.proofs.Quiet.{nothing_shown}
 use Rattle.dt_consumer.proofs.consumer.Consumer.shown.Goals as goal
 
 pub returns : goal.returns
-returns c = λ account life s.
-    let registry = c.args.machine.now.registry in
+returns c = λ account registry life s there.
     let tried = past account registry life c.args.cpu in
-    let has = c.in-Some.ensures account registry life s (omega arith) in (
+    let has = c.in-Some.ensures account registry life s there in (
       c.in_ok-content.field-0.items,
       c.drops.result,
       c.filled.result,
@@ -22,12 +21,11 @@ returns c = λ account life s.
     )
 
 pub returns-in_default : goal.returns-in_default
-returns-in_default c = λ account life s.
-    let registry = c.args.machine.now.registry in (
-      [],
-      0,
-      false,
-      nothing_shown account registry (set_up account registry life) c.args.cpu
-          (c.in_default.ensures account registry life s (omega arith)),
-      ap (λ bytes. snapped c.args.cpu bytes 0 false) c.new.ensures.items,
-    )
+returns-in_default c = λ account registry life s there. (
+  [],
+  0,
+  false,
+  nothing_shown account registry (set_up account registry life) c.args.cpu
+      (c.in_default.ensures account registry life s there),
+  ap (λ bytes. snapped c.args.cpu bytes 0 false) c.new.ensures.items,
+)

@@ -23,12 +23,12 @@ returns-after-left-clause-given c = λ shapes are past h.
     let clauses = c.args.enabled.now.clauses.now in
     let clause = c.index-enabled-ecb.result in
     let u = c.index-enabled-ecb-in-Ok-true.result in
-    let left = form_of_taken c.take.new.self in
+    let left = form_of_taken c.take_known.new.self in
     let comes : taking c.args.ecb.epid (scene_at m c.args.ecb.epid) (form_of_clause clause) ≡ leaves left =
     ap (λ (s : SceneForm). taking c.args.ecb.epid s (form_of_clause clause)) (sym c.scene_at.ensures)
     ∙ ap (λ (k : Clause). taking c.args.ecb.epid (scene_of c.scene_at.result) (form_of_clause k)) c.index-enabled-ecb.is
     ∙ c.in-Ok-true.ensures ∙ ap (λ b. cond b (leaves left) passed_over) c.in-Ok-true.field-0-test in
-    let same : c.match-left.left.values.items ≡ c.take.new.self.values.items = elim c.match-left.branch [
+    let same : c.match-left.left.values.items ≡ c.take_known.new.self.values.items = elim c.match-left.branch [
       | in-Some w ↦ ap (λ (t : Taken). t.values.items) w.left-is
       | in_default w ↦ ap (λ (t : Taken). t.values.items) w.left-is
     ] in
