@@ -24,7 +24,7 @@ returns-clause-seen c = λ account life s is shown holds.
     (λ (a : Account). IsTracing a registry own c.in-Some.tracing
     → IsTracing a registry (happens a registry own (seen firing)) c.see.new.self)
     s.keeps.same_account
-    (λ h. c.see.ensures.seen own firing h (ap (map form_of_clause) c.clauses.ensures.value ∙ s.keeps.clauses)
+    (λ h. c.see.ensures.seen own firing h (ap (map form_of_clause) c.clauses-clauses.ensures.value ∙ s.keeps.clauses)
     (names_its registry c.args.context.now is)) in
     record {
       keeps = keeps_same account registry next _ _ (ap (λ b. cond b next own) active)
