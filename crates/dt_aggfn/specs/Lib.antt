@@ -7,5 +7,7 @@ pub mod BoundsOf
 pub mod Rows
 pub mod Cells
 pub mod Answers
+-- Private to the crate: no public promise names it.
+pub mod Scales
 -- The laws of these.
 pub mod laws

@@ -1,10 +1,11 @@
 //! The aggregating functions, over cells.
 ghost use Rattle.std.specs.Prelude.{◌≡◌, ◌^◌, ◌<◌, ◌≤◌, List, [], ◌∷◌, ◌++◌, length, map, ℕ, ℤ, pos, int_div, IfOk};
 
-use crate::answer::{CellAnswer, CountedRow};
+use crate::answer::CellAnswer;
 use crate::levels::Bounds;
 use crate::limits::{CELL_WORDS_MAX, QUANTIZE_ROWS};
 use crate::powers;
+use crate::scale::Scale;
 use crate::words::{add_words, count_at};
 use std::alloc::{AllocError, Global};
 
@@ -29,9 +30,8 @@ pub enum AggFn {
 }
 
 impl AggFn {
-    ghost use Rattle.dt_aggfn.specs.Rows.{name_at, counted_words};
-    ghost use Rattle.dt_aggfn.specs.Cells.{cell_words, rows_of, cell_of, IsBag};
-    ghost use Rattle.dt_aggfn.specs.Answers.{answer_of_bag, form_of_counted_row, form_of_answer};
+    ghost use Rattle.dt_aggfn.specs.Cells.{cell_words, cell_of, IsBag};
+    ghost use Rattle.dt_aggfn.specs.Answers.{answer_of_bag, form_of_answer};
 
     /// How many words a cell has: at most [`CELL_WORDS_MAX`].
     pub fn cell_words(self) -> usize
@@ -121,39 +121,15 @@ impl AggFn {
     {
         match self {
             AggFn::Avg => Ok(CellAnswer::Number(average(cell[0], cell[1].cast_signed()))),
-            AggFn::Quantize | AggFn::Lquantize(_) => {
-                let counted = self.counted_rows(alloc, cell)?;
+            AggFn::Quantize => {
+                let counted = Scale::Powers.counted_rows(alloc, cell)?;
+                Ok(CellAnswer::Rows(counted))
+            }
+            AggFn::Lquantize(bounds) => {
+                let counted = Scale::Levels(bounds).counted_rows(alloc, cell)?;
                 Ok(CellAnswer::Rows(counted))
             }
             _ => Ok(CellAnswer::Number(cell[0].cast_signed())),
-        }
-    }
-
-    /// The rows that count something.
-    fn counted_rows(self, alloc: Global, cell: &[u64]) -> Result<Vec<CountedRow>, AllocError>
-        requires { length cell.now ≡ cell_words self }
-        ensures { IfOk result (λ counted. map form_of_counted_row counted.items ≡ counted_words (rows_of self) cell.now) }
-    {
-        let mut counted = Vec::new(alloc);
-        for (index, count) in cell.iter().enumerate() {
-            if *count > 0 {
-                let least = self.row_name(index);
-                let count = *count;
-                counted.push(CountedRow { least, count })?;
-            }
-        }
-        Ok(counted)
-    }
-
-    /// The name of the row at a place, if it has one.
-    fn row_name(self, index: usize) -> Option<i64>
-        requires { index < cell_words self }
-        ensures { result ≡ name_at (rows_of self) index }
-    {
-        match self {
-            AggFn::Quantize => Some(powers::row_name(index)),
-            AggFn::Lquantize(bounds) => bounds.row_name(index),
-            _ => None,
         }
     }
 }

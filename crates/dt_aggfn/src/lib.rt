@@ -14,6 +14,7 @@ mod levels;
 mod limit_laws;
 mod limits;
 mod powers;
+mod scale;
 mod words;
 
 pub use answer::{CellAnswer, CountedRow};

@@ -1,8 +1,9 @@
 -- What the cell of a bag answers.
-use Rattle.std.proofs.Common.{FitsSigned, inl, inr}
+use Rattle.std.proofs.Common.{FitsSigned}
 use Rattle.std.specs.Int.{w64}
 use Rattle.std.proofs.lemmas.Int.{to_z-of_z}
-use Rattle.dt_aggfn.proofs.AnswerLemmas.{answer_avg, answer_word, HasRows, answer_rows}
+use Rattle.dt_aggfn.specs.declared.function.AggFn.TheVariants.{Quantize, Lquantize}
+use Rattle.dt_aggfn.proofs.AnswerLemmas.{answer_avg, answer_word, answer_rows}
 use Rattle.dt_aggfn.proofs.function.AggFn.answer.Goals as goal
 
 pub returns-in-Avg : goal.returns-in-Avg
@@ -16,10 +17,14 @@ returns-in-Avg c = λ bag is h.
 
 pub returns-in_ok-counted-in-Quantize : goal.returns-in_ok-counted-in-Quantize
 returns-in_ok-counted-in-Quantize c = λ bag is h.
-    answer_rows c.args.self c.args.cell.now bag _ (with_rows c) h c.in_ok-counted-in-Quantize.ensures
-  where
-    with_rows : (c : goal.In_ok-counted-in-Quantize) → HasRows c.args.self
-    with_rows c = elim c.in-Quantize.is [ inl e ↦ rw e tt | inr e ↦ rw e.1 tt ]
+    rw (c.in-Quantize.is)
+    (answer_rows Quantize c.args.cell.now bag _ tt (rw c.in-Quantize.is at h) c.in_ok-counted-in-Quantize.ensures)
+
+pub returns-in_ok-counted-in-Lquantize : goal.returns-in_ok-counted-in-Lquantize
+returns-in_ok-counted-in-Lquantize c = λ bag is h.
+    rw (c.in-Lquantize.is)
+    (answer_rows (Lquantize c.in-Lquantize.bounds) c.args.cell.now bag _ tt (rw c.in-Lquantize.is at h)
+    c.in_ok-counted-in-Lquantize.ensures)
 
 pub returns-in_default : goal.returns-in_default
 returns-in_default c = λ bag is h.
