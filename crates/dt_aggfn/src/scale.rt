@@ -21,7 +21,11 @@ pub(crate) enum Scale {
 
 impl Scale {
     /// The rows that count something, of a cell that has a word for each row.
-    pub(crate) fn counted_rows(self, alloc: Global, cell: &[u64]) -> Result<Vec<CountedRow>, AllocError>
+    pub(crate) fn counted_rows(
+        self,
+        alloc: Global,
+        cell: &[u64],
+    ) -> Result<Vec<CountedRow>, AllocError>
         requires { length cell.now ≡ cell_words (function_on self) }
         ensures { IfOk result (λ counted. map form_of_counted_row counted.items
             ≡ counted_words (rows_of (function_on self)) cell.now) }
