@@ -3,7 +3,6 @@
 pub mod Buffers
 pub mod Listing
 pub mod Giving
-pub mod Recorded
 pub mod Taken
 pub mod Tracings
 pub mod Stores
