@@ -3,3 +3,8 @@ pub mod Rows
 pub mod Plain
 pub mod Bars
 pub mod Added
+pub mod Told
+pub mod Words
+pub mod Known
+pub mod Levels
+pub mod FunctionRows

@@ -1,10 +1,14 @@
 //! The rows of a distribution, with those that count nothing.
-ghost use Rattle.std.specs.Prelude.{◌≡◌, ◌≤◌, ◌^◌, MatchOption, map, sum_by};
+ghost use Rattle.std.specs.Prelude.{◌≡◌, ◌++◌, ◌∷◌, [], ◌<◌, ◌≤◌, ◌^◌, IfOk, MatchOption, OnOk, Some, map, pos, sum_by};
+ghost use Rattle.std.specs.Fmt.{signed_decimal};
+ghost use Rattle.dt_aggfn.specs.Rows.{level_from, levels_of};
+ghost use Rattle.dt_front.specs.CountForms.{form_of_row_count};
+ghost use Rattle.dt_front.specs.Distribution.{count_at, level_rows, picture_row, power_rows};
 ghost use Rattle.dt_front.specs.Picture.{total_of};
 ghost use Rattle.dt_front.specs.PictureForms.{form_of_picture_row};
 
 use crate::picture::PictureRow;
-use dt_aggfn::{Bounds, LEVELS_MAX};
+use dt_aggfn::Bounds;
 use itoa::Buffer;
 use std::alloc::{AllocError, Global};
 
@@ -20,16 +24,13 @@ pub struct RowCount {
     pub count: u64,
 }
 
-/// All rows of a `quantize`, rising.
-pub fn power_rows(alloc: Global, counts: &[RowCount]) -> Result<Vec<PictureRow>, AllocError> {
+/// All rows of a `quantize`, rising, each with its count.
+pub fn power_rows(alloc: Global, counts: &[RowCount]) -> Result<Vec<PictureRow>, AllocError>
+    ensures { IfOk result (λ rows. map form_of_picture_row rows.items ≡ power_rows (map form_of_row_count counts.now)) }
+{
     let mut rows = Vec::new(alloc);
     for back in 0..POWERS {
-        push_named(
-            alloc,
-            &mut rows,
-            counts,
-            power(POWERS - 1 - back).wrapping_neg(),
-        )?;
+        push_named(alloc, &mut rows, counts, -power(POWERS - 1 - back))?;
     }
     push_named(alloc, &mut rows, counts, 0)?;
     for exponent in 0..POWERS {
@@ -38,60 +39,92 @@ pub fn power_rows(alloc: Global, counts: &[RowCount]) -> Result<Vec<PictureRow>,
     Ok(rows)
 }
 
-/// A power of two; the greatest one that fits where the exponent is too large.
-fn power(exponent: u32) -> i64 {
-    1_i64 << exponent.min(62)
+/// A power of two.
+fn power(exponent: u32) -> i64
+    requires { exponent < 63 }
+    ensures { result ≡ pos (2 ^ exponent) }
+{
+    2_i64.pow(exponent)
 }
 
-/// All rows of an `lquantize`, rising.
+/// All rows of an `lquantize`, rising, each with its count.
 pub fn level_rows(
     alloc: Global,
     bounds: Bounds,
     counts: &[RowCount],
-) -> Result<Vec<PictureRow>, AllocError> {
+) -> Result<Vec<PictureRow>, AllocError>
+    ensures { IfOk result (λ rows. map form_of_picture_row rows.items ≡ level_rows bounds (map form_of_row_count counts.now)) }
+{
     let mut rows = Vec::new(alloc);
-    rows.push(PictureRow {
-        label: labelled(alloc, b"< ", bounds.lower)?,
-        count: count_at(counts, None),
-    })?;
-    let mut level = bounds.lower;
-    for _ in 0..LEVELS_MAX {
-        if level >= bounds.upper {
-            break;
-        }
-        push_named(alloc, &mut rows, counts, level)?;
-        level = level.saturating_add(bounds.step);
+    let below = labelled(alloc, b"< ", bounds.lower)?;
+    push_row(&mut rows, counts, below, None)?;
+    for index in 0..levels_of(bounds) {
+        push_named(alloc, &mut rows, counts, level_from(bounds, index))?;
     }
-    rows.push(PictureRow {
-        label: labelled(alloc, b">= ", bounds.upper)?,
-        count: count_at(counts, Some(bounds.upper)),
-    })?;
+    let above = labelled(alloc, b">= ", bounds.upper)?;
+    push_row(&mut rows, counts, above, Some(bounds.upper))?;
     Ok(rows)
 }
 
-/// Adds the row of this name.
+/// How many levels there are.
+fn levels_of(bounds: Bounds) -> usize
+    ensures { result ≡ levels_of bounds }
+{
+    (bounds.upper.abs_diff(bounds.lower) / bounds.step.unsigned_abs()) as usize
+}
+
+/// Where a level begins, the first being level 0.
+fn level_from(bounds: Bounds, index: usize) -> i64
+    requires { index < levels_of bounds }
+    ensures { result ≡ level_from bounds index }
+{
+    bounds
+        .lower
+        .wrapping_add((index as i64).wrapping_mul(bounds.step))
+}
+
+/// Adds the row of this name, by which it is labelled.
 fn push_named(
     alloc: Global,
     rows: &mut Vec<PictureRow>,
     counts: &[RowCount],
     name: i64,
-) -> Result<(), AllocError> {
-    rows.push(PictureRow {
-        label: labelled(alloc, b"", name)?,
-        count: count_at(counts, Some(name)),
-    })?;
+) -> Result<(), AllocError>
+    ensures { OnOk result (map form_of_picture_row rows.new.items
+        ≡ map form_of_picture_row rows.old.items ++ picture_row (map form_of_row_count counts.now) (signed_decimal name) (Some name) ∷ []) }
+{
+    let label = labelled(alloc, b"", name)?;
+    push_row(rows, counts, label, Some(name))
+}
+
+/// Adds the row of a name, with a label.
+fn push_row(
+    rows: &mut Vec<PictureRow>,
+    counts: &[RowCount],
+    label: Vec<u8>,
+    name: Option<i64>,
+) -> Result<(), AllocError>
+    ensures { OnOk result (map form_of_picture_row rows.new.items
+        ≡ map form_of_picture_row rows.old.items ++ picture_row (map form_of_row_count counts.now) label.items name ∷ []) }
+{
+    let count = count_at(counts, name);
+    rows.push(PictureRow { label, count })?;
     Ok(())
 }
 
 /// A number with what stands before it.
-fn labelled(alloc: Global, before: &[u8], number: i64) -> Result<Vec<u8>, AllocError> {
+fn labelled(alloc: Global, before: &[u8], number: i64) -> Result<Vec<u8>, AllocError>
+    ensures { IfOk result (λ label. label.items ≡ before.now ++ signed_decimal number) }
+{
     let mut label = Vec::from_slice(alloc, before)?;
     label.extend_from_slice(Buffer::new().format(number).as_bytes())?;
     Ok(label)
 }
 
 /// What is counted under a name; 0 where nothing is.
-fn count_at(counts: &[RowCount], least: Option<i64>) -> u64 {
+fn count_at(counts: &[RowCount], least: Option<i64>) -> u64
+    ensures { result ≡ count_at (map form_of_row_count counts.now) least }
+{
     for counted in counts {
         if counted.least == least {
             return counted.count;

@@ -1,8 +1,11 @@
 //! The rows of records.
-ghost use Rattle.std.specs.Prelude.{◌≡◌, ◌++◌, OnOk, map, option_map};
+ghost use Rattle.std.specs.Prelude.{◌≡◌, ◌≤◌, ◌<◌, ◌++◌, ℕ, MatchOption, OnOk, length, map, option_map};
+ghost use Rattle.dt_record.specs.Fields.{form_of_layout};
+ghost use Rattle.dt_record.specs.declared.limits.TheConstants.{EPID_SIZE};
 ghost use Rattle.dt_record.specs.Records.{form_of_record};
 ghost use Rattle.dt_front.specs.Records as spec;
 ghost use Rattle.dt_front.specs.Records.{record_row, rows_text};
+ghost use Rattle.dt_front.specs.Unknown.{ComesUnknown, epid_of, known_size};
 ghost use Rattle.dt_front.specs.RowForms.{form_of_row_probe};
 
 use crate::row::{RowProbe, push_full_row, push_values};
@@ -59,15 +62,17 @@ fn push_row(
     }
 }
 
-/// The EPID of the first record of these bytes whose layout isn't known yet.
-pub fn unknown_epid(layouts: &[Layout], bytes: &[u8]) -> Option<u32> {
+/// The EPID of the first record of these bytes of which no layout is known yet. `None` where all whole records that they begin with have one.
+pub fn unknown_epid(layouts: &[Layout], bytes: &[u8]) -> Option<u32>
+    ensures { MatchOption result
+        ((epid : ℕ) → ComesUnknown (map form_of_layout layouts.now) bytes.now epid → ⊥)
+        (λ epid. ComesUnknown (map form_of_layout layouts.now) bytes.now epid) }
+{
     let mut rest = bytes;
     while rest.len() >= EPID_SIZE {
-        let epid = u32::from_be_bytes([rest[0], rest[1], rest[2], rest[3]]);
-        let size = layouts
-            .get((epid as usize).saturating_sub(1))
-            .map_or(0, Layout::size);
-        if size < EPID_SIZE {
+        let epid = epid_of(rest);
+        let size = known_size(layouts, epid);
+        if size == 0 {
             return Some(epid);
         }
         if size > rest.len() {
@@ -76,4 +81,26 @@ pub fn unknown_epid(layouts: &[Layout], bytes: &[u8]) -> Option<u32> {
         rest = &rest[size..];
     }
     None
+}
+
+/// The EPID with which a record begins.
+fn epid_of(bytes: &[u8]) -> u32
+    requires { EPID_SIZE ≤ length bytes.now }
+    ensures { result ≡ epid_of bytes.now }
+{
+    u32::from_be_bytes([bytes[0], bytes[1], bytes[2], bytes[3]])
+}
+
+/// How many bytes a record of an EPID has: none of fewer than an EPID takes, and 0 where no layout of it is known.
+fn known_size(layouts: &[Layout], epid: u32) -> usize
+    ensures size { result ≡ known_size (map form_of_layout layouts.now) epid }
+    ensures some { 0 < result → EPID_SIZE ≤ result }
+{
+    if epid == 0 {
+        return 0;
+    }
+    match layouts.get(epid as usize - 1) {
+        Some(layout) => layout.size(),
+        None => 0,
+    }
 }

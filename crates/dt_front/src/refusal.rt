@@ -2,7 +2,9 @@
 ghost use Rattle.std.specs.Prelude.{◌≡◌, ◌++◌, ◌≤◌, ◌<◌, OnOk, drop, length, option_map, take};
 ghost use Rattle.serde_json.specs.View.{view};
 ghost use Rattle.dt_front.specs.Refusals as spec;
-ghost use Rattle.dt_front.specs.Refusals.{before_place, caret_text, from_place, marked_line, rest_line, tail_length};
+ghost use Rattle.dt_front.specs.Refusals.{before_place, caret_text, from_place, marked_line, rest_line, row_end, tail_length};
+ghost use Rattle.dt_front.specs.Sentences as sentences;
+ghost use Rattle.dt_front.specs.Sentences.{sentence, subject, words_of};
 ghost use Rattle.dt_front.specs.RefusalForms.{form_of_refusal};
 
 use crate::columns::{push_blanks, push_number};
@@ -45,67 +47,87 @@ impl<'a> ToldRefusal<'a> {
     }
 
     /// Adds a sentence that says why, and ends the line.
-    pub fn push_sentence(&self, out: &mut Vec<u8>) -> Result<(), AllocError> {
-        let (before, after) = self.words();
+    pub fn push_sentence(&self, out: &mut Vec<u8>) -> Result<(), AllocError>
+        ensures { OnOk result (out.new.items ≡ out.old.items ++ sentence (form_of_refusal self.now)) }
+    {
+        let (before, after) = words(self.number, self.why);
         out.extend_from_slice(before.as_bytes())?;
-        if let Some(clause) = self.clause {
-            push_number(out, clause)?;
-        } else if let Some(what) = self.what {
-            push_shown(out, what.as_bytes())?;
-        }
+        push_subject(out, self.clause, self.what)?;
         out.extend_from_slice(after.as_bytes())?;
         out.push(b'\n')?;
         Ok(())
     }
+}
 
-    /// The words of the sentence before the clause or the name that it tells, and those after it.
-    fn words(&self) -> (&'static str, &'static str) {
-        match self.number {
-            4 => (self.flaw(), ""),
-            5 => ("clause ", " matches no probe that this account may enable"),
-            6 => (
-                "clause ",
-                " records a kernel stack, which wants the privilege dtrace_kernel",
-            ),
-            7 => ("the action ", " is destructive, and no program may say it"),
-            8 => (
-                "the aggregation @",
-                " is used with another function, other bounds or other kinds of keys elsewhere",
-            ),
-            9 => (
-                "there is no room: 1,024 enablings, 64 aggregations, or under fill the bytes of a buffer for END's records",
-                "",
-            ),
-            10 => ("this can't be asked while tracing stands as it does", ""),
-            11 => (
-                "no option is called so or takes this value: bufsize (1 to 1048576), bufpolicy (switch, fill, ring), aggsize (8 to 1048576), histsize (1 to 1048576)",
-                "",
-            ),
-            15 => ("the session's 1,024 lines are spent", ""),
-            16 => ("the service has no memory for this now; try again", ""),
-            17 => ("all seats of the service are taken; try again later", ""),
-            18 => ("this account has no privilege to trace", ""),
-            3 => ("the program is too long for a line of 65,536 bytes", ""),
-            _ => (
-                "the service didn't understand dtr: are both of one version?",
-                "",
-            ),
-        }
+/// Adds what a sentence tells: a clause's number, or else the name of what is refused.
+fn push_subject(
+    out: &mut Vec<u8>,
+    clause: Option<u64>,
+    what: Option<&str>,
+) -> Result<(), AllocError>
+    ensures { OnOk result (out.new.items ≡ out.old.items ++ subject clause (option_map (λ text. text.now) what.entry)) }
+{
+    match clause {
+        Some(clause) => push_number(out, clause),
+        None => match what {
+            Some(what) => push_shown(out, what.as_bytes()),
+            None => Ok(()),
+        },
     }
+}
 
-    /// What is wrong with a program's text.
-    fn flaw(&self) -> &'static str {
-        match self.why {
-            Some("Syntax") => "syntax error: no program goes on like this",
-            Some("Probe") =>
-                "this describes no probe: a description has one to four fields of patterns, as syscall::read:entry",
-            Some("Action") => "no action or aggregating function is called so",
-            Some("Variable") => "no variable is called so",
-            Some("TooLong") => "this is too long, or one more than there may be",
-            Some("Range") =>
-                "these bounds make no levels: the lower is below the upper, the step divides the range, 512 levels at most",
-            _ => "this is no program",
-        }
+/// The words of a refusal's sentence before the clause or the name that it tells, and those after it.
+fn words(number: u64, why: Option<&str>) -> (&'static str, &'static str)
+    ensures before { result.0.now ≡ (words_of number (option_map (λ text. text.now) why.entry)).before }
+    ensures after { result.1.now ≡ (words_of number (option_map (λ text. text.now) why.entry)).after }
+{
+    match number {
+        4 => (flaw(why), ""),
+        5 => ("clause ", " matches no probe that this account may enable"),
+        6 => (
+            "clause ",
+            " records a kernel stack, which wants the privilege dtrace_kernel",
+        ),
+        7 => ("the action ", " is destructive, and no program may say it"),
+        8 => (
+            "the aggregation @",
+            " is used with another function, other bounds or other kinds of keys elsewhere",
+        ),
+        9 => (
+            "there is no room: 1,024 enablings, 64 aggregations, or under fill the bytes of a buffer for END's records",
+            "",
+        ),
+        10 => ("this can't be asked while tracing stands as it does", ""),
+        11 => (
+            "no option is called so or takes this value: bufsize (1 to 1048576), bufpolicy (switch, fill, ring), aggsize (8 to 1048576), histsize (1 to 1048576)",
+            "",
+        ),
+        15 => ("the session's 1,024 lines are spent", ""),
+        16 => ("the service has no memory for this now; try again", ""),
+        17 => ("all seats of the service are taken; try again later", ""),
+        18 => ("this account has no privilege to trace", ""),
+        3 => ("the program is too long for a line of 65,536 bytes", ""),
+        _ => (
+            "the service didn't understand dtr: are both of one version?",
+            "",
+        ),
+    }
+}
+
+/// What is wrong with a program's text.
+fn flaw(why: Option<&str>) -> &'static str
+    ensures { result.now ≡ sentences.flaw (option_map (λ text. text.now) why.entry) }
+{
+    match why {
+        Some("Syntax") => "syntax error: no program goes on like this",
+        Some("Probe") =>
+            "this describes no probe: a description has one to four fields of patterns, as syscall::read:entry",
+        Some("Action") => "no action or aggregating function is called so",
+        Some("Variable") => "no variable is called so",
+        Some("TooLong") => "this is too long, or one more than there may be",
+        Some("Range") =>
+            "these bounds make no levels: the lower is below the upper, the step divides the range, 512 levels at most",
+        _ => "this is no program",
     }
 }
 
@@ -137,10 +159,21 @@ fn push_marked(out: &mut Vec<u8>, page: usize, head: &[u8], tail: &[u8]) -> Resu
     let left = (page - column).min(tail.len());
     out.extend_from_slice(head)?;
     out.extend_from_slice(&tail[..left])?;
-    out.push(b'\n')?;
+    push_row_end(out, column == 0 && tail.is_empty())?;
     push_blanks(out, column)?;
     out.extend_from_slice(b"^\n")?;
     push_rest(out, &tail[left..])
+}
+
+/// Ends a row, and where it is full an empty one after it, which a terminal would begin with the next byte.
+fn push_row_end(out: &mut Vec<u8>, full: bool) -> Result<(), AllocError>
+    ensures { OnOk result (out.new.items ≡ out.old.items ++ row_end full) }
+{
+    if full {
+        out.push(b'\n')?;
+    }
+    out.push(b'\n')?;
+    Ok(())
 }
 
 /// Adds a line, where it isn't empty.

@@ -1,0 +1,54 @@
+-- Replies as what they tell: the keys and the counts of rows, and the layouts of records.
+use Rattle.std.specs.Prelude.{◌≡◌, ℕ, ◌≤◌, ℤ, List, [], ◌∷◌, ◌++◌, length, map, codes, decimal, Option, Some, None, option_and_then, option_map}
+use Rattle.std.specs.Option.{option_or}
+use Rattle.std.specs.List.{AllByRecursion}
+use Rattle.serde_json.specs.Data.{Data, string}
+use Rattle.serde_json.specs.Find.{at, as_i64, as_null, as_number, as_str, as_u64}
+use Rattle.dt_program.specs.Limits.{frames_max, statements_max}
+use Rattle.dt_record.specs.Layout.{FieldForm, number, text, stack, ustack}
+use Rattle.dt_front.specs.Tables.{KeyForm}
+use Rattle.dt_front.specs.Tables as key
+
+-- a value as a number of 64 bits, with a sign or without one
+abbrev pub signed : Data → Option ℤ
+signed d = option_and_then as_i64 (as_number d)
+
+abbrev pub unsigned : Data → Option ℕ
+unsigned d = option_and_then as_u64 (as_number d)
+
+-- what each of some values is, in order; nothing where one of them is nothing
+abbrev pub all_told : {X Y : Type 0} → (X → Option Y) → List X → Option (List Y)
+all_told told [] = Some []
+all_told told (x ∷ xs) = option_and_then (λ y. option_map (λ ys. y ∷ ys) (all_told told xs)) (told x)
+
+-- a part of a key: a number with a sign, or a text
+abbrev pub told_part : Data → Option KeyForm
+told_part d = option_or (option_map (λ z. key.number z) (signed d)) (option_map (λ bytes. key.text bytes) (as_str d))
+
+-- a row's name: a number with a sign; `null` names the row below all levels
+abbrev pub told_name : Data → Option (Option ℤ)
+told_name d = option_or (option_map (λ z. Some z) (signed d)) (option_map (λ _. None) (as_null d))
+
+-- a row's count: an array whose first value is the row's name, and whose second is how many values it counts
+abbrev pub told_count : Data → Option (Option ℤ × ℕ)
+told_count d = option_and_then (λ name. option_map (λ count. (name, count)) (option_and_then unsigned (at 1 d))) (option_and_then told_name (at 0 d))
+
+-- the word that names a value of a record
+abbrev pub field_word : FieldForm → List ℕ
+field_word number = codes "number"
+field_word text = codes "string"
+field_word (stack n) = codes "stack" ++ decimal n
+field_word (ustack n) = codes "ustack" ++ decimal n
+
+-- a value that a record may have: a stack has 1 to 8 frames
+abbrev pub IsField : FieldForm → Type 0
+IsField number = Unit {0}
+IsField text = Unit {0}
+IsField (stack n) = (1 ≤ n) × (n ≤ frames_max)
+IsField (ustack n) = (1 ≤ n) × (n ≤ frames_max)
+
+-- The values are the words of a record's fields, in order.
+pub record AreWordsOf (words : List Data) (fields : List FieldForm) : Type 0 where
+  pub each : AllByRecursion IsField fields
+  pub few : length fields ≤ statements_max
+  pub same : words ≡ map (λ field. string (field_word field)) fields
