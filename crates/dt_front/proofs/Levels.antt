@@ -1,5 +1,5 @@
 -- Of the levels of an `lquantize`, in 64 bits.
-use Rattle.std.proofs.Common.{◌≡◌, ◌≢◌, ℕ, zero, suc, ◌+◌, ◌-◌, ◌*◌, ◌/◌, ◌%◌, ◌^◌, ◌<◌, ◌≤◌, true, false, refl, ap, sym, ◌∙◌, arith, ℤ, pos, negsuc, ◌+ℤ◌, ◌-ℤ◌, ◌*ℤ◌}
+use Rattle.std.proofs.Common.{◌≡◌, ◌≢◌, ℕ, zero, suc, ◌+◌, ◌-◌, ◌*◌, ◌/◌, ◌%◌, ◌^◌, ◌<◌, ◌≤◌, true, false, refl, ap, subst, sym, ◌∙◌, arith, ℤ, pos, negsuc, ◌+ℤ◌, ◌-ℤ◌, ◌*ℤ◌}
 use Rattle.std.proofs.Math.Nat.{mul-le-mul_right}
 use Rattle.std.specs.Prelude.{int_lt, int_le, int_div, int_rem, unsigned_abs, FitsSigned}
 use Rattle.std.specs.Ordering.{int_eq}
@@ -97,3 +97,11 @@ level_in_bits bounds k within f g =
     moved bounds.lower (bounds.lower +ℤ pos (k * step_of bounds)) (k * step_of bounds)
     (k * cast_unsigned w64 bounds.step) f fits refl (ap (λ n. k * n) s)
     ∙ sym (from_is bounds k)
+
+pub level_fits : (bounds : Bounds) (k : ℕ) → k < levels_of bounds → FitsSigned w64 bounds.lower → FitsSigned w64 bounds.upper
+    → FitsSigned w64 (level_from bounds k)
+level_fits bounds k within f g =
+    let m : k * step_of bounds ≤ levels_of bounds * step_of bounds =
+    mul-le-mul_right (step_of bounds) (let l : k ≤ levels_of bounds = omega (arith, within) in l) in
+    subst (FitsSigned w64) (sym (from_is bounds k))
+    (above_fits bounds.lower bounds.upper (k * step_of bounds) (levels_of bounds * step_of bounds) f g (upper_is bounds) m)

@@ -8,3 +8,8 @@ pub mod Words
 pub mod Known
 pub mod Levels
 pub mod FunctionRows
+pub mod Lines
+pub mod PlainRows
+pub mod PlainTables
+pub mod PlainRefusals
+pub mod PlainLabels

@@ -11,10 +11,10 @@ either_byte : (c : Bool) (x y : ℕ) → IsPlain x → IsPlain y → IsPlain (if
 either_byte true x y then_plain else_plain = then_plain
 either_byte false x y then_plain else_plain = else_plain
 
-digit_plain : (n : ℕ) → n < 16 → IsPlain (hex_digit n)
+pub digit_plain : (n : ℕ) → n < 16 → IsPlain (hex_digit n)
 digit_plain n small = either_byte (nat_le n 9) (48 + n) (87 + n) (omega arith, omega arith) (omega arith, omega arith)
 
-test_plain : (byte : ℕ) → is_plain_byte byte ≡ true → IsPlain byte
+pub test_plain : (byte : ℕ) → is_plain_byte byte ≡ true → IsPlain byte
 test_plain byte passes = search (rules, passes)
 
 pub byte_plain : (byte : ℕ) → byte < 256 → ArePlain (shown_byte byte)

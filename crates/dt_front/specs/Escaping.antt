@@ -1,14 +1,25 @@
 -- Bytes as a terminal is shown them.
-use Rattle.std.specs.Prelude.{ℕ, ◌+◌, ◌/◌, ◌%◌, ◌≤◌, ◌==◌, ◌&&◌, nat_le, Bool, List, [], ◌∷◌, if◌then◌else◌, All}
+use Rattle.std.specs.Prelude.{◌≡◌, ◌<◌, ◌⊎◌, ℕ, ◌+◌, ◌/◌, ◌%◌, ◌≤◌, ◌==◌, ◌&&◌, nat_le, Bool, List, [], ◌∷◌, if◌then◌else◌, All}
 use Rattle.std.specs.List.{flat_map}
 
 -- A byte that a terminal can only show: no control byte, and none of another character set.
 abbrev pub IsPlain : ℕ → Type 0
 IsPlain byte = (32 ≤ byte) × (byte ≤ 126)
 
+-- bytes, of a name, a text or a key
+abbrev pub AreBytes : List ℕ → Type 0
+AreBytes bytes = All (λ byte. byte < 256) bytes
+
 -- bytes that a terminal can only show
 abbrev pub ArePlain : List ℕ → Type 0
 ArePlain bytes = All IsPlain bytes
+
+-- lines of them
+abbrev pub IsPlainOrNewline : ℕ → Type 0
+IsPlainOrNewline byte = IsPlain byte ⊎ (byte ≡ 10)
+
+abbrev pub ArePlainLines : List ℕ → Type 0
+ArePlainLines bytes = All IsPlainOrNewline bytes
 
 abbrev pub is_plain_byte : ℕ → Bool
 is_plain_byte byte = nat_le 32 byte && nat_le byte 126

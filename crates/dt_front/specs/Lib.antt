@@ -14,6 +14,7 @@ pub mod Refusals
 pub mod Sentences
 pub mod Probes
 pub mod Tables
+pub mod Printed
 -- The code's values without where they lie in memory, in which promises name them.
 pub mod PictureForms
 pub mod CountForms

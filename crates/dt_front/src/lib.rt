@@ -22,7 +22,9 @@ pub use columns::{push_blanks, push_left, push_number, push_right};
 pub use distribution::{RowCount, counts_total, level_rows, power_rows, rows_total};
 pub use escaping::push_shown;
 pub use fields::{number_field, text_field};
-pub use laws::shown_is_plain;
+pub use laws::{
+    pictures_are_plain, refusals_are_plain, rows_are_plain, shown_is_plain, tables_are_plain,
+};
 pub use parts::{after_byte, before_byte};
 pub use picture::{PictureRow, push_picture};
 pub use probes::{push_probe, push_probes_head};
