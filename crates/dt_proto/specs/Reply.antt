@@ -11,7 +11,7 @@ use Rattle.dt_names.specs.declared.tuple.ProbeTuple.{ProbeTuple}
 use Rattle.dt_lang.specs.Fault.{why_word}
 use Rattle.dt_lang.specs.Word.{name_of_destructive}
 use Rattle.dt_ecb.specs.Fault.{action_word as word_of_action}
-use Rattle.dt_record.specs.Layout.{FieldForm, number, text, stack, ustack, layout_size}
+use Rattle.dt_record.specs.Layout.{FieldForm, field_word, layout_size}
 use Rattle.dt_life.specs.Phase.{phase_word, cause_word}
 use Rattle.dt_life.specs.Refusal.{refusal_number, refusal_name}
 use Rattle.dt_life.specs.Answer.{Answer, done, enabled, snapped, aggregated, status, listed, described, refused}
@@ -54,13 +54,6 @@ tuple_text tuple = join_with_byte colon (tuple.provider ∷ tuple.module ∷ tup
 abbrev pub probe_data : Probe → Data
 probe_data probe = object (member (codes "id") (of_number probe.id) (member (codes "name") (string (tuple_text
     probe.tuple)) no_members))
-
--- the word for a value of a record, with the number of frames of a stack
-abbrev pub field_word : FieldForm → List ℕ
-field_word number = codes "number"
-field_word text = codes "string"
-field_word (stack frames) = codes "stack" ++ decimal frames
-field_word (ustack frames) = codes "ustack" ++ decimal frames
 
 abbrev pub field_data : FieldForm → Data
 field_data field = string (field_word field)

@@ -1,5 +1,5 @@
 -- Of what a clause's record is made, and records back from their bytes.
-use Rattle.std.specs.Prelude.{ℕ, ◌+◌, ◌*◌, List, map, sum, Option, Some, None, if◌then◌else◌}
+use Rattle.std.specs.Prelude.{ℕ, ◌+◌, ◌*◌, List, ◌++◌, map, sum, codes, decimal, Option, Some, None, if◌then◌else◌}
 use Rattle.std.specs.List.{flat_map}
 use Rattle.std.specs.Option.{option_to_list}
 use Rattle.dt_program.specs.Clause.{ClauseForm, StatementForm}
@@ -12,6 +12,13 @@ use Rattle.dt_record.specs.Limits.{epid_size}
 pub data FieldForm : Type 0 where
   number text : FieldForm
   stack ustack : (frames : ℕ) → FieldForm
+
+-- the word that tells a value of a record, with the number of frames of a stack
+abbrev pub field_word : FieldForm → List ℕ
+field_word number = codes "number"
+field_word text = codes "string"
+field_word (stack frames) = codes "stack" ++ decimal frames
+field_word (ustack frames) = codes "ustack" ++ decimal frames
 
 -- what a statement puts into the record
 abbrev pub field_of : StatementForm → Option FieldForm
