@@ -17,6 +17,12 @@ pub added_five : (a b c d e : List ℕ) (one two three four all : List ℕ) → 
     → four ≡ three ++ d → all ≡ four ++ e → all ≡ a ++ b ++ c ++ d ++ e
 added_five a b c d e one two three four all e1 e2 e3 e4 e5 = rw (e5, e4, e3, e2, e1) (simp append_assoc)
 
+pub added_seven : (a b c d e f g : List ℕ) (one two three four five six all : List ℕ) → one ≡ a → two ≡ one ++ b
+    → three ≡ two ++ c → four ≡ three ++ d → five ≡ four ++ e → six ≡ five ++ f → all ≡ six ++ g
+    → all ≡ a ++ b ++ c ++ d ++ e ++ f ++ g
+added_seven a b c d e f g one two three four five six all e1 e2 e3 e4 e5 e6 e7 =
+    rw (e7, e6, e5, e4, e3, e2, e1) (simp append_assoc)
+
 pub added_nine : (a b c d e f g h i : List ℕ) (one two three four five six seven eight all : List ℕ)
     → one ≡ a → two ≡ one ++ b → three ≡ two ++ c → four ≡ three ++ d → five ≡ four ++ e → six ≡ five ++ f
     → seven ≡ six ++ g → eight ≡ seven ++ h → all ≡ eight ++ i

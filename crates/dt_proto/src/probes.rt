@@ -17,21 +17,16 @@ pub(crate) fn push_probes(
 ) -> Result<(), AllocError>
     ensures { OnOk result (line.new.items ≡ line.old.items ++ join_with_byte comma (map probe_text probes.now)) }
 {
-    match probes.split_first() {
-        Some((first, more)) => {
-            push_probe(alloc, line, first)?;
-            push_more_probes(alloc, line, more)
-        }
-        None => Ok(()),
-    }
+    let Some((first, more)) = probes.split_first() else {
+        return Ok(());
+    };
+    push_probe(alloc, line, first)?;
+    push_more_probes(alloc, line, more)?;
+    Ok(())
 }
 
 /// Adds probes, each after a comma.
-fn push_more_probes(
-    alloc: Global,
-    line: &mut Vec<u8>,
-    probes: &[Probe],
-) -> Result<(), AllocError>
+fn push_more_probes(alloc: Global, line: &mut Vec<u8>, probes: &[Probe]) -> Result<(), AllocError>
     ensures { OnOk result (line.new.items ≡ line.old.items ++ flat_map (λ probe. comma ∷ probe_text probe) probes.now) }
 {
     for probe in probes {

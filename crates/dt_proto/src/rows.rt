@@ -28,21 +28,16 @@ pub(crate) fn word_of(function: AggFn) -> &'static str
 }
 
 /// Adds each row as an object of its key and its value, with commas between them.
-pub(crate) fn push_rows(
-    alloc: Global,
-    line: &mut Vec<u8>,
-    rows: &[Row],
-) -> Result<(), AllocError>
+pub(crate) fn push_rows(alloc: Global, line: &mut Vec<u8>, rows: &[Row]) -> Result<(), AllocError>
     ensures { OnOk result (line.new.items
         ≡ line.old.items ++ join_with_byte comma (map row_text (map form_of_row rows.now))) }
 {
-    match rows.split_first() {
-        Some((first, more)) => {
-            push_row(alloc, line, first)?;
-            push_more_rows(alloc, line, more)
-        }
-        None => Ok(()),
-    }
+    let Some((first, more)) = rows.split_first() else {
+        return Ok(());
+    };
+    push_row(alloc, line, first)?;
+    push_more_rows(alloc, line, more)?;
+    Ok(())
 }
 
 /// Adds rows, each after a comma.
@@ -72,13 +67,12 @@ fn push_row(alloc: Global, line: &mut Vec<u8>, row: &Row) -> Result<(), AllocErr
 fn push_parts(alloc: Global, line: &mut Vec<u8>, parts: &[KeyPart]) -> Result<(), AllocError>
     ensures { OnOk result (line.new.items ≡ line.old.items ++ join_with_byte comma (map part_text parts.now)) }
 {
-    match parts.split_first() {
-        Some((first, more)) => {
-            push_part(alloc, line, first)?;
-            push_more_parts(alloc, line, more)
-        }
-        None => Ok(()),
-    }
+    let Some((first, more)) = parts.split_first() else {
+        return Ok(());
+    };
+    push_part(alloc, line, first)?;
+    push_more_parts(alloc, line, more)?;
+    Ok(())
 }
 
 /// Adds parts of a key, each after a comma.
@@ -121,13 +115,12 @@ fn push_counts(line: &mut Vec<u8>, rows: &[CountedRow]) -> Result<(), AllocError
     ensures { OnOk result (line.new.items
         ≡ line.old.items ++ join_with_byte comma (map counted_text (map form_of_counted_row rows.now))) }
 {
-    match rows.split_first() {
-        Some((first, more)) => {
-            push_count(line, *first)?;
-            push_more_counts(line, more)
-        }
-        None => Ok(()),
-    }
+    let Some((first, more)) = rows.split_first() else {
+        return Ok(());
+    };
+    push_count(line, *first)?;
+    push_more_counts(line, more)?;
+    Ok(())
 }
 
 /// Adds counted rows, each after a comma.

@@ -21,11 +21,7 @@ pub(crate) fn text_of(alloc: Global, bytes: &[u8]) -> Result<String, AllocError>
 }
 
 /// Adds a text as JSON quotes it.
-pub(crate) fn push_string(
-    alloc: Global,
-    line: &mut Vec<u8>,
-    text: String,
-) -> Result<(), AllocError>
+pub(crate) fn push_string(alloc: Global, line: &mut Vec<u8>, text: String) -> Result<(), AllocError>
     ensures { OnOk result (line.new.items ≡ line.old.items ++ compact_text (string (string_bytes text))) }
 {
     let quoted = Value::String(text).to_vec(alloc)?;

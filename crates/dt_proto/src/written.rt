@@ -99,10 +99,11 @@ pub(crate) fn table_line(
 ) -> Result<Vec<u8>, AllocError>
     ensures { IfOk result (λ line. line.items ≡ reply_text (aggregated name.now function (map form_of_row rows.now))) }
 {
+    let title = text_of(alloc, name)?;
     let mut line = begun(alloc, ROOM, b"{\"fn\":\"")?;
     line.extend_from_slice(word_of(function).as_bytes())?;
     line.extend_from_slice(b"\",\"name\":")?;
-    push_string(alloc, &mut line, text_of(alloc, name)?)?;
+    push_string(alloc, &mut line, title)?;
     line.extend_from_slice(b",\"ok\":true,\"rows\":[")?;
     push_rows(alloc, &mut line, rows)?;
     line.extend_from_slice(b"]}\n")?;
