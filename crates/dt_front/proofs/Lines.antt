@@ -1,11 +1,11 @@
 -- What is printed is plain lines.
-use Rattle.std.proofs.Common.{◌≡◌, ℕ, zero, suc, ◌+◌, ◌-◌, ◌/◌, ◌%◌, ◌<◌, ◌≤◌, ◌^◌, ◌==◌, ◌&&◌, ◌||◌, ◌⊎◌, inl, inr, Bool, true, false, List, [], ◌∷◌, ◌++◌, length, All, if◌then◌else◌, ℤ, pos, negsuc, Option, Some, None, replicate, take, drop, refl, arith, rules}
-use Rattle.std.specs.Prelude.{FitsSigned, IfSome, codes, decimal, slice_get}
+use Rattle.std.proofs.Common.{◌≡◌, ℕ, zero, suc, ◌+◌, ◌-◌, ◌%◌, ◌<◌, ◌^◌, ◌==◌, ◌&&◌, ◌||◌, ◌⊎◌, inl, inr, Bool, true, false, List, [], ◌∷◌, ◌++◌, length, if◌then◌else◌, ℤ, pos, negsuc, replicate, refl, arith, rules}
+use Rattle.std.specs.Prelude.{FitsSigned, IfSome, decimal, slice_get}
 use Rattle.std.specs.Fmt.{signed_decimal}
 use Rattle.std.specs.Int.{w64}
 use Rattle.std.specs.List.{AllByRecursion, flat_map, list_all}
 use Rattle.std.proofs.lemmas.Fmt.{decimal_by_steps}
-use Rattle.std.proofs.lemmas.List.Elements.{All-append, All-cons, All-nil, All-replicate, All-weaker, All-take, All-drop}
+use Rattle.std.proofs.lemmas.List.Elements.{All-append, All-cons, All-nil, All-replicate, All-weaker}
 use Rattle.dt_front.specs.Columns.{at_left, at_right, blanks}
 use Rattle.dt_front.specs.Escaping.{AreBytes, ArePlain, ArePlainLines, IsPlain, IsPlainOrNewline, is_plain_byte, shown}
 use Rattle.dt_front.proofs.Plain.{bytes_plain, test_plain}

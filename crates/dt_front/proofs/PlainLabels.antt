@@ -1,5 +1,5 @@
 -- All rows of a function have plain labels.
-use Rattle.std.proofs.Common.{◌≡◌, ℕ, zero, suc, ◌+◌, ◌-◌, ◌<◌, ◌≤◌, ◌^◌, ◌++◌, Bool, true, false, List, [], ◌∷◌, if◌then◌else◌, Option, Some, None, ℤ, pos, map, refl, arith}
+use Rattle.std.proofs.Common.{ℕ, zero, suc, ◌+◌, ◌-◌, ◌<◌, ◌^◌, ◌++◌, Bool, true, false, List, [], ◌∷◌, if◌then◌else◌, Option, Some, ℤ, pos, map, refl, arith}
 use Rattle.std.specs.Prelude.{FitsSigned, codes, neg_ℤ}
 use Rattle.std.specs.Fmt.{signed_decimal}
 use Rattle.std.specs.Int.{w64}
@@ -9,8 +9,8 @@ use Rattle.std.specs.Ordering.{int_eq}
 use Rattle.std.proofs.lemmas.List.Elements.{All-append}
 use Rattle.std.proofs.lemmas.Nat.{pow_below}
 use Rattle.dt_aggfn.specs.declared.levels.Bounds.{Bounds}
-use Rattle.dt_aggfn.specs.Rows.{CountingRow, below_row, level_from, level_row, levels_of, lquantize_rows, minus_power_row, power_row, quantize_rows, upper_row, zero_row}
-use Rattle.dt_front.specs.Distribution.{count_at, level_label, level_rows, picture_row, picture_rows, power_label, power_rows}
+use Rattle.dt_aggfn.specs.Rows.{CountingRow, level_from, level_row, levels_of, lquantize_rows, minus_power_row, power_row, quantize_rows, upper_row, zero_row}
+use Rattle.dt_front.specs.Distribution.{count_at, level_label, level_rows, picture_rows, power_label, power_rows}
 use Rattle.dt_front.specs.Escaping.{ArePlain, IsPlain}
 use Rattle.dt_front.specs.Printed.{IsPrintedRow}
 use Rattle.dt_front.proofs.FunctionRows.{power_fits}

@@ -1,6 +1,6 @@
 -- What is printed of refusals is plain lines.
-use Rattle.std.proofs.Common.{◌≡◌, ℕ, ◌-◌, ◌%◌, ◌<◌, ◌^◌, ◌==◌, ◌&&◌, ◌++◌, List, [], ◌∷◌, if◌then◌else◌, Option, Some, None, length, take, drop, refl, arith}
-use Rattle.std.specs.Prelude.{IfSome, codes, decimal}
+use Rattle.std.proofs.Common.{ℕ, ◌-◌, ◌<◌, ◌^◌, ◌==◌, ◌&&◌, ◌++◌, List, [], ◌∷◌, Option, Some, None, length, take, drop, refl}
+use Rattle.std.specs.Prelude.{IfSome, codes}
 use Rattle.std.specs.Str.{bytes_eq}
 use Rattle.std.specs.List.{position_or_len}
 use Rattle.std.proofs.lemmas.List.Elements.{All-drop, All-nil, All-take}
@@ -8,11 +8,11 @@ use Rattle.dt_front.specs.Columns.{blanks}
 use Rattle.dt_front.specs.Escaping.{AreBytes, ArePlainLines, IsPlainOrNewline, shown}
 use Rattle.dt_front.specs.Printed.{IsPrintedRefusal}
 use Rattle.dt_front.specs.Refusals.{RefusalForm, before_place, caret_column, caret_text, columns_left, from_place, marked_line, rest_line, row_end, tail_length}
-use Rattle.dt_front.specs.Sentences.{Words, around, flaw, sentence, subject, words_of}
+use Rattle.dt_front.specs.Sentences.{SentenceWords, words_around, flaw, sentence, subject, sentence_words}
 use Rattle.dt_front.proofs.Lines.{blank_lines, chosen, decimal_lines, glued, joined, shown_lines, tested}
 
 -- both parts of a sentence's words are plain lines
-record ArePlainWords (words : Words) : Type 0 where
+record ArePlainWords (words : SentenceWords) : Type 0 where
   before : ArePlainLines words.before
   after : ArePlainLines words.after
 
@@ -27,13 +27,13 @@ flaw_lines (Some why) =
     chosen ArePlainLines (bytes_eq why (codes "Range")) _ _ (tested (codes "these bounds make no levels: the lower is below the upper, the step divides the range, 512 levels at most") refl) (
     tested (codes "this is no program") refl))))))
 
-written : (before after : List ℕ) → ArePlainLines before → ArePlainLines after → ArePlainWords (around before after)
+written : (before after : List ℕ) → ArePlainLines before → ArePlainLines after → ArePlainWords (words_around before after)
 written before after first second = record { before = first; after = second }
 
-alone : (text : List ℕ) → ArePlainLines text → ArePlainWords (around text [])
+alone : (text : List ℕ) → ArePlainLines text → ArePlainWords (words_around text [])
 alone text are = written text [] are (All-nil IsPlainOrNewline)
 
-words_plain : (number : ℕ) (why : Option (List ℕ)) → ArePlainWords (words_of number why)
+words_plain : (number : ℕ) (why : Option (List ℕ)) → ArePlainWords (sentence_words number why)
 words_plain number why =
     chosen ArePlainWords (number == 3) _ _ (alone (codes "the program is too long for a line of 65,536 bytes") (tested (codes "the program is too long for a line of 65,536 bytes") refl)) (
     chosen ArePlainWords (number == 4) _ _ (alone (flaw why) (flaw_lines why)) (
@@ -58,7 +58,7 @@ subject_lines None None small are = All-nil IsPlainOrNewline
 pub sentence_lines : (refusal : RefusalForm) → IsPrintedRefusal refusal → ArePlainLines (sentence refusal)
 sentence_lines refusal is =
     let words = words_plain refusal.number refusal.why in
-    let both = words_of refusal.number refusal.why in
+    let both = sentence_words refusal.number refusal.why in
     glued both.before (subject refusal.clause refusal.what ∷ both.after ∷ codes "\n" ∷ []) words.before
     (subject_lines refusal.clause refusal.what is.0 is.1, (words.after, (tested (codes "\n") refl, tt)))
 

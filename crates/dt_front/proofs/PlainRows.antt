@@ -1,18 +1,18 @@
 -- Rows and pictures are plain lines.
-use Rattle.std.proofs.Common.{◌≡◌, ℕ, zero, suc, ◌-◌, ◌/◌, ◌%◌, ◌<◌, ◌^◌, ◌==◌, ◌++◌, inl, Bool, true, false, List, [], ◌∷◌, if◌then◌else◌, Option, Some, None, ℤ, replicate, length, refl, arith}
-use Rattle.std.specs.Prelude.{FitsSigned, IfSome, codes, decimal, drop, take, reverse}
+use Rattle.std.proofs.Common.{ℕ, zero, suc, ◌-◌, ◌/◌, ◌%◌, ◌<◌, ◌^◌, ◌==◌, ◌++◌, inl, Bool, true, false, List, [], ◌∷◌, Option, Some, None, replicate, length, refl, arith}
+use Rattle.std.specs.Prelude.{IfSome, codes, decimal, drop, take, reverse}
 use Rattle.std.specs.Fmt.{signed_decimal}
 use Rattle.std.specs.Int.{bytes_high_first, byte_at}
 use Rattle.std.specs.List.{AllByRecursion, flat_map, position_or_len}
-use Rattle.std.proofs.lemmas.List.Elements.{All-append, All-cons, All-nil, All-take}
+use Rattle.std.proofs.lemmas.List.Elements.{All-cons, All-nil, All-take}
 use Rattle.dt_record.specs.Split.{RecordForm, RecordedForm, number, text, frames}
 use Rattle.dt_front.specs.Columns.{at_right, blanks}
 use Rattle.dt_front.specs.Escaping.{ArePlainLines, IsPlainOrNewline, hex_digit, shown}
 use Rattle.dt_front.specs.Parts.{before_byte}
-use Rattle.dt_front.specs.Picture.{PictureRowForm, bar, bar_columns, bar_width, bars_head, from_first, is_counted, picture, picture_head, row_line, shown_rows, to_last, total_of}
+use Rattle.dt_front.specs.Picture.{PictureRowForm, bar, bar_columns, bar_width, bars_head, from_first, is_counted, picture, picture_head, row_line, shown_rows, total_of}
 use Rattle.dt_front.specs.Printed.{IsPrintedProbe, IsPrintedRecord, IsPrintedRow, IsPrintedValue}
 use Rattle.dt_front.specs.Records.{record_row, row_probe, rows_text}
-use Rattle.dt_front.specs.Rows.{ProbeForm, frame_bytes, frame_line, full_row, hex_byte, name_width, recorded_text, row_columns, rows_head, values_text}
+use Rattle.dt_front.specs.Rows.{ProbeForm, frame_bytes, frame_line, hex_byte, name_width, recorded_text, row_columns, rows_head, values_text}
 use Rattle.dt_front.proofs.Lines.{blank_lines, chosen, decimal_lines, each_is, flat_lines, glued, joined, repeated, right_lines, shown_lines, signed_lines, some_of, tested, plain_lines}
 use Rattle.dt_front.proofs.Plain.{digit_plain}
 

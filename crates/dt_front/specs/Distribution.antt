@@ -1,5 +1,5 @@
 -- The rows of a distribution's picture: those of its function, also the ones that count nothing.
-use Rattle.std.specs.Prelude.{ℕ, ℤ, List, ◌∷◌, ◌++◌, map, codes, Option, Some, None, if◌then◌else◌}
+use Rattle.std.specs.Prelude.{ℕ, ℤ, List, ◌++◌, map, codes, Option, Some, None, if◌then◌else◌}
 use Rattle.std.specs.Option.{option_eq, option_map_or}
 use Rattle.std.specs.Ordering.{int_eq}
 use Rattle.std.specs.List.{find}

@@ -1,5 +1,5 @@
 -- Values that are printed: their texts are bytes, and their numbers have 64 bits.
-use Rattle.std.specs.Prelude.{ℕ, ◌<◌, ◌^◌, List, Option, FitsSigned, IfSome}
+use Rattle.std.specs.Prelude.{◌<◌, ◌^◌, FitsSigned, IfSome}
 use Rattle.std.specs.Int.{w64}
 use Rattle.std.specs.List.{AllByRecursion}
 use Rattle.dt_record.specs.Split.{RecordForm, RecordedForm}

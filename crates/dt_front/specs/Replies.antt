@@ -10,11 +10,11 @@ use Rattle.dt_front.specs.Tables.{KeyForm}
 use Rattle.dt_front.specs.Tables as key
 
 -- a value as a number of 64 bits, with a sign or without one
-abbrev pub signed : Data → Option ℤ
-signed d = option_and_then as_i64 (as_number d)
+abbrev pub told_signed : Data → Option ℤ
+told_signed d = option_and_then as_i64 (as_number d)
 
-abbrev pub unsigned : Data → Option ℕ
-unsigned d = option_and_then as_u64 (as_number d)
+abbrev pub told_unsigned : Data → Option ℕ
+told_unsigned d = option_and_then as_u64 (as_number d)
 
 -- what each of some values is, in order; nothing where one of them is nothing
 abbrev pub all_told : {X Y : Type 0} → (X → Option Y) → List X → Option (List Y)
@@ -23,32 +23,32 @@ all_told told (x ∷ xs) = option_and_then (λ y. option_map (λ ys. y ∷ ys) (
 
 -- a part of a key: a number with a sign, or a text
 abbrev pub told_part : Data → Option KeyForm
-told_part d = option_or (option_map (λ z. key.number z) (signed d)) (option_map (λ bytes. key.text bytes) (as_str d))
+told_part d = option_or (option_map (λ z. key.number z) (told_signed d)) (option_map (λ bytes. key.text bytes) (as_str d))
 
 -- a row's name: a number with a sign; `null` names the row below all levels
 abbrev pub told_name : Data → Option (Option ℤ)
-told_name d = option_or (option_map (λ z. Some z) (signed d)) (option_map (λ _. None) (as_null d))
+told_name d = option_or (option_map (λ z. Some z) (told_signed d)) (option_map (λ _. None) (as_null d))
 
 -- a row's count: an array whose first value is the row's name, and whose second is how many values it counts
 abbrev pub told_count : Data → Option (Option ℤ × ℕ)
-told_count d = option_and_then (λ name. option_map (λ count. (name, count)) (option_and_then unsigned (at 1 d))) (option_and_then told_name (at 0 d))
+told_count d = option_and_then (λ name. option_map (λ count. (name, count)) (option_and_then told_unsigned (at 1 d))) (option_and_then told_name (at 0 d))
 
 -- the word that names a value of a record
-abbrev pub field_word : FieldForm → List ℕ
-field_word number = codes "number"
-field_word text = codes "string"
-field_word (stack n) = codes "stack" ++ decimal n
-field_word (ustack n) = codes "ustack" ++ decimal n
+abbrev pub told_word : FieldForm → List ℕ
+told_word number = codes "number"
+told_word text = codes "string"
+told_word (stack n) = codes "stack" ++ decimal n
+told_word (ustack n) = codes "ustack" ++ decimal n
 
 -- a value that a record may have: a stack has 1 to 8 frames
-abbrev pub IsField : FieldForm → Type 0
-IsField number = Unit {0}
-IsField text = Unit {0}
-IsField (stack n) = (1 ≤ n) × (n ≤ frames_max)
-IsField (ustack n) = (1 ≤ n) × (n ≤ frames_max)
+abbrev pub IsLayoutField : FieldForm → Type 0
+IsLayoutField number = Unit {0}
+IsLayoutField text = Unit {0}
+IsLayoutField (stack n) = (1 ≤ n) × (n ≤ frames_max)
+IsLayoutField (ustack n) = (1 ≤ n) × (n ≤ frames_max)
 
 -- The values are the words of a record's fields, in order.
 pub record AreWordsOf (words : List Data) (fields : List FieldForm) : Type 0 where
-  pub each : AllByRecursion IsField fields
+  pub each : AllByRecursion IsLayoutField fields
   pub few : length fields ≤ statements_max
-  pub same : words ≡ map (λ field. string (field_word field)) fields
+  pub same : words ≡ map (λ field. string (told_word field)) fields

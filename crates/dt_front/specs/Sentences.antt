@@ -5,12 +5,12 @@ use Rattle.dt_front.specs.Escaping.{shown}
 use Rattle.dt_front.specs.Refusals.{RefusalForm}
 
 -- the words before the clause or the name that a sentence tells, and those after it
-pub record Words : Type 0 where
+pub record SentenceWords : Type 0 where
   pub before : List ℕ
   pub after : List ℕ
 
-abbrev pub around : List ℕ → List ℕ → Words
-around before after = record { before = before; after = after }
+abbrev pub words_around : List ℕ → List ℕ → SentenceWords
+words_around before after = record { before = before; after = after }
 
 -- what is wrong with a program's text
 abbrev pub flaw : Option (List ℕ) → List ℕ
@@ -25,22 +25,22 @@ flaw (Some why) =
     else codes "this is no program"
 
 -- the words by the refusal's number, and those for a program's text by what is wrong with it
-abbrev pub words_of : ℕ → Option (List ℕ) → Words
-words_of number why =
-    if number == 3 then around (codes "the program is too long for a line of 65,536 bytes") []
-    else if number == 4 then around (flaw why) []
-    else if number == 5 then around (codes "clause ") (codes " matches no probe that this account may enable")
-    else if number == 6 then around (codes "clause ") (codes " records a kernel stack, which wants the privilege dtrace_kernel")
-    else if number == 7 then around (codes "the action ") (codes " is destructive, and no program may say it")
-    else if number == 8 then around (codes "the aggregation @") (codes " is used with another function, other bounds or other kinds of keys elsewhere")
-    else if number == 9 then around (codes "there is no room: 1,024 enablings, 64 aggregations, or under fill the bytes of a buffer for END's records") []
-    else if number == 10 then around (codes "this can't be asked while tracing stands as it does") []
-    else if number == 11 then around (codes "no option is called so or takes this value: bufsize (1 to 1048576), bufpolicy (switch, fill, ring), aggsize (8 to 1048576), histsize (1 to 1048576)") []
-    else if number == 15 then around (codes "the session's 1,024 lines are spent") []
-    else if number == 16 then around (codes "the service has no memory for this now; try again") []
-    else if number == 17 then around (codes "all seats of the service are taken; try again later") []
-    else if number == 18 then around (codes "this account has no privilege to trace") []
-    else around (codes "the service didn't understand dtr: are both of one version?") []
+abbrev pub sentence_words : ℕ → Option (List ℕ) → SentenceWords
+sentence_words number why =
+    if number == 3 then words_around (codes "the program is too long for a line of 65,536 bytes") []
+    else if number == 4 then words_around (flaw why) []
+    else if number == 5 then words_around (codes "clause ") (codes " matches no probe that this account may enable")
+    else if number == 6 then words_around (codes "clause ") (codes " records a kernel stack, which wants the privilege dtrace_kernel")
+    else if number == 7 then words_around (codes "the action ") (codes " is destructive, and no program may say it")
+    else if number == 8 then words_around (codes "the aggregation @") (codes " is used with another function, other bounds or other kinds of keys elsewhere")
+    else if number == 9 then words_around (codes "there is no room: 1,024 enablings, 64 aggregations, or under fill the bytes of a buffer for END's records") []
+    else if number == 10 then words_around (codes "this can't be asked while tracing stands as it does") []
+    else if number == 11 then words_around (codes "no option is called so or takes this value: bufsize (1 to 1048576), bufpolicy (switch, fill, ring), aggsize (8 to 1048576), histsize (1 to 1048576)") []
+    else if number == 15 then words_around (codes "the session's 1,024 lines are spent") []
+    else if number == 16 then words_around (codes "the service has no memory for this now; try again") []
+    else if number == 17 then words_around (codes "all seats of the service are taken; try again later") []
+    else if number == 18 then words_around (codes "this account has no privilege to trace") []
+    else words_around (codes "the service didn't understand dtr: are both of one version?") []
 
 -- what a sentence tells: a clause's number, or else the name of what is refused
 abbrev pub subject : Option ℕ → Option (List ℕ) → List ℕ
@@ -51,4 +51,4 @@ subject None None = []
 -- the sentence of a refusal, and a newline
 abbrev pub sentence : RefusalForm → List ℕ
 sentence refusal =
-    (words_of refusal.number refusal.why).before ++ subject refusal.clause refusal.what ++ (words_of refusal.number refusal.why).after ++ codes "\n"
+    (sentence_words refusal.number refusal.why).before ++ subject refusal.clause refusal.what ++ (sentence_words refusal.number refusal.why).after ++ codes "\n"

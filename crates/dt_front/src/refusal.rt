@@ -4,7 +4,7 @@ ghost use Rattle.serde_json.specs.View.{view};
 ghost use Rattle.dt_front.specs.Refusals as spec;
 ghost use Rattle.dt_front.specs.Refusals.{before_place, caret_text, from_place, marked_line, rest_line, row_end, tail_length};
 ghost use Rattle.dt_front.specs.Sentences as sentences;
-ghost use Rattle.dt_front.specs.Sentences.{sentence, subject, words_of};
+ghost use Rattle.dt_front.specs.Sentences.{sentence, subject, sentence_words};
 ghost use Rattle.dt_front.specs.RefusalForms.{form_of_refusal};
 
 use crate::columns::{push_blanks, push_number};
@@ -78,8 +78,8 @@ fn push_subject(
 
 /// The words of a refusal's sentence before the clause or the name that it tells, and those after it.
 fn words(number: u64, why: Option<&str>) -> (&'static str, &'static str)
-    ensures before { result.0.now ≡ (words_of number (option_map (λ text. text.now) why.entry)).before }
-    ensures after { result.1.now ≡ (words_of number (option_map (λ text. text.now) why.entry)).after }
+    ensures before { result.0.now ≡ (sentence_words number (option_map (λ text. text.now) why.entry)).before }
+    ensures after { result.1.now ≡ (sentence_words number (option_map (λ text. text.now) why.entry)).after }
 {
     match number {
         4 => (flaw(why), ""),

@@ -1,5 +1,5 @@
 -- What is to be shown of `unknown_epid`.
-use Rattle.std.proofs.Common.{◌≡◌, ◌<◌, ◌≤◌, map, ap, subst, sym, ◌∙◌, arith}
+use Rattle.std.proofs.Common.{◌≡◌, ◌<◌, map, ap, subst, sym, ◌∙◌, arith}
 use Rattle.std.proofs.lemmas.List.{take_rest}
 use Rattle.dt_record.specs.Fields.{form_of_layout}
 use Rattle.dt_front.specs.Unknown.{ComesUnknown, epid_of, known_size}
