@@ -1,11 +1,11 @@
 -- Replies as what they tell: the keys and the counts of rows, and the layouts of records.
-use Rattle.std.specs.Prelude.{◌≡◌, ℕ, ◌≤◌, ℤ, List, [], ◌∷◌, ◌++◌, length, map, codes, decimal, Option, Some, None, option_and_then, option_map}
+use Rattle.std.specs.Prelude.{◌≡◌, ℕ, ◌≤◌, ℤ, List, [], ◌∷◌, length, map, Option, Some, None, option_and_then, option_map}
 use Rattle.std.specs.Option.{option_or}
 use Rattle.std.specs.List.{AllByRecursion}
 use Rattle.serde_json.specs.Data.{Data, string}
 use Rattle.serde_json.specs.Find.{at, as_i64, as_null, as_number, as_str, as_u64}
 use Rattle.dt_program.specs.Limits.{frames_max, statements_max}
-use Rattle.dt_record.specs.Layout.{FieldForm, number, text, stack, ustack}
+use Rattle.dt_record.specs.Layout.{FieldForm, field_word, number, text, stack, ustack}
 use Rattle.dt_front.specs.Tables.{KeyForm}
 use Rattle.dt_front.specs.Tables as key
 
@@ -33,13 +33,6 @@ told_name d = option_or (option_map (λ z. Some z) (told_signed d)) (option_map 
 abbrev pub told_count : Data → Option (Option ℤ × ℕ)
 told_count d = option_and_then (λ name. option_map (λ count. (name, count)) (option_and_then told_unsigned (at 1 d))) (option_and_then told_name (at 0 d))
 
--- the word that names a value of a record
-abbrev pub told_word : FieldForm → List ℕ
-told_word number = codes "number"
-told_word text = codes "string"
-told_word (stack n) = codes "stack" ++ decimal n
-told_word (ustack n) = codes "ustack" ++ decimal n
-
 -- a value that a record may have: a stack has 1 to 8 frames
 abbrev pub IsLayoutField : FieldForm → Type 0
 IsLayoutField number = Unit {0}
@@ -51,4 +44,4 @@ IsLayoutField (ustack n) = (1 ≤ n) × (n ≤ frames_max)
 pub record AreWordsOf (words : List Data) (fields : List FieldForm) : Type 0 where
   pub each : AllByRecursion IsLayoutField fields
   pub few : length fields ≤ statements_max
-  pub same : words ≡ map (λ field. string (told_word field)) fields
+  pub same : words ≡ map (λ field. string (field_word field)) fields

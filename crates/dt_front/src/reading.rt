@@ -5,9 +5,9 @@ ghost use Rattle.serde_json.specs.Find.{as_i64, as_number};
 ghost use Rattle.serde_json.specs.View.{view};
 ghost use Rattle.dt_record.specs.Fields.{form_of_field, form_of_layout};
 ghost use Rattle.dt_program.specs.Limits.{frames_max};
-ghost use Rattle.dt_record.specs.Layout.{FieldForm, stack, ustack};
+ghost use Rattle.dt_record.specs.Layout.{FieldForm, stack, ustack, field_word};
 ghost use Rattle.dt_front.specs.CountForms.{form_of_row_count};
-ghost use Rattle.dt_front.specs.Replies.{AreWordsOf, IsLayoutField, all_told, told_word, told_count, told_name, told_part};
+ghost use Rattle.dt_front.specs.Replies.{AreWordsOf, IsLayoutField, all_told, told_count, told_name, told_part};
 ghost use Rattle.dt_front.specs.TableForms.{form_of_key_part};
 
 use crate::distribution::RowCount;
@@ -114,8 +114,8 @@ pub fn layout_in(words: &[Value]) -> Option<Layout>
 /// The field that a value names, where it is a word that does.
 fn told_field(value: &Value) -> Option<Field>
     ensures { MatchOption result
-        ((field : FieldForm) → IsLayoutField field → view value.now ≢ string (told_word field))
-        (λ field. view value.now ≡ string (told_word (form_of_field field))) }
+        ((field : FieldForm) → IsLayoutField field → view value.now ≢ string (field_word field))
+        (λ field. view value.now ≡ string (field_word (form_of_field field))) }
 {
     match value.as_str() {
         Some(word) => field_in(word),
@@ -126,8 +126,8 @@ fn told_field(value: &Value) -> Option<Field>
 /// The field that a word names.
 fn field_in(word: &str) -> Option<Field>
     ensures { MatchOption result
-        ((field : FieldForm) → IsLayoutField field → word.now ≢ told_word field)
-        (λ field. word.now ≡ told_word (form_of_field field)) }
+        ((field : FieldForm) → IsLayoutField field → word.now ≢ field_word field)
+        (λ field. word.now ≡ field_word (form_of_field field)) }
 {
     match word {
         "number" => Some(Field::Number),
@@ -139,8 +139,8 @@ fn field_in(word: &str) -> Option<Field>
 /// The stack that a word names: so many frames of the kernel's or of the process's.
 fn stack_in(word: &[u8]) -> Option<Field>
     ensures { MatchOption result
-        ((n : ℕ) → IsLayoutField (stack n) → word.now ≢ told_word (stack n) × word.now ≢ told_word (ustack n))
-        (λ field. word.now ≡ told_word (form_of_field field)) }
+        ((n : ℕ) → IsLayoutField (stack n) → word.now ≢ field_word (stack n) × word.now ≢ field_word (ustack n))
+        (λ field. word.now ≡ field_word (form_of_field field)) }
 {
     if let Some(count) = word.strip_prefix(b"ustack") {
         return Some(Field::Ustack(frames_in(count)?));
