@@ -89,10 +89,7 @@ impl Options {
         ensures { option_map form_of_options result
             ≡ option_map (with_setting (form_of_options self)) (number_set name.now number) }
     {
-        if name == "bufsize"
-            && BUFFER_SIZE_MIN as u64 <= number
-            && number <= SIZE_MAX as u64
-        {
+        if name == "bufsize" && BUFFER_SIZE_MIN as u64 <= number && number <= SIZE_MAX as u64 {
             Some(Options {
                 bufsize: number as usize,
                 bufpolicy: self.bufpolicy,
