@@ -1,17 +1,15 @@
 -- Beginnings of lists, in both ways of writing them, and what a session kept of its own lines.
-use Rattle.std.proofs.Common.{◌≡◌, ◌≢◌, ◌<◌, ◌≤◌, ◌+◌, ◌==◌, ◌⊎◌, ℕ, Bool, true, false, cond, List, [], ◌∷◌, ◌++◌, length, ltb, refl, sym, ap, ◌∙◌, subst, arith, eq-eqb, ne_eqb, append-nil, append_assoc, inl, inr, ⊎_elim}
+use Rattle.std.proofs.Common.{◌≡◌, ◌<◌, ◌≤◌, ◌+◌, ◌==◌, ◌⊎◌, ℕ, Bool, true, false, cond, List, [], ◌∷◌, ◌++◌, length, ltb, refl, sym, ap, ◌∙◌, subst, arith, eq-eqb, append-nil, append_assoc, inl, inr, ⊎_elim}
 use Rattle.std.proofs.lemmas.Bool.{ltb-true}
 use Rattle.std.proofs.lemmas.Bool.Decides.{nat_tests}
 use Rattle.std.proofs.lemmas.List.{length-append}
-use Rattle.std.proofs.lemmas.List.Elements.{filter-append}
 use mathlib.Core.List.{IsPrefix}
 use Rattle.dt_facts.specs.laws.Beginnings.{prefix_shorter}
-use Rattle.dt_legal.specs.laws.Starts.{own_both, own_elsewhere, own_here, rest_has_none}
+use Rattle.dt_legal.specs.laws.Starts.{own_both, own_here, rest_has_none}
 use Rattle.dt_seat.specs.Sessions.{line_kept, lines_from}
 use Rattle.dt_seat.specs.declared.line_kept.LineKept.{LineKept}
 use Rattle.dt_trail.specs.Items.{StartsWith, TrailItem, own, whose}
 use Rattle.dt_trail.specs.Known.{Meets, Noted}
-use Rattle.dt_trail.specs.laws.Starts.{starts_self}
 
 pub as_prefix : (row known : List TrailItem) → StartsWith row known → IsPrefix known row
 as_prefix row known s = (s.0, sym s.1)

@@ -3,6 +3,7 @@ use Rattle.std.proofs.Common.{◌≡◌, ◌<◌, ◌+◌, ℕ, List, [], ◌∷
 use Rattle.std.specs.List.{slice_get}
 use Rattle.std.specs.Option.{option_map}
 use Rattle.std.proofs.lemmas.List.{length-append}
+use Rattle.std.proofs.lemmas.Option.{slice_get_within}
 use Rattle.atomic_table.specs.Seated.{TableId}
 use Rattle.dt_cred.specs.declared.account.Account.{Account}
 use Rattle.dt_facts.specs.Facts.{growing_lists, life_fact, lists_in}
@@ -23,7 +24,7 @@ use Rattle.dt_seat.specs.declared.line_kept.LineKept.{LineKept}
 use Rattle.dt_seat.specs.declared.present.Present.{Present}
 use Rattle.dt_seat.proofs.Sitting.{one_open}
 use Rattle.dt_trail.specs.Items.{TrailItem}
-use Rattle.dt_trail.specs.Known.{Noted, noted}
+use Rattle.dt_trail.specs.Known.{AreNew, Noted, noted}
 use Rattle.dt_trail.specs.declared.law.Named.{Named}
 
 pub unmapped : {X Y : Type 0} (f : X → Y) (o : Option X) → option_map f o ≡ None → o ≡ None
@@ -58,17 +59,26 @@ left_each : (word : TableId) (cpus seat cpu life : ℕ) (row : Named Account) (k
 left_each word cpus seat cpu life row knows None h = tt
 left_each word cpus seat cpu life row knows (Some k) h = left_of word cpus seat cpu life row knows k.book k.note h
 
--- and once the next opened
-kept_each : (word : TableId) (cpus seat cpu life : ℕ) (row : Named Account) (o : Option KeptNote) → IfSome o (IsLeft word cpus seat cpu life)
-    → IfSome (option_map (λ (k : KeptNote). kept (Some (noted row (cpu + 1) [])) k.book) o) (IsKeptFor word cpus seat cpu life row [])
-kept_each word cpus seat cpu life row None h = tt
-kept_each word cpus seat cpu life row (Some k) h = record {
+-- and once the next opened, where the processor's new note is there
+kept_each : (word : TableId) (cpus seat cpu life : ℕ) (row : Named Account) (note : Option (Noted Account)) (o : Option KeptNote)
+    → ((k : KeptNote) → o ≡ Some k → note ≡ Some (noted row (cpu + 1) [])) → IfSome o (IsLeft word cpus seat cpu life)
+    → IfSome (option_map (λ (k : KeptNote). kept note k.book) o) (IsKeptFor word cpus seat cpu life row [])
+kept_each word cpus seat cpu life row note None there h = tt
+kept_each word cpus seat cpu life row note (Some k) there h = record {
   book = h.book;
   untaken = λ n is.
-      let same : noted row (cpu + 1) [] ≡ n = cc is in
-      (sym same, refl, h.earlier);
-  taken = λ is. absurd (let bad : Some (noted row (cpu + 1) []) ≡ None = is in cc bad);
+      let same : Some (noted row (cpu + 1) []) ≡ Some n = sym (there k refl) ∙ is in
+      let one : noted row (cpu + 1) [] ≡ n = cc same in
+      (sym one, refl, h.earlier);
+  taken = λ is. absurd (let bad : Some (noted row (cpu + 1) []) ≡ None = sym (there k refl) ∙ is in cc bad);
 }
+
+-- the first of new notes is the session's
+pub first_note : (row : Named Account) (count : ℕ) (notes : List (Noted Account)) (one : Noted Account) → AreNew row (count + 1) notes
+    → slice_get notes 0 ≡ Some one → one ≡ noted row 0 []
+first_note row count notes one new is =
+    let same : Some one ≡ Some (noted row 0 []) = sym is ∙ new.1 0 (omega arith) in
+    cc same
 
 module _ {J : Type 0} (word : TableId) (contents : Contents) (number life : ℕ) (lives : HeldFact) (present : Present J)
     (keeps : List KeptNote) (h : IsTaken word contents number life lives present keeps) where
@@ -137,12 +147,13 @@ module _ (word : TableId) (contents : Contents) (number life : ℕ) (lives : Hel
         later = λ l le. i.later l (omega (arith, le));
       }
 
-  pub notes_dealt : (left : List KeptNote) → ((cpu : ℕ) → slice_get left cpu
-      ≡ option_map (λ (k : KeptNote). kept (Some (noted row (cpu + 1) [])) k.book) (slice_get keeps cpu))
+  pub notes_dealt : (notes : List (Noted Account)) → AreNew row (contents.registry.cpus + 1) notes → (left : List KeptNote)
+      → ((cpu : ℕ) → slice_get left cpu ≡ option_map (λ (k : KeptNote). kept (slice_get notes (cpu + 1)) k.book) (slice_get keeps cpu))
       → (cpu : ℕ) → IfSome (slice_get left cpu) (IsKeptFor word contents.registry.cpus number cpu life row [])
-  notes_dealt left each cpu =
+  notes_dealt notes new left each cpu =
       subst (λ (o : Option KeptNote). IfSome o (IsKeptFor word contents.registry.cpus number cpu life row [])) (sym (each cpu))
-      (kept_each word contents.registry.cpus number cpu life row (slice_get keeps cpu) (h.each cpu))
+      (kept_each word contents.registry.cpus number cpu life row (slice_get notes (cpu + 1)) (slice_get keeps cpu)
+      (λ k is. let within = slice_get_within keeps cpu k is in new.1 (cpu + 1) (omega (arith, within, h.many))) (h.each cpu))
 
 no_start : (before rest : List TrailItem) (item : TrailItem) → [] ≡ (before ++ item ∷ []) ++ rest → ⊥
 no_start before rest item e =

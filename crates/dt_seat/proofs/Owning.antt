@@ -1,16 +1,13 @@
 -- A processor's own firings in what its note knows.
 use Rattle.std.proofs.Common.{◌≡◌, ◌+◌, ◌==◌, ℕ, Bool, true, false, cond, List, [], ◌∷◌, ◌++◌, refl, sym, ap, ◌∙◌, arith, eq-eqb, ne_eqb, append-nil, Option, Some, None}
 use Rattle.std.proofs.lemmas.List.Elements.{filter-append}
-use Rattle.dt_cred.specs.declared.account.Account.{Account}
 use Rattle.dt_cred.specs.declared.firing.Firing.{Firing}
-use Rattle.dt_facts.specs.Facts.{last_note}
 use Rattle.dt_facts.specs.declared.fact.LastNote.{LastNote}
 use Rattle.dt_seat.specs.Keeps.{IsEarlier, noted_in}
 use Rattle.dt_seat.specs.Seats.{kept_items}
 use Rattle.dt_seat.specs.Trailed.{row_offered}
 use Rattle.dt_seat.specs.declared.held.Held.TheVariants.{Kept, Unseen}
 use Rattle.dt_trail.specs.Items.{TrailItem, fired, own, whose}
-use Rattle.dt_trail.specs.declared.law.Named.{Named}
 
 -- a note of an earlier life knows nothing of this one
 pub noted_earlier : (life : ℕ) (took : Option LastNote) (knows : List TrailItem) → IsEarlier life took → noted_in life took knows ≡ []

@@ -1,5 +1,5 @@
 -- What a seat becomes as a firing is offered and a line is asked.
-use Rattle.std.proofs.Common.{◌≡◌, ◌≢◌, ◌<◌, ◌+◌, ◌==◌, ℕ, Bool, true, false, cond, List, [], ◌∷◌, ◌++◌, length, refl, sym, ap, ◌∙◌, subst, arith, ne_eqb, append-nil, Option, Some, None, inl, inr, ⊎_elim, if◌then◌else◌}
+use Rattle.std.proofs.Common.{◌≡◌, ◌≢◌, ◌<◌, ◌+◌, ◌==◌, ℕ, Bool, true, false, cond, List, [], ◌∷◌, ◌++◌, length, refl, sym, ap, ◌∙◌, subst, arith, ne_eqb, append-nil, Option, Some, None, Result, Ok, Err, OnOk, OnErr, inl, inr, ⊎_elim, if◌then◌else◌}
 use Rattle.std.proofs.lemmas.List.{length-set}
 use Rattle.std.proofs.lemmas.List.Elements.{filter-append}
 use Rattle.std.specs.List.{slice_get, slice_set}
@@ -18,7 +18,7 @@ use Rattle.dt_life.specs.laws.Options.{if_some_map}
 use Rattle.dt_machine.specs.Registry.{Contents}
 use Rattle.dt_seat.proofs.Known.{by_note, not_by_note}
 use Rattle.dt_seat.specs.Keeps.{Carries, Followed, IsKeptFor, KeptNote, known_by, known_in, known_of, told_in}
-use Rattle.dt_seat.specs.Seats.{IsRepliedTo, ComesOfFiring, IsTaken, Reaches, after_line_of}
+use Rattle.dt_seat.specs.Seats.{IsRepliedTo, ComesOfFiring, IsTaken, Reaches, TrailGoesOn, after_line_of}
 use Rattle.dt_seat.specs.declared.after_line.AfterLine.{AfterLine}
 use Rattle.dt_seat.specs.declared.held.Held.TheVariants.{Kept as WasKept, Unseen}
 use Rattle.dt_seat.specs.Trailed.{IsDue, IsTrailed, row_after, row_offered, with_items}
@@ -167,6 +167,19 @@ own_line cpu row false item mine = own_of_other (cpu + 1) row item (λ e. absurd
 
 module _ {J : Type 0} (word : TableId) (contents : Contents) (number life : ℕ) (lives : HeldFact) (present : Present J)
     (keeps : List KeptNote) (h : IsTaken word contents number life lives present keeps) where
+  -- where the trail has the items that it had
+  taken_same : (new : Present J) → new.owner.row ≡ present.owner.row → new.owner.knows ≡ present.owner.knows
+      → IsTrailed contents new.account new.owner new.consumer
+      → IsTaken word contents number life lives new keeps
+  taken_same new row knows trailed = record {
+    few = h.few;
+    many = h.many;
+    lives_are = h.lives_are;
+    is_open = rw row h.is_open;
+    trailed = trailed;
+    each = λ cpu. rw (row, knows) (h.each cpu);
+  }
+
   -- after a line was asked
   pub taken_asked : (item : TrailItem) (new : Present J) → whose item ≡ 0
       → new.owner.row ≡ present.owner.row
@@ -189,6 +202,16 @@ module _ {J : Type 0} (word : TableId) (contents : Contents) (number life : ℕ)
         (own_line cpu present.owner.knows (is_over (life_of_row present.account contents present.owner.knows)) item mine) right))
         (h.each cpu);
   }
+
+  -- whatever it came to: without memory the trail has the items that it had
+  pub taken_answered : {A E : Type 0} (result : Result A E) (item : TrailItem) (new : Present J) → whose item ≡ 0
+      → TrailGoesOn present.owner new.owner
+      → OnOk result (new.owner.knows ≡ row_after present.account contents present.owner.knows item)
+      → OnErr result (new.owner.knows ≡ present.owner.knows)
+      → IsTrailed contents new.account new.owner new.consumer
+      → IsTaken word contents number life lives new keeps
+  taken_answered (Ok it) item new mine on appended same trailed = taken_asked item new mine on.row appended trailed
+  taken_answered (Err it) item new mine on appended same trailed = taken_same new on.row same trailed
 
 -- what a note knew, as it grew and then met its trail
 pub grows_met : (old : Noted Account) (trail : List TrailItem) → Meets trail old → Grows old (noted old.row old.number trail)

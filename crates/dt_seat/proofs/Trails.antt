@@ -63,6 +63,15 @@ more_suffice cells more s le h = elim h [
 pub few_widened : (trail : Known Account) → IsWide trail → trail.cells < longest → trail.widened < 15
 few_widened trail h short = omega (arith, h.blocks, short)
 
+-- the account of a trail is its row's
+pub trailed_own : (contents : Contents) (account : Account) (trail : Known Account) (consumer : Consumer)
+    → IsTrailed contents account trail consumer → IsTrailed contents trail.row.account trail consumer
+trailed_own contents account trail consumer h = subst (λ (a : Account). IsTrailed contents a trail consumer) (sym h.whose_is) h
+
+pub trailed_as : (contents : Contents) (account own : Account) (trail : Known Account) (consumer : Consumer)
+    → own ≡ account → IsTrailed contents own trail consumer → IsTrailed contents account trail consumer
+trailed_as contents account own trail consumer same h = subst (λ (a : Account). IsTrailed contents a trail consumer) same h
+
 module _ (contents : Contents) (account : Account) (trail : Known Account) (consumer : Consumer)
     (h : IsTrailed contents account trail consumer) where
   abbrev life : List Item

@@ -1,17 +1,20 @@
 //! How a session asks a line of the consumer on its seat.
-ghost use Rattle.std.specs.Prelude.{◌≡◌, ◌≤◌, true, IfOk, OnOk, OnErr, Contains};
+ghost use Rattle.std.specs.Prelude.{◌≡◌, ◌≢◌, ◌≤◌, ◌↔◌, true, List, IfOk, IfSome, IsTrue, MatchOption, OnOk, OnErr, Contains};
 ghost use mathlib.Core.List.{IsPrefix};
 ghost use Rattle.dt_chain.specs.Writes.{Write as ChainWrite};
+ghost use Rattle.dt_consumer.specs.StandsFor.{StandsFor};
+ghost use Rattle.dt_cred.specs.declared.account.Account.{Account};
+ghost use Rattle.dt_life.specs.Life.{Item, phase};
 ghost use Rattle.dt_life.specs.declared.phase.Phase.TheVariants.{Active};
-ghost use Rattle.dt_seat.specs.Publications.{IsPublicationAfter, writes_seen};
-ghost use Rattle.dt_seat.specs.Seats.{TrailGoesOn, IsRepliedTo, IsTaken};
+ghost use Rattle.dt_machine.specs.Registry.{Registry};
+ghost use Rattle.dt_seat.specs.Publications.{EndsWithdrawn, IsPublicationAfter, writes_seen};
+ghost use Rattle.dt_seat.specs.Seats.{TrailGoesOn, IsRepliedTo};
 ghost use Rattle.dt_seat.specs.Sessions.{IsNotebook};
-ghost use Rattle.dt_seat.specs.Trailed.{IsWideEnough, IsTrailed, item_of_line};
+ghost use Rattle.dt_seat.specs.Trailed.{IsWideEnough, IsTrailed, item_of_line, row_after};
 ghost use Rattle.dt_trail.specs.Items.{StartsWith};
 ghost use Rattle.dt_trail.specs.Known.{Grows};
 
 use crate::after_line::AfterLine;
-use crate::keep::Keep;
 use crate::notebook::{Notebook, take_down};
 use crate::present::Present;
 use crate::replied::Replied;
@@ -19,8 +22,6 @@ use crate::site::HubSite;
 use crate::trailed::{Note, finish, make_room, prepare};
 use dt_chain::{ChainWriter, Front, Seat, Write};
 use dt_consumer::Consumer;
-use dt_cred::Account;
-use dt_facts::Book;
 use dt_life::Phase;
 use dt_machine::Machine;
 use dt_proto::Asked;
@@ -54,20 +55,30 @@ fn publish<J: HubSite, R: Wait>(
     }
 }
 
-/// Withdraws what a seat published, and says whether it did. Where it didn't, as memory ran out, the chains name a life that sees nothing.
+/// Withdraws what a seat published, and answers what is then published: the withdrawal is its last write. `None`: it didn't, as memory ran out,
+/// and the chains name a life that sees nothing.
 pub(crate) fn withdraw<J: HubSite, R: Wait>(
     rt: &R,
     chains: &Mutex<ChainWriter<J>>,
     number: Seat,
-) -> bool {
+) -> Option<Front<J>>
+    ensures { IfSome result (EndsWithdrawn number) }
+{
     let mut writer = chains.lock(rt);
     let result = writer.withdraw(rt, number);
+    let later = writer.published();
     MutexGuard::unlock(writer);
-    result.is_ok()
+    match result {
+        Ok(()) => Some(later),
+        Err(AllocError) => None,
+    }
 }
 
 /// Whether a consumer is tracing.
-fn is_active(consumer: &Consumer) -> bool {
+fn is_active(consumer: &Consumer) -> bool
+    ensures { (account : Account) (registry : Registry) (life : List Item) → StandsFor account registry consumer.now life
+        → (IsTrue result ↔ (phase account registry life ≡ Active)) }
+{
     match consumer.phase() {
         Phase::Active => true,
         Phase::Inactive | Phase::Stopped(_) => false,
@@ -102,26 +113,33 @@ fn make_ready<J: HubSite, R: Wait>(
     if !is_go {
         return Ok(None);
     }
-    make_room(present.account, &mut present.owner, &present.consumer, note)?;
+    make_room(&mut present.owner, &present.consumer, note)?;
     // a publication that is refused may come with the next write of any seat
     present.is_published = true;
     let front = publish(rt, alloc, chains, number, life, present)?;
     Ok(Some(front))
 }
 
-/// Withdraws what the session published, once its consumer traces no more.
+/// Withdraws what the session published, once its consumer traces no more, and answers what is then published. It takes its interest for withdrawn
+/// only then.
 fn retire<J: HubSite, R: Wait>(
     rt: &R,
     chains: &Mutex<ChainWriter<J>>,
     number: Seat,
     present: &mut Present<J>,
-)
-    ensures { (present.new.account ≡ present.old.account) × (present.new.owner ≡ present.old.owner)
+) -> Option<Front<J>>
+    ensures same { (present.new.account ≡ present.old.account) × (present.new.owner ≡ present.old.owner)
         × (present.new.consumer ≡ present.old.consumer) }
+    ensures withdrawn { MatchOption result (present.new.is_published ≡ present.old.is_published) (EndsWithdrawn number) }
+    ensures ended { IfSome result (λ _. (account : Account) (registry : Registry) (life : List Item)
+        → StandsFor account registry present.old.consumer life → phase account registry life ≢ Active) }
 {
-    if present.is_published && !is_active(&present.consumer) {
-        present.is_published = !withdraw(rt, chains, number);
+    if !present.is_published || is_active(&present.consumer) {
+        return None;
     }
+    let withdrawn = withdraw(rt, chains, number);
+    present.is_published = withdrawn.is_none();
+    withdrawn
 }
 
 /// Answers a line of the session on a seat: the text of its reply, and whether the session goes on.
@@ -134,19 +152,19 @@ pub(crate) fn ask_at<J: HubSite, R: Wait>(
     chains: &Mutex<ChainWriter<J>>,
     number: Seat,
     life: u64,
-    lives: &Book,
     present: &mut Present<J>,
-    keeps: &Vec<Keep<J>>,
     notebook: &mut Notebook<J>,
     asked: &Asked,
 ) -> Result<Replied, AllocError>
     requires machine { machine.now ≡ J.contents }
-    requires taken { IsTaken J.word J.contents number life lives.now present.old keeps.now.items }
+    requires trailed { IsTrailed J.contents present.old.account present.old.owner present.old.consumer }
     requires row { notebook.old.note.row ≡ present.old.owner.row }
     requires notebook { IsNotebook J.contents number life notebook.old.note notebook.old.lines.items notebook.old.front }
-    ensures taken { IsTaken J.word J.contents number life lives.now present.new keeps.now.items }
+    ensures trailed { IsTrailed J.contents present.new.account present.new.owner present.new.consumer }
     ensures notebook { IsNotebook J.contents number life notebook.new.note notebook.new.lines.items notebook.new.front }
     ensures trail { TrailGoesOn present.old.owner present.new.owner }
+    ensures appended { OnOk result (present.new.owner.knows
+        ≡ row_after present.old.account J.contents present.old.owner.knows (item_of_line asked.now)) }
     ensures answered { IfOk result (λ replied. IsRepliedTo J.contents notebook.old.note.row.account notebook.old.note.knows
         (item_of_line asked.now) replied.text.items replied.ending notebook.new.note.knows) }
     ensures note { (notebook.new.note.row ≡ notebook.old.note.row) × StartsWith notebook.new.note.knows notebook.old.note.knows }
@@ -154,14 +172,7 @@ pub(crate) fn ask_at<J: HubSite, R: Wait>(
     ensures unchanged { OnErr result (present.new.owner.knows ≡ present.old.owner.knows) }
     ensures front { IsPrefix (writes_seen notebook.old.front) (writes_seen notebook.new.front) }
 {
-    let prepared = prepare(
-        alloc,
-        machine,
-        present.account,
-        &present.owner,
-        &present.consumer,
-        asked,
-    )?;
+    let prepared = prepare(alloc, machine, &present.consumer, asked)?;
     notebook.lines.reserve(1)?;
     let ending = AfterLine::of(&prepared.draft);
     let is_go = prepared.draft.publishes();
@@ -169,7 +180,6 @@ pub(crate) fn ask_at<J: HubSite, R: Wait>(
     let published = make_ready(rt, alloc, chains, number, life, present, note, is_go)?;
     let text = finish(
         machine,
-        present.account,
         &mut present.owner,
         &mut present.consumer,
         &mut notebook.note,
@@ -177,6 +187,7 @@ pub(crate) fn ask_at<J: HubSite, R: Wait>(
         prepared,
     );
     take_down(&mut notebook.front, published);
-    retire(rt, chains, number, present);
+    let withdrawn = retire(rt, chains, number, present);
+    take_down(&mut notebook.front, withdrawn);
     Ok(Replied { text, ending })
 }

@@ -60,7 +60,7 @@ impl<J: HubSite> Keep<J> {
     }
 
     /// The processor's note, if it wasn't taken, goes to the processor, and knows what that was told of the life. The processor then knows that
-    /// all earlier lives are over.
+    /// all earlier lives are over. `owner` is for the contract: it says which trail the life's is.
     pub(crate) fn lend(
         &mut self,
         facts: &Facts,

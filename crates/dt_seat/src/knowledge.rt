@@ -43,7 +43,7 @@ impl Knowledge {
         Knowledge { book, share }
     }
 
-    /// What the note of a life knows is known from then on.
+    /// What the note of a life knows is known from then on. That is there in proofs alone, and so `life` and `note` are for the contract.
     pub(crate) fn go_on<J: Traced>(&mut self, facts: &Facts, life: u64, note: &Note<J>)
         requires { self.old.word ≡ facts.now }
         ensures { self.new ≡ known_items self.old.word self.old.name (known_more life note.now.knows self.old.list) }

@@ -113,9 +113,7 @@ impl<J: HubSite> LockedSeat<J> {
             chains,
             self.number,
             self.life,
-            &self.lives,
             present,
-            &self.keeps,
             &mut session.notebook,
             asked,
         );
@@ -156,7 +154,6 @@ impl<J: HubSite> LockedSeat<J> {
         hold_at(
             machine,
             facts,
-            self.number,
             life,
             &mut self.lives,
             present,

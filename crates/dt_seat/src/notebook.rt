@@ -1,5 +1,4 @@
 //! What a session wrote down.
-ghost use Rattle.std.specs.Prelude.{◌≡◌, ◌⊎◌, Some, None, option_map};
 ghost use Rattle.dt_seat.specs.Publications.{writes_seen};
 ghost use mathlib.Core.List.{IsPrefix};
 

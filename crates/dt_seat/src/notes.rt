@@ -1,11 +1,10 @@
 //! The notes that a seat keeps for its processors.
-ghost use Rattle.std.specs.Prelude.{◌≡◌, ◌+◌, ◌<◌, ℕ, [], Some, length, option_map, slice_get, vec_len};
+ghost use Rattle.std.specs.Prelude.{◌≡◌, ◌+◌, ℕ, Some, option_map, slice_get, vec_len};
 ghost use Rattle.dt_seat.specs.Keeps.{kept, without_note};
-ghost use Rattle.dt_trail.specs.Known.{noted, AreNew};
 
 use crate::keep::Keep;
 use crate::site::HubSite;
-use crate::trailed::{Note, Owner};
+use crate::trailed::Note;
 
 /// Lets go of the notes that weren't taken.
 pub(crate) fn forget_notes<J: HubSite>(keeps: &mut Vec<Keep<J>>)
@@ -20,16 +19,12 @@ pub(crate) fn forget_notes<J: HubSite>(keeps: &mut Vec<Keep<J>>)
 }
 
 /// Gives each processor its note of a new trail, and hands out the first, which is the session's.
-pub(crate) fn hand_out<J: HubSite>(
-    keeps: &mut Vec<Keep<J>>,
-    owner: &Owner<J>,
-    notes: Vec<Note<J>>,
-) -> Note<J>
-    requires { AreNew owner.now.row (vec_len keeps.old + 1) notes.items }
+pub(crate) fn hand_out<J: HubSite>(keeps: &mut Vec<Keep<J>>, notes: Vec<Note<J>>) -> Note<J>
+    requires { vec_len notes ≡ vec_len keeps.old + 1 }
     ensures many { vec_len keeps.new ≡ vec_len keeps.old }
     ensures each { (cpu : ℕ) → slice_get keeps.new.items cpu
-        ≡ option_map (λ k. kept (Some (noted owner.now.row (cpu + 1) [])) k.book) (slice_get keeps.old.items cpu) }
-    ensures first { result ≡ noted owner.now.row 0 [] }
+        ≡ option_map (λ k. kept (slice_get notes.items (cpu + 1)) k.book) (slice_get keeps.old.items cpu) }
+    ensures first { slice_get notes.items 0 ≡ Some result }
 {
     let mut notes = notes;
     let mut left = keeps.len();

@@ -1,7 +1,6 @@
 //! How a session comes to a seat, and leaves it.
-ghost use Rattle.std.specs.Prelude.{◌≡◌, ◌+◌, ◌<◌, ◌^◌, [], None, Some, IfOk, OnErr, OnOk, vec_len};
+ghost use Rattle.std.specs.Prelude.{◌≡◌, ◌+◌, ◌<◌, ◌^◌, [], None, Some, IfOk, OnErr};
 ghost use Rattle.dt_chain.specs.Limits.{seat_count};
-ghost use Rattle.dt_seat.specs.Seats.{seated};
 ghost use Rattle.dt_trail.specs.Known.{known_row};
 ghost use Rattle.dt_trail.specs.Limits.{opening_cells};
 
@@ -54,7 +53,7 @@ impl<J: HubSite> LockedSeat<J> {
             unreachable!()
         };
         facts.go_on_apart::<Brand, Owner<J>>(&mut self.lives, &mut share, &owner);
-        let note = hand_out(&mut self.keeps, &owner, notes);
+        let note = hand_out(&mut self.keeps, notes);
         self.present = Some(Present {
             account: *account,
             owner,

@@ -1,5 +1,5 @@
 //! The session on a seat, as long as it is open.
-ghost use Rattle.std.specs.Prelude.{◌≡◌, ◌+◌, ◌++◌, Some, vec_len};
+ghost use Rattle.std.specs.Prelude.{◌≡◌, ◌+◌, ◌++◌, Some};
 ghost use Rattle.dt_legal.specs.Rows.{AreBelowPlace};
 ghost use Rattle.dt_machine.specs.Context.{IsContext};
 ghost use Rattle.dt_machine.specs.Registry.{firing_at};
@@ -12,7 +12,6 @@ use crate::held::Held;
 use crate::keep::Keep;
 use crate::site::HubSite;
 use crate::trailed::{Owner, offer};
-use dt_chain::Seat;
 use dt_consumer::Consumer;
 use dt_cred::Account;
 use dt_facts::{Book, Facts};
@@ -32,7 +31,6 @@ pub(crate) struct Present<J: HubSite> {
 pub(crate) fn hold_at<J: HubSite>(
     machine: &Machine,
     facts: &Facts,
-    number: Seat,
     life: u64,
     lives: &mut Book,
     present: &mut Present<J>,
@@ -42,13 +40,13 @@ pub(crate) fn hold_at<J: HubSite>(
 ) -> Held
     requires machine { machine.now ≡ J.contents }
     requires facts { facts.now ≡ J.word }
-    requires taken { IsTaken J.word J.contents number life lives.old present.old keeps.old.items }
+    requires taken { IsTaken J.word J.contents follower.old.seat life lives.old present.old keeps.old.items }
     requires context { IsContext J.contents.registry context.now }
     requires script { firing_at J.contents.scripts context.now.firing.now.cpu context.now.firing.now.place
         ≡ Some context.now.firing.now }
-    requires follower { (follower.old.seat ≡ number) × (follower.old.cpu ≡ context.now.firing.now.cpu) }
+    requires follower { follower.old.cpu ≡ context.now.firing.now.cpu }
     requires below { AreBelowPlace context.now.firing.now.cpu context.now.firing.now.place (known_by follower.old.note) }
-    ensures taken { IsTaken J.word J.contents number life lives.new present.new keeps.new.items }
+    ensures taken { IsTaken J.word J.contents follower.old.seat life lives.new present.new keeps.new.items }
     ensures held { ComesOfFiring J.contents life context.now.firing.now result follower.old follower.new }
     ensures own { own (context.now.firing.now.cpu + 1) (noted_of life follower.new)
         ≡ own (context.now.firing.now.cpu + 1) (noted_of life follower.old) ++ kept_items result context.now.firing.now }
@@ -61,7 +59,6 @@ pub(crate) fn hold_at<J: HubSite>(
     };
     let is_seen = offer(
         machine,
-        present.account,
         &mut present.owner,
         &mut present.consumer,
         note,

@@ -1,13 +1,15 @@
 //! A consumer with its session's trail.
-ghost use Rattle.std.specs.Prelude.{◌≡◌, ◌≤◌, ◌<◌, ◌↔◌, ◌+◌, [], IsTrue, IfOk, OnOk, Some, vec_len, vec_capacity};
+ghost use Rattle.std.specs.Prelude.{◌≡◌, ◌≤◌, ◌<◌, ◌↔◌, ◌+◌, List, [], IsTrue, IfOk, OnOk, Some, vec_len, vec_capacity};
+ghost use Rattle.dt_consumer.specs.StandsFor.{StandsFor};
+ghost use Rattle.dt_cred.specs.declared.account.Account.{Account};
 ghost use Rattle.dt_legal.specs.Rows.{AreBelowPlace, IsGoAfter, life_of_row};
 ghost use Rattle.dt_life.specs.Sees.{Sees};
 ghost use Rattle.dt_machine.specs.Context.{IsContext};
 ghost use Rattle.dt_machine.specs.Registry.{firing_at};
 ghost use Rattle.dt_seat.specs.Sessions.{lines_from};
 ghost use Rattle.dt_seat.specs.Trailed.{IsWideEnough, IsPrepared, IsTrailed, item_of_line, row_after, row_offered, with_items};
+ghost use Rattle.dt_trail.specs.Items.{TrailItem};
 ghost use Rattle.dt_trail.specs.Known.{known_row, noted, AreNew, Meets};
-ghost use Rattle.dt_proto.specs.Asked.{form_asked, form_lent};
 ghost use Rattle.dt_trail.specs.Limits.{cpu_count, opening_cells};
 
 use crate::line_kept::LineKept;
@@ -17,7 +19,7 @@ use dt_cred::Account;
 use dt_legal::{LegalIn, Traced};
 use dt_life::LINES_MAX;
 use dt_machine::{Context, Machine};
-use dt_proto::{Asked, WholeLine, read_line, reply_bytes};
+use dt_proto::{Asked, read_line, reply_bytes};
 use dt_trail::{BLOCK_CELLS, Item, TRAIL_CELLS, Trail, TrailNote, TrailOwner};
 use std::alloc::{AllocError, Global};
 
@@ -43,16 +45,6 @@ pub(crate) fn new_trail<J: Traced>(
     Ok((owner, made))
 }
 
-/// The line that was asked, lent.
-fn lent(asked: &Asked) -> WholeLine<'_>
-    ensures { form_lent result ≡ form_asked asked.now }
-{
-    match asked {
-        Asked::Line(bytes) => WholeLine::Bytes(bytes.as_slice()),
-        Asked::Long => WholeLine::Long,
-    }
-}
-
 /// The item of a line that was asked, with bytes of its own. `Err`: there was no memory for them.
 fn item_of(alloc: Global, asked: &Asked) -> Result<Item, AllocError>
     ensures { IfOk result (λ item. item ≡ item_of_line asked.now) }
@@ -66,22 +58,19 @@ fn item_of(alloc: Global, asked: &Asked) -> Result<Item, AllocError>
 /// Makes all that a line takes. Nothing is changed.
 ///
 /// `Err`: there was no memory.
-pub(crate) fn prepare<J: Traced>(
+pub(crate) fn prepare(
     alloc: Global,
     machine: &Machine,
-    account: Account,
-    owner: &Owner<J>,
     consumer: &Consumer,
     asked: &Asked,
 ) -> Result<Prepared, AllocError>
-    requires machine { machine.now ≡ J.contents }
-    requires kept { IsTrailed J.contents account owner.now consumer.now }
-    ensures prepared { IfOk result (λ made. IsPrepared J.contents account owner.now.knows consumer.now made.draft made.item
-        made.text.items) }
+    ensures prepared { IfOk result (λ made. (account : Account) (knows : List TrailItem)
+        → StandsFor account machine.now.registry consumer.now (life_of_row account machine.now knows)
+        → IsPrepared machine.now account knows consumer.now made.draft made.item made.text.items) }
     ensures line { IfOk result (λ made. made.item ≡ item_of_line asked.now) }
 {
     let item = item_of(alloc, asked)?;
-    let command = read_line(alloc, lent(asked))?;
+    let command = read_line(alloc, asked.lent())?;
     let draft = consumer.draft(alloc, machine, &command)?;
     let text = reply_bytes(alloc, draft.reply())?;
     Ok(Prepared { draft, item, text })
@@ -91,15 +80,14 @@ pub(crate) fn prepare<J: Traced>(
 ///
 /// `Err`: there was no memory. The blocks that were added stay.
 pub(crate) fn make_room<J: Traced>(
-    account: Account,
     owner: &mut Owner<J>,
     consumer: &Consumer,
     note: &mut Note<J>,
 ) -> Result<(), AllocError>
-    requires kept { IsTrailed J.contents account owner.old consumer.now }
+    requires kept { IsTrailed J.contents owner.old.row.account owner.old consumer.now }
     requires note { note.old.row ≡ owner.old.row }
-    ensures room { OnOk result (IsWideEnough J.contents account owner.new) }
-    ensures kept { IsTrailed J.contents account owner.new consumer.now }
+    ensures room { OnOk result (IsWideEnough J.contents owner.old.row.account owner.new) }
+    ensures kept { IsTrailed J.contents owner.old.row.account owner.new consumer.now }
     ensures same { (owner.new.row ≡ owner.old.row) × (owner.new.knows ≡ owner.old.knows) × (owner.old.cells ≤ owner.new.cells) }
     ensures note { note.new ≡ noted note.old.row note.old.number owner.old.knows }
     ensures met { Meets owner.old.knows note.old }
@@ -116,7 +104,6 @@ pub(crate) fn make_room<J: Traced>(
 /// then knows the whole trail, and the line is kept among its own. A `go` that is accepted needs the room for the history. It takes no memory.
 pub(crate) fn finish<J: Traced>(
     machine: &Machine,
-    account: Account,
     owner: &mut Owner<J>,
     consumer: &mut Consumer,
     note: &mut Note<J>,
@@ -124,16 +111,17 @@ pub(crate) fn finish<J: Traced>(
     prepared: Prepared,
 ) -> Vec<u8>
     requires machine { machine.now ≡ J.contents }
-    requires kept { IsTrailed J.contents account owner.old consumer.old }
-    requires prepared { IsPrepared J.contents account owner.old.knows consumer.old prepared.draft prepared.item
+    requires kept { IsTrailed J.contents owner.old.row.account owner.old consumer.old }
+    requires prepared { IsPrepared J.contents owner.old.row.account owner.old.knows consumer.old prepared.draft prepared.item
         prepared.text.items }
     requires note { (note.old.row ≡ owner.old.row) × (note.old.number ≡ 0) }
     requires lines { lines.old.items ≡ lines_from 0 note.old.knows }
     requires line_room { vec_len lines.old < vec_capacity lines.old }
-    requires room { IsGoAfter account J.contents owner.old.knows prepared.item → IsWideEnough J.contents account owner.old }
-    ensures kept { IsTrailed J.contents account owner.new consumer.new }
-    ensures trail { owner.new ≡ with_items owner.old (row_after account J.contents owner.old.knows prepared.item) }
-    ensures note { note.new ≡ noted note.old.row 0 (row_after account J.contents owner.old.knows prepared.item) }
+    requires room { IsGoAfter owner.old.row.account J.contents owner.old.knows prepared.item
+        → IsWideEnough J.contents owner.old.row.account owner.old }
+    ensures kept { IsTrailed J.contents owner.old.row.account owner.new consumer.new }
+    ensures trail { owner.new ≡ with_items owner.old (row_after owner.old.row.account J.contents owner.old.knows prepared.item) }
+    ensures note { note.new ≡ noted note.old.row 0 (row_after owner.old.row.account J.contents owner.old.knows prepared.item) }
     ensures met { Meets owner.old.knows note.old }
     ensures lines { lines.new.items ≡ lines_from 0 note.new.knows }
     ensures text { result.items ≡ prepared.text.items }
@@ -155,23 +143,22 @@ pub(crate) fn finish<J: Traced>(
 /// the consumer saw it. It takes no memory.
 pub(crate) fn offer<J: Traced>(
     machine: &Machine,
-    account: Account,
     owner: &mut Owner<J>,
     consumer: &mut Consumer,
     note: &mut Note<J>,
     context: &Context,
 ) -> bool
     requires machine { machine.now ≡ J.contents }
-    requires kept { IsTrailed J.contents account owner.old consumer.old }
+    requires kept { IsTrailed J.contents owner.old.row.account owner.old consumer.old }
     requires context { IsContext J.contents.registry context.now }
     requires script { firing_at J.contents.scripts context.now.firing.now.cpu context.now.firing.now.place
         ≡ Some context.now.firing.now }
     requires note { (note.old.row ≡ owner.old.row) × (note.old.number ≡ context.now.firing.now.cpu + 1) }
     requires few { J.contents.registry.cpus ≤ cpu_count }
     requires below { AreBelowPlace context.now.firing.now.cpu context.now.firing.now.place note.old.knows }
-    ensures kept { IsTrailed J.contents account owner.new consumer.new }
-    ensures seen { IsTrue result ↔ Sees account J.contents.registry (life_of_row account J.contents owner.old.knows)
-        context.now.firing.now }
+    ensures kept { IsTrailed J.contents owner.old.row.account owner.new consumer.new }
+    ensures seen { IsTrue result ↔ Sees owner.old.row.account J.contents.registry
+        (life_of_row owner.old.row.account J.contents owner.old.knows) context.now.firing.now }
     ensures trail { owner.new ≡ with_items owner.old (row_offered owner.old.knows context.now.firing.now result) }
     ensures note { note.new ≡ noted note.old.row note.old.number (row_offered owner.old.knows context.now.firing.now result) }
     ensures met { Meets owner.old.knows note.old }

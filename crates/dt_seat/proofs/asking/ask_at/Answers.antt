@@ -3,13 +3,15 @@ use Rattle.std.proofs.Common.{◌≡◌, ap, sym, ◌∙◌, subst}
 use Rattle.std.specs.List.{Contains}
 use Rattle.dt_chain.specs.Writes.{Write}
 use Rattle.dt_cred.specs.declared.account.Account.{Account}
+use Rattle.dt_facts.specs.laws.Beginnings.{prefix_trans}
 use Rattle.dt_seat.proofs.Offering.{goes_on_asked, goes_on_wider, starts_after}
 use Rattle.dt_seat.proofs.Published.{contained_still}
-use Rattle.dt_seat.proofs.Seats.{answered_from, taken_asked}
+use Rattle.dt_seat.proofs.Seats.{answered_from}
 use Rattle.dt_seat.proofs.Sitting.{lines_grown, notebook_asked, notebook_goes_on}
 use Rattle.dt_seat.proofs.asking.ask_at.Goals as goal
 use Rattle.dt_seat.specs.Publications.{IsPublicationAfter, writes_seen}
 use Rattle.dt_legal.specs.Rows.{IsGoAfter}
+use Rattle.dt_seat.proofs.Trails.{trailed_as, trailed_own}
 use Rattle.dt_seat.specs.Trailed.{row_after}
 use Rattle.dt_trail.specs.Items.{StartsWith}
 use Rattle.dt_trail.specs.Known.{Known, Noted, noted}
@@ -31,37 +33,59 @@ finish-text-requires-clause-lines g c =
     c.reserve.ensures.items
     ∙ lines_grown _ _ _ c.args.notebook.now.note c.make_ready.new.note _ _ c.requires.notebook c.make_ready.ensures.note
 
-pub returns-clause-taken : goal.returns-clause-taken
-returns-clause-taken g c =
-    let item = c.in_ok-prepared.prepared.item in
-    let trail = c.finish-text.ensures.trail in
-    let owner = c.retire.ensures.1 in
-    let row : c.retire.new.present.owner.row ≡ c.args.present.now.owner.row =
-    ap (λ (o : Known Account). o.row) (owner ∙ trail) ∙ c.make_ready.ensures.row.0 in
-    let whole : c.retire.new.present.owner.knows
-    ≡ row_after c.make_ready.new.present.account g.J.Traced.contents c.make_ready.new.present.owner.knows item =
-    ap (λ (o : Known Account). o.knows) (owner ∙ trail) in
-    taken_asked _ g.J.Traced.contents _ _ _ c.args.present.now c.args.keeps.now.items c.requires.taken item c.retire.new.present
-    c.in_ok-prepared.ensures.prepared.mine row
-    (rw (c.make_ready.ensures.same.0, c.make_ready.ensures.row.1) at whole)
-    (rw (c.retire.ensures.0, c.retire.ensures.1, c.retire.ensures.2) c.finish-text.ensures.kept)
+pub finish-text-requires-clause-kept : goal.finish-text-requires-clause-kept
+finish-text-requires-clause-kept g c = trailed_own _ _ _ _ c.make_ready.ensures.trailed
+
+pub finish-text-requires-clause-prepared : goal.finish-text-requires-clause-prepared
+finish-text-requires-clause-prepared g c =
+    let whose : c.make_ready.new.present.owner.row.account ≡ c.args.present.now.account =
+    ap (λ (r : Named Account). r.account) c.make_ready.ensures.row.0 ∙ c.requires.trailed.whose_is in
+    let made = rw c.requires.machine at c.in_ok-prepared.ensures.prepared in
+    rw (whose, c.make_ready.ensures.row.1, c.make_ready.ensures.same.1) (made c.args.present.now.account c.args.present.now.owner.knows c.requires.trailed.stands)
+
+pub finish-text-requires-clause-room : goal.finish-text-requires-clause-room
+finish-text-requires-clause-room g c = λ go.
+    let whose : c.make_ready.new.present.owner.row.account ≡ c.args.present.now.account =
+    ap (λ (r : Named Account). r.account) c.make_ready.ensures.row.0 ∙ c.requires.trailed.whose_is in
+    let made = rw c.requires.machine at c.in_ok-prepared.ensures.prepared in
+    let prepared = made c.args.present.now.account c.args.present.now.owner.knows c.requires.trailed.stands in
+    let is_go = (c.publishes-is_go.ensures _ _ _ _ prepared.drafted).1 (rw (whose, c.make_ready.ensures.row.1) at go) in
+    rw c.make_ready.ensures.trailed.whose_is (c.in_ok-published.ensures.room is_go)
+
+pub returns-clause-trailed : goal.returns-clause-trailed
+returns-clause-trailed g c =
+    rw (c.retire-withdrawn.ensures.same.0, c.retire-withdrawn.ensures.same.1, c.retire-withdrawn.ensures.same.2)
+    (trailed_as _ _ _ _ _ c.make_ready.ensures.trailed.whose_is c.finish-text.ensures.kept)
+
+pub returns-clause-appended : goal.returns-clause-appended
+returns-clause-appended g c =
+    let contents = g.J.Traced.contents in
+    let whose : c.make_ready.new.present.owner.row.account ≡ c.args.present.now.account =
+    ap (λ (r : Named Account). r.account) c.make_ready.ensures.row.0 ∙ c.requires.trailed.whose_is in
+    let whole : c.retire-withdrawn.new.present.owner.knows
+    ≡ row_after c.make_ready.new.present.owner.row.account contents c.make_ready.new.present.owner.knows c.in_ok-prepared.prepared.item =
+    ap (λ (o : Known Account). o.knows) (c.retire-withdrawn.ensures.same.1 ∙ c.finish-text.ensures.trail) in
+    rw (← c.in_ok-prepared.ensures.line) (rw (whose, c.make_ready.ensures.row.1) at whole)
 
 pub returns-clause-answered : goal.returns-clause-answered
 returns-clause-answered g c =
     let contents = g.J.Traced.contents in
-    let prepared = c.in_ok-prepared.ensures.prepared in
+    let made = rw c.requires.machine at c.in_ok-prepared.ensures.prepared in
+    let prepared = made c.args.present.now.account c.args.present.now.owner.knows c.requires.trailed.stands in
     let account : c.args.notebook.now.note.row.account ≡ c.args.present.now.account =
-    ap (λ (r : Named Account). r.account) c.requires.row ∙ c.requires.taken.trailed.whose_is in
+    ap (λ (r : Named Account). r.account) c.requires.row ∙ c.requires.trailed.whose_is in
+    let whose : c.make_ready.new.present.owner.row.account ≡ c.args.present.now.account =
+    ap (λ (r : Named Account). r.account) c.make_ready.ensures.row.0 ∙ c.requires.trailed.whose_is in
     let after : c.finish-text.new.note.knows
-    ≡ row_after c.make_ready.new.present.account contents c.make_ready.new.present.owner.knows c.in_ok-prepared.prepared.item =
+    ≡ row_after c.make_ready.new.present.owner.row.account contents c.make_ready.new.present.owner.knows c.in_ok-prepared.prepared.item =
     ap (λ (n : Noted Account). n.knows) c.finish-text.ensures.note in
     let met = rw c.make_ready.ensures.row.1 at c.finish-text.ensures.met in
     rw (account, ← c.in_ok-prepared.ensures.line, c.finish-text.ensures.text)
     (answered_from contents c.args.present.now.account c.args.notebook.now.note c.make_ready.new.note c.args.present.now.owner.knows
     c.in_ok-prepared.prepared.item c.in_ok-prepared.prepared.text.items c.of-ending.result c.finish-text.new.note.knows c.requires.notebook.first
-    c.make_ready.ensures.note met c.requires.taken.trailed.legal prepared.due
+    c.make_ready.ensures.note met c.requires.trailed.legal prepared.due
     (c.of-ending.ensures c.args.present.now.account contents c.args.present.now.owner.knows c.in_ok-prepared.prepared.item prepared.drafted)
-    (rw (c.make_ready.ensures.same.0, c.make_ready.ensures.row.1) at after))
+    (rw (whose, c.make_ready.ensures.row.1) at after))
 
 pub returns-clause-notebook : goal.returns-clause-notebook
 returns-clause-notebook g c =
@@ -69,25 +93,30 @@ returns-clause-notebook g c =
     let item = c.in_ok-prepared.prepared.item in
     let old = c.args.notebook.now.note in
     let account : old.row.account ≡ c.args.present.now.account =
-    ap (λ (r : Named Account). r.account) c.requires.row ∙ c.requires.taken.trailed.whose_is in
+    ap (λ (r : Named Account). r.account) c.requires.row ∙ c.requires.trailed.whose_is in
+    let whose : c.make_ready.new.present.owner.row.account ≡ c.args.present.now.account =
+    ap (λ (r : Named Account). r.account) c.make_ready.ensures.row.0 ∙ c.requires.trailed.whose_is in
+    let made = rw c.requires.machine at c.in_ok-prepared.ensures.prepared in
+    let prepared = made c.args.present.now.account c.args.present.now.owner.knows c.requires.trailed.stands in
     let met = rw c.make_ready.ensures.row.1 at c.finish-text.ensures.met in
     let after : c.finish-text.new.note ≡ noted old.row 0 (row_after c.args.present.now.account contents c.args.present.now.owner.knows item) =
-    rw (c.make_ready.ensures.same.0, c.make_ready.ensures.row.1, c.make_ready.ensures.note.row) at c.finish-text.ensures.note in
+    rw (whose, c.make_ready.ensures.row.1, c.make_ready.ensures.note.row) at c.finish-text.ensures.note in
     let announced : IsGoAfter c.args.present.now.account contents c.args.present.now.owner.knows item → (write : Write)
-    × Contains (writes_seen c.take_down.new.front) write
+    × Contains (writes_seen c.take_down-2.new.front) write
     × IsPublicationAfter contents c.args.number c.args.life c.args.present.now.account c.args.present.now.owner.knows write = λ go.
-    let is_go = (c.publishes-is_go.ensures _ _ _ _ c.in_ok-prepared.ensures.prepared.drafted).1 go in
+    let is_go = (c.publishes-is_go.ensures _ _ _ _ prepared.drafted).1 go in
     let found = c.in_ok-published.ensures.published is_go in
-    (found.0, contained_still _ _ found.0 c.take_down.ensures.now found.1, found.2) in
+    let first = contained_still _ _ found.0 c.take_down.ensures.now found.1 in
+    (found.0, contained_still _ _ found.0 c.take_down-2.ensures.before first, found.2) in
     notebook_asked contents c.args.number c.args.life c.args.present.now.account old c.make_ready.new.note c.args.notebook.now.lines.items
-    c.args.notebook.now.front c.take_down.new.front account c.requires.notebook c.make_ready.ensures.note c.args.present.now.owner.knows met item
-    c.finish-text.new.note c.finish-text.new.lines.items c.take_down.ensures.before announced after c.finish-text.ensures.lines
+    c.args.notebook.now.front c.take_down-2.new.front account c.requires.notebook c.make_ready.ensures.note c.args.present.now.owner.knows met item
+    c.finish-text.new.note c.finish-text.new.lines.items (prefix_trans _ _ _ c.take_down.ensures.before c.take_down-2.ensures.before) announced after c.finish-text.ensures.lines
 
 pub returns-clause-trail : goal.returns-clause-trail
 returns-clause-trail g c =
     let row = c.make_ready.ensures.row in
-    rw (c.retire.ensures.1, c.finish-text.ensures.trail)
-    (goes_on_asked c.make_ready.new.present.account g.J.Traced.contents c.args.present.now.owner c.make_ready.new.present.owner
+    rw (c.retire-withdrawn.ensures.same.1, c.finish-text.ensures.trail)
+    (goes_on_asked c.make_ready.new.present.owner.row.account g.J.Traced.contents c.args.present.now.owner c.make_ready.new.present.owner
     c.in_ok-prepared.prepared.item (goes_on_wider c.args.present.now.owner c.make_ready.new.present.owner row.0 row.1 row.2))
 
 pub returns-clause-note : goal.returns-clause-note
@@ -96,10 +125,15 @@ returns-clause-note g c =
     let item = c.in_ok-prepared.prepared.item in
     let old = c.args.notebook.now.note in
     let row = c.args.present.now.owner.knows in
+    let whose : c.make_ready.new.present.owner.row.account ≡ c.args.present.now.account =
+    ap (λ (r : Named Account). r.account) c.make_ready.ensures.row.0 ∙ c.requires.trailed.whose_is in
     let met = rw c.make_ready.ensures.row.1 at c.finish-text.ensures.met in
     let after : c.finish-text.new.note ≡ noted old.row 0 (row_after c.args.present.now.account contents row item) =
-    rw (c.make_ready.ensures.same.0, c.make_ready.ensures.row.1, c.make_ready.ensures.note.row) at c.finish-text.ensures.note in
+    rw (whose, c.make_ready.ensures.row.1, c.make_ready.ensures.note.row) at c.finish-text.ensures.note in
     let starts : StartsWith (row_after c.args.present.now.account contents row item) old.knows =
     starts_trans (row_after c.args.present.now.account contents row item) row old.knows (starts_after c.args.present.now.account contents row item)
     (starts_trans row c.make_ready.new.note.knows old.knows met.0 c.make_ready.ensures.note.longer) in
     (ap (λ (n : Noted Account). n.row) after, subst (λ (n : Noted Account). StartsWith n.knows old.knows) (sym after) starts)
+
+pub returns-clause-front : goal.returns-clause-front
+returns-clause-front g c = prefix_trans _ _ _ c.take_down.ensures.before c.take_down-2.ensures.before

@@ -5,6 +5,7 @@ use Rattle.dt_legal.specs.Rows.{IsLegalRow, life_of_row}
 use Rattle.dt_life.specs.Sees.{Sees}
 use Rattle.dt_seat.proofs.Offering.{goes_on_offered}
 use Rattle.dt_seat.proofs.Seats.{taken_offered, held_kept, held_unseen, some_same}
+use Rattle.dt_seat.proofs.Trails.{trailed_as, trailed_own}
 use Rattle.dt_seat.proofs.present.hold_at.Goals as goal
 use Rattle.dt_seat.proofs.present.hold_at.Goals.{then-is_seen, else-is_seen}
 use Rattle.dt_seat.proofs.Owning.{own_kept, own_unseen}
@@ -17,10 +18,11 @@ use Rattle.dt_trail.specs.declared.law.Named.{Named}
 
 pub returns-clause-taken : goal.returns-clause-taken
 returns-clause-taken g c =
-    let seat = c.lend.ensures.carried.seat ∙ c.requires.follower.0 in
-    let cpu = c.lend.ensures.carried.cpu ∙ c.requires.follower.1 in
+    let seat = c.lend.ensures.carried.seat in
+    let cpu = c.lend.ensures.carried.cpu ∙ c.requires.follower in
+    let kept = trailed_as _ _ _ _ _ c.requires.taken.trailed.whose_is c.offer-is_seen.ensures.kept in
     let trailed = subst (λ (o : Known Account). IsTrailed g.J.Traced.contents c.args.present.now.account o c.offer-is_seen.new.consumer)
-    c.offer-is_seen.ensures.trail c.offer-is_seen.ensures.kept in
+    c.offer-is_seen.ensures.trail kept in
     rw (c.lend.ensures.lives, c.offer-is_seen.ensures.trail)
     (taken_offered _ g.J.Traced.contents _ _ _ c.args.present.now c.args.keeps.now.items c.requires.taken
     c.args.context.now.firing.now c.offer-is_seen.result c.offer-is_seen.new.consumer c.lend.new.self trailed c.lend.ensures.lent
@@ -37,16 +39,15 @@ returns-clause-held g c =
     let note : c.in-Some.note ≡ noted c.args.present.now.owner.row (c.args.follower.now.cpu + 1) (known_by c.lend.new.follower.note) =
     some_same _ _ (sym c.in-Some.is ∙ ap (λ (f : Followed). f.note) view ∙ c.lend.ensures.note) in
     let row : c.in-Some.note.row ≡ c.args.present.now.owner.row = ap (λ (n : Noted Account). n.row) note in
-    let account : c.in-Some.note.row.account ≡ c.args.present.now.account =
-    ap (λ (r : Named Account). r.account) row ∙ c.requires.taken.trailed.whose_is in
+    let account : c.in-Some.note.row.account ≡ c.args.present.now.owner.row.account = ap (λ (r : Named Account). r.account) row in
     let mine : c.in-Some.note.number ≡ c.args.context.now.firing.now.cpu + 1 =
-    ap (λ (n : Noted Account). n.number) note ∙ ap (λ (k : ℕ). k + 1) c.requires.follower.1 in
+    ap (λ (n : Noted Account). n.number) note ∙ ap (λ (k : ℕ). k + 1) c.requires.follower in
     let took = ap (λ (f : Followed). f.took) view ∙ c.lend.ensures.took in
     let over = ap (λ (f : Followed). f.over) view ∙ c.lend.ensures.over in
     let known = ap (known_of c.args.life) view ∙ c.lend.ensures.known in
     let carried = subst (λ (f : Followed). Carries c.args.follower.now f c.args.life) (sym view) c.lend.ensures.carried in
     let legal = subst (λ (a : Account). IsLegalRow a contents c.args.present.now.owner.knows) (sym account)
-    c.requires.taken.trailed.legal in
+    (trailed_own _ _ _ _ c.requires.taken.trailed).legal in
     elim c.if-is_seen.branch [
       | then-is_seen w ↦
           let last = rw w.if-is_seen.true at c.offer-is_seen.ensures.note in
@@ -77,13 +78,13 @@ returns-clause-own g c =
     let note : c.in-Some.note ≡ noted owner.row (c.args.follower.now.cpu + 1) (known_by c.lend.new.follower.note) =
     some_same _ _ (sym c.in-Some.is ∙ ap (λ (f : Followed). f.note) view ∙ c.lend.ensures.note) in
     let mine : c.in-Some.note.number ≡ firing.cpu + 1 =
-    ap (λ (n : Noted Account). n.number) note ∙ ap (λ (k : ℕ). k + 1) c.requires.follower.1 in
+    ap (λ (n : Noted Account). n.number) note ∙ ap (λ (k : ℕ). k + 1) c.requires.follower in
     let took = ap (λ (f : Followed). f.took) view ∙ c.lend.ensures.took in
     let met : own (firing.cpu + 1) owner.knows ≡ own (firing.cpu + 1) c.in-Some.note.knows =
     subst (λ (n : ℕ). own n owner.knows ≡ own n c.in-Some.note.knows) mine c.offer-is_seen.ensures.met.1 in
     let lent : own (firing.cpu + 1) (known_by c.lend.new.follower.note) ≡ own (firing.cpu + 1) (noted_of c.args.life c.args.follower.now) =
     subst (λ (n : ℕ). own (n + 1) (known_by c.lend.new.follower.note) ≡ own (n + 1) (noted_of c.args.life c.args.follower.now))
-    c.requires.follower.1 c.lend.ensures.own_known in
+    c.requires.follower c.lend.ensures.own_known in
     let same : own (firing.cpu + 1) owner.knows ≡ own (firing.cpu + 1) (noted_of c.args.life c.args.follower.now) =
     met ∙ ap (λ (n : Noted Account). own (firing.cpu + 1) n.knows) note ∙ lent in
     elim c.if-is_seen.branch [

@@ -15,10 +15,10 @@ use Rattle.dt_seat.proofs.trailed.finish.Goals as goal
 
 pub append-requires-clause-room : goal.append-requires-clause-room
 append-requires-clause-room g c =
-    let over : is_over (life_of_row c.args.account g.J.Traced.contents c.args.owner.now.knows) ≡ false =
+    let over : is_over (life_of_row c.args.owner.now.row.account g.J.Traced.contents c.args.owner.now.knows) ≡ false =
     false_from_ne_true _ (λ is.
     let bad : false ≡ true = sym c.if-is_over.false ∙ (c.is_over_quota-is_over.ensures _ _ _ _ c.requires.prepared.drafted).1 is in cc) in
-    line_has_room c.args.account g.J.Traced.contents c.args.owner.now.knows c.args.owner.now.cells c.requires.kept.legal
+    line_has_room c.args.owner.now.row.account g.J.Traced.contents c.args.owner.now.knows c.args.owner.now.cells c.requires.kept.legal
     c.requires.kept.suffice over
 
 pub returns-then-is_over-clause-lines : goal.returns-then-is_over-clause-lines
@@ -31,11 +31,11 @@ returns-else-is_over-clause-kept g c =
     let contents = g.J.Traced.contents in
     let stands = rw c.requires.machine at c.apply.ensures in
     let new = stands _ _ _ c.requires.kept.stands c.requires.prepared.drafted in
-    let over : is_over (life_of_row c.args.account contents c.args.owner.now.knows) ≡ false =
+    let over : is_over (life_of_row c.args.owner.now.row.account contents c.args.owner.now.knows) ≡ false =
     false_from_ne_true _ (λ is.
     let bad : false ≡ true = sym c.if-is_over.false ∙ (c.is_over_quota-is_over.ensures _ _ _ _ c.requires.prepared.drafted).1 is in cc) in
     rw c.append.ensures.owner
-    (trailed_line contents c.args.account c.args.owner.now c.args.consumer.now c.requires.kept _ c.args.prepared.item new over
+    (trailed_line contents c.args.owner.now.row.account c.args.owner.now c.args.consumer.now c.requires.kept _ c.args.prepared.item new over
     c.requires.prepared.mine c.requires.room)
 
 pub returns-else-is_over-clause-lines : goal.returns-else-is_over-clause-lines

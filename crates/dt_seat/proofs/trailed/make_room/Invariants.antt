@@ -7,7 +7,7 @@ use Rattle.dt_seat.proofs.trailed.make_room.Given as goal
 
 abbrev pub invariant-blocks-2 : goal.invariant-blocks-2
 invariant-blocks-2 g l = record {
-  kept : IsTrailed g.J.Traced.contents l.fn.account l.owner l.fn.consumer;
+  kept : IsTrailed g.J.Traced.contents l.fn.owner.row.account l.owner l.fn.consumer;
   row : l.owner.row ≡ l.fn.owner.row;
   knows : l.owner.knows ≡ l.fn.owner.knows;
   cells : l.fn.owner.cells ≤ l.owner.cells;

@@ -12,7 +12,7 @@ append-requires-clause-room g c =
     let told = rw c.requires.machine at c.offer_context-is_seen.ensures.sees in
     let sees = (told _ _ c.requires.kept.stands c.requires.context).0 c.if-is_seen.true in
     rw c.meet.ensures.owner
-    (firing_has_room c.args.account g.J.Traced.contents c.args.owner.now.knows _ c.args.owner.now.cells c.requires.kept.legal
+    (firing_has_room c.args.owner.now.row.account g.J.Traced.contents c.args.owner.now.knows _ c.args.owner.now.cells c.requires.kept.legal
     c.requires.kept.suffice sees)
 
 pub append-requires-clause-lawful : goal.append-requires-clause-lawful
@@ -23,7 +23,7 @@ append-requires-clause-lawful g c =
     let stands = seen _ _ c.requires.kept.stands c.requires.context c.if-is_seen.true in
     let below = below_met _ _ _ _ _ c.requires.note.1 c.meet.ensures.met.1 c.requires.below in
     rw (c.meet.ensures.owner, c.fired-item.ensures, c.requires.kept.whose_is)
-    (trailed_firing g.J.Traced.contents c.args.account c.args.owner.now c.args.consumer.now c.requires.kept _ _ stands
+    (trailed_firing g.J.Traced.contents c.args.owner.now.row.account c.args.owner.now c.args.consumer.now c.requires.kept _ _ stands
     c.requires.script sees below).legal
 
 pub returns-then-is_seen-clause-kept : goal.returns-then-is_seen-clause-kept
@@ -34,7 +34,7 @@ returns-then-is_seen-clause-kept g c =
     let stands = seen _ _ c.requires.kept.stands c.requires.context c.if-is_seen.true in
     let below = below_met _ _ _ _ _ c.requires.note.1 c.meet.ensures.met.1 c.requires.below in
     rw (c.append.ensures.owner, c.meet.ensures.owner, c.fired-item.ensures)
-    (trailed_firing g.J.Traced.contents c.args.account c.args.owner.now c.args.consumer.now c.requires.kept _ _ stands
+    (trailed_firing g.J.Traced.contents c.args.owner.now.row.account c.args.owner.now c.args.consumer.now c.requires.kept _ _ stands
     c.requires.script sees below)
 
 pub returns-then-is_seen-clause-seen : goal.returns-then-is_seen-clause-seen

@@ -5,7 +5,10 @@ use Rattle.dt_facts.specs.declared.fact.LifeStep.{LifeStep}
 use Rattle.dt_seat.specs.Knowledge.{steps_in}
 use Rattle.dt_seat.specs.Seats.{Seated}
 use Rattle.dt_seat.specs.Sessions.{Sat}
+use Rattle.dt_seat.specs.Trailed.{item_of_line}
+use Rattle.dt_seat.proofs.Seats.{taken_answered}
 use Rattle.dt_seat.proofs.Sitting.{one_open, session_goes_on}
+use Rattle.dt_seat.proofs.Trails.{line_is_mine}
 use Rattle.dt_seat.proofs.locked.LockedSeat.ask.Goals as goal
 
 pub invariant_of-session : goal.invariant_of-session
@@ -26,3 +29,31 @@ invariant_of-session g c =
           (session_goes_on _ _ _ _ _ _ _ _ s.notebook.note c.ask_at-result.new.notebook.note h.0 made.note.0 made.note.1),
       rw (seat_is, life_is) made.notebook,
     )
+
+pub invariant_of-self : goal.invariant_of-self
+invariant_of-self g c =
+    let inside = c.self.inside in
+    let made = c.ask_at-result.ensures in
+    let present_is : inside.present ≡ Some c.in-Some.present = c.in-Some.is in
+    let taken = rw present_is at c.self.invariant in (
+      rw c.agree.ensures.book
+          (taken_answered g.J.HubSite.word g.J.Traced.contents inside.number inside.life inside.lives c.in-Some.present inside.keeps.items taken.0
+          c.ask_at-result.result (item_of_line c.args.asked.now) c.ask_at-result.new.present (line_is_mine c.args.asked.now) made.trail
+          made.appended made.unchanged made.trailed),
+      taken.1,
+    )
+
+pub returns-clause-published : goal.returns-clause-published
+returns-clause-published g c =
+    let inside = c.self.inside in
+    let s = c.session.inside in
+    let h = c.session.invariant in
+    let present_is : inside.present ≡ Some c.in-Some.present = c.in-Some.is in
+    let taken = (rw present_is at c.self.invariant).0 in
+    let open_now : IsOpenAs inside.life c.in-Some.present.owner.row (steps_in s.share.fact) =
+    subst (λ (l : List LifeStep). IsOpenAs inside.life c.in-Some.present.owner.row l) (ap steps_in c.agree.ensures.agree) taken.is_open in
+    let life_is : s.life ≡ inside.life =
+    (one_open (steps_in s.share.fact) s.life inside.life s.notebook.note.row c.in-Some.present.owner.row h.0.is_open open_now).0 in
+    let seat_is : s.seat ≡ inside.number =
+    ap (λ (x : Sat). x.seat) c.session.view_is ∙ c.requires.seat ∙ ap (λ (x : Seated). x.number) (sym c.self.view_is) in
+    rw (seat_is, life_is) c.ask_at-result.ensures.notebook.published

@@ -1,5 +1,5 @@
 -- What is to be shown of `open`.
-use Rattle.std.proofs.Common.{rules, ◌≡◌, [], ◌∷◌, ◌++◌, Some, None, length, ap, sym, ◌∙◌}
+use Rattle.std.proofs.Common.{rules, ◌≡◌, ◌+◌, ℕ, [], ◌∷◌, ◌++◌, Some, None, length, ap, sym, ◌∙◌, subst}
 use Rattle.atomic_table.specs.Seated.{TableId}
 use Rattle.dt_cred.specs.declared.account.Account.{Account}
 use Rattle.dt_facts.specs.Facts.{life_fact, lists_in}
@@ -8,9 +8,10 @@ use Rattle.dt_facts.specs.Lives.{opened}
 use Rattle.dt_seat.specs.Knowledge.{steps_in}
 use Rattle.dt_seat.specs.Names.{life_name}
 use Rattle.dt_seat.specs.Seats.{Seated}
-use Rattle.dt_seat.proofs.Openings.{notebook_opened, notes_dealt, seat_open, seat_says, session_opened, unmapped}
+use Rattle.dt_seat.proofs.Openings.{first_note, notebook_opened, notes_dealt, seat_open, seat_says, session_opened, unmapped}
 use Rattle.dt_seat.proofs.locked.LockedSeat.open.Goals as goal
-use Rattle.dt_trail.specs.Known.{Known}
+use Rattle.dt_machine.specs.Registry.{Contents}
+use Rattle.dt_trail.specs.Known.{AreNew, Known}
 
 pub invariant_of-result : goal.invariant_of-result
 invariant_of-result g c =
@@ -28,14 +29,15 @@ invariant_of-result g c =
     ∙ ap (λ (w : TableId). holding w inside.lives.name fact) c.requires.facts
     ∙ ap (λ (h : HeldFact). holding word h.name fact) free.lives_are in
     let mine = c.go_on_apart.ensures.share ∙ sym c.go_on_apart.ensures.book in
+    let first = first_note owner.row _ _ _ c.in_ok-owner.ensures.notes c.hand_out-note.ensures.first in
     let all : c.begin.result ≡ begun word (life_name contents.registry.cpus inside.number) (lists_in c.go_on_apart.new.book.fact) =
     c.begin.ensures.beginning
     ∙ ap (λ (w : TableId). begun w c.go_on_apart.new.book.name (lists_in c.go_on_apart.new.book.fact)) c.requires.facts
     ∙ ap (λ (h : HeldFact). begun word h.name (lists_in c.go_on_apart.new.book.fact)) book in (
       session_opened word contents inside.number inside.life inside.lives inside.free inside.keeps.items free c.in-Some.field-0 idle owner.row
           c.go_on_apart.new.book c.go_on_apart.new.share book mine c.args.account.now c.begin.result c.hand_out-note.result all
-          c.in_ok-owner.ensures.account c.hand_out-note.ensures.first,
-      notebook_opened contents inside.number inside.life owner.row c.hand_out-note.result c.new-2.result.items c.hand_out-note.ensures.first
+          c.in_ok-owner.ensures.account first,
+      notebook_opened contents inside.number inside.life owner.row c.hand_out-note.result c.new-2.result.items first
           c.new-2.ensures.items,
     )
 
@@ -57,9 +59,13 @@ invariant_of-self g c =
     let mine = c.go_on_apart.ensures.share ∙ sym c.go_on_apart.ensures.book in
     let left = c.hand_out-note.new.keeps in
     let many : length left.items ≡ length inside.keeps.items = sym left.ok.0 ∙ c.hand_out-note.ensures.many ∙ inside.keeps.ok.0 in
+    let notes = c.in_ok-owner.notes.items in
+    let cpus : c.from.result ≡ contents.registry.cpus = c.from.ensures ∙ c.cpus-cpus.ensures.value ∙ ap (λ (m : Contents). m.registry.cpus) c.requires.machine in
+    let new : AreNew owner.row (contents.registry.cpus + 1) notes =
+    subst (λ (n : ℕ). AreNew owner.row (n + 1) notes) cpus c.in_ok-owner.ensures.notes in
     let empty : owner.knows ≡ [] = ap (λ (k : Known Account). k.knows) c.in_ok-owner.ensures.owner in
     let dealt = notes_dealt word contents inside.number inside.life inside.lives inside.free inside.keeps.items free c.in-Some.field-0 idle owner.row
-    c.go_on_apart.new.book c.go_on_apart.new.share book mine left.items c.hand_out-note.ensures.each in (
+    c.go_on_apart.new.book c.go_on_apart.new.share book mine notes new left.items c.hand_out-note.ensures.each in (
       record {
         few = free.few;
         many = many ∙ free.many;
