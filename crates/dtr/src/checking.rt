@@ -1,7 +1,7 @@
 //! Whether a trail agrees with what its session was to be answered.
 
 use crate::fault::Trouble;
-use crate::judging::read_machine;
+use crate::judging::{read_file, read_machine};
 use crate::output::{tell, write_answer};
 use crate::trail_lines::{firing_in, flaw_in, lines_of, place_in, place_of_item, place_of_reply};
 use dt_alone::{CheckFault, Item, Verdict, alone, check};
@@ -9,7 +9,6 @@ use dt_front::{push_caret, push_number, push_shown};
 use dt_machine::Machine;
 use dt_proto::Asked;
 use std::alloc::Global;
-use std::fs;
 use std::rt::Files;
 
 /// Says whether a trail agrees with what its session was to be answered on a machine, and if not, which line is wrong, and what was due. Gives the status.
@@ -23,7 +22,7 @@ pub(crate) fn judge_trail<R: Files + Print + Eprint + AllocGlobal>(
     let Some(machine) = read_machine(rt, machine)? else {
         return Ok(1);
     };
-    let text = fs::read(rt, trail).map_err(|_| Trouble::File)?;
+    let text = read_file(rt, trail)?;
     let lines = lines_of(alloc, &text)?;
     let told = match check(alloc, &machine, &text) {
         Ok(Verdict::Agree(replies)) => {

@@ -4,7 +4,8 @@ use crate::fault::Trouble;
 use crate::output::tell;
 use crate::requests;
 use crate::session::Session;
-use dt_front::{ToldRefusal, number_field, push_caret};
+use crate::words::Invocation;
+use dt_front::{ToldRefusal, number_field, push_caret, push_number, push_shown};
 use serde_json::Value;
 use std::alloc::Global;
 
@@ -13,15 +14,16 @@ pub(crate) fn set_up<R: Print + Eprint + AllocGlobal>(
     rt: &R,
     session: &mut Session<'_>,
     width: usize,
-    options: &[&str],
+    words: &Invocation<'_>,
     programs: &[String],
 ) -> Result<u64, Trouble> {
-    for word in options {
-        set_option(rt, session, word)?;
+    for (name, value) in &words.options {
+        set_option(rt, session, name, value)?;
     }
     let mut count = 0_u64;
-    for program in programs {
-        count = count.saturating_add(enable(rt, session, width, program)?);
+    for (place, program) in programs.iter().enumerate() {
+        let refused = refused_program(rt.alloc(), words, place)?;
+        count = count.saturating_add(enable(rt, session, width, program, &refused)?);
     }
     Ok(count)
 }
@@ -30,15 +32,31 @@ pub(crate) fn set_up<R: Print + Eprint + AllocGlobal>(
 fn set_option<R: Print + Eprint + AllocGlobal>(
     rt: &R,
     session: &mut Session<'_>,
-    word: &str,
+    name: &str,
+    value: &str,
 ) -> Result<(), Trouble> {
     let alloc = rt.alloc();
-    let Some(line) = requests::option(alloc, word)? else {
-        return Err(Trouble::Usage);
-    };
+    let line = requests::option(alloc, name, value)?;
     let reply = session.ask(alloc, &line)?;
-    let told = format!(in alloc; "-x {word}")?;
+    let told = format!(in alloc; "-x {name}={value}")?;
     accepted(rt, &reply, told.as_str(), None)
+}
+
+/// What is told of the program at this place where it is refused: the files of `-s` come after the texts of `-n`.
+fn refused_program(alloc: Global, words: &Invocation<'_>, place: usize) -> Result<String, Trouble> {
+    let texts = words.programs.len();
+    if let Some(path) = place
+        .checked_sub(texts)
+        .and_then(|place| words.files.get(place))
+    {
+        return Ok(format!(in alloc; "the program of {path} is refused")?);
+    }
+    if texts > 1 {
+        let number = place.saturating_add(1);
+        return Ok(format!(in alloc; "program {number} of the {texts} of -n is refused")?);
+    }
+    let which = if words.files.is_empty() { "" } else { " of -n" };
+    Ok(format!(in alloc; "the program{which} is refused")?)
 }
 
 /// Enables a program, and gives how many enablings it made.
@@ -47,11 +65,12 @@ fn enable<R: Print + Eprint + AllocGlobal>(
     session: &mut Session<'_>,
     width: usize,
     program: &str,
+    refused: &str,
 ) -> Result<u64, Trouble> {
     let alloc = rt.alloc();
     let line = requests::with_text(alloc, "enable", "text", program)?;
     let reply = session.ask(alloc, &line)?;
-    accepted(rt, &reply, "the program is refused", Some((program, width)))?;
+    accepted(rt, &reply, refused, Some((program, width)))?;
     number_field(&reply, "count").ok_or(Trouble::Strange)
 }
 
@@ -79,20 +98,43 @@ pub(crate) fn accepted<R: Print + Eprint + AllocGlobal>(
     let Some(refusal) = ToldRefusal::in_reply(reply) else {
         return Ok(());
     };
-    let mut told = explained(rt.alloc(), &refusal, what)?;
-    if let (Some((text, width)), Some(at)) = (program, refusal.at) {
-        let at = usize::try_from(at).unwrap_or(usize::MAX).min(text.len());
-        push_caret(rt.alloc(), &mut told, width.max(1), text.as_bytes(), at)?;
-    }
+    let told = explained(rt.alloc(), &refusal, what, program)?;
     tell(rt, &told);
     Err(Trouble::Refused)
 }
 
-/// The line that says what was refused, and why.
-fn explained(alloc: Global, refusal: &ToldRefusal<'_>, what: &str) -> Result<Vec<u8>, Trouble> {
+/// What was refused, and why; and where a place of a text is meant, its line, and a caret below the place.
+fn explained(
+    alloc: Global,
+    refusal: &ToldRefusal<'_>,
+    what: &str,
+    program: Option<(&str, usize)>,
+) -> Result<Vec<u8>, Trouble> {
     let mut told = Vec::from_slice(alloc, b"dtr: ")?;
-    dt_front::push_shown(&mut told, what.as_bytes())?;
+    push_shown(&mut told, what.as_bytes())?;
+    let (Some((text, width)), Some(at)) = (program, refusal.at) else {
+        told.extend_from_slice(b": ")?;
+        refusal.push_sentence(&mut told)?;
+        return Ok(told);
+    };
+    let at = usize::try_from(at).unwrap_or(usize::MAX).min(text.len());
+    if text.contains('\n') {
+        told.extend_from_slice(b" in line ")?;
+        push_number(&mut told, line_number(text.as_bytes(), at))?;
+    }
     told.extend_from_slice(b": ")?;
     refusal.push_sentence(&mut told)?;
+    push_caret(alloc, &mut told, width.max(1), text.as_bytes(), at)?;
     Ok(told)
+}
+
+/// The number of the line that has a place of a text, counted from 1.
+fn line_number(text: &[u8], at: usize) -> u64 {
+    let mut number = 1_u64;
+    for byte in text.iter().take(at) {
+        if *byte == b'\n' {
+            number = number.saturating_add(1);
+        }
+    }
+    number
 }

@@ -3,38 +3,35 @@
 use std::alloc::{AllocError, AllocFailed};
 use thiserror::Error;
 
-/// Why the program ends with another status than 0. Its text is the line on standard error.
+/// Why the program ends with another status than 0. Its text is what standard error is told at last: a line, or nothing where all is told already.
 #[derive(Clone, Copy, Debug, PartialEq, Eq, Error)]
 pub(crate) enum Trouble {
-    /// The words are none of the program's forms: status 2.
-    #[error("usage: dtr SOCKET -l [-n DESCRIPTION] [-q] [-o FILE] [--width COLUMNS]\n       dtr SOCKET {{-n PROGRAM | -s FILE}}.. [-x OPTION=VALUE].. [-q] [--json]\n           [-o FILE] [--every SECONDS] [--for SECONDS] [--width COLUMNS]\n       dtr --machine FILE\n       dtr --trail MACHINE TRAIL")]
-    Usage,
+    /// The words are none of the program's forms: status 2. Which of them is wrong is told already.
+    #[error("dtr: `dtr --help` shows the forms of its words\n")]
+    Words,
+    /// All is told already.
+    #[error("")]
+    Told,
     /// What was refused is told already.
-    #[error("dtr: nothing was traced")]
+    #[error("dtr: nothing was traced\n")]
     Refused,
     /// What was refused while it traced is told already.
-    #[error("dtr: tracing ended by this")]
+    #[error("dtr: tracing ended by this\n")]
     Cut,
-    /// Nobody serves at the socket's path.
-    #[error("dtr: no service answers at this socket; is the path right, does `dtraced serve` run, and may you write to it?")]
-    NoService,
     /// The service ended the connection, or the connection failed.
-    #[error("dtr: the service went away")]
+    #[error("dtr: the service went away\n")]
     Gone,
     /// A reply is none that this program knows.
-    #[error("dtr: the service answered what dtr doesn't understand; are both of one version?")]
+    #[error("dtr: the service answered what dtr doesn't understand; are both of one version?\n")]
     Strange,
     /// The output can't be written.
-    #[error("dtr: the output was closed, or can't be written")]
+    #[error("dtr: the output was closed, or can't be written\n")]
     Output,
-    /// A file can't be read.
-    #[error("dtr: a file can't be read")]
-    File,
     /// The clock can't be read.
-    #[error("dtr: the clock can't be read")]
+    #[error("dtr: the clock can't be read\n")]
     Clock,
     /// Memory ran out.
-    #[error("dtr: memory ran out")]
+    #[error("dtr: memory ran out\n")]
     Memory,
 }
 
@@ -62,7 +59,7 @@ impl Trouble {
     /// The status that the program ends with.
     pub(crate) fn status(self) -> u8 {
         match self {
-            Trouble::Usage => 2,
+            Trouble::Words => 2,
             _ => 1,
         }
     }

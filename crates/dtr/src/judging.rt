@@ -1,7 +1,7 @@
 //! Whether a machine file would be read.
 
 use crate::fault::Trouble;
-use crate::output::{tell, write_answer};
+use crate::output::{reason_of, tell, tell_path, write_answer};
 use dt_machine::{FaultNumber, Machine, MachineFault};
 use std::fs;
 use std::rt::Files;
@@ -28,13 +28,24 @@ pub(crate) fn read_machine<R: Files + Eprint + AllocGlobal>(
     rt: &R,
     path: &str,
 ) -> Result<Option<Machine>, Trouble> {
-    let text = fs::read(rt, path).map_err(|_| Trouble::File)?;
+    let text = read_file(rt, path)?;
     match Machine::read(rt.alloc(), &text) {
         Ok(machine) => Ok(Some(machine)),
         Err(fault) => {
             tell_fault(rt, fault)?;
             Ok(None)
         }
+    }
+}
+
+/// The bytes of a file. Where it can't be read, that is told.
+pub(crate) fn read_file<R: Files + Eprint + AllocGlobal>(
+    rt: &R,
+    path: &str,
+) -> Result<Vec<u8>, Trouble> {
+    match fs::read(rt, path) {
+        Ok(bytes) => Ok(bytes),
+        Err(fault) => Err(tell_path(rt, "can't read", path, reason_of(fault.kind()))),
     }
 }
 
@@ -52,6 +63,7 @@ fn tell_fault<R: Eprint + AllocGlobal>(rt: &R, fault: MachineFault) -> Result<()
     tell(rt, told.as_bytes());
     Ok(())
 }
+
 /// What the part of a machine file has to be that is refused by this number.
 fn rule_of(number: FaultNumber) -> &'static str {
     match number {

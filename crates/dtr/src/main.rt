@@ -7,6 +7,7 @@ mod checking;
 mod enabling;
 mod fault;
 mod following;
+mod forms;
 mod input;
 mod json_lines;
 mod judging;
@@ -16,6 +17,7 @@ mod page;
 mod requests;
 mod session;
 mod snapping;
+mod streams;
 mod summing;
 mod trail_lines;
 mod words;
@@ -27,7 +29,7 @@ use following::{Plan, follow};
 use input::watch_input;
 use judging::judge_machine;
 use listing::list_probes;
-use output::write_out;
+use output::{reason_of, tell_path, write_answer, write_out};
 use page::{Terminals, Widths, widths_of};
 use session::Session;
 use snapping::{Learnt, RowShape};
@@ -38,19 +40,25 @@ use std::process::ExitCode;
 use std::rt::{Clock, Env, Files};
 use std::thread::Threads;
 use std::{env, fs};
+use streams::hold_streams;
 use summing::{aggregations_of, push_table};
-use words::Invocation;
+use words::{Invocation, USAGE, tell_words};
 
 fn main(rt: HostRuntime) -> ExitCode {
+    let held = hold_streams(&rt);
     let terminals = Terminals {
         rows: rt.stdout().is_terminal(),
         messages: rt.stderr().is_terminal(),
     };
-    match execute(&rt, rt.stdin(), terminals) {
+    let answered = match held {
+        Ok(()) => execute(&rt, rt.stdin(), terminals),
+        Err(fault) => Err(fault),
+    };
+    match answered {
         Ok(status) => ExitCode::from(status),
         Err(fault) => {
             // Where standard error fails too, the status is all that tells.
-            let _told = eprintln!(rt; "{fault}");
+            let _told = eprint!(rt; "{fault}");
             ExitCode::from(fault.status())
         }
     }
@@ -62,29 +70,47 @@ fn execute<R: Files + Net + Env + Print + Eprint + AllocGlobal + Clock + Threads
     input: Stdin,
     terminals: Terminals,
 ) -> Result<u8, Trouble> {
-    let args = env::args(rt).map_err(|_| Trouble::Usage)?;
-    let args = args.collect::<Vec<String>>(rt.alloc())?;
+    let args = match env::args(rt) {
+        Ok(args) => args.collect::<Vec<String>>(rt.alloc())?,
+        Err(_) => return Err(tell_words(rt, b"a word isn't UTF-8")),
+    };
     let words = args
         .iter()
         .map(|word| word.as_str())
         .collect::<Vec<&str>>(rt.alloc())?;
-    let words = Invocation::read(rt.alloc(), &words)?;
-    let is_judged = words.machine.is_some() || words.trail.is_some();
-    if is_judged != words.is_judgement() {
-        return Err(Trouble::Usage);
+    match Invocation::read(rt, &words)? {
+        Some(words) => execute_words(rt, input, terminals, &words),
+        None => {
+            write_answer(rt, USAGE.as_bytes())?;
+            Ok(0)
+        }
+    }
+}
+
+/// Does what words ask for that were read, and gives the status.
+fn execute_words<R: Files + Net + Env + Print + Eprint + AllocGlobal + Clock + Threads>(
+    rt: &R,
+    input: Stdin,
+    terminals: Terminals,
+    words: &Invocation<'_>,
+) -> Result<u8, Trouble> {
+    if let Some(misfit) = words.misfit() {
+        let told = format!(in rt.alloc(); "{misfit}")?;
+        return Err(tell_words(rt, told.as_bytes()));
     }
     if let Some(machine) = words.machine {
         return judge_machine(rt, machine);
     }
     let rows = terminals.rows && words.output.is_none();
     let widths = widths_of(rt, words.width, Terminals { rows, ..terminals });
-    let Some(path) = words.path else {
-        return Err(Trouble::Usage);
-    };
+    let path = words.path.unwrap_or("");
     if let Some(machine) = words.trail {
         return judge_trail(rt, widths.messages, machine, path);
     }
-    serve_words(rt, input, widths, &words, path)
+    match (serve_words(rt, input, widths, words, path), words.output) {
+        (Err(Trouble::Output), Some(file)) => Err(tell_path(rt, "can't write", file, "")),
+        (answered, _) => answered,
+    }
 }
 
 /// Traces on the service at this path, or lists its probes, and gives the status.
@@ -100,13 +126,17 @@ fn serve_words<R: Files + Net + Env + Print + Eprint + AllocGlobal + Clock + Thr
         quiet: words.quiet,
         json: words.json,
     };
-    if !words.is_session() {
-        return Err(Trouble::Usage);
-    }
     let programs = programs_of(rt, words)?;
-    let stream = UnixStream::connect(rt, path).map_err(|_| Trouble::NoService)?;
+    let Ok(stream) = UnixStream::connect(rt, path) else {
+        return Err(tell_path(rt, "no service answers at", path, NO_SERVICE));
+    };
     let mut file = match words.output {
-        Some(path) => Some(fs::create(rt, path).map_err(|_| Trouble::Output)?),
+        Some(path) => match fs::create(rt, path) {
+            Ok(file) => Some(file),
+            Err(fault) => {
+                return Err(tell_path(rt, "can't write", path, reason_of(fault.kind())));
+            }
+        },
         None => None,
     };
     let mut session = Session::new(rt.alloc(), &stream)?;
@@ -118,8 +148,11 @@ fn serve_words<R: Files + Net + Env + Print + Eprint + AllocGlobal + Clock + Thr
     trace(rt, input, &mut session, words, shape, &programs, &mut file)
 }
 
+/// What is added where nobody serves at a socket's path.
+const NO_SERVICE: &str = "; is the path right, does `dtraced serve` run, and may you write to it?";
+
 /// The texts of the programs: those of `-n`, and those of the files of `-s`.
-fn programs_of<R: Files + AllocGlobal>(
+fn programs_of<R: Files + Eprint + AllocGlobal>(
     rt: &R,
     words: &Invocation<'_>,
 ) -> Result<Vec<String>, Trouble> {
@@ -128,8 +161,12 @@ fn programs_of<R: Files + AllocGlobal>(
         programs.push(String::from_str(rt.alloc(), text)?)?;
     }
     for path in &words.files {
-        let text = fs::read_to_string(rt, *path).map_err(|_| Trouble::File)?;
-        programs.push(text)?;
+        match fs::read_to_string(rt, *path) {
+            Ok(text) => programs.push(text)?,
+            Err(fault) => {
+                return Err(tell_path(rt, "can't read", path, reason_of(fault.kind())));
+            }
+        }
     }
     Ok(programs)
 }
@@ -146,7 +183,7 @@ fn trace<R: Print + Eprint + AllocGlobal + Clock + Threads, F: Write>(
 ) -> Result<u8, Trouble> {
     let alloc = rt.alloc();
     let aggregations = aggregations_of(alloc, programs)?;
-    let count = set_up(rt, session, shape.widths.messages, &words.options, programs)?;
+    let count = set_up(rt, session, shape.widths.messages, words, programs)?;
     let policy = policy_in(&words.options);
     let mut known = Learnt::new(alloc, count, policy == "switch")?;
     begin(rt, session, count)?;
@@ -178,10 +215,10 @@ fn status_of_exit(exit: Option<i64>) -> u8 {
 }
 
 /// The policy of buffers that the options ask for.
-fn policy_in<'a>(options: &[&'a str]) -> &'a str {
+fn policy_in<'a>(options: &[(&'a str, &'a str)]) -> &'a str {
     let mut policy = "switch";
-    for option in options {
-        if let Some(value) = option.strip_prefix("bufpolicy=") {
+    for (name, value) in options {
+        if *name == "bufpolicy" {
             policy = value;
         }
     }

@@ -1,8 +1,10 @@
-//! Where the program writes: standard output, or the file of `-o`.
+//! Where the program writes: standard output, or the file of `-o`; and what it says on standard error.
 
 use crate::fault::Trouble;
+use dt_front::push_shown;
+use std::alloc::Global;
 use std::io;
-use std::io::Write;
+use std::io::{ErrorKind, Write};
 
 /// Writes bytes to the file, where there is one, and else to standard output, and lets them go.
 pub(crate) fn write_out<R: Print, F: Write>(
@@ -25,6 +27,47 @@ pub(crate) fn write_out<R: Print, F: Write>(
 pub(crate) fn tell<R: Eprint>(rt: &R, bytes: &[u8]) {
     if let Ok(text) = str::from_utf8(bytes) {
         let _told = eprint!(rt; "{text}");
+    }
+}
+
+/// Tells of a path what isn't so, with what is added: `dtr: can't read reads.d: no such file or folder`. Gives the trouble that this is.
+pub(crate) fn tell_path<R: Eprint + AllocGlobal>(
+    rt: &R,
+    what: &str,
+    path: &str,
+    more: &str,
+) -> Trouble {
+    match path_line(rt.alloc(), what, path, more) {
+        Ok(line) => {
+            tell(rt, &line);
+            Trouble::Told
+        }
+        Err(fault) => fault,
+    }
+}
+
+/// The line that tells of a path, whose bytes a terminal can show.
+fn path_line(alloc: Global, what: &str, path: &str, more: &str) -> Result<Vec<u8>, Trouble> {
+    let mut line = Vec::from_slice(alloc, b"dtr: ")?;
+    line.extend_from_slice(what.as_bytes())?;
+    line.push(b' ')?;
+    push_shown(&mut line, path.as_bytes())?;
+    line.extend_from_slice(more.as_bytes())?;
+    line.push(b'\n')?;
+    Ok(line)
+}
+
+/// Why something can't be done with a file, as it stands after the file's path.
+pub(crate) fn reason_of(kind: ErrorKind) -> &'static str {
+    match kind {
+        ErrorKind::NotFound => ": no such file or folder",
+        ErrorKind::PermissionDenied => ": permission denied",
+        ErrorKind::IsADirectory => ": it is a folder",
+        ErrorKind::NotADirectory => ": a file stands where a folder is meant",
+        ErrorKind::InvalidData => ": it isn't UTF-8",
+        ErrorKind::StorageFull => ": no room is left",
+        ErrorKind::OutOfMemory => ": memory ran out",
+        _ => "",
     }
 }
 

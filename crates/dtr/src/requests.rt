@@ -39,15 +39,12 @@ pub(crate) fn with_number(
     Ok(format!(in alloc; "{{\"cmd\":\"{cmd}\",\"{key}\":{number}}}")?)
 }
 
-/// The `option` of a word `name=value`: a value of digits alone is a number, any other a text. `None` where the word has no `=`.
-pub(crate) fn option(alloc: Global, word: &str) -> Result<Option<String>, Trouble> {
-    let Some((name, value)) = word.split_once('=') else {
-        return Ok(None);
-    };
+/// An `option`: a value of digits alone is a number, any other a text.
+pub(crate) fn option(alloc: Global, name: &str, value: &str) -> Result<String, Trouble> {
     let name = quoted(alloc, name)?;
     let value = match value.parse::<u64>() {
         Ok(number) => format!(in alloc; "{number}")?,
         Err(_) => quoted(alloc, value)?,
     };
-    Ok(Some(format!(in alloc; "{{\"cmd\":\"option\",\"name\":{name},\"value\":{value}}}")?))
+    Ok(format!(in alloc; "{{\"cmd\":\"option\",\"name\":{name},\"value\":{value}}}")?)
 }

@@ -87,7 +87,8 @@ pub(crate) fn snap<R: Print + Eprint + AllocGlobal>(
     let alloc = rt.alloc();
     let line = requests::with_number(alloc, "snap", "cpu", cpu)?;
     let reply = session.ask(alloc, &line)?;
-    accepted(rt, &reply, "a buffer can't be read", None)?;
+    let what = format!(in alloc; "the buffer of CPU {cpu} can't be read")?;
+    accepted(rt, &reply, &what, None)?;
     let Some(digits) = text_field(&reply, "data") else {
         return Err(Trouble::Strange);
     };
@@ -174,7 +175,8 @@ fn describe<R: Print + Eprint + AllocGlobal>(
     let alloc = rt.alloc();
     let line = requests::with_number(alloc, "describe", "epid", u64::from(epid))?;
     let reply = session.ask(alloc, &line)?;
-    accepted(rt, &reply, "an enabling isn't described", None)?;
+    let what = format!(in alloc; "enabling {epid} isn't described")?;
+    accepted(rt, &reply, &what, None)?;
     let Some(words) = reply.get("layout").and_then(|layout| layout.as_array()) else {
         return Err(Trouble::Strange);
     };

@@ -86,7 +86,8 @@ pub(crate) fn push_table<R: Print + Eprint + AllocGlobal>(
     let alloc = rt.alloc();
     let line = requests::with_text(alloc, "agg", "name", &aggregation.name)?;
     let reply = session.ask(alloc, &line)?;
-    accepted(rt, &reply, "an aggregation can't be read", None)?;
+    let what = format!(in alloc; "the aggregation @{} can't be read", aggregation.name)?;
+    accepted(rt, &reply, &what, None)?;
     let (Some(function), Some(rows)) = (text_field(&reply, "fn"), reply.get("rows")) else {
         return Err(Trouble::Strange);
     };

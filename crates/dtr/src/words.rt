@@ -1,10 +1,17 @@
 //! The words that the program is called with.
 
 use crate::fault::Trouble;
+use crate::output::tell;
 use crate::page::PAGE_MIN;
+use clap::error::ErrorKind;
 use clap::{Arg, ArgAction, ArgMatches, Command};
+use dt_front::{before_byte, push_shown};
 use std::alloc::{AllocError, Global};
 use std::time::Duration;
+
+/// The forms of the program's words.
+pub(crate) const USAGE: &str =
+    "usage: dtr SOCKET -l [-n DESCRIPTION] [-q] [-o FILE] [--width COLUMNS]\n       dtr SOCKET {-n PROGRAM | -s FILE}.. [-x OPTION=VALUE].. [-q] [--json]\n           [-o FILE] [--every SECONDS] [--for SECONDS] [--width COLUMNS]\n       dtr --machine FILE\n       dtr --trail MACHINE TRAIL\n";
 
 /// What the program is asked for.
 #[derive(Drop)]
@@ -17,8 +24,8 @@ pub(crate) struct Invocation<'a> {
     pub(crate) programs: Vec<&'a str>,
     /// Files with programs.
     pub(crate) files: Vec<&'a str>,
-    /// Options of the session, each `name=value`.
-    pub(crate) options: Vec<&'a str>,
+    /// Options of the session: their names and values.
+    pub(crate) options: Vec<(&'a str, &'a str)>,
     /// Whether rows have values alone.
     pub(crate) quiet: bool,
     /// Whether lines of JSON are wanted.
@@ -38,58 +45,83 @@ pub(crate) struct Invocation<'a> {
 }
 
 impl<'a> Invocation<'a> {
-    /// Reads the program's words, of which the first is its own name.
-    pub(crate) fn read(alloc: Global, words: &'a [&'a str]) -> Result<Self, Trouble> {
-        let Ok(command) = program(alloc) else {
+    /// Reads the program's words, of which the first is its own name. `None` where they ask for help.
+    pub(crate) fn read<R: Eprint + AllocGlobal>(
+        rt: &R,
+        words: &'a [&'a str],
+    ) -> Result<Option<Self>, Trouble> {
+        let Ok(command) = program(rt.alloc()) else {
             return Err(Trouble::Memory);
         };
-        let Ok(given) = command.try_get_matches_from(words) else {
-            return Err(Trouble::Usage);
-        };
-        Invocation::of(alloc, &given)
-    }
-
-    /// Whether the words ask for nothing beside a machine or a trail that is to be judged.
-    pub(crate) fn is_judgement(&self) -> bool {
-        self.programs.is_empty()
-            && self.files.is_empty()
-            && self.options.is_empty()
-            && self.output.is_none()
-            && self.length.is_none()
-            && !(self.list || self.quiet || self.json)
-            && self.path.is_some() == self.trail.is_some()
-            && self.machine.is_some() != self.trail.is_some()
-    }
-
-    /// Whether the words ask for a list of probes, or for tracing, and for nothing of the other.
-    pub(crate) fn is_session(&self) -> bool {
-        if !self.list {
-            return !(self.programs.is_empty() && self.files.is_empty());
+        match command.try_get_matches_from(words) {
+            Ok(given) => match Invocation::of(rt, &given) {
+                Ok(invocation) => Ok(Some(invocation)),
+                Err(fault) => Err(fault),
+            },
+            Err(error) if error.kind() == ErrorKind::DisplayHelp => Ok(None),
+            Err(error) => Err(unread_words(rt, &error)),
         }
-        self.programs.len() <= 1
-            && self.files.is_empty()
-            && self.options.is_empty()
-            && self.length.is_none()
-            && !self.json
     }
 
     /// What clap found in the words.
-    fn of(alloc: Global, given: &ArgMatches<'a>) -> Result<Self, Trouble> {
+    fn of<R: Eprint + AllocGlobal>(rt: &R, given: &ArgMatches<'a>) -> Result<Self, Trouble> {
+        let alloc = rt.alloc();
         Ok(Invocation {
             path: given.get_str("path"),
             list: given.get_flag("list"),
             programs: all_of(alloc, given, "program")?,
             files: all_of(alloc, given, "script")?,
-            options: all_of(alloc, given, "option")?,
+            options: options_of(rt, given)?,
             quiet: given.get_flag("quiet"),
             json: given.get_flag("json"),
             output: given.get_str("output"),
-            every: every_in(given.get_str("every"))?,
-            length: seconds_in(given.get_str("for"))?,
-            width: width_in(given.get_str("width"))?,
+            every: every_in(rt, given.get_str("every"))?,
+            length: seconds_in(rt, "--for", given.get_str("for"))?,
+            width: width_in(rt, given.get_str("width"))?,
             machine: given.get_str("machine"),
             trail: given.get_str("trail"),
         })
+    }
+}
+
+/// Says which word clap doesn't take, or which lacks its value.
+fn unread_words<R: Eprint + AllocGlobal>(rt: &R, error: &clap::Error) -> Trouble {
+    if error.kind() == ErrorKind::OutOfMemory {
+        return Trouble::Memory;
+    }
+    match format!(in rt.alloc(); "{error}") {
+        Ok(text) => {
+            let line = before_byte(b'\n', text.as_bytes());
+            tell_words(rt, line.strip_prefix(b"error: ").unwrap_or(line))
+        }
+        Err(_) => Trouble::Memory,
+    }
+}
+
+/// Tells what is wrong with the program's words, and gives the trouble that this is.
+pub(crate) fn tell_words<R: Eprint + AllocGlobal>(rt: &R, what: &[u8]) -> Trouble {
+    match words_line(rt.alloc(), what) {
+        Ok(line) => {
+            tell(rt, &line);
+            Trouble::Words
+        }
+        Err(fault) => fault,
+    }
+}
+
+/// The line that tells what is wrong with the program's words.
+fn words_line(alloc: Global, what: &[u8]) -> Result<Vec<u8>, Trouble> {
+    let mut line = Vec::from_slice(alloc, b"dtr: ")?;
+    push_shown(&mut line, what)?;
+    line.push(b'\n')?;
+    Ok(line)
+}
+
+/// Tells what an option takes, where it is given another word.
+fn wrong_value<R: Eprint + AllocGlobal>(rt: &R, option: &str, takes: &str, word: &str) -> Trouble {
+    match format!(in rt.alloc(); "{option} takes {takes}, and not '{word}'") {
+        Ok(told) => tell_words(rt, told.as_bytes()),
+        Err(_) => Trouble::Memory,
     }
 }
 
@@ -104,8 +136,29 @@ fn all_of<'a>(alloc: Global, given: &ArgMatches<'a>, id: &str) -> Result<Vec<&'a
     Ok(all)
 }
 
-/// The time of a word: whole seconds, or seconds and tenths as `0.5`.
-fn seconds_in(word: Option<&str>) -> Result<Option<Duration>, Trouble> {
+/// The options of the session: the name and the value of each word of `-x`.
+fn options_of<'a, R: Eprint + AllocGlobal>(
+    rt: &R,
+    given: &ArgMatches<'a>,
+) -> Result<Vec<(&'a str, &'a str)>, Trouble> {
+    let mut options = Vec::new(rt.alloc());
+    if let Some(words) = given.get_strs("option") {
+        for word in words {
+            match word.split_once('=') {
+                Some(option) => options.push(option)?,
+                None => return Err(wrong_value(rt, "-x", "OPTION=VALUE", word)),
+            }
+        }
+    }
+    Ok(options)
+}
+
+/// The time of the word that an option is given: whole seconds, or seconds and tenths as `0.5`.
+fn seconds_in<R: Eprint + AllocGlobal>(
+    rt: &R,
+    option: &str,
+    word: Option<&str>,
+) -> Result<Option<Duration>, Trouble> {
     let Some(word) = word else {
         return Ok(None);
     };
@@ -117,31 +170,31 @@ fn seconds_in(word: Option<&str>) -> Result<Option<Duration>, Trouble> {
         (Ok(whole), Ok(tenths)) if tenths < 10 => {
             Ok(Some(Duration::from_millis(u64::from(whole) * 1000 + u64::from(tenths) * 100)))
         }
-        _ => Err(Trouble::Usage),
+        _ => Err(wrong_value(rt, option, "seconds, as 2 or 0.5", word)),
     }
 }
 
 /// How long there is between two looks: more than no time, and a second where no word tells it.
-fn every_in(word: Option<&str>) -> Result<Duration, Trouble> {
-    match seconds_in(word)? {
+fn every_in<R: Eprint + AllocGlobal>(rt: &R, word: Option<&str>) -> Result<Duration, Trouble> {
+    match seconds_in(rt, "--every", word)? {
         None => Ok(Duration::from_secs(1)),
         Some(every) if every.as_millis() > 0 => Ok(every),
-        Some(_) => Err(Trouble::Usage),
+        Some(_) => { Err(wrong_value(rt, "--every", "more than 0 seconds", word.unwrap_or(""))) }
     }
 }
 
 /// The width of a word: a number of columns, 40 or more.
-fn width_in(word: Option<&str>) -> Result<Option<usize>, Trouble> {
+fn width_in<R: Eprint + AllocGlobal>(rt: &R, word: Option<&str>) -> Result<Option<usize>, Trouble> {
     let Some(word) = word else {
         return Ok(None);
     };
     match word.parse::<usize>() {
         Ok(width) if width >= PAGE_MIN => Ok(Some(width)),
-        _ => Err(Trouble::Usage),
+        _ => Err(wrong_value(rt, "--width", "40 columns or more", word)),
     }
 }
 
-/// The forms of the program's words.
+/// The words that clap reads.
 fn program<'a>(alloc: Global) -> Result<Command<'a>, AllocError> {
     Command::new(alloc, "dtr")
         .arg(Arg::new(alloc, "path").action(ArgAction::Set))?
