@@ -20,10 +20,10 @@ PLAIN = {name: value for name, value in os.environ.items() if name != "COLUMNS"}
 ENABLED, DONE = json.dumps({"count": 1, "first": 1, "ok": True}), json.dumps({"ok": True})
 
 
-def tell(name, words, **how):
-    """Runs the program with these words, and prints how it ended: the end of standard input is there at once, if nothing else is said."""
+def tell(name, words, before=(), **how):
+    """Runs the program with these words, and others before it, and prints how it ended: the end of standard input is there at once, if nothing else is said."""
     how = {"stdin": subprocess.DEVNULL, "stdout": subprocess.PIPE, "env": PLAIN} | how
-    ended = subprocess.run([DTR, *map(str, words)], stderr=subprocess.PIPE, text=True, check=False, timeout=PATIENCE, **how)
+    ended = subprocess.run([*before, DTR, *map(str, words)], stderr=subprocess.PIPE, text=True, check=False, timeout=PATIENCE, **how)
     print(f"{name}: status {ended.returncode}\n{ended.stderr}{ended.stdout or ''}", end="")
 
 
@@ -73,7 +73,8 @@ def serving(machine=MACHINE):
 
 
 def answering(path, replies):
-    """A service of this script that gives these replies, one to each line, and then ends the connection."""
+    """A service of this script that gives these replies, one to each line, and then ends the connection. What it is asked comes into the list that is given back."""
+    asked = []
     listener = socket.socket(socket.AF_UNIX)
     listener.bind(path)
     listener.listen(1)
@@ -82,9 +83,10 @@ def answering(path, replies):
         connection, _ = listener.accept()
         with connection, connection.makefile("rb") as lines:
             for reply in replies:
-                lines.readline()
+                asked.append(json.loads(lines.readline())["cmd"])
                 connection.sendall(reply.encode("latin-1") + b"\n")
             # the line that gets no reply
             lines.readline()
 
     threading.Thread(target=serve, daemon=True).start()
+    return asked

@@ -2,9 +2,10 @@
 
 use crate::enabling::accepted;
 use crate::fault::Trouble;
+use crate::learning::Learnt;
 use crate::output::{tell, write_out};
 use crate::session::Session;
-use crate::snapping::{Learnt, RowShape, keep, snap};
+use crate::snapping::{RowShape, keep, snap};
 use dt_front::{number_field, signed_in, text_field};
 use serde_json::Value;
 use std::io::Write;
@@ -23,10 +24,10 @@ pub(crate) struct Plan<'a> {
     pub(crate) every: Duration,
     /// For how long it is traced.
     pub(crate) length: Option<Duration>,
+    /// Whether a clause may leave records.
+    pub(crate) records: bool,
     /// Whether buffers can be read while it traces.
     pub(crate) readable: bool,
-    /// How many lines the end takes beside a line for each processor and each enabling that isn't known.
-    pub(crate) last_lines: u64,
     /// Set once standard input has ended.
     pub(crate) ended: &'a AtomicBool,
     /// How rows are written.
@@ -51,18 +52,19 @@ pub(crate) fn follow<R: Print + Eprint + AllocGlobal + Clock, F: Write>(
     file: &mut Option<F>,
 ) -> Result<Option<i64>, Trouble> {
     let begun = Instant::now(rt).map_err(|_| Trouble::Clock)?;
-    let mut cpus = 0_u64;
+    let mut buffers = 0_u64;
     for _ in 0..u64::MAX {
-        if let Some(why) = wait(rt, session, plan, cpus, known, begun)? {
+        if let Some(why) = wait(rt, session, plan, buffers, known, begun)? {
             stop(rt, session, why)?;
         }
         let status = status_of(rt, session)?;
         let stopped = text_field(&status, "phase") == Some("stopped");
-        cpus = tell_errors(rt, known, &status)?;
+        let cpus = tell_errors(rt, known, &status)?;
+        buffers = if plan.records { cpus } else { 0 };
         let seen = number_field(&status, "seen").ok_or(Trouble::Strange)?;
         if stopped || (plan.readable && seen != known.seen) {
             known.seen = seen;
-            take_snaps(rt, session, known, cpus, plan.shape, file)?;
+            take_snaps(rt, session, known, buffers, plan.shape, file)?;
         }
         if stopped {
             return Ok(exit_in(&status));
@@ -105,17 +107,17 @@ fn status_of<R: Print + Eprint + AllocGlobal>(
     Ok(reply)
 }
 
-/// Reads all buffers, and writes what was recorded.
+/// Reads so many buffers, and writes what was recorded.
 fn take_snaps<R: Print + Eprint + AllocGlobal, F: Write>(
     rt: &R,
     session: &mut Session<'_>,
     known: &mut Learnt,
-    cpus: u64,
+    buffers: u64,
     shape: RowShape,
     file: &mut Option<F>,
 ) -> Result<(), Trouble> {
     let mut out = Vec::new(rt.alloc());
-    for cpu in 0..cpus {
+    for cpu in 0..buffers {
         snap(rt, session, known, cpu, shape, &mut out)?;
         write_out(rt, file, &mut out)?;
     }
@@ -183,15 +185,14 @@ fn wait<R: Clock>(
     rt: &R,
     session: &Session<'_>,
     plan: &Plan<'_>,
-    cpus: u64,
+    buffers: u64,
     known: &Learnt,
     begun: Instant,
 ) -> Result<Option<Over>, Trouble> {
-    let last = plan
-        .last_lines
-        .saturating_add(cpus)
-        .saturating_add(unknown(known));
-    if session.left <= last.saturating_add(cpus).saturating_add(2) {
+    let unknown = if plan.records { known.unknown() } else { 0 };
+    let last = session.kept.saturating_add(buffers).saturating_add(unknown);
+    // a look, and then the end
+    if session.left <= last.saturating_add(buffers).saturating_add(2) {
         return Ok(Some(Over::Lines));
     }
     let times = 1024 / session.left.max(1);
@@ -208,15 +209,4 @@ fn wait<R: Clock>(
         thread::sleep(rt, Duration::from_millis(NAP));
     }
     Ok(None)
-}
-
-/// How many enablings aren't known yet, at most 64: that many may still have to be asked for.
-fn unknown(known: &Learnt) -> u64 {
-    let mut count = 0_u64;
-    for layout in &known.layouts {
-        if layout.fields.is_none() && count < 64 {
-            count += 1;
-        }
-    }
-    count
 }

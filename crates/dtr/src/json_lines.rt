@@ -1,28 +1,28 @@
-//! Lines of JSON for other programs.
+//! Lines of JSON for other programs: plain ASCII, whatever the names and texts are.
 
 use crate::fault::Trouble;
 use crate::requests::{quoted, quoted_bytes};
-use dt_front::{RowProbe, before_byte, push_number};
+use dt_front::{before_byte, push_number};
 use dt_record::{Record, Recorded};
 use itoa::Buffer;
 use serde_json::Value;
 use std::alloc::Global;
 
-/// Adds a record's line.
+/// Adds a record's line. Its probe is given by its identifier and its four names.
 pub(crate) fn push_record_line(
     alloc: Global,
     out: &mut Vec<u8>,
     cpu: u64,
-    probe: Option<&RowProbe>,
+    probe: Option<(u64, &str)>,
     record: &Record,
 ) -> Result<(), Trouble> {
     out.extend_from_slice(b"{\"cpu\":")?;
     push_number(out, cpu)?;
-    if let Some(probe) = probe {
+    if let Some((id, name)) = probe {
         out.extend_from_slice(b",\"id\":")?;
-        push_number(out, probe.id)?;
+        push_number(out, id)?;
         out.extend_from_slice(b",\"probe\":")?;
-        out.extend_from_slice(quoted_bytes(alloc, &probe.name)?.as_bytes())?;
+        push_plain(out, &quoted(alloc, name)?)?;
     }
     out.extend_from_slice(b",\"values\":[")?;
     let mut first = true;
@@ -44,7 +44,7 @@ fn push_value(alloc: Global, out: &mut Vec<u8>, value: &Recorded) -> Result<(), 
             Buffer::new().format(*number).as_bytes(),
         )?,
         Recorded::Text(bytes) => {
-            out.extend_from_slice(quoted_bytes(alloc, before_byte(0, bytes))?.as_bytes())?;
+            push_plain(out, &quoted_bytes(alloc, before_byte(0, bytes))?)?;
         }
         Recorded::Frames(frames) => push_frames(out, frames)?,
     }
@@ -78,8 +78,42 @@ pub(crate) fn push_table_line(
     let function = quoted(alloc, function)?;
     let rows = rows.to_string(alloc)?;
     let line = format!(in alloc;
-        "{{\"aggregation\":{name},\"function\":{function},\"rows\":{rows}}}\n"
+        "{{\"aggregation\":{name},\"function\":{function},\"rows\":{rows}}}"
     )?;
-    out.extend_from_slice(line.as_bytes())?;
+    push_plain(out, &line)?;
+    out.push(b'\n')?;
+    Ok(())
+}
+
+/// Adds JSON as plain ASCII: a letter from 0x7F on, which only a text has, is written as its escape.
+fn push_plain(out: &mut Vec<u8>, json: &str) -> Result<(), Trouble> {
+    for letter in json.chars() {
+        let code = u32::from(letter);
+        if code < 0x7F {
+            out.push(code as u8)?;
+        } else if code < 0x1_0000 {
+            push_escape(out, code)?;
+        } else {
+            let rest = code - 0x1_0000;
+            push_escape(out, 0xD800 + rest / 0x400)?;
+            push_escape(out, 0xDC00 + rest % 0x400)?;
+        }
+    }
+    Ok(())
+}
+
+/// Adds the escape of a number of 16 bits.
+fn push_escape(out: &mut Vec<u8>, unit: u32) -> Result<(), Trouble> {
+    out.extend_from_slice(b"\\u")?;
+    push_digit(out, unit / 0x1000)?;
+    push_digit(out, unit / 0x100)?;
+    push_digit(out, unit / 0x10)?;
+    push_digit(out, unit)
+}
+
+/// Adds the last digit of a number to the base 16.
+fn push_digit(out: &mut Vec<u8>, number: u32) -> Result<(), Trouble> {
+    let digits = b"0123456789abcdef";
+    out.push(digits[(number % 16) as usize])?;
     Ok(())
 }

@@ -11,9 +11,11 @@ mod forms;
 mod input;
 mod json_lines;
 mod judging;
+mod learning;
 mod listing;
 mod output;
 mod page;
+mod reading;
 mod requests;
 mod session;
 mod snapping;
@@ -28,11 +30,13 @@ use fault::Trouble;
 use following::{Plan, follow};
 use input::watch_input;
 use judging::judge_machine;
+use learning::Learnt;
 use listing::list_probes;
 use output::{reason_of, tell_path, write_answer, write_out};
 use page::{Terminals, Widths, widths_of};
+use reading::Readings;
 use session::Session;
-use snapping::{Learnt, RowShape};
+use snapping::RowShape;
 use std::io::{IsTerminal, Stdin, Write};
 use std::net::Net;
 use std::os::unix::net::UnixStream;
@@ -41,7 +45,7 @@ use std::rt::{Clock, Env, Files};
 use std::thread::Threads;
 use std::{env, fs};
 use streams::hold_streams;
-use summing::{aggregations_of, push_table};
+use summing::push_table;
 use words::{Invocation, USAGE, tell_words};
 
 fn main(rt: HostRuntime) -> ExitCode {
@@ -182,17 +186,21 @@ fn trace<R: Print + Eprint + AllocGlobal + Clock + Threads, F: Write>(
     file: &mut Option<F>,
 ) -> Result<u8, Trouble> {
     let alloc = rt.alloc();
-    let aggregations = aggregations_of(alloc, programs)?;
+    let readings = Readings::of(alloc, programs)?;
+    let aggregations = readings.aggregations(alloc)?;
+    let records = readings.may_record();
     let count = set_up(rt, session, shape.widths.messages, words, programs)?;
     let policy = policy_in(&words.options);
-    let mut known = Learnt::new(alloc, count, policy == "switch")?;
+    let mut known = Learnt::new(alloc, count, policy == "switch", readings)?;
+    // stop, status and close come beside the aggregations
+    session.kept = (aggregations.len() as u64).saturating_add(4);
     begin(rt, session, count)?;
     let ended = watch_input(rt, alloc, input)?;
     let plan = Plan {
         every: words.every,
         length: words.length,
+        records,
         readable: policy != "ring",
-        last_lines: (aggregations.len() as u64).saturating_add(4),
         ended: &ended,
         shape,
     };

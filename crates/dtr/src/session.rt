@@ -17,6 +17,8 @@ pub(crate) struct Session<'a> {
     replies: BufReader<&'a UnixStream>,
     /// How many lines may still be asked.
     pub(crate) left: u64,
+    /// How many of them are kept for the end: its words, and the aggregations.
+    pub(crate) kept: u64,
 }
 
 impl<'a> Session<'a> {
@@ -27,9 +29,15 @@ impl<'a> Session<'a> {
                 stream,
                 replies,
                 left: LINES,
+                kept: 0,
             }),
             Err(_) => Err(Trouble::Memory),
         }
+    }
+
+    /// Whether no lines are left but those that are kept for the end.
+    pub(crate) fn is_short(&self) -> bool {
+        self.left <= self.kept
     }
 
     /// Asks a line, which is given without its newline, and reads the reply.

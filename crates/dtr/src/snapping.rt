@@ -3,15 +3,13 @@
 use crate::enabling::accepted;
 use crate::fault::Trouble;
 use crate::json_lines::push_record_line;
+use crate::learning::{Learnt, learn};
 use crate::output::tell;
 use crate::page::Widths;
 use crate::requests;
 use crate::session::Session;
-use dt_front::{
-    RowProbe, after_byte, layout_in, number_field, push_rows, push_rows_head, text_field,
-    unknown_epid,
-};
-use dt_record::{Layout, split};
+use dt_front::{number_field, push_rows, push_rows_head, text_field};
+use dt_record::split;
 use serde_json::Value;
 use std::alloc::Global;
 
@@ -26,55 +24,6 @@ pub(crate) struct RowShape {
     pub(crate) json: bool,
 }
 
-/// What is known of a session that traces.
-#[derive(Drop)]
-pub(crate) struct Learnt {
-    /// The layouts of the enablings, in order of EPID; none where it wasn't asked yet.
-    pub(crate) layouts: Vec<Layout>,
-    /// Their probes.
-    pub(crate) probes: Vec<RowProbe>,
-    /// The drops that were told, by processor.
-    pub(crate) drops: Vec<u64>,
-    /// The errors that were told, by processor.
-    pub(crate) errors: Vec<u64>,
-    /// The drops of aggregations that were told, by processor.
-    pub(crate) aggdrops: Vec<u64>,
-    /// How many bytes of a buffer that keeps what it has were written as rows, by processor.
-    pub(crate) written: Vec<u64>,
-    /// How many firings were seen at the last look.
-    pub(crate) seen: u64,
-    /// Whether a buffer gives its records and tells its drops once (under switch), and not again.
-    pub(crate) told_once: bool,
-    /// Whether the head of the rows is written.
-    pub(crate) headed: bool,
-}
-
-impl Learnt {
-    /// Of a session with so many enablings nothing is known yet.
-    pub(crate) fn new(alloc: Global, count: u64, told_once: bool) -> Result<Self, Trouble> {
-        let mut layouts = Vec::new(alloc);
-        let mut probes = Vec::new(alloc);
-        for _ in 0..count.min(1024) {
-            layouts.push(Layout { fields: None })?;
-            probes.push(RowProbe {
-                id: 0,
-                name: Vec::new(alloc),
-            })?;
-        }
-        Ok(Learnt {
-            layouts,
-            probes,
-            drops: Vec::new(alloc),
-            errors: Vec::new(alloc),
-            aggdrops: Vec::new(alloc),
-            written: Vec::new(alloc),
-            seen: 0,
-            told_once,
-            headed: false,
-        })
-    }
-}
-
 /// Adds the rows of what was recorded on a processor, and tells what was dropped there.
 pub(crate) fn snap<R: Print + Eprint + AllocGlobal>(
     rt: &R,
@@ -85,6 +34,9 @@ pub(crate) fn snap<R: Print + Eprint + AllocGlobal>(
     out: &mut Vec<u8>,
 ) -> Result<(), Trouble> {
     let alloc = rt.alloc();
+    if session.is_short() {
+        return tell_unread(rt, cpu);
+    }
     let line = requests::with_number(alloc, "snap", "cpu", cpu)?;
     let reply = session.ask(alloc, &line)?;
     let what = format!(in alloc; "the buffer of CPU {cpu} can't be read")?;
@@ -96,9 +48,21 @@ pub(crate) fn snap<R: Print + Eprint + AllocGlobal>(
         return Err(Trouble::Strange);
     };
     let fresh = fresh_in(known, cpu, &bytes)?;
-    learn(rt, session, known, fresh)?;
-    push_records(alloc, known, cpu, shape, fresh, out)?;
+    if learn(rt, session, known, fresh)? {
+        push_records(alloc, known, cpu, shape, fresh, out)?;
+    } else {
+        tell_unread(rt, cpu)?;
+    }
     tell_losses(rt, known, cpu, &reply)
+}
+
+/// Tells that the records of a processor aren't shown, since the lines that are left are kept for the end.
+fn tell_unread<R: Eprint + AllocGlobal>(rt: &R, cpu: u64) -> Result<(), Trouble> {
+    let told = format!(in rt.alloc();
+        "dtr: the session's 1,024 lines are nearly spent: records of CPU {cpu} aren't shown\n"
+    )?;
+    tell(rt, told.as_bytes());
+    Ok(())
 }
 
 /// Those of a buffer's bytes that aren't written yet: under fill a buffer is read again from its beginning.
@@ -123,7 +87,7 @@ fn push_records(
     bytes: &[u8],
     out: &mut Vec<u8>,
 ) -> Result<(), Trouble> {
-    let Some(records) = split(alloc, &known.layouts, bytes)? else {
+    let Some(records) = split(alloc, &known.enablings.layouts, bytes)? else {
         return Err(Trouble::Strange);
     };
     if !shape.json {
@@ -137,66 +101,16 @@ fn push_records(
             shape.widths.page,
             shape.quiet,
             cpu,
-            &known.probes,
+            &known.enablings.probes,
             &records,
         )?;
         return Ok(());
     }
     for record in &records {
         let place = (record.epid as usize).saturating_sub(1);
-        push_record_line(alloc, out, cpu, known.probes.get(place), record)?;
+        push_record_line(alloc, out, cpu, known.enablings.probe_at(place), record)?;
     }
     Ok(())
-}
-
-/// Asks for the layouts and probes of the records that aren't known yet.
-fn learn<R: Print + Eprint + AllocGlobal>(
-    rt: &R,
-    session: &mut Session<'_>,
-    known: &mut Learnt,
-    bytes: &[u8],
-) -> Result<(), Trouble> {
-    for _ in 0..known.layouts.len() {
-        match unknown_epid(&known.layouts, bytes) {
-            Some(epid) => describe(rt, session, known, epid)?,
-            None => return Ok(()),
-        }
-    }
-    Ok(())
-}
-
-/// Asks for the layout and the probe of an enabling.
-fn describe<R: Print + Eprint + AllocGlobal>(
-    rt: &R,
-    session: &mut Session<'_>,
-    known: &mut Learnt,
-    epid: u32,
-) -> Result<(), Trouble> {
-    let alloc = rt.alloc();
-    let line = requests::with_number(alloc, "describe", "epid", u64::from(epid))?;
-    let reply = session.ask(alloc, &line)?;
-    let what = format!(in alloc; "enabling {epid} isn't described")?;
-    accepted(rt, &reply, &what, None)?;
-    let Some(words) = reply.get("layout").and_then(|layout| layout.as_array()) else {
-        return Err(Trouble::Strange);
-    };
-    let (Some(layout), Some(id), Some(name)) = (
-        layout_in(words),
-        number_field(&reply, "id"),
-        text_field(&reply, "probe"),
-    ) else {
-        return Err(Trouble::Strange);
-    };
-    let name = Vec::from_slice(alloc, after_byte(b':', after_byte(b':', name.as_bytes())))?;
-    let place = (epid as usize).saturating_sub(1);
-    match (known.layouts.get_mut(place), known.probes.get_mut(place)) {
-        (Some(kept), Some(probe)) => {
-            *kept = layout;
-            *probe = RowProbe { id, name };
-            Ok(())
-        }
-        _ => Err(Trouble::Strange),
-    }
 }
 
 /// Tells what was dropped on a processor since it was told last, and once whether its buffer is filled.

@@ -11,7 +11,7 @@ use dt_front::{
     RowCount, counts_in, counts_total, key_in, level_rows, power_rows, push_key, push_number_line,
     push_picture, push_title, rows_total, signed_in, text_field,
 };
-use dt_lang::{Call, Clause, ParseProgram, Program, Statement};
+use dt_lang::{Call, Clause, Statement};
 use serde_json::Value;
 use std::alloc::Global;
 
@@ -23,24 +23,8 @@ pub(crate) struct ListedAggregation {
     bounds: Option<Bounds>,
 }
 
-/// The aggregations of the programs, each once, in order. A text that is no program has none.
-pub(crate) fn aggregations_of(
-    alloc: Global,
-    programs: &[String],
-) -> Result<Vec<ListedAggregation>, Trouble> {
-    let mut found = Vec::new(alloc);
-    for text in programs {
-        if let Ok(program) = Program::parse(alloc, text.as_bytes()) {
-            for clause in &program.clauses {
-                add_of_clause(alloc, &mut found, clause)?;
-            }
-        }
-    }
-    Ok(found)
-}
-
 /// Adds the aggregations of a clause that aren't there.
-fn add_of_clause(
+pub(crate) fn add_of_clause(
     alloc: Global,
     found: &mut Vec<ListedAggregation>,
     clause: &Clause,

@@ -199,17 +199,17 @@ fn program<'a>(alloc: Global) -> Result<Command<'a>, AllocError> {
     Command::new(alloc, "dtr")
         .arg(Arg::new(alloc, "path").action(ArgAction::Set))?
         .arg(flag(alloc, "list").short('l'))?
-        .arg(value(alloc, "program", ArgAction::Append).short('n'))?
-        .arg(value(alloc, "script", ArgAction::Append).short('s'))?
-        .arg(value(alloc, "option", ArgAction::Append).short('x'))?
+        .arg(values(alloc, "program", "PROGRAM").short('n'))?
+        .arg(values(alloc, "script", "FILE").short('s'))?
+        .arg(values(alloc, "option", "OPTION=VALUE").short('x'))?
         .arg(flag(alloc, "quiet").short('q'))?
-        .arg(value(alloc, "output", ArgAction::Set).short('o'))?
+        .arg(value(alloc, "output", "FILE").short('o'))?
         .arg(flag(alloc, "json").long("json"))?
-        .arg(value(alloc, "every", ArgAction::Set).long("every"))?
-        .arg(value(alloc, "for", ArgAction::Set).long("for"))?
-        .arg(value(alloc, "width", ArgAction::Set).long("width"))?
-        .arg(value(alloc, "machine", ArgAction::Set).long("machine"))?
-        .arg(value(alloc, "trail", ArgAction::Set).long("trail"))
+        .arg(value(alloc, "every", "SECONDS").long("every"))?
+        .arg(value(alloc, "for", "SECONDS").long("for"))?
+        .arg(value(alloc, "width", "COLUMNS").long("width"))?
+        .arg(value(alloc, "machine", "FILE").long("machine"))?
+        .arg(value(alloc, "trail", "MACHINE").long("trail"))
 }
 
 /// An argument that is there or not.
@@ -217,7 +217,15 @@ fn flag<'a>(alloc: Global, id: &'a str) -> Arg<'a> {
     Arg::new(alloc, id).action(ArgAction::SetTrue)
 }
 
-/// An argument that has a value, which may begin with a `-`.
-fn value<'a>(alloc: Global, id: &'a str, action: ArgAction) -> Arg<'a> {
-    Arg::new(alloc, id).action(action).allow_hyphen_values(true)
+/// An argument that has a value, which may begin with a `-`, and is called so.
+fn value<'a>(alloc: Global, id: &'a str, called: &'a str) -> Arg<'a> {
+    Arg::new(alloc, id)
+        .action(ArgAction::Set)
+        .value_name(called)
+        .allow_hyphen_values(true)
+}
+
+/// The same, where it may be given several times.
+fn values<'a>(alloc: Global, id: &'a str, called: &'a str) -> Arg<'a> {
+    value(alloc, id, called).action(ArgAction::Append)
 }
