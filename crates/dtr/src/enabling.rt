@@ -45,10 +45,8 @@ fn set_option<R: Print + Eprint + AllocGlobal>(
 /// What is told of the program at this place where it is refused: the files of `-s` come after the texts of `-n`.
 fn refused_program(alloc: Global, words: &Invocation<'_>, place: usize) -> Result<String, Trouble> {
     let texts = words.programs.len();
-    if let Some(path) = place
-        .checked_sub(texts)
-        .and_then(|place| words.files.get(place))
-    {
+    if place >= texts {
+        let path = words.files.get(place - texts).copied().unwrap_or("");
         return Ok(format!(in alloc; "the program of {path} is refused")?);
     }
     if texts > 1 {

@@ -82,12 +82,13 @@ fn execute<R: Files + Net + Env + Print + Eprint + AllocGlobal + Clock + Threads
         .iter()
         .map(|word| word.as_str())
         .collect::<Vec<&str>>(rt.alloc())?;
-    match Invocation::read(rt, &words)? {
-        Some(words) => execute_words(rt, input, terminals, &words),
-        None => {
+    match Invocation::read(rt, &words) {
+        Ok(Some(words)) => execute_words(rt, input, terminals, &words),
+        Ok(None) => {
             write_answer(rt, USAGE.as_bytes())?;
             Ok(0)
         }
+        Err(fault) => Err(fault),
     }
 }
 
