@@ -1,9 +1,8 @@
 -- Where a processor's own firings stand in what it knows.
-use Rattle.std.proofs.Common.{◌≡◌, ◌+◌, ◌==◌, ℕ, Bool, true, false, cond, List, [], ◌∷◌, ◌++◌, refl, sym, ap, ◌∙◌, subst, arith, eq-eqb, Option, Some, None}
+use Rattle.std.proofs.Common.{◌≡◌, ◌+◌, ◌==◌, ℕ, Bool, true, false, cond, List, [], ◌∷◌, ◌++◌, sym, ◌∙◌, subst, arith, Option, Some, None}
 use Rattle.std.specs.List.{AllByRecursion}
 use Rattle.dt_cred.specs.declared.account.Account.{Account}
 use Rattle.dt_cred.specs.declared.firing.Firing.{Firing}
-use Rattle.dt_facts.specs.Facts.{last_note}
 use Rattle.dt_facts.specs.declared.fact.LastNote.{LastNote}
 use Rattle.dt_hub.specs.Processors.{IsAtSeat}
 use Rattle.dt_legal.specs.Rows.{AreBelowPlace, IsAtLowerPlace}
@@ -15,7 +14,6 @@ use Rattle.dt_seat.specs.declared.held.Held.{Held}
 use Rattle.dt_seat.specs.declared.held.Held.TheVariants.{Kept, Unseen, Gone}
 use Rattle.dt_trail.specs.Items.{TrailItem, line, long_line, fired, own}
 use Rattle.dt_trail.specs.Known.{Noted}
-use Rattle.dt_trail.specs.declared.law.Named.{Named}
 use Rattle.dt_seat.specs.laws.Notes.{noted_here}
 
 all_both : {X : Type 0} (P : X → Type 0) (xs ys : List X) → AllByRecursion P xs → AllByRecursion P ys → AllByRecursion P (xs ++ ys)

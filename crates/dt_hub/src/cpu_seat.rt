@@ -1,6 +1,5 @@
 //! What a processor has.
 ghost use Rattle.std.specs.Prelude.{◌≡◌, ◌<◌, ◌+◌, ◌++◌, ◌∷◌, [], ℕ, IfOk, IfSome, slice_get, vec_len};
-ghost use Rattle.dt_chain.specs.Seats.{life_at};
 ghost use Rattle.dt_chain.specs.Limits.{seat_count};
 ghost use Rattle.dt_facts.specs.Facts.{log_fact, nothing};
 ghost use Rattle.dt_facts.specs.Handles.{holding};
@@ -42,7 +41,7 @@ impl<J: HubSite> Model for CpuSeat<J> {
     ghost invariant = { λ c. IsProcessor J.word J.contents c.cpu c.place c.followers.items c.held.items c.log };
 }
 
-/// A log goes on by a place: what is known at each seat.
+/// A log goes on by a place: what is known at each seat. The log is there in proofs alone, and so `followers` is for the contract.
 pub(crate) fn note_down<J: HubSite>(facts: &Facts, log: &mut Both, followers: &Vec<Follower<J>>)
     requires facts { facts.now ≡ J.word }
     requires log { log.old ≡ holding J.word log.old.name (log_fact (places_in log.old.fact)) }
@@ -117,9 +116,6 @@ impl<J: HubSite> CpuSeat<J> {
         if self.mask.life_of(seat).is_none() {
             return Offered::NotNamed;
         }
-        match self.held.get(seat.number() as usize) {
-            Some(held) => Offered::of(*held),
-            None => Offered::NotNamed,
-        }
+        Offered::of(self.held[seat.number() as usize])
     }
 }

@@ -1,5 +1,5 @@
 //! The hub.
-ghost use Rattle.std.specs.Prelude.{◌≡◌, ℕ, IfOk, IfSome, slice_get, vec_len};
+ghost use Rattle.std.specs.Prelude.{◌≡◌, IfOk};
 
 use dt_chain::{ChainWriter, Chains, SEATS};
 use dt_facts::{Facts, Maker};

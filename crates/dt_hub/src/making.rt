@@ -1,9 +1,8 @@
 //! How a hub is made, and ended.
-ghost use Rattle.std.specs.Prelude.{◌≡◌, ◌<◌, ◌+◌, ◌*◌, [], ℕ, IfOk, IfSome, OnOk, slice_get, vec_len};
+ghost use Rattle.std.specs.Prelude.{◌≡◌, ◌+◌, ◌*◌, ℕ, IfOk, IfSome, OnOk, slice_get, vec_len};
 ghost use Rattle.dt_chain.specs.Limits.{seat_count};
 ghost use Rattle.dt_facts.specs.Handles.{making};
 ghost use Rattle.dt_hub.specs.Hubs.{AreDealt, IsFresh};
-ghost use Rattle.dt_hub.specs.Names.{log_name};
 ghost use Rattle.dt_seat.specs.Keeps.{followed_at};
 ghost use Rattle.dt_seat.specs.Names.{names_of_seat};
 
@@ -28,7 +27,7 @@ fn empty_hands<J: HubSite>(alloc: Global, cpus: u32) -> Result<Vec<Vec<Follower<
     Ok(hands)
 }
 
-/// Gives each processor what it has at one seat more.
+/// Gives each processor what it has at one seat more. `seat` is for the contract: which seat that is.
 ///
 /// `Err`: there was no memory.
 fn deal<J: HubSite>(
