@@ -50,6 +50,18 @@ fn staged<J: HubSite, R: Wait + Abort, P: Play>(
     result
 }
 
+/// The tokens of a machine's two processors.
+pub(crate) fn both<J: HubSite, R: Abort>(
+    rt: &R,
+    tokens: Vec<CpuSeat<J>>,
+) -> Result<(CpuSeat<J>, CpuSeat<J>), Fail> {
+    let mut tokens = tokens;
+    assert_eq!(rt; tokens.len(), 2);
+    let other = tokens.pop().ok_or("no processor")?;
+    let one = tokens.pop().ok_or("no processor")?;
+    Ok((one, other))
+}
+
 /// A session that is opened: there has to be a seat, and memory.
 pub(crate) fn opened<J: HubSite, R: Wait + Abort>(
     rt: &R,

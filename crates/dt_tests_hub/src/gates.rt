@@ -1,8 +1,9 @@
 //! A processor that is held at the gate of a seat, while the session there goes on.
-use crate::calls::{at_seat, fired, opened, says};
+use crate::calls::{at_seat, both, fired, opened, says};
 use crate::flag::Flag;
-use crate::paths::{DONE, ENABLE, ENABLED, GO, MACHINE, STOP};
+use crate::paths::{DONE, MACHINE, STOP, tracing};
 use crate::scenes::{Scene, run};
+use dt_chain::SEATS;
 use dt_hub::{CpuSeat, Fired, Gate, Hub, HubSite, Looked, Moment, Offered, Session};
 use std::alloc::Global;
 use std::process::Abort;
@@ -14,32 +15,58 @@ use std::time::{Clock, Duration};
 /// How many milliseconds the processor stays once it may go on, so that who doesn't wait for it is seen to be early.
 const PAUSE: u64 = 200;
 
-/// Processor 0 is held at one moment of a firing, until it is let go.
+/// A place where the processor is held, until it is let go.
 #[derive(Drop)]
-struct Hold<'a, R: Clock + Abort> {
-    rt: &'a R,
-    moment: Moment,
-    /// The session traces, and the processor may fire.
-    traces: Flag,
+struct Stop {
     /// The processor is there.
     held: Flag,
-    /// The processor may go on.
+    /// It may go on.
     let_go: Flag,
     /// It goes on.
     goes_on: Flag,
+}
+
+impl Stop {
+    fn new() -> Stop {
+        Stop {
+            held: Flag::new(),
+            let_go: Flag::new(),
+            goes_on: Flag::new(),
+        }
+    }
+
+    /// The processor comes there, and is held.
+    fn pass<R: Clock + Abort>(&self, rt: &R) {
+        self.held.raise();
+        self.let_go.wait(rt);
+        thread::sleep(rt, Duration::from_millis(PAUSE));
+        self.goes_on.raise();
+    }
+}
+
+/// Processor 0 is held in a firing, until it is let go.
+#[derive(Drop)]
+struct Hold<'a, R: Clock + Abort> {
+    rt: &'a R,
+    meanwhile: Meanwhile,
+    /// The session traces, and the processor may fire.
+    traces: Flag,
+    /// Before it takes the seat's lock.
+    before: Stop,
+    /// As it has the lock.
+    locked: Stop,
     /// It has fired.
     fired: Flag,
 }
 
 impl<'a, R: Clock + Abort> Hold<'a, R> {
-    fn new(rt: &'a R, moment: Moment) -> Hold<'a, R> {
+    fn new(rt: &'a R, meanwhile: Meanwhile) -> Hold<'a, R> {
         Hold {
             rt,
-            moment,
+            meanwhile,
             traces: Flag::new(),
-            held: Flag::new(),
-            let_go: Flag::new(),
-            goes_on: Flag::new(),
+            before: Stop::new(),
+            locked: Stop::new(),
             fired: Flag::new(),
         }
     }
@@ -47,11 +74,13 @@ impl<'a, R: Clock + Abort> Hold<'a, R> {
 
 impl<R: Clock + Abort> Gate for Hold<'_, R> {
     fn at(&self, cpu: u32, _seat: u32, moment: Moment) {
-        if cpu == 0 && moment == self.moment {
-            self.held.raise();
-            self.let_go.wait(self.rt);
-            thread::sleep(self.rt, Duration::from_millis(PAUSE));
-            self.goes_on.raise();
+        if cpu != 0 {
+            return;
+        }
+        match moment {
+            Moment::Before if self.meanwhile.is_before() => self.before.pass(self.rt),
+            Moment::Locked if self.meanwhile.is_locked() => self.locked.pass(self.rt),
+            _ => {}
         }
     }
 }
@@ -69,39 +98,45 @@ pub(crate) enum Meanwhile {
     LooksOn,
     /// The session asks a line.
     Asks,
+    /// The session closes, and then the processor has the lock of its seat, while all others are taken and one more session is opened.
+    Opens,
 }
 
 impl Meanwhile {
-    /// Where the processor is held.
-    fn moment(self) -> Moment {
-        match self {
-            Meanwhile::LooksOn | Meanwhile::Asks => Moment::Locked,
-            _ => Moment::Before,
-        }
+    /// Whether the processor is held before the lock.
+    fn is_before(self) -> bool {
+        !matches!(self, Meanwhile::LooksOn | Meanwhile::Asks)
+    }
+
+    /// Whether it is held with the lock.
+    fn is_locked(self) -> bool {
+        matches!(
+            self,
+            Meanwhile::LooksOn | Meanwhile::Asks | Meanwhile::Opens
+        )
     }
 
     /// What its firing comes to then.
     fn comes_to(self) -> Offered {
         match self {
             Meanwhile::Stops => Offered::Unseen { known: 3 },
-            Meanwhile::Closes | Meanwhile::Changes => Offered::Gone,
+            Meanwhile::Closes | Meanwhile::Changes | Meanwhile::Opens => Offered::Gone,
             Meanwhile::LooksOn | Meanwhile::Asks => Offered::Kept,
         }
     }
 }
 
-/// A session that traces.
+/// A session that traces; then the processor comes to where it is held.
 fn traces<J: HubSite, R: Wait + Abort + Clock>(
     rt: &R,
     alloc: Global,
     hub: &Hub<J>,
     hold: &Hold<R>,
+    stop: &Stop,
 ) -> Session<J> {
-    let mut session = opened(rt, alloc, hub, "root");
-    says(rt, alloc, hub, &mut session, ENABLE, ENABLED);
-    says(rt, alloc, hub, &mut session, GO, DONE);
+    let session = tracing(rt, alloc, hub, "root");
     hold.traces.raise();
-    hold.held.wait(rt);
+    stop.held.wait(rt);
     session
 }
 
@@ -120,9 +155,9 @@ fn fires<J: HubSite, R: Wait + Abort + Clock>(
 
 /// Tracing stops, and then the processor goes on.
 fn stops<J: HubSite, R: Wait + Abort + Clock>(rt: &R, alloc: Global, hub: &Hub<J>, hold: &Hold<R>) {
-    let mut session = traces(rt, alloc, hub, hold);
+    let mut session = traces(rt, alloc, hub, hold, &hold.before);
     says(rt, alloc, hub, &mut session, STOP, DONE);
-    hold.let_go.raise();
+    hold.before.let_go.raise();
     hold.fired.wait(rt);
     hub.close(rt, session);
 }
@@ -134,9 +169,9 @@ fn closes<J: HubSite, R: Wait + Abort + Clock>(
     hub: &Hub<J>,
     hold: &Hold<R>,
 ) {
-    let session = traces(rt, alloc, hub, hold);
+    let session = traces(rt, alloc, hub, hold, &hold.before);
     hub.close(rt, session);
-    hold.let_go.raise();
+    hold.before.let_go.raise();
 }
 
 /// Another session is opened on the seat, and then the processor goes on.
@@ -146,13 +181,11 @@ fn changes<J: HubSite, R: Wait + Abort + Clock>(
     hub: &Hub<J>,
     hold: &Hold<R>,
 ) {
-    let session = traces(rt, alloc, hub, hold);
+    let session = traces(rt, alloc, hub, hold, &hold.before);
     hub.close(rt, session);
-    let mut session = opened(rt, alloc, hub, "root");
+    let session = tracing(rt, alloc, hub, "root");
     assert_eq!(rt; session.seat().number(), 0);
-    says(rt, alloc, hub, &mut session, ENABLE, ENABLED);
-    says(rt, alloc, hub, &mut session, GO, DONE);
-    hold.let_go.raise();
+    hold.before.let_go.raise();
     hold.fired.wait(rt);
     hub.close(rt, session);
 }
@@ -165,7 +198,7 @@ fn looks_on<J: HubSite, R: Wait + Abort + Clock>(
     hold: &Hold<R>,
     other: &mut CpuSeat<J>,
 ) {
-    let mut session = traces(rt, alloc, hub, hold);
+    let mut session = traces(rt, alloc, hub, hold, &hold.locked);
     let receipt = hub.receipt(&mut session);
     hub.tell(other, receipt);
     assert!(rt; matches!(hub.look(other), Looked::At { .. }));
@@ -173,17 +206,57 @@ fn looks_on<J: HubSite, R: Wait + Abort + Clock>(
     let newcomer = opened(rt, alloc, hub, "root");
     assert_eq!(rt; newcomer.seat().number(), 1);
     hub.close(rt, newcomer);
-    hold.let_go.raise();
+    hold.locked.let_go.raise();
     hub.close(rt, session);
 }
 
 /// A line is answered once the processor has let the lock go.
 fn asks<J: HubSite, R: Wait + Abort + Clock>(rt: &R, alloc: Global, hub: &Hub<J>, hold: &Hold<R>) {
-    let mut session = traces(rt, alloc, hub, hold);
-    hold.let_go.raise();
+    let mut session = traces(rt, alloc, hub, hold, &hold.locked);
+    hold.locked.let_go.raise();
     says(rt, alloc, hub, &mut session, STOP, DONE);
-    assert!(rt; hold.goes_on.is_raised(), "answered beside the lock");
+    assert!(rt; hold.locked.goes_on.is_raised(), "answered beside the lock");
     hub.close(rt, session);
+}
+
+/// One more session is opened on the first seat, once the processor has let its lock go.
+fn waits_for_a_seat<J: HubSite, R: Wait + Abort + Clock>(
+    rt: &R,
+    alloc: Global,
+    hub: &Hub<J>,
+    hold: &Hold<R>,
+) {
+    hold.locked.let_go.raise();
+    let session = opened(rt, alloc, hub, "root");
+    assert!(rt; hold.locked.goes_on.is_raised(), "opened beside the lock");
+    assert_eq!(rt; session.seat().number(), 0);
+    hub.close(rt, session);
+}
+
+/// Opens so many sessions beside the seat whose lock the processor has, and then one more.
+fn opens_beside<J: HubSite, R: Wait + Abort + Clock>(
+    rt: &R,
+    alloc: Global,
+    hub: &Hub<J>,
+    hold: &Hold<R>,
+    left: u32,
+) {
+    if left == 0 {
+        waits_for_a_seat(rt, alloc, hub, hold);
+        return;
+    }
+    let session = opened(rt, alloc, hub, "root");
+    opens_beside(rt, alloc, hub, hold, left - 1);
+    hub.close(rt, session);
+}
+
+/// The only seat that is free is locked: who opens a session waits for it, and isn't told that no seat is free.
+fn opens<J: HubSite, R: Wait + Abort + Clock>(rt: &R, alloc: Global, hub: &Hub<J>, hold: &Hold<R>) {
+    let session = traces(rt, alloc, hub, hold, &hold.before);
+    hub.close(rt, session);
+    hold.before.let_go.raise();
+    hold.locked.held.wait(rt);
+    opens_beside(rt, alloc, hub, hold, SEATS as u32 - 1);
 }
 
 /// Processor 0 on a thread of its own, beside that of the session.
@@ -205,6 +278,7 @@ fn beside<J: HubSite + Send + Sync, R: Threads + Wait + Abort + Clock + Sync>(
             Meanwhile::Changes => changes(rt, alloc, hub, hold),
             Meanwhile::LooksOn => looks_on(rt, alloc, hub, hold, other),
             Meanwhile::Asks => asks(rt, alloc, hub, hold),
+            Meanwhile::Opens => opens(rt, alloc, hub, hold),
         },
     );
     came
@@ -218,10 +292,8 @@ pub(crate) fn plays<J: HubSite + Send + Sync, R: Threads + Wait + Abort + Clock 
     tokens: Vec<CpuSeat<J>>,
     meanwhile: Meanwhile,
 ) -> Result<(), Fail> {
-    let mut tokens = tokens;
-    let mut other = tokens.pop().ok_or("no processor")?;
-    let mut one = tokens.pop().ok_or("no processor")?;
-    let hold = Hold::new(rt, meanwhile.moment());
+    let (mut one, mut other) = both(rt, tokens)?;
+    let hold = Hold::new(rt, meanwhile);
     let came = beside(rt, alloc, hub, &mut one, &mut other, &hold, meanwhile);
     assert_eq!(rt; came, Fired::At(0));
     assert_eq!(rt; at_seat(&one, 0), meanwhile.comes_to());
@@ -251,4 +323,10 @@ fn nobody_waits_for_the_lock_of_a_firing(rt: HostRuntime) -> Result<(), Fail> {
 #[test]
 fn a_line_waits_for_the_lock_of_a_firing(rt: HostRuntime) -> Result<(), Fail> {
     run(&rt, rt.alloc(), MACHINE, Scene::Held(Meanwhile::Asks))
+}
+
+/// Where the only free seat is locked, who opens a session waits for it and gets it.
+#[test]
+fn who_opens_waits_for_the_last_seat(rt: HostRuntime) -> Result<(), Fail> {
+    run(&rt, rt.alloc(), MACHINE, Scene::Held(Meanwhile::Opens))
 }

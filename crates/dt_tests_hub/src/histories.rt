@@ -1,5 +1,5 @@
 //! A history that two scripts make, and that widens its trail.
-use crate::calls::{Play, fired, opened, run, says};
+use crate::calls::{Play, both, fired, opened, run, says};
 use crate::paths::{DONE, GO};
 use dt_hub::{CpuSeat, Fired, Hub, HubSite, NoGate};
 use std::alloc::Global;
@@ -77,9 +77,7 @@ impl Play for LongHistory {
         hub: &Hub<J>,
         tokens: Vec<CpuSeat<J>>,
     ) -> Result<(), Fail> {
-        let mut tokens = tokens;
-        let mut other = tokens.pop().ok_or("no processor")?;
-        let mut one = tokens.pop().ok_or("no processor")?;
+        let (mut one, mut other) = both(rt, tokens)?;
         let mut session = opened(rt, alloc, hub, "root");
         says(rt, alloc, hub, &mut session, HISTORY, DONE);
         says(rt, alloc, hub, &mut session, COUNT, COUNTED);

@@ -12,6 +12,8 @@ mod endings;
 #[cfg(test)]
 mod flag;
 #[cfg(test)]
+mod fronts;
+#[cfg(test)]
 mod gates;
 #[cfg(test)]
 mod histories;
@@ -19,6 +21,8 @@ mod histories;
 mod meeting;
 #[cfg(test)]
 mod paths;
+#[cfg(test)]
+mod refused;
 #[cfg(test)]
 mod rows;
 #[cfg(test)]

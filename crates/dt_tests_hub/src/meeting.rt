@@ -1,7 +1,7 @@
 //! Two processors that really run at once.
-use crate::calls::{at_seat, fired, opened, says};
+use crate::calls::{at_seat, both, fired, opened, says};
 use crate::flag::Flag;
-use crate::paths::{DONE, ENABLE, ENABLED, GO};
+use crate::paths::{DONE, ENABLED, GO, tracing};
 use crate::scenes::{Scene, run};
 use dt_hub::{CpuSeat, Fired, Gate, Hub, HubSite, Moment, Offered};
 use std::alloc::Global;
@@ -64,12 +64,8 @@ pub(crate) fn plays<J: HubSite + Send + Sync, R: Threads + Wait + Abort + Clock 
     hub: &Hub<J>,
     tokens: Vec<CpuSeat<J>>,
 ) -> Result<(), Fail> {
-    let mut tokens = tokens;
-    let mut other = tokens.pop().ok_or("no processor")?;
-    let mut one = tokens.pop().ok_or("no processor")?;
-    let mut first = opened(rt, alloc, hub, "root");
-    says(rt, alloc, hub, &mut first, ENABLE, ENABLED);
-    says(rt, alloc, hub, &mut first, GO, DONE);
+    let (mut one, mut other) = both(rt, tokens)?;
+    let first = tracing(rt, alloc, hub, "root");
     let mut second = opened(rt, alloc, hub, "root");
     says(rt, alloc, hub, &mut second, ENABLE_WRITES, ENABLED);
     says(rt, alloc, hub, &mut second, GO, DONE);

@@ -1,5 +1,5 @@
 //! The first path, with and without an early look, and what ends a script.
-use crate::calls::{Play, fired, only_at, opened, run, says};
+use crate::calls::{Play, both, fired, only_at, opened, run, says};
 use dt_chain::Seat;
 use dt_hub::{CpuSeat, Fired, Hub, HubSite, Looked, NoGate, Offered, Session};
 use std::alloc::Global;
@@ -30,6 +30,29 @@ pub(crate) const SNAP: &str = r#"{"cmd":"snap","cpu":0}"#;
 pub(crate) const ONE_RECORD: &str =
     "{\"cpu\":0,\"data\":\"00000001\",\"drops\":0,\"filled\":false,\"ok\":true}\n";
 
+/// A session of an account's that traces.
+pub(crate) fn tracing<J: HubSite, R: Wait + Abort>(
+    rt: &R,
+    alloc: Global,
+    hub: &Hub<J>,
+    name: &str,
+) -> Session<J> {
+    let mut session = opened(rt, alloc, hub, name);
+    says(rt, alloc, hub, &mut session, ENABLE, ENABLED);
+    says(rt, alloc, hub, &mut session, GO, DONE);
+    session
+}
+
+/// A processor's first firing is kept on the first seat, and named no other.
+pub(crate) fn keeps_first<J: HubSite, R: Wait + Abort>(
+    rt: &R,
+    hub: &Hub<J>,
+    token: &mut CpuSeat<J>,
+) {
+    assert_eq!(rt; fired(rt, hub, token, &NoGate), Fired::At(0));
+    only_at(rt, token, 0, Offered::Kept);
+}
+
 /// A firing is recorded, and its session sees it.
 struct FirstPath;
 
@@ -41,16 +64,12 @@ impl Play for FirstPath {
         hub: &Hub<J>,
         tokens: Vec<CpuSeat<J>>,
     ) -> Result<(), Fail> {
-        let mut tokens = tokens;
-        assert_eq!(rt; tokens.len(), 2);
-        let mut session = opened(rt, alloc, hub, "root");
-        says(rt, alloc, hub, &mut session, ENABLE, ENABLED);
-        says(rt, alloc, hub, &mut session, GO, DONE);
-        assert_eq!(rt; fired(rt, hub, &mut tokens[0], &NoGate), Fired::At(0));
-        only_at(rt, &tokens[0], 0, Offered::Kept);
+        let (mut one, _other) = both(rt, tokens)?;
+        let mut session = tracing(rt, alloc, hub, "root");
+        keeps_first(rt, hub, &mut one);
         assert_eq!(rt; hub.seen(&mut session), 3);
         says(rt, alloc, hub, &mut session, SNAP, ONE_RECORD);
-        assert_eq!(rt; fired(rt, hub, &mut tokens[0], &NoGate), Fired::End);
+        assert_eq!(rt; fired(rt, hub, &mut one, &NoGate), Fired::End);
         hub.close(rt, session);
         Ok(())
     }
@@ -61,8 +80,14 @@ fn a_firing_is_kept(rt: HostRuntime) -> Result<(), Fail> {
     run(&rt, rt.alloc(), MACHINE, &FirstPath)
 }
 
-/// Whom the next firing of a processor would be offered to.
-fn looks<J: HubSite, R: Abort>(rt: &R, hub: &Hub<J>, token: &mut CpuSeat<J>, life: u64) {
+/// The next firing of a processor would be offered to this life of a seat, and to nobody else.
+pub(crate) fn looks<J: HubSite, R: Abort>(
+    rt: &R,
+    hub: &Hub<J>,
+    token: &mut CpuSeat<J>,
+    named: u32,
+    life: u64,
+) {
     let Looked::At { place, mask } = hub.look(token) else {
         assert!(rt; false, "no look");
         return;
@@ -73,7 +98,7 @@ fn looks<J: HubSite, R: Abort>(rt: &R, hub: &Hub<J>, token: &mut CpuSeat<J>, lif
             assert!(rt; false, "no seat");
             return;
         };
-        let expected = if number == 0 { Some(life) } else { None };
+        let expected = if number == named { Some(life) } else { None };
         assert_eq!(rt; mask.life_of(seat), expected);
     }
 }
@@ -89,16 +114,12 @@ impl Play for LooksFirst {
         hub: &Hub<J>,
         tokens: Vec<CpuSeat<J>>,
     ) -> Result<(), Fail> {
-        let mut tokens = tokens;
-        assert_eq!(rt; tokens.len(), 2);
-        let mut session = opened(rt, alloc, hub, "root");
-        says(rt, alloc, hub, &mut session, ENABLE, ENABLED);
-        says(rt, alloc, hub, &mut session, GO, DONE);
-        looks(rt, hub, &mut tokens[0], 0);
-        looks(rt, hub, &mut tokens[0], 0);
-        assert_eq!(rt; fired(rt, hub, &mut tokens[0], &NoGate), Fired::At(0));
-        only_at(rt, &tokens[0], 0, Offered::Kept);
-        assert!(rt; matches!(hub.look(&mut tokens[0]), Looked::End));
+        let (mut one, _other) = both(rt, tokens)?;
+        let session = tracing(rt, alloc, hub, "root");
+        looks(rt, hub, &mut one, 0, 0);
+        looks(rt, hub, &mut one, 0, 0);
+        keeps_first(rt, hub, &mut one);
+        assert!(rt; matches!(hub.look(&mut one), Looked::End));
         hub.close(rt, session);
         Ok(())
     }
@@ -110,7 +131,7 @@ fn looks_take_nothing(rt: HostRuntime) -> Result<(), Fail> {
 }
 
 /// A look names nobody on the first seat.
-fn names_nobody<J: HubSite, R: Abort>(rt: &R, hub: &Hub<J>, token: &mut CpuSeat<J>) {
+pub(crate) fn names_nobody<J: HubSite, R: Abort>(rt: &R, hub: &Hub<J>, token: &mut CpuSeat<J>) {
     match (hub.look(token), Seat::new(0)) {
         (Looked::At { mask, .. }, Some(seat)) => assert_eq!(rt; mask.life_of(seat), None),
         _ => assert!(rt; false, "no look"),
@@ -128,21 +149,16 @@ impl Play for Withdrawn {
         hub: &Hub<J>,
         tokens: Vec<CpuSeat<J>>,
     ) -> Result<(), Fail> {
-        let mut tokens = tokens;
-        assert_eq!(rt; tokens.len(), 2);
-        let mut session = opened(rt, alloc, hub, "root");
-        says(rt, alloc, hub, &mut session, ENABLE, ENABLED);
-        says(rt, alloc, hub, &mut session, GO, DONE);
-        looks(rt, hub, &mut tokens[0], 0);
+        let (mut one, _other) = both(rt, tokens)?;
+        let mut session = tracing(rt, alloc, hub, "root");
+        looks(rt, hub, &mut one, 0, 0);
         says(rt, alloc, hub, &mut session, STOP, DONE);
-        names_nobody(rt, hub, &mut tokens[0]);
+        names_nobody(rt, hub, &mut one);
         hub.close(rt, session);
-        let mut session = opened(rt, alloc, hub, "root");
-        says(rt, alloc, hub, &mut session, ENABLE, ENABLED);
-        says(rt, alloc, hub, &mut session, GO, DONE);
-        looks(rt, hub, &mut tokens[0], 1);
+        let session = tracing(rt, alloc, hub, "root");
+        looks(rt, hub, &mut one, 0, 1);
         hub.close(rt, session);
-        names_nobody(rt, hub, &mut tokens[0]);
+        names_nobody(rt, hub, &mut one);
         Ok(())
     }
 }
@@ -154,10 +170,8 @@ fn a_publication_goes_with_its_tracing(rt: HostRuntime) -> Result<(), Fail> {
 
 /// A session on the second seat that traces what the first one does.
 fn traces_too<J: HubSite, R: Wait + Abort>(rt: &R, alloc: Global, hub: &Hub<J>) -> Session<J> {
-    let mut session = opened(rt, alloc, hub, "root");
+    let session = tracing(rt, alloc, hub, "root");
     assert_eq!(rt; session.seat().number(), 1);
-    says(rt, alloc, hub, &mut session, ENABLE, ENABLED);
-    says(rt, alloc, hub, &mut session, GO, DONE);
     session
 }
 
@@ -172,20 +186,16 @@ impl Play for OthersStay {
         hub: &Hub<J>,
         tokens: Vec<CpuSeat<J>>,
     ) -> Result<(), Fail> {
-        let mut tokens = tokens;
-        assert_eq!(rt; tokens.len(), 2);
-        let mut session = opened(rt, alloc, hub, "root");
-        says(rt, alloc, hub, &mut session, ENABLE, ENABLED);
-        says(rt, alloc, hub, &mut session, GO, DONE);
+        let (mut one, _other) = both(rt, tokens)?;
+        let session = tracing(rt, alloc, hub, "root");
         let mut other = traces_too(rt, alloc, hub);
         says(rt, alloc, hub, &mut other, STOP, DONE);
-        looks(rt, hub, &mut tokens[0], 0);
+        looks(rt, hub, &mut one, 0, 0);
         hub.close(rt, other);
         let other = traces_too(rt, alloc, hub);
         hub.close(rt, other);
-        looks(rt, hub, &mut tokens[0], 0);
-        assert_eq!(rt; fired(rt, hub, &mut tokens[0], &NoGate), Fired::At(0));
-        only_at(rt, &tokens[0], 0, Offered::Kept);
+        looks(rt, hub, &mut one, 0, 0);
+        keeps_first(rt, hub, &mut one);
         hub.close(rt, session);
         Ok(())
     }

@@ -1,6 +1,6 @@
 //! As many sessions as there are seats, and one too many.
-use crate::calls::{Play, at_seat, fired, opened, run, says};
-use crate::paths::{DONE, ENABLE, ENABLED, GO, MACHINE};
+use crate::calls::{Play, at_seat, both, fired, run};
+use crate::paths::{MACHINE, tracing};
 use dt_chain::SEATS;
 use dt_hub::{CpuSeat, Fired, Hub, HubSite, NoGate, Offered, OpenFault};
 use std::alloc::Global;
@@ -41,10 +41,8 @@ fn opens_from<J: HubSite, R: Wait + Abort>(
         keeps_at_all(rt, hub, token);
         return;
     }
-    let mut session = opened(rt, alloc, hub, "root");
+    let session = tracing(rt, alloc, hub, "root");
     assert_eq!(rt; session.seat().number(), seat);
-    says(rt, alloc, hub, &mut session, ENABLE, ENABLED);
-    says(rt, alloc, hub, &mut session, GO, DONE);
     opens_from(rt, alloc, hub, token, seat + 1, left - 1);
     hub.close(rt, session);
 }
@@ -60,10 +58,9 @@ impl Play for AllSeats {
         hub: &Hub<J>,
         tokens: Vec<CpuSeat<J>>,
     ) -> Result<(), Fail> {
-        let mut tokens = tokens;
-        assert_eq!(rt; tokens.len(), 2);
-        opens_from(rt, alloc, hub, &mut tokens[0], 0, SEATS as u32);
-        opens_from(rt, alloc, hub, &mut tokens[1], 0, SEATS as u32);
+        let (mut one, mut other) = both(rt, tokens)?;
+        opens_from(rt, alloc, hub, &mut one, 0, SEATS as u32);
+        opens_from(rt, alloc, hub, &mut other, 0, SEATS as u32);
         Ok(())
     }
 }
@@ -94,10 +91,8 @@ impl Play for NoPrivilege {
                 Err(fault) => assert_eq!(rt; fault, OpenFault::NoPrivilege),
             }
         }
-        let mut session = opened(rt, alloc, hub, "ann");
+        let session = tracing(rt, alloc, hub, "ann");
         assert_eq!(rt; session.seat().number(), 0);
-        says(rt, alloc, hub, &mut session, ENABLE, ENABLED);
-        says(rt, alloc, hub, &mut session, GO, DONE);
         hub.close(rt, session);
         Ok(())
     }

@@ -1,7 +1,7 @@
 //! A processor that is told of a session.
-use crate::calls::{Play, fired, only_at, opened, run, says};
-use crate::paths::{DONE, ENABLE, ENABLED, GO, MACHINE, ONE_RECORD, SNAP};
-use dt_hub::{CpuSeat, Fired, Hub, HubSite, NoGate, Offered};
+use crate::calls::{Play, both, fired, opened, run, says};
+use crate::paths::{DONE, ENABLE, ENABLED, GO, MACHINE, ONE_RECORD, SNAP, keeps_first};
+use dt_hub::{CpuSeat, Fired, Hub, HubSite, NoGate};
 use std::alloc::Global;
 use std::process::Abort;
 use std::sync::Wait;
@@ -18,22 +18,20 @@ impl Play for Told {
         hub: &Hub<J>,
         tokens: Vec<CpuSeat<J>>,
     ) -> Result<(), Fail> {
-        let mut tokens = tokens;
-        assert_eq!(rt; tokens.len(), 2);
+        let (mut one, _other) = both(rt, tokens)?;
         let mut session = opened(rt, alloc, hub, "root");
         says(rt, alloc, hub, &mut session, ENABLE, ENABLED);
         let early = hub.receipt(&mut session);
-        hub.tell(&mut tokens[0], early);
+        hub.tell(&mut one, early);
         says(rt, alloc, hub, &mut session, GO, DONE);
         let receipt = hub.receipt(&mut session);
-        hub.tell(&mut tokens[0], receipt);
-        assert_eq!(rt; fired(rt, hub, &mut tokens[0], &NoGate), Fired::At(0));
-        only_at(rt, &tokens[0], 0, Offered::Kept);
+        hub.tell(&mut one, receipt);
+        keeps_first(rt, hub, &mut one);
         assert_eq!(rt; hub.seen(&mut session), 3);
         says(rt, alloc, hub, &mut session, SNAP, ONE_RECORD);
         let late = hub.receipt(&mut session);
-        hub.tell(&mut tokens[0], late);
-        assert_eq!(rt; fired(rt, hub, &mut tokens[0], &NoGate), Fired::End);
+        hub.tell(&mut one, late);
+        assert_eq!(rt; fired(rt, hub, &mut one, &NoGate), Fired::End);
         hub.close(rt, session);
         Ok(())
     }

@@ -1,0 +1,68 @@
+//! What was published goes, though its `go` was refused for memory.
+use crate::calls::{Play, answered, both, opened, run, says};
+use crate::paths::{DONE, ENABLE, ENABLED, GO, MACHINE, STOP, looks};
+use dt_hub::{CpuSeat, Hub, HubSite, Session};
+use std::alloc::Global;
+use std::process::Abort;
+use std::sync::Wait;
+use std::test::Fail;
+
+/// A session that has enabled a probe and doesn't trace yet.
+fn enabled<J: HubSite, R: Wait + Abort>(rt: &R, alloc: Global, hub: &Hub<J>) -> Session<J> {
+    let mut session = opened(rt, alloc, hub, "root");
+    says(rt, alloc, hub, &mut session, ENABLE, ENABLED);
+    session
+}
+
+/// The session on the second seat traces, and it alone is named.
+fn traces_alone<J: HubSite, R: Wait + Abort>(
+    rt: &R,
+    alloc: Global,
+    hub: &Hub<J>,
+    second: &mut Session<J>,
+    token: &mut CpuSeat<J>,
+) {
+    says(rt, alloc, hub, second, GO, DONE);
+    looks(rt, hub, token, 1, 0);
+}
+
+/// A session asks a `go`, for whose publication the chains take memory, so `rt try --test --fail-alloc` can have it refused. Whether or not it is, after the
+/// session's next line, or once it has closed, nothing of it stays published.
+struct GoesAgain {
+    closes: bool,
+}
+
+impl Play for GoesAgain {
+    fn play<J: HubSite, R: Wait + Abort>(
+        &self,
+        rt: &R,
+        alloc: Global,
+        hub: &Hub<J>,
+        tokens: Vec<CpuSeat<J>>,
+    ) -> Result<(), Fail> {
+        let (mut one, _other) = both(rt, tokens)?;
+        let mut first = enabled(rt, alloc, hub);
+        let mut second = enabled(rt, alloc, hub);
+        drop(answered(rt, alloc, hub, &mut first, GO));
+        if self.closes {
+            hub.close(rt, first);
+            traces_alone(rt, alloc, hub, &mut second, &mut one);
+        } else {
+            drop(answered(rt, alloc, hub, &mut first, STOP));
+            traces_alone(rt, alloc, hub, &mut second, &mut one);
+            hub.close(rt, first);
+        }
+        hub.close(rt, second);
+        Ok(())
+    }
+}
+
+#[test]
+fn a_refused_go_is_withdrawn_with_the_next_line(rt: HostRuntime) -> Result<(), Fail> {
+    run(&rt, rt.alloc(), MACHINE, &GoesAgain { closes: false })
+}
+
+#[test]
+fn a_refused_go_is_withdrawn_as_its_session_closes(rt: HostRuntime) -> Result<(), Fail> {
+    run(&rt, rt.alloc(), MACHINE, &GoesAgain { closes: true })
+}
