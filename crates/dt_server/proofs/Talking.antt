@@ -1,16 +1,16 @@
 -- One line more, and one stretch after another.
-use Rattle.std.proofs.Common.{◌≡◌, ℕ, ◌+◌, ◌⊎◌, inl, inr, Bool, true, false, cond, List, [], ◌∷◌, ◌++◌, Option, Some, None, Ok, length, take, drop, refl, sym, ap, ◌∙◌, subst, append_assoc, arith}
+use Rattle.std.proofs.Common.{◌≡◌, ℕ, ◌+◌, inl, inr, Bool, true, false, cond, List, [], ◌∷◌, ◌++◌, Option, Ok, length, take, drop, refl, sym, ap, ◌∙◌, subst, append_assoc}
 use Rattle.std.proofs.Math.Seq.{take-append-add}
 use Rattle.std.proofs.lemmas.List.{append-nil, take-append-drop}
 use Rattle.std.specs.Prelude.{IfSome, IfNone, MatchBool, Result}
-use Rattle.std.specs.Io.KnownBytes.{Appends, Consumes}
+use Rattle.std.specs.Io.KnownBytes.{Appends}
 use Rattle.dt_cred.specs.declared.account.Account.{Account}
 use Rattle.dt_hub.specs.Asking.{answer_text}
 use Rattle.dt_hub.specs.declared.answered.LineAnswer.{LineAnswer}
 use Rattle.dt_hub.specs.declared.answered.LineAnswer.TheVariants as answer
 use Rattle.dt_legal.specs.Rows.{IsLegalRow, life_of_row, line_form_of}
 use Rattle.dt_legal.specs.laws.Following.{line_follows}
-use Rattle.dt_life.specs.Acceptance.{IsAcceptedClose, is_close}
+use Rattle.dt_life.specs.Acceptance.{is_close}
 use Rattle.dt_life.specs.Answer.{Answer, refused}
 use Rattle.dt_life.specs.Ask.{Ask, close}
 use Rattle.dt_life.specs.Life.{Item, is_over}
@@ -24,7 +24,7 @@ use Rattle.dt_proto.specs.Lines.{LineForm, lines_of, rest_of}
 use Rattle.dt_proto.specs.Reply.{reply_text}
 use Rattle.dt_proto.specs.declared.lines.Lines.{Lines}
 use Rattle.dt_proto.specs.laws.Parts.{lines-append}
-use Rattle.dt_seat.specs.Seats.{IsRepliedTo, after_line_of}
+use Rattle.dt_seat.specs.Seats.{IsRepliedTo}
 use Rattle.dt_seat.specs.declared.after_line.AfterLine.{AfterLine}
 use Rattle.dt_seat.specs.declared.after_line.AfterLine.TheVariants as endings
 use Rattle.dt_server.specs.declared.ended.Ended.{Ended}
@@ -32,7 +32,7 @@ use Rattle.dt_server.specs.declared.ended.Ended.TheVariants as ended
 use Rattle.dt_server.specs.Served.{IsServed, IsClosed, IsPastQuota, IsCutOff, IsOver, HasServed, memory_text, quota_text}
 use Rattle.dt_server.specs.Talk.{ComesOfAsking, ServesOn, ServesToEnd, ServesToEndWithin, IsTalk, IsOfLine, ended_after}
 use Rattle.dt_server.proofs.Answering.{alone_asked, served_longer, served_none, served_refused, served_taken}
-use Rattle.dt_trail.specs.Items.{StartsWith, TrailItem, own, whose}
+use Rattle.dt_trail.specs.Items.{TrailItem, own, whose}
 
 -- one over the quota is so by it alone
 over_quota : (over closes : Bool) → endings.OverQuota ≡ cond over endings.OverQuota (cond closes endings.Closes endings.GoesOn) → over ≡ true

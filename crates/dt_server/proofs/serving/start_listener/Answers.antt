@@ -2,7 +2,7 @@
 use denote.Builtin.{unit}
 use denote.Exit.{no}
 use denote.Param.{param}
-use denote.Param.Send.{IsSend, IsSync, sendable, shr_send}
+use denote.Param.Send.{IsSync, sendable, shr_send}
 use denote.RattleType.{RattleType}
 use denote.Ref.{NamedLft, ShrRef}
 use mathlib.Core.List.{[], ◌∷◌}

@@ -1,9 +1,9 @@
-use Rattle.std.proofs.Common.{◌≡◌, ℕ, List, [], ◌∷◌, ◌++◌, take, drop, sym, subst, refl, ap, ◌∙◌, append_assoc}
+use Rattle.std.proofs.Common.{List, [], ◌∷◌, ◌++◌, take, sym, subst, refl, ap, ◌∙◌}
 use Rattle.std.proofs.lemmas.List.{append-nil}
 use Rattle.dt_cred.specs.declared.account.Account.{Account}
 use Rattle.dt_proto.specs.Asked.{form_lent}
-use Rattle.dt_proto.specs.HasRead.{HasRead, form_held, line_given}
-use Rattle.dt_proto.specs.Lines.{LineForm, lines_of}
+use Rattle.dt_proto.specs.HasRead.{form_held}
+use Rattle.dt_proto.specs.Lines.{lines_of}
 use Rattle.dt_server.specs.Talk.{ServesOn, ServesToEnd}
 use Rattle.dt_server.proofs.Streams.{appends_none, appends_more}
 use Rattle.dt_server.proofs.Talking.{goes_nowhere, on_and_on, on_and_end, up_to, nothing_read, line_whole, line_part, read_lines}

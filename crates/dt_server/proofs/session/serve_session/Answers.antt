@@ -1,5 +1,5 @@
 -- What was served from the beginning on.
-use Rattle.std.proofs.Common.{◌≡◌, ℕ, List, [], ap, sym, subst, ◌∙◌}
+use Rattle.std.proofs.Common.{◌≡◌, List, ap, sym, subst, ◌∙◌}
 use Rattle.dt_proto.specs.Lines.{lines_of}
 use Rattle.dt_seat.specs.Sessions.{Sat}
 use Rattle.dt_server.specs.Served.{HasServed}

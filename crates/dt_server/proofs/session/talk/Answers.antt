@@ -1,4 +1,4 @@
-use Rattle.std.proofs.Common.{◌≡◌, ℕ, List, ◌++◌, take, sym, subst, ◌∙◌}
+use Rattle.std.proofs.Common.{List, ◌++◌, take, sym, subst, ◌∙◌}
 use Rattle.dt_cred.specs.declared.account.Account.{Account}
 use Rattle.dt_proto.specs.Lines.{LineForm, lines_of}
 use Rattle.dt_server.specs.Talk.{ServesOn, ServesToEnd}

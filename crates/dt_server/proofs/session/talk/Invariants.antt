@@ -1,8 +1,8 @@
 -- What holds at each turn.
-use Rattle.std.proofs.Common.{◌≡◌, ◌++◌, ℕ, List}
+use Rattle.std.proofs.Common.{◌≡◌, ℕ, List}
 use Rattle.std.specs.Io.KnownBytes.{Appends, Consumes}
 use Rattle.dt_proto.specs.HasRead.{HasRead}
-use Rattle.dt_proto.specs.Lines.{LineForm, lines_of}
+use Rattle.dt_proto.specs.Lines.{lines_of}
 use Rattle.dt_server.specs.Talk.{ServesOn}
 use Rattle.dt_server.proofs.session.talk.Given as goal
 
