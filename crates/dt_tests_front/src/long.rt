@@ -46,18 +46,14 @@ fn a_caret_in_a_long_text(rt: HostRuntime) -> Result<(), Fail> {
     }
     let mut out = Vec::new(rt.alloc());
     // 4 + 99,996 columns fill 1,250 rows of 80
-    push_caret(rt.alloc(), &mut out, 80, &text, 99_996)?;
+    let place = text.len().min(99_996);
+    push_caret(rt.alloc(), &mut out, 80, &text, place)?;
     assert_eq!(rt; out.len(), 4 + 100_000 + 3);
     assert!(rt; out.ends_with(b"aaaa\n^\n"));
     // at the end of a text that fills its rows, below an empty row
     let mut full = Vec::new(rt.alloc());
-    push_caret(
-        rt.alloc(),
-        &mut full,
-        80,
-        text.get(..99_996).unwrap_or(&[]),
-        99_996,
-    )?;
+    let rows = text.get(..99_996).unwrap_or(&[]);
+    push_caret(rt.alloc(), &mut full, 80, rows, rows.len())?;
     assert_eq!(rt; full.len(), 100_000 + 4);
     assert!(rt; full.ends_with(b"a\n\n^\n"));
     Ok(())
