@@ -2,18 +2,18 @@
 
 use crate::fault::Trouble;
 use std::fs::File;
-use std::os::fd::{AsFd, BorrowedFd, IntoRawFd};
+use std::os::fd::{AsFd, IntoRawFd};
 
 /// Puts `/dev/null`, opened for reading, where standard input, output or error is closed. So what is read there has ended, and what is written there fails.
 pub(crate) fn hold_streams(rt: &HostRuntime) -> Result<(), Trouble> {
-    hold(rt, rt.stdin().as_fd())?;
-    hold(rt, rt.stdout().as_fd())?;
-    hold(rt, rt.stderr().as_fd())
+    hold(rt, &rt.stdin())?;
+    hold(rt, &rt.stdout())?;
+    hold(rt, &rt.stderr())
 }
 
 /// Puts `/dev/null` where a stream is closed: it gets the least number that is free, and those before it are held.
-fn hold(rt: &HostRuntime, stream: BorrowedFd<'_>) -> Result<(), Trouble> {
-    if stream.try_clone_to_owned().is_ok() {
+fn hold<S: AsFd>(rt: &HostRuntime, stream: &S) -> Result<(), Trouble> {
+    if is_open(stream) {
         return Ok(());
     }
     match File::open(rt, "/dev/null") {
@@ -23,4 +23,9 @@ fn hold(rt: &HostRuntime, stream: BorrowedFd<'_>) -> Result<(), Trouble> {
         }
         Err(_) => Err(Trouble::Output),
     }
+}
+
+/// Whether a stream is open: then it can be copied.
+fn is_open<S: AsFd>(stream: &S) -> bool {
+    stream.as_fd().try_clone_to_owned().is_ok()
 }
