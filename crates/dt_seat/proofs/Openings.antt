@@ -63,8 +63,8 @@ left_each word cpus seat cpu life row knows (Some k) h = left_of word cpus seat 
 kept_each : (word : TableId) (cpus seat cpu life : ℕ) (row : Named Account) (note : Option (Noted Account)) (o : Option KeptNote)
     → ((k : KeptNote) → o ≡ Some k → note ≡ Some (noted row (cpu + 1) [])) → IfSome o (IsLeft word cpus seat cpu life)
     → IfSome (option_map (λ (k : KeptNote). kept note k.book) o) (IsKeptFor word cpus seat cpu life row [])
-kept_each word cpus seat cpu life row note None there h = tt
-kept_each word cpus seat cpu life row note (Some k) there h = record {
+kept_each word cpus seat cpu life row mine None there h = tt
+kept_each word cpus seat cpu life row mine (Some k) there h = record {
   book = h.book;
   untaken = λ n is.
       let same : Some (noted row (cpu + 1) []) ≡ Some n = sym (there k refl) ∙ is in

@@ -11,6 +11,22 @@ use Rattle.dt_seat.proofs.Sitting.{one_open, session_goes_on}
 use Rattle.dt_seat.proofs.Trails.{line_is_mine}
 use Rattle.dt_seat.proofs.locked.LockedSeat.ask.Goals as goal
 
+-- The session's life is the seat's, of which it is open, so what it wrote down is of that.
+pub ask_at-result-requires-clause-notebook : goal.ask_at-result-requires-clause-notebook
+ask_at-result-requires-clause-notebook g c =
+    let inside = c.self.inside in
+    let s = c.session.inside in
+    let h = c.session.invariant in
+    let present_is : inside.present ≡ Some c.in-Some.present = c.in-Some.is in
+    let taken = (rw present_is at c.self.invariant).0 in
+    let open_now : IsOpenAs inside.life c.in-Some.present.owner.row (steps_in s.share.fact) =
+    subst (λ (l : List LifeStep). IsOpenAs inside.life c.in-Some.present.owner.row l) (ap steps_in c.agree.ensures.agree) taken.is_open in
+    let life_is : s.life ≡ inside.life =
+    (one_open (steps_in s.share.fact) s.life inside.life s.notebook.note.row c.in-Some.present.owner.row h.0.is_open open_now).0 in
+    let seat_is : s.seat ≡ inside.number =
+    ap (λ (x : Sat). x.seat) c.session.view_is ∙ c.requires.seat ∙ ap (λ (x : Seated). x.number) (sym c.self.view_is) in
+    rw (sym seat_is, sym life_is) h.1
+
 pub invariant_of-session : goal.invariant_of-session
 invariant_of-session g c =
     let inside = c.self.inside in
