@@ -1,8 +1,9 @@
 //! What `dtr` prints of long replies, texts and buffers.
 use dt_aggfn::Bounds;
 use dt_front::{
-    KeyColumn, counts_in, counts_total, key_in, layout_in, level_rows, power_rows, push_caret,
-    push_key, push_picture, push_rows, push_shown, rows_total, unknown_epid,
+    KeyColumn, ToldRefusal, counts_in, counts_total, key_in, layout_in, level_rows, power_rows,
+    push_caret, push_key, push_number_line, push_picture, push_probe, push_rows, push_shown,
+    push_title, rows_total, unknown_epid,
 };
 use dt_record::split;
 use serde_json::Value;
@@ -130,6 +131,58 @@ fn a_long_key_is_columns(rt: HostRuntime) -> Result<(), Fail> {
     // two blanks and a column of ten
     assert_eq!(rt; out.len(), 400 * 12);
     assert!(rt; out.ends_with(b"         399"));
+    let mut line = Vec::new(alloc);
+    push_number_line(alloc, &mut line, &key, -7)?;
+    assert_eq!(rt; line.len(), 400 * 12 + 2 + 16 + 1);
+    assert!(rt; line.starts_with(&out) && line.ends_with(b"  -7\n"));
+    Ok(())
+}
+
+#[test]
+fn what_is_no_key_and_no_count_is_none(rt: HostRuntime) -> Result<(), Fail> {
+    let alloc = rt.alloc();
+    for text in ["[null]", "[[]]", "[1,{}]", "[[1]]", "[[null,-1]]"] {
+        let told = Value::from_str(alloc, text)?;
+        assert!(rt; counts_in(alloc, told.as_array().ok_or("no counts")?)?.is_none());
+    }
+    for text in ["[null]", "[1,true]", "[\"a\",[]]"] {
+        let told = Value::from_str(alloc, text)?;
+        assert!(rt; key_in(alloc, told.as_array().ok_or("no key")?)?.is_none());
+    }
+    Ok(())
+}
+
+#[test]
+fn long_names_are_shown_whole(rt: HostRuntime) -> Result<(), Fail> {
+    let alloc = rt.alloc();
+    let mut name = String::new(alloc);
+    for _ in 0..20_000 {
+        name.push_str("abcd:")?;
+    }
+    let bytes = name.as_str().as_bytes();
+    let mut title = Vec::new(alloc);
+    push_title(&mut title, bytes, b"sum")?;
+    // a newline, @, the name, and what comes after it
+    assert_eq!(rt; title.len(), 2 + 100_000 + 9);
+    let mut narrow = Vec::new(alloc);
+    push_probe(alloc, &mut narrow, 79, 12, bytes)?;
+    assert_eq!(rt; narrow.len(), 6 + 100_000 + 1);
+    assert!(rt; narrow.starts_with(b"   12 abcd:"));
+    let mut wide = Vec::new(alloc);
+    push_probe(alloc, &mut wide, 80, 12, bytes)?;
+    // three columns, and what stands after the third colon
+    assert_eq!(rt; wide.len(), 6 + 10 + 1 + 17 + 1 + 33 + 1 + 99_985 + 1);
+    let refusal = ToldRefusal {
+        number: 8,
+        at: None,
+        clause: None,
+        why: None,
+        what: Some(name.as_str()),
+    };
+    let mut sentence = Vec::new(alloc);
+    refusal.push_sentence(&mut sentence)?;
+    assert!(rt; sentence.starts_with(b"the aggregation @abcd:abcd:"));
+    assert!(rt; sentence.len() > 100_000 && sentence.ends_with(b" elsewhere\n"));
     Ok(())
 }
 
