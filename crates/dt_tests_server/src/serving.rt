@@ -172,6 +172,7 @@ fn each_read_fails_once(rt: HostRuntime) -> Result<(), Fail> {
     let alloc = rt.alloc();
     let input = input_of(alloc)?;
     let mut read = 0;
+    let mut reads = 0_u64;
     for (place, piece) in input.chunks(FINE.gives).enumerate() {
         let devices = Devices {
             good_reads: place as u64,
@@ -184,7 +185,16 @@ fn each_read_fails_once(rt: HostRuntime) -> Result<(), Fail> {
             "other replies"
         );
         read = read.wrapping_add(piece.len());
+        reads = reads.wrapping_add(1);
     }
+    // the one that would find the end of the input
+    let last = Devices {
+        good_reads: reads,
+        ..FINE
+    };
+    let (ended, written) = served(&rt, alloc, last)?;
+    assert_eq!(rt; ended, Ended::ReadFault);
+    assert!(rt; written.as_slice() == REPLIES, "other replies");
     Ok(())
 }
 
