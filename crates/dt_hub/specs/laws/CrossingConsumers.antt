@@ -61,7 +61,7 @@ clause_send = recorded_send (clause.the_field).row _ _ clause.the_type.to_one cl
 
 programs_field : IsSend (programs.the_field).row
 programs_field = struct_send (shape programs.the_type)
-    (std.Vec-send clause.the_row clause_send, (std.Vec-send ecb.the_row ecbs.the_send, (shapes.the_field_send, tt)))
+    (std.Vec-send clause.the_row clause_send, (search (std.crosses, sendable), (std.Vec-send ecb.the_row ecbs.the_send, (shapes.the_field_send, tt))))
 
 -- a consumer, as a part of another type
 pub consumer_field : IsSend (consumer.the_field).row
