@@ -5,6 +5,7 @@ import os
 import pathlib
 import re
 import resource
+import select
 import shutil
 import signal
 import socket
@@ -22,6 +23,8 @@ import built
 from built import PATIENCE, STATUS
 
 SEATS = 256
+# how many descriptors a service may have that is short of them
+DESCRIPTORS = 40
 NOBODY = 65_534
 STATUS_REPLY = b'{"aggdrops":[0],"cause":null,"errors":[0],"exit":null,"ok":true,"phase":"inactive","seen":0}\n'
 FULL = b'{"error":17,"name":"Full"}\n'
@@ -188,15 +191,21 @@ def never_reads(_folder):
         other.close()
 
 
+def spent_meanwhile(service):
+    """The processor time that a service takes while this script takes half a second of it: a service that never waits takes about as much, whoever else is at work."""
+    before, end = service.spent(), time.process_time() + 0.5
+    while time.process_time() < end:
+        pass
+    return service.spent() - before
+
+
 def stalls(_folder):
     """A client that stops in the middle of a line, beside another, and a service that has nothing to do."""
     with serving(machine([[]])) as service:
         stalled, other = service.client(), service.client()
         stalled.send(STATUS[:10])
         yield "another is served while half a line waits", [other.ask(STATUS) for _ in range(3)], [STATUS_REPLY] * 3
-        before = service.spent()
-        time.sleep(1)
-        yield "a service with nothing to do takes no processor time", service.spent() - before < 0.1, True
+        yield "a service with nothing to do takes no processor time", spent_meanwhile(service) < 0.1, True
         yield "the line's other half", stalled.ask(STATUS[10:]), STATUS_REPLY
         stalled.close()
         other.close()
@@ -299,6 +308,41 @@ def no_threads(folder):
     yield "no thread", (ran.stdout, ran.stderr, ran.returncode, os.listdir(sockets)), (b"", b"fault\n", 1, [])
 
 
+def no_descriptors(_folder):
+    """More clients than a service has descriptors for: they wait, and so does it, until a session ends."""
+    with serving(machine([[]])) as service:
+        room = limited(service)
+        clients = [service.client() for _ in range(room)]
+        yield "sessions on all descriptors", (room > DESCRIPTORS // 2, {client.ask(STATUS) for client in clients}), (True, {STATUS_REPLY})
+        late = [service.client() for _ in range(4)]
+        for client in late:
+            client.send(STATUS)
+        yield "a service that can't accept takes no processor time", spent_meanwhile(service) < 0.1, True
+        yield "its sessions are answered", {client.ask(STATUS) for client in clients}, {STATUS_REPLY}
+        yield "nobody else is", replies(late, 0), [b""] * 4
+        clients.pop().close()
+        yield "who waits is answered once a session has ended", replies(late[:1]), [STATUS_REPLY]
+        for client in clients:
+            client.close()
+        yield "and so are all others", replies(late[1:]), [STATUS_REPLY] * 3
+        yield "and each that comes", [status_after_a_while(service) for _ in range(DESCRIPTORS)], [STATUS_REPLY] * DESCRIPTORS
+        yield "its end", (service.end().told, os.listdir(service.folder)), ((b"", b"", 0), [])
+        for client in late:
+            client.close()
+
+
+def limited(service):
+    """How many descriptors a service may still open, once it may have no more than these."""
+    resource.prlimit(service.run.pid, resource.RLIMIT_NOFILE, (DESCRIPTORS, DESCRIPTORS))
+    return DESCRIPTORS - len(os.listdir(f"/proc/{service.run.pid}/fd"))
+
+
+def replies(clients, seconds=PATIENCE):
+    """The next reply to each of these clients, of those that come within so many seconds."""
+    end = time.monotonic() + seconds
+    return [client.reply() if select.select([client.to], [], [], max(0, end - time.monotonic()))[0] else b"" for client in clients]
+
+
 def refused(folder):
     """Services that don't start."""
     path = folder / "machine.json"
@@ -323,4 +367,4 @@ def refused(folder):
 
 
 signal.signal(signal.SIGPIPE, signal.SIG_IGN)
-judge(rows, all_seats, comes_and_goes, never_reads, stalls, cut_anywhere, session_ends, commands, long_steps, no_threads, refused)
+judge(rows, all_seats, comes_and_goes, never_reads, stalls, cut_anywhere, session_ends, commands, long_steps, no_threads, no_descriptors, refused)
