@@ -379,8 +379,9 @@ def words_given(page, parts, all_help):
     return chosen
 
 
-def swept_jobs(sweep, jobs, what):
-    """Does the jobs, each a part with a row or with none, by two processes; prints what each came to; and gives the sums by part, and how many were off."""
+def swept_jobs(sweep, jobs, what, wanted):
+    """Does the jobs, each a part with a row or with none, by two processes; prints what each came to; and gives how many there were, and how many were off.
+    Off is too what a part has to meet, by what is wanted of it, and never met."""
     totals, bad = collections.defaultdict(collections.Counter), 0
     with concurrent.futures.ProcessPoolExecutor(2) as pool:
         running = [(part, pool.submit(sweep, part, row)) for part, row in jobs]
@@ -391,9 +392,13 @@ def swept_jobs(sweep, jobs, what):
                 print(f"{name}: {ways(came, what)}", *wrong, sep="\n  ", flush=True)
                 totals[part] += came
                 bad += len(wrong)
-    for part, came in totals.items():
-        print(f"all of {part}: {ways(came, what)}")
-    return totals, bad
+    for part in dict.fromkeys(part for part, _row in jobs):
+        print(f"all of {part}: {ways(totals[part], what)}")
+        unmet = [name for name in wanted[part] if not any(how.startswith(name) for how in totals[part])]
+        bad += len(unmet)
+        if unmet:
+            print(f"{part} never met: {', '.join(unmet)}")
+    return sum(came.total() for came in totals.values()), bad
 
 
 def ways(came, what):
