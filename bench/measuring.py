@@ -130,6 +130,6 @@ def told_by(spent, few=10):
 
 
 def last_names(name):
-    """A function's name with its type's, without its crate and modules."""
-    parts = name.split("::")
+    """A function's name with its type's, without its crate, its modules and what it is made for."""
+    parts = re.sub(r"::<#[0-9a-f]+>$", "", name).split("::")
     return "::".join(parts[-2:] if len(parts) > 1 and parts[-2][:1].isupper() else parts[-1:])
