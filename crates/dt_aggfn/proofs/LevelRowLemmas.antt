@@ -1,9 +1,9 @@
 -- Which row of an `lquantize` counts a value.
-use Rattle.std.proofs.Common.{◌≡◌, ℕ, zero, suc, ◌+◌, ◌-◌, ◌*◌, ◌/◌, ◌%◌, ◌^◌, ◌<◌, ◌≤◌, ◌≢◌, true, false, eqb, ltb}
+use Rattle.std.proofs.Common.{◌≡◌, ℕ, zero, suc, ◌+◌, ◌-◌, ◌*◌, ◌/◌, ◌%◌, ◌^◌, ◌<◌, ◌≤◌, true, false, eqb, ltb}
 use Rattle.std.proofs.Common.{leb, ◌&&◌, List, [], ◌∷◌, ◌++◌, length, get_or, map, refl, sym, ap, subst, ◌∙◌, ⊎_elim}
-use Rattle.std.proofs.Common.{arith, ℤ, pos, negsuc, ◌+ℤ◌, ◌-ℤ◌, ◌*ℤ◌, Some, None}
+use Rattle.std.proofs.Common.{arith, ℤ, pos, negsuc, ◌+ℤ◌, ◌-ℤ◌, Some, None}
 use Rattle.std.proofs.Math.Nat.{mul-le-mul_right}
-use Rattle.std.specs.Prelude.{int_lt, int_le, int_div, int_rem, unsigned_abs, FitsSigned}
+use Rattle.std.specs.Prelude.{int_lt, int_le, unsigned_abs, FitsSigned}
 use Rattle.std.specs.Int.{w64, cast_signed, cast_unsigned}
 use Rattle.std.specs.List.{range_with_len}
 use Rattle.std.proofs.lemmas.Int.{ints, to_z-of_z}
@@ -11,43 +11,8 @@ use Rattle.std.proofs.lemmas.Bool.{cases_lt, cases_eq, eq-eqb, ne_eqb, lt-ltb, l
 use Rattle.dt_aggfn.specs.declared.levels.Bounds.{Bounds}
 use Rattle.dt_aggfn.specs.Rows.{CountingRow, name_at, level_from, level_row, below_row, upper_row, levels_of, lquantize_rows}
 use Rattle.dt_aggfn.specs.Rows.{IsRowOf}
+use Rattle.dt_aggfn.specs.laws.Levels.{step_of, step_is, step_some, from_is, upper_is, upper_from, level_fits}
 use Rattle.dt_aggfn.proofs.RowLemmas.{each_part, parted, named, length_parts, first_part, middle_part}
-
--- what bounds say in natural numbers
-even : (a d : ℤ) → int_lt (pos 0) a ≡ true → int_lt (pos 0) d ≡ true → int_rem a d ≡ pos 0
-    → a ≡ pos (unsigned_abs (int_div a d) * unsigned_abs d)
-even (pos a) (pos zero) p q e = absurd (grind (arith, ints))
-even (pos a) (pos (suc d)) p q e =
-    let r : a % suc d ≡ 0 = cc in
-    ap (λ n. pos n) (let s : a ≡ a / suc d * suc d = omega arith in s)
-even (pos a) (negsuc d) p q e = absurd (grind (arith, ints))
-even (negsuc a) d p q e = absurd (grind (arith, ints))
-
-step_size : (d : ℤ) → int_lt (pos 0) d ≡ true → d ≡ pos (unsigned_abs d)
-step_size (pos d) p = refl
-step_size (negsuc d) p = absurd (grind (arith, ints))
-
-some_step : (d : ℤ) → int_lt (pos 0) d ≡ true → 0 < unsigned_abs d
-some_step (pos d) p = grind (arith, ints)
-some_step (negsuc d) p = absurd (grind (arith, ints))
-
--- the step as a natural number
-abbrev pub step_of : Bounds → ℕ
-step_of bounds = unsigned_abs bounds.step
-
-pub step_is : (bounds : Bounds) → bounds.step ≡ pos (step_of bounds)
-step_is bounds = step_size bounds.step bounds.right.forward
-
-pub step_some : (bounds : Bounds) → 0 < step_of bounds
-step_some bounds = some_step bounds.step bounds.right.forward
-
-wide : (a b : ℤ) → int_lt a b ≡ true → int_lt (pos 0) (b -ℤ a) ≡ true
-wide a b h = grind (arith, ints)
-
-pub width_is : (bounds : Bounds) → bounds.upper -ℤ bounds.lower ≡ pos (levels_of bounds * step_of bounds)
-width_is bounds =
-    even (bounds.upper -ℤ bounds.lower) bounds.step (wide bounds.lower bounds.upper bounds.right.rising)
-    bounds.right.forward bounds.right.even
 
 -- comparisons above the lower bound
 lt_above : (l : ℤ) (x y : ℕ) → int_lt (l +ℤ pos x) (l +ℤ pos y) ≡ ltb x y
@@ -62,10 +27,6 @@ le_above l x y =
     (λ lt. (let h : int_le (l +ℤ pos x) (l +ℤ pos y) ≡ false = grind (arith, ints) in h) ∙ sym (lt-leb x y lt))
     (λ ge. (let h : int_le (l +ℤ pos x) (l +ℤ pos y) ≡ true = grind (arith, ints) in h) ∙ sym (le-leb x y ge))
     (cases_lt y x)
-
--- where a level begins, above the lower bound
-from_is : (bounds : Bounds) (k : ℕ) → level_from bounds k ≡ bounds.lower +ℤ pos (k * step_of bounds)
-from_is bounds k = ap (λ d. bounds.lower +ℤ (pos k *ℤ d)) (step_is bounds)
 
 -- the level in which a number lies
 counted_by_level : (s a k : ℕ) → 0 < s → (leb (k * s) a && ltb a ((k + 1) * s)) ≡ eqb k (a / s)
@@ -108,9 +69,6 @@ level_below : (bounds : Bounds) (z : ℤ) (k : ℕ) → int_lt z bounds.lower �
 level_below bounds z k h =
     ap (λ y. int_le y z && int_lt z (level_from bounds (k + 1))) (from_is bounds k)
     ∙ (let l : int_le (bounds.lower +ℤ pos (k * step_of bounds)) z ≡ false = grind (arith, ints) in rw l refl)
-
-upper_is : (bounds : Bounds) → bounds.upper ≡ bounds.lower +ℤ pos (levels_of bounds * step_of bounds)
-upper_is bounds = let w = width_is bounds in omega (arith, ints)
 
 upper_at : (bounds : Bounds) (a : ℕ)
     → (upper_row bounds).counts (bounds.lower +ℤ pos a) ≡ leb (levels_of bounds * step_of bounds) a
@@ -261,8 +219,8 @@ later_name : (row : CountingRow) (rows : List CountingRow) (k : ℕ) → name_at
 later_name row rows k = refl
 
 -- the name of a level, and that of the last row, which is where one level more would begin
-name_above : (bounds : Bounds) (k : ℕ) → k < levels_of bounds + 1
-    → name_at (lquantize_rows bounds) (suc k) ≡ Some (bounds.lower +ℤ pos (k * step_of bounds))
+pub name_above : (bounds : Bounds) (k : ℕ) → k < levels_of bounds + 1
+    → name_at (lquantize_rows bounds) (suc k) ≡ Some (level_from bounds k)
 unfolding lquantize_rows
 name_above bounds k h =
     let rows : List CountingRow = map (level_row bounds) (range_with_len 0 (levels_of bounds)) ++ upper_row bounds ∷ [] in
@@ -270,14 +228,13 @@ name_above bounds k h =
     length_parts (level_row bounds) (level_row bounds) (upper_row bounds) (levels_of bounds) 0 in
     ⊎_elim (λ (lt : k < levels_of bounds).
     named rows (level_row bounds k) k (omega arith)
-    (λ d. first_part (level_row bounds) (level_row bounds) (upper_row bounds) (levels_of bounds) 0 k d lt)
-    ∙ ap (λ (z : ℤ). Some z) (from_is bounds k))
+    (λ d. first_part (level_row bounds) (level_row bounds) (upper_row bounds) (levels_of bounds) 0 k d lt))
     (λ (ge : levels_of bounds ≤ k).
     let e : levels_of bounds ≡ k = omega arith in
-    let P : ℕ → Type 0 = λ i. name_at rows i ≡ Some (bounds.lower +ℤ pos (i * step_of bounds)) in
+    let P : ℕ → Type 0 = λ i. name_at rows i ≡ Some (level_from bounds i) in
     subst P e (named rows (upper_row bounds) (levels_of bounds) (omega arith)
     (λ d. middle_part (level_row bounds) (level_row bounds) (upper_row bounds) (levels_of bounds) 0 d)
-    ∙ ap (λ (z : ℤ). Some z) (upper_is bounds)))
+    ∙ ap (λ (z : ℤ). Some z) (upper_from bounds)))
     (cases_lt k (levels_of bounds))
 
 -- in 64 bits
@@ -294,30 +251,11 @@ moved : (l a : ℤ) (m n : ℕ) → FitsSigned w64 l → FitsSigned w64 a → a 
     → cast_signed w64 ((cast_unsigned w64 l + n % 2 ^ 64) % 2 ^ 64) ≡ a
 moved l a m n f g e same = ap (cast_signed w64) (bits_moved l a m n f g e same) ∙ to_z-of_z w64 a g
 
-fits_between : (l u a : ℤ) → FitsSigned w64 l → FitsSigned w64 u → int_le l a ≡ true → int_le a u ≡ true
-    → FitsSigned w64 a
-fits_between l (pos u) (pos a) f g low high = record { sfits = let y = g.sfits in grind (arith, ints) }
-fits_between l (negsuc u) (pos a) f g low high = absurd (grind (arith, ints))
-fits_between (pos l) u (negsuc a) f g low high = absurd (grind (arith, ints))
-fits_between (negsuc l) u (negsuc a) f g low high = record { sfits = let y = f.sfits in grind (arith, ints) }
-
-above_fits : (l u : ℤ) (m w : ℕ) → FitsSigned w64 l → FitsSigned w64 u → u ≡ l +ℤ pos w → m ≤ w
-    → FitsSigned w64 (l +ℤ pos m)
-above_fits l u m w f g e h = fits_between l u (l +ℤ pos m) f g (grind (arith, ints)) (grind (arith, ints))
-
-pub name_in_bits : (bounds : Bounds) (index : ℕ) → index ≢ 0 → index < levels_of bounds + 2
-    → FitsSigned w64 bounds.lower → FitsSigned w64 bounds.upper
-    → Some (cast_signed w64 ((cast_unsigned w64 bounds.lower
-    + ((index - 1) * cast_unsigned w64 bounds.step) % 2 ^ 64) % 2 ^ 64))
-    ≡ name_at (lquantize_rows bounds) index
-name_in_bits bounds index some h f g =
-    let k : ℕ = index - 1 in
+-- what the code makes of a level's place is where it begins
+pub level_in_bits : (bounds : Bounds) (k : ℕ) → k ≤ levels_of bounds → FitsSigned w64 bounds.lower → FitsSigned w64 bounds.upper
+    → cast_signed w64 ((cast_unsigned w64 bounds.lower + (k * cast_unsigned w64 bounds.step) % 2 ^ 64) % 2 ^ 64)
+    ≡ level_from bounds k
+level_in_bits bounds k h f g =
     let s : cast_unsigned w64 bounds.step ≡ step_of bounds = ap (cast_unsigned w64) (step_is bounds) in
-    let m : k * step_of bounds ≤ levels_of bounds * step_of bounds =
-    mul-le-mul_right (step_of bounds) (let l : k ≤ levels_of bounds = omega arith in l) in
-    let fits = above_fits bounds.lower bounds.upper (k * step_of bounds) (levels_of bounds * step_of bounds) f g
-    (upper_is bounds) m in
-    let e : suc k ≡ index = omega arith in
-    ap (λ (z : ℤ). Some z) (moved bounds.lower (bounds.lower +ℤ pos (k * step_of bounds)) (k * step_of bounds)
-    (k * cast_unsigned w64 bounds.step) f fits refl (ap (λ n. k * n) s))
-    ∙ sym (name_above bounds k (omega arith)) ∙ ap (name_at (lquantize_rows bounds)) e
+    moved bounds.lower (level_from bounds k) (k * step_of bounds) (k * cast_unsigned w64 bounds.step) f
+    (level_fits bounds k h f g) (from_is bounds k) (ap (λ n. k * n) s)

@@ -1,5 +1,5 @@
 //! The aggregating functions, over cells.
-ghost use Rattle.std.specs.Prelude.{◌≡◌, ◌^◌, ◌<◌, ◌≤◌, List, [], ◌∷◌, ◌++◌, length, map, ℕ, ℤ, pos, int_div, IfOk};
+ghost use Rattle.std.specs.Prelude.{◌≡◌, ◌^◌, ◌<◌, ◌≤◌, List, [], ◌∷◌, ◌++◌, length, ℕ, ℤ, pos, int_div, IfOk};
 
 use crate::answer::CellAnswer;
 use crate::levels::Bounds;

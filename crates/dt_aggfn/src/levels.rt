@@ -1,5 +1,5 @@
 //! The levels of an `lquantize`.
-ghost use Rattle.std.specs.Prelude.{◌≡◌, ◌+◌, ◌<◌, ◌≤◌, IfNone, IfSome, Option, ℤ};
+ghost use Rattle.std.specs.Prelude.{◌≡◌, ◌+◌, ◌<◌, ◌≤◌, IfNone, IfSome, Option};
 ghost use Rattle.dt_aggfn.specs.Bounds.{AreBounds};
 
 use crate::limits::LEVELS_MAX;
@@ -16,7 +16,7 @@ pub struct Bounds {
 
 impl Bounds {
     ghost use Rattle.dt_aggfn.specs.BoundsOf.{bounds_of};
-    ghost use Rattle.dt_aggfn.specs.Rows.{name_at, levels_of, lquantize_rows, IsRowOf};
+    ghost use Rattle.dt_aggfn.specs.Rows.{level_from, name_at, levels_of, lquantize_rows, IsRowOf};
 
     /// The levels with these bounds, where there are some and not too many.
     pub fn new(lower: i64, upper: i64, step: i64) -> Option<Self>
@@ -42,12 +42,22 @@ impl Bounds {
         Some(Bounds { lower, upper, step })
     }
 
-    /// How many levels there are.
-    pub(crate) fn levels(self) -> usize
+    /// How many levels there are. (illumos Dynamic Tracing Guide, "Aggregations".)
+    pub fn levels(self) -> usize
         ensures levels { result ≡ levels_of self }
         ensures few { result ≤ LEVELS_MAX }
     {
         (self.upper.abs_diff(self.lower) / self.step.unsigned_abs()) as usize
+    }
+
+    /// Where a level begins, the first being level 0. The level after the last begins at the upper bound. (illumos
+    /// Dynamic Tracing Guide, "Aggregations".)
+    pub fn level_from(self, index: usize) -> i64
+        requires { index ≤ levels_of self }
+        ensures { result ≡ level_from self index }
+    {
+        let above = (index as i64).wrapping_mul(self.step);
+        self.lower.wrapping_add(above)
     }
 
     /// The place of the row that counts a value.
@@ -72,7 +82,6 @@ impl Bounds {
         if index == 0 {
             return None;
         }
-        let above = ((index - 1) as i64).wrapping_mul(self.step);
-        Some(self.lower.wrapping_add(above))
+        Some(self.level_from(index - 1))
     }
 }
