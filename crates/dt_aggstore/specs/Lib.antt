@@ -14,5 +14,5 @@ pub mod Fed
 pub mod Indexed
 pub mod IsAt
 pub mod Lent
--- Private to the proofs: no promise names them.
+-- Private to the crate: no public contract names them.
 pub mod Joining

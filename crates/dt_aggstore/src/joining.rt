@@ -1,5 +1,5 @@
 //! Rows while a table is made.
-ghost use Rattle.std.specs.Prelude.{◌≡◌, ◌<◌, ◌≤◌, ◌+◌, ℕ, ℤ, List, [], ◌∷◌, ◌++◌, ◌-◌, true, length, slice_index_or, IfOk, OnOk, vec_len, All};
+ghost use Rattle.std.specs.Prelude.{◌≡◌, ◌<◌, ℤ, List, ◌-◌, true, length, slice_index_or, IfOk, OnOk, vec_len, All};
 ghost use Rattle.dt_aggfn.specs.Cells.{cell_words, cell_of, IsBag};
 ghost use Rattle.dt_aggfn.specs.declared.limits.TheConstants.{BAG_LIMIT};
 

@@ -1,7 +1,7 @@
 //! The store of one processor.
-ghost use Rattle.std.specs.Prelude.{◌≡◌, ◌+◌, ◌*◌, ◌<◌, ◌≤◌, ◌↔◌, ℕ, ℤ, List, length, IfOk, IfSome, IfNone, IsTrue, Contains, if◌then◌else◌, vec_len, vec_capacity};
+ghost use Rattle.std.specs.Prelude.{◌≡◌, ◌+◌, ◌*◌, ◌<◌, ◌≤◌, ◌↔◌, length, IfOk, IsTrue, Contains, if◌then◌else◌, vec_capacity};
 ghost use Rattle.dt_aggstore.specs.Keys.{cost_of};
-ghost use Rattle.dt_aggstore.specs.EntryNames.{entry_named, entries_named, words_of, LiesAt};
+ghost use Rattle.dt_aggstore.specs.EntryNames.{entry_named, entries_named, words_of};
 ghost use Rattle.dt_aggstore.specs.Indexed.{places_from};
 ghost use Rattle.dt_aggstore.specs.declared.limits.TheConstants.{ADDED_LIMIT, AGGSIZE_MAX, COST_MIN};
 

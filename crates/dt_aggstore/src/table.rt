@@ -1,5 +1,5 @@
 //! The table of an aggregation over the stores of all processors.
-ghost use Rattle.std.specs.Prelude.{◌≡◌, ◌≤◌, ◌<◌, ◌+◌, ℕ, ℤ, List, [], ◌++◌, map, length, All, IfOk, OnOk};
+ghost use Rattle.std.specs.Prelude.{◌≡◌, ◌≤◌, ◌<◌, ◌+◌, ℤ, List, ◌++◌, map, length, All, IfOk, OnOk};
 ghost use Rattle.std.specs.List.{AllZip};
 ghost use Rattle.dt_aggfn.specs.declared.limits.TheConstants.{BAG_LIMIT};
 ghost use Rattle.dt_aggstore.specs.EntryNames.{form_of_row};
@@ -12,7 +12,7 @@ ghost use Rattle.dt_aggstore.specs.TableOf.{table_of};
 ghost use Rattle.dt_aggfn.specs.Cells.{cell_words};
 ghost use Rattle.dt_aggstore.specs.declared.key.KeyPart.{KeyPart};
 ghost use Rattle.dt_aggstore.specs.declared.share.KeyShare.{KeyShare};
-ghost use Rattle.dt_aggstore.specs.declared.limits.TheConstants.{STORES_MAX, ADDED_LIMIT};
+ghost use Rattle.dt_aggstore.specs.declared.limits.TheConstants.{STORES_MAX};
 
 use crate::cells::cell_at;
 use crate::joining::Joining;

@@ -4,7 +4,7 @@
 pub mod Items
 pub mod Verdicts
 pub mod VerdictText
--- Private to the proofs: no promise names them.
+-- Private to the crate: no public contract names them.
 pub mod Happened
 pub mod Shown
 pub mod Runs

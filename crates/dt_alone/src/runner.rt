@@ -8,8 +8,7 @@ use crate::happened::Happened;
 use crate::programs::Programs;
 use dt_cred::Account;
 use dt_life::{
-    BEGIN, Command, END, End, LINES_MAX, Options, Phase, Refusal, Reply, own_firing, own_process,
-    shown,
+    Command, END, End, LINES_MAX, Options, Phase, Refusal, Reply, own_firing, own_process, shown,
 };
 use dt_machine::{Context, Firing, Machine};
 use std::alloc::{AllocError, Global};
@@ -41,7 +40,7 @@ impl Runner {
     ghost use Rattle.dt_life.specs.Answer.{answer_of};
     ghost use Rattle.dt_life.specs.Ask.{line_asks};
     ghost use Rattle.dt_life.specs.Acceptance.{after_line};
-    ghost use Rattle.dt_life.specs.Life.{Item, SetUp, asked, fired, happens, phase_after, seen_count, with_event, is_over as over};
+    ghost use Rattle.dt_life.specs.Life.{Item, SetUp, fired, happens, phase_after, seen_count, with_event, is_over as over};
     ghost use Rattle.dt_life.specs.Reply.{Replies};
     ghost use Rattle.dt_life.specs.Sees.{Sees};
     ghost use Rattle.dt_life.specs.Takings.{TracingEvent, ended, context_at};

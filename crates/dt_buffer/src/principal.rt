@@ -1,5 +1,5 @@
 //! The principal buffer of one processor.
-ghost use Rattle.std.specs.Prelude.{◌≡◌, ◌≢◌, ◌+◌, ◌<◌, ◌≤◌, ◌↔◌, ℕ, [], IfOk, MatchOption, if◌then◌else◌};
+ghost use Rattle.std.specs.Prelude.{◌≡◌, ◌≢◌, ◌<◌, ◌≤◌, IfOk, MatchOption, if◌then◌else◌};
 ghost use Rattle.dt_buffer.specs.Ending.{HoldsRing};
 ghost use Rattle.dt_buffer.specs.History.{BufferPast, attempt, attempts, swap, new_buffer_past, buffer_after};
 ghost use Rattle.dt_buffer.specs.Shows.{HasContent, HasDrops, IsFilled, EndLast, PutAnswers, drops_after};

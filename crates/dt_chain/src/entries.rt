@@ -1,5 +1,5 @@
 //! The publications of all seats.
-ghost use Rattle.std.specs.Prelude.{◌≡◌, ◌≤◌, ◌<◌, ℕ, List, [], ◌∷◌, false, None, IfNone, IfSome, IsOk, IsSome, IsTrue, IsNone, OnOk, OnErr, slice_index_or, if◌then◌else◌};
+ghost use Rattle.std.specs.Prelude.{◌≡◌, ◌<◌, ℕ, List, [], ◌∷◌, false, None, IfNone, IfSome, IsOk, IsSome, IsTrue, IsNone, OnOk, OnErr, slice_index_or, if◌then◌else◌};
 ghost use Rattle.dt_chain.specs.declared.seat_set.TheConstants.{SEAT_WORDS};
 
 use crate::lists::Lists;

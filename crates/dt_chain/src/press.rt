@@ -1,5 +1,5 @@
 //! The writer of both copies, by value: what waits for memory, what is pending, and what is published.
-ghost use Rattle.std.specs.Prelude.{◌<◌, ◌^◌, ◌⊎◌, ◌≡◌, ◌++◌, ◌∷◌, [], true, false, IfOk, OnOk, OnErr};
+ghost use Rattle.std.specs.Prelude.{◌<◌, ◌^◌, ◌⊎◌, ◌≡◌, ◌++◌, ◌∷◌, [], false, IfOk, OnOk, OnErr};
 ghost use mathlib.Core.List.{IsPrefix};
 
 use crate::book::{Ledger, Site};

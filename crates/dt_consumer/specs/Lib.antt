@@ -6,7 +6,7 @@ pub mod Placing
 pub mod Keeps
 pub mod StandsFor
 pub mod Draft
--- Private to the proofs: no promise names them.
+-- Private to the crate: no public contract names them.
 pub mod Counts
 pub mod Recording
 -- The laws of these.

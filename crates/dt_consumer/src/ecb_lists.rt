@@ -13,7 +13,7 @@ pub(crate) struct EcbList {
 }
 
 impl EcbList {
-    ghost use Rattle.std.specs.Prelude.{◌==◌, ◌<◌, ℕ, [], All, filter, length, slice_get, IfOk, IfSome};
+    ghost use Rattle.std.specs.Prelude.{◌==◌, ◌<◌, ℕ, [], filter, length, slice_get, IfOk, IfSome};
 
     /// As many empty lists.
     fn none(alloc: Global, count: u32) -> Result<Vec<Self>, AllocError>

@@ -18,15 +18,14 @@ pub(crate) struct Processor {
 }
 
 impl Processor {
-    ghost use Rattle.std.specs.Prelude.{◌≡◌, ◌<◌, ◌+◌, ◌++◌, ◌-◌, ◌≤◌, ℕ, Bool, true, false, List, [], ◌∷◌, Option, Some, None, All, IfOk, length, map, if◌then◌else◌};
+    ghost use Rattle.std.specs.Prelude.{◌≡◌, ◌<◌, ◌+◌, ◌-◌, ◌≤◌, ℕ, true, false, List, [], ◌∷◌, Option, Some, None, All, IfOk, length, map};
     ghost use Rattle.dt_aggstore.specs.History as stores;
     ghost use Rattle.dt_aggstore.specs.IsAt.{IsAt, added_of};
     ghost use Rattle.dt_aggstore.specs.declared.limits.TheConstants.{ADDED_LIMIT};
     ghost use Rattle.dt_buffer.specs.History.{BufferPast, new_buffer_past, buffer_after, swap};
     ghost use Rattle.dt_buffer.specs.IsAt.{drops_of};
     ghost use Rattle.dt_buffer.specs.Shows.{EndLast};
-    ghost use Rattle.dt_buffer.specs.declared.limits.TheConstants.{DROPS_LIMIT, SIZE_MAX};
-    ghost use Rattle.dt_ecb.specs.Forms.{form_of_ecb};
+    ghost use Rattle.dt_buffer.specs.declared.limits.TheConstants.{DROPS_LIMIT};
     ghost use Rattle.dt_ecb.specs.declared.limits.TheConstants.{ECBS_MAX};
     ghost use Rattle.dt_lang.specs.Program.{form_of_clause};
     ghost use Rattle.dt_program.specs.declared.clause.TheConstants.{STATEMENTS_MAX};
@@ -40,7 +39,7 @@ impl Processor {
     ghost use Rattle.dt_machine.specs.Context.{form_of_context};
     ghost use Rattle.dt_life.specs.Following.{followed_by, taking_by};
     ghost use Rattle.dt_consumer.specs.Keeps.{HasTaken};
-    ghost use Rattle.dt_life.specs.Takings.{Taking, exit_of, first_exit, through_exit, faults};
+    ghost use Rattle.dt_life.specs.Takings.{exit_of, first_exit, through_exit, faults};
 
     /// A processor on which nothing was taken, with the room that the options ask for.
     pub(crate) fn new(alloc: Global, options: Options, reserve: usize) -> Result<Self, AllocError>

@@ -1,5 +1,5 @@
 //! The class of a probe, by its provider's name.
-ghost use Rattle.std.specs.Prelude.{◌≡◌, ◌≢◌, ◌≤◌, ℕ, length, MatchOption};
+ghost use Rattle.std.specs.Prelude.{◌≡◌, ◌≤◌, length, MatchOption};
 ghost use Rattle.dt_cred.specs.Class.{IsClassOf, WritesDecimal, number_of};
 
 use dt_names::{NAME_MAX, Name};

@@ -1,5 +1,5 @@
 -- The walk over the uses of a program, which stand after the accepted ones.
-use Rattle.std.proofs.Common.{◌≡◌, ℕ, ◌+◌, ◌<◌, ◌≤◌, ◌||◌, Bool, true, false, cond, List, [], ◌∷◌, ◌++◌, Option}
+use Rattle.std.proofs.Common.{◌≡◌, ℕ, ◌+◌, ◌<◌, ◌≤◌, ◌||◌, Bool, true, false, cond, List, ◌∷◌, ◌++◌, Option}
 use Rattle.std.proofs.Common.{Some, None, length, get_or, take, drop, map, refl, sym, ap, ◌∙◌, subst, ⊎_elim, arith}
 use Rattle.std.specs.List.{slice_get, list_any}
 use Rattle.std.specs.Option.{IfSome}

@@ -9,7 +9,7 @@ pub mod Enable
 pub mod Fault
 pub mod Forms
 pub mod Interest
--- Private to the proofs: no promise names them.
+-- Private to the crate: no public contract names them.
 pub mod Places
 -- The laws of these.
 pub mod laws

@@ -1,7 +1,7 @@
 //! The first clauses for which a program is refused.
 ghost use Rattle.std.specs.Prelude.{◌≡◌, ◌||◌, true, false, not, MatchOption};
 ghost use Rattle.std.specs.List.{list_any};
-ghost use Rattle.dt_program.specs.Program.{form_of_clause, form_of_program, form_of_statement};
+ghost use Rattle.dt_program.specs.Program.{form_of_program, form_of_statement};
 ghost use Rattle.dt_ecb.specs.Enable.{IsFirstSuch};
 ghost use Rattle.dt_ecb.specs.Enable as spec;
 

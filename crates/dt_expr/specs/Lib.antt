@@ -5,5 +5,5 @@ pub mod Form
 pub mod Scene
 pub mod Operators
 pub mod Value
--- Private to the proofs: no promise names them.
+-- Private to the crate: no public contract names them.
 pub mod Found

@@ -1,7 +1,7 @@
 //! The operators, and what they do to signed numbers of 64 bits.
 ghost use Rattle.std.specs.Prelude.{◌≡◌, ◌<◌};
 ghost use Rattle.dt_expr.specs.Found.{IsFound};
-ghost use Rattle.dt_expr.specs.Operators.{unary, binary, decided, quotient, remainder, shifted_left, shifted_right, shift_count, truth, compared};
+ghost use Rattle.dt_expr.specs.Operators.{unary, binary, decided, quotient, remainder, shifted_left, shifted_right, shift_count, compared};
 
 /// An operator before its operand.
 #[derive(Clone, Copy, Debug, PartialEq, Eq)]

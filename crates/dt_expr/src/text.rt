@@ -31,7 +31,6 @@ impl Default for Value {
 }
 
 impl Text {
-    ghost use Rattle.dt_expr.specs.declared.text.Value.TheVariants.{Text as TextValue};
     ghost use Rattle.dt_expr.specs.Scene.{text_bytes};
 
     /// The text as a record shows it: its bytes, and zeros up to 32 bytes in all.

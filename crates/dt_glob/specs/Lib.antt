@@ -9,7 +9,7 @@ pub mod Test
 pub mod Spells
 pub mod Fault
 pub mod Reading
--- Private to the proofs: no promise names them.
+-- Private to the crate: no public contract names them.
 pub mod Place
 pub mod Token
 pub mod Ready

@@ -7,7 +7,7 @@ use dt_machine::Machine;
 use dt_seat::{HubSite, LockedSeat};
 use std::alloc::{AllocError, Global};
 use std::marker::Model;
-use std::sync::{Mutex, Wait};
+use std::sync::Mutex;
 
 /// All that a hub is made of but for its seats, before a program picks its site: its machine, its chains and the word of its facts.
 ///

@@ -1,5 +1,5 @@
 //! Blanks: what stands between tokens.
-ghost use Rattle.std.specs.Prelude.{◌≡◌, ◌≢◌, ℕ, ◌<◌, ◌≤◌, List, ◌∷◌, ◌++◌, length, IfSome, IfNone};
+ghost use Rattle.std.specs.Prelude.{◌≡◌, ◌≢◌, ℕ, ◌<◌, ◌≤◌, List, ◌∷◌, length, IfSome, IfNone};
 ghost use Rattle.dt_lang.specs.Blanks.{HasNoEnd, EndsComment, StripsBlank, SkipsBlanks};
 
 /// What stands after the blanks at the front of a text. A comment that isn't closed is no blank.

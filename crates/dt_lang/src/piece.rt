@@ -1,5 +1,5 @@
 //! What stands at the front of a text at which no blanks stand.
-ghost use Rattle.std.specs.Prelude.{◌≡◌, ℕ, ◌<◌, List, length};
+ghost use Rattle.std.specs.Prelude.{◌≡◌, ◌<◌, length};
 ghost use Rattle.std.specs.List.{take_while};
 ghost use Rattle.dt_lang.specs.Class.{is_string_byte};
 ghost use Rattle.dt_lang.specs.Lexeme.{Stands};

@@ -1,13 +1,13 @@
 //! The reader of programs: a token at a time.
-ghost use Rattle.std.specs.Prelude.{◌≡◌, ◌≤◌, ◌<◌, IfOk, None, Some, false, if◌then◌else◌, not, option_map, length, List, [], ◌∷◌, ◌++◌, vec_len};
+ghost use Rattle.std.specs.Prelude.{◌≡◌, ◌≤◌, ◌<◌, IfOk, None, Some, false, if◌then◌else◌, option_map, [], ◌∷◌, ◌++◌, vec_len};
 ghost use Rattle.dt_expr.specs.Form.{form_of};
-ghost use Rattle.dt_lang.specs.machine.ClauseState.{ProgramState, program_step, body, bounded, bounding, from_bounded, ended, entered, finished, from_applied, from_assigned, from_before_statement, from_bounding, from_called, from_closing, from_described, from_after_statement, from_stack_opened, from_guarded, from_keyed, from_listed, from_named, from_negating, from_outside, function_given, headed, after_call, outside, shut, shut_key, shut_predicate, shut_value, program_at, program_start, from_within};
+ghost use Rattle.dt_lang.specs.machine.ClauseState.{program_step, bounded, bounding, from_bounded, ended, entered, finished, from_applied, from_assigned, from_before_statement, from_bounding, from_called, from_closing, from_described, from_after_statement, from_stack_opened, from_guarded, from_keyed, from_listed, from_named, from_negating, from_outside, headed, outside, shut, shut_key, shut_predicate, shut_value, program_at, program_start, from_within};
 ghost use Rattle.dt_lang.specs.machine.Cause.{out_of_range_at, is_one_more, too_long_at};
 ghost use Rattle.dt_lang.specs.machine.ShownCause.{AnswersToken, ShownOutcome, cause_of_refusal, shown_at};
 ghost use Rattle.dt_lang.specs.machine.Fits.{Fits, FitsClause, FitsWithin, SlotHasRoom};
 ghost use Rattle.dt_lang.specs.machine.ExpressionView.{state_of};
 ghost use Rattle.dt_lang.specs.machine.PlaceView.{bound_of, key_forms, place_form, slot_form};
-ghost use Rattle.dt_program.specs.Clause.{aggregate, form_of_argument, lquantize, form_of_clause, form_of_statement, number};
+ghost use Rattle.dt_program.specs.Clause.{aggregate, form_of_argument, lquantize, form_of_statement, number};
 ghost use Rattle.dt_program.specs.Program.{form_of_program};
 ghost use Rattle.dt_lang.specs.machine.ReaderView.{Leads, clause_of, clauses_of, program_state_of};
 ghost use Rattle.dt_program.specs.Bounds.{bounds_fault};

@@ -1,5 +1,5 @@
 //! How signs are written.
-ghost use Rattle.std.specs.Prelude.{◌≡◌, ℕ, IfSome, IfNone};
+ghost use Rattle.std.specs.Prelude.{◌≡◌, IfSome, IfNone};
 ghost use Rattle.std.specs.List.{All, Contains};
 ghost use Rattle.dt_lang.specs.machine.Piece.{IsSignAt, BeginsWith};
 ghost use Rattle.dt_lang.specs.Spelling.{spelling};

@@ -3,7 +3,7 @@ ghost use Rattle.std.specs.Prelude.{◌≡◌, ◌≤◌};
 ghost use Rattle.dt_aggstore.specs.declared.limits.TheConstants.{AGGSIZE_MAX};
 ghost use Rattle.dt_buffer.specs.declared.limits.TheConstants.{SIZE_MAX};
 ghost use Rattle.dt_life.specs.Options as spec;
-ghost use Rattle.dt_life.specs.declared.limits.TheConstants.{HISTORY_MAX};
+ghost use Rattle.dt_life.specs.declared.limits.TheConstants.{HISTORY_MAX, HISTORY_MIN};
 
 use crate::command::OptionValue;
 use crate::limits::{
@@ -26,7 +26,7 @@ pub struct Options {
     pub histsize: u32,
     ghost small: { bufsize ≤ SIZE_MAX },
     ghost few_entries: { aggsize ≤ AGGSIZE_MAX },
-    ghost some: { 1 ≤ histsize },
+    ghost some: { HISTORY_MIN ≤ histsize },
     ghost few: { histsize ≤ HISTORY_MAX },
 }
 

@@ -14,7 +14,7 @@ pub mod Found
 pub mod Reading
 pub mod Tests
 pub mod Bounds
--- Private to the proofs: no promise names them.
+-- Private to the crate: no public contract names them.
 pub mod Inside
 pub mod ByPid
 pub mod Sections

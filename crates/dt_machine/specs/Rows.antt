@@ -3,7 +3,7 @@ use Rattle.std.specs.Prelude.{◌≡◌, ◌≢◌, ℕ, ℤ, pos, ◌+◌, ◌-
 use Rattle.std.specs.List.{list_any}
 use Rattle.std.specs.Str.{bytes_eq}
 use Rattle.serde_json.specs.Data.{Data}
-use Rattle.dt_names.specs.Bytes.{hyphen, zero_digit, nine_digit, underscore, small_a, small_z}
+use Rattle.dt_names.specs.Bytes.{space, hyphen, zero_digit, nine_digit, underscore, small_a, small_z, tilde}
 use Rattle.dt_names.specs.Tuple.{SpellsTuple}
 use Rattle.dt_names.specs.Limits.{name_max}
 use Rattle.dt_names.specs.Limits.{short_text_max}
@@ -164,7 +164,7 @@ pub record IsRightAccount (before : List AccountRow) (row : AccountRow) : Type 0
 -- visible ASCII characters and spaces
 pub record IsExecname (text : List ℕ) : Type 0 where
   pub short : length text ≤ short_text_max
-  pub plain : All (λ byte. (32 ≤ byte) × (byte ≤ 126)) text
+  pub plain : All (λ byte. (space ≤ byte) × (byte ≤ tilde)) text
 
 pub record IsRightProcess (before : List ProcessRow) (row : ProcessRow) : Type 0 where
   pub few : length before < processes_max

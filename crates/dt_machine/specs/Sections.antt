@@ -1,11 +1,10 @@
 -- What the reading of one section of the file answers.
-use Rattle.std.specs.Prelude.{◌≡◌, ◌&&◌, Bool, ◌≢◌, ◌^◌, All, length, ◌<◌, ◌≤◌, ℕ, List, map, find, Vec, None, IsSome, ◌==◌, IfSome, slice_get, option_and_then}
+use Rattle.std.specs.Prelude.{◌≡◌, ◌&&◌, Bool, ◌^◌, All, length, ◌<◌, ◌≤◌, ℕ, List, map, find, Vec, IsSome, ◌==◌, IfSome, slice_get, option_and_then}
 use Rattle.std.specs.declared.alloc.Global.{Global}
 use Rattle.serde_json.specs.View.{view}
 use Rattle.serde_json.specs.declared.value.Value.{Value}
 use Rattle.dt_cred.specs.declared.account.Process.{Process}
 use Rattle.dt_machine.specs.declared.fault.FaultNumber.{FaultNumber}
-use Rattle.dt_machine.specs.declared.fault.FaultNumber.TheVariants.{Memory}
 use Rattle.dt_machine.specs.declared.fault.MachineFault.{MachineFault}
 use Rattle.dt_machine.specs.declared.found.Found.{Found}
 use Rattle.dt_machine.specs.Found.{IsFoundAt}
@@ -14,7 +13,7 @@ use Rattle.std.specs.Str.{bytes_eq}
 use Rattle.dt_names.specs.declared.tuple.ProbeTuple.{ProbeTuple}
 use Rattle.dt_machine.specs.Given.{text_of}
 use Rattle.serde_json.specs.Data.{Data}
-use Rattle.dt_machine.specs.Reading.{IsFirstWrong, Nowhere, Passes, rank_of, Registers}
+use Rattle.dt_machine.specs.Reading.{IsFirstWrong, Passes, rank_of, Registers}
 use Rattle.dt_machine.specs.Registry.{Registry, Contents}
 use Rattle.dt_cred.specs.declared.firing.Firing.{Firing}
 use Rattle.dt_cred.specs.declared.class.Class.{Class}

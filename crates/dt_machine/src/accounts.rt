@@ -1,5 +1,5 @@
 //! The accounts of the file.
-ghost use Rattle.std.specs.Prelude.{◌≡◌, ◌≢◌, ◌↔◌, ◌≤◌, ◌<◌, All, List, Some, IsTrue, IsSome, IfOk, IfErr, MatchOption, MatchResult, codes, map, length};
+ghost use Rattle.std.specs.Prelude.{◌≡◌, ◌↔◌, ◌<◌, All, List, Some, IsTrue, IfOk, IfErr, MatchOption, MatchResult, map, length};
 ghost use Rattle.std.specs.List.{list_any};
 ghost use Rattle.std.specs.Str.{bytes_eq};
 ghost use Rattle.serde_json.specs.View.{view};

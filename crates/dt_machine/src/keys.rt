@@ -1,7 +1,7 @@
 //! What a value of the file gives under its keys, as one of another kind gives nothing.
-ghost use Rattle.std.specs.Prelude.{◌≡◌, ◌^◌, ℕ, List, Some, map, option_map, is_some, codes, MatchOption};
+ghost use Rattle.std.specs.Prelude.{◌≡◌, ◌^◌, Some, map, option_map, MatchOption};
 ghost use Rattle.serde_json.specs.View.{view};
-ghost use Rattle.dt_machine.specs.Given.{items, is_integer, is_text, unsigned, signed, unsigned_at, text_of, text_at, items_of, items_at, list_at};
+ghost use Rattle.dt_machine.specs.Given.{items, unsigned_at, text_of, text_at, items_of, items_at, list_at};
 ghost use Rattle.dt_machine.specs.Rows.{IsGivenBelow, number_in};
 
 use serde_json::Value;

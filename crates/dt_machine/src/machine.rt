@@ -42,7 +42,7 @@ impl Model for Machine {
 impl Machine {
     ghost use Rattle.dt_machine.specs.Context.{IsContext};
     ghost use Rattle.dt_machine.specs.Registry.{IsSound, IsForeign, account_of, process_of, probe_of, firing_at};
-    ghost use Rattle.dt_machine.specs.Reading.{IsDescribed, IsFaultOf, IsFirstFinding, UnlessMemory};
+    ghost use Rattle.dt_machine.specs.Reading.{IsDescribed, IsFaultOf, UnlessMemory};
     ghost use Rattle.dt_machine.specs.Sections.{IsReady, registry_of, contents_with};
 
     /// Reads a machine file: a JSON object with the keys `cpus`, `accounts`, `processes`, `probes` and `scripts`.

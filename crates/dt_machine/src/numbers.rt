@@ -1,5 +1,5 @@
 //! The numbers of a firing: its arguments and its frames.
-ghost use Rattle.std.specs.Prelude.{◌≡◌, List, map, MatchOption};
+ghost use Rattle.std.specs.Prelude.{◌≡◌, map, MatchOption};
 ghost use Rattle.serde_json.specs.View.{view};
 ghost use Rattle.dt_machine.specs.Given.{signed, unsigned};
 ghost use Rattle.dt_machine.specs.Rows.{arguments, frames, AreArguments, AreGivenFrames};

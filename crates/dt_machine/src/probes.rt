@@ -1,5 +1,5 @@
 //! The probes of a machine: `BEGIN`, `END` and those of the file.
-ghost use Rattle.std.specs.Prelude.{◌≡◌, ◌≢◌, ◌↔◌, ◌≤◌, ◌<◌, ◌+◌, [], ◌∷◌, All, List, ℕ, Some, None, IsTrue, IsSome, IfOk, IfErr, MatchResult, MatchBool, codes, map, length, find, slice_get, ◌==◌};
+ghost use Rattle.std.specs.Prelude.{◌≡◌, ◌≢◌, ◌↔◌, ◌<◌, ◌+◌, [], ◌∷◌, All, List, ℕ, Some, IsTrue, IfOk, IfErr, MatchResult, MatchBool, codes, length, slice_get, ◌==◌};
 ghost use Rattle.std.specs.List.{list_any};
 ghost use Rattle.dt_names.specs.Tuple.{SpellsTuple};
 ghost use Rattle.dt_cred.specs.Class.{IsClassOf};

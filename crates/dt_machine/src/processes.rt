@@ -1,5 +1,5 @@
 //! The processes of the file.
-ghost use Rattle.std.specs.Prelude.{◌≡◌, ◌≢◌, ◌^◌, ◌+◌, ◌↔◌, ◌≤◌, ◌<◌, All, List, Some, None, IsTrue, IsSome, IfOk, IfErr, MatchOption, MatchResult, map, length, find, ◌==◌};
+ghost use Rattle.std.specs.Prelude.{◌≡◌, ◌^◌, ◌+◌, ◌<◌, All, List, Some, None, IsSome, IfOk, IfErr, MatchOption, MatchResult, map, length, find, ◌==◌};
 ghost use Rattle.serde_json.specs.View.{view};
 ghost use Rattle.dt_machine.specs.Rows.{ProcessRow, process_row, process, number_in, IsGivenBelow, IsExecname, IsRightProcess};
 ghost use Rattle.dt_machine.specs.Found.{IsFoundOfProcess};

@@ -1,5 +1,5 @@
 //! The scripts of the file, each a list of firings.
-ghost use Rattle.std.specs.Prelude.{◌≡◌, ◌≢◌, ◌^◌, ◌↔◌, ◌≤◌, ◌<◌, ℕ, All, List, Some, None, IsTrue, IsSome, IsSomeAnd, IfOk, IfErr, IfSome, MatchOption, MatchResult, map, length, slice_get, pos};
+ghost use Rattle.std.specs.Prelude.{◌≡◌, ◌^◌, ◌≤◌, ◌<◌, List, Some, None, IsSome, IsSomeAnd, IfOk, IfErr, MatchOption, MatchResult, map, length, pos};
 ghost use Rattle.serde_json.specs.View.{view};
 ghost use Rattle.dt_machine.specs.Given.{items_of};
 ghost use Rattle.dt_machine.specs.Found.{IsFoundOfFiring, IsFoundAt, IsFoundIn};

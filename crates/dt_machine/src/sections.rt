@@ -1,5 +1,5 @@
 //! What the file says but for its scripts: the registry of a machine, and what is found in it.
-ghost use Rattle.std.specs.Prelude.{◌≡◌, ◌↔◌, ◌≤◌, ℕ, IsTrue, IfOk, IfErr, Some, MatchOption, map, length, codes};
+ghost use Rattle.std.specs.Prelude.{◌≡◌, ◌↔◌, ◌≤◌, ℕ, IsTrue, IfOk, IfErr, Some, MatchOption, map, length};
 ghost use Rattle.std.specs.Option.{option_copied};
 ghost use Rattle.serde_json.specs.View.{view};
 ghost use Rattle.dt_machine.specs.Reading.{cpus_in, Passes, IsFirstFinding, IsScriptFault, IsFoundOfScripts, AllRightIn};

@@ -17,6 +17,10 @@ carriage_return = 13
 abbrev pub space : ℕ
 space = 32
 
+-- `!`, the first visible one
+abbrev pub exclamation_mark : ℕ
+exclamation_mark = 33
+
 -- `"`
 abbrev pub quote : ℕ
 quote = 34
@@ -84,3 +88,7 @@ open_brace = 123
 -- `}`
 abbrev pub close_brace : ℕ
 close_brace = 125
+
+-- `~`, the last visible one
+abbrev pub tilde : ℕ
+tilde = 126

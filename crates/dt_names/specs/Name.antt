@@ -1,12 +1,12 @@
 -- What a name is.
 use Rattle.std.specs.Prelude.{◌≢◌, ℕ, ◌≤◌, List, length, All}
-use Rattle.dt_names.specs.Bytes.{colon, comma, slash, open_brace, close_brace, quote}
+use Rattle.dt_names.specs.Bytes.{exclamation_mark, quote, comma, slash, colon, open_brace, close_brace, tilde}
 use Rattle.dt_names.specs.Limits.{name_max}
 
 -- A name byte is a visible ASCII character, but none of : , / { } and the double quote.
 pub record IsNameByte (byte : ℕ) : Type 0 where
-  pub above_blanks : 33 ≤ byte
-  pub below_delete : byte ≤ 126
+  pub above_blanks : exclamation_mark ≤ byte
+  pub below_delete : byte ≤ tilde
   pub no_colon : byte ≢ colon
   pub no_comma : byte ≢ comma
   pub no_slash : byte ≢ slash

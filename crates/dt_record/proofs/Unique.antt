@@ -12,7 +12,7 @@ use Rattle.dt_expr.specs.Operators.{wrapped}
 use Rattle.dt_record.specs.Layout.{FieldForm}
 use Rattle.dt_record.specs.Layout as layout
 use Rattle.dt_record.specs.Split as split
-use Rattle.dt_record.specs.Split.{RecordedForm, RecordForm, AreFrames, FitsField, FitAll, IsFrame, IsRecordOf, IsSplit}
+use Rattle.dt_record.specs.Split.{RecordedForm, RecordForm, AreFrames, FitsField, FitAll, IsRecordOf, IsSplit}
 use Rattle.dt_record.specs.Split.{recorded_bytes, record_bytes}
 use Rattle.dt_record.specs.Taking.{epid_bytes, number_bytes}
 use Rattle.dt_record.specs.laws.Fitting.{fits-long}

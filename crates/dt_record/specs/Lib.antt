@@ -10,7 +10,7 @@ pub mod Split
 pub mod Records
 pub mod Showing
 pub mod Within
--- Private to the proofs: no promise names them.
+-- Private to the crate: no public contract names them.
 pub mod Left
 -- The laws of these.
 pub mod laws

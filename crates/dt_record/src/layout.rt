@@ -1,6 +1,5 @@
 //! Of what a clause's record is made.
 ghost use Rattle.std.specs.Prelude.{◌≡◌, ◌≤◌, ◌*◌, Some, None, length, map, sum};
-ghost use Rattle.arrayvec.specs.ArrayVec.{array_vec_len};
 ghost use Rattle.std.specs.Option.{option_map};
 ghost use Rattle.dt_program.specs.Clause.{form_of_clause, form_of_statement};
 ghost use Rattle.dt_program.specs.declared.clause.TheConstants.{STATEMENTS_MAX};

@@ -1,5 +1,5 @@
 //! What a clause's arguments, keys and aggregating statements are worth.
-ghost use Rattle.std.specs.Prelude.{◌≡◌, ◌+◌, ◌≤◌, ◌++◌, ℕ, List, Some, None, MatchResult, OnOk, OnErr, ◌∷◌, [], length, map};
+ghost use Rattle.std.specs.Prelude.{◌≡◌, ◌+◌, ◌≤◌, ◌++◌, List, Some, None, MatchResult, OnOk, OnErr, length, map};
 ghost use Rattle.arrayvec.specs.ArrayVec.{array_vec_len};
 ghost use Rattle.dt_expr.specs.Scene.{scene_of, padded, text_bytes};
 ghost use Rattle.dt_expr.specs.declared.text.Value.{Value as ShownValue};

@@ -1,14 +1,11 @@
 //! A session over any source and any sink.
 ghost use Rattle.std.specs.Prelude.{◌≡◌, ◌≢◌, ◌<◌, ◌+◌, ◌^◌, ℕ, List, [], ◌∷◌, ◌++◌, IsTrue, IsFalse, IfSome, IfNone, take};
 ghost use Rattle.std.specs.Io.KnownBytes.{Appends, Consumes, IsAtEnd};
-ghost use Rattle.dt_hub.specs.Asking.{answer_text};
 ghost use Rattle.dt_proto.specs.Asked.{form_lent};
 ghost use Rattle.dt_proto.specs.HasRead.{HasRead};
 ghost use Rattle.dt_proto.specs.Lines.{LineForm, lines_of};
-ghost use Rattle.dt_legal.specs.Rows.{IsLegalRow};
 ghost use Rattle.dt_server.specs.Served.{HasServed};
 ghost use Rattle.dt_server.specs.Talk.{ServesOn, ServesToEnd, ComesOfAsking, IsTalk, IsOfLine, ended_after};
-ghost use Rattle.dt_trail.specs.Items.{StartsWith, own};
 
 use crate::device::{Sink, Source};
 use crate::ended::Ended;

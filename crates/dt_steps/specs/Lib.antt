@@ -7,7 +7,7 @@ pub mod Sound
 pub mod Ran
 pub mod Trails
 pub mod Stands
--- Private to the proofs: no promise names them.
+-- Private to the crate: no public contract names them.
 pub mod Ready
 pub mod Telling
 -- The laws of these.

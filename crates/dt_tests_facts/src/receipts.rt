@@ -1,5 +1,5 @@
 //! Who is told twice what a session knows, has no note of its trail, and is shown to have lost nothing.
-ghost use Rattle.std.specs.Prelude.{◌≡◌, ◌<◌, [], length};
+ghost use Rattle.std.specs.Prelude.{◌≡◌, ◌<◌, length};
 ghost use mathlib.Core.List.{IsPrefix};
 ghost use Rattle.dt_facts.specs.Facts.{nothing, items_fact, lists_in};
 ghost use Rattle.dt_facts.specs.Lives.{items_of_life};

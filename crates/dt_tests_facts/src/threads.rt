@@ -1,6 +1,5 @@
 //! A share goes to another thread, while its book lies under a lock.
 ghost use Rattle.std.specs.Prelude.{◌≡◌};
-ghost use Rattle.dt_facts.specs.Facts.{nothing};
 ghost use Rattle.dt_tests_facts.specs.Numbers.{number_fact};
 
 use crate::desk::{Desk, Which};

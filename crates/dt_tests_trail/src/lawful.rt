@@ -1,5 +1,5 @@
 //! A law that says something: an account is a number, and may have a row of at most so many items.
-ghost use Rattle.std.specs.Prelude.{◌≡◌, ◌≤◌, length};
+ghost use Rattle.std.specs.Prelude.{◌≡◌, ◌≤◌};
 ghost use Rattle.dt_trail.specs.Items.{whose};
 
 use dt_trail::{Item, Law, Trail, TrailNote, TrailOwner};

@@ -1,5 +1,5 @@
 //! A session's longest trail.
-ghost use Rattle.std.specs.Prelude.{◌≡◌, ◌<◌};
+ghost use Rattle.std.specs.Prelude.{◌<◌};
 
 use crate::writers::Writers;
 use dt_trail::{BLOCK_CELLS, TRAIL_CELLS, TRAIL_CELLS_MAX};

@@ -2,7 +2,7 @@
 ghost use Rattle.std.specs.Prelude.{◌≡◌, ◌<◌, ◌+◌, [], IfOk, OnOk};
 ghost use Rattle.dt_trail.specs.Items.{whose};
 ghost use Rattle.dt_trail.specs.Known.{AreNew, noted};
-ghost use Rattle.dt_trail.specs.Limits.{block_bound, cpu_count};
+ghost use Rattle.dt_trail.specs.Limits.{block_bound};
 
 use dt_trail::{Item, Law, Trail, TrailNote, TrailOwner, WIDENINGS_MAX};
 use std::alloc::{AllocError, Global};

@@ -13,7 +13,7 @@ use Rattle.dt_trail.specs.Blocks.{flat, before, BlockLiesAt}
 use Rattle.dt_trail.specs.Rule.{NoSlot, RowWorld, FitsRow, ShowsRow, Kept, Turn, appender, IsSet}
 use Rattle.dt_trail.specs.laws.Starts.{starts_self, starts_trans}
 use Rattle.dt_trail.proofs.Begins.{own_pushed_else, All-push}
-use Rattle.dt_trail.proofs.Flats.{flat_at, flat_set, flat_push, before_push, before_next, before_all, words_push, words_more, past}
+use Rattle.dt_trail.proofs.Flats.{flat_set, words_push}
 use Rattle.dt_trail.proofs.Fitting.{off, fits_set, Alike, alike_set, stands_alike, laid_alike, in_block}
 
 module _ {K : Type 0} (lawful : K → List TrailItem → Type 0) (root : Ptr) (acct : K) where

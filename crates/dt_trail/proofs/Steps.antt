@@ -2,7 +2,6 @@
 use Rattle.std.proofs.Common.{◌≡◌, ◌≢◌, ℕ, suc, ◌+◌, ◌<◌, ◌≤◌, ◌^◌, List, [], ◌∷◌, ◌++◌, length, true, false, refl, sym, ap, ◌∙◌, subst, arith, append_assoc, length-append, eq-eqb, ne_eqb}
 use Rattle.std.specs.Prelude.{Option, MatchBool}
 use native.Mathlib.Decide.{dec_le}
-use lib.ListN.{get_elem?}
 use denote.RawPtr.{Ptr, InBlock}
 use Rattle.atomic_blocks.specs.Cells.{Row, State, Step, step, no_row, row, cell_in, word_of, link_of, with_word, Goes, Allows, AllowsLink}
 use Rattle.dt_trail.specs.declared.door.Door.{Door}

@@ -2,7 +2,7 @@
 use Rattle.std.proofs.Common.{◌≡◌, ◌≢◌, ℕ, suc, ◌+◌, ◌-◌, ◌<◌, ◌≤◌, ◌^◌, List, [], ◌∷◌, ◌++◌, length, true, false, sym, ap, ◌∙◌, subst, arith, ne_eqb}
 use Rattle.std.specs.Prelude.{Option, Some, MatchBool}
 use denote.RawPtr.{Ptr, InBlock}
-use Rattle.atomic_blocks.specs.Cells.{Cell, Row, Me, Step, me, step, row_at, cell_in, Allows, AllowsLink, Splits, Joins}
+use Rattle.atomic_blocks.specs.Cells.{Cell, Step, me, step, row_at, cell_in, Allows, AllowsLink, Splits, Joins}
 use Rattle.dt_trail.specs.declared.rule.About.{About}
 use Rattle.dt_trail.specs.declared.door.Door.{Door}
 use Rattle.dt_trail.specs.declared.rule.Extent.{Extent}

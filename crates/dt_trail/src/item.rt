@@ -1,5 +1,5 @@
 //! What a cell stands for.
-ghost use Rattle.std.specs.Prelude.{◌≡◌, ◌<◌, ◌^◌};
+ghost use Rattle.std.specs.Prelude.{◌≡◌, ◌<◌};
 ghost use Rattle.dt_trail.specs.Limits.{cpu_count};
 
 use std::marker::Model;

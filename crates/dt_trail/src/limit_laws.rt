@@ -1,5 +1,5 @@
 //! The limits that the code keeps are those of the definitions.
-ghost use Rattle.std.specs.Prelude.{◌≡◌, ◌<◌, ◌+◌, ◌*◌};
+ghost use Rattle.std.specs.Prelude.{◌≡◌, ◌+◌, ◌*◌};
 ghost use Rattle.dt_trail.specs.Limits.{cpu_count, block_bound, widenings, opening_cells, block_cells, longest};
 
 use crate::limits::{

@@ -1,5 +1,5 @@
 //! What a seat does at the row.
-ghost use Rattle.std.specs.Prelude.{◌≡◌, ◌≢◌, ◌<◌, ◌≤◌, ◌+◌, ◌++◌, ◌==◌, ◌^◌, [], ◌∷◌, ℕ, List, length, true, false, Some, None, MatchBool, MatchOption};
+ghost use Rattle.std.specs.Prelude.{◌≡◌, ◌<◌, ◌≤◌, ◌+◌, ◌++◌, ◌==◌, ◌^◌, [], ◌∷◌, length, true, false, Some, None, MatchBool, MatchOption};
 ghost use denote.RawPtr.{null_ptr, InBlock};
 ghost use Rattle.atomic_blocks.specs.Cells.{me, AllHome};
 ghost use Rattle.dt_trail.specs.Blocks.{Blank};

@@ -1,5 +1,5 @@
 //! Who follows a row.
-ghost use Rattle.std.specs.Prelude.{◌≡◌, ◌<◌, ◌^◌, ◌==◌, [], length, MatchOption, Some, None};
+ghost use Rattle.std.specs.Prelude.{◌≡◌, ◌<◌, ◌^◌, [], length, MatchOption, Some, None};
 ghost use Rattle.std.specs.Arc.{arc_value};
 ghost use Rattle.atomic_blocks.specs.Cells.{me};
 ghost use Rattle.dt_trail.specs.Insides.{row_of, IsDoor, OfRow};

@@ -1,8 +1,8 @@
 //! A new row.
-ghost use Rattle.std.specs.Prelude.{◌≡◌, ◌<◌, ◌+◌, ◌^◌, [], IfOk, OnOk, Some, None};
+ghost use Rattle.std.specs.Prelude.{◌≡◌, ◌<◌, ◌+◌, [], IfOk, OnOk, Some, None};
 ghost use Rattle.std.specs.Arc.{arc_value};
 ghost use Rattle.atomic_blocks.specs.Cells.{me};
-ghost use Rattle.dt_trail.specs.Rule.{maker as maker_view, owner, first_door, first_extent};
+ghost use Rattle.dt_trail.specs.Rule.{maker as maker_view, owner, first_extent};
 ghost use Rattle.dt_trail.specs.Insides.{OfRow, IsDoor, row_of as name_of};
 ghost use Rattle.dt_trail.specs.Known.{noted};
 ghost use Rattle.dt_trail.specs.Limits.{block_bound};
@@ -44,7 +44,7 @@ impl Trail {
             let note = next_note(&inner, &mut maker, door)?;
             made.push(note)?;
         }
-        let right = end_maker(&inner, &mut maker, door);
+        let right = end_maker(&inner, &mut maker);
         Ok((TrailOwner::of(inner, right, door, cells), made))
     }
 }
@@ -102,11 +102,11 @@ fn next_note<K: Drop, L: Law<K>>(
 }
 
 // The maker ends, and the owner begins.
-fn end_maker<K, L: Law<K>>(inner: &Inner<K, L>, maker: &mut RowSeat<K>, door: Door) -> RowSeat<K>
+fn end_maker<K, L: Law<K>>(inner: &Inner<K, L>, maker: &mut RowSeat<K>) -> RowSeat<K>
     requires row { OfRow inner.now maker.old }
-    requires view { maker.old.me ≡ me (maker_view (Some inner.now.about.account) maker.old.me.view.note door maker.old.me.view.extent) None None }
+    requires view { maker.old.me ≡ me (maker_view (Some inner.now.about.account) maker.old.me.view.note maker.old.me.view.door maker.old.me.view.extent) None None }
     ensures row { (result.rows ≡ maker.old.rows) × (result.heap ≡ maker.old.heap) }
-    ensures view { result.me ≡ me (owner (Some inner.now.about.account) [] door maker.old.me.view.extent) None None }
+    ensures view { result.me ≡ me (owner (Some inner.now.about.account) [] maker.old.me.view.door maker.old.me.view.extent) None None }
 {
     let root = inner.about.root;
     inner.rows.split_seat::<Opens>(maker, ROOT, root)

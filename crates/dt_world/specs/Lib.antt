@@ -13,7 +13,7 @@ pub mod Told
 pub mod Faults
 pub mod Replaying
 pub mod Orderly
--- Private to the proofs: no promise names them.
+-- Private to the crate: no public contract names them.
 pub mod Words
 pub mod Progress
 -- The laws of these.

@@ -37,7 +37,7 @@ use Rattle.dt_lang.specs.Reads.{IsProgram}
 use Rattle.dt_lang.specs.Refused.{because, IsTooLong, IsForStatement, GoesOn, fits, taken, IsOperand, OperandStands}
 use Rattle.dt_lang.specs.Refused.{NoneRefused}
 use Rattle.dt_lang.specs.Refused as refused
-use Rattle.dt_lang.specs.Stand.{HeadStands, BodyStands, KeysStand, TargetStands, Slot, predicate, traced, exited, key, value}
+use Rattle.dt_lang.specs.Stand.{BodyStands, KeysStand, TargetStands, Slot, predicate, traced, exited, key, value}
 use Rattle.dt_lang.specs.Stand.{divides_in, SlotOpens, a_predicate, an_argument, a_status, first_key, a_value}
 use Rattle.dt_lang.specs.Stand as stand
 use Rattle.dt_lang.specs.laws.ExpressionSound.{loosen}

@@ -7,6 +7,7 @@ use Rattle.dt_expr.specs.Operators.{wrapped}
 use Rattle.dt_program.specs.declared.description.Description.{Description}
 use Rattle.dt_program.specs.declared.description.DescriptionFault.{DescriptionFault}
 use Rattle.dt_lang.specs.declared.fault.Limit.TheVariants.{StringBytes, NameBytes}
+use Rattle.dt_names.specs.Bytes.{quote, asterisk, comma, slash, at_sign, open_brace}
 use Rattle.dt_names.specs.Limits.{short_text_max}
 use Rattle.dt_lang.specs.declared.mode.LexerMode.{LexerMode}
 use Rattle.dt_lang.specs.declared.mode.LexerMode.TheVariants.{Head, Predicate, Tail, Body}
@@ -27,7 +28,7 @@ use Rattle.dt_lang.specs.Word.{IsWord}
 -- what the first byte of a piece in a body or a predicate says of it
 abbrev pub start_of : ℕ → Start
 start_of byte = if is_ascii_digit byte then start.Digit else (if is_word_byte byte then start.Letter
-    else (if byte == 34 then start.Quote else (if byte == 64 then start.At else start.Other)))
+    else (if byte == quote then start.Quote else (if byte == at_sign then start.At else start.Other)))
 
 -- the identifier at the front of the text, if one stands there: the longest run, which no digit begins
 abbrev pub identifier_at : List ℕ → List ℕ
@@ -47,7 +48,7 @@ NumberOf run _ = ⊥
 -- a string after its opening `"`, whose bytes these are
 abbrev pub string_piece : List ℕ → List ℕ → Piece
 string_piece bytes rest = if nat_lt short_text_max (length bytes) then piece.Overlong StringBytes (length bytes + 1)
-    else (if slice_index rest (length bytes) == 34 then piece.Token (token.String bytes) (length bytes + 2)
+    else (if slice_index rest (length bytes) == quote then piece.Token (token.String bytes) (length bytes + 2)
     else piece.Stray)
 
 -- an aggregation's name after its `@`
@@ -82,9 +83,9 @@ FindsInBody text found = FindsAs (start_of (slice_index text 0)) text found
 
 -- the signs of a head
 abbrev pub head_sign : ℕ → Piece
-head_sign byte = if byte == 44 then piece.Token (token.Sign sign.Comma) 1
-    else (if byte == 47 then piece.Token (token.Sign sign.Slash) 1
-    else (if byte == 123 then piece.Token (token.Sign sign.OpenBrace) 1 else piece.Stray))
+head_sign byte = if byte == comma then piece.Token (token.Sign sign.Comma) 1
+    else (if byte == slash then piece.Token (token.Sign sign.Slash) 1
+    else (if byte == open_brace then piece.Token (token.Sign sign.OpenBrace) 1 else piece.Stray))
 
 -- a run of bytes of a description is read as it is, or as none
 abbrev pub FindsDescription : List ℕ → Piece → Type 0
@@ -101,7 +102,7 @@ FindsInHead text found = FindsRun (take_while is_description_byte text) text fou
 
 -- whether a comment begins at the front of a text
 abbrev pub opens_comment : List ℕ → Bool
-opens_comment text = slice_index text 0 == 47 && slice_index text 1 == 42
+opens_comment text = slice_index text 0 == slash && slice_index text 1 == asterisk
 
 abbrev pub FindsInMode : LexerMode → List ℕ → Piece → Type 0
 FindsInMode Head text found = FindsInHead text found

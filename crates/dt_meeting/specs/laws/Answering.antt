@@ -3,13 +3,13 @@ use Rattle.std.proofs.Common.{◌≡◌, ◌↔◌, ℕ, Bool, true, false, cond
 use Rattle.std.specs.Option.{option_map, option_map_or, option_to_list}
 use Rattle.dt_cred.specs.declared.account.Account.{Account}
 use Rattle.dt_cred.specs.declared.firing.Firing.{Firing}
-use Rattle.dt_legal.specs.Rows.{IsLegalRow, life_of_row, past_of, told_as}
+use Rattle.dt_legal.specs.Rows.{IsLegalRow, life_of_row, past_of}
 use Rattle.dt_legal.specs.laws.Beginning.{legal_beginning, past_of_last}
 use Rattle.dt_life.specs.Answer.{Answer}
 use Rattle.dt_life.specs.Life.{Item}
 use Rattle.dt_life.specs.Tests.{is_seen}
 use Rattle.dt_machine.specs.Registry.{Contents, firing_at}
-use Rattle.dt_meeting.specs.Sharing.{is_seen_after, seen_row, seen_with}
+use Rattle.dt_meeting.specs.Sharing.{is_seen_after, seen_row}
 use Rattle.dt_meeting.specs.laws.Seen.{seen_last, seen_starts}
 use Rattle.dt_proto.specs.Alone.{Alone, Reached, firing_made, own_line}
 use Rattle.dt_proto.specs.Lines.{line_form}

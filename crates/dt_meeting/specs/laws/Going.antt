@@ -6,13 +6,11 @@ use Rattle.dt_cred.specs.declared.firing.Firing.{Firing}
 use Rattle.dt_ecb.specs.Ecbs.{ecbs_of}
 use Rattle.dt_legal.specs.Rows.{IsGoAfter, IsLegalRow, life_of_row, line_form_of}
 use Rattle.dt_legal.specs.laws.Beginning.{past_of_last}
-use Rattle.dt_life.specs.Acceptance.{IsAcceptedGo}
 use Rattle.dt_life.specs.Ask.{Ask, go, close}
 use Rattle.dt_life.specs.Life.{Item, SetUp, asked, ecbs, happens, has_room, is_inactive, is_over, phase, phase_of, set_up, since_then}
 use Rattle.dt_life.specs.Life.{fired as fired_item}
 use Rattle.dt_life.specs.Takings.{began}
 use Rattle.dt_life.specs.Tests.{is_accepted_go}
-use Rattle.dt_life.specs.declared.phase.End.{End}
 use Rattle.dt_life.specs.declared.phase.Phase.{Phase}
 use Rattle.dt_life.specs.declared.phase.Phase.TheVariants.{Inactive, Active, Stopped}
 use Rattle.dt_life.specs.declared.refusal.Refusal.{Refusal}

@@ -5,7 +5,7 @@ use Rattle.std.specs.Prelude.{fold}
 use Rattle.std.specs.Option.{option_map_or}
 use Rattle.dt_cred.specs.declared.account.Account.{Account}
 use Rattle.dt_cred.specs.declared.firing.Firing.{Firing}
-use Rattle.dt_legal.specs.Rows.{IsLegalRow, life_of_row, past_of, told_as}
+use Rattle.dt_legal.specs.Rows.{IsLegalRow, life_of_row}
 use Rattle.dt_legal.specs.laws.Beginning.{legal_beginning, past_of_last}
 use Rattle.dt_legal.specs.laws.Starts.{starts_more}
 use Rattle.dt_life.specs.Sees.{Sees}

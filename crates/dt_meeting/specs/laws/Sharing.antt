@@ -1,5 +1,5 @@
 -- How a shared row grows.
-use Rattle.std.proofs.Common.{◌≡◌, ◌≢◌, ◌≤◌, ◌+◌, ◌⊎◌, ℕ, zero, suc, Bool, true, false, cond, List, [], ◌∷◌, ◌++◌, Option, Some, None, length, refl, sym, ap, ◌∙◌, subst, ⊎_elim, inl, inr, arith, append-nil, append_assoc}
+use Rattle.std.proofs.Common.{◌≡◌, ◌≤◌, ◌+◌, ◌⊎◌, ℕ, zero, suc, Bool, true, false, cond, List, [], ◌∷◌, ◌++◌, Some, None, length, refl, sym, ap, ◌∙◌, subst, ⊎_elim, inl, inr, arith, append-nil, append_assoc}
 use Rattle.std.proofs.lemmas.List.{length-append}
 use Rattle.std.specs.List.{AllByRecursion}
 use Rattle.std.specs.Prelude.{slice_get}
@@ -7,7 +7,7 @@ use Rattle.dt_cred.specs.declared.account.Account.{Account}
 use Rattle.dt_legal.specs.Rows.{IsLegalRow}
 use Rattle.dt_legal.specs.laws.Starts.{own_both, own_here, own_elsewhere}
 use Rattle.dt_machine.specs.Registry.{Contents}
-use Rattle.dt_meeting.specs.Sharing.{IsShared, StandsAfter, firings_from, is_seen_after, seen_row, seen_with}
+use Rattle.dt_meeting.specs.Sharing.{IsShared, StandsAfter, firings_from, is_seen_after, seen_with}
 use Rattle.dt_meeting.specs.laws.Seen.{seen_last, seen_more}
 use Rattle.dt_trail.specs.Items.{TrailItem, fired, own}
 

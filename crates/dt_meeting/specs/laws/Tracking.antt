@@ -1,12 +1,12 @@
 -- What a processor keeps track of, as it fires, is told and meets.
-use Rattle.std.proofs.Common.{◌≡◌, ◌≢◌, ◌≤◌, ◌+◌, ◌⊎◌, ℕ, Bool, true, false, cond, List, [], ◌∷◌, ◌++◌, Some, length, refl, sym, ap, ◌∙◌, subst, ⊎_elim, inl, inr, arith, append-nil, append_assoc}
+use Rattle.std.proofs.Common.{◌≡◌, ◌≢◌, ◌≤◌, ◌+◌, ◌⊎◌, ℕ, true, false, List, [], ◌∷◌, ◌++◌, Some, length, refl, sym, ap, ◌∙◌, subst, ⊎_elim, inl, inr, arith, append-nil, append_assoc}
 use Rattle.std.proofs.lemmas.List.{length-append}
 use Rattle.std.specs.List.{AllByRecursion}
 use mathlib.Core.List.{IsPrefix}
 use Rattle.dt_chain.specs.Writes.{Write}
 use Rattle.dt_cred.specs.declared.account.Account.{Account}
 use Rattle.dt_cred.specs.declared.firing.Firing.{Firing}
-use Rattle.dt_ecb.specs.Ecbs.{EcbForm, of_probe}
+use Rattle.dt_ecb.specs.Ecbs.{of_probe}
 use Rattle.dt_legal.specs.Rows.{IsLegalRow, life_of_row}
 use Rattle.dt_legal.specs.laws.Starts.{rest_has_none}
 use Rattle.dt_life.specs.Life.{ecbs}

@@ -18,9 +18,9 @@ use Rattle.dt_expr.specs.declared.text.Text.{Text}
 use Rattle.dt_expr.specs.declared.text.Text.TheVariants.{Literal, Variable}
 use Rattle.dt_expr.specs.declared.text.Value.{Value}
 use Rattle.dt_expr.specs.declared.text.Value.TheVariants as val
-use Rattle.dt_program.specs.Clause.{ArgForm, CallForm, ClauseForm, StatementForm}
+use Rattle.dt_program.specs.Clause.{ClauseForm, StatementForm}
 use Rattle.dt_program.specs.Clause as program
-use Rattle.dt_record.specs.Layout.{FieldForm, field_of, fields_of, field_size, layout_of, layout_size}
+use Rattle.dt_record.specs.Layout.{FieldForm, fields_of, field_size, layout_of, layout_size}
 use Rattle.dt_record.specs.Layout as layout
 use Rattle.dt_record.specs.Split as split
 use Rattle.dt_record.specs.Split.{RecordedForm, RecordForm, AreFrames, FitsField, FitAll, IsFrame, IsRecordOf, IsSplit}

@@ -1,5 +1,5 @@
 -- A row begins with itself, and with the beginnings of its beginnings.
-use Rattle.std.proofs.Common.{◌≡◌, List, [], ◌++◌, sym, ap, ◌∙◌, append-nil, append_assoc}
+use Rattle.std.proofs.Common.{List, [], ◌++◌, sym, ap, ◌∙◌, append-nil, append_assoc}
 use Rattle.dt_trail.specs.Items.{StartsWith, TrailItem}
 
 pub starts_self : (row : List TrailItem) → StartsWith row row

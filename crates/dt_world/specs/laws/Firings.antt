@@ -1,5 +1,5 @@
 -- A look and its offers leave an orderly world orderly.
-use Rattle.std.proofs.Common.{◌≡◌, ◌≢◌, ℕ, ◌+◌, ◌<◌, ◌≤◌, ◌==◌, ◌&&◌, Bool, true, false, cond, List, [], ◌∷◌, Option, Some, None}
+use Rattle.std.proofs.Common.{◌≡◌, ◌≢◌, ℕ, ◌+◌, ◌<◌, ◌≤◌, ◌==◌, ◌&&◌, Bool, true, false, cond, Option, Some, None}
 use Rattle.std.proofs.Common.{◌⊎◌, nat_lt, length, refl, sym, ap, ◌∙◌, subst, arith, inl, inr}
 use Rattle.std.proofs.lemmas.Bool.{cond_both, both_ways, eqb-true, eq-eqb}
 use Rattle.std.proofs.lemmas.Bool.Decides.{eqb_tells}
@@ -8,12 +8,12 @@ use Rattle.std.specs.Option.{option_map, option_map_or}
 use Rattle.dt_chain.specs.Tests.{mask_of}
 use Rattle.dt_cred.specs.declared.firing.Firing.{Firing}
 use Rattle.dt_machine.specs.Registry.{Registry, Contents, firing_at}
-use Rattle.dt_proto.specs.Alone.{Reached, own_line, firing_made}
-use Rattle.dt_proto.specs.Brought.{IsBrought, IsLower}
+use Rattle.dt_proto.specs.Alone.{firing_made}
+use Rattle.dt_proto.specs.Brought.{IsLower}
 use Rattle.dt_steps.specs.Steps.{is_done, passed, looking_at, looking, offered, offering_of, offering}
 use Rattle.dt_steps.specs.World.{World, Session, Place, DueOffer, reached}
 use Rattle.dt_world.specs.Orderly.{IsOrderly, IsOrderlyOffer, IsOrderlySeat, IsOrderlyWorld}
-use Rattle.dt_world.specs.laws.Orderly.{all_weaker, all_lower_more, opt_case, seat_raised}
+use Rattle.dt_world.specs.laws.Orderly.{opt_case, seat_raised}
 
 same_due : (a b : DueOffer) → Some a ≡ Some b → a ≡ b
 same_due a b e = ap (λ o. option_map_or (λ d. d) o a) e

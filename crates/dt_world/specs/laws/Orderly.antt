@@ -1,22 +1,19 @@
 -- Each step leaves an orderly world orderly.
-use Rattle.std.proofs.Common.{◌≡◌, ◌≢◌, ℕ, ◌+◌, ◌<◌, ◌≤◌, ◌==◌, ◌&&◌, Bool, true, false, cond, List, [], ◌∷◌, Option, Some, None}
-use Rattle.std.proofs.Common.{is_none, nat_lt, length, refl, sym, ap, ◌∙◌, subst, arith}
-use Rattle.std.proofs.lemmas.Bool.{cond_both, both_ways, eqb-true, eq-eqb, and_parts}
-use Rattle.std.proofs.lemmas.Bool.Decides.{eqb_tells}
+use Rattle.std.proofs.Common.{◌≡◌, ℕ, ◌≤◌, ◌==◌, ◌&&◌, Bool, true, false, cond, List, [], ◌∷◌, Option, Some, None}
+use Rattle.std.proofs.Common.{is_none, nat_lt, refl, ap, subst, arith}
+use Rattle.std.proofs.lemmas.Bool.{cond_both, eqb-true}
 use Rattle.std.specs.List.{AllByRecursion}
-use Rattle.std.specs.Option.{option_map, option_map_or}
+use Rattle.std.specs.Option.{option_map_or}
 use Rattle.dt_chain.specs.Limits.{seat_count}
-use Rattle.dt_chain.specs.Tests.{mask_of}
 use Rattle.dt_cred.specs.declared.account.Account.{Account}
-use Rattle.dt_cred.specs.declared.firing.Firing.{Firing}
-use Rattle.dt_machine.specs.Registry.{Registry, Contents, firing_at}
+use Rattle.dt_machine.specs.Registry.{Registry, Contents}
 use Rattle.dt_proto.specs.Alone.{Reached, own_line, firing_made}
-use Rattle.dt_proto.specs.Brought.{IsBrought, IsInForm, IsLower, IsOneLine}
+use Rattle.dt_proto.specs.Brought.{IsInForm, IsLower, IsOneLine}
 use Rattle.dt_proto.specs.Lines.{LineForm}
 use Rattle.dt_proto.specs.Session.{session_account}
 use Rattle.dt_steps.specs.Steps.{with_place, with_session, answering, opening, asking, publishing, publishing_of, finishing}
-use Rattle.dt_steps.specs.Steps.{withdrawing, is_done, passed, looking_at, looking, offered, offering_of, offering, closing}
-use Rattle.dt_steps.specs.World.{World, Session, Place, Pending, DueOffer, new_session, reached, answered, waiting, may_ask}
+use Rattle.dt_steps.specs.Steps.{withdrawing, closing}
+use Rattle.dt_steps.specs.World.{World, Session, Place, Pending, DueOffer, new_session, answered, waiting, may_ask}
 use Rattle.dt_steps.specs.World.{accepts_go, may_withdraw}
 use Rattle.dt_world.specs.Orderly.{IsOrderly, IsOrderlyOffer, IsOrderlySeat, IsOrderlyWorld}
 

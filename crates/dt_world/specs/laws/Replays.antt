@@ -1,6 +1,6 @@
 -- The sessions of a replay are orderly, so the trail of one is the trail of a view that the machine can bring.
 use Rattle.std.proofs.Common.{◌≡◌, ◌≢◌, ℕ, ◌+◌, ◌==◌, ◌&&◌, Bool, true, false, cond, List, [], ◌∷◌, ◌++◌, codes, decimal, Option, Some, None}
-use Rattle.std.proofs.Common.{filter, fold, is_some, length, map, nat_lt, refl, sym, ap, ◌∙◌, subst, arith}
+use Rattle.std.proofs.Common.{filter, fold, is_some, length, map, nat_lt, refl, sym, ap, subst}
 use Rattle.std.proofs.lemmas.Bool.{ltb-false}
 use Rattle.std.proofs.Math.Seq.{drop-append_seam}
 use Rattle.std.proofs.lemmas.List.Elements.{All-drop}
@@ -8,21 +8,21 @@ use Rattle.std.specs.List.{AllByRecursion}
 use Rattle.std.specs.Option.{option_map_or}
 use Rattle.dt_cred.specs.declared.firing.Firing.{Firing}
 use Rattle.dt_machine.specs.Registry.{Registry, Contents, IsSound, IsInScript, firing_at}
-use Rattle.dt_proto.specs.Brought.{IsBrought, IsInForm, IsOneLine}
+use Rattle.dt_proto.specs.Brought.{IsInForm, IsOneLine}
 use Rattle.dt_proto.specs.Limits.{line_max}
-use Rattle.dt_proto.specs.Lines.{LineForm, short_line, long_line, line_form}
+use Rattle.dt_proto.specs.Lines.{short_line, long_line, line_form}
 use Rattle.dt_proto.specs.Splits.{HasNoNewline}
 use Rattle.dt_proto.specs.laws.Splitting.{splits}
-use Rattle.dt_steps.specs.Steps.{StepForm, offers, looks, publishes, finishes, withdraws, closes, after_step, asking, looking, is_done}
+use Rattle.dt_steps.specs.Steps.{offers, looks, publishes, finishes, withdraws, closes, after_step, asking, looking, is_done}
 use Rattle.dt_steps.specs.Steps.{publishing, withdrawing}
-use Rattle.dt_steps.specs.World.{World, Session, Place, DueOffer, new_world, session_numbered, sessions_on, session_of, waits, has_closed}
+use Rattle.dt_steps.specs.World.{World, Session, Place, DueOffer, session_numbered, sessions_on, session_of, waits, has_closed}
 use Rattle.dt_world.specs.Input.{AreStepLines, input_lines, is_written}
 use Rattle.dt_world.specs.Orderly.{IsOrderly, IsOrderlySeat, IsOrderlyWorld}
-use Rattle.dt_world.specs.Replay.{Replayed, beginning, seats_due, firing_steps, after_ask, next_of, steps_of_line, takes_firing, after_step_line, replayed}
+use Rattle.dt_world.specs.Replay.{Replayed, beginning, seats_due, firing_steps, next_of, after_step_line, replayed}
 use Rattle.dt_world.specs.StepLine.{StepLineForm, open_line, close_line, withdraw_line, ask_line, publish_line, finish_line}
 use Rattle.dt_world.specs.StepLine.{look_line, offer_line, call_line, fire_line, step_line_text}
 use Rattle.dt_world.specs.laws.Firings.{one_more, offering_orderly, looking_orderly}
-use Rattle.dt_world.specs.laws.Orderly.{seat_raised, opening_orderly, asking_orderly, publishing_orderly, finishing_orderly}
+use Rattle.dt_world.specs.laws.Orderly.{opening_orderly, asking_orderly, publishing_orderly, finishing_orderly}
 use Rattle.dt_world.specs.laws.Orderly.{withdrawing_orderly, closing_orderly, opt_case}
 
 -- the form of a line that stands in an input

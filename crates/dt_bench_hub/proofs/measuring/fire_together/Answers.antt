@@ -2,7 +2,7 @@
 use denote.Exit.{no}
 use denote.Param.{param}
 use denote.Param.Send.{IsSend, IsSync, mut_send, sendable, shr_send}
-use denote.Ref.{MutRef, NamedLft, ShrRef}
+use denote.Ref.{MutRef, ShrRef}
 use mathlib.Core.List.{[], ◌∷◌}
 use Rattle.dt_hub.proofs.cpu_seat.CpuSeat.TheSendSync as cpu_seat_crossing
 use Rattle.dt_hub.specs.contracts.cpu_seat.CpuSeat as cpu_seat

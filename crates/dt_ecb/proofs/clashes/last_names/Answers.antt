@@ -3,7 +3,6 @@ use Rattle.std.proofs.Common.{◌≡◌, ◌+◌, ◌-◌, ◌++◌, ◌∙◌, 
 use Rattle.std.specs.List.{list_any}
 use Rattle.std.proofs.lemmas.List.{take_all, length-drop}
 use Rattle.std.specs.Str.{bytes_eq}
-use Rattle.dt_ecb.specs.Forms.{form_of_shape}
 use Rattle.dt_ecb.specs.Shapes.{ShapeForm}
 use Rattle.dt_ecb.proofs.ClashLemmas.{forms, count_same, count_more}
 use Rattle.dt_ecb.proofs.clashes.last_names.Goals as goal

@@ -1,5 +1,5 @@
 -- A `close` is the last of the lines, and its reply the last of the text.
-use Rattle.std.proofs.Common.{List, [], ◌∷◌, ◌++◌, true, length, map, sym, ap, ◌∙◌}
+use Rattle.std.proofs.Common.{[], ◌∷◌, ◌++◌, true, length, map, sym, ap, ◌∙◌}
 use Rattle.std.proofs.lemmas.List.{map-append}
 use Rattle.dt_legal.specs.Rows.{line_form_of}
 use Rattle.dt_proto.specs.Reply.{reply_text}

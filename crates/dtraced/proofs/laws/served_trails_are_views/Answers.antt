@@ -1,7 +1,6 @@
 -- What was served is a legal trail whose lines end at an accepted `close`, which is the seen view of a session.
-use Rattle.std.proofs.Common.{◌≡◌, List, map, ap, sym, ◌∙◌}
+use Rattle.std.proofs.Common.{◌≡◌, map, ap, sym, ◌∙◌}
 use Rattle.dt_legal.specs.Rows.{past_of, told_as}
-use Rattle.dt_life.specs.Answer.{Answer}
 use Rattle.dt_proto.specs.Reply.{reply_text}
 use Rattle.dt_proto.specs.Told.{view_by}
 use Rattle.dt_proto.specs.laws.Views.{one_alone}

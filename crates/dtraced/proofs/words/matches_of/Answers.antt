@@ -1,8 +1,7 @@
 -- clap says of the command that is built what it says of the definition's.
 use Rattle.std.proofs.Common.{inl, inr, subst, refl, ◌≡◌, true, List, [], map, ℕ}
 use Rattle.std.specs.Borrow.{Bor}
-use Rattle.clap.specs.Words.{App, HasMatchesOf, HasKind, fault_of, is_simple_and_free}
-use Rattle.dtraced.specs.Words.{program}
+use Rattle.clap.specs.Words.{HasMatchesOf, HasKind, fault_of, is_simple_and_free}
 use Rattle.dtraced.proofs.words.matches_of.Goals as goal
 
 pub returns-in-Ok-try_get_matches_from-clause-ok :

@@ -1,5 +1,5 @@
 -- What a clause left is listed.
-use Rattle.std.proofs.Common.{◌≡◌, ◌∷◌, [], get_or, map, refl, sym, ap, ◌∙◌, subst}
+use Rattle.std.proofs.Common.{◌≡◌, ◌∷◌, [], map, refl, sym, ap, ◌∙◌, subst}
 use Rattle.dt_ecb.specs.Forms.{shapes_of}
 use Rattle.dt_expr.specs.Scene.{SceneForm}
 use Rattle.dt_lang.specs.Program.{form_of_clause}
