@@ -107,7 +107,8 @@ impl<J: HubSite> Hub<J> {
         }
     }
 
-    /// Ends a session. Its seat is free then, and what it published is withdrawn.
+    /// Ends a session. Its seat is free then, and what it published is withdrawn, unless there is no memory for that: it then stays until the next write of a seat,
+    /// and names a life that sees nothing.
     pub fn close<R: Wait>(&self, rt: &R, session: Session<J>) {
         let seat = session.seat();
         let number = seat.number();

@@ -4,6 +4,7 @@ use Rattle.atomic_table.specs.Seated.{TableId}
 use Rattle.dt_cred.specs.declared.account.Account.{Account}
 use Rattle.dt_facts.specs.Handles.{BegunLists, HeldFact}
 use Rattle.dt_facts.specs.Lives.{IsOpenAs, IsRowOfLife, known_more}
+use Rattle.dt_facts.specs.declared.fact.Fact.{Fact}
 use Rattle.dt_facts.specs.declared.fact.LifeItem.{LifeItem}
 use Rattle.dt_facts.specs.declared.fact.LifeStep.{LifeStep}
 use Rattle.dt_facts.specs.laws.Items.{items_known, items_of_others}
@@ -31,6 +32,12 @@ pub one_open : (steps : List LifeStep) (life other : ℕ) (row theirs : Named Ac
 one_open steps life other row theirs a b =
     let same : life ≡ other = omega (arith, a.0, b.0) in
     (same, one_row steps other row theirs (subst (λ (l : ℕ). IsRowOfLife l row steps) same a.1) b.1)
+
+-- the life of the session that is open on a seat is the seat's, as both hold one fact
+pub one_life : (book share : Fact) (life other : ℕ) (row theirs : Named Account) → book ≡ share → IsOpenAs life row (steps_in book)
+    → IsOpenAs other theirs (steps_in share) → other ≡ life
+one_life book share life other row theirs same here there =
+    (one_open (steps_in share) other life theirs row there (subst (λ (f : Fact). IsOpenAs life row (steps_in f)) same here)).0
 
 pub unknown_on : (life : ℕ) (list : List LifeItem) (knows : List TrailItem) → AreUnknownFrom (life + 1) list
     → AreUnknownFrom (life + 1) (known_more life knows list)

@@ -1,15 +1,15 @@
 -- What is to be shown of `ask`.
-use Rattle.std.proofs.Common.{◌≡◌, List, Some, ap, sym, ◌∙◌, subst}
-use Rattle.dt_facts.specs.Lives.{IsOpenAs}
-use Rattle.dt_facts.specs.declared.fact.LifeStep.{LifeStep}
-use Rattle.dt_seat.specs.Knowledge.{steps_in}
+use Rattle.std.proofs.Common.{◌≡◌, Some, ap, sym, ◌∙◌}
 use Rattle.dt_seat.specs.Seats.{Seated}
 use Rattle.dt_seat.specs.Sessions.{Sat}
 use Rattle.dt_seat.specs.Trailed.{item_of_line}
 use Rattle.dt_seat.proofs.Seats.{taken_answered}
-use Rattle.dt_seat.proofs.Sitting.{one_open, session_goes_on}
+use Rattle.dt_seat.proofs.Sitting.{one_life, session_goes_on}
 use Rattle.dt_seat.proofs.Trails.{line_is_mine}
 use Rattle.dt_seat.proofs.locked.LockedSeat.ask.Goals as goal
+
+same_seat : {s t : Sat} {x y : Seated} → s ≡ t → t.seat ≡ y.number → x ≡ y → s.seat ≡ x.number
+same_seat a b c = ap (λ (z : Sat). z.seat) a ∙ b ∙ ap (λ (z : Seated). z.number) (sym c)
 
 -- The session's life is the seat's, of which it is open, so what it wrote down is of that.
 pub ask_at-result-requires-clause-notebook : goal.ask_at-result-requires-clause-notebook
@@ -19,12 +19,8 @@ ask_at-result-requires-clause-notebook g c =
     let h = c.session.invariant in
     let present_is : inside.present ≡ Some c.in-Some.present = c.in-Some.is in
     let taken = (rw present_is at c.self.invariant).0 in
-    let open_now : IsOpenAs inside.life c.in-Some.present.owner.row (steps_in s.share.fact) =
-    subst (λ (l : List LifeStep). IsOpenAs inside.life c.in-Some.present.owner.row l) (ap steps_in c.agree.ensures.agree) taken.is_open in
-    let life_is : s.life ≡ inside.life =
-    (one_open (steps_in s.share.fact) s.life inside.life s.notebook.note.row c.in-Some.present.owner.row h.0.is_open open_now).0 in
-    let seat_is : s.seat ≡ inside.number =
-    ap (λ (x : Sat). x.seat) c.session.view_is ∙ c.requires.seat ∙ ap (λ (x : Seated). x.number) (sym c.self.view_is) in
+    let life_is = one_life inside.lives.fact s.share.fact inside.life s.life _ _ c.agree.ensures.agree taken.is_open h.0.is_open in
+    let seat_is = same_seat c.session.view_is c.requires.seat c.self.view_is in
     rw (sym seat_is, sym life_is) h.1
 
 pub invariant_of-session : goal.invariant_of-session
@@ -35,12 +31,8 @@ invariant_of-session g c =
     let made = c.ask_at-result.ensures in
     let present_is : inside.present ≡ Some c.in-Some.present = c.in-Some.is in
     let taken = (rw present_is at c.self.invariant).0 in
-    let open_now : IsOpenAs inside.life c.in-Some.present.owner.row (steps_in s.share.fact) =
-    subst (λ (l : List LifeStep). IsOpenAs inside.life c.in-Some.present.owner.row l) (ap steps_in c.agree.ensures.agree) taken.is_open in
-    let life_is : s.life ≡ inside.life =
-    (one_open (steps_in s.share.fact) s.life inside.life s.notebook.note.row c.in-Some.present.owner.row h.0.is_open open_now).0 in
-    let seat_is : s.seat ≡ inside.number =
-    ap (λ (x : Sat). x.seat) c.session.view_is ∙ c.requires.seat ∙ ap (λ (x : Seated). x.number) (sym c.self.view_is) in (
+    let life_is = one_life inside.lives.fact s.share.fact inside.life s.life _ _ c.agree.ensures.agree taken.is_open h.0.is_open in
+    let seat_is = same_seat c.session.view_is c.requires.seat c.self.view_is in (
       rw (c.go_on.ensures, c.agree.ensures.share)
           (session_goes_on _ _ _ _ _ _ _ _ s.notebook.note c.ask_at-result.new.notebook.note h.0 made.note.0 made.note.1),
       rw (seat_is, life_is) made.notebook,
@@ -66,10 +58,6 @@ returns-clause-published g c =
     let h = c.session.invariant in
     let present_is : inside.present ≡ Some c.in-Some.present = c.in-Some.is in
     let taken = (rw present_is at c.self.invariant).0 in
-    let open_now : IsOpenAs inside.life c.in-Some.present.owner.row (steps_in s.share.fact) =
-    subst (λ (l : List LifeStep). IsOpenAs inside.life c.in-Some.present.owner.row l) (ap steps_in c.agree.ensures.agree) taken.is_open in
-    let life_is : s.life ≡ inside.life =
-    (one_open (steps_in s.share.fact) s.life inside.life s.notebook.note.row c.in-Some.present.owner.row h.0.is_open open_now).0 in
-    let seat_is : s.seat ≡ inside.number =
-    ap (λ (x : Sat). x.seat) c.session.view_is ∙ c.requires.seat ∙ ap (λ (x : Seated). x.number) (sym c.self.view_is) in
+    let life_is = one_life inside.lives.fact s.share.fact inside.life s.life _ _ c.agree.ensures.agree taken.is_open h.0.is_open in
+    let seat_is = same_seat c.session.view_is c.requires.seat c.self.view_is in
     rw (seat_is, life_is) c.ask_at-result.ensures.notebook.published
