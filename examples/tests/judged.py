@@ -12,20 +12,20 @@ SESSIONS = 1_800
 CHANGED = 150
 
 
-def entries_of(trail):
-    """A trail's first line, and its entries: a firing alone, a line or a long line with its reply."""
+def items_of(trail):
+    """A trail's first line, and its items: a firing alone, a line or a long line with its reply."""
     first, *lines = trail.decode().split("\n")[:-1]
-    entries = []
+    items = []
     for line in lines:
         if line.startswith("reply "):
-            entries[-1].append(line)
+            items[-1].append(line)
         else:
-            entries.append([line])
-    return first, entries
+            items.append([line])
+    return first, items
 
 
-def text(first, entries):
-    return text_of([first, *(line for entry in entries for line in entry)])
+def text(first, items):
+    return text_of([first, *(line for item in items for line in item)])
 
 
 def checked(path, trail, content):
@@ -117,34 +117,34 @@ def random_trails(folder):
         if not told and status == 0:
             continue
         yield f"a check of the trail of random session {seed}", checked(path, trail, told), (b"agree %d\n" % told.count(b"\nreply "), 0)
-        first, entries = entries_of(told)
-        if changed < CHANGED and entries:
+        first, items = items_of(told)
+        if changed < CHANGED and items:
             changed += 1
-            for what, content, wanted in changes(dice, first, entries):
+            for what, content, wanted in changes(dice, first, items):
                 yield f"random session {seed} with {what}", checked(path, trail, content), (wanted, 1)
 
 
-def changes(dice, first, entries):
+def changes(dice, first, items):
     """Texts that are the trail but for one place, or for two of which the earlier one counts, and what is found of them."""
     illegal = [("a firing of a processor that isn't there", "fired 2 0"), ("a firing after the script's end", "fired 1 30")]
     for what, line in illegal:
-        at = dice.randrange(len(entries) + 1)
-        yield what, text(first, [*entries[:at], [line], *entries[at:]]), b"illegal at %d\n" % (at + 1)
-    places = [place for place, entry in enumerate(entries) if entry[0].startswith("fired ")]
+        at = dice.randrange(len(items) + 1)
+        yield what, text(first, [*items[:at], [line], *items[at:]]), b"illegal at %d\n" % (at + 1)
+    places = [place for place, item in enumerate(items) if item[0].startswith("fired ")]
     if places:
         at = dice.choice(places)
-        yield "a firing twice", text(first, [*entries[:at + 1], entries[at], *entries[at + 1:]]), b"illegal at %d\n" % (at + 2)
-        yield "a firing before all", text(first, [entries[at], *entries]), b"illegal at 1\n"
-    places = [place for place, entry in enumerate(entries) if len(entry) == 2]
+        yield "a firing twice", text(first, [*items[:at + 1], items[at], *items[at + 1:]]), b"illegal at %d\n" % (at + 2)
+        yield "a firing before all", text(first, [items[at], *items]), b"illegal at 1\n"
+    places = [place for place, item in enumerate(items) if len(item) == 2]
     if places:
         nth = dice.randrange(len(places))
         at = places[nth]
-        line, reply = entries[at]
+        line, reply = items[at]
         for what, other in (("a longer reply", reply + " "), ("a shorter reply", reply[:-1]), ("an empty reply", "reply "),
                             ("a reply in which a byte differs", reply[:-2] + "?" + reply[-1:])):
             wanted = b"differs at %d\n" % (nth + 1)
-            yield what, text(first, [*entries[:at], [line, other], *entries[at + 1:]]), wanted
-            yield what + " and then a firing that isn't there", text(first, [*entries[:at], [line, other], ["fired 2 0"]]), wanted
+            yield what, text(first, [*items[:at], [line, other], *items[at + 1:]]), wanted
+            yield what + " and then a firing that isn't there", text(first, [*items[:at], [line, other], ["fired 2 0"]]), wanted
 
 
 def changed_commands(folder):
@@ -152,25 +152,25 @@ def changed_commands(folder):
     path, trail = "protocol/machine.json", folder / "trail"
     with open("protocol/steps", "rb") as steps:
         told, status = run("replay", path, "--trail", 0, text=steps.read())
-    first, entries = entries_of(told)
-    replies = [place for place, entry in enumerate(entries) if len(entry) == 2]
+    first, items = items_of(told)
+    replies = [place for place, item in enumerate(items) if len(item) == 2]
     yield "the trail of the protocol", (status, checked(path, trail, told)), (0, (b"agree %d\n" % len(replies), 0))
     for nth, at in enumerate(replies, 1):
-        line, reply = entries[at]
+        line, reply = items[at]
         for other in (reply.replace("true", "false"), reply + "x", "reply {}"):
-            content = text(first, [*entries[:at], [line, other], *entries[at + 1:]])
+            content = text(first, [*items[:at], [line, other], *items[at + 1:]])
             yield f"reply {nth} of the protocol as {other[:30]}", checked(path, trail, content), (b"differs at %d\n" % nth, 1)
     for name in ("account nobody", "account ", "account root root", "Account root"):
-        yield f"the trail of {name}", checked(path, trail, text(name, entries)), (b"trail refused\n", 1)
+        yield f"the trail of {name}", checked(path, trail, text(name, items)), (b"trail refused\n", 1)
 
 
 def cut_trails(folder):
-    """The trail of an example cut anywhere: it agrees where it is cut after an entry, and else is no trail."""
+    """The trail of an example cut anywhere: it agrees where it is cut after an item, and else is no trail."""
     path, trail = "first-run/machine.json", folder / "trail"
     with open("first-run/trail", "rb") as file:
         told = file.read()
-    first, entries = entries_of(told)
-    ends = {len(text(first, entries[:count])): sum(len(entry) == 2 for entry in entries[:count]) for count in range(len(entries) + 1)}
+    first, items = items_of(told)
+    ends = {len(text(first, items[:count])): sum(len(item) == 2 for item in items[:count]) for count in range(len(items) + 1)}
     for length in range(len(told) + 1):
         wanted = (b"agree %d\n" % ends[length], 0) if length in ends else (b"trail refused\n", 1)
         yield f"the first {length} bytes of a trail", checked(path, trail, told[:length]), wanted
@@ -183,28 +183,28 @@ def quota(folder):
              ['line {"cmd":"go"}', 'reply {"ok":true}'], ["fired 0 0"]]
     more = [["line x", 'reply {"error":1,"name":"Json"}']] * (LINES_MAX - 2)
     yield "1,024 lines and a firing", checked(path, trail, text("account root", begun + more)), (b"agree %d\n" % LINES_MAX, 0)
-    for entry in (["line x", 'reply {"error":15,"name":"Quota"}'], ["long", 'reply {"error":15,"name":"Quota"}'], ["line x", "reply "]):
-        found = checked(path, trail, text("account root", [*begun, *more, entry]))
-        yield f"1,024 lines, a firing and {entry}", found, (b"illegal at %d\n" % (LINES_MAX + 2), 1)
+    for item in (["line x", 'reply {"error":15,"name":"Quota"}'], ["long", 'reply {"error":15,"name":"Quota"}'], ["line x", "reply "]):
+        found = checked(path, trail, text("account root", [*begun, *more, item]))
+        yield f"1,024 lines, a firing and {item}", found, (b"illegal at %d\n" % (LINES_MAX + 2), 1)
 
 
 READS = {"cmd": "enable", "text": "read:entry{}"}
 GO = {"cmd": "go"}
 HISTORY = {"cmd": "option", "name": "histsize", "value": 1}
 LONG, JSON = 'reply {"error":3,"name":"LineLong"}', 'reply {"error":1,"name":"Json"}'
-# what a session of an account does, one entry after it, and what is found then
+# what a session of an account does, one item after it, and what is found then
 FURTHER = [
-    ("a firing before the go", "root", [READS], ["fired 0 0"], "illegal at {entry}"),
-    ("a firing of a probe that isn't enabled", "root", [{"cmd": "enable", "text": "tick-1sec{}"}, GO], ["fired 0 0"], "illegal at {entry}"),
-    ("a firing of another's process", "ann", [READS, GO], ["fired 1 0"], "illegal at {entry}"),
-    ("a firing after the stop", "root", [READS, GO, {"cmd": "stop"}], ["fired 0 0"], "illegal at {entry}"),
-    ("a firing after the close", "root", [READS, GO, {"cmd": "close"}], ["fired 0 0"], "illegal at {entry}"),
-    ("a firing after the exit", "root", [{"cmd": "enable", "text": "read:entry{exit(1)}"}, GO, "fire 0"], ["fired 0 1"], "illegal at {entry}"),
-    ("a firing after the history", "root", [HISTORY, READS, GO, "fire 0"], ["fired 0 1"], "illegal at {entry}"),
-    ("a firing after a later one", "root", [READS, GO, "fire 0", "fire 0"], ["fired 0 0"], "illegal at {entry}"),
-    ("the last firing again", "root", [READS, GO, "fire 0", "fire 0"], ["fired 0 1"], "illegal at {entry}"),
-    ("a firing after the script", "root", [READS, GO, "fire 0"], ["fired 0 3"], "illegal at {entry}"),
-    ("a firing of a processor that isn't there", "root", [READS, GO, "fire 0"], ["fired 2 0"], "illegal at {entry}"),
+    ("a firing before the go", "root", [READS], ["fired 0 0"], "illegal at {item}"),
+    ("a firing of a probe that isn't enabled", "root", [{"cmd": "enable", "text": "tick-1sec{}"}, GO], ["fired 0 0"], "illegal at {item}"),
+    ("a firing of another's process", "ann", [READS, GO], ["fired 1 0"], "illegal at {item}"),
+    ("a firing after the stop", "root", [READS, GO, {"cmd": "stop"}], ["fired 0 0"], "illegal at {item}"),
+    ("a firing after the close", "root", [READS, GO, {"cmd": "close"}], ["fired 0 0"], "illegal at {item}"),
+    ("a firing after the exit", "root", [{"cmd": "enable", "text": "read:entry{exit(1)}"}, GO, "fire 0"], ["fired 0 1"], "illegal at {item}"),
+    ("a firing after the history", "root", [HISTORY, READS, GO, "fire 0"], ["fired 0 1"], "illegal at {item}"),
+    ("a firing after a later one", "root", [READS, GO, "fire 0", "fire 0"], ["fired 0 0"], "illegal at {item}"),
+    ("the last firing again", "root", [READS, GO, "fire 0", "fire 0"], ["fired 0 1"], "illegal at {item}"),
+    ("a firing after the script", "root", [READS, GO, "fire 0"], ["fired 0 3"], "illegal at {item}"),
+    ("a firing of a processor that isn't there", "root", [READS, GO, "fire 0"], ["fired 2 0"], "illegal at {item}"),
     ("a firing that skips two", "root", [READS, GO], ["fired 0 2"], "agree {replies}"),
     ("a long line", "root", [READS, GO], ["long", LONG], "agree {reply}"),
     ("a long line with another reply", "root", [READS, GO, "fire 0"], ["long", JSON], "differs at {reply}"),
@@ -212,18 +212,18 @@ FURTHER = [
 ]
 
 
-def further_entries(folder):
-    """One entry after a trail that agrees, of each kind, in and out of place."""
+def further_items(folder):
+    """One item after a trail that agrees, of each kind, in and out of place."""
     path, trail = folder / "machine.json", folder / "trail"
     path.write_text(machine([[fired(0), fired(1), fired(2)], [fired(0, pid=200)]], ["root", "ann"]))
-    for what, account, did, entry, found in FURTHER:
+    for what, account, did, item, found in FURTHER:
         steps = [f"open 0 {account}", *(step if isinstance(step, str) else call(**step) for step in did)]
         told, status = run("replay", path, "--trail", 0, text=text_of(steps))
-        first, entries = entries_of(told)
-        replies = sum(len(it) == 2 for it in entries)
-        yield f"a trail before {what}", (status, len(entries), checked(path, trail, told)), (0, len(did), (b"agree %d\n" % replies, 0))
-        wanted = found.format(entry=len(entries) + 1, replies=replies, reply=replies + 1) + "\n"
-        yield f"a trail and {what}", checked(path, trail, text(first, [*entries, entry])), (wanted.encode(), int(not found.startswith("agree")))
+        first, items = items_of(told)
+        replies = sum(len(it) == 2 for it in items)
+        yield f"a trail before {what}", (status, len(items), checked(path, trail, told)), (0, len(did), (b"agree %d\n" % replies, 0))
+        wanted = found.format(item=len(items) + 1, replies=replies, reply=replies + 1) + "\n"
+        yield f"a trail and {what}", checked(path, trail, text(first, [*items, item])), (wanted.encode(), int(not found.startswith("agree")))
 
 
-judge(longest_trail, longest_history, random_trails, changed_commands, cut_trails, further_entries, quota)
+judge(longest_trail, longest_history, random_trails, changed_commands, cut_trails, further_items, quota)

@@ -5,6 +5,10 @@ use Rattle.std.specs.Prelude.{ℕ}
 abbrev pub levels_max : ℕ
 levels_max = 512
 
+-- the most words of a cell: a linear quantization has a row below its levels and a row from its upper bound on
+abbrev pub cell_words_max : ℕ
+cell_words_max = 514
+
 -- the exponent of the greatest power of two that names a row
 abbrev pub greatest_power : ℕ
 greatest_power = 62

@@ -1,7 +1,7 @@
 //! What holds of the definitions alone.
 ghost use Rattle.std.specs.Prelude.{◌≡◌, ◌≢◌, ◌≤◌, ℕ, List, [], length, ℤ, ◌≤ℤ◌, IsPermutation, Contains, All};
 ghost use Rattle.dt_aggfn.specs.declared.function.AggFn.{AggFn};
-ghost use Rattle.dt_aggfn.specs.declared.limits.TheConstants.{CELL_WORDS_MAX};
+ghost use Rattle.dt_aggfn.specs.Limits.{cell_words_max};
 ghost use Rattle.dt_aggfn.specs.declared.levels.Bounds.{Bounds};
 ghost use Rattle.dt_aggfn.specs.Rows.{quantize_rows, lquantize_rows, IsRowOf};
 ghost use Rattle.dt_aggfn.specs.Cells.{cell_words, cell_of, least_of, greatest_of};
@@ -17,7 +17,7 @@ pub fn any_order()
 pub fn cell_length()
     ensures words { (f : AggFn) (bag : List ℤ) → length (cell_of f bag) ≡ cell_words f }
     ensures some { (f : AggFn) → 1 ≤ cell_words f }
-    ensures few { (f : AggFn) → cell_words f ≤ CELL_WORDS_MAX }
+    ensures few { (f : AggFn) → cell_words f ≤ cell_words_max }
 {}
 
 /// Each value is counted by exactly one row of `quantize`, and by exactly one row of each `lquantize`.

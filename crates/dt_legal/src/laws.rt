@@ -6,11 +6,13 @@ ghost use Rattle.dt_legal.specs.Rows.{AreBelowPlace, IsLegalRow, Suffice, line_f
 ghost use Rattle.dt_life.specs.Acceptance.{after_line};
 ghost use Rattle.dt_life.specs.Life.{is_over};
 ghost use Rattle.dt_life.specs.Life.{fired as fired_item};
-ghost use Rattle.dt_life.specs.Limits.{lines_max};
+ghost use Rattle.dt_life.specs.Limits.{history_max, lines_max};
 ghost use Rattle.dt_life.specs.Sees.{Sees};
+ghost use Rattle.dt_machine.specs.Limits.{cpus_max};
 ghost use Rattle.dt_machine.specs.Registry.{Contents, firing_at};
 ghost use Rattle.dt_proto.specs.Line.{ask_in};
 ghost use Rattle.dt_trail.specs.Items.{TrailItem, fired, whose};
+ghost use Rattle.dt_trail.specs.Limits.{longest, trail_cpus_max};
 
 /// Law: the empty row is legal, and so is each beginning of a legal row. A legal row may go on with a line within the quota, and with
 /// a firing of a script that is seen there, at a higher place than those of its processor before it; its life then goes on with just that.
@@ -41,4 +43,11 @@ pub fn rows_fit()
     ensures firing { (account : Account) (contents : Contents) (row : List TrailItem) (firing : Firing) (cells : ℕ)
         → IsLegalRow account contents row → Suffice cells (set_up_of account contents row)
         → Sees account contents.registry (life_of_row account contents row) firing → length row < cells }
+{}
+
+/// Law: the items of a trail can name each processor that a machine may have, and a session's longest trail holds the longest history with all
+/// lines within the quota. Whoever raises a limit of one crate is stopped here until the other's is raised too.
+pub fn limits_meet()
+    ensures cpus { cpus_max ≡ trail_cpus_max }
+    ensures longest { longest ≡ history_max + lines_max }
 {}

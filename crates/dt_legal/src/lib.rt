@@ -10,4 +10,4 @@ mod law;
 mod laws;
 
 pub use law::{LegalIn, Traced};
-pub use laws::{rows_fit, rows_go_on};
+pub use laws::{limits_meet, rows_fit, rows_go_on};

@@ -32,3 +32,7 @@ probe_id_max = 4098
 -- the most firings of one script
 abbrev pub script_max : ℕ
 script_max = 65536
+
+-- how many numbers a word of a set has
+abbrev pub word_bits : ℕ
+word_bits = 64

@@ -1,7 +1,8 @@
 //! The limits that the code keeps are those of the definitions.
 ghost use Rattle.std.specs.Prelude.{◌≡◌};
-ghost use Rattle.dt_machine.specs.Limits.{cpus_max, accounts_max, processes_max, pid_max, probes_max, first_probe_id, probe_id_max, script_max};
+ghost use Rattle.dt_machine.specs.Limits.{cpus_max, accounts_max, processes_max, pid_max, probes_max, first_probe_id, probe_id_max, script_max, word_bits};
 
+use crate::bit_word::WORD_BITS;
 use crate::limits::{
     ACCOUNTS_MAX, CPUS_MAX, FIRST_PROBE_ID, PID_MAX, PROBE_ID_MAX, PROBES_MAX, PROCESSES_MAX,
     SCRIPT_MAX,
@@ -17,4 +18,5 @@ pub fn limits_agree()
     ensures first_probe { FIRST_PROBE_ID ≡ first_probe_id }
     ensures last_probe { PROBE_ID_MAX ≡ probe_id_max }
     ensures script { SCRIPT_MAX ≡ script_max }
+    ensures word { WORD_BITS ≡ word_bits }
 {}

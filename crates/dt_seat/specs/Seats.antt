@@ -24,7 +24,7 @@ use Rattle.dt_seat.specs.declared.idle.Idle.{Idle}
 use Rattle.dt_seat.specs.declared.present.Present.{Present}
 use Rattle.dt_trail.specs.Items.{StartsWith, TrailItem, fired, own}
 use Rattle.dt_trail.specs.Known.{Known, Noted}
-use Rattle.dt_trail.specs.Limits.{cpu_count}
+use Rattle.dt_trail.specs.Limits.{trail_cpus_max}
 
 -- what contracts see of a seat under its lock
 pub record Seated : Type 0 where
@@ -37,7 +37,7 @@ module _ {J : Type 0} where
   -- each processor is right.
   pub record IsTaken (word : TableId) (contents : Contents) (number life : ℕ) (lives : HeldFact) (present : Present J)
       (keeps : List KeptNote) : Type 0 where
-    pub few : contents.registry.cpus ≤ cpu_count
+    pub few : contents.registry.cpus ≤ trail_cpus_max
     pub many : length keeps ≡ contents.registry.cpus
     pub lives_are : SaysLives word contents.registry.cpus number lives
     pub is_open : IsOpenAs life present.owner.row (steps_in lives.fact)
@@ -54,7 +54,7 @@ pub record IsIdle (word : TableId) (contents : Contents) (number life : ℕ) (li
 -- A seat without an open life, of which the next has this number: its book says that all lives are closed, and what the next session gets lies there.
 pub record IsFree (word : TableId) (contents : Contents) (number life : ℕ) (lives : HeldFact) (free : Option Idle)
     (keeps : List KeptNote) : Type 0 where
-  pub few : contents.registry.cpus ≤ cpu_count
+  pub few : contents.registry.cpus ≤ trail_cpus_max
   pub many : length keeps ≡ contents.registry.cpus
   pub lives_are : SaysLives word contents.registry.cpus number lives
   pub all_closed : AreClosed life (steps_in lives.fact)

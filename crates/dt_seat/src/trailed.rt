@@ -10,7 +10,7 @@ ghost use Rattle.dt_seat.specs.Sessions.{lines_from};
 ghost use Rattle.dt_seat.specs.Trailed.{IsWideEnough, IsPrepared, IsTrailed, item_of_line, row_after, row_offered, with_items};
 ghost use Rattle.dt_trail.specs.Items.{TrailItem};
 ghost use Rattle.dt_trail.specs.Known.{known_row, noted, AreNew, Meets};
-ghost use Rattle.dt_trail.specs.Limits.{cpu_count, opening_cells};
+ghost use Rattle.dt_trail.specs.Limits.{trail_cpus_max, opening_cells};
 
 use crate::line_kept::LineKept;
 use crate::prepared::Prepared;
@@ -154,7 +154,7 @@ pub(crate) fn offer<J: Traced>(
     requires script { firing_at J.contents.scripts context.now.firing.now.cpu context.now.firing.now.place
         ≡ Some context.now.firing.now }
     requires note { (note.old.row ≡ owner.old.row) × (note.old.number ≡ context.now.firing.now.cpu + 1) }
-    requires few { J.contents.registry.cpus ≤ cpu_count }
+    requires few { J.contents.registry.cpus ≤ trail_cpus_max }
     requires below { AreBelowPlace context.now.firing.now.cpu context.now.firing.now.place note.old.knows }
     ensures kept { IsTrailed J.contents owner.old.row.account owner.new consumer.new }
     ensures seen { IsTrue result ↔ Sees owner.old.row.account J.contents.registry

@@ -1,6 +1,6 @@
 -- Items as lists: what an item is, whose it is, and the word that stands for it.
 use Rattle.std.specs.Prelude.{◌≡◌, ◌<◌, ◌^◌, ℕ, zero, suc, ◌+◌, ◌*◌, ◌==◌, List, [], ◌∷◌, ◌++◌, length, filter, cond, nat_lt, slice_get, Some}
-use Rattle.dt_trail.specs.Limits.{cpu_count}
+use Rattle.dt_trail.specs.Limits.{trail_cpus_max}
 
 -- a line of the session, of these bytes or too long, or a firing by its processor and its place in that processor's script
 pub data TrailItem : Type 0 where
@@ -18,7 +18,7 @@ whose (fired cpu place) = cpu + 1
 abbrev pub IsReal : TrailItem → Type 0
 IsReal (line bytes) = Unit {0}
 IsReal long_line = Unit {0}
-IsReal (fired cpu place) = (cpu < cpu_count) × (place < 2 ^ 32)
+IsReal (fired cpu place) = (cpu < trail_cpus_max) × (place < 2 ^ 32)
 
 -- the word of a cell that stands for the item. Of a line it says only that it is one. The word of an empty cell is 0
 abbrev pub code : TrailItem → ℕ

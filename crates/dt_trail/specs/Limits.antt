@@ -1,9 +1,9 @@
 -- The limits, with their numbers. The law `limits_agree` says that the code keeps these.
 use Rattle.std.specs.Prelude.{ℕ}
 
--- how many processors there are at most. They are numbered from 0 on
-abbrev pub cpu_count : ℕ
-cpu_count = 64
+-- how many processors the items of a trail can name. They are numbered from 0 on
+abbrev pub trail_cpus_max : ℕ
+trail_cpus_max = 64
 
 -- a block has fewer cells
 abbrev pub block_bound : ℕ

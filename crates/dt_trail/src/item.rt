@@ -1,6 +1,6 @@
 //! What a cell stands for.
 ghost use Rattle.std.specs.Prelude.{◌≡◌, ◌<◌};
-ghost use Rattle.dt_trail.specs.Limits.{cpu_count};
+ghost use Rattle.dt_trail.specs.Limits.{trail_cpus_max};
 
 use std::marker::Model;
 
@@ -67,7 +67,7 @@ impl Item {
 
     /// A firing, by its processor and its place in that processor's script.
     pub fn fired(cpu: u32, place: u32) -> Item
-        requires { cpu < cpu_count }
+        requires { cpu < trail_cpus_max }
         ensures { result ≡ fired cpu place }
     {
         Item {

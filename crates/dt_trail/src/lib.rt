@@ -30,7 +30,7 @@ pub use item::{Item, ItemKind};
 pub use law::{Law, Named};
 pub use limit_laws::limits_agree;
 pub use limits::{
-    BLOCK_CELLS, BLOCK_CELLS_MAX, CPUS_MAX, TRAIL_CELLS, TRAIL_CELLS_MAX, WIDENINGS_MAX,
+    BLOCK_CELLS, BLOCK_CELLS_MAX, TRAIL_CELLS, TRAIL_CELLS_MAX, TRAIL_CPUS_MAX, WIDENINGS_MAX,
 };
 pub use note::TrailNote;
 pub use opening::Trail;

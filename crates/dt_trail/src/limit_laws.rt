@@ -1,15 +1,15 @@
 //! The limits that the code keeps are those of the definitions.
 ghost use Rattle.std.specs.Prelude.{◌≡◌, ◌+◌, ◌*◌};
-ghost use Rattle.dt_trail.specs.Limits.{cpu_count, block_bound, widenings, opening_cells, block_cells, longest};
+ghost use Rattle.dt_trail.specs.Limits.{trail_cpus_max, block_bound, widenings, opening_cells, block_cells, longest};
 
 use crate::limits::{
-    BLOCK_CELLS, BLOCK_CELLS_MAX, CPUS_MAX, TRAIL_CELLS, TRAIL_CELLS_MAX, WIDENINGS_MAX,
+    BLOCK_CELLS, BLOCK_CELLS_MAX, TRAIL_CELLS, TRAIL_CELLS_MAX, TRAIL_CPUS_MAX, WIDENINGS_MAX,
 };
 
 /// Law: the limits that the code keeps are the numbers of the definitions (`specs/Limits.antt`), and a session's longest trail is
 /// reached by fewer widenings than there may be.
 pub fn limits_agree()
-    ensures cpus { CPUS_MAX ≡ cpu_count }
+    ensures cpus { TRAIL_CPUS_MAX ≡ trail_cpus_max }
     ensures block { BLOCK_CELLS_MAX ≡ block_bound }
     ensures widenings { WIDENINGS_MAX ≡ widenings }
     ensures opening { TRAIL_CELLS ≡ opening_cells }

@@ -1,7 +1,7 @@
 //! The limits of a trail.
 
 /// Processors whose firings an item can name are numbered from 0 to one less.
-pub const CPUS_MAX: u32 = 64;
+pub const TRAIL_CPUS_MAX: u32 = 64;
 
 /// A block of a trail has fewer cells than this.
 pub const BLOCK_CELLS_MAX: u64 = 1 << 40;

@@ -1,14 +1,12 @@
 //! One session with a service: a line is asked, and its reply is read.
 
 use crate::fault::Trouble;
+use dt_life::LINES_MAX;
 use serde_json::Value;
 use std::alloc::Global;
 use std::io::{BufRead, BufReader, Write};
 use std::net::Shutdown;
 use std::os::unix::net::UnixStream;
-
-/// How many lines a session may ask.
-const LINES: u64 = 1024;
 
 /// A session.
 #[derive(Drop)]
@@ -28,7 +26,7 @@ impl<'a> Session<'a> {
             Ok(replies) => Ok(Session {
                 stream,
                 replies,
-                left: LINES,
+                left: u64::from(LINES_MAX),
                 kept: 0,
             }),
             Err(_) => Err(Trouble::Memory),
