@@ -2,6 +2,7 @@
 use Rattle.std.specs.Prelude.{◌≡◌, ◌≢◌, ℕ, zero, suc, ◌+◌, ◌<◌, ◌≤◌, ◌^◌, List, [], ◌∷◌, ◌++◌, length}
 use denote.RawPtr.{Ptr, InBlock}
 use Rattle.atomic_blocks.specs.Cells.{Cell, Row, row, cell_in}
+use Rattle.dt_trail.specs.Limits.{block_bound, widenings}
 use Rattle.dt_trail.specs.declared.door.Door.{Door}
 
 module _ {S : Type 0} where
@@ -19,12 +20,12 @@ module _ {S : Type 0} where
   -- the root has the sizes and the places of the blocks, and ends with a 0
   pub record Laid (root : Ptr) (base : Row S) (blocks : List (Row S)) : Type 0 where
     pub at : base.at ≡ root
-    pub long : length base.cells ≡ 33
-    pub few : length blocks ≤ 32
+    pub long : length base.cells ≡ widenings + 2
+    pub few : length blocks ≤ widenings + 1
     pub some : 0 < length blocks
     pub wide : length (flat blocks) < 2 ^ 60
-    pub sizes : (j : ℕ) → j < 33 → (cell_in base.cells j).word ≡ length (row blocks j).cells
-    pub places : (j : ℕ) → j < length blocks → ((cell_in base.cells j).link ≡ (row blocks j).at) × InBlock (row blocks j).at × (0 < length (row blocks j).cells) × (length (row blocks j).cells < 2 ^ 40)
+    pub sizes : (j : ℕ) → j < widenings + 2 → (cell_in base.cells j).word ≡ length (row blocks j).cells
+    pub places : (j : ℕ) → j < length blocks → ((cell_in base.cells j).link ≡ (row blocks j).at) × InBlock (row blocks j).at × (0 < length (row blocks j).cells) × (length (row blocks j).cells < block_bound)
 
   -- the block lies there
   pub record BlockLiesAt (blocks : List (Row S)) (d : Door) : Type 0 where

@@ -19,8 +19,8 @@ RowSeat K A = Seat NoSlot (TrailView K) A
 -- the door leads to a block
 pub record IsDoor (d : Door) : Type 0 where
   pub some : 0 < d.len
-  pub small : d.len < 2 ^ 40
-  pub near : d.block < 32
+  pub small : d.len < block_bound
+  pub near : d.block < widenings + 1
   pub wide : d.from + d.len < 2 ^ 60
   pub placed : InBlock d.link.ptr
 
@@ -104,10 +104,10 @@ pub record IsHeard {K : Type 0} (s : RowSeat K Global) (d : Door) (count : ℕ) 
 -- at the end, the blocks from the k-th on are still to be freed
 pub record EndingBlocks (root : Ptr) (k : ℕ) (mem : List (Row NoSlot)) : Type 0 where
   pub at : (row mem 0).at ≡ root
-  pub long : length (row mem 0).cells ≡ 33
+  pub long : length (row mem 0).cells ≡ widenings + 2
   pub home : AllHome (row mem 0).cells
   pub gone : (j : ℕ) → 0 < j → j ≤ k → (row mem j).cells ≡ []
-  pub beyond : (j : ℕ) → 32 < j → (row mem j).cells ≡ []
-  pub each : (j : ℕ) → k ≤ j → j < 32 → length (row mem (j + 1)).cells ≡ (cell_in (row mem 0).cells j).word
-  pub homes : (j : ℕ) → k ≤ j → j < 32 → AllHome (row mem (j + 1)).cells
-  pub places : (j : ℕ) → k ≤ j → j < 32 → 0 < (cell_in (row mem 0).cells j).word → InBlock (cell_in (row mem 0).cells j).link × ((row mem (j + 1)).at ≡ (cell_in (row mem 0).cells j).link)
+  pub beyond : (j : ℕ) → widenings + 1 < j → (row mem j).cells ≡ []
+  pub each : (j : ℕ) → k ≤ j → j < widenings + 1 → length (row mem (j + 1)).cells ≡ (cell_in (row mem 0).cells j).word
+  pub homes : (j : ℕ) → k ≤ j → j < widenings + 1 → AllHome (row mem (j + 1)).cells
+  pub places : (j : ℕ) → k ≤ j → j < widenings + 1 → 0 < (cell_in (row mem 0).cells j).word → InBlock (cell_in (row mem 0).cells j).link × ((row mem (j + 1)).at ≡ (cell_in (row mem 0).cells j).link)

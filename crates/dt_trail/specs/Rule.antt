@@ -5,6 +5,7 @@ use lib.ListN.{get_elem?}
 use denote.RawPtr.{Ptr, null_ptr, InBlock}
 use Rattle.atomic_blocks.specs.Cells.{Cell, Row, State, Step, Me, me, cell_in}
 use Rattle.atomic_blocks.specs.declared.rows.loose.Link.{Link}
+use Rattle.dt_trail.specs.Limits.{block_bound, widenings}
 use Rattle.dt_trail.specs.declared.door.Door.{Door}
 use Rattle.dt_trail.specs.declared.rule.Extent.{Extent}
 use Rattle.dt_trail.specs.declared.rule.TrailView.{TrailView}
@@ -173,14 +174,14 @@ module _ {K : Type 0} where
   IsTurned lawful st m found n =
       IsBegun lawful m.view.account n.view.knows
       × MatchBool (found == 0) (IsLast m n)
-      ((p : Ptr) × InBlock p × (found < 2 ^ 40) × (m.view.door.from + m.view.door.len + found < 2 ^ 60) × (st.index < 32) × (n ≡ reviewed m (through m.view (door_at st.index (m.view.door.from + m.view.door.len) found p))))
+      ((p : Ptr) × InBlock p × (found < block_bound) × (m.view.door.from + m.view.door.len + found < 2 ^ 60) × (st.index < widenings + 1) × (n ≡ reviewed m (through m.view (door_at st.index (m.view.door.from + m.view.door.len) found p))))
 
   abbrev pub IsSeen : ℕ → ℕ → Turn K → Ptr → Turn K → Type 0
   IsSeen k i m q n = (n ≡ m) × (q ≡ m.view.door.link.ptr)
 
   -- the first block has so many cells, and lies somewhere: the seat's door leads to it
   abbrev pub IsBack : Step → Turn K → ℕ → Turn K → Type 0
-  IsBack st m found n = (p : Ptr) × InBlock p × (0 < found) × (found < 2 ^ 40) × (n ≡ reviewed m (through m.view (door_at 0 0 found p)))
+  IsBack st m found n = (p : Ptr) × InBlock p × (0 < found) × (found < block_bound) × (n ≡ reviewed m (through m.view (door_at 0 0 found p)))
 
   -- the word stands for an item that the seat knows
   abbrev pub IsFoundAgain : Step → Turn K → ℕ → Turn K → Type 0

@@ -3,6 +3,7 @@ ghost use Rattle.std.specs.Prelude.{◌≡◌, length, IfOk};
 ghost use denote.RawPtr.{InBlock};
 ghost use Rattle.atomic_blocks.specs.Cells.{AllHome};
 ghost use Rattle.dt_trail.specs.Blocks.{Blank, Rooted};
+ghost use Rattle.dt_trail.specs.Limits.{widenings};
 
 use crate::inner::ROOT_LEN;
 use atomic_blocks::rows::{Link, Loose};
@@ -25,7 +26,7 @@ pub fn root(
     first: Link<()>,
     size: u64,
 ) -> Result<(Link<()>, Loose<(), Global>), AllocError>
-    ensures { IfOk result (λ r. (r.1.heap ≡ alloc.now) × (r.1.at ≡ r.0.ptr) × InBlock r.0.ptr × (r.1.left ≡ 0) × AllHome r.1.cells × Rooted first.ptr size 33 r.1.cells) }
+    ensures { IfOk result (λ r. (r.1.heap ≡ alloc.now) × (r.1.at ≡ r.0.ptr) × InBlock r.0.ptr × (r.1.left ≡ 0) × AllHome r.1.cells × Rooted first.ptr size (widenings + 2) r.1.cells) }
 {
     let (link, mut cells) = Loose::reserve(alloc, ROOT_LEN)?;
     'cells: for i in 0..ROOT_LEN {

@@ -10,7 +10,7 @@ use Rattle.dt_life.specs.Aggregations.{aggregation_of}
 use Rattle.dt_life.specs.Ask.{Ask, option, enable, go, stop, snap, agg, trunc, status, list, describe, close}
 use Rattle.dt_life.specs.Life.{asked, SetUp, accepts, after_item, end_by, happens, has_room, is_active, is_inactive}
 use Rattle.dt_life.specs.Life.{fired as fired_item}
-use Rattle.dt_life.specs.Life.{is_over, is_readable, is_stopped, nothing_yet, phase_of, shapes_in, since_then}
+use Rattle.dt_life.specs.Life.{is_over, is_readable, is_stopped, phase_of, shapes_in, since_then}
 use Rattle.dt_life.specs.Life.{with_event, with_options, with_program}
 use Rattle.dt_life.specs.Limits.{lines_max}
 use Rattle.dt_life.specs.Options.{with_setting}
@@ -46,9 +46,6 @@ same_history s (Some end) = refl
 
 least : (s : SetUp) (cells : ℕ) → Suffice cells s → lines_max ≤ cells
 least s cells h = elim h [ inl room ↦ omega (arith, room) | inr idle ↦ idle.2 ]
-
-pub suffices_at_first : (cells : ℕ) → lines_max ≤ cells → Suffice cells nothing_yet
-suffices_at_first cells h = inr (refl, refl, h)
 
 module _ (account : Account) (registry : Registry) where
   keeps_history : (s : SetUp) (event : TracingEvent) → (happens account registry s event).options.histsize ≡ s.options.histsize

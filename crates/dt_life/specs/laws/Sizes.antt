@@ -1,7 +1,6 @@
 -- How many bytes the records of END's ECBs have.
 use Rattle.std.proofs.Common.{◌≡◌, ℕ, zero, suc, ◌+◌, ◌<◌, ◌≤◌, ◌==◌, get_or, take, Bool, true, false, List, [], ◌∷◌}
 use Rattle.std.proofs.Common.{length, map, sum, if◌then◌else◌, sym, ap, ◌∙◌, arith}
-use Rattle.std.proofs.lemmas.List.{take_all}
 use Rattle.std.proofs.lemmas.List.Sums.{sum-map, sum_by-cons}
 use Rattle.dt_ecb.specs.Ecbs.{EcbForm, of_probe}
 use Rattle.dt_ecb.specs.Forms.{form_of_ecb}
@@ -61,7 +60,3 @@ sizes_few clauses (ecb ∷ ecbs) (suc i) = omega (
   sizes_first clauses ecb ecbs,
   sizes_few clauses ecbs i,
 )
-
-pub sizes_all : (clauses : List ClauseForm) (ecbs : List Ecb) (i : ℕ) → length ecbs ≤ i
-    → end_sizes clauses (take i ecbs) ≡ end_sizes clauses ecbs
-sizes_all clauses ecbs i beyond = ap (end_sizes clauses) (take_all i ecbs beyond)

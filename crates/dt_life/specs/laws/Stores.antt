@@ -24,7 +24,7 @@ use Rattle.dt_machine.specs.Context.{ContextForm}
 use Rattle.dt_life.specs.Takings.{context_at, taken_at, taken_on, closed}
 use Rattle.dt_life.specs.Uses.{AreGiven, given_and, given_then}
 use Rattle.dt_life.specs.laws.Giving.{given_none, same_at}
-use Rattle.dt_life.specs.laws.Lists.{found_at, nothing_past, replaced}
+use Rattle.dt_life.specs.laws.Lists.{found_at, replaced}
 use Rattle.dt_life.specs.laws.Options.{if_some_map}
 use Rattle.dt_life.specs.laws.Tracings.{IsFiring, on_is}
 
@@ -52,13 +52,6 @@ module _ (shapes : List ShapeForm) (pasts : ℕ → store.Past) (stores : List A
       (subst (λ b. IsAt (given_then (pasts there) (contributions shapes (cond b new []))) q) (sym same)
       (gave (found_at (IsAt (pasts there)) stores there p inside found (at there))))
       elsewhere
-
-  -- where there is no such processor
-  pub gave_nowhere : length stores ≤ there → AreGiven (given_and shapes pasts (where_taken there new)) stores
-  gave_nowhere past = λ j. ⊎_elim
-      (λ e. nothing_past (Wanted j) stores j (omega arith))
-      (elsewhere j)
-      (cases_eq j there)
 
 -- what comes by an event at which ECBs are taken
 given_firing : (account : Account) (registry : Registry) (shapes : List ShapeForm) (ecbs : List EcbForm) (cpu : ℕ)
@@ -150,15 +143,6 @@ abbrev pub truncated_to : Aggregation → (ℕ → store.Past) → ℕ → ℕ �
 truncated_to aggregation pasts cpus cpu =
     cond (nat_lt cpu cpus) (store.after (pasts cpu) (store.truncated aggregation)) (pasts cpu)
 
--- none yet
-pub truncated_none : (aggregation : Aggregation) (pasts : ℕ → store.Past) (stores : List AggStore)
-    → AreGiven pasts stores → AreGiven (truncated_to aggregation pasts 0) stores
-truncated_none aggregation pasts stores h = λ cpu.
-    if_some_map _ _ (slice_get stores cpu)
-    (λ st. subst (λ b. IsAt (cond b (store.after (pasts cpu) (store.truncated aggregation)) (pasts cpu)) st)
-    (sym (le-ltb cpu 0 (omega arith))))
-    (h cpu)
-
 -- one more
 pub truncated_more : (aggregation : Aggregation) (pasts : ℕ → store.Past) (stores : List AggStore) (cpu : ℕ)
     (p q : AggStore) → cpu < length stores → p ≡ get_or stores cpu p
@@ -185,17 +169,6 @@ truncated_more aggregation pasts stores cpu p q inside found step h =
       where
         above : cpu ≤ j → cpu + 1 ≤ j
         above h = ⊎_elim (λ (e : j ≡ cpu). absurd (ne e)) (λ (n : j ≢ cpu). omega (arith, h, n)) (cases_eq j cpu)
-
--- all were
-pub truncated_all : (aggregation : Aggregation) (pasts : ℕ → store.Past) (stores : List AggStore) (cpus : ℕ)
-    → length stores ≤ cpus → AreGiven (truncated_to aggregation pasts cpus) stores
-    → AreGiven (λ cpu. store.after (pasts cpu) (store.truncated aggregation)) stores
-truncated_all aggregation pasts stores cpus beyond h = λ cpu. ⊎_elim
-    (λ inside. if_some_map _ _ (slice_get stores cpu)
-    (λ st. subst (λ b. IsAt (cond b (store.after (pasts cpu) (store.truncated aggregation)) (pasts cpu)) st)
-    (lt-ltb cpu cpus (omega (arith, inside)))) (h cpu))
-    (λ past. nothing_past _ stores cpu past)
-    (cases_lt cpu (length stores))
 
 -- the drops of one store more
 pub dropped_more : (pasts : ℕ → store.Past) (done : List ℕ) (cpu : ℕ) (dropped : ℕ)

@@ -2,28 +2,23 @@
 use Rattle.std.proofs.Common.{◌≡◌, ℕ, ◌<◌, ◌≤◌, ◌&&◌, ◌||◌, not, Bool, true, false, cond, List, [], ◌∷◌, Option, Some}
 use Rattle.std.proofs.Common.{None, Result, Ok, refl, sym, ap, ◌∙◌, subst}
 use Rattle.dt_aggstore.specs.declared.key.Aggregation.{Aggregation}
-use Rattle.dt_aggstore.specs.TableOf.{table_of}
-use Rattle.dt_life.specs.Stores.{stores_in}
-use Rattle.std.specs.Bool.{MatchBool, nat_lt}
+use Rattle.std.specs.Bool.{MatchBool}
 use Rattle.std.specs.Option.{MatchOption, is_none}
-use Rattle.std.proofs.lemmas.Bool.{le-leb, lt-leb, le-ltb, lt-ltb}
+use Rattle.std.proofs.lemmas.Bool.{le-leb, lt-leb, lt-ltb}
 use Rattle.dt_cred.specs.declared.account.Account.{Account}
-use Rattle.dt_cred.specs.declared.probe.Probe.{Probe as AProbe}
 use Rattle.dt_machine.specs.Registry.{Registry}
 use Rattle.dt_lang.specs.Program.{ClauseForm}
 use Rattle.dt_lang.specs.Reads.{Reading, program, fault, destructive}
 use Rattle.dt_lang.specs.declared.fault.Why.{Why}
 use Rattle.dt_lang.specs.declared.word.Destructive.{Destructive}
-use Rattle.dt_record.specs.Layout.{layout_of}
-use Rattle.dt_ecb.specs.Ecbs.{EcbForm}
 use Rattle.dt_ecb.specs.Enable.{EnableVerdict, IsVerdict, is_enabled}
-use Rattle.dt_life.specs.Answer.{Answer, described, refused, aggregated}
-use Rattle.dt_life.specs.Ask.{Ask, option, enable, go, stop, snap, describe, agg, trunc, close}
+use Rattle.dt_life.specs.Answer.{Answer, refused}
+use Rattle.dt_life.specs.Ask.{Ask, option, enable, go, stop, snap, agg, trunc, close}
 use Rattle.dt_life.specs.Life.{Item, asked, SetUp, is_active, is_over, is_inactive, is_stopped, is_readable, set_up}
 use Rattle.dt_life.specs.Life.{phase, phase_of, next_epid, since_then, happens, has_room, with_program, with_options}
 use Rattle.dt_life.specs.Life.{with_event, shapes_in}
 use Rattle.dt_life.specs.Options.{Setting, with_setting}
-use Rattle.dt_life.specs.Reply.{Replies, RepliesInQuota, IsVerdictOnCommand, Accepted, is_asked_late, ecb_of}
+use Rattle.dt_life.specs.Reply.{Replies, RepliesInQuota, IsVerdictOnCommand, Accepted, is_asked_late}
 use Rattle.dt_life.specs.Reply.{refusal_of, known}
 use Rattle.dt_life.specs.Takings.{began, ended, snapped, truncated, closed}
 use Rattle.dt_life.specs.declared.phase.End.TheVariants as end
@@ -31,7 +26,7 @@ use Rattle.dt_life.specs.declared.phase.Phase.{Phase}
 use Rattle.dt_life.specs.declared.phase.Phase.TheVariants.{Inactive, Active, Stopped}
 use Rattle.dt_life.specs.declared.refusal.Refusal.{Refusal}
 use Rattle.dt_life.specs.declared.refusal.Refusal.TheVariants as refusal
-use Rattle.dt_life.specs.declared.refusal.Refusal.TheVariants.{Program, Busy, Limit, NoCpu, NoEpid, Quota, NoAgg}
+use Rattle.dt_life.specs.declared.refusal.Refusal.TheVariants.{Program, Busy, Limit, NoCpu, Quota, NoAgg}
 
 module _ (account : Account) (registry : Registry) (life : List Item) where
   abbrev now : SetUp
@@ -51,13 +46,6 @@ module _ (account : Account) (registry : Registry) (life : List Item) where
       by_case Inactive e = refl
       by_case Active e = cc
       by_case (Stopped cause) e = cc
-
-  pub late_phase : is_asked_late account registry life ≡ true → is_inactive (phase account registry life) ≡ false
-  late_phase e = by_case (is_inactive (phase account registry life)) e
-    where
-      by_case : (b : Bool) → not b ≡ true → b ≡ false
-      by_case true e = cc
-      by_case false e = refl
 
   idle_is : phase account registry life ≡ Inactive → is_inactive (phase account registry life) ≡ true
   idle_is off = ap is_inactive off
@@ -142,17 +130,6 @@ module _ (account : Account) (registry : Registry) (life : List Item) where
       (idle_is off)
       ∙ ap (λ b. cond b (with_program now clauses) now) holds
 
-  -- `option`
-  pub option_busy : (setting : Option Setting) → is_inactive (phase account registry life) ≡ false
-      → IsVerdictOnCommand account registry life (option setting) (Some Busy)
-  option_busy setting on =
-      sym (ap (λ b. cond b (Some Busy) (cond (is_none setting) (Some refusal.Option) None)) (late on))
-
-  pub idle_option : (setting : Option Setting) → is_inactive (phase account registry life) ≡ false
-      → set_up account registry (asked (Ok (option setting)) ∷ life) ≡ now
-  idle_option None on = refl
-  idle_option (Some setting) on = ap (λ b. cond b (with_options now (with_setting now.options setting)) now) on
-
   pub option_refused : (setting : Option Setting) → setting ≡ None → phase account registry life ≡ Inactive
       → IsVerdictOnCommand account registry life (option setting) (Some refusal.Option)
   option_refused None e off =
@@ -173,11 +150,6 @@ module _ (account : Account) (registry : Registry) (life : List Item) where
       ≡ with_options now (with_setting now.options setting)
   set_by setting off = ap (λ b. cond b (with_options now (with_setting now.options setting)) now) (idle_is off)
 
-  -- `go`
-  pub go_busy : is_inactive (phase account registry life) ≡ false
-      → IsVerdictOnCommand account registry life go (Some Busy)
-  go_busy on = sym (ap (λ b. cond b (Some Busy) (cond (not (has_room account registry now)) (Some Limit) None)) (late on))
-
   pub go_taken : phase account registry life ≡ Inactive
       → has_room account registry (set_up account registry life) ≡ true
       → IsVerdictOnCommand account registry life go None
@@ -186,29 +158,8 @@ module _ (account : Account) (registry : Registry) (life : List Item) where
       (ap (λ b. cond b (Some Busy) (cond (not (has_room account registry now)) (Some Limit) None)) (early off)
       ∙ ap (λ b. cond (not b) (Some Limit) None) room)
 
-  pub go_limited : phase account registry life ≡ Inactive
-      → has_room account registry (set_up account registry life) ≡ false
-      → IsVerdictOnCommand account registry life go (Some Limit)
-  go_limited off room =
-      sym
-      (ap (λ b. cond b (Some Busy) (cond (not (has_room account registry now)) (Some Limit) None)) (early off)
-      ∙ ap (λ b. cond (not b) (Some Limit) None) room)
-
   abbrev begun : SetUp
   begun = happens account registry (since_then now []) began
-
-  pub idle_go : is_inactive (phase account registry life) ≡ false
-      → set_up account registry (asked (Ok go) ∷ life) ≡ now
-  idle_go on = ap (λ b. cond (b && has_room account registry now) begun now) on
-
-  pub idle_limited : has_room account registry (set_up account registry life) ≡ false
-      → set_up account registry (asked (Ok go) ∷ life) ≡ now
-  idle_limited room =
-      ap (λ b. cond (is_inactive (phase_of now) && b) begun now) room ∙ neither (is_inactive (phase_of now))
-    where
-      neither : (b : Bool) → cond (b && false) begun now ≡ now
-      neither true = refl
-      neither false = refl
 
   pub begun_by_go : phase account registry life ≡ Inactive
       → has_room account registry (set_up account registry life) ≡ true
@@ -218,17 +169,8 @@ module _ (account : Account) (registry : Registry) (life : List Item) where
       ap (λ b. cond (b && has_room account registry now) begun now) (idle_is off)
       ∙ ap (λ b. cond b begun now) room
 
-  -- `stop`
-  pub stop_busy : is_active (phase account registry life) ≡ false
-      → IsVerdictOnCommand account registry life stop (Some Busy)
-  stop_busy e = sym (ap (λ b. cond (not b) (Some Busy) None) e)
-
   pub stop_taken : phase account registry life ≡ Active → IsVerdictOnCommand account registry life stop None
   stop_taken on = sym (ap (λ p. cond (not (is_active p)) (Some Busy) None) on)
-
-  pub idle_stop : is_active (phase account registry life) ≡ false
-      → set_up account registry (asked (Ok stop) ∷ life) ≡ now
-  idle_stop e = ap (λ b. cond b (with_event now (ended end.Stop)) now) e
 
   pub stopped_by : phase account registry life ≡ Active
       → set_up account registry (asked (Ok stop) ∷ life) ≡ with_event (set_up account registry life) (ended end.Stop)
@@ -255,28 +197,10 @@ module _ (account : Account) (registry : Registry) (life : List Item) where
       (lt-leb registry.cpus n inside)
       ∙ ap by_phase e)
 
-  pub snap_early : (n : ℕ) → n < registry.cpus
-      → is_readable (set_up account registry life) (phase account registry life) ≡ false
-      → IsVerdictOnCommand account registry life (snap n) (Some Busy)
-  snap_early n inside off = verdict_inside n false inside off
-
   pub snap_taken : (n : ℕ) → n < registry.cpus
       → is_readable (set_up account registry life) (phase account registry life) ≡ true
       → IsVerdictOnCommand account registry life (snap n) None
   snap_taken n inside on = verdict_inside n true inside on
-
-  pub idle_early : (n : ℕ) → is_readable (set_up account registry life) (phase account registry life) ≡ false
-      → set_up account registry (asked (Ok (snap n)) ∷ life) ≡ now
-  idle_early n off =
-      ap (λ b. cond (nat_lt n registry.cpus && b) (with_event now (snapped n)) now) off ∙ neither (nat_lt n registry.cpus)
-    where
-      neither : (b : Bool) → cond (b && false) (with_event now (snapped n)) now ≡ now
-      neither true = refl
-      neither false = refl
-
-  pub idle_past : (n : ℕ) → registry.cpus ≤ n → set_up account registry (asked (Ok (snap n)) ∷ life) ≡ now
-  idle_past n past = ap
-      (λ b. cond (b && is_readable now (phase_of now)) (with_event now (snapped n)) now) (le-ltb n registry.cpus past)
 
   pub snapped_by : (n : ℕ) → n < registry.cpus
       → is_readable (set_up account registry life) (phase account registry life) ≡ true
@@ -294,42 +218,12 @@ module _ (account : Account) (registry : Registry) (life : List Item) where
       → IsVerdictOnCommand account registry life (agg name) (Some NoAgg)
   no_agg name none = sym (ap by_known none)
 
-  pub no_trunc : (name : List ℕ) → known account registry life name ≡ None
-      → IsVerdictOnCommand account registry life (trunc name) (Some NoAgg)
-  no_trunc name none = sym (ap by_known none)
-
-  pub some_agg : (name : List ℕ) (a : Aggregation) → known account registry life name ≡ Some a
-      → IsVerdictOnCommand account registry life (agg name) None
-  some_agg name a is = sym (ap by_known is)
-
   pub some_trunc : (name : List ℕ) (a : Aggregation) → known account registry life name ≡ Some a
       → IsVerdictOnCommand account registry life (trunc name) None
   some_trunc name a is = sym (ap by_known is)
 
-  pub table_told : (name : List ℕ) (a : Aggregation) (answer : Answer) → known account registry life name ≡ Some a
-      → answer ≡ aggregated name a.function
-      (table_of (stores_in account registry (set_up account registry life)) a)
-      → Accepted account registry life (agg name) answer
-  table_told name a answer is e =
-      let P : Option Aggregation → Type 0 = λ o. MatchOption o ⊥
-      (λ (x : Aggregation). answer ≡ aggregated name x.function (table_of (stores_in account registry now) x)) in
-      subst P (sym is) e
-
   abbrev by_trunc : List ℕ → Bool → SetUp
   by_trunc name b = cond b now (with_event now (truncated name))
-
-  pub idle_unknown : (name : List ℕ) → known account registry life name ≡ None
-      → set_up account registry (asked (Ok (trunc name)) ∷ life) ≡ now
-  idle_unknown name none =
-      ap (λ o. by_trunc name (is_inactive (phase_of now) || is_none o)) none ∙ either (is_inactive (phase_of now))
-    where
-      either : (b : Bool) → by_trunc name (b || true) ≡ now
-      either true = refl
-      either false = refl
-
-  pub idle_before : (name : List ℕ) → phase account registry life ≡ Inactive
-      → set_up account registry (asked (Ok (trunc name)) ∷ life) ≡ now
-  idle_before name off = ap (λ b. by_trunc name (b || is_none (known account registry life name))) (idle_is off)
 
   pub truncated_by : (name : List ℕ) (a : Aggregation) → is_inactive (phase account registry life) ≡ false
       → known account registry life name ≡ Some a
@@ -344,21 +238,3 @@ module _ (account : Account) (registry : Registry) (life : List Item) where
       → set_up account registry (asked (Ok close) ∷ life)
       ≡ cond b (set_up account registry life) (with_event (set_up account registry life) closed)
   closed_by b e = ap (λ x. cond x now (with_event now closed)) e
-
-  -- `describe`
-  pub no_ecb : (epid : ℕ) → ecb_of account registry life epid ≡ None
-      → IsVerdictOnCommand account registry life (describe epid) (Some NoEpid)
-  no_ecb epid none = sym (ap (λ (o : Option (AProbe × EcbForm)). cond (is_none o) (Some NoEpid) None) none)
-
-  pub some_ecb : (epid : ℕ) (found : AProbe × EcbForm) → ecb_of account registry life epid ≡ Some found
-      → IsVerdictOnCommand account registry life (describe epid) None
-  some_ecb epid found is = sym (ap (λ (o : Option (AProbe × EcbForm)). cond (is_none o) (Some NoEpid) None) is)
-
-  pub described_by : (epid : ℕ) (found : AProbe × EcbForm) (answer : Answer)
-      → ecb_of account registry life epid ≡ Some found
-      → answer ≡ described epid found.0 (layout_of found.1.clause)
-      → Accepted account registry life (describe epid) answer
-  described_by epid found answer is e =
-      let P : Option (AProbe × EcbForm) → Type 0 = λ o. MatchOption o ⊥
-      (λ (f : AProbe × EcbForm). answer ≡ described epid f.0 (layout_of f.1.clause)) in
-      subst P (sym is) e

@@ -1,5 +1,5 @@
 -- An account under another name is shown the same firings.
-use Rattle.std.proofs.Common.{◌≡◌, ℕ, Bool, true, List, Some, IsTrue, ap, sym, subst}
+use Rattle.std.proofs.Common.{◌≡◌, ℕ, Bool, true, List, Some, IsTrue, ap}
 use Rattle.std.specs.Option.{option_map_or}
 use Rattle.dt_cred.specs.declared.account.Account.{Account}
 use Rattle.dt_cred.specs.declared.account.Process.{Process}
@@ -9,7 +9,6 @@ use Rattle.dt_cred.specs.declared.probe.Probe.{Probe}
 use Rattle.dt_cred.specs.declared.rights.Mode.{Mode}
 use Rattle.dt_cred.specs.laws.Accounts.{renamed, admits_alike}
 use Rattle.dt_machine.specs.Registry.{Registry, probe_of, process_of}
-use Rattle.dt_machine.specs.Shown.{IsShown}
 use Rattle.dt_machine.specs.Tests.{is_shown}
 
 module _ (account : Account) (name : List ℕ) (registry : Registry) where
@@ -27,6 +26,3 @@ module _ (account : Account) (name : List ℕ) (registry : Registry) where
   pub shown_alike : (firing : Firing) → is_shown (renamed account name) registry firing ≡ is_shown account registry firing
   unfolding is_shown
   shown_alike firing = ap (λ admitted. shown_by admitted firing) (admits_alike account name)
-
-  pub shown_renamed : (firing : Firing) → IsShown account registry firing → IsShown (renamed account name) registry firing
-  shown_renamed firing h = subst (λ admitted. IsShownBy admitted firing) (sym (admits_alike account name)) h
