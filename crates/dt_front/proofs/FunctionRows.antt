@@ -14,7 +14,7 @@ use Rattle.dt_aggfn.specs.declared.levels.Bounds.{Bounds}
 use Rattle.dt_aggfn.specs.Rows.{CountingRow, below_row, level_from, level_row, levels_of, lquantize_rows, minus_power_row, power_row, quantize_rows, upper_row, zero_row}
 use Rattle.dt_front.specs.Distribution.{level_label, level_rows, picture_row, picture_rows, power_label, power_rows}
 use Rattle.dt_front.specs.Picture.{PictureRowForm}
-use Rattle.dt_front.proofs.Levels.{level_is_no_bound}
+use Rattle.dt_aggfn.specs.laws.Levels.{level_is_no_bound}
 
 -- the powers fit
 pub power_fits : (k : ℕ) → k < 63 → FitsSigned w64 (pos (2 ^ k))

@@ -6,7 +6,6 @@ pub mod Added
 pub mod Told
 pub mod Words
 pub mod Known
-pub mod Levels
 pub mod FunctionRows
 pub mod Lines
 pub mod PlainRows

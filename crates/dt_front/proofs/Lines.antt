@@ -6,23 +6,24 @@ use Rattle.std.specs.Int.{w64}
 use Rattle.std.specs.List.{AllByRecursion, flat_map, list_all}
 use Rattle.std.proofs.lemmas.Fmt.{decimal_by_steps}
 use Rattle.std.proofs.lemmas.List.Elements.{All-append, All-cons, All-nil, All-replicate, All-weaker}
+use Rattle.dt_names.specs.Bytes.{newline, space, hyphen, zero_digit}
 use Rattle.dt_front.specs.Columns.{at_left, at_right, blanks}
 use Rattle.dt_front.specs.Escaping.{AreBytes, ArePlain, ArePlainLines, IsPlain, IsPlainOrNewline, is_plain_byte, shown}
 use Rattle.dt_front.proofs.Plain.{bytes_plain, test_plain}
 
 -- a test of what is written out
 abbrev is_line_byte : ℕ → Bool
-is_line_byte byte = is_plain_byte byte || (byte == 10)
+is_line_byte byte = is_plain_byte byte || (byte == newline)
 
 either_passes : (p q : Bool) (A B : Type 0) → (p ≡ true → A) → (q ≡ true → B) → (p || q) ≡ true → A ⊎ B
 either_passes true q A B first second passes = inl (first refl)
 either_passes false q A B first second passes = inr (second passes)
 
-byte_is : (byte : ℕ) → (byte == 10) ≡ true → byte ≡ 10
+byte_is : (byte : ℕ) → (byte == newline) ≡ true → byte ≡ newline
 byte_is byte passes = search (rules, passes)
 
 byte_tested : (byte : ℕ) → is_line_byte byte ≡ true → IsPlainOrNewline byte
-byte_tested byte passes = either_passes (is_plain_byte byte) (byte == 10) (IsPlain byte) (byte ≡ 10) (test_plain byte) (byte_is byte) passes
+byte_tested byte passes = either_passes (is_plain_byte byte) (byte == newline) (IsPlain byte) (byte ≡ newline) (test_plain byte) (byte_is byte) passes
 
 first_passes : (p q : Bool) → (p && q) ≡ true → p ≡ true
 first_passes true q passes = refl
@@ -59,7 +60,7 @@ pub repeated : (n byte : ℕ) → IsPlainOrNewline byte → ArePlainLines (repli
 repeated n byte is = All-replicate IsPlainOrNewline n byte is
 
 pub blank_lines : (n : ℕ) → ArePlainLines (blanks n)
-blank_lines n = repeated n 32 (inl (omega arith, omega arith))
+blank_lines n = repeated n space (inl (omega arith, omega arith))
 
 pub right_lines : (width : ℕ) (text : List ℕ) → ArePlainLines text → ArePlainLines (at_right width text)
 right_lines width text are = joined (blanks (width - length text)) text (blank_lines (width - length text)) are
@@ -67,20 +68,20 @@ right_lines width text are = joined (blanks (width - length text)) text (blank_l
 pub left_lines : (width : ℕ) (text : List ℕ) → ArePlainLines text → ArePlainLines (at_left width text)
 left_lines width text are = joined text (blanks (width - length text)) are (blank_lines (width - length text))
 
-digit_is : (n : ℕ) → n < 10 → ArePlain ((48 + n) ∷ [])
-digit_is n small = All-cons IsPlain (48 + n) [] (omega (arith, small), omega (arith, small)) (All-nil IsPlain)
+digit_is : (n : ℕ) → n < 10 → ArePlain ((zero_digit + n) ∷ [])
+digit_is n small = All-cons IsPlain (zero_digit + n) [] (omega (arith, small), omega (arith, small)) (All-nil IsPlain)
 
 -- numbers
 pub decimal_plain : (n : ℕ) → n < 2 ^ 64 → ArePlain (decimal n)
 decimal_plain n small =
     decimal_by_steps (λ m ds. ArePlain ds) digit_is
-    (λ m ds high before. All-append IsPlain ds ((48 + m % 10) ∷ []) before (digit_is (m % 10) (omega arith))) n small
+    (λ m ds high before. All-append IsPlain ds ((zero_digit + m % 10) ∷ []) before (digit_is (m % 10) (omega arith))) n small
 
 pub signed_plain : (z : ℤ) → FitsSigned w64 z → ArePlain (signed_decimal z)
 signed_plain (pos n) fits = let small = fits.sfits in decimal_plain n (omega (arith, small))
 signed_plain (negsuc n) fits =
     let small = fits.sfits in
-    All-cons IsPlain 45 (decimal (suc n)) (omega arith, omega arith) (decimal_plain (suc n) (omega (arith, small)))
+    All-cons IsPlain hyphen (decimal (suc n)) (omega arith, omega arith) (decimal_plain (suc n) (omega (arith, small)))
 
 pub decimal_lines : (n : ℕ) → n < 2 ^ 64 → ArePlainLines (decimal n)
 decimal_lines n small = plain_lines (decimal n) (decimal_plain n small)

@@ -14,7 +14,7 @@ use Rattle.dt_front.specs.Distribution.{count_at, level_label, level_rows, pictu
 use Rattle.dt_front.specs.Escaping.{ArePlain, IsPlain}
 use Rattle.dt_front.specs.Printed.{IsPrintedRow}
 use Rattle.dt_front.proofs.FunctionRows.{power_fits}
-use Rattle.dt_front.proofs.Levels.{level_fits}
+use Rattle.dt_aggfn.specs.laws.Levels.{level_fits}
 use Rattle.dt_front.proofs.Lines.{chosen, plain_tested, signed_plain}
 
 -- a count that is told has 64 bits

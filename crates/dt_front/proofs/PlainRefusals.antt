@@ -4,6 +4,7 @@ use Rattle.std.specs.Prelude.{IfSome, codes}
 use Rattle.std.specs.Str.{bytes_eq}
 use Rattle.std.specs.List.{position_or_len}
 use Rattle.std.proofs.lemmas.List.Elements.{All-drop, All-nil, All-take}
+use Rattle.dt_names.specs.Bytes.{newline}
 use Rattle.dt_front.specs.Columns.{blanks}
 use Rattle.dt_front.specs.Escaping.{AreBytes, ArePlainLines, IsPlainOrNewline, shown}
 use Rattle.dt_front.specs.Printed.{IsPrintedRefusal}
@@ -88,7 +89,7 @@ caret_lines page text at are =
     let before_are : AreBytes (before_place text at) =
     All-drop (λ b. b < 256) (length head - tail_length head) head (All-take (λ b. b < 256) at text are) in
     let from_are : AreBytes (from_place text at) =
-    All-take (λ b. b < 256) (position_or_len (λ b. b == 10) (drop at text)) (drop at text) (All-drop (λ b. b < 256) at text are) in
+    All-take (λ b. b < 256) (position_or_len (λ b. b == newline) (drop at text)) (drop at text) (All-drop (λ b. b < 256) at text are) in
     marked_lines page (codes "    " ++ shown (before_place text at)) (shown (from_place text at))
     (joined (codes "    ") (shown (before_place text at)) (tested (codes "    ") refl) (shown_lines (before_place text at) before_are))
     (shown_lines (from_place text at) from_are)

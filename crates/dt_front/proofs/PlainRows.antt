@@ -1,11 +1,13 @@
 -- Rows and pictures are plain lines.
-use Rattle.std.proofs.Common.{ℕ, zero, suc, ◌-◌, ◌/◌, ◌%◌, ◌<◌, ◌^◌, ◌==◌, ◌++◌, inl, Bool, true, false, List, [], ◌∷◌, Option, Some, None, replicate, length, refl, arith}
-use Rattle.std.specs.Prelude.{IfSome, codes, decimal, drop, take, reverse}
+use Rattle.std.proofs.Common.{ℕ, zero, suc, ◌-◌, ◌/◌, ◌%◌, ◌<◌, ◌^◌, ◌==◌, ◌||◌, ◌++◌, inl, Bool, List, [], ◌∷◌, Option, Some, None, replicate, length, refl, arith}
+use Rattle.std.specs.Prelude.{IfSome, codes, decimal, drop, slice_get, take, reverse}
 use Rattle.std.specs.Fmt.{signed_decimal}
 use Rattle.std.specs.Int.{bytes_high_first, byte_at}
 use Rattle.std.specs.List.{AllByRecursion, flat_map, position_or_len}
 use Rattle.std.proofs.lemmas.List.Elements.{All-cons, All-nil, All-take}
 use Rattle.dt_record.specs.Split.{RecordForm, RecordedForm, number, text, frames}
+use Rattle.dt_names.specs.Bytes.{hyphen, at_sign}
+use Rattle.dt_front.specs.Limits.{bar_min, label_width}
 use Rattle.dt_front.specs.Columns.{at_right, blanks}
 use Rattle.dt_front.specs.Escaping.{ArePlainLines, IsPlainOrNewline, hex_digit, shown}
 use Rattle.dt_front.specs.Parts.{before_byte}
@@ -72,8 +74,8 @@ record_lines page cpu (Some probe') r small probe is =
     joined (row_columns page cpu probe') (values_text r) (columns_lines page cpu probe' small probe) (values_lines r is)
 
 probe_is : (quiet : Bool) (probes : List ProbeForm) (epid : ℕ) → AllByRecursion IsPrintedProbe probes → IfSome (row_probe quiet probes epid) IsPrintedProbe
-probe_is true probes epid each = tt
-probe_is false probes epid each = some_of IsPrintedProbe probes (epid - 1) each
+probe_is quiet probes epid each =
+    chosen (λ o. IfSome o IsPrintedProbe) (quiet || (epid == 0)) None (slice_get probes (epid - 1)) tt (some_of IsPrintedProbe probes (epid - 1) each)
 
 pub rows_lines : (page cpu : ℕ) (quiet : Bool) (probes : List ProbeForm) (records : List RecordForm) → cpu < 2 ^ 64
     → AllByRecursion IsPrintedProbe probes → AllByRecursion IsPrintedRecord records → ArePlainLines (rows_text page quiet cpu probes records)
@@ -83,23 +85,23 @@ rows_lines page cpu quiet probes records small each is =
     (λ r. record_lines page cpu (row_probe quiet probes r.epid) r small (probe_is quiet probes r.epid each)) is)
 
 bar_lines : (longest columns : ℕ) → ArePlainLines (bar longest columns)
-bar_lines longest columns = joined _ (blanks (longest - columns)) (repeated columns 64 (inl (omega arith, omega arith))) (blank_lines (longest - columns))
+bar_lines longest columns = joined _ (blanks (longest - columns)) (repeated columns at_sign (inl (omega arith, omega arith))) (blank_lines (longest - columns))
 
 row_lines : (longest total : ℕ) (row : PictureRowForm) → IsPrintedRow row → ArePlainLines (row_line longest total row)
 row_lines longest total row is =
     let columns = bar_columns longest row.count total in
-    glued (at_right 16 row.label) (codes " |" ∷ bar longest columns ∷ codes " " ∷ decimal row.count ∷ codes "\n" ∷ [])
-    (right_lines 16 row.label (plain_lines row.label is.0))
+    glued (at_right label_width row.label) (codes " |" ∷ bar longest columns ∷ codes " " ∷ decimal row.count ∷ codes "\n" ∷ [])
+    (right_lines label_width row.label (plain_lines row.label is.0))
     (tested (codes " |") refl, (bar_lines longest columns, (tested (codes " ") refl, (decimal_lines row.count is.1, (tested (codes "\n") refl, tt)))))
 
 picture_head_lines : (longest : ℕ) → ArePlainLines (picture_head longest)
 picture_head_lines longest =
-    let dash : IsPlainOrNewline 45 = inl (omega arith, omega arith) in
-    let before = replicate ((longest - 14) / 2) 45 in
-    let after = replicate (longest - 14 - (longest - 14) / 2) 45 in
+    let dash : IsPlainOrNewline hyphen = inl (omega arith, omega arith) in
+    let before = replicate ((longest - bar_min) / 2) hyphen in
+    let after = replicate (longest - bar_min - (longest - bar_min) / 2) hyphen in
     let head : ArePlainLines (bars_head longest) =
-    glued before (codes " Distribution " ∷ after ∷ []) (repeated ((longest - 14) / 2) 45 dash)
-    (tested (codes " Distribution ") refl, (repeated (longest - 14 - (longest - 14) / 2) 45 dash, tt)) in
+    glued before (codes " Distribution " ∷ after ∷ []) (repeated ((longest - bar_min) / 2) hyphen dash)
+    (tested (codes " Distribution ") refl, (repeated (longest - bar_min - (longest - bar_min) / 2) hyphen dash, tt)) in
     glued (codes "           value  ") (bars_head longest ∷ codes " count\n" ∷ []) (tested (codes "           value  ") refl)
     (head, (tested (codes " count\n") refl, tt))
 

@@ -5,11 +5,13 @@ use Rattle.std.specs.Fmt.{signed_decimal}
 use Rattle.std.specs.Int.{w64}
 use Rattle.std.specs.List.{AllByRecursion, position_or_len}
 use Rattle.std.proofs.lemmas.List.Elements.{All-drop, All-take}
+use Rattle.dt_names.specs.Bytes.{colon}
+use Rattle.dt_front.specs.Limits.{table_width}
 use Rattle.dt_front.specs.Columns.{at_left, at_right}
 use Rattle.dt_front.specs.Escaping.{AreBytes, ArePlainLines, shown}
 use Rattle.dt_front.specs.Parts.{after_byte, before_byte}
 use Rattle.dt_front.specs.Printed.{IsPrintedPart}
-use Rattle.dt_front.specs.Probes.{narrow_head, narrow_line, probe_columns, probe_line, probe_names, probes_head, table_head, table_line, table_width}
+use Rattle.dt_front.specs.Probes.{narrow_head, narrow_line, probe_columns, probe_line, probe_names, probes_head, table_head, table_line}
 use Rattle.dt_front.specs.Tables.{KeyForm, number, text, key_column, key_columns, number_line, table_title}
 use Rattle.dt_front.proofs.Lines.{chosen, decimal_lines, each_is, flat_lines, glued, joined, left_lines, right_lines, shown_lines, signed_lines, tested}
 
@@ -36,21 +38,21 @@ narrow_lines id name small are =
 
 probe_lines : (id : ℕ) (name : List ℕ) → id < 2 ^ 64 → AreBytes name → ArePlainLines (probe_line id name)
 probe_lines id name small are =
-    let after = after_byte 58 name in
-    let last = after_byte 58 after in
-    let after_are = after_is 58 name are in
-    let last_are = after_is 58 after after_are in
+    let after = after_byte colon name in
+    let last = after_byte colon after in
+    let after_are = after_is colon name are in
+    let last_are = after_is colon after after_are in
     let blank = tested (codes " ") refl in
     let first : ArePlainLines (probe_columns id name) =
-    glued (at_right 5 (decimal id)) (codes " " ∷ at_right 10 (shown (before_byte 58 name)) ∷ codes " " ∷ at_right 17 (shown (before_byte 58 after)) ∷ [])
+    glued (at_right 5 (decimal id)) (codes " " ∷ at_right 10 (shown (before_byte colon name)) ∷ codes " " ∷ at_right 17 (shown (before_byte colon after)) ∷ [])
     (number_lines id small)
-    (blank, (column_lines 10 (before_byte 58 name) (before_is 58 name are), (blank, (column_lines 17 (before_byte 58 after) (before_is 58 after after_are), tt)))) in
+    (blank, (column_lines 10 (before_byte colon name) (before_is colon name are), (blank, (column_lines 17 (before_byte colon after) (before_is colon after after_are), tt)))) in
     let second : ArePlainLines (probe_names last) =
-    glued (codes " ") (at_right 33 (shown (before_byte 58 last)) ∷ codes " " ∷ shown (after_byte 58 last) ∷ codes "\n" ∷ []) blank (
-      column_lines 33 (before_byte 58 last) (before_is 58 last last_are),
+    glued (codes " ") (at_right 33 (shown (before_byte colon last)) ∷ codes " " ∷ shown (after_byte colon last) ∷ codes "\n" ∷ []) blank (
+      column_lines 33 (before_byte colon last) (before_is colon last last_are),
       (
         blank,
-        (shown_lines (after_byte 58 last) (after_is 58 last last_are), (tested (codes "\n") refl, tt)),
+        (shown_lines (after_byte colon last) (after_is colon last last_are), (tested (codes "\n") refl, tt)),
       ),
     ) in
     joined (probe_columns id name) (probe_names last) first second

@@ -12,6 +12,7 @@ use Rattle.dt_record.specs.Fields.{form_of_field}
 use Rattle.dt_record.specs.declared.layout.Field.{Field}
 use Rattle.dt_record.specs.declared.layout.Field.TheVariants.{Number, Text, Stack, Ustack}
 use Rattle.std.proofs.lemmas.List.{get_or-map, length-map, take_all}
+use Rattle.dt_names.specs.Bytes.{zero_digit}
 use Rattle.dt_front.specs.Replies.{AreWordsOf, IsLayoutField}
 
 pub text_is : (d : Data) (s : List ℕ) → Some s ≡ as_str d → d ≡ string s
@@ -22,19 +23,19 @@ text_is (string t) s is = let same : s ≡ t = grind (arith, is) in ap (λ r. st
 text_is (array ds) s is = absurd (grind (arith, is))
 text_is (object ms) s is = absurd (grind (arith, is))
 
-pub one_digit : (count : List ℕ) (n : ℕ) → n ≤ 8 → count ≡ decimal n → count ≡ (48 + n) ∷ []
+pub one_digit : (count : List ℕ) (n : ℕ) → n ≤ 8 → count ≡ decimal n → count ≡ (zero_digit + n) ∷ []
 one_digit count n few same = same ∙ decimal_digit n (omega (arith, few))
 
-pub frames_by_digit : (count : List ℕ) (digit : ℕ) (z : ℤ) (r : Option Frames) → count ≡ digit ∷ [] → z ≡ pos digit -ℤ pos 48
+pub frames_by_digit : (count : List ℕ) (digit : ℕ) (z : ℤ) (r : Option Frames) → count ≡ digit ∷ [] → z ≡ pos digit -ℤ pos zero_digit
     → IfSome r (λ frames. z ≡ pos frames.count) → IfNone r ((n : ℕ) → z ≡ pos n → 1 ≤ n → n ≤ 8 → ⊥)
     → MatchOption r ((n : ℕ) → 1 ≤ n → n ≤ 8 → count ≡ decimal n → ⊥) (λ frames. count ≡ decimal frames.count)
 frames_by_digit count digit z None is gives found none = λ n some few same.
-    let digits : digit ∷ [] ≡ (48 + n) ∷ [] = sym is ∙ one_digit count n few same in
-    let first : digit ≡ 48 + n = ap (λ l. get_or l 0 0) digits in
+    let digits : digit ∷ [] ≡ (zero_digit + n) ∷ [] = sym is ∙ one_digit count n few same in
+    let first : digit ≡ zero_digit + n = ap (λ l. get_or l 0 0) digits in
     none n (omega (arith, ints, gives, first)) some few
 frames_by_digit count digit z (Some frames) is gives found none =
     let few : frames.count ≤ 8 = frames.few in
-    let first : digit ≡ 48 + frames.count = omega (arith, ints, gives, found) in
+    let first : digit ≡ zero_digit + frames.count = omega (arith, ints, gives, found) in
     is ∙ ap (λ n. n ∷ []) first ∙ sym (decimal_digit frames.count (omega (arith, few)))
 
 -- each value of a layout is one that a record may have

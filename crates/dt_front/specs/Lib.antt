@@ -1,6 +1,7 @@
 -- What `dtr` prints, as functions of the values that it prints, and what replies tell it.
 
 -- What is promised.
+pub mod Limits
 pub mod Escaping
 pub mod Columns
 pub mod Parts

@@ -1,19 +1,12 @@
 -- Why a line was refused, and the program's text with a caret under the byte that is wrong.
-use Rattle.std.specs.Prelude.{ℕ, ◌-◌, ◌%◌, ◌==◌, ◌&&◌, Bool, List, [], ◌++◌, if◌then◌else◌, codes, drop, take, length, reverse, Option, option_map, option_and_then}
+use Rattle.std.specs.Prelude.{ℕ, ◌-◌, ◌%◌, ◌==◌, ◌&&◌, Bool, List, [], ◌++◌, if◌then◌else◌, codes, drop, take, length, reverse, Option, option_map}
 use Rattle.std.specs.List.{position_or_len}
 use Rattle.serde_json.specs.Data.{Data}
-use Rattle.serde_json.specs.Find.{get, as_str, as_number, as_u64}
+use Rattle.dt_names.specs.Bytes.{newline}
 use Rattle.dt_front.specs.Columns.{blanks}
 use Rattle.dt_front.specs.Parts.{before_byte}
 use Rattle.dt_front.specs.Escaping.{shown}
-
--- the text of an object's field, where it is one
-abbrev pub told_text : List ℕ → Data → Option (List ℕ)
-told_text key d = option_and_then as_str (get key d)
-
--- the number of an object's field, where it is one of 64 bits without a sign
-abbrev pub told_number : List ℕ → Data → Option ℕ
-told_number key d = option_and_then as_u64 (option_and_then as_number (get key d))
+use Rattle.dt_front.specs.Replies.{told_number, told_text}
 
 -- a refusal: its number, and what else is told of it
 pub record RefusalForm : Type 0 where
@@ -34,7 +27,7 @@ refusal_in d = option_map (λ number. record {
 }) (told_number (codes "error") d)
 
 abbrev pub ends_line : ℕ → Bool
-ends_line byte = byte == 10
+ends_line byte = byte == newline
 
 -- of bytes, how many come after the last newline
 abbrev pub tail_length : List ℕ → ℕ
@@ -45,7 +38,7 @@ abbrev pub before_place : List ℕ → ℕ → List ℕ
 before_place text at = drop (length (take at text) - tail_length (take at text)) (take at text)
 
 abbrev pub from_place : List ℕ → ℕ → List ℕ
-from_place text at = before_byte 10 (drop at text)
+from_place text at = before_byte newline (drop at text)
 
 -- on a page of this width, the column of a place, from 0 on, on whose line so many columns are before it; and how many its row has from there on
 abbrev pub caret_column : ℕ → ℕ → ℕ

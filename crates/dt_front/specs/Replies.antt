@@ -1,9 +1,9 @@
--- Replies as what they tell: the keys and the counts of rows, and the layouts of records.
+-- Replies as what they tell: fields, the keys and the counts of rows, and the layouts of records.
 use Rattle.std.specs.Prelude.{◌≡◌, ℕ, ◌≤◌, ℤ, List, [], ◌∷◌, length, map, Option, Some, None, option_and_then, option_map}
 use Rattle.std.specs.Option.{option_or}
 use Rattle.std.specs.List.{AllByRecursion}
 use Rattle.serde_json.specs.Data.{Data, string}
-use Rattle.serde_json.specs.Find.{at, as_i64, as_null, as_number, as_str, as_u64}
+use Rattle.serde_json.specs.Find.{at, get, as_i64, as_null, as_number, as_str, as_u64}
 use Rattle.dt_program.specs.Limits.{frames_max, statements_max}
 use Rattle.dt_record.specs.Layout.{FieldForm, field_word, number, text, stack, ustack}
 use Rattle.dt_front.specs.Tables.{KeyForm}
@@ -15,6 +15,13 @@ told_signed d = option_and_then as_i64 (as_number d)
 
 abbrev pub told_unsigned : Data → Option ℕ
 told_unsigned d = option_and_then as_u64 (as_number d)
+
+-- the number of an object's field, where it is one without a sign, and the text of one, where it is a text
+abbrev pub told_number : List ℕ → Data → Option ℕ
+told_number key d = option_and_then told_unsigned (get key d)
+
+abbrev pub told_text : List ℕ → Data → Option (List ℕ)
+told_text key d = option_and_then as_str (get key d)
 
 -- what each of some values is, in order; nothing where one of them is nothing
 abbrev pub all_told : {X Y : Type 0} → (X → Option Y) → List X → Option (List Y)

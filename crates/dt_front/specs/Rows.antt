@@ -4,6 +4,7 @@ use Rattle.std.specs.Fmt.{signed_decimal}
 use Rattle.std.specs.List.{flat_map}
 use Rattle.std.specs.Int.{bytes_high_first}
 use Rattle.dt_record.specs.Split.{RecordedForm, RecordForm, number, text, frames}
+use Rattle.dt_front.specs.Limits.{names_max, names_min, beside_names}
 use Rattle.dt_front.specs.Columns.{at_right}
 use Rattle.dt_front.specs.Parts.{before_byte}
 use Rattle.dt_front.specs.Escaping.{hex_digit, shown}
@@ -15,7 +16,7 @@ pub record ProbeForm : Type 0 where
 
 -- how many columns the names of probes have on a page of this width: 32, fewer where the page has fewer than 52, and never fewer than 20
 abbrev pub name_width : ℕ → ℕ
-name_width page = max 20 (min 32 (page - 20))
+name_width page = max names_min (min names_max (page - beside_names))
 
 -- the head of all rows
 abbrev pub rows_head : ℕ → List ℕ

@@ -6,7 +6,7 @@ use itoa::Buffer;
 use std::alloc::AllocError;
 
 /// Adds so many blanks.
-pub fn push_blanks(out: &mut Vec<u8>, count: usize) -> Result<(), AllocError>
+pub(crate) fn push_blanks(out: &mut Vec<u8>, count: usize) -> Result<(), AllocError>
     ensures { OnOk result (out.new.items ≡ out.old.items ++ blanks count) }
 {
     push_repeated(out, b' ', count)
@@ -23,7 +23,7 @@ pub(crate) fn push_repeated(out: &mut Vec<u8>, byte: u8, count: usize) -> Result
 }
 
 /// Adds a text at the left of a column of this width.
-pub fn push_left(out: &mut Vec<u8>, width: usize, text: &[u8]) -> Result<(), AllocError>
+pub(crate) fn push_left(out: &mut Vec<u8>, width: usize, text: &[u8]) -> Result<(), AllocError>
     ensures { OnOk result (out.new.items ≡ out.old.items ++ at_left width text.now) }
 {
     out.extend_from_slice(text)?;
@@ -31,7 +31,7 @@ pub fn push_left(out: &mut Vec<u8>, width: usize, text: &[u8]) -> Result<(), All
 }
 
 /// Adds a text at the right of a column of this width.
-pub fn push_right(out: &mut Vec<u8>, width: usize, text: &[u8]) -> Result<(), AllocError>
+pub(crate) fn push_right(out: &mut Vec<u8>, width: usize, text: &[u8]) -> Result<(), AllocError>
     ensures { OnOk result (out.new.items ≡ out.old.items ++ at_right width text.now) }
 {
     push_blanks(out, width.saturating_sub(text.len()))?;

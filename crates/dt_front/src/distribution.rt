@@ -1,19 +1,16 @@
 //! The rows of a distribution, with those that count nothing.
 ghost use Rattle.std.specs.Prelude.{◌≡◌, ◌++◌, ◌∷◌, [], ◌<◌, ◌≤◌, ◌^◌, IfOk, MatchOption, OnOk, Some, map, pos, sum_by};
 ghost use Rattle.std.specs.Fmt.{signed_decimal};
-ghost use Rattle.dt_aggfn.specs.Rows.{level_from, levels_of};
+ghost use Rattle.dt_aggfn.specs.Limits.{greatest_power};
 ghost use Rattle.dt_front.specs.CountForms.{form_of_row_count};
 ghost use Rattle.dt_front.specs.Distribution.{count_at, level_rows, picture_row, power_rows};
 ghost use Rattle.dt_front.specs.Picture.{total_of};
 ghost use Rattle.dt_front.specs.PictureForms.{form_of_picture_row};
 
 use crate::picture::PictureRow;
-use dt_aggfn::Bounds;
+use dt_aggfn::{Bounds, GREATEST_POWER};
 use itoa::Buffer;
 use std::alloc::{AllocError, Global};
-
-/// How many powers of two a `quantize` has, on either side of 0.
-const POWERS: u32 = 63;
 
 /// A count as a reply tells it.
 #[derive(Clone, Copy, Drop)]
@@ -29,11 +26,11 @@ pub fn power_rows(alloc: Global, counts: &[RowCount]) -> Result<Vec<PictureRow>,
     ensures { IfOk result (λ rows. map form_of_picture_row rows.items ≡ power_rows (map form_of_row_count counts.now)) }
 {
     let mut rows = Vec::new(alloc);
-    for back in 0..POWERS {
-        push_named(alloc, &mut rows, counts, -power(POWERS - 1 - back))?;
+    for back in 0..=GREATEST_POWER {
+        push_named(alloc, &mut rows, counts, -power(GREATEST_POWER - back))?;
     }
     push_named(alloc, &mut rows, counts, 0)?;
-    for exponent in 0..POWERS {
+    for exponent in 0..=GREATEST_POWER {
         push_named(alloc, &mut rows, counts, power(exponent))?;
     }
     Ok(rows)
@@ -41,7 +38,7 @@ pub fn power_rows(alloc: Global, counts: &[RowCount]) -> Result<Vec<PictureRow>,
 
 /// A power of two.
 fn power(exponent: u32) -> i64
-    requires { exponent < 63 }
+    requires { exponent ≤ greatest_power }
     ensures { result ≡ pos (2 ^ exponent) }
 {
     2_i64.pow(exponent)
@@ -58,29 +55,12 @@ pub fn level_rows(
     let mut rows = Vec::new(alloc);
     let below = labelled(alloc, b"< ", bounds.lower)?;
     push_row(&mut rows, counts, below, None)?;
-    for index in 0..levels_of(bounds) {
-        push_named(alloc, &mut rows, counts, level_from(bounds, index))?;
+    for index in 0..bounds.levels() {
+        push_named(alloc, &mut rows, counts, bounds.level_from(index))?;
     }
     let above = labelled(alloc, b">= ", bounds.upper)?;
     push_row(&mut rows, counts, above, Some(bounds.upper))?;
     Ok(rows)
-}
-
-/// How many levels there are.
-fn levels_of(bounds: Bounds) -> usize
-    ensures { result ≡ levels_of bounds }
-{
-    (bounds.upper.abs_diff(bounds.lower) / bounds.step.unsigned_abs()) as usize
-}
-
-/// Where a level begins, the first being level 0.
-fn level_from(bounds: Bounds, index: usize) -> i64
-    requires { index < levels_of bounds }
-    ensures { result ≡ level_from bounds index }
-{
-    bounds
-        .lower
-        .wrapping_add((index as i64).wrapping_mul(bounds.step))
 }
 
 /// Adds the row of this name, by which it is labelled.

@@ -22,7 +22,7 @@ fn push_shown_byte(out: &mut Vec<u8>, byte: u8) -> Result<(), AllocError>
     if byte == b'\\' {
         return out.extend_from_slice(b"\\\\");
     }
-    if (32..=126).contains(&byte) {
+    if (b' '..=b'~').contains(&byte) {
         out.push(byte)?;
         return Ok(());
     }

@@ -1,7 +1,7 @@
 //! Fields of a reply.
 ghost use Rattle.std.specs.Prelude.{◌≡◌, option_map};
 ghost use Rattle.serde_json.specs.View.{view};
-ghost use Rattle.dt_front.specs.Refusals.{told_number, told_text};
+ghost use Rattle.dt_front.specs.Replies.{told_number, told_text};
 
 use serde_json::Value;
 

@@ -1,5 +1,5 @@
 //! Laws over the definitions.
-ghost use Rattle.std.specs.Prelude.{◌<◌, ◌^◌, ◌≤◌, ℕ, ℤ, All, Bool, FitsSigned, List, Option};
+ghost use Rattle.std.specs.Prelude.{◌<◌, ◌^◌, ℕ, ℤ, All, Bool, FitsSigned, List, Option};
 ghost use Rattle.std.specs.Int.{w64};
 ghost use Rattle.std.specs.List.{AllByRecursion};
 ghost use Rattle.dt_aggfn.specs.declared.levels.Bounds.{Bounds};

@@ -9,6 +9,8 @@ mod distribution;
 mod escaping;
 mod fields;
 mod laws;
+mod limit_laws;
+mod limits;
 mod parts;
 mod picture;
 mod probes;
@@ -18,18 +20,19 @@ mod refusal;
 mod row;
 mod table;
 
-pub use columns::{push_blanks, push_left, push_number, push_right};
+pub use columns::push_number;
 pub use distribution::{RowCount, counts_total, level_rows, power_rows, rows_total};
 pub use escaping::push_shown;
 pub use fields::{number_field, text_field};
 pub use laws::{
     pictures_are_plain, refusals_are_plain, rows_are_plain, shown_is_plain, tables_are_plain,
 };
+pub use limit_laws::limits_agree;
 pub use parts::{after_byte, before_byte};
 pub use picture::{PictureRow, push_picture};
 pub use probes::{push_probe, push_probes_head};
 pub use reading::{counts_in, key_in, layout_in, signed_in};
 pub use records::{push_rows, unknown_epid};
 pub use refusal::{ToldRefusal, push_caret};
-pub use row::{RowProbe, push_full_row, push_rows_head, push_values};
+pub use row::{RowProbe, push_rows_head};
 pub use table::{KeyColumn, push_key, push_number_line, push_title};

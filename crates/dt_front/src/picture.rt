@@ -1,24 +1,14 @@
 //! A distribution as the picture that DTrace draws.
 ghost use Rattle.std.specs.Prelude.{◌≡◌, ◌++◌, ◌≤◌, ◌<◌, ◌^◌, OnOk, All, length, map, reverse};
 ghost use Rattle.std.specs.List.{flat_map, position_or_len};
+ghost use Rattle.dt_front.specs.Limits.{bar_max};
 ghost use Rattle.dt_front.specs.Picture as spec;
 ghost use Rattle.dt_front.specs.Picture.{bar, bar_width, bars_head, is_counted, picture, picture_head, row_line, shown_rows, total_of};
 ghost use Rattle.dt_front.specs.PictureForms.{form_of_picture_row};
 
 use crate::columns::{push_blanks, push_number, push_repeated, push_right};
+use crate::limits::{BAR_MAX, BAR_MIN, BESIDE_BAR, LABEL_WIDTH};
 use std::alloc::AllocError;
-
-/// How many columns the longest bar has at most.
-const BAR_MAX: usize = 40;
-
-/// How many columns the longest bar has at least: those of the word above it.
-const BAR_MIN: usize = 14;
-
-/// How many columns a line has beside its bar, where its count has seven digits.
-const BESIDE_BAR: usize = 26;
-
-/// How many columns the rows' names have.
-const LABEL_WIDTH: usize = 16;
 
 /// A row of a distribution.
 #[derive(Drop)]
@@ -38,7 +28,7 @@ fn bar_width(page: usize) -> usize
 
 /// The columns of a bar for so many of a total, where the longest bar has so many.
 fn bar_columns(longest: usize, count: u64, total: u64) -> usize
-    requires short { longest ≤ 40 }
+    requires short { longest ≤ bar_max }
     requires part { count ≤ total }
     ensures columns { result ≡ spec.bar_columns longest count total }
     ensures within { result ≤ longest }
@@ -136,7 +126,7 @@ fn push_rows(
     longest: usize,
     total: u64,
 ) -> Result<(), AllocError>
-    requires short { longest ≤ 40 }
+    requires short { longest ≤ bar_max }
     requires parts { All (λ row. row.count ≤ total) (map form_of_picture_row rows.now) }
     ensures { OnOk result (out.new.items ≡ out.old.items ++ flat_map (row_line longest total) (map form_of_picture_row rows.now)) }
 {
@@ -153,7 +143,7 @@ fn push_row(
     longest: usize,
     total: u64,
 ) -> Result<(), AllocError>
-    requires short { longest ≤ 40 }
+    requires short { longest ≤ bar_max }
     requires part { row.now.count ≤ total }
     ensures { OnOk result (out.new.items ≡ out.old.items ++ row_line longest total (form_of_picture_row row.now)) }
 {

@@ -6,12 +6,10 @@ ghost use Rattle.dt_front.specs.Probes.{narrow_line, probe_columns, probe_line, 
 
 use crate::columns::push_right;
 use crate::escaping::push_shown;
+use crate::limits::TABLE_WIDTH;
 use crate::parts::{after_byte, before_byte};
 use itoa::Buffer;
 use std::alloc::{AllocError, Global};
-
-/// The least width of a page on which each name has a column.
-const TABLE_WIDTH: usize = 80;
 
 /// Adds the head of the table of probes on a page of this width.
 pub fn push_probes_head(out: &mut Vec<u8>, page: usize) -> Result<(), AllocError>

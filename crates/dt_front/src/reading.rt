@@ -1,13 +1,12 @@
 //! Replies as what they tell.
-ghost use Rattle.std.specs.Prelude.{◌≡◌, ◌≢◌, ℕ, ◌≤◌, IfOk, MatchOption, Some, List, decimal, map, option_and_then, option_map};
+ghost use Rattle.std.specs.Prelude.{◌≡◌, ◌≢◌, ℕ, ◌≤◌, IfOk, MatchOption, Some, List, decimal, map, option_map};
 ghost use Rattle.serde_json.specs.Data.{string};
-ghost use Rattle.serde_json.specs.Find.{as_i64, as_number};
 ghost use Rattle.serde_json.specs.View.{view};
 ghost use Rattle.dt_record.specs.Fields.{form_of_field, form_of_layout};
 ghost use Rattle.dt_program.specs.Limits.{frames_max};
 ghost use Rattle.dt_record.specs.Layout.{FieldForm, stack, ustack, field_word};
 ghost use Rattle.dt_front.specs.CountForms.{form_of_row_count};
-ghost use Rattle.dt_front.specs.Replies.{AreWordsOf, IsLayoutField, all_told, told_count, told_name, told_part};
+ghost use Rattle.dt_front.specs.Replies.{AreWordsOf, IsLayoutField, all_told, told_count, told_name, told_part, told_signed};
 ghost use Rattle.dt_front.specs.TableForms.{form_of_key_part};
 
 use crate::distribution::RowCount;
@@ -20,7 +19,7 @@ use std::alloc::{AllocError, Global};
 
 /// The number with a sign that a value is, where it is one of 64 bits.
 pub fn signed_in(value: &Value) -> Option<i64>
-    ensures { result ≡ option_and_then as_i64 (as_number (view value.now)) }
+    ensures { result ≡ told_signed (view value.now) }
 {
     value.as_i64()
 }
@@ -156,7 +155,7 @@ fn frames_in(count: &[u8]) -> Option<Frames>
         (λ frames. count.now ≡ decimal frames.count) }
 {
     match count {
-        [digit] => Frames::new(i64::from(*digit) - 48),
+        [digit] => Frames::new(i64::from(*digit) - i64::from(b'0')),
         _ => None,
     }
 }

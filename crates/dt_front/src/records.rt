@@ -33,14 +33,14 @@ pub fn push_rows(
     Ok(())
 }
 
-/// The probe that a record's row names.
+/// The probe that a record's row names: none for 0, which is no EPID.
 fn probe_of(quiet: bool, probes: &[RowProbe], epid: u32) -> Option<&RowProbe>
     ensures { option_map (λ probe. form_of_row_probe probe.now) result ≡ spec.row_probe quiet (map form_of_row_probe probes.now) epid }
 {
-    if quiet {
+    if quiet || epid == 0 {
         None
     } else {
-        probes.get((epid as usize).saturating_sub(1))
+        probes.get(epid as usize - 1)
     }
 }
 

@@ -1,5 +1,5 @@
 //! Why a line was refused, as a person wants to read it.
-ghost use Rattle.std.specs.Prelude.{◌≡◌, ◌++◌, ◌≤◌, ◌<◌, OnOk, drop, length, option_map, take};
+ghost use Rattle.std.specs.Prelude.{◌≡◌, ◌++◌, ◌≤◌, ◌<◌, OnOk, length, option_map};
 ghost use Rattle.serde_json.specs.View.{view};
 ghost use Rattle.dt_front.specs.Refusals as spec;
 ghost use Rattle.dt_front.specs.Refusals.{before_place, caret_text, from_place, marked_line, rest_line, row_end, tail_length};

@@ -1,5 +1,5 @@
 //! Records as rows.
-ghost use Rattle.std.specs.Prelude.{◌≡◌, ◌++◌, OnOk, map};
+ghost use Rattle.std.specs.Prelude.{◌≡◌, ◌++◌, OnOk};
 ghost use Rattle.std.specs.List.{flat_map};
 ghost use Rattle.dt_record.specs.Records.{form_of_record, form_of_recorded};
 ghost use Rattle.dt_front.specs.Rows as spec;
@@ -8,6 +8,7 @@ ghost use Rattle.dt_front.specs.RowForms.{form_of_row_probe};
 
 use crate::columns::push_right;
 use crate::escaping::{hex_digit, push_shown};
+use crate::limits::{BESIDE_NAMES, NAMES_MAX, NAMES_MIN};
 use crate::parts::before_byte;
 use dt_record::{Record, Recorded};
 use itoa::Buffer;
@@ -26,7 +27,9 @@ pub struct RowProbe {
 fn name_width(page: usize) -> usize
     ensures { result ≡ spec.name_width page }
 {
-    page.saturating_sub(20).min(32).max(20)
+    page.saturating_sub(BESIDE_NAMES)
+        .min(NAMES_MAX)
+        .max(NAMES_MIN)
 }
 
 /// Adds the head of all rows on a page of this width.
@@ -40,7 +43,7 @@ pub fn push_rows_head(out: &mut Vec<u8>, page: usize) -> Result<(), AllocError>
 }
 
 /// Adds a record's row on a page of this width: its processor, its probe and its values.
-pub fn push_full_row(
+pub(crate) fn push_full_row(
     alloc: Global,
     out: &mut Vec<u8>,
     page: usize,
@@ -55,7 +58,7 @@ pub fn push_full_row(
 }
 
 /// Adds a record's values, and ends the row.
-pub fn push_values(out: &mut Vec<u8>, record: &Record) -> Result<(), AllocError>
+pub(crate) fn push_values(out: &mut Vec<u8>, record: &Record) -> Result<(), AllocError>
     ensures { OnOk result (out.new.items ≡ out.old.items ++ values_text (form_of_record «record».now)) }
 {
     for value in &record.values {

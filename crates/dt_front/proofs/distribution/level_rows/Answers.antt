@@ -12,7 +12,7 @@ use Rattle.dt_front.proofs.distribution.level_rows.Goals as goal
 
 pub loop-index-preserved : goal.loop-index-preserved
 loop-index-preserved c =
-    let within : c.loop-index.index < levels_of c.args.bounds = omega (arith, c.loop-index-test.true, c.levels_of-index-end.ensures) in
+    let within : c.loop-index.index < levels_of c.args.bounds = omega (arith, c.loop-index-test.true, c.levels-index-end.ensures.levels) in
     let fits : FitsSigned w64 c.level_from.result = record { sfits = c.level_from.type_inv } in
     level_named c.args.bounds (map form_of_row_count c.args.counts.now) c.loop-index.index (cast_signed w64 (cast_unsigned w64 c.level_from.result))
     (map form_of_picture_row c.loop-index.rows.items) (map form_of_picture_row c.push_named.new.rows.items) within
@@ -22,7 +22,7 @@ loop-index-preserved c =
 pub returns : goal.returns
 returns c =
     let whole : c.loop-index.index ≡ levels_of c.args.bounds =
-    omega (arith, c.loop-index-test.false, c.loop-index.auto.index-end, c.levels_of-index-end.ensures) in
+    omega (arith, c.loop-index-test.false, c.loop-index.auto.index-end, c.levels-index-end.ensures.levels) in
     let fits : FitsSigned w64 c.args.bounds.upper = search rules in
     let same = to_z-of_z w64 c.args.bounds.upper fits in
     all_levels c.args.bounds (map form_of_row_count c.args.counts.now) c.loop-index.index _ _
