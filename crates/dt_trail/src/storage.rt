@@ -1,5 +1,5 @@
 //! Blocks that no thread shares yet.
-ghost use Rattle.std.specs.Prelude.{◌≡◌, length, IfOk};
+ghost use Rattle.std.specs.Prelude.{◌≡◌, ◌+◌, length, IfOk};
 ghost use denote.RawPtr.{InBlock};
 ghost use Rattle.atomic_blocks.specs.Cells.{AllHome};
 ghost use Rattle.dt_trail.specs.Blocks.{Blank, Rooted};
