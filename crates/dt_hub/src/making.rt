@@ -3,6 +3,7 @@ ghost use Rattle.std.specs.Prelude.{◌≡◌, ◌+◌, ◌*◌, ℕ, IfOk, IfSo
 ghost use Rattle.dt_chain.specs.Limits.{seat_count};
 ghost use Rattle.dt_facts.specs.Handles.{making};
 ghost use Rattle.dt_hub.specs.Hubs.{AreDealt, IsFresh};
+ghost use Rattle.dt_seat.specs.Keeps.{followed_at};
 ghost use Rattle.dt_seat.specs.Names.{names_of_seat};
 
 use crate::cpu_seat::CpuSeat;
@@ -26,30 +27,24 @@ fn empty_hands<J: HubSite>(alloc: Global, cpus: u32) -> Result<Vec<Vec<Follower<
     Ok(hands)
 }
 
-/// One seat more, to go under its lock; what each processor has there is dealt to it.
+/// Gives each processor what it has at one seat more. `seat` is for the contract: which seat that is.
 ///
 /// `Err`: there was no memory.
 fn deal<J: HubSite>(
-    alloc: Global,
-    machine: &Machine,
-    facts: &Facts,
-    maker: &mut Maker,
-    seat: Seat,
     hands: &mut Vec<Vec<Follower<J>>>,
-) -> Result<LockedSeat<J>, AllocError>
-    requires machine { machine.now ≡ J.contents }
-    requires facts { facts.now ≡ J.word }
-    requires maker { maker.old ≡ making J.word (seat * names_of_seat J.contents.registry.cpus) }
-    requires hands { AreDealt J.contents.registry.cpus seat hands.old.items }
-    ensures dealt { OnOk result (AreDealt J.contents.registry.cpus (seat + 1) hands.new.items) }
-    ensures maker { OnOk result (maker.new ≡ making J.word ((seat + 1) * names_of_seat J.contents.registry.cpus)) }
+    seat: Seat,
+    followers: Vec<Follower<J>>,
+) -> Result<(), AllocError>
+    requires hands { AreDealt (vec_len followers) seat hands.old.items }
+    requires followers { (cpu : ℕ) → IfSome (slice_get followers.items cpu) (λ f. f ≡ followed_at seat cpu) }
+    ensures { OnOk result (AreDealt (vec_len followers) (seat + 1) hands.new.items) }
 {
-    let (locked, mut followers) = LockedSeat::new(alloc, machine, facts, maker, seat)?;
+    let mut followers = followers;
     'processors: while let Some(follower) = followers.pop() {
         let cpu = followers.len();
         hands[cpu].push(follower)?;
     }
-    Ok(locked)
+    Ok(())
 }
 
 /// All seats, under their locks, and for each processor what it has at them.
@@ -74,7 +69,8 @@ fn seats<J: HubSite>(
         let Some(seat) = Seat::new(number) else {
             unreachable!()
         };
-        let locked = deal(alloc, machine, facts, maker, seat, &mut hands)?;
+        let (locked, followers) = LockedSeat::new(alloc, machine, facts, maker, seat)?;
+        deal(&mut hands, seat, followers)?;
         seats.push(Mutex::new(locked))?;
     }
     Ok((seats, hands))

@@ -8,8 +8,8 @@ use Rattle.dt_hub.proofs.making.deal.Given as goal
 
 abbrev pub invariant-processors : goal.invariant-processors
 invariant-processors g l = record {
-  low : length l.followers.items ≤ g.J.Traced.contents.registry.cpus;
-  many : length l.hands.items ≡ g.J.Traced.contents.registry.cpus;
+  low : length l.followers.items ≤ length l.fn.followers.items;
+  many : length l.hands.items ≡ length l.fn.followers.items;
   left : (cpu : ℕ) → IfSome (slice_get l.followers.items cpu) (λ f. f ≡ followed_at l.fn.seat cpu);
   rest : (cpu : ℕ) → cpu < length l.followers.items → IfSome (slice_get l.hands.items cpu) (λ hand. IsHand l.fn.seat cpu hand.items);
   done : (cpu : ℕ) → length l.followers.items ≤ cpu → IfSome (slice_get l.hands.items cpu) (λ hand. IsHand (l.fn.seat + 1) cpu hand.items);
