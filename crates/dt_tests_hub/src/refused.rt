@@ -26,8 +26,8 @@ fn traces_alone<J: HubSite, R: Wait + Abort>(
     looks(rt, hub, token, 1, 0);
 }
 
-/// A session asks a `go`, for whose publication the chains take memory, so `rt try --test --fail-alloc` can have it refused. Whether or not it is, after the
-/// session's next line, or once it has closed, nothing of it stays published.
+/// A session asks a `go`, whose publication is the first write of its hub: for that one alone the chains take memory when it stands in the list of all writes, and
+/// `rt try --test --fail-alloc` can have that refused. Whether or not it is, after the session's next line, or once it has closed, nothing of it stays published.
 struct GoesAgain {
     closes: bool,
 }
