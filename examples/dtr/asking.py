@@ -28,9 +28,13 @@ def tell(name, words, before=(), **how):
 
 
 def begun(words, **how):
-    """The program, running with these words, whose standard input stays open; it has said how many probes matched."""
+    """The program, running with these words, whose standard input stays open; it has said how many probes matched. It is killed where it takes too long,
+    so that what is read of it comes or ends."""
     how = {"stdin": subprocess.PIPE, "stdout": subprocess.PIPE, "env": PLAIN} | how
     client = subprocess.Popen([DTR, *map(str, words)], stderr=subprocess.PIPE, bufsize=0, **how)
+    limit = threading.Timer(PATIENCE, client.kill)
+    limit.daemon = True
+    limit.start()
     print(client.stderr.readline().decode(), end="")
     return client
 

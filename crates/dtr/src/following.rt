@@ -62,8 +62,9 @@ pub(crate) fn follow<R: Print + Eprint + AllocGlobal + Clock, F: Write>(
         let cpus = tell_errors(rt, known, &status)?;
         buffers = if plan.records { cpus } else { 0 };
         let seen = number_field(&status, "seen").ok_or(Trouble::Strange)?;
-        if stopped || (plan.readable && seen != known.seen) {
-            known.seen = seen;
+        // BEGIN leaves records, and isn't counted as seen
+        if stopped || (plan.readable && known.seen != Some(seen)) {
+            known.seen = Some(seen);
             take_snaps(rt, session, known, buffers, plan.shape, file)?;
         }
         if stopped {

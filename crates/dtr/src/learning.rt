@@ -105,8 +105,8 @@ pub(crate) struct Learnt {
     pub(crate) aggdrops: Vec<u64>,
     /// How many bytes of a buffer that keeps what it has were written as rows, by processor.
     pub(crate) written: Vec<u64>,
-    /// How many firings were seen at the last look.
-    pub(crate) seen: u64,
+    /// How many firings were seen at the last look; none before the first.
+    pub(crate) seen: Option<u64>,
     /// Whether a buffer gives its records and tells its drops once (under switch), and not again.
     pub(crate) told_once: bool,
     /// Whether the head of the rows is written.
@@ -133,7 +133,7 @@ impl Learnt {
             errors: Vec::new(alloc),
             aggdrops: Vec::new(alloc),
             written: Vec::new(alloc),
-            seen: 0,
+            seen: None,
             told_once,
             headed: false,
         })
