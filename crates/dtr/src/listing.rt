@@ -2,20 +2,20 @@
 
 use crate::enabling::accepted;
 use crate::fault::Trouble;
-use crate::output::write_out;
+use crate::output::{create_output, write_out};
 use crate::requests;
 use crate::session::Session;
 use crate::snapping::RowShape;
 use dt_front::{number_field, push_probe, push_probes_head, text_field};
-use std::io::Write;
+use std::rt::Files;
 
-/// Writes the table of the probes that the account may enable and a description asks for.
-pub(crate) fn list_probes<R: Print + Eprint + AllocGlobal, F: Write>(
+/// Writes the table of the probes that the account may enable and a description asks for, to standard output or to a file, which is made once they are answered.
+pub(crate) fn list_probes<R: Files + Print + Eprint + AllocGlobal>(
     rt: &R,
     session: &mut Session<'_>,
     description: &str,
     shape: RowShape,
-    file: &mut Option<F>,
+    output: Option<&str>,
 ) -> Result<(), Trouble> {
     let alloc = rt.alloc();
     let line = requests::with_text(alloc, "list", "probe", description)?;
@@ -39,5 +39,6 @@ pub(crate) fn list_probes<R: Print + Eprint + AllocGlobal, F: Write>(
         };
         push_probe(alloc, &mut out, shape.widths.page, id, name.as_bytes())?;
     }
-    write_out(rt, file, &mut out)
+    let mut file = create_output(rt, output)?;
+    write_out(rt, &mut file, &mut out)
 }

@@ -32,12 +32,12 @@ use input::watch_input;
 use judging::judge_machine;
 use learning::Learnt;
 use listing::list_probes;
-use output::{reason_of, tell_path, write_answer, write_out};
+use output::{create_output, reason_of, tell_path, write_answer, write_out};
 use page::{Terminals, Widths, widths_of};
 use reading::Readings;
 use session::Session;
 use snapping::RowShape;
-use std::io::{IsTerminal, Stdin, Write};
+use std::io::{IsTerminal, Stdin};
 use std::net::Net;
 use std::os::unix::net::UnixStream;
 use std::process::ExitCode;
@@ -135,22 +135,13 @@ fn serve_words<R: Files + Net + Env + Print + Eprint + AllocGlobal + Clock + Thr
     let Ok(stream) = UnixStream::connect(rt, path) else {
         return Err(tell_path(rt, "no service answers at", path, NO_SERVICE));
     };
-    let mut file = match words.output {
-        Some(path) => match fs::create(rt, path) {
-            Ok(file) => Some(file),
-            Err(fault) => {
-                return Err(tell_path(rt, "can't write", path, reason_of(fault.kind())));
-            }
-        },
-        None => None,
-    };
     let mut session = Session::new(rt.alloc(), &stream)?;
     if words.list {
         let description = words.programs.first().copied().unwrap_or("");
-        list_probes(rt, &mut session, description, shape, &mut file)?;
+        list_probes(rt, &mut session, description, shape, words.output)?;
         return Ok(0);
     }
-    trace(rt, input, &mut session, words, shape, &programs, &mut file)
+    trace(rt, input, &mut session, words, shape, &programs)
 }
 
 /// What is added where nobody serves at a socket's path.
@@ -176,15 +167,14 @@ fn programs_of<R: Files + Eprint + AllocGlobal>(
     Ok(programs)
 }
 
-/// Traces, and gives the status with which a clause exited, or 0.
-fn trace<R: Print + Eprint + AllocGlobal + Clock + Threads, F: Write>(
+/// Traces, and gives the status with which a clause exited, or 0. The file of `-o` is made once all programs are accepted.
+fn trace<R: Files + Print + Eprint + AllocGlobal + Clock + Threads>(
     rt: &R,
     input: Stdin,
     session: &mut Session<'_>,
     words: &Invocation<'_>,
     shape: RowShape,
     programs: &[String],
-    file: &mut Option<F>,
 ) -> Result<u8, Trouble> {
     let alloc = rt.alloc();
     let readings = Readings::of(alloc, programs)?;
@@ -195,6 +185,7 @@ fn trace<R: Print + Eprint + AllocGlobal + Clock + Threads, F: Write>(
     let mut known = Learnt::new(alloc, count, policy == "switch", readings)?;
     // stop, status and close come beside the aggregations
     session.kept = (aggregations.len() as u64).saturating_add(4);
+    let mut file = create_output(rt, words.output)?;
     begin(rt, session, count)?;
     let ended = watch_input(rt, alloc, input)?;
     let plan = Plan {
@@ -205,11 +196,11 @@ fn trace<R: Print + Eprint + AllocGlobal + Clock + Threads, F: Write>(
         ended: &ended,
         shape,
     };
-    let exit = follow(rt, session, &mut known, &plan, file).map_err(Trouble::in_tracing)?;
+    let exit = follow(rt, session, &mut known, &plan, &mut file).map_err(Trouble::in_tracing)?;
     let mut out = Vec::new(alloc);
     for aggregation in &aggregations {
         push_table(rt, session, aggregation, shape, &mut out).map_err(Trouble::in_tracing)?;
-        write_out(rt, file, &mut out)?;
+        write_out(rt, &mut file, &mut out)?;
     }
     let _closed = session.ask(alloc, "{\"cmd\":\"close\"}")?;
     Ok(status_of_exit(exit))

@@ -3,8 +3,23 @@
 use crate::fault::Trouble;
 use dt_front::push_shown;
 use std::alloc::Global;
-use std::io;
 use std::io::{ErrorKind, Write};
+use std::rt::Files;
+use std::{fs, io};
+
+/// Makes the file of `-o` anew, where one is asked for. Where it can't be made, that is told.
+pub(crate) fn create_output<R: Files + Eprint + AllocGlobal>(
+    rt: &R,
+    path: Option<&str>,
+) -> Result<Option<R::File>, Trouble> {
+    let Some(path) = path else {
+        return Ok(None);
+    };
+    match fs::create(rt, path) {
+        Ok(file) => Ok(Some(file)),
+        Err(fault) => Err(tell_path(rt, "can't write", path, reason_of(fault.kind()))),
+    }
+}
 
 /// Writes bytes to the file, where there is one, and else to standard output, and lets them go.
 pub(crate) fn write_out<R: Print, F: Write>(
