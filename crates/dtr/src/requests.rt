@@ -1,6 +1,7 @@
 //! The lines that the program asks.
 
 use crate::fault::Trouble;
+use crate::words::is_digits;
 use serde_json::Value;
 use std::alloc::Global;
 
@@ -43,8 +44,8 @@ pub(crate) fn with_number(
 pub(crate) fn option(alloc: Global, name: &str, value: &str) -> Result<String, Trouble> {
     let name = quoted(alloc, name)?;
     let value = match value.parse::<u64>() {
-        Ok(number) => format!(in alloc; "{number}")?,
-        Err(_) => quoted(alloc, value)?,
+        Ok(number) if is_digits(value) => format!(in alloc; "{number}")?,
+        _ => quoted(alloc, value)?,
     };
     Ok(format!(in alloc; "{{\"cmd\":\"option\",\"name\":{name},\"value\":{value}}}")?)
 }

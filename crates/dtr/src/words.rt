@@ -153,6 +153,11 @@ fn options_of<'a, R: Eprint + AllocGlobal>(
     Ok(options)
 }
 
+/// Whether a word is digits alone, and at least one.
+pub(crate) fn is_digits(word: &str) -> bool {
+    !word.is_empty() && word.bytes().all(|byte| byte.is_ascii_digit())
+}
+
 /// The time of the word that an option is given: whole seconds, or seconds and tenths as `0.5`.
 fn seconds_in<R: Eprint + AllocGlobal>(
     rt: &R,
@@ -166,8 +171,9 @@ fn seconds_in<R: Eprint + AllocGlobal>(
         Some((whole, tenths)) => (whole, tenths),
         None => (word, "0"),
     };
+    let is_plain = is_digits(whole) && is_digits(tenths) && tenths.len() == 1;
     match (whole.parse::<u32>(), tenths.parse::<u8>()) {
-        (Ok(whole), Ok(tenths)) if tenths < 10 => {
+        (Ok(whole), Ok(tenths)) if is_plain => {
             Ok(Some(Duration::from_millis(u64::from(whole) * 1000 + u64::from(tenths) * 100)))
         }
         _ => Err(wrong_value(rt, option, "seconds, as 2 or 0.5", word)),
@@ -189,7 +195,7 @@ fn width_in<R: Eprint + AllocGlobal>(rt: &R, word: Option<&str>) -> Result<Optio
         return Ok(None);
     };
     match word.parse::<usize>() {
-        Ok(width) if width >= PAGE_MIN => Ok(Some(width)),
+        Ok(width) if is_digits(word) && width >= PAGE_MIN => Ok(Some(width)),
         _ => Err(wrong_value(rt, "--width", "40 columns or more", word)),
     }
 }
