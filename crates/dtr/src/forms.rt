@@ -54,11 +54,12 @@ impl Invocation<'_> {
         }
         match self.word_of_session() {
             Some(word) => Some(Misfit::Together(word, "--machine")),
+            None if self.width.is_some() => Some(Misfit::Together("--width", "--machine")),
             None => None,
         }
     }
 
-    /// A trail is judged, and nothing else is asked.
+    /// A trail is judged, and nothing else is asked but for the width of what is told.
     fn misfit_of_trail(&self) -> Option<Misfit> {
         match self.word_of_session() {
             Some(word) => Some(Misfit::Together(word, "--trail")),
@@ -99,6 +100,8 @@ impl Invocation<'_> {
             Some("-x")
         } else if self.json {
             Some("--json")
+        } else if self.every.is_some() {
+            Some("--every")
         } else if self.length.is_some() {
             Some("--for")
         } else {

@@ -43,6 +43,7 @@ use std::os::unix::net::UnixStream;
 use std::process::ExitCode;
 use std::rt::{Clock, Env, Files};
 use std::thread::Threads;
+use std::time::Duration;
 use std::{env, fs};
 use streams::hold_streams;
 use summing::push_table;
@@ -189,7 +190,7 @@ fn trace<R: Files + Print + Eprint + AllocGlobal + Clock + Threads>(
     begin(rt, session, count)?;
     let ended = watch_input(rt, alloc, input)?;
     let plan = Plan {
-        every: words.every,
+        every: words.every.unwrap_or(Duration::from_secs(1)),
         length: words.length,
         records,
         readable: policy != "ring",

@@ -11,7 +11,7 @@ use std::time::Duration;
 
 /// The forms of the program's words.
 pub(crate) const USAGE: &str =
-    "usage: dtr SOCKET -l [-n DESCRIPTION] [-q] [-o FILE] [--width COLUMNS]\n       dtr SOCKET {-n PROGRAM | -s FILE}.. [-x OPTION=VALUE].. [-q] [--json]\n           [-o FILE] [--every SECONDS] [--for SECONDS] [--width COLUMNS]\n       dtr --machine FILE\n       dtr --trail MACHINE TRAIL\n";
+    "usage: dtr SOCKET -l [-n DESCRIPTION] [-q] [-o FILE] [--width COLUMNS]\n       dtr SOCKET {-n PROGRAM | -s FILE}.. [-x OPTION=VALUE].. [-q] [--json]\n           [-o FILE] [--every SECONDS] [--for SECONDS] [--width COLUMNS]\n       dtr --machine FILE\n       dtr --trail MACHINE TRAIL [--width COLUMNS]\n";
 
 /// What the program is asked for.
 #[derive(Drop)]
@@ -32,8 +32,8 @@ pub(crate) struct Invocation<'a> {
     pub(crate) json: bool,
     /// The file to write to in place of standard output.
     pub(crate) output: Option<&'a str>,
-    /// How long the program waits between two looks at most.
-    pub(crate) every: Duration,
+    /// How long the program waits between two looks at least.
+    pub(crate) every: Option<Duration>,
     /// For how long it traces.
     pub(crate) length: Option<Duration>,
     /// How wide the page is.
@@ -180,12 +180,16 @@ fn seconds_in<R: Eprint + AllocGlobal>(
     }
 }
 
-/// How long there is between two looks: more than no time, and a second where no word tells it.
-fn every_in<R: Eprint + AllocGlobal>(rt: &R, word: Option<&str>) -> Result<Duration, Trouble> {
+/// How long there is between two looks, where a word tells it: more than no time.
+fn every_in<R: Eprint + AllocGlobal>(
+    rt: &R,
+    word: Option<&str>,
+) -> Result<Option<Duration>, Trouble> {
     match seconds_in(rt, "--every", word)? {
-        None => Ok(Duration::from_secs(1)),
-        Some(every) if every.as_millis() > 0 => Ok(every),
-        Some(_) => { Err(wrong_value(rt, "--every", "more than 0 seconds", word.unwrap_or(""))) }
+        Some(every) if every.is_zero() => {
+            Err(wrong_value(rt, "--every", "more than 0 seconds", word.unwrap_or("")))
+        }
+        every => Ok(every),
     }
 }
 
