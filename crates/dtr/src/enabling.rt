@@ -9,6 +9,12 @@ use dt_front::{ToldRefusal, number_field, push_caret, push_number, push_shown};
 use serde_json::Value;
 use std::alloc::Global;
 
+/// The number by which a service tells who connects that all its seats are taken.
+const FULL: u64 = 17;
+
+/// The number by which it tells that the account of its socket has no privilege to trace.
+const NO_PRIVILEGE: u64 = 18;
+
 /// Sets the options, and enables the programs. Gives how many enablings there are.
 pub(crate) fn set_up<R: Print + Eprint + AllocGlobal>(
     rt: &R,
@@ -101,13 +107,18 @@ pub(crate) fn accepted<R: Print + Eprint + AllocGlobal>(
     Err(Trouble::Refused)
 }
 
-/// What was refused, and why; and where a place of a text is meant, its line, and a caret below the place.
+/// What was refused, and why; and where a place of a text is meant, its line, and a caret below the place. What a service without a seat refuses, or one of an account without a
+/// privilege, is a session, whatever was asked.
 fn explained(
     alloc: Global,
     refusal: &ToldRefusal<'_>,
     what: &str,
     program: Option<(&str, usize)>,
 ) -> Result<Vec<u8>, Trouble> {
+    let what = match refusal.number {
+        FULL | NO_PRIVILEGE => "no session",
+        _ => what,
+    };
     let mut told = Vec::from_slice(alloc, b"dtr: ")?;
     push_shown(&mut told, what.as_bytes())?;
     let (Some((text, width)), Some(at)) = (program, refusal.at) else {

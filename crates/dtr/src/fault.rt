@@ -21,6 +21,9 @@ pub(crate) enum Trouble {
     /// The service ended the connection, or the connection failed.
     #[error("dtr: the service went away\n")]
     Gone,
+    /// The service ended the connection when it had no memory for a line: it had none for a session.
+    #[error("dtr: no session: the service has no memory for one now; try again\n")]
+    Unserved,
     /// A reply is none that this program knows.
     #[error("dtr: the service answered what dtr doesn't understand; are both of one version?\n")]
     Strange,

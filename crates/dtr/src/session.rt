@@ -1,7 +1,8 @@
 //! One session with a service: a line is asked, and its reply is read.
 
 use crate::fault::Trouble;
-use dt_life::LINES_MAX;
+use dt_front::number_field;
+use dt_life::{LINES_MAX, Refusal};
 use serde_json::Value;
 use std::alloc::Global;
 use std::io::{BufRead, BufReader, Write};
@@ -38,14 +39,27 @@ impl<'a> Session<'a> {
         self.left <= self.kept
     }
 
-    /// Asks a line, which is given without its newline, and reads the reply.
+    /// Asks a line, which is given without its newline, and reads the reply. A line that is refused for memory isn't counted, and is asked once more.
     pub(crate) fn ask(&mut self, alloc: Global, line: &str) -> Result<Value, Trouble> {
         let mut whole = Vec::from_slice(alloc, line.as_bytes())?;
         whole.push(b'\n')?;
         self.left = self.left.saturating_sub(1);
+        let reply = self.exchange(alloc, &whole)?;
+        if number_field(&reply, "error") != Some(u64::from(Refusal::Memory.number())) {
+            return Ok(reply);
+        }
+        match self.exchange(alloc, &whole) {
+            // a service without memory for a session says so, and ends the connection
+            Err(Trouble::Gone) => Err(Trouble::Unserved),
+            answered => answered,
+        }
+    }
+
+    /// Sends a line with its newline, and reads the reply.
+    fn exchange(&mut self, alloc: Global, whole: &[u8]) -> Result<Value, Trouble> {
         let mut to = self.stream;
         // a service without a seat says so and ends, maybe before the line was sent: its reply is read all the same
-        if to.write_all(&whole).is_err() {
+        if to.write_all(whole).is_err() {
             let _ended = self.stream.shutdown(Shutdown::Write);
         }
         self.reply(alloc)
