@@ -7,6 +7,7 @@ use crate::output::{tell, write_out};
 use crate::session::Session;
 use crate::snapping::{RowShape, keep, snap};
 use dt_front::{number_field, signed_in, text_field};
+use dt_life::{HISTORY_MAX, LINES_MAX};
 use serde_json::Value;
 use std::io::Write;
 use std::rt::Clock;
@@ -20,7 +21,7 @@ const NAP: u64 = 50;
 /// How a session is followed.
 #[derive(Drop)]
 pub(crate) struct Plan<'a> {
-    /// How long there is between two looks, while lines are plenty.
+    /// How long there is between two looks at least.
     pub(crate) every: Duration,
     /// For how long it is traced.
     pub(crate) length: Option<Duration>,
@@ -68,10 +69,22 @@ pub(crate) fn follow<R: Print + Eprint + AllocGlobal + Clock, F: Write>(
             take_snaps(rt, session, known, buffers, plan.shape, file)?;
         }
         if stopped {
+            tell_history(rt, &status)?;
             return Ok(exit_in(&status));
         }
     }
     Ok(None)
+}
+
+/// Tells that the history is full, where tracing ended for that.
+fn tell_history<R: Eprint + AllocGlobal>(rt: &R, status: &Value) -> Result<(), Trouble> {
+    if text_field(status, "cause") == Some("history") {
+        let told = format!(in rt.alloc();
+            "dtr: the history is full, so tracing ended; -x histsize takes up to {HISTORY_MAX}\n"
+        )?;
+        tell(rt, told.as_bytes());
+    }
+    Ok(())
 }
 
 /// The number with which a clause exited, where one did.
@@ -181,7 +194,7 @@ fn tell_more<R: Print + Eprint + AllocGlobal>(
     keep(told, cpu, number)
 }
 
-/// Waits for the next look, and says whether tracing is to end, and why. The fewer lines are left, the longer it waits.
+/// Waits for the next look, and says whether tracing is to end, and why.
 fn wait<R: Clock>(
     rt: &R,
     session: &Session<'_>,
@@ -190,24 +203,52 @@ fn wait<R: Clock>(
     known: &Learnt,
     begun: Instant,
 ) -> Result<Option<Over>, Trouble> {
-    let unknown = if plan.records { known.unknown() } else { 0 };
-    let last = session.kept.saturating_add(buffers).saturating_add(unknown);
-    // a look, and then the end
-    if session.left <= last.saturating_add(buffers).saturating_add(2) {
+    let looks = looks_left(session, plan, buffers, known);
+    if looks == 0 {
         return Ok(Some(Over::Lines));
     }
-    let times = 1024 / session.left.max(1);
     let look = Instant::now(rt).map_err(|_| Trouble::Clock)?;
+    let spent = look.saturating_duration_since(begun);
+    let rest = plan.length.map(|length| length.saturating_sub(spent));
+    let pause = pause_before_look(plan.every, rest, looks, session.left);
     for _ in 0..u64::MAX {
         let spent = begun.elapsed(rt).map_err(|_| Trouble::Clock)?;
         if plan.ended.load(Ordering::SeqCst) || plan.length.is_some_and(|length| spent >= length) {
             return Ok(Some(Over::Asked));
         }
         let waited = look.elapsed(rt).map_err(|_| Trouble::Clock)?;
-        if waited.as_millis() >= plan.every.as_millis().saturating_mul(u128::from(times)) {
+        if waited >= pause {
             return Ok(None);
         }
         thread::sleep(rt, Duration::from_millis(NAP));
     }
     Ok(None)
+}
+
+/// How many looks there are lines for. A look takes a line, and one for each buffer that it may read. Kept for the end are `stop` and `status`, then a line for each buffer and for each
+/// layout that isn't known, and those that the session keeps.
+fn looks_left(session: &Session<'_>, plan: &Plan<'_>, buffers: u64, known: &Learnt) -> u64 {
+    let unknown = if plan.records { known.unknown() } else { 0 };
+    let last = buffers.saturating_add(unknown).saturating_add(2);
+    let spare = session
+        .left
+        .saturating_sub(session.kept)
+        .saturating_sub(last);
+    let read = if plan.readable { buffers } else { 0 };
+    spare / read.saturating_add(1)
+}
+
+/// How long to wait for the next look, `every` at least. Where the rest of the time of tracing is known, the looks that there are lines for are spread over it.
+/// Else there are so many times `every` as the lines that are left go into those of a session: the fewer are left, the longer it waits.
+fn pause_before_look(every: Duration, rest: Option<Duration>, looks: u64, left: u64) -> Duration {
+    match rest {
+        Some(rest) => {
+            let looks = u32::try_from(looks).unwrap_or(u32::MAX);
+            every.max(rest.checked_div(looks).unwrap_or(rest))
+        }
+        None => {
+            let times = u64::from(LINES_MAX) / left.max(1);
+            every.saturating_mul(u32::try_from(times).unwrap_or(u32::MAX))
+        }
+    }
 }
