@@ -149,11 +149,12 @@ def killed_in_a_line(service):
             signal.pause()
         finally:
             os._exit(1)
+    # so that a client that ends without a word ends this read
+    os.close(tell)
     answered = os.read(told, 1) == b"1"
     os.kill(process, signal.SIGKILL)
     os.waitpid(process, 0)
     os.close(told)
-    os.close(tell)
     return answered
 
 
