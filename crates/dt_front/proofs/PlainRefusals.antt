@@ -1,5 +1,5 @@
 -- What is printed of refusals is plain lines.
-use Rattle.std.proofs.Common.{ℕ, ◌-◌, ◌<◌, ◌^◌, ◌==◌, ◌&&◌, ◌++◌, List, [], ◌∷◌, Option, Some, None, length, take, drop, refl}
+use Rattle.std.proofs.Common.{ℕ, zero, suc, ◌-◌, ◌*◌, ◌/◌, ◌<◌, ◌^◌, ◌==◌, ◌++◌, List, [], ◌∷◌, Option, Some, None, length, take, drop, refl}
 use Rattle.std.specs.Prelude.{IfSome, codes}
 use Rattle.std.specs.Str.{bytes_eq}
 use Rattle.std.specs.List.{position_or_len}
@@ -8,7 +8,7 @@ use Rattle.dt_names.specs.Bytes.{newline}
 use Rattle.dt_front.specs.Columns.{blanks}
 use Rattle.dt_front.specs.Escaping.{AreBytes, ArePlainLines, IsPlainOrNewline, shown}
 use Rattle.dt_front.specs.Printed.{IsPrintedRefusal}
-use Rattle.dt_front.specs.Refusals.{RefusalForm, before_place, caret_column, caret_text, columns_left, from_place, marked_line, rest_line, row_end, tail_length}
+use Rattle.dt_front.specs.Refusals.{RefusalForm, before_place, caret_column, caret_text, columns_left, from_place, full_rows, in_rows, marked_line, rest_line, tail_length}
 use Rattle.dt_front.specs.Sentences.{SentenceWords, words_around, flaw, sentence, subject, sentence_words}
 use Rattle.dt_front.proofs.Lines.{blank_lines, chosen, decimal_lines, glued, joined, shown_lines, tested}
 
@@ -67,15 +67,27 @@ rest_lines : (bytes : List ℕ) → ArePlainLines bytes → ArePlainLines (rest_
 rest_lines bytes are =
     chosen ArePlainLines (length bytes == 0) [] (bytes ++ codes "\n") (All-nil IsPlainOrNewline) (joined bytes (codes "\n") are (tested (codes "\n") refl))
 
+full_lines : (page : ℕ) (text : List ℕ) (rows : ℕ) → ArePlainLines text → ArePlainLines (full_rows page text rows)
+full_lines page text zero are = All-nil IsPlainOrNewline
+full_lines page text (suc row) are =
+    glued (full_rows page text row) (take page (drop (row * page) text) ∷ codes "\n" ∷ []) (full_lines page text row are) (
+      All-take IsPlainOrNewline page (drop (row * page) text) (All-drop IsPlainOrNewline (row * page) text are),
+      (tested (codes "\n") refl, tt),
+    )
+
+rows_lines : (page : ℕ) (text : List ℕ) → ArePlainLines text → ArePlainLines (in_rows page text)
+rows_lines page text are =
+    let rows = length text / page in
+    joined (full_rows page text rows) (drop (rows * page) text) (full_lines page text rows are) (All-drop IsPlainOrNewline (rows * page) text are)
+
 marked_lines : (page : ℕ) (before from : List ℕ) → ArePlainLines before → ArePlainLines from → ArePlainLines (marked_line page before from)
 marked_lines page before from first second =
     let left = columns_left page (length before) in
     let column = caret_column page (length before) in
-    let full = (column == 0) && (length from == 0) in
-    glued before (take left from ∷ row_end full ∷ blanks column ∷ codes "^\n" ∷ rest_line (drop left from) ∷ []) first (
+    glued (in_rows page before) (take left from ∷ codes "\n" ∷ blanks column ∷ codes "^\n" ∷ rest_line (drop left from) ∷ []) (rows_lines page before first) (
       All-take IsPlainOrNewline left from second,
       (
-        chosen ArePlainLines full (codes "\n\n") (codes "\n") (tested (codes "\n\n") refl) (tested (codes "\n") refl),
+        tested (codes "\n") refl,
         (
           blank_lines column,
           (tested (codes "^\n") refl, (rest_lines (drop left from) (All-drop IsPlainOrNewline left from second), tt)),

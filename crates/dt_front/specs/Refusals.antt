@@ -1,5 +1,5 @@
 -- Why a line was refused, and the program's text with a caret under the byte that is wrong.
-use Rattle.std.specs.Prelude.{ℕ, ◌-◌, ◌%◌, ◌==◌, ◌&&◌, Bool, List, [], ◌++◌, if◌then◌else◌, codes, drop, take, length, reverse, Option, option_map}
+use Rattle.std.specs.Prelude.{ℕ, zero, suc, ◌-◌, ◌*◌, ◌/◌, ◌%◌, ◌==◌, Bool, List, [], ◌++◌, if◌then◌else◌, codes, drop, take, length, reverse, Option, option_map}
 use Rattle.std.specs.List.{position_or_len}
 use Rattle.serde_json.specs.Data.{Data}
 use Rattle.dt_names.specs.Bytes.{newline}
@@ -51,16 +51,21 @@ columns_left page columns = page - columns % page
 abbrev pub rest_line : List ℕ → List ℕ
 rest_line bytes = if length bytes == 0 then [] else bytes ++ codes "\n"
 
--- The end of the row that has a place. Where nothing comes from the place on and what is before it fills its rows, the place is the first of the next row, which a
--- terminal begins only with the next byte: an empty row stands for it.
-abbrev pub row_end : Bool → List ℕ
-row_end full = if full then codes "\n\n" else codes "\n"
+-- the first rows of a text on a page of this width, each with its newline
+abbrev pub full_rows : ℕ → List ℕ → ℕ → List ℕ
+full_rows page text zero = []
+full_rows page text (suc row) = full_rows page text row ++ take page (drop (row * page) text) ++ codes "\n"
+
+-- A text in rows of a page of this width. A newline ends each full one, and what is left of the text stands after the last of them: nothing, where it fills its rows.
+abbrev pub in_rows : ℕ → List ℕ → List ℕ
+in_rows page text = full_rows page text (length text / page) ++ drop (length text / page * page) text
 
 -- A line as a page of this width shows it, and a caret in the column of a place and below the row that has it. What comes before the place and from it on
--- is given; what has no room in that row comes below the caret.
+-- is given; what has no room in that row comes below the caret. Each full row before the place ends with a newline of its own: so the caret is below its byte on
+-- a wider terminal too, and below an empty row where nothing comes from the place on and what is before it fills its rows.
 abbrev pub marked_line : ℕ → List ℕ → List ℕ → List ℕ
 marked_line page before from =
-    before ++ take (columns_left page (length before)) from ++ row_end ((caret_column page (length before) == 0) && (length from == 0))
+    in_rows page before ++ take (columns_left page (length before)) from ++ codes "\n"
     ++ blanks (caret_column page (length before)) ++ codes "^\n"
     ++ rest_line (drop (columns_left page (length before)) from)
 

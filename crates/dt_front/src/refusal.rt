@@ -2,7 +2,7 @@
 ghost use Rattle.std.specs.Prelude.{◌≡◌, ◌++◌, ◌≤◌, ◌<◌, OnOk, length, option_map};
 ghost use Rattle.serde_json.specs.View.{view};
 ghost use Rattle.dt_front.specs.Refusals as spec;
-ghost use Rattle.dt_front.specs.Refusals.{before_place, caret_text, from_place, marked_line, rest_line, row_end, tail_length};
+ghost use Rattle.dt_front.specs.Refusals.{before_place, caret_text, from_place, in_rows, marked_line, rest_line, tail_length};
 ghost use Rattle.dt_front.specs.Sentences as sentences;
 ghost use Rattle.dt_front.specs.Sentences.{sentence, subject, sentence_words};
 ghost use Rattle.dt_front.specs.RefusalForms.{form_of_refusal};
@@ -157,23 +157,25 @@ fn push_marked(out: &mut Vec<u8>, page: usize, head: &[u8], tail: &[u8]) -> Resu
 {
     let column = head.len() % page;
     let left = (page - column).min(tail.len());
-    out.extend_from_slice(head)?;
+    push_in_rows(out, page, head)?;
     out.extend_from_slice(&tail[..left])?;
-    push_row_end(out, column == 0 && tail.is_empty())?;
+    out.push(b'\n')?;
     push_blanks(out, column)?;
     out.extend_from_slice(b"^\n")?;
     push_rest(out, &tail[left..])
 }
 
-/// Ends a row, and where it is full an empty one after it, which a terminal would begin with the next byte.
-fn push_row_end(out: &mut Vec<u8>, full: bool) -> Result<(), AllocError>
-    ensures { OnOk result (out.new.items ≡ out.old.items ++ row_end full) }
+/// Adds a text in rows of a page of this width: a newline ends each full one.
+fn push_in_rows(out: &mut Vec<u8>, page: usize, text: &[u8]) -> Result<(), AllocError>
+    requires { 0 < page }
+    ensures { OnOk result (out.new.items ≡ out.old.items ++ in_rows page text.now) }
 {
-    if full {
+    let rows = text.len() / page;
+    for row in 0..rows {
+        out.extend_from_slice(&text[row * page..row * page + page])?;
         out.push(b'\n')?;
     }
-    out.push(b'\n')?;
-    Ok(())
+    out.extend_from_slice(&text[rows * page..])
 }
 
 /// Adds a line, where it isn't empty.

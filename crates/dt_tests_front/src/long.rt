@@ -46,16 +46,16 @@ fn a_caret_in_a_long_text(rt: HostRuntime) -> Result<(), Fail> {
         text.push(b'a')?;
     }
     let mut out = Vec::new(rt.alloc());
-    // 4 + 99,996 columns fill 1,250 rows of 80
+    // 4 + 99,996 columns fill 1,250 rows of 80, and a newline ends each
     let place = text.len().min(99_996);
     push_caret(rt.alloc(), &mut out, 80, &text, place)?;
-    assert_eq!(rt; out.len(), 4 + 100_000 + 3);
-    assert!(rt; out.ends_with(b"aaaa\n^\n"));
+    assert_eq!(rt; out.len(), 4 + 100_000 + 1_250 + 3);
+    assert!(rt; out.ends_with(b"a\naaaa\n^\n"));
     // at the end of a text that fills its rows, below an empty row
     let mut full = Vec::new(rt.alloc());
     let rows = text.get(..99_996).unwrap_or(&[]);
     push_caret(rt.alloc(), &mut full, 80, rows, rows.len())?;
-    assert_eq!(rt; full.len(), 100_000 + 4);
+    assert_eq!(rt; full.len(), 100_000 + 1_250 + 3);
     assert!(rt; full.ends_with(b"a\n\n^\n"));
     Ok(())
 }
