@@ -1,5 +1,6 @@
 //! Sessions that come and go and processors that fire, each on a thread of its own.
 use crate::calls::{answered, at_seat, fired, opened};
+use crate::histories::with_scripts;
 use crate::rows;
 use crate::rows::{Row, fires_row, plays_row};
 use crate::scenes::{Scene, run};
@@ -13,7 +14,7 @@ use std::process::Abort;
 use std::sync::Wait;
 use std::sync::atomic::{AtomicU64, Ordering};
 use std::test::Fail;
-use std::thread::{self, Threads, join};
+use std::thread::{self, Threads, map_vec};
 use std::time::{Clock, Duration};
 
 const HEAD: &str = r#"{"cpus":4,
@@ -45,18 +46,7 @@ const LAST_LINES: [&str; 4] = [
 
 /// A machine of four processors whose scripts are long.
 fn machine(alloc: Global) -> Result<String, Fail> {
-    let mut text = String::new(alloc);
-    text.push_str(HEAD)?;
-    for cpu in 0..4 {
-        text.push_str(if cpu == 0 { "[" } else { ",[" })?;
-        for time in 0..TIMES {
-            text.push_str(if time == 0 { "" } else { "," })?;
-            text.push_str(FIRINGS)?;
-        }
-        text.push_str("]")?;
-    }
-    text.push_str("]}")?;
-    Ok(text)
+    with_scripts(alloc, HEAD, 4, FIRINGS, TIMES)
 }
 
 /// What a thread does.
@@ -70,26 +60,10 @@ enum Work<J: HubSite> {
     FireRows(CpuSeat<J>),
     /// Asks a row's lines before all firings and after them.
     Ask(Row),
-    /// Nothing.
-    Rest,
-}
-
-/// The works of two threads.
-#[derive(Drop)]
-struct Two<J: HubSite> {
-    one: Work<J>,
-    other: Work<J>,
-}
-
-/// The works of four.
-#[derive(Drop)]
-struct Four<J: HubSite> {
-    first: Two<J>,
-    second: Two<J>,
 }
 
 /// What threads have counted: the firings that were kept, as the processors were told, and those that stood on the sessions' trails.
-#[derive(Clone, Copy, Debug, PartialEq, Eq)]
+#[derive(Clone, Copy)]
 struct Tally {
     kept: u64,
     seen: u64,
@@ -252,77 +226,23 @@ fn does<J: HubSite, R: Wait + Abort + Clock>(
             assert!(rt; played.is_ok(), "out of memory");
             NOTHING
         }
-        Work::Rest => NOTHING,
     }
 }
 
-/// Two works at once.
-fn two_do<J: HubSite + Send + Sync, R: Threads + Wait + Abort + Clock + Sync>(
+/// All works at once, each on a thread of its own.
+fn all_do<J: HubSite + Send + Sync, R: Threads + Wait + Abort + Clock + Sync>(
     rt: &R,
     alloc: Global,
     hub: &Hub<J>,
     board: &Board,
-    two: Two<J>,
-) -> Tally {
-    let Two { one, other } = two;
-    let (first, second) = join(
-        rt,
-        move || does(rt, alloc, hub, board, one),
-        move || does(rt, alloc, hub, board, other),
-    );
-    first.and(second)
-}
-
-/// Four works at once.
-fn four_do<J: HubSite + Send + Sync, R: Threads + Wait + Abort + Clock + Sync>(
-    rt: &R,
-    alloc: Global,
-    hub: &Hub<J>,
-    board: &Board,
-    four: Four<J>,
-) -> Tally {
-    let Four { first, second } = four;
-    let (one, other) = join(
-        rt,
-        move || two_do(rt, alloc, hub, board, first),
-        move || two_do(rt, alloc, hub, board, second),
-    );
-    one.and(other)
-}
-
-/// Eight works at once.
-fn eight_do<J: HubSite + Send + Sync, R: Threads + Wait + Abort + Clock + Sync>(
-    rt: &R,
-    alloc: Global,
-    hub: &Hub<J>,
-    board: &Board,
-    processors: Four<J>,
-    sessions: Four<J>,
-) -> Tally {
-    let (one, other) = join(
-        rt,
-        move || four_do(rt, alloc, hub, board, processors),
-        move || four_do(rt, alloc, hub, board, sessions),
-    );
-    one.and(other)
-}
-
-/// Two processors, of those that are left.
-fn two_processors<J: HubSite>(tokens: &mut Vec<CpuSeat<J>>) -> Option<Two<J>> {
-    let one = tokens.pop()?;
-    let other = tokens.pop()?;
-    Some(Two {
-        one: Work::Fire(one),
-        other: Work::Fire(other),
-    })
-}
-
-/// A session thread of each account.
-fn two_accounts<J: HubSite>() -> Two<J> {
-    Two {
-        one: Work::Trace("root"),
-        other: Work::Trace("ann"),
+    works: Vec<Work<J>>,
+) -> Result<Tally, AllocError> {
+    let tallies = map_vec(rt, works, &move |work| does(rt, alloc, hub, board, work))?;
+    let mut all = NOTHING;
+    for tally in tallies {
+        all = all.and(tally);
     }
+    Ok(all)
 }
 
 /// Four processors and four sessions' threads.
@@ -332,18 +252,17 @@ pub(crate) fn plays<J: HubSite + Send + Sync, R: Threads + Wait + Abort + Clock 
     hub: &Hub<J>,
     tokens: Vec<CpuSeat<J>>,
 ) -> Result<(), Fail> {
-    let mut tokens = tokens;
     let text = machine(alloc)?;
     let board = Board::new(Machine::read(alloc, text.as_bytes())?, 4);
-    let processors = Four {
-        first: two_processors(&mut tokens).ok_or("no processors")?,
-        second: two_processors(&mut tokens).ok_or("no processors")?,
-    };
-    let sessions = Four {
-        first: two_accounts(),
-        second: two_accounts(),
-    };
-    let tally = eight_do(rt, alloc, hub, &board, processors, sessions);
+    let mut works = Vec::new(alloc);
+    for token in tokens {
+        works.push(Work::Fire(token))?;
+    }
+    for name in ["root", "ann", "root", "ann"] {
+        works.push(Work::Trace(name))?;
+    }
+    assert_eq!(rt; works.len(), 8);
+    let tally = all_do(rt, alloc, hub, &board, works)?;
     assert_eq!(rt; tally.kept, tally.seen);
     assert!(rt; tally.kept > 0, "no firing was kept");
     Ok(())
@@ -356,31 +275,16 @@ pub(crate) fn plays_rows<J: HubSite + Send + Sync, R: Threads + Wait + Abort + C
     hub: &Hub<J>,
     tokens: Vec<CpuSeat<J>>,
 ) -> Result<(), Fail> {
-    let mut tokens = tokens;
     let board = Board::new(Machine::read(alloc, rows::MACHINE.as_bytes())?, 0);
-    let one = tokens.pop().ok_or("a processor")?;
-    let other = tokens.pop().ok_or("a processor")?;
-    let processors = Four {
-        first: Two {
-            one: Work::FireRows(one),
-            other: Work::FireRows(other),
-        },
-        second: Two {
-            one: Work::Rest,
-            other: Work::Rest,
-        },
-    };
-    let sessions = Four {
-        first: Two {
-            one: Work::Ask(Row::Switch),
-            other: Work::Ask(Row::History),
-        },
-        second: Two {
-            one: Work::Ask(Row::Store),
-            other: Work::Rest,
-        },
-    };
-    let _tally = eight_do(rt, alloc, hub, &board, processors, sessions);
+    let mut works = Vec::new(alloc);
+    for token in tokens {
+        works.push(Work::FireRows(token))?;
+    }
+    for row in [Row::Switch, Row::History, Row::Store] {
+        works.push(Work::Ask(row))?;
+    }
+    assert_eq!(rt; works.len(), 5);
+    let _tally = all_do(rt, alloc, hub, &board, works)?;
     Ok(())
 }
 

@@ -31,15 +31,21 @@ const STATUS: &str = r#"{"cmd":"status"}"#;
 const ENDED: &str =
     "{\"aggdrops\":[0,0],\"cause\":\"history\",\"errors\":[0,0],\"exit\":null,\"ok\":true,\"phase\":\"stopped\",\"seen\":65537}\n";
 
-/// A machine whose processors make many firings.
-fn machine(alloc: Global) -> Result<String, Fail> {
+/// A machine's text: its head, and then for each processor a script that repeats the same firings.
+pub(crate) fn with_scripts(
+    alloc: Global,
+    head: &str,
+    cpus: u32,
+    firings: &str,
+    times: u32,
+) -> Result<String, Fail> {
     let mut text = String::new(alloc);
-    text.push_str(HEAD)?;
-    for cpu in 0..2 {
+    text.push_str(head)?;
+    for cpu in 0..cpus {
         text.push_str(if cpu == 0 { "[" } else { ",[" })?;
-        for place in 0..FIRINGS {
-            text.push_str(if place == 0 { "" } else { "," })?;
-            text.push_str(FIRING)?;
+        for time in 0..times {
+            text.push_str(if time == 0 { "" } else { "," })?;
+            text.push_str(firings)?;
         }
         text.push_str("]")?;
     }
@@ -93,6 +99,6 @@ impl Play for LongHistory {
 
 #[test]
 fn a_history_of_two_scripts_ends_tracing(rt: HostRuntime) -> Result<(), Fail> {
-    let machine = machine(rt.alloc())?;
+    let machine = with_scripts(rt.alloc(), HEAD, 2, FIRING, FIRINGS)?;
     run(&rt, rt.alloc(), machine.as_str(), &LongHistory)
 }

@@ -31,7 +31,7 @@ const FIRINGS: u64 = 16;
 const SLEEPS: u32 = 10_000;
 
 /// Whose lines a session asks.
-#[derive(Clone, Copy, Debug, PartialEq, Eq)]
+#[derive(Clone, Copy)]
 pub(crate) enum Row {
     /// A small buffer drops a record.
     Switch,
