@@ -167,8 +167,8 @@ class Service:
 
     def spent(self):
         """The processor time of all its threads so far, in seconds."""
-        fields = pathlib.Path(f"/proc/{self.run.pid}/stat").read_text(encoding="utf-8").rsplit(")", 1)[1].split()
-        return (int(fields[11]) + int(fields[12])) / os.sysconf("SC_CLK_TCK")
+        # the number that `clock_getcpuclockid` gives the clock of a process
+        return time.clock_gettime(~self.run.pid << 3 | 2)
 
     def resident(self):
         """How many bytes of memory it has."""

@@ -14,7 +14,6 @@ use crate::trailed::{Note, Owner};
 use dt_facts::{Book, Facts};
 use dt_legal::Traced;
 use std::marker::{Brand, Model};
-use std::mem;
 
 /// What a seat keeps for one processor: its note of the present trail, as long as it wasn't taken, and the book of what it took here.
 ///
@@ -31,6 +30,18 @@ impl<J: HubSite> Model for Keep<J> {
     ghost Value = { KeptNote };
 
     ghost view = { λ k. kept k.note k.book };
+}
+
+/// What lies in a place, if anything does, is taken out. Where nothing does, nothing is moved: a note and what was told are there once a life, and each
+/// firing asks for them.
+fn taken_out<T>(place: &mut Option<T>) -> Option<T>
+    ensures value { result ≡ place.old }
+    ensures after { place.new ≡ None }
+{
+    if place.is_none() {
+        return None;
+    }
+    place.take()
 }
 
 /// A new note of a life learns what was told of it.
@@ -85,8 +96,8 @@ impl<J: HubSite> Keep<J> {
         ensures carried { Carries follower.old follower.new life }
     {
         facts.catch_up(lives, &mut follower.lives);
-        let told = follower.told.take();
-        match mem::replace(&mut self.note, None) {
+        let told = taken_out(&mut follower.told);
+        match taken_out(&mut self.note) {
             Some(fresh) => {
                 facts.go_on_apart::<Brand, (u64, &Owner<J>)>(
                     &mut self.book,

@@ -15,7 +15,7 @@ returns-in-Some-clause-carried g c =
     let grown : HaveGrown c.follower.inside.lives.lists (lists_in c.args.lives.now.fact) = c.catch_up.ensures.begins in
     let all = ap (λ (b : BegunLists). b.lists.lives) c.catch_up.ensures.beginning in
     let took = ap (λ (h : HeldFact). took_in h.fact) c.go_on_apart.ensures.share in
-    rw (c.take-told.ensures.after, ← c.follower.view_is)
+    rw (c.taken_out-told.ensures.after, ← c.follower.view_is)
     (carries_taken _ _ _ _ _ _ _ _ _ _ c.follower.invariant (steps_in c.args.lives.now.fact) c.args.life c.args.owner.now.row grown.2
     c.requires.is_open c.go_on_apart.new.share c.catch_up.new.beginning (Some c.informed.result) all took)
 
@@ -37,7 +37,7 @@ pub returns-in-None-clause-carried : goal.returns-in-None-clause-carried
 returns-in-None-clause-carried g c =
     let grown : HaveGrown c.follower.inside.lives.lists (lists_in c.args.lives.now.fact) = c.catch_up.ensures.begins in
     let all = ap (λ (b : BegunLists). b.lists.lives) c.catch_up.ensures.beginning in
-    let none : c.self.inside.note ≡ None = sym c.replace.ensures.value ∙ c.in-None.is in
+    let none : c.self.inside.note ≡ None = sym c.taken_out.ensures.value ∙ c.in-None.is in
     let kept : c.args.self.now.note ≡ None = ap (λ (k : KeptNote). k.note) (sym c.self.view_is) ∙ none in
     let same = ap (λ (k : KeptNote). took_in k.book.fact) c.self.view_is in
     let share = ap (λ (h : HeldFact). took_in h.fact) c.agree.ensures.share in
@@ -46,6 +46,6 @@ returns-in-None-clause-carried g c =
     let carried = carries_taken _ _ _ _ _ _ _ _ _ _ c.follower.invariant (steps_in c.args.lives.now.fact) c.args.life c.args.owner.now.row grown.2
     c.requires.is_open c.agree.new.share c.catch_up.new.beginning c.follower.inside.note all took in
     elim c.match-told.branch [
-      | in-Some-2 w ↦ rw (w.follower-is, c.take-told.ensures.after, ← c.follower.view_is) carried
-      | in-None-2 w ↦ rw (w.follower-is, c.take-told.ensures.after, ← c.follower.view_is) carried
+      | in-Some-2 w ↦ rw (w.follower-is, c.taken_out-told.ensures.after, ← c.follower.view_is) carried
+      | in-None-2 w ↦ rw (w.follower-is, c.taken_out-told.ensures.after, ← c.follower.view_is) carried
     ]
