@@ -16,6 +16,7 @@ mod firing;
 mod gate;
 mod hub;
 pub mod laws;
+mod letting_go;
 mod looking;
 mod making;
 mod offered;

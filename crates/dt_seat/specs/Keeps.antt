@@ -125,3 +125,15 @@ pub record Carries (old new : Followed) (life : ℕ) : Type 0 where
   pub cpu : new.cpu ≡ old.cpu
   pub over : old.over ≤ new.over
   pub same : (l : ℕ) → l ≢ life → (l < new.over) ⊎ (known_of l new ≡ known_of l old)
+
+-- what a processor has at a seat once it let go of its note: it took none
+abbrev pub without_taken : Followed → Followed
+without_taken f = record { seat = f.seat; cpu = f.cpu; took = None; over = f.over; note = None; told = f.told }
+
+-- Only of lives that are over anything is forgotten, and no fewer lives are over. The note is the same, or let go.
+pub record Forgets (old new : Followed) : Type 0 where
+  pub seat : new.seat ≡ old.seat
+  pub cpu : new.cpu ≡ old.cpu
+  pub over : old.over ≤ new.over
+  pub note : (new.note ≡ old.note) ⊎ (new.note ≡ None)
+  pub same : (l : ℕ) → (l < new.over) ⊎ (known_of l new ≡ known_of l old)

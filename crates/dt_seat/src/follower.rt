@@ -1,5 +1,5 @@
 //! What a processor has at one seat.
-ghost use Rattle.std.specs.Prelude.{◌≡◌, None};
+ghost use Rattle.std.specs.Prelude.{◌≡◌, None, is_some};
 ghost use Rattle.dt_facts.specs.Facts.{no_lists, processor_fact};
 ghost use Rattle.dt_facts.specs.Handles.{begun, holding};
 ghost use Rattle.dt_seat.specs.Keeps.{followed_at};
@@ -68,5 +68,12 @@ impl<J: HubSite> Follower<J> {
         ensures { result ≡ self.now.seat }
     {
         self.seat
+    }
+
+    /// Whether it has the note of a life there.
+    pub fn has_note(&self) -> bool
+        ensures { result ≡ is_some self.now.note }
+    {
+        self.note.is_some()
     }
 }

@@ -2,7 +2,7 @@
 ghost use Rattle.std.specs.Prelude.{◌≡◌, [], None, Some, IfSome};
 ghost use Rattle.dt_facts.specs.Facts.{last_note};
 ghost use Rattle.dt_facts.specs.Lives.{IsOpenAs};
-ghost use Rattle.dt_seat.specs.Keeps.{Carries, IsKeptFor, kept, known_by, known_of, noted_of, told_in};
+ghost use Rattle.dt_seat.specs.Keeps.{Carries, IsKeptFor, SaysTaken, kept, known_by, known_of, noted_of, told_in, took_in, without_taken};
 ghost use Rattle.dt_seat.specs.Knowledge.{SaysLives, steps_in};
 ghost use Rattle.dt_trail.specs.Items.{own};
 ghost use Rattle.dt_trail.specs.Known.{noted};
@@ -109,5 +109,19 @@ impl<J: HubSite> Keep<J> {
             }
             None => facts.agree(&mut self.book, &mut follower.share),
         }
+    }
+
+    /// The processor lets go of the note that it took here, of a life that is over: it has none then, as before its first.
+    pub(crate) fn forget(&mut self, facts: &Facts, follower: &mut Follower<J>)
+        requires facts { facts.now ≡ J.word }
+        requires book { SaysTaken J.word J.contents.registry.cpus follower.old.seat follower.old.cpu self.old.book }
+        ensures agree { took_in self.old.book.fact ≡ follower.old.took }
+        ensures note { self.new.note ≡ self.old.note }
+        ensures book { SaysTaken J.word J.contents.registry.cpus follower.old.seat follower.old.cpu self.new.book }
+        ensures took { took_in self.new.book.fact ≡ None }
+        ensures follower { follower.new ≡ without_taken follower.old }
+    {
+        facts.go_on_apart::<Brand, ()>(&mut self.book, &mut follower.share, &());
+        follower.note = None;
     }
 }

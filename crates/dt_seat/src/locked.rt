@@ -1,9 +1,9 @@
 //! What lies under the lock of a seat.
-ghost use Rattle.std.specs.Prelude.{◌≡◌, ◌+◌, ◌++◌, Some, None, IfOk, IsSome, IsSomeAnd, MatchBool, OnErr, option_map};
+ghost use Rattle.std.specs.Prelude.{◌≡◌, ◌<◌, ◌≤◌, ◌+◌, ◌++◌, Some, None, IfOk, IfSome, IsSome, IsSomeAnd, MatchBool, OnErr, option_map};
 ghost use Rattle.dt_legal.specs.Rows.{AreBelowPlace};
 ghost use Rattle.dt_machine.specs.Context.{IsContext};
 ghost use Rattle.dt_machine.specs.Registry.{firing_at};
-ghost use Rattle.dt_seat.specs.Keeps.{known_by, noted_of};
+ghost use Rattle.dt_seat.specs.Keeps.{Forgets, known_by, noted_of};
 ghost use Rattle.dt_seat.specs.Publications.{IsPublished};
 ghost use mathlib.Core.List.{IsPrefix};
 ghost use Rattle.dt_seat.specs.Seats.{IsRepliedTo, ComesOfFiring, StaysOn, kept_items};
@@ -161,5 +161,21 @@ impl<J: HubSite> LockedSeat<J> {
             context,
             follower,
         )
+    }
+
+    /// A processor lets go of its note of a life of the seat that is over, and so of that life's trail, whose memory is given back once nobody has it. It forgets
+    /// what it knew of that life, and nothing of one that isn't over.
+    pub fn let_go(&mut self, facts: &Facts, follower: &mut Follower<J>)
+        requires facts { facts.now ≡ J.word }
+        requires follower { (follower.old.seat ≡ self.old.number) × (follower.old.cpu < J.contents.registry.cpus) }
+        ensures follower { Forgets follower.old follower.new }
+        ensures gone { IfSome follower.new.took (λ last. self.old.life ≤ last.life) }
+        ensures seat { self.new ≡ self.old }
+    {
+        if follower.note.is_none() || follower.life >= self.life {
+            return;
+        }
+        facts.catch_up(&mut self.lives, &mut follower.lives);
+        self.keeps[follower.cpu as usize].forget(facts, follower);
     }
 }

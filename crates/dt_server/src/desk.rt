@@ -1,7 +1,7 @@
 //! Where work is put for a processor's thread, and what it did is taken.
 use std::sync::{Condvar, Mutex, Wait};
 
-/// What lies on a desk.
+/// What was asked of a processor.
 #[derive(Clone, Copy, Debug, PartialEq, Eq)]
 enum Task {
     /// Nothing: the processor waits for work.
@@ -12,10 +12,27 @@ enum Task {
     Done(u32),
 }
 
-/// Where one thread asks a processor's thread for firings, and waits until they are made. One thread asks at a time.
+/// What lies on a desk.
+#[derive(Clone, Copy, Debug)]
+struct Slot {
+    task: Task,
+    /// Whether a session has ended since the processor let go of such.
+    session_ended: bool,
+}
+
+/// What a processor's thread does next.
+#[derive(Clone, Copy, Debug, PartialEq, Eq)]
+pub(crate) enum Work {
+    /// It makes so many firings.
+    Fire(u32),
+    /// It lets go of sessions that have ended.
+    LetGo,
+}
+
+/// Where one thread asks a processor's thread for firings, and waits until they are made. One thread asks at a time. Any thread tells it that a session has ended.
 #[derive(Drop)]
 pub struct Desk {
-    task: Mutex<Task>,
+    slot: Mutex<Slot>,
     turned: Condvar,
 }
 
@@ -23,41 +40,54 @@ impl Desk {
     /// A desk with nothing on it.
     pub fn new() -> Desk {
         Desk {
-            task: Mutex::new(Task::Idle),
+            slot: Mutex::new(Slot {
+                task: Task::Idle,
+                session_ended: false,
+            }),
             turned: Condvar::new(),
         }
     }
 
     /// Asks for so many firings, and waits until the processor says how many it made.
     pub fn step<R: Wait>(&self, rt: &R, count: u32) -> u32 {
-        *self.task.lock(rt) = Task::Asked(count);
+        self.slot.lock(rt).task = Task::Asked(count);
         self.turned.notify_all();
-        let mut task = self.task.lock(rt);
+        let mut slot = self.slot.lock(rt);
         for _ in rt.forever() {
-            if let Task::Done(made) = *task {
-                *task = Task::Idle;
+            if let Task::Done(made) = slot.task {
+                slot.task = Task::Idle;
                 return made;
             }
-            task = self.turned.wait(rt, task);
+            slot = self.turned.wait(rt, slot);
         }
         unreachable!()
     }
 
-    /// Waits until firings are asked for, and says how many.
-    pub(crate) fn asked<R: Wait>(&self, rt: &R) -> u32 {
-        let mut task = self.task.lock(rt);
+    /// Tells that a session has ended.
+    pub(crate) fn session_ended<R: Wait>(&self, rt: &R) {
+        self.slot.lock(rt).session_ended = true;
+        self.turned.notify_all();
+    }
+
+    /// Waits until there is something to do, and says what. Sessions that have ended come first: it is soon done, and gives memory back.
+    pub(crate) fn next<R: Wait>(&self, rt: &R) -> Work {
+        let mut slot = self.slot.lock(rt);
         for _ in rt.forever() {
-            if let Task::Asked(count) = *task {
-                return count;
+            if slot.session_ended {
+                slot.session_ended = false;
+                return Work::LetGo;
             }
-            task = self.turned.wait(rt, task);
+            if let Task::Asked(count) = slot.task {
+                return Work::Fire(count);
+            }
+            slot = self.turned.wait(rt, slot);
         }
         unreachable!()
     }
 
     /// Says how many firings were made.
     pub(crate) fn done<R: Wait>(&self, rt: &R, made: u32) {
-        *self.task.lock(rt) = Task::Done(made);
+        self.slot.lock(rt).task = Task::Done(made);
         self.turned.notify_all();
     }
 }

@@ -2,7 +2,7 @@
 use crate::device::Counted;
 use crate::ended::Ended;
 use crate::session::serve_session;
-use crate::shared::AccountSocket;
+use crate::shared::{AccountSocket, Shared};
 use dt_hub::{Hub, HubSite, OpenFault};
 use dt_proto::memory_line;
 use std::alloc::Global;
@@ -28,12 +28,13 @@ pub(crate) fn accept_all<'s, 'e: 's, J: HubSite + Send + Sync, R: Threads + Wait
     rt: &'s R,
     alloc: Global,
     hub: &'s Hub<J>,
+    shared: &'s Shared,
     socket: &'s AccountSocket,
     scope: &'s Scope<'s, &'e ()>,
 ) {
     for _ in rt.forever() {
         match socket.listener.accept() {
-            Ok((stream, _)) => begin(rt, alloc, hub, socket, stream, scope),
+            Ok((stream, _)) => begin(rt, alloc, hub, shared, socket, stream, scope),
             // there are no descriptors, or there is no memory: the next one would fail at once, too
             Err(_) => thread::sleep(rt, Duration::from_millis(PAUSE_MILLIS)),
         }
@@ -45,6 +46,7 @@ fn begin<'s, 'e: 's, J: HubSite + Send + Sync, R: Threads + Wait + Sync>(
     rt: &'s R,
     alloc: Global,
     hub: &'s Hub<J>,
+    shared: &'s Shared,
     socket: &'s AccountSocket,
     stream: UnixStream,
     scope: &'s Scope<'s, &'e ()>,
@@ -52,7 +54,7 @@ fn begin<'s, 'e: 's, J: HubSite + Send + Sync, R: Threads + Wait + Sync>(
     let spare = stream.try_clone();
     let started = Builder::new().spawn_scoped(
         scope,
-        move || serve_stream(rt, alloc, hub, socket, stream),
+        move || serve_stream(rt, alloc, hub, shared, socket, stream),
     );
     if started.is_err() {
         if let Ok(mut stream) = spare {
@@ -66,6 +68,7 @@ fn serve_stream<J: HubSite, R: Wait>(
     rt: &R,
     alloc: Global,
     hub: &Hub<J>,
+    shared: &Shared,
     socket: &AccountSocket,
     stream: UnixStream,
 ) {
@@ -74,6 +77,7 @@ fn serve_stream<J: HubSite, R: Wait>(
             let mut source = Counted::new(&stream);
             let mut sink = Counted::new(&stream);
             let (ended, _receipt) = serve_session(rt, alloc, hub, session, &mut source, &mut sink);
+            shared.session_ended(rt);
             // its lines had no buffer, so it was told nothing
             if ended == Ended::Memory {
                 let _told = (&stream).write_all(memory_line());

@@ -69,11 +69,12 @@ fn start_listener<'s, 'e: 's, J: HubSite + Send + Sync, R: Threads + Wait + Cloc
     rt: &'s R,
     alloc: Global,
     hub: &'s Hub<J>,
+    shared: &'s Shared,
     socket: &'s AccountSocket,
     scope: &'s Scope<'s, &'e ()>,
 ) -> bool {
     scope
-        .spawn(move || accept_all(rt, alloc, hub, socket, scope))
+        .spawn(move || accept_all(rt, alloc, hub, shared, socket, scope))
         .is_ok()
 }
 
@@ -104,7 +105,7 @@ fn start_listeners<'s, 'e: 's, J: HubSite + Send + Sync, R: Threads + Wait + Clo
 ) -> bool {
     let mut all = true;
     for socket in shared.sockets.iter() {
-        let listens = start_listener(rt, alloc, hub, socket, scope);
+        let listens = start_listener(rt, alloc, hub, shared, socket, scope);
         all = all && listens;
     }
     all

@@ -46,6 +46,13 @@ impl Shared {
         }
     }
 
+    /// Tells all processors that a session has ended.
+    pub(crate) fn session_ended<R: Wait>(&self, rt: &R) {
+        for desk in self.desks.iter() {
+            desk.session_ended(rt);
+        }
+    }
+
     /// Says that all threads run, or that the service can't start.
     pub(crate) fn tell<R: Wait>(&self, rt: &R, is_ready: bool) {
         *self.start.lock(rt) = if is_ready {

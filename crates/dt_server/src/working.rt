@@ -3,7 +3,7 @@ ghost use Rattle.std.specs.Prelude.{◌≡◌, ◌≢◌, ◌⊎◌, ◌+◌, �
 ghost use Rattle.dt_chain.specs.Seats.{life_at};
 ghost use Rattle.dt_machine.specs.Registry.{firing_at};
 
-use crate::desk::Desk;
+use crate::desk::{Desk, Work};
 use dt_hub::{CpuSeat, Fired, Gate, Hub, HubSite};
 use std::sync::Wait;
 
@@ -31,7 +31,7 @@ pub fn fire_many<J: HubSite, R: Wait, G: Gate>(
     count
 }
 
-/// Makes firings as its desk is asked for them, for ever.
+/// Makes firings as its desk is asked for them, and lets go of sessions as they end, for ever.
 pub(crate) fn work<J: HubSite, R: Wait, G: Gate>(
     rt: &R,
     hub: &Hub<J>,
@@ -40,8 +40,12 @@ pub(crate) fn work<J: HubSite, R: Wait, G: Gate>(
     desk: &Desk,
 ) {
     for _ in rt.forever() {
-        let count = desk.asked(rt);
-        let made = fire_many(rt, hub, &mut cpu_seat, gate, count);
-        desk.done(rt, made);
+        match desk.next(rt) {
+            Work::Fire(count) => {
+                let made = fire_many(rt, hub, &mut cpu_seat, gate, count);
+                desk.done(rt, made);
+            }
+            Work::LetGo => hub.let_go(rt, &mut cpu_seat),
+        }
     }
 }
