@@ -1,5 +1,5 @@
 //! What a seat keeps for one processor.
-ghost use Rattle.std.specs.Prelude.{◌≡◌, [], None, Some, IfSome};
+ghost use Rattle.std.specs.Prelude.{◌≡◌, [], None, Some, IfSome, IsSome};
 ghost use Rattle.dt_facts.specs.Facts.{last_note};
 ghost use Rattle.dt_facts.specs.Lives.{IsOpenAs};
 ghost use Rattle.dt_seat.specs.Keeps.{Carries, IsKeptFor, SaysTaken, kept, known_by, known_of, noted_of, told_in, took_in, without_taken};
@@ -30,18 +30,6 @@ impl<J: HubSite> Model for Keep<J> {
     ghost Value = { KeptNote };
 
     ghost view = { λ k. kept k.note k.book };
-}
-
-/// What lies in a place, if anything does, is taken out. Where nothing does, nothing is moved: a note and what was told are there once a life, and each
-/// firing asks for them.
-fn taken_out<T>(place: &mut Option<T>) -> Option<T>
-    ensures value { result ≡ place.old }
-    ensures after { place.new ≡ None }
-{
-    if place.is_none() {
-        return None;
-    }
-    place.take()
 }
 
 /// A new note of a life learns what was told of it.
@@ -95,20 +83,53 @@ impl<J: HubSite> Keep<J> {
             ≡ own (follower.old.cpu + 1) (noted_of life follower.old) }
         ensures carried { Carries follower.old follower.new life }
     {
-        facts.catch_up(lives, &mut follower.lives);
-        let told = taken_out(&mut follower.told);
-        match taken_out(&mut self.note) {
-            Some(fresh) => {
-                facts.go_on_apart::<Brand, (u64, &Owner<J>)>(
-                    &mut self.book,
-                    &mut follower.share,
-                    &(life, owner),
-                );
-                follower.note = Some(informed(fresh, life, told));
-                follower.life = life;
-            }
-            None => facts.agree(&mut self.book, &mut follower.share),
+        if self.note.is_some() {
+            self.hand_over(facts, lives, life, owner, follower);
+            return;
         }
+        facts.catch_up(lives, &mut follower.lives);
+        facts.agree(&mut self.book, &mut follower.share);
+    }
+
+    /// The same where the note lies here, as it does once in a life for each processor. It stands apart, so that what it moves is out of the way of all other
+    /// firings.
+    #[cold]
+    fn hand_over(
+        &mut self,
+        facts: &Facts,
+        lives: &mut Book,
+        life: u64,
+        owner: &Owner<J>,
+        follower: &mut Follower<J>,
+    )
+        requires there { IsSome self.old.note }
+        requires facts { facts.now ≡ J.word }
+        requires lives { SaysLives J.word J.contents.registry.cpus follower.old.seat lives.old }
+        requires is_open { IsOpenAs life owner.now.row (steps_in lives.old.fact) }
+        requires kept { IsKeptFor J.word J.contents.registry.cpus follower.old.seat follower.old.cpu life owner.now.row owner.now.knows self.old }
+        ensures lives { lives.new ≡ lives.old }
+        ensures kept { IsKeptFor J.word J.contents.registry.cpus follower.new.seat follower.new.cpu life owner.now.row owner.now.knows self.new }
+        ensures lent { self.new.note ≡ None }
+        ensures note { follower.new.note ≡ Some (noted owner.now.row (follower.old.cpu + 1) (known_by follower.new.note)) }
+        ensures took { follower.new.took ≡ Some (last_note life owner.now.row) }
+        ensures over { follower.new.over ≡ life }
+        ensures known { known_of life follower.new ≡ known_of life follower.old }
+        ensures own_known { own (follower.old.cpu + 1) (known_by follower.new.note)
+            ≡ own (follower.old.cpu + 1) (noted_of life follower.old) }
+        ensures carried { Carries follower.old follower.new life }
+    {
+        facts.catch_up(lives, &mut follower.lives);
+        let told = follower.told.take();
+        let Some(fresh) = self.note.take() else {
+            unreachable!()
+        };
+        facts.go_on_apart::<Brand, (u64, &Owner<J>)>(
+            &mut self.book,
+            &mut follower.share,
+            &(life, owner),
+        );
+        follower.note = Some(informed(fresh, life, told));
+        follower.life = life;
     }
 
     /// The processor lets go of the note that it took here, of a life that is over: it has none then, as before its first.
