@@ -14,7 +14,7 @@ enum Task {
 
 /// What lies on a desk.
 #[derive(Clone, Copy, Debug)]
-struct Slot {
+struct Orders {
     task: Task,
     /// Whether a session has ended since the processor let go of such.
     session_ended: bool,
@@ -22,7 +22,7 @@ struct Slot {
 
 /// What a processor's thread does next.
 #[derive(Clone, Copy, Debug, PartialEq, Eq)]
-pub(crate) enum Work {
+pub(crate) enum Duty {
     /// It makes so many firings.
     Fire(u32),
     /// It lets go of sessions that have ended.
@@ -32,7 +32,7 @@ pub(crate) enum Work {
 /// Where one thread asks a processor's thread for firings, and waits until they are made. One thread asks at a time. Any thread tells it that a session has ended.
 #[derive(Drop)]
 pub struct Desk {
-    slot: Mutex<Slot>,
+    orders: Mutex<Orders>,
     turned: Condvar,
 }
 
@@ -40,7 +40,7 @@ impl Desk {
     /// A desk with nothing on it.
     pub fn new() -> Desk {
         Desk {
-            slot: Mutex::new(Slot {
+            orders: Mutex::new(Orders {
                 task: Task::Idle,
                 session_ended: false,
             }),
@@ -50,44 +50,44 @@ impl Desk {
 
     /// Asks for so many firings, and waits until the processor says how many it made.
     pub fn step<R: Wait>(&self, rt: &R, count: u32) -> u32 {
-        self.slot.lock(rt).task = Task::Asked(count);
+        self.orders.lock(rt).task = Task::Asked(count);
         self.turned.notify_all();
-        let mut slot = self.slot.lock(rt);
+        let mut orders = self.orders.lock(rt);
         for _ in rt.forever() {
-            if let Task::Done(made) = slot.task {
-                slot.task = Task::Idle;
+            if let Task::Done(made) = orders.task {
+                orders.task = Task::Idle;
                 return made;
             }
-            slot = self.turned.wait(rt, slot);
+            orders = self.turned.wait(rt, orders);
         }
         unreachable!()
     }
 
     /// Tells that a session has ended.
     pub(crate) fn session_ended<R: Wait>(&self, rt: &R) {
-        self.slot.lock(rt).session_ended = true;
+        self.orders.lock(rt).session_ended = true;
         self.turned.notify_all();
     }
 
     /// Waits until there is something to do, and says what. Sessions that have ended come first: it is soon done, and gives memory back.
-    pub(crate) fn next<R: Wait>(&self, rt: &R) -> Work {
-        let mut slot = self.slot.lock(rt);
+    pub(crate) fn next<R: Wait>(&self, rt: &R) -> Duty {
+        let mut orders = self.orders.lock(rt);
         for _ in rt.forever() {
-            if slot.session_ended {
-                slot.session_ended = false;
-                return Work::LetGo;
+            if orders.session_ended {
+                orders.session_ended = false;
+                return Duty::LetGo;
             }
-            if let Task::Asked(count) = slot.task {
-                return Work::Fire(count);
+            if let Task::Asked(count) = orders.task {
+                return Duty::Fire(count);
             }
-            slot = self.turned.wait(rt, slot);
+            orders = self.turned.wait(rt, orders);
         }
         unreachable!()
     }
 
     /// Says how many firings were made.
     pub(crate) fn done<R: Wait>(&self, rt: &R, made: u32) {
-        self.slot.lock(rt).task = Task::Done(made);
+        self.orders.lock(rt).task = Task::Done(made);
         self.turned.notify_all();
     }
 }

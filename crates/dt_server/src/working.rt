@@ -3,7 +3,7 @@ ghost use Rattle.std.specs.Prelude.{◌≡◌, ◌≢◌, ◌⊎◌, ◌+◌, �
 ghost use Rattle.dt_chain.specs.Seats.{life_at};
 ghost use Rattle.dt_machine.specs.Registry.{firing_at};
 
-use crate::desk::{Desk, Work};
+use crate::desk::{Desk, Duty};
 use dt_hub::{CpuSeat, Fired, Gate, Hub, HubSite};
 use std::sync::Wait;
 
@@ -41,11 +41,11 @@ pub(crate) fn work<J: HubSite, R: Wait, G: Gate>(
 ) {
     for _ in rt.forever() {
         match desk.next(rt) {
-            Work::Fire(count) => {
+            Duty::Fire(count) => {
                 let made = fire_many(rt, hub, &mut cpu_seat, gate, count);
                 desk.done(rt, made);
             }
-            Work::LetGo => hub.let_go(rt, &mut cpu_seat),
+            Duty::LetGo => hub.let_go(rt, &mut cpu_seat),
         }
     }
 }
