@@ -16,13 +16,15 @@ import tempfile
 import threading
 import time
 
-from running import FIRINGS_MAX, LINES_MAX, OK, PROGRAM, fired, judge, machine
+from running import FIRINGS_MAX, HISTORY_MAX, LINES_MAX, OK, PROGRAM, fired, judge, machine
 
 sys.path.append(str(pathlib.Path(__file__).resolve().parents[2] / "tests"))
 import built
 from built import PATIENCE, STATUS
 
 SEATS = 256
+# how many bytes a trail of the longest history has at least: 16 for each firing
+TRAIL_BYTES = 16 * HISTORY_MAX
 # how many descriptors a service may have that is short of them
 DESCRIPTORS = 40
 NOBODY = 65_534
@@ -170,6 +172,21 @@ def comes_and_goes(_folder):
         for client in others:
             client.close()
         yield "less memory than a gigabyte", resident < 1 << 30, True
+
+
+def gives_back(_folder):
+    """The trail of a session that traces with the longest history is given back as the session ends, by processors that fired for it and have nothing to do."""
+    tracing = [{"cmd": "option", "name": "histsize", "value": HISTORY_MAX}, {"cmd": "enable", "text": "read:entry{@calls = count()}"}, {"cmd": "go"}]
+    with serving(machine([[fired(7)], [fired(8)]])) as service:
+        client = service.client()
+        yield "it traces", [client.ask(json.dumps(line).encode() + b"\n") for line in tracing], [OK.encode() + b"\n", b'{"count":1,"first":1,"ok":true}\n', OK.encode() + b"\n"]
+        yield "both processors fire for it", [service.says(b"step %d 1" % cpu) for cpu in (0, 1)], [b"fired 0 1\n", b"fired 1 1\n"]
+        resident = service.resident()
+        client.close()
+        end = time.monotonic() + PATIENCE
+        while resident - service.resident() < TRAIL_BYTES / 2 and time.monotonic() < end:
+            time.sleep(0.01)
+        yield "most of its memory is given back", resident - service.resident() >= TRAIL_BYTES / 2, True
 
 
 def never_reads(_folder):
@@ -368,4 +385,4 @@ def refused(folder):
 
 
 signal.signal(signal.SIGPIPE, signal.SIG_IGN)
-judge(rows, all_seats, comes_and_goes, never_reads, stalls, cut_anywhere, session_ends, commands, long_steps, no_threads, no_descriptors, refused)
+judge(rows, all_seats, comes_and_goes, gives_back, never_reads, stalls, cut_anywhere, session_ends, commands, long_steps, no_threads, no_descriptors, refused)
