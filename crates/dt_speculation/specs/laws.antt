@@ -1,0 +1,4 @@
+-- What holds of the definitions, for those who prove that a program meets them. Lowest first.
+pub mod Joins
+pub mod Steps
+pub mod Lives
