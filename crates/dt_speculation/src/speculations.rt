@@ -1,5 +1,5 @@
 //! The speculative buffers of one consumer.
-ghost use Rattle.std.specs.Prelude.{◌≡◌, ◌+◌, ◌<◌, ◌≤◌, ◌⊎◌, ◌==◌, ℕ, IfOk, IfSome, MatchOption, true, vec_len, if◌then◌else◌};
+ghost use Rattle.std.specs.Prelude.{◌≡◌, ◌+◌, ◌<◌, ◌≤◌, ◌⊎◌, ◌==◌, ℕ, IfOk, IfSome, MatchOption, true, length, vec_len, if◌then◌else◌};
 ghost use Rattle.std.specs.List.{All};
 
 use crate::answer::SpecPut;
@@ -126,8 +126,8 @@ impl Specs {
 
     /// The place of an identifier, if there is such a one.
     fn place_of(&self, id: u64) -> Option<usize>
-        ensures { MatchOption result ((id ≡ 0) ⊎ (vec_len self.now.all < id))
-            (λ place. (id ≡ place + 1) × (place < vec_len self.now.all)) }
+        ensures { MatchOption result ((id ≡ 0) ⊎ (length self.now.all.items < id))
+            (λ place. (id ≡ place + 1) × (place < length self.now.all.items)) }
     {
         if id == 0 || (self.all.len() as u64) < id {
             return None;
