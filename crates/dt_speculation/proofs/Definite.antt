@@ -1,10 +1,10 @@
 -- A past gives one answer, and a part has one content.
-use Rattle.std.proofs.Common.{◌≡◌, ◌≢◌, ℕ, zero, suc, ◌+◌, ◌-◌, ◌<◌, ◌≤◌, ◌⊎◌, Bool, true, false, List, [], ◌∷◌, ◌++◌, length}
+use Rattle.std.proofs.Common.{◌≡◌, ◌≢◌, ℕ, zero, suc, ◌-◌, ◌<◌, ◌≤◌, ◌⊎◌, Bool, true, false, List, [], ◌∷◌, ◌++◌, length}
 use Rattle.std.proofs.Common.{refl, sym, ap, ◌∙◌, subst, inl, inr, ⊎_elim, if◌then◌else◌, arith}
 use Rattle.std.proofs.lemmas.Bool.{cases_Bool, cases_eq, cases_order, eq-eqb, false≢true, ne_eqb}
-use Rattle.dt_buffer.specs.Choice.{IsFittingChoice, ShowsSwitch, chosen_bytes, chosen_of}
+use Rattle.dt_buffer.specs.Choice.{IsFittingChoice, chosen_bytes, chosen_of}
 use Rattle.dt_speculation.specs.Answers.{AllInUse, DrawAnswers, IsLeastFree}
-use Rattle.dt_speculation.specs.History.{SpecEvent, SpecPast, draw, free, put_under}
+use Rattle.dt_speculation.specs.History.{SpecEvent, SpecPast, put_under}
 use Rattle.dt_speculation.specs.Records.{HasPart, put_to, records_of}
 use Rattle.dt_speculation.specs.Uses.{is_in_use}
 use Rattle.dt_speculation.specs.laws.Steps.{put_other, put_own, records_unused}
@@ -32,12 +32,15 @@ some_answer (suc n) events =
     (λ (used : is_in_use (suc n) events ≡ true).
     let P : (answer : ℕ) × DrawAnswers (suc n) events answer = (0, inr (refl, all_wider n events none.1 used)) in P)
     (λ (unused : is_in_use (suc n) events ≡ false).
-    let P : (answer : ℕ) × DrawAnswers (suc n) events answer = (suc n, inl (record {
-      from = omega arith;
-      to = omega arith;
-      free_now = unused;
-      least = λ m from below. none.1 m from (omega arith);
-    })) in P)
+    let P : (answer : ℕ) × DrawAnswers (suc n) events answer = (
+      suc n,
+      inl (record {
+        from = omega arith;
+        to = omega arith;
+        free_now = unused;
+        least = λ m from below. none.1 m from (omega arith);
+      }),
+    ) in P)
     (cases_Bool (is_in_use (suc n) events)))
     found.1
 

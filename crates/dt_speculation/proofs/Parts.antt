@@ -1,10 +1,10 @@
 -- A part that takes a record or drops it.
-use Rattle.std.proofs.Common.{◌≡◌, ℕ, ◌+◌, ◌<◌, ◌≤◌, ◌↔◌, Bool, true, false, List, [], ◌∷◌, ◌++◌, length, get_or}
+use Rattle.std.proofs.Common.{◌≡◌, ℕ, ◌+◌, ◌<◌, ◌≤◌, ◌↔◌, Bool, false, List, [], ◌∷◌, ◌++◌, length, get_or}
 use Rattle.std.proofs.Common.{refl, sym, ap, ◌∙◌, subst, IsTrue, arith}
-use Rattle.dt_buffer.specs.Choice.{IsFittingChoice, ShowsSwitch, KeepsSwitch, chosen_bytes}
+use Rattle.dt_buffer.specs.Choice.{IsFittingChoice, ShowsSwitch, KeepsSwitch}
 use Rattle.dt_buffer.specs.laws.Choices.{choice_more, get_or-last, switch_kept, switch_dropped}
 use Rattle.dt_speculation.specs.IsAt.{PartIsAt}
-use Rattle.dt_speculation.specs.declared.part.Part.{Part}
+use Rattle.dt_speculation.specs.declared.part.SpecPart.{SpecPart}
 
 -- nothing came
 pub shows_none : (size : ℕ) → ShowsSwitch size [] [] 0
@@ -15,14 +15,14 @@ shows_none size = record {
   dropped = refl;
 }
 
-pub part_none : (size : ℕ) (part : Part) → part.size ≡ size → part.kept.items ≡ [] → PartIsAt size [] part
+pub part_none : (size : ℕ) (part : SpecPart) → part.size ≡ size → part.kept.items ≡ [] → PartIsAt size [] part
 part_none size part same empty = record {
   same_size = same;
   drops = 0;
   shows = subst (λ bytes. ShowsSwitch size [] bytes 0) (sym empty) (shows_none size);
 }
 
-module _ (size : ℕ) (records : List (List ℕ)) (bytes : List ℕ) (old new : Part) (s : PartIsAt size records old)
+module _ (size : ℕ) (records : List (List ℕ)) (bytes : List ℕ) (old new : SpecPart) (s : PartIsAt size records old)
     (same : new.size ≡ old.size) where
   pub part_kept : new.kept.items ≡ old.kept.items ++ bytes → length old.kept.items + length bytes ≤ old.size
       → PartIsAt size (records ++ bytes ∷ []) new
@@ -48,7 +48,7 @@ module _ (size : ℕ) (records : List (List ℕ)) (bytes : List ℕ) (old new : 
 
 -- A record is kept exactly where it fits, since records have one choice.
 module _ (one : (size : ℕ) (attempts : List (List ℕ)) (a b : List Bool) → IsFittingChoice size attempts a
-    → IsFittingChoice size attempts b → a ≡ b) (size : ℕ) (records : List (List ℕ)) (bytes : List ℕ) (part : Part)
+    → IsFittingChoice size attempts b → a ≡ b) (size : ℕ) (records : List (List ℕ)) (bytes : List ℕ) (part : SpecPart)
     (s : PartIsAt size records part) (b : Bool) (fits : IsTrue b ↔ (length part.kept.items + length bytes ≤ part.size)) where
   more : IsFittingChoice size (records ++ bytes ∷ []) (s.shows.chosen ++ b ∷ [])
   more =

@@ -1,5 +1,5 @@
 -- The buffers at the end of a past, and one event more.
-use Rattle.std.proofs.Common.{◌≡◌, ◌≢◌, ℕ, zero, suc, ◌+◌, ◌-◌, ◌<◌, ◌≤◌, ◌⊎◌, Bool, true, false, not, List, [], ◌∷◌, ◌++◌, length, get_or, set, cond, eqb}
+use Rattle.std.proofs.Common.{◌≡◌, ◌≢◌, ℕ, ◌+◌, ◌-◌, ◌<◌, ◌≤◌, ◌⊎◌, Bool, true, false, List, [], ◌∷◌, ◌++◌, length, get_or, set}
 use Rattle.std.proofs.Common.{refl, sym, ap, ◌∙◌, subst, inl, inr, ⊎_elim, if◌then◌else◌, Option, None, Some, arith}
 use Rattle.std.specs.List.{All, slice_get}
 use Rattle.std.specs.Option.{MatchOption}
@@ -7,17 +7,17 @@ use Rattle.std.proofs.lemmas.Bool.{cases_lt, cases_eq, ne_eqb}
 use Rattle.std.proofs.lemmas.List.{length-set}
 use Rattle.std.proofs.lemmas.Option.{slice_get_cases}
 use Rattle.dt_buffer.specs.Choice.{KeepsSwitch}
-use Rattle.dt_speculation.specs.Answers.{AllInUse, AreAnswered, DrawAnswers, IsLeastFree, PutSays, SpecPutAnswers, failed_draws}
+use Rattle.dt_speculation.specs.Answers.{AllInUse, DrawAnswers, PutSays, SpecPutAnswers, failed_draws}
 use Rattle.dt_speculation.specs.History.{SpecEvent, SpecPast, draw, put_under, free, new_spec_past, spec_after}
 use Rattle.dt_speculation.specs.IsAt.{IsFirstFree, SpeculationIsAt, SpecsAt}
 use Rattle.dt_speculation.specs.Records.{HasPart, KeepsPart, ShowsPart, put_to, records_of}
-use Rattle.dt_speculation.specs.Uses.{is_in_use, gives}
+use Rattle.dt_speculation.specs.Uses.{is_in_use}
 use Rattle.dt_speculation.specs.laws.Steps.{answered_more, draw_records, draw_use, drawn_records, drawn_use, failed_draws-more, free_own, free_records, free_use, gives_none, gives_other, put_other, put_own, put_use, records_unused, zero_unused}
 use Rattle.dt_speculation.specs.declared.answer.SpecPut.{SpecPut}
 use Rattle.dt_speculation.specs.declared.answer.SpecPut.TheVariants.{Unknown}
 use Rattle.dt_speculation.specs.declared.speculation.Speculation.{Speculation}
 use Rattle.dt_speculation.specs.declared.speculations.Specs.{Specs}
-use Rattle.dt_speculation.proofs.Places.{match_map, found_there, nothing_there, from_nothing, from_there, replaced, at_each}
+use Rattle.dt_speculation.proofs.Places.{match_map, found_there, nothing_there, from_nothing, replaced, at_each}
 use Rattle.dt_speculation.proofs.Uses.{same_speculation, says_unknown, none_shown}
 
 -- what holds of a place after a past

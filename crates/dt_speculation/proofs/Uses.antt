@@ -1,19 +1,16 @@
 -- What is said of an identifier's parts.
-use Rattle.std.proofs.Common.{◌≡◌, ◌≢◌, ℕ, ◌+◌, ◌<◌, ◌≤◌, ◌↔◌, ◌==◌, Bool, true, false, List, [], ◌∷◌, ◌++◌, length, get_or, set, cond}
-use Rattle.std.proofs.Common.{refl, sym, ap, ◌∙◌, subst, ⊎_elim, IsTrue, if◌then◌else◌, arith}
+use Rattle.std.proofs.Common.{◌≡◌, ℕ, Bool, false, List, []}
+use Rattle.std.proofs.Common.{refl, sym, ◌∙◌, subst}
 use Rattle.std.specs.List.{All, slice_get}
 use Rattle.std.specs.Option.{MatchOption}
-use Rattle.std.proofs.lemmas.Bool.{cases_lt, eq-eqb, ne_eqb, false≢true, true≢false}
-use Rattle.dt_buffer.specs.Choice.{KeepsSwitch}
+use Rattle.std.proofs.lemmas.Bool.{false≢true}
 use Rattle.dt_speculation.specs.Answers.{PutSays}
 use Rattle.dt_speculation.specs.IsAt.{PartIsAt, SpeculationIsAt}
-use Rattle.dt_speculation.specs.Records.{ShowsPart, put_to}
-use Rattle.dt_speculation.specs.declared.answer.SpecPut.{SpecPut}
-use Rattle.dt_speculation.specs.declared.answer.SpecPut.TheVariants.{Kept, Dropped, Unknown}
-use Rattle.dt_speculation.specs.declared.part.Part.{Part}
+use Rattle.dt_speculation.specs.Records.{ShowsPart}
+use Rattle.dt_speculation.specs.declared.answer.SpecPut.TheVariants.{Unknown}
 use Rattle.dt_speculation.specs.declared.speculation.Speculation.{Speculation}
 use Rattle.dt_speculation.proofs.Parts.{shows_none}
-use Rattle.dt_speculation.proofs.Places.{match_map, found_there, nothing_there, from_nothing, replaced, at_each}
+use Rattle.dt_speculation.proofs.Places.{at_each}
 
 -- The same said of the same.
 module _ (size : ℕ) (before after : Bool) (records others : ℕ → List (List ℕ)) (one : Speculation) where

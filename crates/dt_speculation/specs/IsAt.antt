@@ -5,12 +5,12 @@ use Rattle.dt_speculation.specs.Answers.{AreAnswered, failed_draws}
 use Rattle.dt_speculation.specs.History.{SpecPast}
 use Rattle.dt_speculation.specs.Records.{records_of}
 use Rattle.dt_speculation.specs.Uses.{is_in_use}
-use Rattle.dt_speculation.specs.declared.part.Part.{Part}
+use Rattle.dt_speculation.specs.declared.part.SpecPart.{SpecPart}
 use Rattle.dt_speculation.specs.declared.speculation.Speculation.{Speculation}
 use Rattle.dt_speculation.specs.declared.speculations.Specs.{Specs}
 
 -- A part holds what the switch policy keeps of some records.
-pub record PartIsAt (size : ℕ) (records : List (List ℕ)) (part : Part) : Type 0 where
+pub record PartIsAt (size : ℕ) (records : List (List ℕ)) (part : SpecPart) : Type 0 where
   pub same_size : part.size ≡ size
   pub drops : ℕ
   pub shows : ShowsSwitch size records part.kept.items drops

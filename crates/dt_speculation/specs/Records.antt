@@ -1,6 +1,6 @@
 -- The records that are put under an identifier, and what is kept of them. Guide, Speculative Tracing; that a part keeps as a
 -- buffer under the switch policy does between two swaps is this project's own.
-use Rattle.std.specs.Prelude.{ℕ, Bool, ◌&&◌, ◌==◌, List, [], ◌∷◌, ◌++◌, if◌then◌else◌}
+use Rattle.std.specs.Prelude.{ℕ, ◌&&◌, ◌==◌, List, [], ◌∷◌, ◌++◌, if◌then◌else◌}
 use Rattle.dt_buffer.specs.Choice.{ShowsSwitch, KeepsSwitch}
 use Rattle.dt_speculation.specs.History.{SpecEvent, SpecPast, draw, put_under, free}
 use Rattle.dt_speculation.specs.Uses.{is_in_use, since_given}

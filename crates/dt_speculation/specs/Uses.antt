@@ -1,5 +1,5 @@
 -- Which identifiers are in use after some events, and what came since they were drawn. Guide, Speculative Tracing.
-use Rattle.std.specs.Prelude.{ℕ, Bool, true, false, ◌&&◌, ◌||◌, ◌==◌, not, nat_lt, List, [], ◌∷◌, if◌then◌else◌}
+use Rattle.std.specs.Prelude.{ℕ, Bool, false, ◌&&◌, ◌||◌, ◌==◌, not, nat_lt, List, [], ◌∷◌, if◌then◌else◌}
 use Rattle.dt_speculation.specs.History.{SpecEvent, draw, put_under, free}
 
 -- whether a draw that answers so gives the identifier: 0 is none

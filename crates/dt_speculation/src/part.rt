@@ -1,19 +1,19 @@
 //! The buffer of one identifier on one processor.
-ghost use Rattle.std.specs.Prelude.{◌≡◌, ◌≤◌, ◌↔◌, ℕ, List, [], ◌∷◌, ◌++◌, IsTrue, IfOk, vec_len, vec_capacity};
+ghost use Rattle.std.specs.Prelude.{◌≤◌, ◌↔◌, ℕ, List, [], ◌∷◌, ◌++◌, IsTrue, IfOk, vec_len, vec_capacity};
 
 use dt_buffer::one_choice;
 use std::alloc::{AllocError, Global};
 
 /// The bytes of the records kept since the identifier was drawn.
 #[derive(Drop)]
-pub(crate) struct Part {
+pub(crate) struct SpecPart {
     pub(crate) kept: Vec<u8>,
     pub(crate) size: usize,
     ghost room: { size ≤ vec_capacity kept },
     ghost within: { vec_len kept ≤ size },
 }
 
-impl Part {
+impl SpecPart {
     ghost use Rattle.dt_buffer.specs.Choice.{KeepsSwitch};
     ghost use Rattle.dt_speculation.specs.IsAt.{PartIsAt};
 
@@ -21,7 +21,7 @@ impl Part {
     pub(crate) fn new(alloc: Global, size: usize) -> Result<Self, AllocError>
         ensures { IfOk result (PartIsAt size []) }
     {
-        Ok(Part {
+        Ok(SpecPart {
             kept: Vec::with_capacity(alloc, size)?,
             size,
         })

@@ -1,15 +1,15 @@
 //! One identifier, and its parts.
-ghost use Rattle.std.specs.Prelude.{◌≡◌, ◌+◌, ◌≤◌, ◌<◌, ◌↔◌, ◌==◌, ℕ, Bool, true, false, List, [], ◌∷◌, ◌++◌, IfOk, length, vec_len, if◌then◌else◌};
+ghost use Rattle.std.specs.Prelude.{◌≡◌, ◌<◌, ℕ, Bool, true, false, List, [], IfOk, vec_len, if◌then◌else◌};
 
 use crate::answer::SpecPut;
-use crate::part::Part;
+use crate::part::SpecPart;
 use std::alloc::{AllocError, Global};
 
 /// Whether an identifier is in use, and its part of each processor.
 #[derive(Drop)]
 pub(crate) struct Speculation {
     pub(crate) in_use: bool,
-    pub(crate) parts: Vec<Part>,
+    pub(crate) parts: Vec<SpecPart>,
 }
 
 impl Speculation {
@@ -25,7 +25,7 @@ impl Speculation {
     {
         let mut parts = Vec::with_capacity(alloc, cpus)?;
         for _cpu in 0..cpus {
-            parts.push(Part::new(alloc, size)?)?;
+            parts.push(SpecPart::new(alloc, size)?)?;
         }
         Ok(Speculation {
             in_use: false,

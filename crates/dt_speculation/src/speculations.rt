@@ -1,5 +1,5 @@
 //! The speculative buffers of one consumer.
-ghost use Rattle.std.specs.Prelude.{◌≡◌, ◌+◌, ◌<◌, ◌≤◌, ◌⊎◌, ◌==◌, ℕ, IfOk, IfSome, MatchOption, true, length, vec_len, if◌then◌else◌};
+ghost use Rattle.std.specs.Prelude.{◌≡◌, ◌+◌, ◌<◌, ◌≤◌, ◌⊎◌, ◌==◌, IfOk, MatchOption, true, length, vec_len, if◌then◌else◌};
 ghost use Rattle.std.specs.List.{All};
 
 use crate::answer::SpecPut;

@@ -1,9 +1,9 @@
 -- The life of a draw: until its identifier is freed.
-use Rattle.std.proofs.Common.{◌≡◌, ℕ, zero, suc, ◌+◌, ◌-◌, ◌<◌, ◌≤◌, ◌⊎◌, Bool, true, false, ◌&&◌, ◌||◌, eqb, ltb, not, List, [], ◌∷◌, ◌++◌}
-use Rattle.std.proofs.Common.{refl, sym, ap, ◌∙◌, subst, inl, inr, ⊎_elim, if◌then◌else◌, arith}
-use Rattle.std.proofs.lemmas.Bool.{and_parts, and_from, cases_Bool, cases_eq, eq-eqb, eqb-true, false≢true, lt-ltb, not_from_false, or_left, or_parts, or_right}
+use Rattle.std.proofs.Common.{◌≡◌, ℕ, ◌≤◌, Bool, true, false, ◌||◌, eqb, ltb, not, List, [], ◌∷◌, ◌++◌}
+use Rattle.std.proofs.Common.{refl, sym, ap, ◌∙◌, subst, ⊎_elim, if◌then◌else◌, arith}
+use Rattle.std.proofs.lemmas.Bool.{and_parts, and_from, cases_Bool, eq-eqb, eqb-true, false≢true, lt-ltb, not_from_false, or_left, or_parts, or_right}
 use Rattle.std.proofs.lemmas.List.{append_assoc}
-use Rattle.dt_speculation.specs.Answers.{AreAnswered, DrawAnswers, IsLeastFree}
+use Rattle.dt_speculation.specs.Answers.{AreAnswered, IsLeastFree}
 use Rattle.dt_speculation.specs.History.{SpecEvent, SpecPast, draw, put_under, free}
 use Rattle.dt_speculation.specs.Records.{records_under, records_of}
 use Rattle.dt_speculation.specs.Uses.{gives, is_given, is_freed, since_given, is_in_use, until_freed}
@@ -113,8 +113,8 @@ module _ (past : SpecPast) (earlier later : List SpecEvent) (id : ℕ) (answered
       let used = used_since id some_id earlier later unfreed in (
         ap (is_in_use id) is ∙ used,
         (λ cpu. ap (records_of id cpu) is
-        ∙ ap (λ b. if b then records_under id cpu (since_given id (earlier ++ draw id ∷ later)) else []) used
-        ∙ ap (records_under id cpu) (since_only id some_id earlier later unfreed none_again)),
+            ∙ ap (λ b. if b then records_under id cpu (since_given id (earlier ++ draw id ∷ later)) else []) used
+            ∙ ap (records_under id cpu) (since_only id some_id earlier later unfreed none_again)),
       )
 
 -- The events before an identifier is freed

@@ -1,10 +1,9 @@
 -- One part more is cleared.
-use Rattle.std.proofs.Common.{◌≡◌, ℕ, ◌<◌, ◌≤◌, List, [], length, get_or, false, refl, sym, ap, ◌∙◌, subst, arith}
+use Rattle.std.proofs.Common.{◌≡◌, ℕ, ◌<◌, [], length, false, refl, ◌∙◌, subst, arith}
 use Rattle.std.specs.List.{AllWithin}
 use Rattle.std.proofs.lemmas.List.{get_or-set_other, length-set}
 use Rattle.std.proofs.lemmas.List.Elements.{AllWithin-more_set, All-from_all_within}
 use Rattle.dt_speculation.specs.IsAt.{PartIsAt}
-use Rattle.dt_speculation.specs.declared.part.Part.{Part}
 use Rattle.dt_speculation.proofs.Places.{found_there}
 use Rattle.dt_speculation.proofs.Uses.{speculation_none}
 use Rattle.dt_speculation.proofs.speculation.Speculation.free.Goals as goal

@@ -1,5 +1,5 @@
 -- The parts so far are empty.
-use Rattle.std.proofs.Common.{◌≡◌, ℕ, [], length}
+use Rattle.std.proofs.Common.{◌≡◌, [], length}
 use Rattle.std.specs.List.{All}
 use Rattle.dt_speculation.specs.IsAt.{PartIsAt}
 use Rattle.dt_speculation.proofs.speculation.Speculation.new.Given as goal

@@ -1,5 +1,5 @@
 -- The identifiers so far aren't in use, and their parts are empty.
-use Rattle.std.proofs.Common.{◌≡◌, ℕ, [], false, length}
+use Rattle.std.proofs.Common.{◌≡◌, [], false, length}
 use Rattle.std.specs.List.{All}
 use Rattle.dt_speculation.specs.IsAt.{SpeculationIsAt}
 use Rattle.dt_speculation.proofs.speculations.Specs.new.Given as goal

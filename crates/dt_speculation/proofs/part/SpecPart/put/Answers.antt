@@ -2,7 +2,7 @@
 use Rattle.std.proofs.Common.{true, false, refl, arith}
 use Rattle.std.proofs.lemmas.Bool.{false≢true}
 use Rattle.dt_speculation.proofs.Parts.{part_dropped, part_keeps, part_kept}
-use Rattle.dt_speculation.proofs.part.Part.put.Goals as goal
+use Rattle.dt_speculation.proofs.part.SpecPart.put.Goals as goal
 
 pub returns-then-self-len-clause-kept : goal.returns-then-self-len-clause-kept
 returns-then-self-len-clause-kept c = λ size records s.
