@@ -31,9 +31,10 @@ said P Q (x ∷ xs) zero f h = f x h
 said P Q (x ∷ xs) (suc k) f h = said P Q xs k f h
 
 -- what a book or a share holds, by its parts
-pub held_as : (word other : TableId) (first name seat at : ℕ) (writes : List Write) → other ≡ word → name ≡ first + seat → at ≡ seat
-    → holding other name (writes_fact (writes_of writes at)) ≡ own_writes_held word first writes seat
-held_as word other first name seat at writes a b c = λ i. holding (a i) (b i) (writes_fact (writes_of writes (c i)))
+pub held_as : (word other : TableId) (first name seat at : ℕ) (writes : List Write) (held : HeldFact)
+    → held ≡ holding other name (writes_fact (writes_of writes at)) → other ≡ word → name ≡ first + seat → at ≡ seat
+    → held ≡ own_writes_held word first writes seat
+held_as word other first name seat at writes held is a b c = is ∙ (λ i. holding (a i) (b i) (writes_fact (writes_of writes (c i))))
 
 module _ (word : TableId) (first : ℕ) (writes : List Write) where
   -- the first is that of seat 0

@@ -35,12 +35,7 @@ fn no_writes(facts: &Facts, maker: &mut Maker) -> (Book, Share)
 }
 
 /// The books and the shares of all seats, which wrote nothing. There is room for them, so it takes no memory.
-pub(crate) fn fill(
-    facts: &Facts,
-    maker: &mut Maker,
-    books: &mut Vec<Book>,
-    shares: &mut Vec<Share>,
-)
+pub(crate) fn fill(facts: &Facts, maker: &mut Maker, books: &mut Vec<Book>, shares: &mut Vec<Share>)
     requires maker { maker.old.word ≡ facts.now }
     requires books { (books.old.items ≡ []) × (seat_count ≤ vec_capacity books.old) }
     requires shares { (shares.old.items ≡ []) × (seat_count ≤ vec_capacity shares.old) }

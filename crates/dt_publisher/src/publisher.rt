@@ -86,9 +86,9 @@ impl<J: Site> Publisher<J> {
         ensures same { (self.new.word ≡ self.old.word) × (self.new.first ≡ self.old.first) }
     {
         let seat = write.seat();
-        let book = &mut self.books[seat.number() as usize];
-        facts.agree(book, share);
+        self.agree(facts, share, seat);
         let result = self.writer.publish(rt, write);
+        let book = &mut self.books[seat.number() as usize];
         facts.go_on_apart::<Brand, (Seat, &ChainWriter<J>)>(book, share, &(seat, &self.writer));
         result
     }
