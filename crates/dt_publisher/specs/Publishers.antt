@@ -13,8 +13,8 @@ pub record Publishing : Type 0 where
   pub published : List Write
   pub writes : List Write
 
-abbrev pub publishing : TableId → ℕ → List Write → List Write → Publishing
-publishing word first published writes = record { word = word; first = first; published = published; writes = writes }
+abbrev pub publisher_seen : TableId → ℕ → List Write → List Write → Publishing
+publisher_seen word first published writes = record { word = word; first = first; published = published; writes = writes }
 
 -- what the book of a seat holds, and so its share: the seat's own writes among these
 abbrev pub own_writes_held : TableId → (first : ℕ) → List Write → (seat : ℕ) → HeldFact

@@ -4,7 +4,7 @@ ghost use mathlib.Core.List.{IsPrefix};
 ghost use Rattle.dt_chain.specs.Limits.{seat_count};
 ghost use Rattle.dt_facts.specs.Facts.{writes_fact};
 ghost use Rattle.dt_facts.specs.Handles.{making};
-ghost use Rattle.dt_publisher.specs.Publishers.{AreOwnWrites, own_writes_held, publishing};
+ghost use Rattle.dt_publisher.specs.Publishers.{AreOwnWrites, own_writes_held, publisher_seen};
 
 use crate::making::{fill, room};
 use dt_chain::{ChainReader, ChainWriter, Front, Seat, Site, Write};
@@ -23,11 +23,11 @@ pub struct Publisher<J: Site> {
 }
 
 impl<J: Site> Model for Publisher<J> {
-    ghost use Rattle.dt_publisher.specs.Publishers.{AreOwnWrites, Publishing, first_held, publishing};
+    ghost use Rattle.dt_publisher.specs.Publishers.{AreOwnWrites, Publishing, first_held, publisher_seen};
 
     ghost Value = { Publishing };
 
-    ghost view = { λ p. publishing (first_held p.books.items).word (first_held p.books.items).name p.writer.published p.writer.writes };
+    ghost view = { λ p. publisher_seen (first_held p.books.items).word (first_held p.books.items).name p.writer.published p.writer.writes };
 
     ghost invariant = { λ p. AreOwnWrites (first_held p.books.items).word (first_held p.books.items).name p.writer.writes p.books.items };
 }
@@ -48,7 +48,7 @@ impl<J: Site> Publisher<J> {
     ) -> Result<(Publisher<J>, Vec<Share>), AllocError>
         requires fresh { writer.writes ≡ [] }
         requires maker { maker.old.word ≡ facts.now }
-        ensures publisher { IfOk result (λ t. t.0 ≡ publishing facts.now maker.old.name writer.published []) }
+        ensures publisher { IfOk result (λ t. t.0 ≡ publisher_seen facts.now maker.old.name writer.published []) }
         ensures shares { IfOk result (λ t. AreOwnWrites facts.now maker.old.name [] t.1.items) }
         ensures maker { MatchResult result (λ _. maker.new ≡ making facts.now (maker.old.name + seat_count)) (λ _. maker.new ≡ maker.old) }
     {

@@ -1,7 +1,7 @@
 -- What is to be shown of `new`.
 use Rattle.std.proofs.Common.{[], List, sym, subst}
 use Rattle.dt_chain.specs.Writes.{Write}
-use Rattle.dt_publisher.specs.Publishers.{AreOwnWrites, first_held, publishing}
+use Rattle.dt_publisher.specs.Publishers.{AreOwnWrites, first_held, publisher_seen}
 use Rattle.dt_publisher.proofs.Books.{name_is, named_by_first, word_is}
 use Rattle.dt_publisher.proofs.publisher.Publisher.new.Goals as goal
 
@@ -16,4 +16,4 @@ returns-clause-publisher g c =
     let books = c.fill.new.books.items in
     let word = word_is c.args.facts.now c.args.maker.now.name [] books c.fill.ensures.books in
     let name = name_is c.args.facts.now c.args.maker.now.name [] books c.fill.ensures.books in
-    λ i. publishing (word i) (name i) c.args.writer.published (c.requires.fresh i)
+    λ i. publisher_seen (word i) (name i) c.args.writer.published (c.requires.fresh i)
