@@ -35,8 +35,8 @@ impl<J: Site> Model for Publisher<J> {
 impl<J: Site> Publisher<J> {
     ghost use Rattle.dt_chain.specs.Writes.{seat_of, withdrawn, writes_of};
 
-    /// A writer that has no writes, with books of seats that wrote nothing, and the share of each seat, in order. Only this and the writes
-    /// take memory. All of it is taken before a name is made.
+    /// A writer that has no writes, with the books of seats that wrote nothing, and the share of each seat, in order. All memory is taken before
+    /// a name is made.
     ///
     /// `Err`: there was no memory. The writer is ended, and no name was made.
     pub fn new<R: Wait>(
@@ -63,11 +63,11 @@ impl<J: Site> Publisher<J> {
         Ok((Publisher { writer, books }, shares))
     }
 
-    /// Adds a write to the list of all writes and to its seat's book, and publishes all, as [`ChainWriter::publish`]. The share of the seat held what its book
-    /// did, and goes on with it.
+    /// Adds a write to the list of all writes, and publishes these, as [`ChainWriter::publish`]. The share of the write's seat held what its book holds, and
+    /// goes on with it. It waits for the readers that look at the copy that it changes, and for no others.
     ///
     /// `Err`: there was no memory, and what is published is as it was. The write may be in the list of all writes, and is then
-    /// published with the next one; the book and the share have it where the list has it.
+    /// published with the next one. The book and the share have it where the list has it.
     pub fn publish<R: Wait>(
         &mut self,
         rt: &R,
@@ -136,7 +136,7 @@ impl<J: Site> Publisher<J> {
         self.writer.published()
     }
 
-    /// Whether all writes of a front are published. If not, those that are published begin it: that never comes, but no clause of the chains says so.
+    /// Whether all writes of a front are published. If not, the front goes on from those that are: that never comes, but no clause of the chains says so.
     pub fn has(&self, front: &Front<J>) -> bool
         ensures order { MatchBool result (IsPrefix front.now self.now.published) (IsPrefix self.now.published front.now) }
         ensures when { IsTrue result ↔ (length front.now ≤ length self.now.published) }
