@@ -8,6 +8,8 @@ mod desk;
 #[cfg(test)]
 mod one_thread;
 #[cfg(test)]
+mod publishing;
+#[cfg(test)]
 mod receipts;
 #[cfg(test)]
 mod threads;
