@@ -124,7 +124,6 @@ impl Processor {
 
     /// Takes one ECB, and answers the status that it exits with, if it exits: its record goes into the buffer, and then
     /// its values into the store.
-    #[inline(always)]
     fn take_one(
         &mut self,
         left: &mut Taken,
