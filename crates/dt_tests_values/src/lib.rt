@@ -1,5 +1,5 @@
 //! Tests of the crates of values, by their public calls alone: names, patterns, privileges, expressions, buffers, aggregating
-//! functions, stores and published chains.
+//! functions, stores, thread-local variables and published chains.
 //!
 //! A crate with tests is proved twice, once for its library and once for its tests. So those that need no private part of a
 //! crate stand here. The crate has no function of its own.
@@ -15,6 +15,8 @@ mod descriptions;
 mod expressions;
 #[cfg(test)]
 mod functions;
+#[cfg(test)]
+mod locals;
 #[cfg(test)]
 mod names;
 #[cfg(test)]

@@ -1,0 +1,109 @@
+//! Thread-local variables, as a table of assignments with what is answered and what variables then are.
+use dt_locals::{DYNVARSIZE_MAX, LOCAL_DROPS_LIMIT, Locals};
+use dt_names::Name;
+use std::alloc::Global;
+use std::process::Abort;
+use std::test::Fail;
+
+/// In each line: the bytes of room, and then words in order. `1.2.x=5k` assigns 5 to `x` of the thread 2 of the process 1, and it
+/// has it then; with `d` in place of `k` there is no room. `1.2.x?5` says that it is 5, and `~3` that there were three drops.
+const TABLE: &str = "
+64 1.1.x?0 1.1.x=5k 1.2.x?0 1.2.x=7k 1.1.x?5 1.2.x?7 ~0
+64 1.1.x=1k 2.1.x=2k 1.1.x?1 2.1.x?2 3.1.x=3d 3.1.x?0 ~1
+64 1.1.x=1k 1.1.xx=2k 1.1.x?1 1.1.xx?2 1.1.y?0
+32 1.1.x=5k 1.1.y=6d 1.1.y?0 ~1 1.1.x=0k 1.1.y=6k 1.1.y?6 1.1.x?0 ~1
+32 1.1.x=5k 1.1.x=9k 1.1.x?9 1.2.x=1d 1.2.x=2d 1.2.x=0k 1.2.x?0 1.1.x?9 ~2
+63 1.1.x=1k 1.1.y=1d 1.1.x=0k 1.1.x=0k 1.1.y=1k 1.1.x=1d ~2
+31 1.1.x=1d 1.1.x=0k 1.1.x?0 ~1
+0 1.1.x=-1d 1.1.x?0 ~1
+96 1.1.x=-9223372036854775808k 1.1.y=9223372036854775807k 1.1.x?-9223372036854775808 1.1.y?9223372036854775807 ~0
+32 4294967295.4294967295.x=1k 4294967295.4294967295.x?1 4294967295.0.x?0 0.4294967295.x?0
+32 1.1.a23456789a123456789b123456789c1=7k 1.1.a23456789a123456789b123456789c1?7 1.1.a23456789a123456789b123456789c2?0
+1048576 1.1.x=5k 1.1.x?5 ~0
+";
+
+#[test]
+fn variables_are_what_the_table_says(rt: HostRuntime) -> Result<(), Fail> {
+    for line in TABLE.lines() {
+        if !line.is_empty() {
+            shows(&rt, rt.alloc(), line)?;
+        }
+    }
+    Ok(())
+}
+
+#[test]
+fn freed_room_is_taken_by_others(rt: HostRuntime) -> Result<(), Fail> {
+    let name = Name::new(b"x").ok_or("name")?;
+    let mut locals = locals(rt.alloc(), 2048)?;
+    for thread in 0..101_u32 {
+        assert!(rt; set(&mut locals, 1, thread, &name, 7) == Some(thread < 64));
+    }
+    for thread in 64..101_u32 {
+        let earlier = thread.wrapping_mul(29) % 64;
+        assert!(rt; set(&mut locals, 1, earlier, &name, 0) == Some(true));
+        assert!(rt; set(&mut locals, 1, thread, &name, 8) == Some(true));
+        assert!(rt; set(&mut locals, 2, thread, &name, 9) == Some(false));
+    }
+    for thread in 64..101_u32 {
+        let earlier = thread.wrapping_mul(29) % 64;
+        assert!(rt; locals.get(1, earlier, &name) == 0 && locals.get(1, thread, &name) == 8);
+    }
+    let left = (0..64)
+        .filter(|thread| locals.get(1, *thread, &name) == 7)
+        .count();
+    assert!(rt; left == 27 && locals.drops() == 74);
+    Ok(())
+}
+
+/// Makes the line's variables, does what its words say and compares what they are.
+fn shows(rt: &impl Abort, alloc: Global, line: &str) -> Result<(), Fail> {
+    let mut words = line.split_whitespace();
+    let room = words.next().unwrap_or("0").parse().unwrap_or(0);
+    let mut locals = locals(alloc, room)?;
+    for word in words {
+        if let Some(drops) = word.strip_prefix('~') {
+            assert!(rt; locals.drops() == number(drops) as u64, "{word} in {line}");
+        } else if let Some((variable, value)) = word.split_once('?') {
+            let (pid, tid, name) = variable_of(variable)?;
+            assert!(rt;
+                locals.get(pid, tid, &name) == number(value),
+                "{word} in {line}"
+            );
+        } else if let Some((variable, value)) = word.split_once('=') {
+            let (pid, tid, name) = variable_of(variable)?;
+            let given = number(value.trim_end_matches(|c| c == 'k' || c == 'd'));
+            let kept = set(&mut locals, pid, tid, &name, given);
+            assert!(rt; kept == Some(value.ends_with('k')), "{word} in {line}");
+        }
+    }
+    Ok(())
+}
+
+/// The variable that a word names.
+fn variable_of(word: &str) -> Result<(u32, u32, Name), Fail> {
+    let (pid, rest) = word.split_once('.').ok_or("no process")?;
+    let (tid, name) = rest.split_once('.').ok_or("no thread")?;
+    let name = Name::new(name.as_bytes()).ok_or("no name")?;
+    Ok((pid.parse().unwrap_or(0), tid.parse().unwrap_or(0), name))
+}
+
+fn number(word: &str) -> i64 {
+    word.parse().unwrap_or(0)
+}
+
+/// Variables with so many bytes of room.
+fn locals(alloc: Global, room: usize) -> Result<Locals, Fail> {
+    if room > DYNVARSIZE_MAX {
+        return Err("no room".into());
+    }
+    Ok(Locals::new(alloc, room)?)
+}
+
+/// Assigns a value, and tells whether it is kept.
+fn set(locals: &mut Locals, pid: u32, tid: u32, name: &Name, value: i64) -> Option<bool> {
+    if locals.drops() >= LOCAL_DROPS_LIMIT {
+        return None;
+    }
+    Some(locals.set(pid, tid, name, value))
+}
