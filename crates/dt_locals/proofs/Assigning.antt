@@ -2,8 +2,8 @@
 use Rattle.std.proofs.Common.{◌≡◌, ℕ, ◌+◌, Bool, true, false, cond, ◌||◌, ⊎_elim, List, [], ◌∷◌, ◌++◌, length, Some, refl}
 use Rattle.std.proofs.Common.{sym, ap, ◌∙◌, subst, arith}
 use Rattle.std.specs.Prelude.{pos, not, zip, filter, count_by}
-use Rattle.std.specs.List.{list_any}
-use Rattle.std.proofs.lemmas.Bool.{cases_Bool}
+use Rattle.std.specs.List.{list_any, IsDistinct, AllByRecursion}
+use Rattle.std.proofs.lemmas.Bool.{cases_Bool, or_parts}
 use Rattle.std.proofs.lemmas.List.{append-nil}
 use Rattle.std.proofs.lemmas.List.Elements.{filter-append}
 use Rattle.std.proofs.lemmas.List.Folds.{list_any-append}
@@ -73,6 +73,13 @@ unassigned variable (a ∷ assignments) (c ∷ chosen) none = ⊎_elim
     ∙ unassigned variable assignments chosen
     (sym (ap (λ t. t || list_any (assigns variable) assignments) no) ∙ none))
     (cases_Bool (same_local a.variable variable))
+
+-- a test is the same both ways
+other_way : (a b : LocalVariable) → same_local a b ≡ false → same_local b a ≡ false
+other_way a b apart = ⊎_elim
+    (λ same. absurd (let no : true ≡ false = sym (local_same a b (sym (local_is b a same))) ∙ apart in cc))
+    (λ no. no)
+    (cases_Bool (same_local b a))
 
 -- ---- how many
 
@@ -179,20 +186,13 @@ module _ (p : LocalVariable → Bool) (variable : LocalVariable) where
       (λ again. subst (λ t. Goal t false) (sym again) more)
       (λ once. subst (λ t. Goal t false) (sym once)
       (let kept : filter (Others variable) (a.variable ∷ all) ≡ a.variable ∷ filter (Others variable) all =
-      filter_yes (Others variable) a.variable all (ap not (other_way apart)) in
+      filter_yes (Others variable) a.variable all (ap not (other_way a.variable variable apart)) in
       let counted : count_by p (filter (Others variable) (a.variable ∷ all))
       ≡ cond (p a.variable) 1 0 + count_by p (filter (Others variable) all) =
       ap (count_by p) kept ∙ sum_by-cons (λ v. cond (p v) 1 0) a.variable (filter (Others variable) all) in
       omega (arith, sum_by-cons (λ v. cond (p v) 1 0) a.variable all, more, counted)))
       (cases_Bool (list_any (assigns a.variable) later))))
       (cases_Bool (same_local a.variable variable))
-    where
-      other_way : same_local a.variable variable ≡ false → same_local variable a.variable ≡ false
-      other_way apart = ⊎_elim
-          (λ same. absurd (let no : true ≡ false =
-          sym (local_same a.variable variable (sym (local_is variable a.variable same))) ∙ apart in cc))
-          (λ no. no)
-          (cases_Bool (same_local variable a.variable))
 
 -- a variable more that isn't 0, or one fewer
 pub set_count-push : (assignments : List Assignment) (chosen : List Bool) (assignment : Assignment) (b : Bool)
@@ -225,3 +225,49 @@ set_count-push assignments chosen assignment b same =
     (cases_Bool (list_any (assigns v) assignments)) in
     let set : One is v ≡ Bit (is_set gives) = ap Bit own in
     omega (arith, longer, rest, before, one, set)
+
+-- ---- each once
+
+none_same : (variable : LocalVariable) (assignments : List Assignment)
+    → list_any (assigns variable) assignments ≡ false
+    → AllByRecursion (λ other. same_local variable other ≡ false) (assigned_locals assignments)
+none_same variable [] none = tt
+none_same variable (a ∷ later) none =
+    let parts = or_parts (same_local a.variable variable) (list_any (assigns variable) later) none in
+    let rest = none_same variable later parts.1 in
+    ⊎_elim
+    (λ again. subst (λ t. AllByRecursion (λ other. same_local variable other ≡ false)
+    (cond t (assigned_locals later) (a.variable ∷ assigned_locals later))) (sym again) rest)
+    (λ once. subst (λ t. AllByRecursion (λ other. same_local variable other ≡ false)
+    (cond t (assigned_locals later) (a.variable ∷ assigned_locals later))) (sym once)
+    (other_way a.variable variable parts.0, rest))
+    (cases_Bool (list_any (assigns a.variable) later))
+
+pub assigned_apart : (assignments : List Assignment) → IsDistinct same_local (assigned_locals assignments)
+unfolding IsDistinct
+assigned_apart [] = tt
+assigned_apart (a ∷ later) = ⊎_elim
+    (λ again. subst (λ t. IsDistinct same_local (cond t (assigned_locals later) (a.variable ∷ assigned_locals later)))
+    (sym again) (assigned_apart later))
+    (λ once. subst (λ t. IsDistinct same_local (cond t (assigned_locals later) (a.variable ∷ assigned_locals later)))
+    (sym once) (none_same a.variable later once, assigned_apart later))
+    (cases_Bool (list_any (assigns a.variable) later))
+
+pub assigned_among : (assignments : List Assignment) (variable : LocalVariable)
+    → list_any (λ other. same_local other variable) (assigned_locals assignments)
+    ≡ list_any (assigns variable) assignments
+assigned_among [] variable = refl
+assigned_among (a ∷ later) variable =
+    let is : LocalVariable → Bool = λ other. same_local other variable in
+    let own = same_local a.variable variable in
+    let more : list_any is (assigned_locals later) ≡ list_any (assigns variable) later = assigned_among later variable in
+    ⊎_elim
+    (λ again. ap (λ t. list_any is (cond t (assigned_locals later) (a.variable ∷ assigned_locals later))) again ∙ more
+    ∙ ⊎_elim
+    (λ same. (sym (ap (λ v. list_any (assigns v) later) (local_is a.variable variable same)) ∙ again)
+    ∙ sym (ap (λ t. t || list_any (assigns variable) later) same))
+    (λ apart. sym (ap (λ t. t || list_any (assigns variable) later) apart))
+    (cases_Bool own))
+    (λ once. ap (λ t. list_any is (cond t (assigned_locals later) (a.variable ∷ assigned_locals later))) once
+    ∙ ap (λ t. own || t) more)
+    (cases_Bool (list_any (assigns a.variable) later))

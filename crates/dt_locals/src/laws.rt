@@ -1,7 +1,8 @@
 //! What holds of the definitions alone.
-ghost use Rattle.std.specs.Prelude.{◌≡◌, ◌≢◌, ◌+◌, ℕ, pos, not, Bool, List, cond};
-ghost use Rattle.dt_locals.specs.History.{Assignment, LocalsPast, new_locals_past, locals_after, local_of};
-ghost use Rattle.dt_locals.specs.Values.{set_count, is_set};
+ghost use Rattle.std.specs.Prelude.{◌≡◌, ◌≢◌, ◌+◌, ℕ, pos, Bool, List, cond};
+ghost use Rattle.std.specs.List.{IsDistinct, list_any};
+ghost use Rattle.dt_locals.specs.History.{Assignment, LocalsPast, new_locals_past, locals_after, local_of, same_local};
+ghost use Rattle.dt_locals.specs.Values.{assigned_locals, assigns, is_set, set_count};
 ghost use Rattle.dt_locals.specs.Kept.{IsLocalsChoice};
 ghost use Rattle.dt_locals.specs.Chosen.{is_kept_assignment, locals_choice, value_after, local_drops};
 ghost use Rattle.dt_locals.specs.declared.variable.LocalVariable.{LocalVariable};
@@ -29,6 +30,14 @@ pub fn one_assignment()
     ensures dropped { (past : LocalsPast) (assignment : Assignment) → local_drops (locals_after past assignment)
         ≡ local_drops past
         + cond (is_kept_assignment past.dynvarsize past.assignments (locals_choice past) assignment) 0 1 }
+{}
+
+/// Of the variables whose values are counted, each that was assigned is one, and only once.
+pub fn assigned_once()
+    ensures apart { (assignments : List Assignment) → IsDistinct same_local (assigned_locals assignments) }
+    ensures among { (assignments : List Assignment) (variable : LocalVariable)
+        → list_any (λ other. same_local other variable) (assigned_locals assignments)
+        ≡ list_any (assigns variable) assignments }
 {}
 
 /// Before any assignment each variable is 0, and nothing was dropped.

@@ -14,7 +14,9 @@ mod slots;
 mod table;
 mod variable;
 
-pub use laws::{all_zero_at_first, one_assignment, one_locals_choice, threads_apart};
+pub use laws::{
+    all_zero_at_first, assigned_once, one_assignment, one_locals_choice, threads_apart,
+};
 pub use limit_laws::limits_agree;
 pub use limits::{DYNVARSIZE_MAX, DYNVARSIZE_MIN, LOCAL_DROPS_LIMIT, LOCAL_SIZE};
 pub use locals::Locals;
