@@ -63,7 +63,10 @@ fn shows(rt: &impl Abort, alloc: Global, line: &str) -> Result<(), Fail> {
     let mut locals = locals(alloc, room)?;
     for word in words {
         if let Some(drops) = word.strip_prefix('~') {
-            assert!(rt; locals.drops() == number(drops) as u64, "{word} in {line}");
+            assert!(rt;
+                locals.drops() == drops.parse().unwrap_or(0),
+                "{word} in {line}"
+            );
         } else if let Some((variable, value)) = word.split_once('?') {
             let (pid, tid, name) = variable_of(variable)?;
             assert!(rt;
@@ -72,9 +75,12 @@ fn shows(rt: &impl Abort, alloc: Global, line: &str) -> Result<(), Fail> {
             );
         } else if let Some((variable, value)) = word.split_once('=') {
             let (pid, tid, name) = variable_of(variable)?;
-            let given = number(value.trim_end_matches(|c| c == 'k' || c == 'd'));
-            let kept = set(&mut locals, pid, tid, &name, given);
-            assert!(rt; kept == Some(value.ends_with('k')), "{word} in {line}");
+            let (given, has_room) = match value.strip_suffix('k') {
+                Some(given) => (given, true),
+                None => (value.strip_suffix('d').ok_or("no answer")?, false),
+            };
+            let kept = set(&mut locals, pid, tid, &name, number(given));
+            assert!(rt; kept == Some(has_room), "{word} in {line}");
         }
     }
     Ok(())
