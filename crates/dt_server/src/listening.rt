@@ -72,8 +72,6 @@ fn serve_stream<J: HubSite, R: Wait>(
     socket: &AccountSocket,
     stream: UnixStream,
 ) {
-    // without it a session only lies worse
-    let _apart = Vec::<u8>::with_capacity(alloc, shared.bytes_apart(rt));
     match hub.open(rt, alloc, socket.name.as_bytes()) {
         Ok(session) => {
             let mut source = Counted::new(&stream);

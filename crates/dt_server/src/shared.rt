@@ -24,11 +24,6 @@ pub struct AccountSocket {
     pub listener: UnixListener,
 }
 
-/// How many sessions begin their heaps each with another length, and by how many bytes: an odd number of lines of a processor's cache.
-const APART: usize = 64;
-
-const APART_BYTES: usize = 17 * 64;
-
 /// What the thread of a service and the thread that commands it share: a desk for each processor, a socket for each account, and how far the service has come.
 #[derive(Drop)]
 pub struct Shared {
@@ -38,7 +33,6 @@ pub struct Shared {
     pub sockets: Vec<AccountSocket>,
     start: Mutex<Startup>,
     started: Condvar,
-    begun: Mutex<usize>,
 }
 
 impl Shared {
@@ -49,17 +43,7 @@ impl Shared {
             sockets,
             start: Mutex::new(Startup::Begun),
             started: Condvar::new(),
-            begun: Mutex::new(0),
         }
-    }
-
-    /// With how many bytes that nobody uses a session's heap is to begin. A thread has a heap of its own, and these heaps begin alike: what a processor needs of
-    /// many sessions would lie at the same place in each, and so in the same few sets of its caches, which can't hold it.
-    pub(crate) fn bytes_apart<R: Wait>(&self, rt: &R) -> usize {
-        let mut begun = self.begun.lock(rt);
-        let turn = begun.wrapping_add(1) % APART;
-        *begun = turn;
-        turn * APART_BYTES
     }
 
     /// Tells all processors that a session has ended.
