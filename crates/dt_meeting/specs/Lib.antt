@@ -4,5 +4,7 @@
 pub mod Sharing
 pub mod Stages
 pub mod Tracking
+pub mod Order
+pub mod Keeping
 -- The laws of these.
 pub mod laws

@@ -4,7 +4,10 @@ pub mod Seen
 pub mod Going
 pub mod Lasting
 pub mod Staging
+pub mod Ordering
+pub mod Announcing
 pub mod Sharing
 pub mod Tracking
+pub mod Keeping
 pub mod Answering
 pub mod Skipping

@@ -1,19 +1,21 @@
 //! What holds of shared rows, and of what is kept track of until they are made.
-ghost use Rattle.std.specs.Prelude.{◌≡◌, ◌≢◌, ◌≤◌, ◌+◌, ◌++◌, ◌∷◌, ◌↔◌, ℕ, true, false, List, [], Some, length, slice_get};
+ghost use Rattle.std.specs.Prelude.{◌≡◌, ◌≢◌, ◌≤◌, ◌+◌, ◌++◌, ◌∷◌, ◌↔◌, ℕ, Bool, true, false, List, [], Some, length, slice_get};
 ghost use Rattle.std.specs.List.{AllByRecursion};
 ghost use mathlib.Core.List.{IsPrefix};
-ghost use Rattle.dt_chain.specs.Writes.{Write};
+ghost use Rattle.dt_chain.specs.Writes.{Write, published};
 ghost use Rattle.dt_cred.specs.declared.account.Account.{Account};
 ghost use Rattle.dt_cred.specs.declared.firing.Firing.{Firing};
 ghost use Rattle.dt_ecb.specs.Ecbs.{of_probe};
-ghost use Rattle.dt_legal.specs.Rows.{IsGoAfter, IsLegalRow, life_of_row, past_of};
+ghost use Rattle.dt_legal.specs.Rows.{AreOfEcbs, IsGoAfter, IsLegalRow, life_of_row, past_of};
 ghost use Rattle.dt_life.specs.Answer.{Answer};
 ghost use Rattle.dt_life.specs.Life.{ecbs, phase};
 ghost use Rattle.dt_life.specs.declared.phase.Phase.TheVariants.{Active};
 ghost use Rattle.dt_machine.specs.Registry.{Belongs, Contents, firing_at};
 ghost use Rattle.dt_machine.specs.Shown.{IsShown};
+ghost use Rattle.dt_meeting.specs.Keeping.{GoIsPublished, KeepsTrack};
+ghost use Rattle.dt_meeting.specs.Order.{IsInOrder, IsOfOthers};
 ghost use Rattle.dt_meeting.specs.Sharing.{IsShared, is_seen_after, seen_row};
-ghost use Rattle.dt_meeting.specs.Stages.{past, stage};
+ghost use Rattle.dt_meeting.specs.Stages.{never, past, stage};
 ghost use Rattle.dt_meeting.specs.Tracking.{GoIsAnnounced, IsPassedBy, Tracks};
 ghost use Rattle.dt_proto.specs.Alone.{Alone};
 ghost use Rattle.dt_proto.specs.Told.{view_told};
@@ -78,6 +80,61 @@ pub fn tracking_goes_on()
     ensures shared { (account : Account) (contents : Contents) (cpu life : ℕ) (writes : List Write) (trail : List TrailItem) (knew : List ℕ)
         → (stage life writes ≡ past → (place : ℕ) → is_seen_after account contents trail cpu place ≡ false)
         → Tracks account contents cpu life writes trail knew → (row : List TrailItem) × IsShared account contents cpu trail knew row }
+{}
+
+/// Law: the writes of a seat are in order for a life of it that they don't name yet. They stay so as the life is published with exactly the probes of its ECBs, as another write
+/// comes while the life doesn't trace, and as the trail goes on, keeps its ECBs, and doesn't trace where the writes have come past the life.
+pub fn writes_stay_in_order()
+    ensures new { (account : Account) (contents : Contents) (life : ℕ) (writes : List Write) (trail : List TrailItem)
+        → stage life writes ≡ never → IsInOrder account contents life writes trail }
+    ensures published { (account : Account) (contents : Contents) (life : ℕ) (writes : List Write) (trail : List TrailItem)
+        (seat : ℕ) (by : Account) (probes : List Bool)
+        → AreOfEcbs account contents trail probes → IsInOrder account contents life writes trail
+        → IsInOrder account contents life (writes ++ published seat life by probes ∷ []) trail }
+    ensures ended { (account : Account) (contents : Contents) (life : ℕ) (writes : List Write) (trail : List TrailItem) (write : Write)
+        → IsOfOthers life write → phase account contents.registry (life_of_row account contents trail) ≢ Active
+        → IsInOrder account contents life writes trail → IsInOrder account contents life (writes ++ write ∷ []) trail }
+    ensures trail { (account : Account) (contents : Contents) (life : ℕ) (writes : List Write) (trail more : List TrailItem)
+        → ((id : ℕ) → of_probe id (ecbs account contents.registry (life_of_row account contents trail)) ≢ []
+        → of_probe id (ecbs account contents.registry (life_of_row account contents more)) ≢ [])
+        → (stage life writes ≡ past → phase account contents.registry (life_of_row account contents more) ≢ Active)
+        → IsInOrder account contents life writes trail → IsInOrder account contents life writes more }
+{}
+
+/// Law: a processor that knows nothing keeps track of each life, as far as the seat's writes are in order. It goes on to as it sees more writes; as it knows more items, and has seen the publication of a
+/// `go` among them; as it fires and its writes pass the life by; as the life is over and the processor sees all writes of the seat, which have come past it; and as its firing is offered to the life, and isn't
+/// seen there, or is, with all writes of the seat in order then. Where all writes of the seat are in order for the trail, its firings and the trail stand in one row.
+pub fn keeping_goes_on()
+    ensures new { (account : Account) (contents : Contents) (cpu life : ℕ) (seen : List Write)
+        → KeepsTrack account contents cpu life seen [] [] }
+    ensures writes { (account : Account) (contents : Contents) (cpu life : ℕ) (seen more : List Write) (known : List TrailItem) (knew : List ℕ)
+        → IsPrefix seen more → KeepsTrack account contents cpu life seen known knew → KeepsTrack account contents cpu life more known knew }
+    ensures known { (account : Account) (contents : Contents) (cpu life : ℕ) (seen : List Write) (known more : List TrailItem) (knew : List ℕ)
+        → StartsWith more known → own (cpu + 1) more ≡ own (cpu + 1) known → IsLegalRow account contents more
+        → GoIsPublished account contents life more seen
+        → KeepsTrack account contents cpu life seen known knew → KeepsTrack account contents cpu life seen more knew }
+    ensures passed { (account : Account) (contents : Contents) (cpu life : ℕ) (seen : List Write) (known : List TrailItem) (knew : List ℕ)
+        → IsPassedBy account contents cpu (length knew) (stage life seen) → KeepsTrack account contents cpu life seen known knew
+        → KeepsTrack account contents cpu life seen known (knew ++ length known ∷ []) }
+    ensures gone { (account : Account) (contents : Contents) (cpu life : ℕ) (seen whole : List Write) (known : List TrailItem) (knew : List ℕ)
+        → IsPrefix seen whole → stage life whole ≡ past → KeepsTrack account contents cpu life seen known knew
+        → KeepsTrack account contents cpu life whole known (knew ++ length known ∷ []) }
+    ensures unseen { (account : Account) (contents : Contents) (cpu life : ℕ) (seen : List Write) (known more : List TrailItem) (knew : List ℕ)
+        → StartsWith more known → own (cpu + 1) more ≡ own (cpu + 1) known → IsLegalRow account contents more
+        → is_seen_after account contents more cpu (length knew) ≡ false → GoIsPublished account contents life more seen
+        → KeepsTrack account contents cpu life seen known knew
+        → KeepsTrack account contents cpu life seen more (knew ++ length known ∷ []) }
+    ensures kept { (account : Account) (contents : Contents) (cpu life : ℕ) (seen all : List Write) (known more : List TrailItem) (knew : List ℕ)
+        → IsPrefix seen all → IsInOrder account contents life all more
+        → StartsWith more known → own (cpu + 1) more ≡ own (cpu + 1) known → IsLegalRow account contents more
+        → is_seen_after account contents more cpu (length knew) ≡ true
+        → IsLegalRow account contents (more ++ fired cpu (length knew) ∷ []) → GoIsPublished account contents life more seen
+        → KeepsTrack account contents cpu life seen known knew
+        → KeepsTrack account contents cpu life seen (more ++ fired cpu (length knew) ∷ []) (knew ++ length known ∷ []) }
+    ensures shared { (account : Account) (contents : Contents) (cpu life : ℕ) (seen all : List Write) (known trail : List TrailItem) (knew : List ℕ)
+        → IsPrefix seen all → IsInOrder account contents life all trail
+        → StartsWith trail known → own (cpu + 1) trail ≡ own (cpu + 1) known → IsLegalRow account contents trail
+        → KeepsTrack account contents cpu life seen known knew → (row : List TrailItem) × IsShared account contents cpu trail knew row }
 {}
 
 /// Law: in a shared row each firing of the processor so far stands after all items of the trail that the processor knew, and where it is seen there, it is on the

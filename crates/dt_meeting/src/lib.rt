@@ -10,5 +10,6 @@
 mod laws;
 
 pub use laws::{
-    answered_alike, nothing_is_skipped, rows_are_seen, shared_rows_grow, tracking_goes_on,
+    answered_alike, keeping_goes_on, nothing_is_skipped, rows_are_seen, shared_rows_grow,
+    tracking_goes_on, writes_stay_in_order,
 };

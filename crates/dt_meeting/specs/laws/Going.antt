@@ -56,7 +56,7 @@ module _ (account : Account) (contents : Contents) where
   }
 
   -- a `go` leaves the clauses that there are
-  go_keeps : (s : SetUp) (b : Bool) → (cond b (happens account contents.registry (since_then s []) began) s).clauses ≡ s.clauses
+  pub go_keeps : (s : SetUp) (b : Bool) → (cond b (happens account contents.registry (since_then s []) began) s).clauses ≡ s.clauses
   go_keeps s true = same_clauses account contents.registry (since_then s []) began
   go_keeps s false = refl
 

@@ -1,5 +1,5 @@
 -- Once tracing began it doesn't become as if it hadn't, it keeps its ECBs, and its end stays.
-use Rattle.std.proofs.Common.{◌≡◌, ◌+◌, true, false, List, [], ◌∷◌, ◌++◌, Option, Some, None, Result, Ok, Err, refl, sym, ap, ◌∙◌, subst, arith, append-nil, append_assoc}
+use Rattle.std.proofs.Common.{◌≡◌, ◌&&◌, true, false, List, [], ◌∷◌, ◌++◌, Option, Some, None, Result, Ok, Err, refl, sym, ap, ◌∙◌, subst, arith, append-nil, append_assoc}
 use Rattle.std.specs.Option.{option_map_or}
 use Rattle.dt_cred.specs.declared.account.Account.{Account}
 use Rattle.dt_ecb.specs.Ecbs.{ecbs_of}
@@ -7,7 +7,7 @@ use Rattle.dt_legal.specs.Rows.{IsGoAfter, IsLegalRow, life_of_row, line_form_of
 use Rattle.dt_legal.specs.laws.Beginning.{past_of_last}
 use Rattle.dt_life.specs.Ask.{Ask, option, enable, go, stop, snap, agg, trunc, status, list, describe, close}
 use Rattle.dt_life.specs.Ending.{phase_by_item}
-use Rattle.dt_life.specs.Life.{Item, SetUp, after_item, asked, ecbs, end_by, is_inactive, phase, phase_of, set_up, since_then, with_event}
+use Rattle.dt_life.specs.Life.{Item, SetUp, after_item, asked, ecbs, end_by, has_room, is_inactive, phase, phase_of, set_up, since_then, with_event}
 use Rattle.dt_life.specs.Life.{fired as fired_item}
 use Rattle.dt_life.specs.Takings.{began, seen}
 use Rattle.dt_life.specs.declared.phase.End.{End}
@@ -16,11 +16,11 @@ use Rattle.dt_life.specs.declared.phase.Phase.TheVariants.{Inactive, Active, Sto
 use Rattle.dt_life.specs.declared.refusal.Refusal.{Refusal}
 use Rattle.dt_life.specs.laws.Phases.{beginning, going_on, keeping, staying}
 use Rattle.dt_machine.specs.Registry.{Contents}
-use Rattle.dt_meeting.specs.laws.Going.{lived_fired}
+use Rattle.dt_meeting.specs.laws.Going.{go_keeps, lived_fired}
 use Rattle.dt_meeting.specs.laws.Seen.{legal_front}
 use Rattle.dt_proto.specs.Legal.{IsLegal}
 use Rattle.dt_proto.specs.Line.{ask_in}
-use Rattle.dt_trail.specs.Items.{TrailItem, line, long_line, fired, whose}
+use Rattle.dt_trail.specs.Items.{StartsWith, TrailItem, line, long_line, fired, whose}
 
 by_end : (end : Option End) → is_inactive (option_map_or (λ end. Stopped (Some end)) end Active) ≡ false
 by_end None = refl
@@ -92,16 +92,35 @@ module _ (account : Account) (contents : Contents) where
             (ap (phase account contents.registry) more.1 ∙ staying account contents.registry s cause e more.0);
       })
 
+  lived_line : (row : List TrailItem) (x : TrailItem) → whose x ≡ 0 → Lived (row ++ x ∷ []) ≡ asked (ask_in (line_form_of x)) ∷ Lived row
+  lived_line row (line bytes) e = rw (past_of_last row (line bytes)) refl
+  lived_line row long_line e = rw (past_of_last row long_line) refl
+  lived_line row (fired cpu place) e = absurd (omega (arith, e))
+
   -- an accepted `go` has begun to trace
   pub go_begins : (row : List TrailItem) (item : TrailItem) → whose item ≡ 0 → IsGoAfter account contents row item
       → is_inactive (PhaseOf (row ++ item ∷ [])) ≡ false
   go_begins row item mine accepted =
-      ap (λ (life : List Item). is_inactive (phase account contents.registry life)) (lived item mine)
+      ap (λ (life : List Item). is_inactive (phase account contents.registry life)) (lived_line row item mine)
       ∙ ap (λ (said : Result Ask Refusal). is_inactive (phase account contents.registry (asked said ∷ Lived row))) accepted.3
       ∙ ap is_inactive (beginning account contents.registry (set_up account contents.registry (Lived row)) accepted.1 accepted.2)
       ∙ by_end (end_by account contents.registry (with_event (since_then (set_up account contents.registry (Lived row)) []) began) began)
-    where
-      lived : (x : TrailItem) → whose x ≡ 0 → Lived (row ++ x ∷ []) ≡ asked (ask_in (line_form_of x)) ∷ Lived row
-      lived (line bytes) e = rw (past_of_last row (line bytes)) refl
-      lived long_line e = rw (past_of_last row long_line) refl
-      lived (fired cpu place) e = absurd (omega (arith, e))
+
+  -- and has the ECBs that were enabled before
+  pub go_has : (row : List TrailItem) (item : TrailItem) → whose item ≡ 0 → IsGoAfter account contents row item
+      → ecbs account contents.registry (Lived (row ++ item ∷ [])) ≡ ecbs account contents.registry (Lived row)
+  go_has row item mine accepted =
+      let s = set_up account contents.registry (Lived row) in
+      ap (ecbs account contents.registry)
+      (lived_line row item mine ∙ ap (λ (said : Result Ask Refusal). asked said ∷ Lived row) accepted.3)
+      ∙ ap (ecbs_of account contents.registry)
+      (go_keeps account contents s (is_inactive (phase_of s) && has_room account contents.registry s))
+
+  -- The ECBs of a row that has accepted a `go` are those of that `go`.
+  pub ecbs_since : (row before : List TrailItem) (item : TrailItem) → IsLegalRow account contents row → StartsWith row (before ++ item ∷ [])
+      → whose item ≡ 0 → IsGoAfter account contents before item
+      → ecbs account contents.registry (Lived row) ≡ ecbs account contents.registry (Lived before)
+  ecbs_since row before item legal begins mine accepted =
+      ap (λ (l : List TrailItem). ecbs account contents.registry (Lived l)) begins.1
+      ∙ (lasting (before ++ item ∷ []) begins.0 (subst (IsLegalRow account contents) begins.1 legal) (go_begins before item mine accepted)).same
+      ∙ go_has before item mine accepted

@@ -1,5 +1,5 @@
 -- What a processor keeps track of, as it fires, is told and meets.
-use Rattle.std.proofs.Common.{◌≡◌, ◌≢◌, ◌≤◌, ◌+◌, ◌⊎◌, ℕ, true, false, List, [], ◌∷◌, ◌++◌, Some, length, refl, sym, ap, ◌∙◌, subst, ⊎_elim, inl, inr, arith, append-nil, append_assoc}
+use Rattle.std.proofs.Common.{◌≡◌, ◌≢◌, ◌≤◌, ◌+◌, ℕ, true, false, List, [], ◌∷◌, ◌++◌, Some, length, refl, sym, ap, ◌∙◌, subst, ⊎_elim, inl, inr, arith, append-nil, append_assoc}
 use Rattle.std.proofs.lemmas.List.{length-append}
 use Rattle.std.specs.List.{AllByRecursion}
 use mathlib.Core.List.{IsPrefix}
@@ -25,7 +25,7 @@ at_most_last : (ks : List ℕ) (k n : ℕ) → AllByRecursion (λ count. count �
 at_most_last [] k n few le = (le, tt)
 at_most_last (x ∷ ks) k n few le = (few.0, at_most_last ks k n few.1 le)
 
-at_most_still : (ks : List ℕ) (m n : ℕ) → AllByRecursion (λ count. count ≤ m) ks → m ≤ n → AllByRecursion (λ count. count ≤ n) ks
+pub at_most_still : (ks : List ℕ) (m n : ℕ) → AllByRecursion (λ count. count ≤ m) ks → m ≤ n → AllByRecursion (λ count. count ≤ n) ks
 at_most_still [] m n few le = tt
 at_most_still (x ∷ ks) m n few le = (omega (arith, few.0, le), at_most_still ks m n few.1 le)
 
@@ -134,7 +134,7 @@ module _ (account : Account) (contents : Contents) where
       by_case past e = late_more e
 
   -- the trail has further items, none of them the processor's
-  grown : (cpu life : ℕ) (writes : List Write) (known trail : List TrailItem) (knew : List ℕ) (h : Tracks account contents cpu life writes known knew)
+  pub grown : (cpu life : ℕ) (writes : List Write) (known trail : List TrailItem) (knew : List ℕ) (h : Tracks account contents cpu life writes known knew)
       → (a : StartsWith trail known) → own (cpu + 1) trail ≡ own (cpu + 1) known → IsLegalRow account contents trail
       → IsShared account contents cpu trail h.early (h.shared ++ a.0)
   grown cpu life writes known trail knew h a same legal =

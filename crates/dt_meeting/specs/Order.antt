@@ -1,0 +1,28 @@
+-- Which writes of a seat are in order for one of its lives.
+use Rattle.std.specs.Prelude.{◌≡◌, ◌≢◌, ℕ, Bool, List, []}
+use mathlib.Core.List.{IsPrefix}
+use Rattle.dt_chain.specs.Writes.{Write, published, withdrawn}
+use Rattle.dt_cred.specs.declared.account.Account.{Account}
+use Rattle.dt_ecb.specs.Ecbs.{of_probe}
+use Rattle.dt_legal.specs.Rows.{life_of_row}
+use Rattle.dt_life.specs.Life.{ecbs, phase}
+use Rattle.dt_life.specs.declared.phase.Phase.TheVariants.{Active}
+use Rattle.dt_machine.specs.Interest.{Names}
+use Rattle.dt_machine.specs.Registry.{Contents}
+use Rattle.dt_meeting.specs.Stages.{named, past, stage}
+use Rattle.dt_trail.specs.Items.{TrailItem}
+
+-- The write isn't a publication of the life.
+abbrev pub IsOfOthers : ℕ → Write → Type 0
+IsOfOthers life (published seat other account probes) = other ≢ life
+IsOfOthers life (withdrawn seat) = Unit {0}
+
+module _ (account : Account) (contents : Contents) where
+  -- All writes of a seat so far are in order for a life of it that has this trail. As they go on the life is named with no fewer probes, and at each time with none but those
+  -- of the ECBs that the trail has enabled. They have come past the life only where it doesn't trace.
+  pub record IsInOrder (life : ℕ) (writes : List Write) (trail : List TrailItem) : Type 0 where
+    pub growing : (shorter longer : List Write) (fewer more : List Bool) → IsPrefix shorter longer → IsPrefix longer writes
+        → stage life shorter ≡ named fewer → stage life longer ≡ named more → (id : ℕ) → Names fewer id → Names more id
+    pub enabled : (beginning : List Write) (probes : List Bool) → IsPrefix beginning writes → stage life beginning ≡ named probes
+        → (id : ℕ) → Names probes id → of_probe id (ecbs account contents.registry (life_of_row account contents trail)) ≢ []
+    pub ended : stage life writes ≡ past → phase account contents.registry (life_of_row account contents trail) ≢ Active

@@ -1,0 +1,138 @@
+-- What a processor that holds no lock keeps track of, as it looks, fires, is told and meets.
+use Rattle.std.proofs.Common.{◌≡◌, ◌≢◌, ◌+◌, ℕ, true, false, List, [], ◌∷◌, ◌++◌, length, refl, sym, ap, ◌∙◌, subst, ⊎_elim, arith, append-nil}
+use Rattle.std.proofs.lemmas.List.{length-append}
+use mathlib.Core.List.{IsPrefix}
+use Rattle.dt_chain.specs.Writes.{Write}
+use Rattle.dt_cred.specs.declared.account.Account.{Account}
+use Rattle.dt_legal.specs.Rows.{IsLegalRow, life_of_row}
+use Rattle.dt_life.specs.Life.{phase}
+use Rattle.dt_life.specs.declared.phase.Phase.TheVariants.{Active}
+use Rattle.dt_machine.specs.Registry.{Contents}
+use Rattle.dt_meeting.specs.Keeping.{GoIsPublished, KeepsTrack}
+use Rattle.dt_meeting.specs.Order.{IsInOrder}
+use Rattle.dt_meeting.specs.Sharing.{IsShared, is_seen_after}
+use Rattle.dt_meeting.specs.Stages.{Stage, never, named, past, stage}
+use Rattle.dt_meeting.specs.Tracking.{GoIsAnnounced, IsPassedBy, Tracks}
+use Rattle.dt_meeting.specs.laws.Announcing.{announced_fired, announced_on, published_is_announced}
+use Rattle.dt_meeting.specs.laws.Seen.{unseen_after_to}
+use Rattle.dt_meeting.specs.laws.Sharing.{shared_late}
+use Rattle.dt_meeting.specs.laws.Staging.{prefix_trans, stage_past}
+use Rattle.dt_meeting.specs.laws.Tracking.{at_most_still, grown, tracks_kept, tracks_known, tracks_new, tracks_passed, tracks_unseen, tracks_writes}
+use Rattle.dt_trail.specs.Items.{StartsWith, TrailItem, fired, own}
+use Rattle.dt_trail.specs.laws.Starts.{starts_trans}
+
+module _ (account : Account) (contents : Contents) where
+  -- nothing is known yet
+  pub keeps_new : (cpu life : ℕ) (seen : List Write) → KeepsTrack account contents cpu life seen [] []
+  keeps_new cpu life seen writes trail b t same legal order = tracks_new account contents cpu life seen
+
+  -- more writes are seen
+  pub keeps_writes : (cpu life : ℕ) (seen more : List Write) (known : List TrailItem) (knew : List ℕ) → IsPrefix seen more
+      → KeepsTrack account contents cpu life seen known knew → KeepsTrack account contents cpu life more known knew
+  keeps_writes cpu life seen more known knew begins h writes trail b t same legal order =
+      let tracks = h writes trail (prefix_trans seen more writes begins b) t same legal order in
+      tracks_writes account contents cpu life seen more known knew begins
+      (announced_on account contents life seen more writes known trail begins b t legal order tracks.announced) tracks
+
+  -- more items are known
+  pub keeps_known : (cpu life : ℕ) (seen : List Write) (known more : List TrailItem) (knew : List ℕ)
+      → StartsWith more known → own (cpu + 1) more ≡ own (cpu + 1) known → IsLegalRow account contents more
+      → GoIsPublished account contents life more seen
+      → KeepsTrack account contents cpu life seen known knew → KeepsTrack account contents cpu life seen more knew
+  keeps_known cpu life seen known more knew a alike whole told h writes trail b t same legal order =
+      tracks_known account contents cpu life seen known more knew a alike whole
+      (published_is_announced account contents life seen writes more trail b t legal order told)
+      (h writes trail b (starts_trans trail more known t a) (same ∙ alike) legal order)
+
+  -- the processor fires, and its writes don't offer the firing to the life
+  pub keeps_passed : (cpu life : ℕ) (seen : List Write) (known : List TrailItem) (knew : List ℕ)
+      → IsPassedBy account contents cpu (length knew) (stage life seen) → KeepsTrack account contents cpu life seen known knew
+      → KeepsTrack account contents cpu life seen known (knew ++ length known ∷ [])
+  keeps_passed cpu life seen known knew passed h writes trail b t same legal order =
+      tracks_passed account contents cpu life seen known knew passed (h writes trail b t same legal order)
+
+  -- the life is over, and all writes of the seat are seen, which have come past it
+  pub keeps_gone : (cpu life : ℕ) (seen whole : List Write) (known : List TrailItem) (knew : List ℕ) → IsPrefix seen whole
+      → stage life whole ≡ past → KeepsTrack account contents cpu life seen known knew
+      → KeepsTrack account contents cpu life whole known (knew ++ length known ∷ [])
+  keeps_gone cpu life seen whole known knew begins is h =
+      keeps_passed cpu life whole known knew (subst (IsPassedBy account contents cpu (length knew)) (sym is) tt)
+      (keeps_writes cpu life seen whole known knew begins h)
+
+  -- the firing is offered after this trail, and isn't seen there
+  pub keeps_unseen : (cpu life : ℕ) (seen : List Write) (known more : List TrailItem) (knew : List ℕ)
+      → StartsWith more known → own (cpu + 1) more ≡ own (cpu + 1) known → IsLegalRow account contents more
+      → is_seen_after account contents more cpu (length knew) ≡ false → GoIsPublished account contents life more seen
+      → KeepsTrack account contents cpu life seen known knew
+      → KeepsTrack account contents cpu life seen more (knew ++ length known ∷ [])
+  keeps_unseen cpu life seen known more knew a alike whole unseen told h writes trail b t same legal order =
+      by_case (stage life seen) refl
+    where
+      tracks : Tracks account contents cpu life seen known knew
+      tracks = h writes trail b (starts_trans trail more known t a) (same ∙ alike) legal order
+
+      announced : GoIsAnnounced account contents more (stage life seen)
+      announced = published_is_announced account contents life seen writes more trail b t legal order told
+
+      at_hand : stage life seen ≢ past → Tracks account contents cpu life seen more (knew ++ length known ∷ [])
+      at_hand still = tracks_unseen account contents cpu life seen known more knew still a alike whole unseen announced tracks
+
+      late : stage life seen ≡ past → Tracks account contents cpu life seen more (knew ++ length known ∷ [])
+      late e = tracks_known account contents cpu life seen known more (knew ++ length known ∷ []) a alike whole announced
+          (tracks_passed account contents cpu life seen known knew (subst (IsPassedBy account contents cpu (length knew)) (sym e) tt) tracks)
+
+      by_case : (at : Stage) → stage life seen ≡ at → Tracks account contents cpu life seen more (knew ++ length known ∷ [])
+      by_case never e = at_hand (λ p. let bad : never ≡ past = sym e ∙ p in cc bad)
+      by_case (named probes) e = at_hand (λ p. let bad : named probes ≡ past = sym e ∙ p in cc bad)
+      by_case past e = late e
+
+  -- where nothing is traced no firing is seen
+  quiet : (trail : List TrailItem) (cpu : ℕ) → phase account contents.registry (life_of_row account contents trail) ≢ Active
+      → (place : ℕ) → is_seen_after account contents trail cpu place ≡ false
+  quiet trail cpu off place = unseen_after_to account contents trail cpu place (λ firing found sees. off sees.active)
+
+  -- the firing is offered after this trail, and kept, and all writes of the seat are in order then
+  pub keeps_kept : (cpu life : ℕ) (seen all : List Write) (known more : List TrailItem) (knew : List ℕ)
+      → IsPrefix seen all → IsInOrder account contents life all more
+      → StartsWith more known → own (cpu + 1) more ≡ own (cpu + 1) known → IsLegalRow account contents more
+      → is_seen_after account contents more cpu (length knew) ≡ true
+      → IsLegalRow account contents (more ++ fired cpu (length knew) ∷ [])
+      → GoIsPublished account contents life more seen
+      → KeepsTrack account contents cpu life seen known knew
+      → KeepsTrack account contents cpu life seen (more ++ fired cpu (length knew) ∷ []) (knew ++ length known ∷ [])
+  keeps_kept cpu life seen all known more knew begins now a alike whole seen_there longer told h writes trail b t same legal order =
+      tracks_kept account contents cpu life seen known more knew still a alike whole seen_there longer
+      (announced_fired account contents more (stage life seen) cpu (length knew)
+      (published_is_announced account contents life seen all more more begins ([], sym (append-nil more)) whole now told))
+      (h all more begins a alike whole now)
+    where
+      still : stage life seen ≢ past
+      still e =
+          let off = now.ended (stage_past life seen all begins e) in
+          let bad : true ≡ false = sym seen_there ∙ quiet more cpu off (length knew) in cc bad
+
+  -- under both locks, all writes of the seat and its trail are at hand
+  pub keeps_shared : (cpu life : ℕ) (seen all : List Write) (known trail : List TrailItem) (knew : List ℕ)
+      → IsPrefix seen all → IsInOrder account contents life all trail
+      → StartsWith trail known → own (cpu + 1) trail ≡ own (cpu + 1) known → IsLegalRow account contents trail
+      → KeepsTrack account contents cpu life seen known knew
+      → (row : List TrailItem) × IsShared account contents cpu trail knew row
+  keeps_shared cpu life seen all known trail knew begins now a alike legal h =
+      ⊎_elim
+      (λ (e : tracks.late ≡ []). (
+        tracks.shared ++ a.0,
+        subst (λ (l : List ℕ). IsShared account contents cpu trail l (tracks.shared ++ a.0))
+            (sym (tracks.all ∙ ap (λ (l : List ℕ). tracks.early ++ l) e ∙ append-nil tracks.early)) early,
+      ))
+      (λ (e : stage life seen ≡ past).
+      let none = quiet trail cpu (now.ended (stage_past life seen all begins e)) in
+      let few = at_most_still tracks.late (length known) (length trail) tracks.few (omega (arith, ap length a.1, length-append known a.0)) in
+      let r = shared_late account contents cpu trail tracks.early tracks.late (tracks.shared ++ a.0) early none few in
+      (r.0, subst (λ (l : List ℕ). IsShared account contents cpu trail l r.0) (sym tracks.all) r.1))
+      tracks.over
+    where
+      tracks : Tracks account contents cpu life seen known knew
+      tracks = h all trail begins a alike legal now
+
+      early : IsShared account contents cpu trail tracks.early (tracks.shared ++ a.0)
+      early = grown account contents cpu life seen known trail knew tracks a alike legal
