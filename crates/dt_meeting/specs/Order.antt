@@ -1,5 +1,5 @@
 -- Which writes of a seat are in order for one of its lives.
-use Rattle.std.specs.Prelude.{◌≡◌, ◌≢◌, ℕ, Bool, List, []}
+use Rattle.std.specs.Prelude.{◌≡◌, ◌≢◌, ◌++◌, ◌∷◌, ℕ, Bool, List, []}
 use mathlib.Core.List.{IsPrefix}
 use Rattle.dt_chain.specs.Writes.{Write, published, withdrawn}
 use Rattle.dt_cred.specs.declared.account.Account.{Account}
@@ -18,9 +18,11 @@ IsOfOthers life (published seat other account probes) = other ≢ life
 IsOfOthers life (withdrawn seat) = Unit {0}
 
 module _ (account : Account) (contents : Contents) where
-  -- All writes of a seat so far are in order for a life of it that has this trail. As they go on the life is named with no fewer probes, and at each time with none but those
-  -- of the ECBs that the trail has enabled. They have come past the life only where it doesn't trace.
+  -- All writes of a seat so far are in order for a life of it that has this trail. They publish the life for its account. As they go on the life is named with no fewer probes, and at
+  -- each time with none but those of the ECBs that the trail has enabled. They have come past the life only where it doesn't trace.
   pub record IsInOrder (life : ℕ) (writes : List Write) (trail : List TrailItem) : Type 0 where
+    pub its_account : (before : List Write) (seat : ℕ) (by : Account) (probes : List Bool)
+        → IsPrefix (before ++ published seat life by probes ∷ []) writes → by ≡ account
     pub growing : (shorter longer : List Write) (fewer more : List Bool) → IsPrefix shorter longer → IsPrefix longer writes
         → stage life shorter ≡ named fewer → stage life longer ≡ named more → (id : ℕ) → Names fewer id → Names more id
     pub enabled : (beginning : List Write) (probes : List Bool) → IsPrefix beginning writes → stage life beginning ≡ named probes

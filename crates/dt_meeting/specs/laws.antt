@@ -3,8 +3,10 @@
 pub mod Seen
 pub mod Going
 pub mod Lasting
+pub mod Enabling
 pub mod Staging
 pub mod Ordering
+pub mod Looking
 pub mod Announcing
 pub mod Sharing
 pub mod Tracking

@@ -2,7 +2,10 @@
 ghost use Rattle.std.specs.Prelude.{◌≡◌, ◌≢◌, ◌≤◌, ◌+◌, ◌++◌, ◌∷◌, ◌↔◌, ℕ, Bool, true, false, List, [], Some, length, slice_get};
 ghost use Rattle.std.specs.List.{AllByRecursion};
 ghost use mathlib.Core.List.{IsPrefix};
-ghost use Rattle.dt_chain.specs.Writes.{Write, published};
+ghost use Rattle.dt_chain.specs.Chains.{IsMaskAfter};
+ghost use Rattle.dt_chain.specs.Seats.{life_at};
+ghost use Rattle.dt_chain.specs.Writes.{Write, published, writes_of};
+ghost use Rattle.dt_chain.specs.declared.seat_mask.SeatMask.{SeatMask};
 ghost use Rattle.dt_cred.specs.declared.account.Account.{Account};
 ghost use Rattle.dt_cred.specs.declared.firing.Firing.{Firing};
 ghost use Rattle.dt_ecb.specs.Ecbs.{of_probe};
@@ -83,26 +86,25 @@ pub fn tracking_goes_on()
 {}
 
 /// Law: the writes of a seat are in order for a life of it that they don't name yet. They stay so as the life is published with exactly the probes of its ECBs, as another write
-/// comes while the life doesn't trace, and as the trail goes on, keeps its ECBs, and doesn't trace where the writes have come past the life.
+/// comes while the life doesn't trace, and as the trail goes on, legally, and doesn't trace where the writes have come past the life.
 pub fn writes_stay_in_order()
     ensures new { (account : Account) (contents : Contents) (life : ℕ) (writes : List Write) (trail : List TrailItem)
         → stage life writes ≡ never → IsInOrder account contents life writes trail }
     ensures published { (account : Account) (contents : Contents) (life : ℕ) (writes : List Write) (trail : List TrailItem)
-        (seat : ℕ) (by : Account) (probes : List Bool)
+        (seat : ℕ) (probes : List Bool)
         → AreOfEcbs account contents trail probes → IsInOrder account contents life writes trail
-        → IsInOrder account contents life (writes ++ published seat life by probes ∷ []) trail }
+        → IsInOrder account contents life (writes ++ published seat life account probes ∷ []) trail }
     ensures ended { (account : Account) (contents : Contents) (life : ℕ) (writes : List Write) (trail : List TrailItem) (write : Write)
         → IsOfOthers life write → phase account contents.registry (life_of_row account contents trail) ≢ Active
         → IsInOrder account contents life writes trail → IsInOrder account contents life (writes ++ write ∷ []) trail }
     ensures trail { (account : Account) (contents : Contents) (life : ℕ) (writes : List Write) (trail more : List TrailItem)
-        → ((id : ℕ) → of_probe id (ecbs account contents.registry (life_of_row account contents trail)) ≢ []
-        → of_probe id (ecbs account contents.registry (life_of_row account contents more)) ≢ [])
+        → StartsWith more trail → IsLegalRow account contents more
         → (stage life writes ≡ past → phase account contents.registry (life_of_row account contents more) ≢ Active)
         → IsInOrder account contents life writes trail → IsInOrder account contents life writes more }
 {}
 
 /// Law: a processor that knows nothing keeps track of each life, as far as the seat's writes are in order. It goes on to as it sees more writes; as it knows more items, and has seen the publication of a
-/// `go` among them; as it fires and its writes pass the life by; as the life is over and the processor sees all writes of the seat, which have come past it; and as its firing is offered to the life, and isn't
+/// `go` among them; as it fires and its writes pass the life by, as they do where its look doesn't name the seat with the life; as the life is over and the processor sees all writes of the seat, which have come past it; and as its firing is offered to the life, and isn't
 /// seen there, or is, with all writes of the seat in order then. Where all writes of the seat are in order for the trail, its firings and the trail stand in one row.
 pub fn keeping_goes_on()
     ensures new { (account : Account) (contents : Contents) (cpu life : ℕ) (seen : List Write)
@@ -116,6 +118,11 @@ pub fn keeping_goes_on()
     ensures passed { (account : Account) (contents : Contents) (cpu life : ℕ) (seen : List Write) (known : List TrailItem) (knew : List ℕ)
         → IsPassedBy account contents cpu (length knew) (stage life seen) → KeepsTrack account contents cpu life seen known knew
         → KeepsTrack account contents cpu life seen known (knew ++ length known ∷ []) }
+    ensures looked { (account : Account) (contents : Contents) (cpu life seat : ℕ) (writes : List Write) (known : List TrailItem) (knew : List ℕ)
+        (firing : Firing) (mask : SeatMask)
+        → firing_at contents.scripts cpu (length knew) ≡ Some firing → IsMaskAfter contents.registry writes firing mask
+        → life_at mask seat ≢ Some life → KeepsTrack account contents cpu life (writes_of writes seat) known knew
+        → KeepsTrack account contents cpu life (writes_of writes seat) known (knew ++ length known ∷ []) }
     ensures gone { (account : Account) (contents : Contents) (cpu life : ℕ) (seen whole : List Write) (known : List TrailItem) (knew : List ℕ)
         → IsPrefix seen whole → stage life whole ≡ past → KeepsTrack account contents cpu life seen known knew
         → KeepsTrack account contents cpu life whole known (knew ++ length known ∷ []) }

@@ -1,19 +1,24 @@
 -- What a processor that holds no lock keeps track of, as it looks, fires, is told and meets.
-use Rattle.std.proofs.Common.{◌≡◌, ◌≢◌, ◌+◌, ℕ, true, false, List, [], ◌∷◌, ◌++◌, length, refl, sym, ap, ◌∙◌, subst, ⊎_elim, arith, append-nil}
+use Rattle.std.proofs.Common.{Some, ◌≡◌, ◌≢◌, ◌+◌, ℕ, true, false, List, [], ◌∷◌, ◌++◌, length, refl, sym, ap, ◌∙◌, subst, ⊎_elim, arith, append-nil}
 use Rattle.std.proofs.lemmas.List.{length-append}
 use mathlib.Core.List.{IsPrefix}
-use Rattle.dt_chain.specs.Writes.{Write}
+use Rattle.dt_chain.specs.Chains.{IsMaskAfter}
+use Rattle.dt_chain.specs.Seats.{life_at}
+use Rattle.dt_chain.specs.Writes.{Write, published, writes_of}
+use Rattle.dt_chain.specs.declared.seat_mask.SeatMask.{SeatMask}
 use Rattle.dt_cred.specs.declared.account.Account.{Account}
+use Rattle.dt_cred.specs.declared.firing.Firing.{Firing}
 use Rattle.dt_legal.specs.Rows.{IsLegalRow, life_of_row}
 use Rattle.dt_life.specs.Life.{phase}
 use Rattle.dt_life.specs.declared.phase.Phase.TheVariants.{Active}
-use Rattle.dt_machine.specs.Registry.{Contents}
+use Rattle.dt_machine.specs.Registry.{Contents, firing_at}
 use Rattle.dt_meeting.specs.Keeping.{GoIsPublished, KeepsTrack}
 use Rattle.dt_meeting.specs.Order.{IsInOrder}
 use Rattle.dt_meeting.specs.Sharing.{IsShared, is_seen_after}
 use Rattle.dt_meeting.specs.Stages.{Stage, never, named, past, stage}
 use Rattle.dt_meeting.specs.Tracking.{GoIsAnnounced, IsPassedBy, Tracks}
 use Rattle.dt_meeting.specs.laws.Announcing.{announced_fired, announced_on, published_is_announced}
+use Rattle.dt_meeting.specs.laws.Looking.{look_passes}
 use Rattle.dt_meeting.specs.laws.Seen.{unseen_after_to}
 use Rattle.dt_meeting.specs.laws.Sharing.{shared_late}
 use Rattle.dt_meeting.specs.laws.Staging.{prefix_trans, stage_past}
@@ -50,6 +55,18 @@ module _ (account : Account) (contents : Contents) where
       → KeepsTrack account contents cpu life seen known (knew ++ length known ∷ [])
   keeps_passed cpu life seen known knew passed h writes trail b t same legal order =
       tracks_passed account contents cpu life seen known knew passed (h writes trail b t same legal order)
+
+  -- the processor fires, and a look after these writes doesn't name the seat with the life
+  pub keeps_looked : (cpu life seat : ℕ) (writes : List Write) (known : List TrailItem) (knew : List ℕ) (firing : Firing) (mask : SeatMask)
+      → firing_at contents.scripts cpu (length knew) ≡ Some firing → IsMaskAfter contents.registry writes firing mask
+      → life_at mask seat ≢ Some life → KeepsTrack account contents cpu life (writes_of writes seat) known knew
+      → KeepsTrack account contents cpu life (writes_of writes seat) known (knew ++ length known ∷ [])
+  keeps_looked cpu life seat writes known knew firing mask found look unnamed h all trail b t same legal order =
+      tracks_passed account contents cpu life (writes_of writes seat) known knew
+      (look_passes account contents cpu (length knew) life seat writes firing mask found look unnamed
+      (λ before at by probes p. order.its_account before at by probes
+      (prefix_trans (before ++ published at life by probes ∷ []) (writes_of writes seat) all p b)))
+      (h all trail b t same legal order)
 
   -- the life is over, and all writes of the seat are seen, which have come past it
   pub keeps_gone : (cpu life : ℕ) (seen whole : List Write) (known : List TrailItem) (knew : List ℕ) → IsPrefix seen whole

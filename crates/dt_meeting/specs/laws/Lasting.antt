@@ -58,7 +58,7 @@ module _ (account : Account) (contents : Contents) where
       by_phase (Stopped cause) e = ap is_inactive (staying account contents.registry s cause e item)
 
   -- each item of a legal row is one of its life
-  one_more : (row : List TrailItem) (item : TrailItem) → IsLegalRow account contents (row ++ item ∷ [])
+  pub one_more : (row : List TrailItem) (item : TrailItem) → IsLegalRow account contents (row ++ item ∷ [])
       → (x : Item) × (Lived (row ++ item ∷ []) ≡ x ∷ Lived row)
   one_more row (line bytes) legal = (asked (ask_in (line_form_of (line bytes))), rw (past_of_last row (line bytes)) refl)
   one_more row long_line legal = (asked (ask_in (line_form_of long_line)), rw (past_of_last row long_line) refl)

@@ -1,27 +1,39 @@
 -- Writes that are in order, as they and the trail go on.
-use Rattle.std.proofs.Common.{◌≡◌, ◌≢◌, ℕ, Bool, List, [], ◌∷◌, ◌++◌, sym, ap, ◌∙◌, subst, ⊎_elim}
+use Rattle.std.proofs.Common.{◌≡◌, ◌≢◌, ℕ, Bool, List, [], ◌∷◌, ◌++◌, refl, sym, ap, ◌∙◌, subst, ⊎_elim}
 use mathlib.Core.List.{IsPrefix}
 use Rattle.dt_chain.specs.Writes.{Write, published}
 use Rattle.dt_cred.specs.declared.account.Account.{Account}
 use Rattle.dt_ecb.specs.Ecbs.{of_probe}
-use Rattle.dt_legal.specs.Rows.{AreOfEcbs, life_of_row}
+use Rattle.dt_legal.specs.Rows.{AreOfEcbs, IsLegalRow, life_of_row}
 use Rattle.dt_life.specs.Life.{ecbs, phase}
 use Rattle.dt_life.specs.declared.phase.Phase.TheVariants.{Active}
 use Rattle.dt_machine.specs.Interest.{Names}
 use Rattle.dt_machine.specs.Registry.{Contents}
 use Rattle.dt_meeting.specs.Order.{IsInOrder, IsOfOthers}
 use Rattle.dt_meeting.specs.Stages.{named, past, never, stage}
-use Rattle.dt_meeting.specs.laws.Staging.{named_by_last, never_before, prefix_of_last, unnamed_by_last}
-use Rattle.dt_trail.specs.Items.{TrailItem}
+use Rattle.dt_meeting.specs.laws.Enabling.{names_still}
+use Rattle.dt_meeting.specs.laws.Staging.{last_of, named_by_last, never_before, prefix_of_last, unnamed_by_last}
+use Rattle.dt_trail.specs.Items.{StartsWith, TrailItem}
 
 same_probes : (some other : List Bool) → named some ≡ named other → some ≡ other
 same_probes some other e = cc e
+
+same_account : (seat other life another : ℕ) (some by : Account) (probes found : List Bool)
+    → published seat life some probes ≡ published other another by found → some ≡ by
+same_account seat other life another some by probes found e = cc e
 
 module _ (account : Account) (contents : Contents) where
   -- the life wasn't published yet
   pub in_order_new : (life : ℕ) (writes : List Write) (trail : List TrailItem) → stage life writes ≡ never
       → IsInOrder account contents life writes trail
   in_order_new life writes trail is = record {
+    its_account = λ before seat by probes b.
+        let none = never_before life (before ++ published seat life by probes ∷ []) writes b is in
+        ⊎_elim (λ (t : stage life (before ++ published seat life by probes ∷ []) ≡ named probes).
+        absurd (let bad : never ≡ named probes = sym none ∙ t in cc bad))
+        (λ (t : (stage life before ≡ past) × (stage life (before ++ published seat life by probes ∷ []) ≡ past)).
+        absurd (let bad : never ≡ past = sym none ∙ t.1 in cc bad))
+        (named_by_last life before seat by probes);
     growing = λ shorter longer fewer more s l es el id n.
         let bad : never ≡ named more = sym (never_before life longer writes l is) ∙ el in absurd (cc bad);
     enabled = λ beginning probes b e id n none.
@@ -30,31 +42,36 @@ module _ (account : Account) (contents : Contents) where
   }
 
   -- the life is published with exactly the probes of its ECBs
-  pub in_order_published : (life : ℕ) (writes : List Write) (trail : List TrailItem) (seat : ℕ) (by : Account) (probes : List Bool)
+  pub in_order_published : (life : ℕ) (writes : List Write) (trail : List TrailItem) (seat : ℕ) (probes : List Bool)
       → AreOfEcbs account contents trail probes → IsInOrder account contents life writes trail
-      → IsInOrder account contents life (writes ++ published seat life by probes ∷ []) trail
-  in_order_published life writes trail seat by probes exact h = record {
+      → IsInOrder account contents life (writes ++ published seat life account probes ∷ []) trail
+  in_order_published life writes trail seat probes exact h = record {
+    its_account = λ before other by found b.
+        ⊎_elim (λ (t : IsPrefix (before ++ published other life by found ∷ []) writes). h.its_account before other by found t)
+        (λ (t : before ++ published other life by found ∷ [] ≡ all).
+        same_account other seat life life by account found probes (last_of before writes (published other life by found) (published seat life account probes) t))
+        (prefix_of_last (before ++ published other life by found ∷ []) writes (published seat life account probes) b);
     growing = λ shorter longer fewer more s l es el id n.
         ⊎_elim (λ (t : IsPrefix longer writes). h.growing shorter longer fewer more s t es el id n)
         (λ (t : longer ≡ all).
         subst (λ (ps : List Bool). Names ps id) (probes_are more (ap (stage life) (sym t) ∙ el))
         ((exact id).1 (enabled shorter fewer (subst (IsPrefix shorter) t s) es id n)))
-        (prefix_of_last longer writes (published seat life by probes) l);
+        (prefix_of_last longer writes (published seat life account probes) l);
     enabled = enabled;
     ended = λ e.
         ⊎_elim (λ (t : stage life all ≡ named probes). absurd (let bad : named probes ≡ past = sym t ∙ e in cc bad))
         (λ (t : (stage life writes ≡ past) × (stage life all ≡ past)). h.ended t.0)
-        (named_by_last life writes seat by probes);
+        (named_by_last life writes seat account probes);
   }
     where
       all : List Write
-      all = writes ++ published seat life by probes ∷ []
+      all = writes ++ published seat life account probes ∷ []
 
       probes_are : (found : List Bool) → stage life all ≡ named found → probes ≡ found
       probes_are found e =
           ⊎_elim (λ (t : stage life all ≡ named probes). same_probes probes found (sym t ∙ e))
           (λ (t : (stage life writes ≡ past) × (stage life all ≡ past)). absurd (let bad : past ≡ named found = sym t.1 ∙ e in cc bad))
-          (named_by_last life writes seat by probes)
+          (named_by_last life writes seat account probes)
 
       enabled : (beginning : List Write) (found : List Bool) → IsPrefix beginning all → stage life beginning ≡ named found
           → (id : ℕ) → Names found id → of_probe id (ecbs account contents.registry (life_of_row account contents trail)) ≢ []
@@ -62,13 +79,18 @@ module _ (account : Account) (contents : Contents) where
           ⊎_elim (λ (t : IsPrefix beginning writes). h.enabled beginning found t e id n)
           (λ (t : beginning ≡ all).
           (exact id).0 (subst (λ (ps : List Bool). Names ps id) (sym (probes_are found (ap (stage life) (sym t) ∙ e))) n))
-          (prefix_of_last beginning writes (published seat life by probes) b)
+          (prefix_of_last beginning writes (published seat life account probes) b)
 
   -- another write comes, as the life doesn't trace
   pub in_order_ended : (life : ℕ) (writes : List Write) (trail : List TrailItem) (write : Write) → IsOfOthers life write
       → phase account contents.registry (life_of_row account contents trail) ≢ Active → IsInOrder account contents life writes trail
       → IsInOrder account contents life (writes ++ write ∷ []) trail
   in_order_ended life writes trail write others off h = record {
+    its_account = λ before other by found b.
+        ⊎_elim (λ (t : IsPrefix (before ++ published other life by found ∷ []) writes). h.its_account before other by found t)
+        (λ (t : before ++ published other life by found ∷ [] ≡ writes ++ write ∷ []).
+        absurd (subst (IsOfOthers life) (sym (last_of before writes (published other life by found) write t)) others refl))
+        (prefix_of_last (before ++ published other life by found ∷ []) writes write b);
     growing = λ shorter longer fewer more s l es el id n.
         ⊎_elim (λ (t : IsPrefix longer writes). h.growing shorter longer fewer more s t es el id n)
         (λ (t : longer ≡ writes ++ write ∷ []). absurd (unnamed_by_last life writes write more others (ap (stage life) (sym t) ∙ el)))
@@ -81,13 +103,13 @@ module _ (account : Account) (contents : Contents) where
   }
 
   -- the trail goes on
-  pub in_order_trail : (life : ℕ) (writes : List Write) (trail more : List TrailItem)
-      → ((id : ℕ) → of_probe id (ecbs account contents.registry (life_of_row account contents trail)) ≢ []
-      → of_probe id (ecbs account contents.registry (life_of_row account contents more)) ≢ [])
+  pub in_order_trail : (life : ℕ) (writes : List Write) (trail more : List TrailItem) → StartsWith more trail → IsLegalRow account contents more
       → (stage life writes ≡ past → phase account contents.registry (life_of_row account contents more) ≢ Active)
       → IsInOrder account contents life writes trail → IsInOrder account contents life writes more
-  in_order_trail life writes trail more kept off h = record {
+  in_order_trail life writes trail more begins legal off h = record {
+    its_account = h.its_account;
     growing = h.growing;
-    enabled = λ beginning probes b e id n. kept id (h.enabled beginning probes b e id n);
+    enabled = λ beginning probes b e id n.
+        names_still account contents more trail id begins legal (h.enabled beginning probes b e id n);
     ended = off;
   }
