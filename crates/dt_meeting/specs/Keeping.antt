@@ -10,11 +10,11 @@ use Rattle.dt_meeting.specs.Tracking.{Tracks}
 use Rattle.dt_trail.specs.Items.{StartsWith, TrailItem, own, whose}
 
 module _ (account : Account) (contents : Contents) where
-  -- The `go` that a row has accepted is published: these writes have a publication of the life, for its account, with exactly the probes of its ECBs.
-  abbrev pub GoIsPublished : (life : ℕ) → List TrailItem → List Write → Type 0
-  GoIsPublished life row writes = (before : List TrailItem) (item : TrailItem) → StartsWith row (before ++ item ∷ []) → whose item ≡ 0
+  -- The `go` that a row has accepted is published: these writes have a publication of the seat's life, for its account, with exactly the probes of its ECBs.
+  abbrev pub GoIsPublished : (seat life : ℕ) → List TrailItem → List Write → Type 0
+  GoIsPublished seat life row writes = (before : List TrailItem) (item : TrailItem) → StartsWith row (before ++ item ∷ []) → whose item ≡ 0
       → IsGoAfter account contents before item
-      → (seat : ℕ) × (probes : List Bool) × Contains writes (published seat life account probes) × AreOfEcbs account contents before probes
+      → (probes : List Bool) × Contains writes (published seat life account probes) × AreOfEcbs account contents before probes
 
   -- A processor keeps track of a life, as far as the seat's writes are in order: where all writes of the seat, which begin with those that the processor has seen, are in
   -- order for a trail that is legal, begins with what it knows and has no more of its own firings, it tracks the life by what it has seen and knows.

@@ -103,6 +103,14 @@ pub fn writes_stay_in_order()
         → IsInOrder account contents life writes trail → IsInOrder account contents life writes more }
 {}
 
+/// Law: a `go` that is published among some writes is so among all that begin with them, and among its seat's own.
+pub fn go_stays_published()
+    ensures longer { (account : Account) (contents : Contents) (seat life : ℕ) (row : List TrailItem) (writes more : List Write)
+        → IsPrefix writes more → GoIsPublished account contents seat life row writes → GoIsPublished account contents seat life row more }
+    ensures own { (account : Account) (contents : Contents) (seat life : ℕ) (row : List TrailItem) (writes : List Write)
+        → GoIsPublished account contents seat life row writes → GoIsPublished account contents seat life row (writes_of writes seat) }
+{}
+
 /// Law: a processor that knows nothing keeps track of each life, as far as the seat's writes are in order. It goes on to as it sees more writes; as it knows more items, and has seen the publication of a
 /// `go` among them; as it fires and its writes pass the life by, as they do where its look doesn't name the seat with the life; as the life is over and the processor sees all writes of the seat, which have come past it; and as its firing is offered to the life, and isn't
 /// seen there, or is, with all writes of the seat in order then. Where all writes of the seat are in order for the trail, its firings and the trail stand in one row.
@@ -111,14 +119,14 @@ pub fn keeping_goes_on()
         → KeepsTrack account contents cpu life seen [] [] }
     ensures writes { (account : Account) (contents : Contents) (cpu life : ℕ) (seen more : List Write) (known : List TrailItem) (knew : List ℕ)
         → IsPrefix seen more → KeepsTrack account contents cpu life seen known knew → KeepsTrack account contents cpu life more known knew }
-    ensures known { (account : Account) (contents : Contents) (cpu life : ℕ) (seen : List Write) (known more : List TrailItem) (knew : List ℕ)
+    ensures known { (account : Account) (contents : Contents) (cpu seat life : ℕ) (seen : List Write) (known more : List TrailItem) (knew : List ℕ)
         → StartsWith more known → own (cpu + 1) more ≡ own (cpu + 1) known → IsLegalRow account contents more
-        → GoIsPublished account contents life more seen
+        → GoIsPublished account contents seat life more seen
         → KeepsTrack account contents cpu life seen known knew → KeepsTrack account contents cpu life seen more knew }
     ensures passed { (account : Account) (contents : Contents) (cpu life : ℕ) (seen : List Write) (known : List TrailItem) (knew : List ℕ)
         → IsPassedBy account contents cpu (length knew) (stage life seen) → KeepsTrack account contents cpu life seen known knew
         → KeepsTrack account contents cpu life seen known (knew ++ length known ∷ []) }
-    ensures looked { (account : Account) (contents : Contents) (cpu life seat : ℕ) (writes : List Write) (known : List TrailItem) (knew : List ℕ)
+    ensures looked { (account : Account) (contents : Contents) (cpu seat life : ℕ) (writes : List Write) (known : List TrailItem) (knew : List ℕ)
         (firing : Firing) (mask : SeatMask)
         → firing_at contents.scripts cpu (length knew) ≡ Some firing → IsMaskAfter contents.registry writes firing mask
         → life_at mask seat ≢ Some life → KeepsTrack account contents cpu life (writes_of writes seat) known knew
@@ -126,16 +134,16 @@ pub fn keeping_goes_on()
     ensures gone { (account : Account) (contents : Contents) (cpu life : ℕ) (seen whole : List Write) (known : List TrailItem) (knew : List ℕ)
         → IsPrefix seen whole → stage life whole ≡ past → KeepsTrack account contents cpu life seen known knew
         → KeepsTrack account contents cpu life whole known (knew ++ length known ∷ []) }
-    ensures unseen { (account : Account) (contents : Contents) (cpu life : ℕ) (seen : List Write) (known more : List TrailItem) (knew : List ℕ)
+    ensures unseen { (account : Account) (contents : Contents) (cpu seat life : ℕ) (seen : List Write) (known more : List TrailItem) (knew : List ℕ)
         → StartsWith more known → own (cpu + 1) more ≡ own (cpu + 1) known → IsLegalRow account contents more
-        → is_seen_after account contents more cpu (length knew) ≡ false → GoIsPublished account contents life more seen
+        → is_seen_after account contents more cpu (length knew) ≡ false → GoIsPublished account contents seat life more seen
         → KeepsTrack account contents cpu life seen known knew
         → KeepsTrack account contents cpu life seen more (knew ++ length known ∷ []) }
-    ensures kept { (account : Account) (contents : Contents) (cpu life : ℕ) (seen all : List Write) (known more : List TrailItem) (knew : List ℕ)
+    ensures kept { (account : Account) (contents : Contents) (cpu seat life : ℕ) (seen all : List Write) (known more : List TrailItem) (knew : List ℕ)
         → IsPrefix seen all → IsInOrder account contents life all more
         → StartsWith more known → own (cpu + 1) more ≡ own (cpu + 1) known → IsLegalRow account contents more
         → is_seen_after account contents more cpu (length knew) ≡ true
-        → IsLegalRow account contents (more ++ fired cpu (length knew) ∷ []) → GoIsPublished account contents life more seen
+        → IsLegalRow account contents (more ++ fired cpu (length knew) ∷ []) → GoIsPublished account contents seat life more seen
         → KeepsTrack account contents cpu life seen known knew
         → KeepsTrack account contents cpu life seen (more ++ fired cpu (length knew) ∷ []) (knew ++ length known ∷ []) }
     ensures shared { (account : Account) (contents : Contents) (cpu life : ℕ) (seen all : List Write) (known trail : List TrailItem) (knew : List ℕ)

@@ -1,8 +1,10 @@
 -- Where a seat's writes are in order, a published `go` is announced, and stays so.
-use Rattle.std.proofs.Common.{◌≡◌, ◌≢◌, ◌<◌, ℕ, zero, suc, Bool, List, [], ◌∷◌, ◌++◌, length, refl, sym, ap, ◌∙◌, subst, ⊎_elim, arith, append_assoc}
+use Rattle.std.proofs.Common.{◌==◌, cond, ◌≡◌, ◌≢◌, ◌<◌, ℕ, zero, suc, Bool, List, [], ◌∷◌, ◌++◌, length, refl, sym, ap, ◌∙◌, subst, ⊎_elim, arith, append_assoc}
 use Rattle.std.specs.Prelude.{Contains, slice_index_or}
+use Rattle.std.proofs.lemmas.Bool.{eq-eqb}
+use Rattle.std.proofs.lemmas.List.Elements.{Contains-append_left, Contains-append_right, filter-append}
 use mathlib.Core.List.{IsPrefix}
-use Rattle.dt_chain.specs.Writes.{Write, published}
+use Rattle.dt_chain.specs.Writes.{Write, published, seat_of, writes_of}
 use Rattle.dt_cred.specs.declared.account.Account.{Account}
 use Rattle.dt_ecb.specs.Ecbs.{EcbForm, of_probe}
 use Rattle.dt_legal.specs.Rows.{AreOfEcbs, IsLegalRow, life_of_row}
@@ -62,33 +64,57 @@ module _ (account : Account) (contents : Contents) where
           exact_on life seen more writes trail before probes s m h same e (subst (IsAnnounced account contents before) e told)
 
   -- a `go` that is published is announced
-  pub published_is_announced : (life : ℕ) (seen writes : List Write) (known trail : List TrailItem) → IsPrefix seen writes
+  pub published_is_announced : (seat life : ℕ) (seen writes : List Write) (known trail : List TrailItem) → IsPrefix seen writes
       → StartsWith trail known → IsLegalRow account contents trail → IsInOrder account contents life writes trail
-      → GoIsPublished account contents life known seen → GoIsAnnounced account contents known (stage life seen)
-  published_is_announced life seen writes known trail begins knows legal h told before item starts mine go =
+      → GoIsPublished account contents seat life known seen → GoIsAnnounced account contents known (stage life seen)
+  published_is_announced seat life seen writes known trail begins knows legal h told before item starts mine go =
       ⊎_elim
-      (λ (t : stage life front ≡ named there.1).
-      exact_on life front seen writes trail before there.1 first begins h
+      (λ (t : stage life front ≡ named there.0).
+      exact_on life front seen writes trail before there.0 first begins h
       (ecbs_since account contents trail before item legal (starts_trans trail known (before ++ item ∷ []) knows starts) mine go)
-      t there.3)
+      t there.2)
       (λ (t : (stage life split.0 ≡ past) × (stage life front ≡ past)).
       subst (IsAnnounced account contents before) (sym (stage_past life front seen first t.1)) tt)
-      (named_by_last life split.0 there.0 account there.1)
+      (named_by_last life split.0 seat account there.0)
     where
-      there : (seat : ℕ) × (probes : List Bool) × Contains seen (published seat life account probes) × AreOfEcbs account contents before probes
+      there : (probes : List Bool) × Contains seen (published seat life account probes) × AreOfEcbs account contents before probes
       there = told before item starts mine go
 
       write : Write
-      write = published there.0 life account there.1
+      write = published seat life account there.0
 
       split : (front : List Write) × (after : List Write) × (seen ≡ front ++ write ∷ after)
-      split = split_at seen write there.2.0 there.2.1 there.2.2
+      split = split_at seen write there.1.0 there.1.1 there.1.2
 
       front : List Write
       front = split.0 ++ write ∷ []
 
       first : IsPrefix front seen
       first = (split.1, append_assoc split.0 (write ∷ []) split.1 ∙ sym split.2)
+
+  -- a `go` that is published is so in longer lists, and in the seat's own writes
+  pub published_longer : (seat life : ℕ) (row : List TrailItem) (writes more : List Write) → IsPrefix writes more
+      → GoIsPublished account contents seat life row writes → GoIsPublished account contents seat life row more
+  published_longer seat life row writes more begins told before item starts mine go =
+      let there = told before item starts mine go in
+      let write = published seat life account there.0 in
+      (there.0, subst (λ (l : List Write). Contains l write) begins.1 (Contains-append_left writes begins.0 write there.1), there.2)
+
+  pub published_among_own : (seat life : ℕ) (row : List TrailItem) (writes : List Write)
+      → GoIsPublished account contents seat life row writes → GoIsPublished account contents seat life row (writes_of writes seat)
+  published_among_own seat life row writes told before item starts mine go =
+      let there = told before item starts mine go in
+      let write = published seat life account there.0 in
+      let split = split_at writes write there.1.0 there.1.1 there.1.2 in
+      let its = λ (w : Write). seat_of w == seat in
+      let own : writes_of writes seat ≡ writes_of split.0 seat ++ write ∷ writes_of split.1 seat =
+      ap (λ (l : List Write). writes_of l seat) split.2 ∙ filter-append its split.0 (write ∷ split.1)
+      ∙ ap (λ (b : Bool). writes_of split.0 seat ++ cond b (write ∷ writes_of split.1 seat) (writes_of split.1 seat)) (eq-eqb seat seat refl) in (
+        there.0,
+        subst (λ (l : List Write). Contains l write) (sym own)
+            (Contains-append_right (writes_of split.0 seat) (write ∷ writes_of split.1 seat) write (0, omega arith, refl)),
+        there.2,
+      )
 
   -- a firing after the `go` leaves it announced
   pub announced_fired : (known : List TrailItem) (at : Stage) (cpu place : ℕ) → GoIsAnnounced account contents known at

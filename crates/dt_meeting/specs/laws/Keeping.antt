@@ -40,13 +40,13 @@ module _ (account : Account) (contents : Contents) where
       (announced_on account contents life seen more writes known trail begins b t legal order tracks.announced) tracks
 
   -- more items are known
-  pub keeps_known : (cpu life : ℕ) (seen : List Write) (known more : List TrailItem) (knew : List ℕ)
+  pub keeps_known : (cpu seat life : ℕ) (seen : List Write) (known more : List TrailItem) (knew : List ℕ)
       → StartsWith more known → own (cpu + 1) more ≡ own (cpu + 1) known → IsLegalRow account contents more
-      → GoIsPublished account contents life more seen
+      → GoIsPublished account contents seat life more seen
       → KeepsTrack account contents cpu life seen known knew → KeepsTrack account contents cpu life seen more knew
-  keeps_known cpu life seen known more knew a alike whole told h writes trail b t same legal order =
+  keeps_known cpu seat life seen known more knew a alike whole told h writes trail b t same legal order =
       tracks_known account contents cpu life seen known more knew a alike whole
-      (published_is_announced account contents life seen writes more trail b t legal order told)
+      (published_is_announced account contents seat life seen writes more trail b t legal order told)
       (h writes trail b (starts_trans trail more known t a) (same ∙ alike) legal order)
 
   -- the processor fires, and its writes don't offer the firing to the life
@@ -57,11 +57,11 @@ module _ (account : Account) (contents : Contents) where
       tracks_passed account contents cpu life seen known knew passed (h writes trail b t same legal order)
 
   -- the processor fires, and a look after these writes doesn't name the seat with the life
-  pub keeps_looked : (cpu life seat : ℕ) (writes : List Write) (known : List TrailItem) (knew : List ℕ) (firing : Firing) (mask : SeatMask)
+  pub keeps_looked : (cpu seat life : ℕ) (writes : List Write) (known : List TrailItem) (knew : List ℕ) (firing : Firing) (mask : SeatMask)
       → firing_at contents.scripts cpu (length knew) ≡ Some firing → IsMaskAfter contents.registry writes firing mask
       → life_at mask seat ≢ Some life → KeepsTrack account contents cpu life (writes_of writes seat) known knew
       → KeepsTrack account contents cpu life (writes_of writes seat) known (knew ++ length known ∷ [])
-  keeps_looked cpu life seat writes known knew firing mask found look unnamed h all trail b t same legal order =
+  keeps_looked cpu seat life writes known knew firing mask found look unnamed h all trail b t same legal order =
       tracks_passed account contents cpu life (writes_of writes seat) known knew
       (look_passes account contents cpu (length knew) life seat writes firing mask found look unnamed
       (λ before at by probes p. order.its_account before at by probes
@@ -77,19 +77,19 @@ module _ (account : Account) (contents : Contents) where
       (keeps_writes cpu life seen whole known knew begins h)
 
   -- the firing is offered after this trail, and isn't seen there
-  pub keeps_unseen : (cpu life : ℕ) (seen : List Write) (known more : List TrailItem) (knew : List ℕ)
+  pub keeps_unseen : (cpu seat life : ℕ) (seen : List Write) (known more : List TrailItem) (knew : List ℕ)
       → StartsWith more known → own (cpu + 1) more ≡ own (cpu + 1) known → IsLegalRow account contents more
-      → is_seen_after account contents more cpu (length knew) ≡ false → GoIsPublished account contents life more seen
+      → is_seen_after account contents more cpu (length knew) ≡ false → GoIsPublished account contents seat life more seen
       → KeepsTrack account contents cpu life seen known knew
       → KeepsTrack account contents cpu life seen more (knew ++ length known ∷ [])
-  keeps_unseen cpu life seen known more knew a alike whole unseen told h writes trail b t same legal order =
+  keeps_unseen cpu seat life seen known more knew a alike whole unseen told h writes trail b t same legal order =
       by_case (stage life seen) refl
     where
       tracks : Tracks account contents cpu life seen known knew
       tracks = h writes trail b (starts_trans trail more known t a) (same ∙ alike) legal order
 
       announced : GoIsAnnounced account contents more (stage life seen)
-      announced = published_is_announced account contents life seen writes more trail b t legal order told
+      announced = published_is_announced account contents seat life seen writes more trail b t legal order told
 
       at_hand : stage life seen ≢ past → Tracks account contents cpu life seen more (knew ++ length known ∷ [])
       at_hand still = tracks_unseen account contents cpu life seen known more knew still a alike whole unseen announced tracks
@@ -109,18 +109,18 @@ module _ (account : Account) (contents : Contents) where
   quiet trail cpu off place = unseen_after_to account contents trail cpu place (λ firing found sees. off sees.active)
 
   -- the firing is offered after this trail, and kept, and all writes of the seat are in order then
-  pub keeps_kept : (cpu life : ℕ) (seen all : List Write) (known more : List TrailItem) (knew : List ℕ)
+  pub keeps_kept : (cpu seat life : ℕ) (seen all : List Write) (known more : List TrailItem) (knew : List ℕ)
       → IsPrefix seen all → IsInOrder account contents life all more
       → StartsWith more known → own (cpu + 1) more ≡ own (cpu + 1) known → IsLegalRow account contents more
       → is_seen_after account contents more cpu (length knew) ≡ true
       → IsLegalRow account contents (more ++ fired cpu (length knew) ∷ [])
-      → GoIsPublished account contents life more seen
+      → GoIsPublished account contents seat life more seen
       → KeepsTrack account contents cpu life seen known knew
       → KeepsTrack account contents cpu life seen (more ++ fired cpu (length knew) ∷ []) (knew ++ length known ∷ [])
-  keeps_kept cpu life seen all known more knew begins now a alike whole seen_there longer told h writes trail b t same legal order =
+  keeps_kept cpu seat life seen all known more knew begins now a alike whole seen_there longer told h writes trail b t same legal order =
       tracks_kept account contents cpu life seen known more knew still a alike whole seen_there longer
       (announced_fired account contents more (stage life seen) cpu (length knew)
-      (published_is_announced account contents life seen all more more begins ([], sym (append-nil more)) whole now told))
+      (published_is_announced account contents seat life seen all more more begins ([], sym (append-nil more)) whole now told))
       (h all more begins a alike whole now)
     where
       still : stage life seen ≢ past
