@@ -55,7 +55,7 @@ part_exact (Number a) (Text b) e = cc
 part_exact (Text a) (Number b) e = cc
 part_exact (Text a) (Text b) e = ap Text (exact_bytes a b e)
 
-both_equal : (o p : Ordering) → ordering_then o p ≡ Equal → (o ≡ Equal) × (p ≡ Equal)
+pub both_equal : (o p : Ordering) → ordering_then o p ≡ Equal → (o ≡ Equal) × (p ≡ Equal)
 both_equal Less p e = cc
 both_equal Equal p e = (refl, e)
 both_equal Greater p e = cc

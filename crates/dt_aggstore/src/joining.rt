@@ -8,22 +8,22 @@ use crate::share::KeyShare;
 use dt_aggfn::AggFn;
 use std::alloc::{AllocError, Global};
 
-/// A key with the cell of all values that were joined so far.
+/// A key, which lies in some store, with the cell of all values that were joined so far.
 #[derive(Drop)]
-pub(crate) struct Joined {
-    pub(crate) key: Key,
+pub(crate) struct Joined<'a> {
+    pub(crate) key: &'a Key,
     pub(crate) cell: Vec<u64>,
 }
 
 /// The rows of one function, in order of key.
 #[derive(Drop)]
-pub(crate) struct Joining {
+pub(crate) struct Joining<'a> {
     pub(crate) function: AggFn,
-    pub(crate) rows: Vec<Joined>,
+    pub(crate) rows: Vec<Joined<'a>>,
     ghost sized: { All (λ row. vec_len row.cell ≡ cell_words function) rows.items },
 }
 
-impl Joining {
+impl<'a> Joining<'a> {
     ghost use Rattle.dt_aggstore.specs.declared.joining.Joined.{Joined};
     ghost use Rattle.dt_aggstore.specs.Joining.{AreJoined, AreShares, joined_at, key_of, keys_of, shared_key, NoneAfter};
     ghost use Rattle.dt_aggstore.specs.Keys.{key_cmp, same_key};
@@ -35,7 +35,7 @@ impl Joining {
     pub(crate) fn of(
         alloc: Global,
         function: AggFn,
-        shares: &[KeyShare<'_>],
+        shares: &[KeyShare<'a>],
     ) -> Result<Self, AllocError>
         requires words { All (λ (share : KeyShare). length share.cell.now ≡ cell_words function) shares.now }
         requires sorted { IsSortedByKey shared_key key_cmp shares.now }
@@ -56,7 +56,7 @@ impl Joining {
     }
 
     /// Joins a share. `Err`: there was no memory for a new row.
-    fn join(&mut self, alloc: Global, share: &KeyShare<'_>) -> Result<(), AllocError>
+    fn join(&mut self, alloc: Global, share: &KeyShare<'a>) -> Result<(), AllocError>
         requires { length share.now.cell.now ≡ cell_words self.old.function }
         ensures function { self.new.function ≡ self.old.function }
         // On success rows joined from bags, of which none comes after the share's key, are those of the same bags with
@@ -79,7 +79,7 @@ impl Joining {
         }
         let cell = Vec::from_slice(alloc, share.cell)?;
         self.rows.push(Joined {
-            key: share.key.copy(),
+            key: share.key,
             cell,
         })?;
         Ok(())

@@ -9,6 +9,7 @@
 //! (`specs/Table.antt`).
 #![tactic(auto)]
 
+mod beginning;
 mod cells;
 mod entry_index;
 mod entry_name;

@@ -16,3 +16,6 @@ pub(crate) const COST_MIN: usize = 16;
 
 /// For how many aggregations, by their numbers, a store remembers an entry each: as many as a consumer has at most.
 pub(crate) const RECENT_MAX: usize = 64;
+
+/// How many bytes of a text are held by value where keys are sorted.
+pub(crate) const BEGINNING_BYTES: usize = 8;

@@ -1,30 +1,63 @@
 //! What single stores have of an aggregation's keys, before it is joined.
-ghost use Rattle.std.specs.Prelude.{◌≡◌, ℕ, ℤ, List, length, All, OnOk};
-ghost use Rattle.std.specs.List.Sorted.{IsSortedByKey};
-ghost use Rattle.dt_aggfn.specs.declared.function.AggFn.{AggFn};
-ghost use Rattle.dt_aggstore.specs.Joining.{shared_key, AreShares};
-ghost use Rattle.dt_aggstore.specs.Keys.{key_cmp};
-ghost use Rattle.dt_aggstore.specs.declared.key.KeyPart.{KeyPart};
-ghost use Rattle.dt_aggstore.specs.declared.share.KeyShare.{KeyShare};
+ghost use Rattle.std.specs.Prelude.{◌≡◌};
+ghost use Rattle.dt_aggstore.specs.Beginnings.{beginning_of};
 
+use crate::beginning::Beginning;
 use crate::key::Key;
 use std::alloc::AllocError;
+use std::cmp::Ordering;
 
 /// A key with the cell that one store has of it.
 #[derive(Clone, Copy)]
 pub(crate) struct KeyShare<'a> {
+    beginning: Beginning,
     pub(crate) key: &'a Key,
     pub(crate) cell: &'a [u64],
+    ghost begins: { beginning ≡ beginning_of key.now.parts.items },
 }
 
-/// Puts shares in order of key, and leaves those of one key in the order of their stores. `Err`: there was no memory
-/// for it.
-pub(crate) fn sort(shares: &mut Vec<KeyShare<'_>>) -> Result<(), AllocError>
-    ensures sorted { OnOk result (IsSortedByKey shared_key key_cmp shares.new.items) }
-    ensures bags { (function : AggFn) (bags : List KeyPart → List ℤ) → AreShares function bags shares.old.items
-        → AreShares function bags shares.new.items }
-    ensures words { (words : ℕ) → All (λ (share : KeyShare). length share.cell.now ≡ words) shares.old.items
-        → All (λ (share : KeyShare). length share.cell.now ≡ words) shares.new.items }
-{
-    shares.sort_by(|one, other| one.key.order(other.key))
+impl<'a> KeyShare<'a> {
+    ghost use Rattle.std.specs.Prelude.{ℕ, ℤ, List, length, All, OnOk};
+    ghost use Rattle.std.specs.List.Sorted.{IsSortedByKey};
+    ghost use Rattle.dt_aggfn.specs.declared.function.AggFn.{AggFn};
+    ghost use Rattle.dt_aggstore.specs.Joining.{shared_key, AreShares};
+    ghost use Rattle.dt_aggstore.specs.Keys.{key_cmp};
+    ghost use Rattle.dt_aggstore.specs.declared.key.KeyPart.{KeyPart};
+    ghost use Rattle.dt_aggstore.specs.declared.share.KeyShare.{KeyShare};
+
+    /// The share of a key with this cell.
+    pub(crate) fn of(key: &'a Key, cell: &'a [u64]) -> Self
+        ensures key { result.key.now ≡ key.now }
+        ensures cell { result.cell.now ≡ cell.now }
+    {
+        KeyShare {
+            beginning: Beginning::of(key),
+            key,
+            cell,
+        }
+    }
+
+    /// How the keys of this share and another are ordered.
+    fn order(&self, other: &KeyShare<'_>) -> Ordering
+        ensures { result ≡ key_cmp (shared_key self.now) (shared_key other.now) }
+    {
+        match self.beginning.order(&other.beginning) {
+            // keys that begin alike and have nothing more are the same, and needn't be read
+            Ordering::Equal if self.beginning.is_whole() => Ordering::Equal,
+            Ordering::Equal => self.key.order(other.key),
+            decided => decided,
+        }
+    }
+
+    /// Puts shares in order of key, and leaves those of one key in the order of their stores. `Err`: there was no memory
+    /// for it.
+    pub(crate) fn sort(shares: &mut Vec<KeyShare<'_>>) -> Result<(), AllocError>
+        ensures sorted { OnOk result (IsSortedByKey shared_key key_cmp shares.new.items) }
+        ensures bags { (function : AggFn) (bags : List KeyPart → List ℤ) → AreShares function bags shares.old.items
+            → AreShares function bags shares.new.items }
+        ensures words { (words : ℕ) → All (λ (share : KeyShare). length share.cell.now ≡ words) shares.old.items
+            → All (λ (share : KeyShare). length share.cell.now ≡ words) shares.new.items }
+    {
+        shares.sort_by(|one, other| one.order(other))
+    }
 }

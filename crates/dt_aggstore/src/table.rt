@@ -18,7 +18,7 @@ use crate::cells::cell_at;
 use crate::joining::Joining;
 use crate::key::{Aggregation, Key};
 use crate::limits::STORES_MAX;
-use crate::share::{KeyShare, sort};
+use crate::share::KeyShare;
 use crate::store::AggStore;
 use dt_aggfn::{CellAnswer, cell_length};
 use std::alloc::{AllocError, Global};
@@ -49,7 +49,7 @@ impl AggStore {
         for store in stores {
             store.share_into(aggregation, &mut shares)?;
         }
-        sort(&mut shares)?;
+        KeyShare::sort(&mut shares)?;
         let joining = Joining::of(alloc, aggregation.function, &shares)?;
         rows_of(alloc, &joining)
     }
@@ -75,10 +75,7 @@ impl AggStore {
             let words = name.aggregation.function.cell_words();
             if aggregation.is(name.aggregation) {
                 let cell = cell_at(&self.cells, place, words);
-                shares.push(KeyShare {
-                    key: &name.key,
-                    cell,
-                })?;
+                shares.push(KeyShare::of(&name.key, cell))?;
             }
             place += words;
         }
@@ -87,7 +84,7 @@ impl AggStore {
 }
 
 /// The rows with what they answer. `Err`: there was no memory for them.
-fn rows_of(alloc: Global, joining: &Joining) -> Result<Vec<Row>, AllocError>
+fn rows_of(alloc: Global, joining: &Joining<'_>) -> Result<Vec<Row>, AllocError>
     ensures { (bags : List KeyPart → List ℤ) → AreJoined joining.now.function bags joining.now.rows.items
         → ((key : List KeyPart) → length (bags key) < BAG_LIMIT)
         → IfOk result (λ rows. MakesRows joining.now.function bags joining.now.rows.items

@@ -8,6 +8,7 @@ use Rattle.dt_aggfn.specs.Cells.{cell_words}
 use Rattle.dt_aggstore.specs.EntryNames.{entries_named, words_of}
 use Rattle.dt_aggstore.specs.Joining.{AreShares}
 use Rattle.dt_aggstore.specs.declared.key.Aggregation.{Aggregation}
+use Rattle.dt_aggstore.specs.declared.key.Key.{Key}
 use Rattle.dt_aggstore.specs.declared.share.KeyShare.{KeyShare}
 use Rattle.dt_aggstore.proofs.Same.{aggregation_is}
 use Rattle.dt_aggstore.proofs.Words.{within_at, read_at, words_more_at, words_fit_at}
@@ -73,7 +74,7 @@ loop-name-preserved c =
             words = λ all. subst (All (λ (share : KeyShare). length share.cell.now ≡ cell_words function)) (sym pushed)
                 (All-push (λ (share : KeyShare). length share.cell.now ≡ cell_words function) c.loop-name.shares.items _
                 (c.loop-name.invariant.words all)
-                (ap length w.cell_at-cell.ensures
+                (ap length (w.of.ensures.cell ∙ w.cell_at-cell.ensures)
                 ∙ length_range w.deref.result.now c.loop-name.place c.cell_words-words.result
                 (omega (
                   arith,
@@ -94,8 +95,9 @@ loop-name-preserved c =
                 (read_at entries items i x same lt c.name-item.is) c.loop-name.shares.items
                 (c.loop-name.invariant.shares past at bags a) c.cell_length.ensures.words
                 (sym c.is.ensures ∙ w.if-is.true) c.loop-name.place c.cell_words-words.result
-                c.loop-name.invariant.place_is c.cell_words-words.ensures.words _ refl
-                (w.cell_at-cell.ensures
+                c.loop-name.invariant.place_is c.cell_words-words.ensures.words _
+                (ap (λ (k : Key). k.parts.items) w.of.ensures.key)
+                (w.of.ensures.cell ∙ w.cell_at-cell.ensures
                 ∙ ap (λ xs. slice_range xs c.loop-name.place (c.loop-name.place + c.cell_words-words.result))
                 w.deref.ensures.value));
           })

@@ -7,7 +7,7 @@ use Rattle.dt_aggstore.specs.Joining.{shared_key}
 use Rattle.dt_aggstore.specs.declared.share.KeyShare.{KeyShare}
 use Rattle.dt_aggstore.proofs.Rising.{keys_total}
 use Rattle.dt_aggstore.proofs.Sharing.{comes_before, sorted_shares}
-use Rattle.dt_aggstore.proofs.share.sort.Goals as goal
+use Rattle.dt_aggstore.proofs.share.KeyShare.sort.Goals as goal
 
 pub returns-clause-sorted : goal.returns-clause-sorted
 returns-clause-sorted c =
