@@ -1,18 +1,19 @@
 -- Where two keys begin otherwise, their beginnings say which comes first.
-use Rattle.std.proofs.Common.{◌≡◌, ℕ, zero, suc, Bool, true, false, List, [], ◌∷◌, take, Ordering, Less, refl, sym, ap, ◌∙◌}
-use Rattle.std.specs.Ordering.{int_cmp, nat_cmp, bool_cmp, ordering_then}
+use Rattle.std.proofs.Common.{◌≡◌, ℕ, zero, suc, Bool, true, false, List, [], ◌∷◌, take, Ordering, Less, refl, sym, ap, ◌∙◌, ⊎_elim}
+use Rattle.std.specs.Ordering.{int_cmp, nat_cmp, bool_cmp, is_eq, ordering_then}
 use Rattle.std.specs.Cmp.Lexicographic.{slice_cmp}
 use Rattle.std.specs.declared.cmp.Ordering.TheVariants.{Equal, Greater}
 use Rattle.dt_aggstore.specs.Beginnings.{beginning_of, beginning_cmp}
 use Rattle.std.proofs.lemmas.Cmp.{tied_itself}
 use Rattle.std.proofs.lemmas.Map.Lookups.{exact_signed, exact_bytes}
-use Rattle.dt_aggstore.specs.Keys.{part_cmp, key_cmp}
+use Rattle.dt_aggstore.specs.Keys.{part_cmp, key_cmp, same_key}
 use Rattle.dt_aggstore.specs.declared.beginning.Beginning.{Beginning}
 use Rattle.dt_aggstore.specs.declared.beginning.Beginning.TheVariants as start
-use Rattle.dt_aggstore.specs.declared.key.KeyPart.{KeyPart}
 use Rattle.dt_aggstore.specs.declared.key.KeyPart.TheVariants.{Number, Text}
 use Rattle.dt_aggstore.specs.declared.limits.TheConstants.{BEGINNING_BYTES}
-use Rattle.dt_aggstore.proofs.Rising.{Key, keys_total, both_equal}
+use Rattle.dt_aggstore.proofs.Filters.{yes_or_no}
+use Rattle.dt_aggstore.proofs.Same.{key_decides}
+use Rattle.dt_aggstore.proofs.Rising.{Key, keys_total, both_equal, key_exact}
 
 -- of three orders, one after the other, the first two may be taken first
 nested : (o p q : Ordering) → q ≡ ordering_then p q → ordering_then o q ≡ ordering_then (ordering_then o p) (ordering_then o q)
@@ -91,3 +92,21 @@ beginning_exact (start.Text a) (start.Text b) e = ap start.Text (exact_bytes a b
 
 pub same_alike : (a b : Key) → a ≡ b → Equal ≡ key_cmp a b
 same_alike a b e = sym (tied_itself keys_total a) ∙ ap (key_cmp a) e
+
+differs : (a b : Key) (o : Ordering) → key_cmp a b ≡ o → (Equal ≡ o → ⊥) → same_key a b ≡ false
+differs a b o e other = ⊎_elim
+    (λ yes. absurd (other (same_alike a b ((key_decides a b).0 yes) ∙ e)))
+    (λ differ. differ)
+    (yes_or_no (same_key a b))
+
+-- keys are ordered as equal exactly where they are the same
+pub equal_same : (a b : Key) (o : Ordering) → key_cmp a b ≡ o → is_eq o ≡ same_key a b
+equal_same a b Less e = sym (differs a b Less e less)
+  where
+    less : Equal ≡ Less → ⊥
+    less f = cc
+equal_same a b Equal e = sym ((key_decides a b).1 (key_exact a b e))
+equal_same a b Greater e = sym (differs a b Greater e greater)
+  where
+    greater : Equal ≡ Greater → ⊥
+    greater f = cc

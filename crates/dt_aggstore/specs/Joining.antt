@@ -12,7 +12,7 @@ use Rattle.dt_aggstore.specs.declared.joining.Joined.{Joined}
 use Rattle.dt_aggstore.specs.declared.share.KeyShare.{KeyShare}
 
 abbrev pub key_of : Joined → List KeyPart
-key_of row = row.key.now.parts.items
+key_of row = row.share.key.now.parts.items
 
 abbrev pub keys_of : List Joined → List (List KeyPart)
 keys_of rows = map key_of rows

@@ -1,10 +1,11 @@
 //! How keys begin, held by value.
-ghost use Rattle.std.specs.Prelude.{◌≡◌, List, true};
+ghost use Rattle.std.specs.Prelude.{◌≡◌, List, true, IfSome};
 ghost use Rattle.dt_aggstore.specs.Beginnings.{beginning_of, beginning_cmp};
 ghost use Rattle.dt_aggstore.specs.declared.key.KeyPart.{KeyPart as Part};
 
 use crate::key::{Key, KeyPart};
 use crate::limits::BEGINNING_BYTES;
+use arrayvec::ArrayVec;
 use std::cmp::Ordering;
 
 /// How a key begins. Of two keys that begin otherwise, the beginnings tell which comes first: who sorts by them reads a key, which
@@ -52,5 +53,18 @@ impl Beginning {
             Beginning::Number(_, more) => !more,
             Beginning::Text(_) => false,
         }
+    }
+
+    /// The key that begins so and has nothing more. `None`: such a key may have more.
+    pub(crate) fn whole(&self) -> Option<Key>
+        ensures { IfSome result (λ key. (k : List Part) → beginning_of k ≡ self.now → key.parts.items ≡ k) }
+    {
+        let mut parts = ArrayVec::new();
+        match self {
+            Beginning::Empty => {}
+            Beginning::Number(number, false) => parts.push(KeyPart::Number(*number)),
+            Beginning::Number(_, true) | Beginning::Text(_) => return None,
+        }
+        Some(Key { parts })
     }
 }

@@ -3,15 +3,14 @@ ghost use Rattle.std.specs.Prelude.{◌≡◌, ◌<◌, ℤ, List, ◌-◌, true
 ghost use Rattle.dt_aggfn.specs.Cells.{cell_words, cell_of, IsBag};
 ghost use Rattle.dt_aggfn.specs.declared.limits.TheConstants.{BAG_LIMIT};
 
-use crate::key::Key;
 use crate::share::KeyShare;
 use dt_aggfn::AggFn;
 use std::alloc::{AllocError, Global};
 
-/// A key, which lies in some store, with the cell of all values that were joined so far.
+/// The first share of a key, with the cell of all values that were joined so far.
 #[derive(Drop)]
 pub(crate) struct Joined<'a> {
-    pub(crate) key: &'a Key,
+    pub(crate) share: KeyShare<'a>,
     pub(crate) cell: Vec<u64>,
 }
 
@@ -70,7 +69,7 @@ impl<'a> Joining<'a> {
             self.new.rows.items) }
     {
         // rows rise by key, and the share's key is before none of theirs: if it has a row, that is the last one
-        if self.ends_with(share.key) {
+        if self.ends_with(share) {
             let place = self.rows.len() - 1;
             let function = self.function;
             let row = &mut self.rows[place];
@@ -79,21 +78,21 @@ impl<'a> Joining<'a> {
         }
         let cell = Vec::from_slice(alloc, share.cell)?;
         self.rows.push(Joined {
-            key: share.key,
+            share: *share,
             cell,
         })?;
         Ok(())
     }
 
-    /// Whether the last row has this key.
-    fn ends_with(&self, key: &Key) -> bool
+    /// Whether the last row has the key of this share.
+    fn ends_with(&self, share: &KeyShare<'_>) -> bool
         ensures some { result ≡ true → 0 < length self.now.rows.items }
         ensures last { (row : Joined) → 0 < length self.now.rows.items
             → result ≡ same_key (key_of (slice_index_or self.now.rows.items (length self.now.rows.items - 1) row))
-            key.now.parts.items }
+            (shared_key share.now) }
     {
         match self.rows.last() {
-            Some(row) => row.key.is(key),
+            Some(row) => row.share.has_key_of(share),
             None => false,
         }
     }

@@ -21,7 +21,7 @@ impl<'a> KeyShare<'a> {
     ghost use Rattle.std.specs.List.Sorted.{IsSortedByKey};
     ghost use Rattle.dt_aggfn.specs.declared.function.AggFn.{AggFn};
     ghost use Rattle.dt_aggstore.specs.Joining.{shared_key, AreShares};
-    ghost use Rattle.dt_aggstore.specs.Keys.{key_cmp};
+    ghost use Rattle.dt_aggstore.specs.Keys.{key_cmp, same_key};
     ghost use Rattle.dt_aggstore.specs.declared.key.KeyPart.{KeyPart};
     ghost use Rattle.dt_aggstore.specs.declared.share.KeyShare.{KeyShare};
 
@@ -46,6 +46,23 @@ impl<'a> KeyShare<'a> {
             Ordering::Equal if self.beginning.is_whole() => Ordering::Equal,
             Ordering::Equal => self.key.order(other.key),
             decided => decided,
+        }
+    }
+
+    /// Whether this share and another are of one key.
+    pub(crate) fn has_key_of(&self, other: &KeyShare<'_>) -> bool
+        ensures { result ≡ same_key (shared_key self.now) (shared_key other.now) }
+    {
+        self.order(other).is_eq()
+    }
+
+    /// Its key, for a row of its own.
+    pub(crate) fn key(&self) -> Key
+        ensures { result.parts.items ≡ shared_key self.now }
+    {
+        match self.beginning.whole() {
+            Some(key) => key,
+            None => self.key.copy(),
         }
     }
 

@@ -93,7 +93,7 @@ fn rows_of(alloc: Global, joining: &Joining<'_>) -> Result<Vec<Row>, AllocError>
     let mut rows = Vec::with_capacity(alloc, joining.rows.len())?;
     for row in &joining.rows {
         rows.push(Row {
-            key: row.key.copy(),
+            key: row.share.key(),
             value: joining.function.answer(alloc, &row.cell)?,
         })?;
     }

@@ -51,4 +51,4 @@ loop-row-preserved c = λ bags j few.
     (c.deref.ensures.value ∙ cell_then function bags [] rows i (key_of x) x j within is refl) in
     subst (λ xs. MakesRows function bags (take (i + 1) rows) (map form_of_row xs)) (sym c.in_ok-push.ensures.items)
     (one_more function bags rows items i x c.loop-row.rows.items _ same c.loop-row-test.true c.row-item.is
-    (λ k. record { key = c.copy.ensures k; value = answer k }) (c.loop-row.invariant bags j few))
+    (λ k. record { key = c.key.ensures k; value = answer k }) (c.loop-row.invariant bags j few))

@@ -38,6 +38,6 @@ returns-clause-joins c = λ bags bag j none few own cell.
     let key = shared_key c.args.share.now in
     subst (AreJoined function (joined_at key bag bags)) (sym {A = List Joined} c.in_ok-push.ensures.items)
     (pushed_at function bags bag c.args.self.now.rows.items key
-    (record { key = c.args.share.now.key; cell = c.in_ok-cell.cell }) j none
+    (record { share = c.args.share.now; cell = c.in_ok-cell.cell }) j none
     (λ d some. sym (c.ends_with.ensures.last d some) ∙ c.if-ends_with.false) refl
     (c.in_ok-cell.ensures.items ∙ cell) own)

@@ -1,5 +1,5 @@
 -- Where two keys begin otherwise, that decides; where they begin alike and have nothing more, they are the same.
-use Rattle.std.proofs.Common.{◌≡◌, sym, ap, ◌∙◌}
+use Rattle.std.proofs.Common.{sym, ap, ◌∙◌}
 use Rattle.dt_aggstore.specs.Beginnings.{beginning_of, beginning_cmp}
 use Rattle.dt_aggstore.specs.Joining.{shared_key}
 use Rattle.dt_aggstore.proofs.Beginnings.{beginning_exact, decided, same_alike}
