@@ -93,3 +93,13 @@ at_seat_told cpu place seat received old new told h = record {
   below = subst (AllByRecursion (IsAtLowerPlace place))
       (sym (subst (λ (c : ℕ). own (c + 1) (known_by new.note) ≡ own (c + 1) (known_by old.note)) h.cpu_is told.own_same)) h.below;
 }
+
+-- after a processor let go of its note there
+pub at_seat_forgotten : (cpu place seat : ℕ) (old new : Followed) → Forgets old new → IsAtSeat cpu place seat old
+    → IsAtSeat cpu place seat new
+at_seat_forgotten cpu place seat old new forgotten h = record {
+  seat_is = forgotten.seat ∙ h.seat_is;
+  cpu_is = forgotten.cpu ∙ h.cpu_is;
+  below = ⊎_elim (λ same. subst (λ note. AreBelowPlace cpu place (known_by note)) (sym same) h.below)
+      (λ none. subst (λ note. AreBelowPlace cpu place (known_by note)) (sym none) tt) forgotten.note;
+}

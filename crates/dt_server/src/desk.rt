@@ -1,4 +1,5 @@
 //! Where work is put for a processor's thread, and what it did is taken.
+use dt_chain::{Seat, SeatSet};
 use std::sync::{Condvar, Mutex, Wait};
 
 /// What was asked of a processor.
@@ -16,8 +17,8 @@ enum Task {
 #[derive(Clone, Copy, Debug)]
 struct Orders {
     task: Task,
-    /// Whether a session has ended since the processor let go of such.
-    session_ended: bool,
+    /// The seats at which sessions have ended since the processor let go of such.
+    ended: SeatSet,
 }
 
 /// What a processor's thread does next.
@@ -25,8 +26,8 @@ struct Orders {
 pub(crate) enum Duty {
     /// It makes so many firings.
     Fire(u32),
-    /// It lets go of sessions that have ended.
-    LetGo,
+    /// It lets go of sessions that have ended at a seat.
+    LetGo(Seat),
 }
 
 /// Where one thread asks a processor's thread for firings, and waits until they are made. One thread asks at a time. Any thread tells it that a session has ended.
@@ -42,7 +43,7 @@ impl Desk {
         Desk {
             orders: Mutex::new(Orders {
                 task: Task::Idle,
-                session_ended: false,
+                ended: SeatSet::new(),
             }),
             turned: Condvar::new(),
         }
@@ -63,9 +64,9 @@ impl Desk {
         unreachable!()
     }
 
-    /// Tells that a session has ended.
-    pub(crate) fn session_ended<R: Wait>(&self, rt: &R) {
-        self.orders.lock(rt).session_ended = true;
+    /// Tells that a session has ended at a seat.
+    pub(crate) fn session_ended<R: Wait>(&self, rt: &R, seat: Seat) {
+        self.orders.lock(rt).ended.insert(seat);
         self.turned.notify_all();
     }
 
@@ -73,9 +74,9 @@ impl Desk {
     pub(crate) fn next<R: Wait>(&self, rt: &R) -> Duty {
         let mut orders = self.orders.lock(rt);
         for _ in rt.forever() {
-            if orders.session_ended {
-                orders.session_ended = false;
-                return Duty::LetGo;
+            if let Some(seat) = orders.ended.first() {
+                orders.ended.remove(seat);
+                return Duty::LetGo(seat);
             }
             if let Task::Asked(count) = orders.task {
                 return Duty::Fire(count);

@@ -74,10 +74,11 @@ fn serve_stream<J: HubSite, R: Wait>(
 ) {
     match hub.open(rt, alloc, socket.name.as_bytes()) {
         Ok(session) => {
+            let seat = session.seat();
             let mut source = Counted::new(&stream);
             let mut sink = Counted::new(&stream);
             let (ended, _receipt) = serve_session(rt, alloc, hub, session, &mut source, &mut sink);
-            shared.session_ended(rt);
+            shared.session_ended(rt, seat);
             // its lines had no buffer, so it was told nothing
             if ended == Ended::Memory {
                 let _told = (&stream).write_all(memory_line());

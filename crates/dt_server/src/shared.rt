@@ -1,5 +1,6 @@
 //! What the thread of a service and the thread that commands it share.
 use crate::desk::Desk;
+use dt_chain::Seat;
 use dt_names::Name;
 use std::os::unix::net::UnixListener;
 use std::sync::{Condvar, Mutex, Wait};
@@ -46,10 +47,10 @@ impl Shared {
         }
     }
 
-    /// Tells all processors that a session has ended.
-    pub(crate) fn session_ended<R: Wait>(&self, rt: &R) {
+    /// Tells all processors that a session has ended at a seat.
+    pub(crate) fn session_ended<R: Wait>(&self, rt: &R, seat: Seat) {
         for desk in self.desks.iter() {
-            desk.session_ended(rt);
+            desk.session_ended(rt, seat);
         }
     }
 

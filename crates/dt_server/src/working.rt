@@ -45,7 +45,7 @@ pub(crate) fn work<J: HubSite, R: Wait, G: Gate>(
                 let made = fire_many(rt, hub, &mut cpu_seat, gate, count);
                 desk.done(rt, made);
             }
-            Duty::LetGo => hub.let_go(rt, &mut cpu_seat),
+            Duty::LetGo(seat) => hub.let_go(rt, &mut cpu_seat, seat),
         }
     }
 }

@@ -1,0 +1,57 @@
+-- What is to be shown of `let_go`.
+use Rattle.std.proofs.Common.{◌≡◌, ◌<◌, ℕ, Some, length, refl, sym, ap, ◌∙◌, subst, arith}
+use Rattle.std.proofs.lemmas.List.{length-set}
+use Rattle.std.proofs.lemmas.Option.{slice_get-get_or}
+use Rattle.std.specs.List.{slice_get, slice_set}
+use Rattle.dt_hub.proofs.Offers.{get_set_other, get_set_same}
+use Rattle.dt_hub.proofs.Places.{at_seat_forgotten}
+use Rattle.dt_hub.proofs.hub.Hub.let_go.Goals as goal
+use Rattle.dt_hub.specs.Processors.{IsAtSeat}
+use Rattle.dt_life.specs.laws.Lists.{replaced}
+use Rattle.dt_life.specs.laws.Options.{some_of}
+
+pub invariant_of-cpu_seat : goal.invariant_of-cpu_seat
+invariant_of-cpu_seat g c =
+    let inside = c.cpu_seat.inside in
+    let n = c.number-at.result in
+    let inv = c.cpu_seat.invariant in
+    let small : n < length inside.followers.items = omega (arith, inv.seats.many, c.number-at.ensures.small) in
+    let is : slice_get inside.followers.items n ≡ Some c.index_mut.result.now =
+    slice_get-get_or inside.followers.items n c.index_mut.result.now small ∙ ap (λ f. Some f) (sym c.index_mut.ensures.value) in
+    record {
+      there = inv.there;
+      seats = record {
+        many = length-set inside.followers.items n c.let_go_at.new.follower ∙ inv.seats.many;
+        each = replaced (λ seat. IsAtSeat inside.cpu inside.place seat) inside.followers.items n c.let_go_at.new.follower
+            (at_seat_forgotten inside.cpu inside.place n c.index_mut.result.now c.let_go_at.new.follower c.let_go_at.ensures
+            (some_of (slice_get inside.followers.items n) c.index_mut.result.now (IsAtSeat inside.cpu inside.place n) is (inv.seats.each n)))
+            (λ seat other. inv.seats.each seat);
+      };
+      many = inv.many;
+      log_is = inv.log_is;
+    }
+
+pub returns : goal.returns
+returns g c =
+    let inside = c.cpu_seat.inside in
+    let n = c.number-at.result in
+    let value = c.number-at.ensures.value in
+    let inv = c.cpu_seat.invariant in
+    let small : n < length inside.followers.items = omega (arith, inv.seats.many, c.number-at.ensures.small) in
+    let is : slice_get inside.followers.items n ≡ Some c.index_mut.result.now =
+    slice_get-get_or inside.followers.items n c.index_mut.result.now small ∙ ap (λ f. Some f) (sym c.index_mut.ensures.value) in
+    rw (← c.cpu_seat.view_is) (record {
+      before = c.index_mut.result.now;
+      after = c.let_go_at.new.follower;
+      old_is = subst (λ (k : ℕ). slice_get inside.followers.items k ≡ Some c.index_mut.result.now) value is;
+      new_is = subst (λ (k : ℕ). slice_get (slice_set inside.followers.items n c.let_go_at.new.follower) k ≡ Some c.let_go_at.new.follower) value
+          (get_set_same inside.followers.items n c.let_go_at.new.follower small);
+      forgets = c.let_go_at.ensures;
+      others = λ seat other. get_set_other inside.followers.items n seat c.let_go_at.new.follower (λ e. other (e ∙ value));
+      seen = refl;
+      told = refl;
+      cpu = refl;
+      place = refl;
+      log = refl;
+      answers = (refl, refl);
+    })
