@@ -2,8 +2,9 @@
 //!
 //! `play MACHINE STEPS` plays the lines one after the other, in one thread, and writes the replies as `dtraced replay` does. Lines are `open SEAT ACCOUNT`,
 //! `call SEAT LINE`, `fire CPU` and `close SEAT`; the seats are the first three. `measure MACHINE INTERESTED OTHERS` opens so many sessions that enable the
-//! probe of the scripts, and so many that enable another, and lets the last two processors fire their whole scripts, one after the other, or, with one more
-//! word, at the same time, each on a thread of its own. It writes how many firings were made. With no word the program does nothing.
+//! probe of the scripts, and so many that enable another, and lets the last two processors fire their scripts, one after the other, or, with the word `together`, at the
+//! same time, each on a thread of its own; the whole scripts, or only so many firings each as one more word says. It writes how many firings were made. With no word the
+//! program does nothing.
 #![tactic(auto)]
 
 ghost use Rattle.std.specs.Prelude.{◌≡◌};
@@ -60,10 +61,15 @@ fn asked(rt: &HostRuntime) -> Option<(Vec<u8>, Work)> {
             Some((machine, Work::Play { steps }))
         }
         "measure" => {
+            let most = match words.get(6) {
+                Some(word) => word.as_str().parse().ok()?,
+                None => u64::MAX,
+            };
             let scene = Scene {
                 interested: third.parse().ok()?,
                 others: words.get(4)?.as_str().parse().ok()?,
-                is_together: words.get(5).is_some(),
+                is_together: words.get(5).is_some_and(|word| word.as_str() == "together"),
+                most,
             };
             Some((machine, Work::Measure(scene)))
         }

@@ -14,6 +14,8 @@ pub(crate) struct Scene {
     pub(crate) others: u64,
     /// Both processors fire at the same time, each on a thread of its own.
     pub(crate) is_together: bool,
+    /// How many firings each processor makes at most.
+    pub(crate) most: u64,
 }
 
 /// What each session sets, so that it records all firings.
@@ -26,46 +28,47 @@ const INTERESTED: &str = r#"{"cmd":"enable","text":"syscall::read:entry{trace(ar
 
 const OTHER: &str = r#"{"cmd":"enable","text":"fbt:genunix:f1:entry{trace(arg0)}"}"#;
 
-/// A processor fires its whole script.
-fn fires<J: HubSite, R: Wait>(rt: &R, hub: &Hub<J>, token: &mut CpuSeat<J>) -> u64 {
-    for count in 0..u64::MAX {
+/// A processor fires its script, so many places of it at most.
+fn fires<J: HubSite, R: Wait>(rt: &R, hub: &Hub<J>, token: &mut CpuSeat<J>, most: u64) -> u64 {
+    for count in 0..most {
         match hub.fire(rt, token, &NoGate) {
             Fired::End => return count,
             Fired::Refused | Fired::At(_) => {}
         }
     }
-    0
+    most
 }
 
-/// Two processors fire their whole scripts at the same time, each on a thread of its own.
+/// Two processors fire their scripts at the same time, each on a thread of its own.
 fn fire_together<J: HubSite + Send + Sync, R: Threads + Wait + Sync>(
     rt: &R,
     hub: &Hub<J>,
     one: &mut CpuSeat<J>,
     other: &mut CpuSeat<J>,
+    most: u64,
 ) -> u64 {
-    let (first, second) = join(rt, || fires(rt, hub, one), || fires(rt, hub, other));
+    let (first, second) = join(rt, || fires(rt, hub, one, most), || fires(rt, hub, other, most));
     first.wrapping_add(second)
 }
 
-/// Two processors fire their whole scripts, at the same time or one after the other.
+/// Two processors fire their scripts, at the same time or one after the other.
 fn both_fire<J: HubSite + Send + Sync, R: Threads + Wait + Sync>(
     rt: &R,
     hub: &Hub<J>,
     tokens: &mut Vec<CpuSeat<J>>,
-    is_together: bool,
+    scene: &Scene,
 ) -> u64 {
     let Some(mut one) = tokens.pop() else {
         return 0;
     };
     let Some(mut other) = tokens.pop() else {
-        return fires(rt, hub, &mut one);
+        return fires(rt, hub, &mut one, scene.most);
     };
-    if is_together {
-        return fire_together(rt, hub, &mut one, &mut other);
+    if scene.is_together {
+        return fire_together(rt, hub, &mut one, &mut other, scene.most);
     }
-    let first = fires(rt, hub, &mut other);
-    first.wrapping_add(fires(rt, hub, &mut one))
+    let first = fires(rt, hub, &mut other, scene.most);
+    first.wrapping_add(fires(rt, hub, &mut one, scene.most))
 }
 
 /// Asks a line, whatever is answered.
@@ -112,7 +115,7 @@ pub(crate) fn opens<J: HubSite + Send + Sync, R: Threads + Wait + Sync>(
     left: u64,
 ) -> u64 {
     if left == 0 {
-        return both_fire(rt, hub, tokens, scene.is_together);
+        return both_fire(rt, hub, tokens, scene);
     }
     let Ok(mut session) = hub.open(rt, alloc, b"root") else {
         return 0;
