@@ -11,7 +11,7 @@ ghost use Rattle.dt_cred.specs.declared.firing.Firing.{Firing};
 ghost use Rattle.dt_ecb.specs.Ecbs.{of_probe};
 ghost use Rattle.dt_legal.specs.Rows.{AreOfEcbs, IsGoAfter, IsLegalRow, life_of_row, past_of};
 ghost use Rattle.dt_life.specs.Answer.{Answer};
-ghost use Rattle.dt_life.specs.Life.{ecbs, phase};
+ghost use Rattle.dt_life.specs.Life.{ecbs, is_stopped, phase};
 ghost use Rattle.dt_life.specs.declared.phase.Phase.TheVariants.{Active};
 ghost use Rattle.dt_machine.specs.Registry.{Belongs, Contents, firing_at};
 ghost use Rattle.dt_machine.specs.Shown.{IsShown};
@@ -85,21 +85,21 @@ pub fn tracking_goes_on()
         → Tracks account contents cpu life writes trail knew → (row : List TrailItem) × IsShared account contents cpu trail knew row }
 {}
 
-/// Law: the writes of a seat are in order for a life of it that they don't name yet. They stay so as the life is published with exactly the probes of its ECBs, as another write
-/// comes while the life doesn't trace, and as the trail goes on, legally, and doesn't trace where the writes have come past the life.
+/// Law: the writes of a seat are in order for a life of it that they don't name yet. They stay so as the life, which hasn't stopped, is published with exactly the probes of its ECBs,
+/// as another write comes once the life has stopped, and as the trail goes on, legally.
 pub fn writes_stay_in_order()
     ensures new { (account : Account) (contents : Contents) (life : ℕ) (writes : List Write) (trail : List TrailItem)
         → stage life writes ≡ never → IsInOrder account contents life writes trail }
     ensures published { (account : Account) (contents : Contents) (life : ℕ) (writes : List Write) (trail : List TrailItem)
         (seat : ℕ) (probes : List Bool)
-        → AreOfEcbs account contents trail probes → IsInOrder account contents life writes trail
+        → AreOfEcbs account contents trail probes → is_stopped (phase account contents.registry (life_of_row account contents trail)) ≡ false
+        → IsInOrder account contents life writes trail
         → IsInOrder account contents life (writes ++ published seat life account probes ∷ []) trail }
     ensures ended { (account : Account) (contents : Contents) (life : ℕ) (writes : List Write) (trail : List TrailItem) (write : Write)
-        → IsOfOthers life write → phase account contents.registry (life_of_row account contents trail) ≢ Active
+        → IsOfOthers life write → is_stopped (phase account contents.registry (life_of_row account contents trail)) ≡ true
         → IsInOrder account contents life writes trail → IsInOrder account contents life (writes ++ write ∷ []) trail }
     ensures trail { (account : Account) (contents : Contents) (life : ℕ) (writes : List Write) (trail more : List TrailItem)
         → StartsWith more trail → IsLegalRow account contents more
-        → (stage life writes ≡ past → phase account contents.registry (life_of_row account contents more) ≢ Active)
         → IsInOrder account contents life writes trail → IsInOrder account contents life writes more }
 {}
 
@@ -113,7 +113,7 @@ pub fn go_stays_published()
 
 /// Law: a processor that knows nothing keeps track of each life, as far as the seat's writes are in order. It goes on to as it sees more writes; as it knows more items, and has seen the publication of a
 /// `go` among them; as it fires and its writes pass the life by, as they do where its look doesn't name the seat with the life; as the life is over and the processor sees all writes of the seat, which have come past it; and as its firing is offered to the life, and isn't
-/// seen there, or is, with all writes of the seat in order then. Where all writes of the seat are in order for the trail, its firings and the trail stand in one row.
+/// seen there, or is, with all writes of the seat in order then, or by a look that names the seat with the life. Where all writes of the seat are in order for the trail, its firings and the trail stand in one row.
 pub fn keeping_goes_on()
     ensures new { (account : Account) (contents : Contents) (cpu life : ℕ) (seen : List Write)
         → KeepsTrack account contents cpu life seen [] [] }
@@ -146,6 +146,16 @@ pub fn keeping_goes_on()
         → IsLegalRow account contents (more ++ fired cpu (length knew) ∷ []) → GoIsPublished account contents seat life more seen
         → KeepsTrack account contents cpu life seen known knew
         → KeepsTrack account contents cpu life seen (more ++ fired cpu (length knew) ∷ []) (knew ++ length known ∷ []) }
+    ensures offered { (account : Account) (contents : Contents) (cpu seat life : ℕ) (writes : List Write) (known more : List TrailItem) (knew : List ℕ)
+        (firing : Firing) (mask : SeatMask)
+        → IsMaskAfter contents.registry writes firing mask → life_at mask seat ≡ Some life
+        → StartsWith more known → own (cpu + 1) more ≡ own (cpu + 1) known → IsLegalRow account contents more
+        → phase account contents.registry (life_of_row account contents more) ≡ Active
+        → is_seen_after account contents more cpu (length knew) ≡ true
+        → IsLegalRow account contents (more ++ fired cpu (length knew) ∷ [])
+        → GoIsPublished account contents seat life more (writes_of writes seat)
+        → KeepsTrack account contents cpu life (writes_of writes seat) known knew
+        → KeepsTrack account contents cpu life (writes_of writes seat) (more ++ fired cpu (length knew) ∷ []) (knew ++ length known ∷ []) }
     ensures shared { (account : Account) (contents : Contents) (cpu life : ℕ) (seen all : List Write) (known trail : List TrailItem) (knew : List ℕ)
         → IsPrefix seen all → IsInOrder account contents life all trail
         → StartsWith trail known → own (cpu + 1) trail ≡ own (cpu + 1) known → IsLegalRow account contents trail

@@ -9,7 +9,9 @@ use Rattle.dt_chain.specs.declared.seat_mask.SeatMask.{SeatMask}
 use Rattle.dt_cred.specs.declared.account.Account.{Account}
 use Rattle.dt_cred.specs.declared.firing.Firing.{Firing}
 use Rattle.dt_legal.specs.Rows.{IsLegalRow, life_of_row}
-use Rattle.dt_life.specs.Life.{phase}
+use Rattle.dt_ecb.specs.Ecbs.{EcbForm, of_probe}
+use Rattle.dt_life.specs.Life.{ecbs, is_stopped, phase}
+use Rattle.dt_life.specs.declared.phase.Phase.{Phase}
 use Rattle.dt_life.specs.declared.phase.Phase.TheVariants.{Active}
 use Rattle.dt_machine.specs.Registry.{Contents, firing_at}
 use Rattle.dt_meeting.specs.Keeping.{GoIsPublished, KeepsTrack}
@@ -18,13 +20,18 @@ use Rattle.dt_meeting.specs.Sharing.{IsShared, is_seen_after}
 use Rattle.dt_meeting.specs.Stages.{Stage, never, named, past, stage}
 use Rattle.dt_meeting.specs.Tracking.{GoIsAnnounced, IsPassedBy, Tracks}
 use Rattle.dt_meeting.specs.laws.Announcing.{announced_fired, announced_on, published_is_announced}
-use Rattle.dt_meeting.specs.laws.Looking.{look_passes}
+use Rattle.dt_meeting.specs.laws.Going.{HasGone, active_has_gone}
+use Rattle.dt_meeting.specs.laws.Lasting.{ecbs_since}
+use Rattle.dt_meeting.specs.laws.Looking.{look_passes, mask_names}
 use Rattle.dt_meeting.specs.laws.Seen.{unseen_after_to}
 use Rattle.dt_meeting.specs.laws.Sharing.{shared_late}
-use Rattle.dt_meeting.specs.laws.Staging.{prefix_trans, stage_past}
+use Rattle.dt_meeting.specs.laws.Staging.{prefix_self, prefix_trans, stage_past}
 use Rattle.dt_meeting.specs.laws.Tracking.{at_most_still, grown, tracks_kept, tracks_known, tracks_new, tracks_passed, tracks_unseen, tracks_writes}
 use Rattle.dt_trail.specs.Items.{StartsWith, TrailItem, fired, own}
 use Rattle.dt_trail.specs.laws.Starts.{starts_trans}
+
+stopped_off : (p : Phase) → is_stopped p ≡ true → p ≢ Active
+stopped_off p is e = let bad : false ≡ true = sym (ap is_stopped e) ∙ is in cc bad
 
 module _ (account : Account) (contents : Contents) where
   -- nothing is known yet
@@ -125,8 +132,52 @@ module _ (account : Account) (contents : Contents) where
     where
       still : stage life seen ≢ past
       still e =
-          let off = now.ended (stage_past life seen all begins e) in
+          let off = stopped_off _ (now.ended (stage_past life seen all begins e)) in
           let bad : true ≡ false = sym seen_there ∙ quiet more cpu off (length knew) in cc bad
+
+  -- Where writes are in order for a trail, those before them that haven't come past the life are in order for each earlier trail that traces.
+  earlier_in_order : (life : ℕ) (seen writes : List Write) (more trail : List TrailItem) → IsPrefix seen writes → stage life seen ≢ past
+      → StartsWith trail more → IsLegalRow account contents more → IsLegalRow account contents trail
+      → phase account contents.registry (life_of_row account contents more) ≡ Active
+      → IsInOrder account contents life writes trail → IsInOrder account contents life seen more
+  earlier_in_order life seen writes more trail b still t legal longer on h = record {
+    its_account = λ before at by probes p.
+        h.its_account before at by probes (prefix_trans (before ++ published at life by probes ∷ []) seen writes p b);
+    growing = λ shorter later fewer other s l es el. h.growing shorter later fewer other s (prefix_trans later seen writes l b) es el;
+    enabled = λ beginning probes p e id n.
+        subst (λ (l : List EcbForm). of_probe id l ≢ []) alike
+        (h.enabled beginning probes (prefix_trans beginning seen writes p b) e id n);
+    once = λ before write p e. h.once before write (prefix_trans (before ++ write ∷ []) seen writes p b) e;
+    ended = λ e. absurd (still e);
+  }
+    where
+      gone : HasGone account contents more
+      gone = active_has_gone account contents more legal on
+
+      alike : ecbs account contents.registry (life_of_row account contents trail) ≡ ecbs account contents.registry (life_of_row account contents more)
+      alike =
+          ecbs_since account contents trail gone.before gone.item longer
+          (starts_trans trail more (gone.before ++ gone.item ∷ []) t gone.begins) gone.mine gone.go
+          ∙ sym gone.same
+
+  -- the firing is offered after this trail, as a look names the seat with the life, and kept
+  pub keeps_offered : (cpu seat life : ℕ) (writes : List Write) (known more : List TrailItem) (knew : List ℕ) (firing : Firing) (mask : SeatMask)
+      → IsMaskAfter contents.registry writes firing mask → life_at mask seat ≡ Some life
+      → StartsWith more known → own (cpu + 1) more ≡ own (cpu + 1) known → IsLegalRow account contents more
+      → phase account contents.registry (life_of_row account contents more) ≡ Active
+      → is_seen_after account contents more cpu (length knew) ≡ true
+      → IsLegalRow account contents (more ++ fired cpu (length knew) ∷ [])
+      → GoIsPublished account contents seat life more (writes_of writes seat)
+      → KeepsTrack account contents cpu life (writes_of writes seat) known knew
+      → KeepsTrack account contents cpu life (writes_of writes seat) (more ++ fired cpu (length knew) ∷ []) (knew ++ length known ∷ [])
+  keeps_offered cpu seat life writes known more knew firing mask look named_there a alike whole on seen_there longer told h all trail b t same legal order =
+      let seen = writes_of writes seat in
+      let still = mask_names contents life seat writes firing mask look named_there
+      (λ before write p. order.once before write (prefix_trans (before ++ write ∷ []) seen all p b)) in
+      let there = starts_trans trail (more ++ fired cpu (length knew) ∷ []) more t (fired cpu (length knew) ∷ [], refl) in
+      keeps_kept cpu seat life seen seen known more knew (prefix_self seen)
+      (earlier_in_order life seen all more trail b still there whole legal on order)
+      a alike whole seen_there longer told h all trail b t same legal order
 
   -- under both locks, all writes of the seat and its trail are at hand
   pub keeps_shared : (cpu life : ℕ) (seen all : List Write) (known trail : List TrailItem) (knew : List ℕ)
@@ -142,7 +193,7 @@ module _ (account : Account) (contents : Contents) where
             (sym (tracks.all ∙ ap (λ (l : List ℕ). tracks.early ++ l) e ∙ append-nil tracks.early)) early,
       ))
       (λ (e : stage life seen ≡ past).
-      let none = quiet trail cpu (now.ended (stage_past life seen all begins e)) in
+      let none = quiet trail cpu (stopped_off _ (now.ended (stage_past life seen all begins e))) in
       let few = at_most_still tracks.late (length known) (length trail) tracks.few (omega (arith, ap length a.1, length-append known a.0)) in
       let r = shared_late account contents cpu trail tracks.early tracks.late (tracks.shared ++ a.0) early none few in
       (r.0, subst (λ (l : List ℕ). IsShared account contents cpu trail l r.0) (sym tracks.all) r.1))

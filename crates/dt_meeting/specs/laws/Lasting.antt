@@ -7,7 +7,7 @@ use Rattle.dt_legal.specs.Rows.{IsGoAfter, IsLegalRow, life_of_row, line_form_of
 use Rattle.dt_legal.specs.laws.Beginning.{past_of_last}
 use Rattle.dt_life.specs.Ask.{Ask, option, enable, go, stop, snap, agg, trunc, status, list, describe, close}
 use Rattle.dt_life.specs.Ending.{phase_by_item}
-use Rattle.dt_life.specs.Life.{Item, SetUp, after_item, asked, ecbs, end_by, has_room, is_inactive, phase, phase_of, set_up, since_then, with_event}
+use Rattle.dt_life.specs.Life.{Item, SetUp, after_item, asked, ecbs, end_by, has_room, is_inactive, is_stopped, phase, phase_of, set_up, since_then, with_event}
 use Rattle.dt_life.specs.Life.{fired as fired_item}
 use Rattle.dt_life.specs.Takings.{began, seen}
 use Rattle.dt_life.specs.declared.phase.End.{End}
@@ -124,3 +124,15 @@ module _ (account : Account) (contents : Contents) where
       ap (λ (l : List TrailItem). ecbs account contents.registry (Lived l)) begins.1
       ∙ (lasting (before ++ item ∷ []) begins.0 (subst (IsLegalRow account contents) begins.1 legal) (go_begins before item mine accepted)).same
       ∙ go_has before item mine accepted
+
+  -- A row that has stopped stays so.
+  pub stopped_still : (row before : List TrailItem) → StartsWith row before → IsLegalRow account contents row
+      → is_stopped (PhaseOf before) ≡ true → is_stopped (PhaseOf row) ≡ true
+  stopped_still row before begins legal is = by_phase (PhaseOf before) refl
+    where
+      by_phase : (p : Phase) → PhaseOf before ≡ p → is_stopped (PhaseOf row) ≡ true
+      by_phase Inactive e = absurd (let bad : false ≡ true = sym (ap is_stopped e) ∙ is in cc bad)
+      by_phase Active e = absurd (let bad : false ≡ true = sym (ap is_stopped e) ∙ is in cc bad)
+      by_phase (Stopped cause) e =
+          ap (λ (l : List TrailItem). is_stopped (PhaseOf l)) begins.1
+          ∙ ap is_stopped ((lasting before begins.0 (subst (IsLegalRow account contents) begins.1 legal) (ap is_inactive e)).stopped cause e)

@@ -14,6 +14,7 @@ use Rattle.dt_cred.specs.declared.account.Account.{Account}
 use Rattle.dt_cred.specs.declared.firing.Firing.{Firing}
 use Rattle.dt_machine.specs.Registry.{Contents, firing_at}
 use Rattle.dt_machine.specs.Shown.{IsShown}
+use Rattle.dt_meeting.specs.Order.{IsOfOthers}
 use Rattle.dt_meeting.specs.Stages.{Stage, named, past, never, stage}
 use Rattle.dt_meeting.specs.Tracking.{IsPassedBy}
 use Rattle.dt_meeting.specs.laws.Staging.{named_by_last, prefix_self, unnamed_by_last}
@@ -94,6 +95,90 @@ named_last life seat (write ∷ earlier) probes e =
           ends = same ∙ rest.ends;
           shows = by_write write mine ∙ rest.shows;
         }
+
+-- Where a seat is published, its last write is the publication.
+published_last : (seat : ℕ) (newest : List Write) (p : Published) → published_on newest seat ≡ Some p
+    → (before : List Write) × (writes_of (reverse newest) seat ≡ before ++ published seat p.life p.account p.probes ∷ [])
+published_last seat [] p e = absurd (let bad : None ≡ Some p = e in cc bad)
+published_last seat (write ∷ earlier) p e =
+    by_seat (λ t. published_last seat earlier p t) write refl (seat_of write == seat) refl
+  where
+    Ends : List Write → Type 0
+    Ends own = (before : List Write) × (own ≡ before ++ published seat p.life p.account p.probes ∷ [])
+
+    older : List Write
+    older = writes_of (reverse earlier) seat
+
+    of_seat : (b : Bool) → seat_of write == seat ≡ b → writes_of (reverse (write ∷ earlier)) seat ≡ older ++ cond b (write ∷ []) []
+    of_seat b is =
+        ap (λ (l : List Write). writes_of l seat) (reverse-append (write ∷ []) earlier)
+        ∙ filter-append (λ (w : Write). seat_of w == seat) (reverse earlier) (write ∷ [])
+        ∙ ap (λ (c : Bool). older ++ cond c (write ∷ []) []) is
+
+    passed : (published_on earlier seat ≡ Some p → Ends (writes_of (reverse earlier) seat))
+        → writes_of (reverse (write ∷ earlier)) seat ≡ older → published_on (write ∷ earlier) seat ≡ published_on earlier seat
+        → Ends (writes_of (reverse (write ∷ earlier)) seat)
+    passed rest_of own shows = let rest = rest_of (sym shows ∙ e) in (rest.0, own ∙ rest.1)
+
+    by_seat : (published_on earlier seat ≡ Some p → Ends (writes_of (reverse earlier) seat)) → (w : Write) → write ≡ w → (b : Bool)
+        → seat_of write == seat ≡ b → Ends (writes_of (reverse (write ∷ earlier)) seat)
+    by_seat rest_of (published at other by found) is true mine =
+        let at_seat : at == seat ≡ true = ap (λ (v : Write). seat_of v == seat) (sym is) ∙ mine in
+        let here : at ≡ seat = eqb-true at seat at_seat in
+        let shown : Some (published_as other by found) ≡ Some p =
+        sym (ap (λ (v : Write). published_on (v ∷ earlier) seat) is
+        ∙ ap (λ (b : Bool). cond b (Some (published_as other by found)) (published_on earlier seat)) at_seat)
+        ∙ e in
+        let same : published_as other by found ≡ p = cc shown in
+        let one : write ≡ published seat other by found = is ∙ ap (λ (n : ℕ). published n other by found) here in
+        let two : published seat other by found ≡ published seat p.life p.account p.probes =
+        ap (λ (q : Published). published seat q.life q.account q.probes) same in
+        (older, of_seat true mine ∙ ap (λ (v : Write). older ++ v ∷ []) (one ∙ two))
+    by_seat rest_of (withdrawn at) is true mine =
+        let at_seat : at == seat ≡ true = ap (λ (v : Write). seat_of v == seat) (sym is) ∙ mine in
+        let none : None ≡ Some p =
+        sym (ap (λ (v : Write). published_on (v ∷ earlier) seat) is ∙ ap (λ (b : Bool). cond b None (published_on earlier seat)) at_seat) ∙ e in
+        absurd (cc none)
+    by_seat rest_of (published at other by found) is false mine =
+        let off : at == seat ≡ false = ap (λ (v : Write). seat_of v == seat) (sym is) ∙ mine in
+        passed rest_of (of_seat false mine ∙ append-nil older)
+        (ap (λ (v : Write). published_on (v ∷ earlier) seat) is
+        ∙ ap (λ (b : Bool). cond b (Some (published_as other by found)) (published_on earlier seat)) off)
+    by_seat rest_of (withdrawn at) is false mine =
+        let off : at == seat ≡ false = ap (λ (v : Write). seat_of v == seat) (sym is) ∙ mine in
+        passed rest_of (of_seat false mine ∙ append-nil older)
+        (ap (λ (v : Write). published_on (v ∷ earlier) seat) is ∙ ap (λ (b : Bool). cond b None (published_on earlier seat)) off)
+
+-- A look that names a seat with a life hasn't come past it, if a life that is past isn't published again.
+pub mask_names : (contents : Contents) (life seat : ℕ) (writes : List Write) (firing : Firing) (mask : SeatMask)
+    → IsMaskAfter contents.registry writes firing mask → life_at mask seat ≡ Some life
+    → ((before : List Write) (write : Write) → IsPrefix (before ++ write ∷ []) (writes_of writes seat) → stage life before ≡ past
+    → IsOfOthers life write)
+    → stage life (writes_of writes seat) ≢ past
+mask_names contents life seat writes firing mask look named_there once over =
+    by_option (published_on (reverse writes) seat) refl ((look.exactly seat life).0 named_there)
+  where
+    Shows : Option Published → Type 0
+    Shows o = IsSomeAnd o (λ publication. (publication.life ≡ life) × NamesFiring contents.registry publication firing)
+
+    mine : writes_of (reverse (reverse writes)) seat ≡ writes_of writes seat
+    mine = ap (λ (l : List Write). writes_of l seat) (reverse-reverse writes)
+
+    by_option : (o : Option Published) → published_on (reverse writes) seat ≡ o → Shows o → ⊥
+    by_option None e h = absurd h
+    by_option (Some p) e h =
+        let last = published_last seat (reverse writes) p e in
+        let own : writes_of writes seat ≡ last.0 ++ published seat life p.account p.probes ∷ [] =
+        sym mine ∙ last.1 ∙ ap (λ (l : ℕ). last.0 ++ published seat l p.account p.probes ∷ []) h.0 in
+        let there : stage life (last.0 ++ published seat life p.account p.probes ∷ []) ≡ past = sym (ap (stage life) own) ∙ over in
+        ⊎_elim
+        (λ (t : stage life (last.0 ++ published seat life p.account p.probes ∷ []) ≡ named p.probes).
+        let bad : named p.probes ≡ past = sym t ∙ there in cc bad)
+        (λ (t : (stage life last.0 ≡ past) × (stage life (last.0 ++ published seat life p.account p.probes ∷ []) ≡ past)).
+        once last.0 (published seat life p.account p.probes)
+        (subst (IsPrefix (last.0 ++ published seat life p.account p.probes ∷ [])) (sym own)
+        (prefix_self (last.0 ++ published seat life p.account p.probes ∷ []))) t.0 refl)
+        (named_by_last life last.0 seat p.account p.probes)
 
 module _ (account : Account) (contents : Contents) where
   -- a look that doesn't name the seat with the life passes the life by

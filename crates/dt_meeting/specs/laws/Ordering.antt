@@ -1,18 +1,18 @@
 -- Writes that are in order, as they and the trail go on.
-use Rattle.std.proofs.Common.{◌≡◌, ◌≢◌, ℕ, Bool, List, [], ◌∷◌, ◌++◌, refl, sym, ap, ◌∙◌, subst, ⊎_elim}
+use Rattle.std.proofs.Common.{◌≡◌, ◌≢◌, ℕ, Bool, true, false, List, [], ◌∷◌, ◌++◌, refl, sym, ap, ◌∙◌, subst, ⊎_elim}
 use mathlib.Core.List.{IsPrefix}
 use Rattle.dt_chain.specs.Writes.{Write, published}
 use Rattle.dt_cred.specs.declared.account.Account.{Account}
 use Rattle.dt_ecb.specs.Ecbs.{of_probe}
 use Rattle.dt_legal.specs.Rows.{AreOfEcbs, IsLegalRow, life_of_row}
-use Rattle.dt_life.specs.Life.{ecbs, phase}
-use Rattle.dt_life.specs.declared.phase.Phase.TheVariants.{Active}
+use Rattle.dt_life.specs.Life.{ecbs, is_stopped, phase}
 use Rattle.dt_machine.specs.Interest.{Names}
 use Rattle.dt_machine.specs.Registry.{Contents}
 use Rattle.dt_meeting.specs.Order.{IsInOrder, IsOfOthers}
 use Rattle.dt_meeting.specs.Stages.{named, past, never, stage}
 use Rattle.dt_meeting.specs.laws.Enabling.{names_still}
-use Rattle.dt_meeting.specs.laws.Staging.{last_of, named_by_last, never_before, prefix_of_last, unnamed_by_last}
+use Rattle.dt_meeting.specs.laws.Lasting.{stopped_still}
+use Rattle.dt_meeting.specs.laws.Staging.{front_of, last_of, named_by_last, never_before, prefix_of_last, prefix_trans, unnamed_by_last}
 use Rattle.dt_trail.specs.Items.{StartsWith, TrailItem}
 
 same_probes : (some other : List Bool) → named some ≡ named other → some ≡ other
@@ -38,14 +38,18 @@ module _ (account : Account) (contents : Contents) where
         let bad : never ≡ named more = sym (never_before life longer writes l is) ∙ el in absurd (cc bad);
     enabled = λ beginning probes b e id n none.
         let bad : never ≡ named probes = sym (never_before life beginning writes b is) ∙ e in cc bad;
-    ended = λ e active. let bad : never ≡ past = sym is ∙ e in cc bad;
+    once = λ before write b e.
+        let none = never_before life before writes (prefix_trans before (before ++ write ∷ []) writes (write ∷ [], refl) b) is in
+        absurd (let bad : never ≡ past = sym none ∙ e in cc bad);
+    ended = λ e. absurd (let bad : never ≡ past = sym is ∙ e in cc bad);
   }
 
-  -- the life is published with exactly the probes of its ECBs
+  -- the life, which hasn't stopped, is published with exactly the probes of its ECBs
   pub in_order_published : (life : ℕ) (writes : List Write) (trail : List TrailItem) (seat : ℕ) (probes : List Bool)
-      → AreOfEcbs account contents trail probes → IsInOrder account contents life writes trail
+      → AreOfEcbs account contents trail probes → is_stopped (phase account contents.registry (life_of_row account contents trail)) ≡ false
+      → IsInOrder account contents life writes trail
       → IsInOrder account contents life (writes ++ published seat life account probes ∷ []) trail
-  in_order_published life writes trail seat probes exact h = record {
+  in_order_published life writes trail seat probes exact going h = record {
     its_account = λ before other by found b.
         ⊎_elim (λ (t : IsPrefix (before ++ published other life by found ∷ []) writes). h.its_account before other by found t)
         (λ (t : before ++ published other life by found ∷ [] ≡ all).
@@ -58,6 +62,11 @@ module _ (account : Account) (contents : Contents) where
         ((exact id).1 (enabled shorter fewer (subst (IsPrefix shorter) t s) es id n)))
         (prefix_of_last longer writes (published seat life account probes) l);
     enabled = enabled;
+    once = λ before write b e.
+        ⊎_elim (λ (t : IsPrefix (before ++ write ∷ []) writes). h.once before write t e)
+        (λ (t : before ++ write ∷ [] ≡ all).
+        absurd (still (ap (stage life) (sym (front_of before writes write (published seat life account probes) t)) ∙ e)))
+        (prefix_of_last (before ++ write ∷ []) writes (published seat life account probes) b);
     ended = λ e.
         ⊎_elim (λ (t : stage life all ≡ named probes). absurd (let bad : named probes ≡ past = sym t ∙ e in cc bad))
         (λ (t : (stage life writes ≡ past) × (stage life all ≡ past)). h.ended t.0)
@@ -66,6 +75,9 @@ module _ (account : Account) (contents : Contents) where
     where
       all : List Write
       all = writes ++ published seat life account probes ∷ []
+
+      still : stage life writes ≢ past
+      still e = let bad : false ≡ true = sym going ∙ h.ended e in cc bad
 
       probes_are : (found : List Bool) → stage life all ≡ named found → probes ≡ found
       probes_are found e =
@@ -81,9 +93,9 @@ module _ (account : Account) (contents : Contents) where
           (exact id).0 (subst (λ (ps : List Bool). Names ps id) (sym (probes_are found (ap (stage life) (sym t) ∙ e))) n))
           (prefix_of_last beginning writes (published seat life account probes) b)
 
-  -- another write comes, as the life doesn't trace
+  -- another write comes, as the life has stopped
   pub in_order_ended : (life : ℕ) (writes : List Write) (trail : List TrailItem) (write : Write) → IsOfOthers life write
-      → phase account contents.registry (life_of_row account contents trail) ≢ Active → IsInOrder account contents life writes trail
+      → is_stopped (phase account contents.registry (life_of_row account contents trail)) ≡ true → IsInOrder account contents life writes trail
       → IsInOrder account contents life (writes ++ write ∷ []) trail
   in_order_ended life writes trail write others off h = record {
     its_account = λ before other by found b.
@@ -99,17 +111,21 @@ module _ (account : Account) (contents : Contents) where
         ⊎_elim (λ (t : IsPrefix beginning writes). h.enabled beginning probes t e id n)
         (λ (t : beginning ≡ writes ++ write ∷ []). absurd (unnamed_by_last life writes write probes others (ap (stage life) (sym t) ∙ e)))
         (prefix_of_last beginning writes write b);
+    once = λ before last b e.
+        ⊎_elim (λ (t : IsPrefix (before ++ last ∷ []) writes). h.once before last t e)
+        (λ (t : before ++ last ∷ [] ≡ writes ++ write ∷ []). subst (IsOfOthers life) (sym (last_of before writes last write t)) others)
+        (prefix_of_last (before ++ last ∷ []) writes write b);
     ended = λ e. off;
   }
 
   -- the trail goes on
   pub in_order_trail : (life : ℕ) (writes : List Write) (trail more : List TrailItem) → StartsWith more trail → IsLegalRow account contents more
-      → (stage life writes ≡ past → phase account contents.registry (life_of_row account contents more) ≢ Active)
       → IsInOrder account contents life writes trail → IsInOrder account contents life writes more
-  in_order_trail life writes trail more begins legal off h = record {
+  in_order_trail life writes trail more begins legal h = record {
     its_account = h.its_account;
     growing = h.growing;
     enabled = λ beginning probes b e id n.
         names_still account contents more trail id begins legal (h.enabled beginning probes b e id n);
-    ended = off;
+    once = h.once;
+    ended = λ e. stopped_still account contents more trail begins legal (h.ended e);
   }

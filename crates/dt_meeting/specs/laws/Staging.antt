@@ -115,6 +115,19 @@ prefix_of_last (x ∷ xs) (y ∷ ys) write a =
     (λ (t : xs ≡ ys ++ write ∷ []). inr (cc (head, t)))
     (prefix_of_last xs ys write (a.0, cc e))
 
+-- two lists that are the same with a last write more
+pub front_of : (xs ys : List Write) (x y : Write) → xs ++ x ∷ [] ≡ ys ++ y ∷ [] → xs ≡ ys
+front_of [] [] x y e = refl
+front_of [] (b ∷ []) x y e = let e1 : x ∷ [] ≡ b ∷ y ∷ [] = e in absurd (cc e1)
+front_of [] (b ∷ c ∷ ys) x y e = let e1 : x ∷ [] ≡ b ∷ c ∷ (ys ++ y ∷ []) = e in absurd (cc e1)
+front_of (a ∷ []) [] x y e = let e1 : a ∷ x ∷ [] ≡ y ∷ [] = e in absurd (cc e1)
+front_of (a ∷ c ∷ xs) [] x y e = let e1 : a ∷ c ∷ (xs ++ x ∷ []) ≡ y ∷ [] = e in absurd (cc e1)
+front_of (a ∷ xs) (b ∷ ys) x y e =
+    let e1 : a ∷ (xs ++ x ∷ []) ≡ b ∷ (ys ++ y ∷ []) = e in
+    let head : a ≡ b = cc e1 in
+    let rest : xs ≡ ys = front_of xs ys x y (cc e1) in
+    λ i. head i ∷ rest i
+
 -- the last writes of two lists that are the same
 pub last_of : (xs ys : List Write) (x y : Write) → xs ++ x ∷ [] ≡ ys ++ y ∷ [] → x ≡ y
 last_of [] [] x y e = let e1 : x ∷ [] ≡ y ∷ [] = e in cc e1
