@@ -1,11 +1,10 @@
 //! How a session asks a line of the consumer on its seat.
-ghost use Rattle.std.specs.Prelude.{◌≡◌, ◌≢◌, ◌≤◌, ◌↔◌, true, List, IfOk, IfSome, IsTrue, MatchOption, OnOk, OnErr, Contains};
+ghost use Rattle.std.specs.Prelude.{◌≡◌, ◌≤◌, true, false, List, IfOk, IfSome, MatchOption, OnOk, OnErr, Contains};
 ghost use mathlib.Core.List.{IsPrefix};
 ghost use Rattle.dt_chain.specs.Writes.{Write as ChainWrite};
 ghost use Rattle.dt_consumer.specs.StandsFor.{StandsFor};
 ghost use Rattle.dt_cred.specs.declared.account.Account.{Account};
-ghost use Rattle.dt_life.specs.Life.{Item, phase};
-ghost use Rattle.dt_life.specs.declared.phase.Phase.TheVariants.{Active};
+ghost use Rattle.dt_life.specs.Life.{Item, is_stopped, phase};
 ghost use Rattle.dt_machine.specs.Registry.{Registry};
 ghost use Rattle.dt_seat.specs.Publications.{EndsWithdrawn, IsPublicationAfter, writes_seen};
 ghost use Rattle.dt_seat.specs.Seats.{TrailGoesOn, IsRepliedTo};
@@ -74,14 +73,14 @@ pub(crate) fn withdraw<J: HubSite, R: Wait>(
     }
 }
 
-/// Whether a consumer is tracing.
-fn is_active(consumer: &Consumer) -> bool
+/// Whether a consumer traces no more, for good.
+fn has_stopped(consumer: &Consumer) -> bool
     ensures { (account : Account) (registry : Registry) (life : List Item) → StandsFor account registry consumer.now life
-        → (IsTrue result ↔ (phase account registry life ≡ Active)) }
+        → result ≡ is_stopped (phase account registry life) }
 {
     match consumer.phase() {
-        Phase::Active => true,
-        Phase::Inactive | Phase::Stopped(_) => false,
+        Phase::Stopped(_) => true,
+        Phase::Inactive | Phase::Active => false,
     }
 }
 
@@ -120,8 +119,8 @@ fn make_ready<J: HubSite, R: Wait>(
     Ok(Some(front))
 }
 
-/// Withdraws what the session published, once its consumer traces no more, and answers what is then published. It takes its interest for withdrawn
-/// only then.
+/// Withdraws what the session published, once its consumer has stopped, and answers what is then published. It takes its interest for withdrawn
+/// only then. What a `go` published that was refused for memory stays until then, or until the next `go` is published.
 fn retire<J: HubSite, R: Wait>(
     rt: &R,
     chains: &Mutex<ChainWriter<J>>,
@@ -130,11 +129,12 @@ fn retire<J: HubSite, R: Wait>(
 ) -> Option<Front<J>>
     ensures same { (present.new.account ≡ present.old.account) × (present.new.owner ≡ present.old.owner)
         × (present.new.consumer ≡ present.old.consumer) }
-    ensures withdrawn { MatchOption result (present.new.is_published ≡ present.old.is_published) (EndsWithdrawn number) }
-    ensures ended { IfSome result (λ _. (account : Account) (registry : Registry) (life : List Item)
-        → StandsFor account registry present.old.consumer life → phase account registry life ≢ Active) }
+    ensures withdrawn { MatchOption result (present.new.is_published ≡ present.old.is_published) (λ front. EndsWithdrawn number front
+        × (present.old.is_published ≡ true) × (present.new.is_published ≡ false)) }
+    ensures stopped { IfSome result (λ _. (account : Account) (registry : Registry) (life : List Item)
+        → StandsFor account registry present.old.consumer life → is_stopped (phase account registry life) ≡ true) }
 {
-    if !present.is_published || is_active(&present.consumer) {
+    if !present.is_published || !has_stopped(&present.consumer) {
         return None;
     }
     let withdrawn = withdraw(rt, chains, number);

@@ -7,7 +7,7 @@ use std::process::Abort;
 use std::sync::Wait;
 use std::test::Fail;
 
-const CLOSE: &str = r#"{"cmd":"close"}"#;
+pub(crate) const CLOSE: &str = r#"{"cmd":"close"}"#;
 
 const STATUS: &str = r#"{"cmd":"status"}"#;
 

@@ -1,5 +1,6 @@
 //! What was published goes, though its `go` was refused for memory.
 use crate::calls::{Play, answered, both, opened, run, says};
+use crate::endings::CLOSE;
 use crate::paths::{DONE, ENABLE, ENABLED, GO, MACHINE, STOP, looks};
 use dt_hub::{CpuSeat, Hub, HubSite, Session};
 use std::alloc::Global;
@@ -26,13 +27,25 @@ fn traces_alone<J: HubSite, R: Wait + Abort>(
     looks(rt, hub, token, 1, 0);
 }
 
-/// A session asks a `go`, whose publication is the first write of its hub: for that one alone the chains take memory when it stands in the list of all writes, and
-/// `rt try --test --fail-alloc` can have that refused. Whether or not it is, after the session's next line, or once it has closed, nothing of it stays published.
-struct GoesAgain {
-    closes: bool,
+/// What a session does once it has asked a `go`.
+#[derive(Clone, Copy)]
+enum Then {
+    /// It is closed.
+    Closes,
+    /// It asks a `close`, which stops it before it has traced, if its `go` was refused.
+    AsksClose,
+    /// It asks the `go` again, and then a `stop`.
+    GoesAgain,
 }
 
-impl Play for GoesAgain {
+/// A session asks a `go`, whose publication is the first write of its hub: for that one alone the chains take memory when it stands in the list of all writes, and
+/// `rt try --test --fail-alloc` can have that refused. Whether or not it is, once the session has stopped, or has closed, nothing of it stays published.
+#[derive(Clone, Copy)]
+struct AfterGo {
+    then: Then,
+}
+
+impl Play for AfterGo {
     fn play<J: HubSite, R: Wait + Abort>(
         &self,
         rt: &R,
@@ -44,13 +57,22 @@ impl Play for GoesAgain {
         let mut first = enabled(rt, alloc, hub);
         let mut second = enabled(rt, alloc, hub);
         drop(answered(rt, alloc, hub, &mut first, GO));
-        if self.closes {
-            hub.close(rt, first);
-            traces_alone(rt, alloc, hub, &mut second, &mut one);
-        } else {
-            drop(answered(rt, alloc, hub, &mut first, STOP));
-            traces_alone(rt, alloc, hub, &mut second, &mut one);
-            hub.close(rt, first);
+        match self.then {
+            Then::Closes => {
+                hub.close(rt, first);
+                traces_alone(rt, alloc, hub, &mut second, &mut one);
+            }
+            Then::AsksClose => {
+                drop(answered(rt, alloc, hub, &mut first, CLOSE));
+                traces_alone(rt, alloc, hub, &mut second, &mut one);
+                hub.close(rt, first);
+            }
+            Then::GoesAgain => {
+                drop(answered(rt, alloc, hub, &mut first, GO));
+                drop(answered(rt, alloc, hub, &mut first, STOP));
+                traces_alone(rt, alloc, hub, &mut second, &mut one);
+                hub.close(rt, first);
+            }
         }
         hub.close(rt, second);
         Ok(())
@@ -58,11 +80,18 @@ impl Play for GoesAgain {
 }
 
 #[test]
-fn a_refused_go_is_withdrawn_with_the_next_line(rt: HostRuntime) -> Result<(), Fail> {
-    run(&rt, rt.alloc(), MACHINE, &GoesAgain { closes: false })
+fn a_refused_go_is_withdrawn_as_its_session_closes(rt: HostRuntime) -> Result<(), Fail> {
+    run(&rt, rt.alloc(), MACHINE, &AfterGo { then: Then::Closes })
 }
 
 #[test]
-fn a_refused_go_is_withdrawn_as_its_session_closes(rt: HostRuntime) -> Result<(), Fail> {
-    run(&rt, rt.alloc(), MACHINE, &GoesAgain { closes: true })
+fn a_refused_go_is_withdrawn_with_its_close(rt: HostRuntime) -> Result<(), Fail> {
+    let then = Then::AsksClose;
+    run(&rt, rt.alloc(), MACHINE, &AfterGo { then })
+}
+
+#[test]
+fn a_refused_go_is_withdrawn_with_the_stop_after_the_next(rt: HostRuntime) -> Result<(), Fail> {
+    let then = Then::GoesAgain;
+    run(&rt, rt.alloc(), MACHINE, &AfterGo { then })
 }
