@@ -1,5 +1,5 @@
 -- Where a processor's own firings stand in what it knows.
-use Rattle.std.proofs.Common.{◌≡◌, ◌+◌, ◌==◌, ℕ, Bool, true, false, cond, List, [], ◌∷◌, ◌++◌, sym, ◌∙◌, subst, arith, Option, Some, None}
+use Rattle.std.proofs.Common.{◌≡◌, ◌+◌, ◌==◌, ℕ, Bool, true, false, cond, List, [], ◌∷◌, ◌++◌, sym, ◌∙◌, subst, ⊎_elim, arith, Option, Some, None}
 use Rattle.std.specs.List.{AllByRecursion}
 use Rattle.dt_cred.specs.declared.account.Account.{Account}
 use Rattle.dt_cred.specs.declared.firing.Firing.{Firing}
@@ -7,7 +7,7 @@ use Rattle.dt_facts.specs.declared.fact.LastNote.{LastNote}
 use Rattle.dt_hub.specs.Processors.{IsAtSeat}
 use Rattle.dt_legal.specs.Rows.{AreBelowPlace, IsAtLowerPlace}
 use Rattle.dt_machine.specs.Registry.{Contents}
-use Rattle.dt_seat.specs.Keeps.{Followed, known_by, noted_in, noted_of}
+use Rattle.dt_seat.specs.Keeps.{Followed, Forgets, known_by, noted_in, noted_of}
 use Rattle.dt_seat.specs.Receipts.{HasHeard, Received}
 use Rattle.dt_seat.specs.Seats.{ComesOfFiring, HasNote, kept_items}
 use Rattle.dt_seat.specs.declared.held.Held.{Held}
