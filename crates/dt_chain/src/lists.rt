@@ -13,9 +13,7 @@ use dt_machine::{BitWord, INTEREST_WORDS, Interest, PROBE_ID_MAX, WORD_BITS};
 use std::alloc::{AllocError, Global};
 
 /// A list for each identifier of a probe from 0 on.
-pub(crate) const LISTS: usize = 4099;
-
-const _: () = prove!(LISTS == PROBE_ID_MAX as usize + 1);
+pub(crate) const LISTS: usize = PROBE_ID_MAX as usize + 1;
 
 /// For each probe the seats that are interested in it, and for each seat the probes in whose lists it stands, so that
 /// only these are touched where its interest changes.
