@@ -85,6 +85,18 @@ impl<J: Site> ChainWriter<J> {
         }
     }
 
+    /// Any front of the site begins `writes`, whoever has it: this writer alone adds to the list. So while the writer is held, what
+    /// any reader has seen or was told is a beginning of all writes. It takes no memory and can't fail.
+    pub fn whole(&mut self, front: &Front<J>)
+        ensures same { self.new ≡ self.old }
+        ensures whole { IsPrefix front.now self.new.writes }
+    {
+        match &mut self.press {
+            Some(press) => press.whole(front),
+            None => unreachable!(),
+        }
+    }
+
     /// A reader for one processor, which has seen and was told nothing yet. It takes no memory.
     ///
     /// `Err`: there are as many readers as the chains were made for.

@@ -2,7 +2,7 @@
 ghost use Rattle.std.specs.Prelude.{◌<◌, ◌^◌, ◌⊎◌, ◌≡◌, ◌++◌, ◌∷◌, [], false, IfOk, OnOk, OnErr};
 ghost use mathlib.Core.List.{IsPrefix};
 
-use crate::book::{Ledger, Site};
+use crate::book::{Author, Ledger, Site};
 use crate::chain_copy::{Addition, ChainCopy};
 use crate::chain_reader::ChainReader;
 use crate::chain_rule::{InnerWriter, SeesWrites};
@@ -18,10 +18,9 @@ use std::sync::Wait;
 /// It is not `Drop`: end it by `end`.
 pub(crate) struct Press<J: Site> {
     inner: InnerWriter<J>,
-    ledger: Ledger,
+    author: Author,
     /// No write: what a new reader has seen.
     origin: Front<J>,
-    writes: Front<J>,
     waiting: Option<Addition>,
 }
 
@@ -33,13 +32,13 @@ impl<J: Site> Model for Press<J> {
 
     ghost view = { λ press. record {
       published = press.inner.desk.shown.value.mark.log;
-      writes = press.writes;
+      writes = press.author.log;
       waits = is_some press.waiting;
     } };
 
-    ghost invariant = { λ press. (press.ledger ≡ J.book) × (press.origin ≡ [])
+    ghost invariant = { λ press. (press.author.book ≡ J.book) × (press.origin ≡ [])
         × IsPress J.book press.inner.desk.shown.value (drop press.inner.behind press.inner.log.items)
-        press.waiting press.writes };
+        press.waiting press.author.log };
 }
 
 /// A book has fewer writes than this: at a write each nanosecond it is reached after a hundred years.
@@ -60,13 +59,16 @@ impl<J: Site> Press<J> {
         requires origin { origin ≡ [] }
         ensures { IfOk result (λ press. (press.published ≡ []) × (press.writes ≡ [])) }
     {
+        let author = match Author::new(ledger, origin.mark()) {
+            Some(author) => author,
+            None => return Err(AllocError),
+        };
         let first = ChainCopy::new(alloc, origin.mark())?;
         let second = ChainCopy::new(alloc, origin.mark())?;
         let inner: InnerWriter<J> = Writer::new(alloc, first, second, readers)?;
         Ok(Press {
             inner,
-            ledger,
-            writes: origin.again(),
+            author,
             origin,
             waiting: None,
         })
@@ -82,9 +84,8 @@ impl<J: Site> Press<J> {
     {
         let Press {
             mut inner,
-            ledger,
+            author,
             origin,
-            writes,
             waiting,
         } = self;
         let (waiting, done) = match waiting {
@@ -96,9 +97,8 @@ impl<J: Site> Press<J> {
         };
         let press = Press {
             inner,
-            ledger,
+            author,
             origin,
-            writes,
             waiting,
         };
         (press, done)
@@ -115,27 +115,24 @@ impl<J: Site> Press<J> {
     {
         let Press {
             inner,
-            ledger,
+            mut author,
             origin,
-            writes,
             waiting,
         } = self;
-        let mut after = writes.mark();
-        if writes.len() >= WRITES_MAX || !after.add(&ledger, &write) {
+        if author.len() >= WRITES_MAX || !author.add(&write) {
             let press = Press {
                 inner,
-                ledger,
+                author,
                 origin,
-                writes,
                 waiting,
             };
             return (press, Err(AllocError));
         }
+        let after = author.mark();
         let press = Press {
             inner,
-            ledger,
+            author,
             origin,
-            writes: Front::of(after.again()),
             waiting: Some(Addition { write, after }),
         };
         (press, Ok(()))
@@ -149,18 +146,16 @@ impl<J: Site> Press<J> {
     {
         let Press {
             inner,
-            ledger,
+            author,
             origin,
-            writes,
             waiting,
         } = self;
         // no write is refused: each copy has its room
         let (inner, _shown) = inner.publish_as::<SeesWrites<J>, R>(rt);
         Press {
             inner,
-            ledger,
+            author,
             origin,
-            writes,
             waiting,
         }
     }
@@ -197,6 +192,14 @@ impl<J: Site> Press<J> {
         Front::of(self.inner.published().mark())
     }
 
+    /// Shows that the list of all writes begins with a front.
+    pub(crate) fn whole(&mut self, front: &Front<J>)
+        ensures same { self.new ≡ self.old }
+        ensures whole { IsPrefix front.now self.new.writes }
+    {
+        self.author.whole(&front.mark());
+    }
+
     /// A reader that has seen and was told nothing.
     ///
     /// `Err`: there was no place for it.
@@ -210,9 +213,8 @@ impl<J: Site> Press<J> {
     pub(crate) fn end<R: Wait>(self, rt: &R) {
         let Press {
             inner,
-            ledger: _ledger,
+            author: _author,
             origin: _origin,
-            writes: _writes,
             waiting: _waiting,
         } = self;
         drop(inner.take(rt));
