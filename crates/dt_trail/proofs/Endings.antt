@@ -9,6 +9,7 @@ use Rattle.dt_trail.specs.Items.{TrailItem}
 use Rattle.dt_trail.specs.Rule.{NoSlot, Kept}
 use Rattle.dt_trail.specs.Insides.{EndingBlocks}
 use Rattle.dt_trail.proofs.Fitting.{block_is, root_is}
+use Rattle.dt_trail.specs.Limits.{widenings}
 
 no_cells : (cs : List (Cell NoSlot)) → length cs ≡ 0 → cs ≡ []
 no_cells [] e = refl
@@ -25,7 +26,7 @@ ending {K = K} lawful root acct mem final = record {
   long = top.0 ∙ (ap (λ (r : Row NoSlot). length r.cells) base ∙ h.laid.long);
   home = top.1;
   gone = (λ j pos low. absurd (omega arith));
-  beyond = (λ j far. empty j (let few : length bs ≤ 32 = h.laid.few in omega arith));
+  beyond = (λ j far. empty j (let few : length bs ≤ widenings + 1 = h.laid.few in omega arith));
   each = (λ j _ near. ap length refl ∙ (long j ∙ (sym (h.laid.sizes j (omega arith)) ∙ sym (word j))));
   homes = (λ j _ near. (cells_back (row s.rows (j + 1)).cells (row mem (j + 1)).cells (back (j + 1)).1).1);
   places = (λ j _ near pos.
@@ -87,7 +88,7 @@ ending_on root k mem mem' is old = subst (EndingBlocks root (k + 1)) (sym is) re
     zero_is = other 0 (λ e. omega arith)
 
 -- there is no k-th block
-pub ending_past : (root : Ptr) (k : ℕ) (mem : List (Row NoSlot)) → k < 32 → (cell_in (row mem 0).cells k).word ≡ 0 → EndingBlocks root k mem → EndingBlocks root (k + 1) mem
+pub ending_past : (root : Ptr) (k : ℕ) (mem : List (Row NoSlot)) → k < widenings + 1 → (cell_in (row mem 0).cells k).word ≡ 0 → EndingBlocks root k mem → EndingBlocks root (k + 1) mem
 ending_past root k mem few none old = record {
   at = old.at;
   long = old.long;
@@ -99,13 +100,13 @@ ending_past root k mem few none old = record {
   places = (λ j low near pos. old.places j (omega arith) near pos);
 }
 
-pub all_taken : (root : Ptr) (k : ℕ) (mem mem' : List (Row NoSlot)) → 32 ≤ k → mem' ≡ set mem 0 no_row → EndingBlocks root k mem → (j : ℕ) → (row mem' j).cells ≡ []
+pub all_taken : (root : Ptr) (k : ℕ) (mem mem' : List (Row NoSlot)) → widenings + 1 ≤ k → mem' ≡ set mem 0 no_row → EndingBlocks root k mem → (j : ℕ) → (row mem' j).cells ≡ []
 all_taken root k mem mem' done is old j = ap (λ (z : List (Row NoSlot)). (row z j).cells) is ∙ dite (ℕ_discrete j 0) (λ e. ap (λ (z : ℕ). (row (set mem 0 no_row) z).cells) e ∙ emptied mem 0)
     (λ e. ap (λ (x : Row NoSlot). x.cells) (get_or-set_other mem 0 j no_row no_row e) ∙ dite (dec_le j k) (λ l. old.gone j (omega arith) l) (λ l. old.beyond j (omega arith)))
 
-pub in_base : (root : Ptr) (k : ℕ) (mem : List (Row NoSlot)) (i : ℕ) → i < 33 → EndingBlocks root k mem → ((row mem 0).at ≡ root) × (i < length (row mem 0).cells)
-in_base root k mem i near e = (e.at, let l : length (row mem 0).cells ≡ 33 = e.long in omega arith)
+pub in_base : (root : Ptr) (k : ℕ) (mem : List (Row NoSlot)) (i : ℕ) → i < widenings + 2 → EndingBlocks root k mem → ((row mem 0).at ≡ root) × (i < length (row mem 0).cells)
+in_base root k mem i near e = (e.at, let l : length (row mem 0).cells ≡ widenings + 2 = e.long in omega arith)
 
-pub block_lies : (root : Ptr) (k : ℕ) (mem : List (Row NoSlot)) → EndingBlocks root k mem → k < 32 → 0 < (cell_in (row mem 0).cells k).word
+pub block_lies : (root : Ptr) (k : ℕ) (mem : List (Row NoSlot)) → EndingBlocks root k mem → k < widenings + 1 → 0 < (cell_in (row mem 0).cells k).word
     → InBlock (cell_in (row mem 0).cells k).link × ((row mem (k + 1)).at ≡ (cell_in (row mem 0).cells k).link) × (0 < length (row mem (k + 1)).cells)
 block_lies root k mem e near pos = let p = e.places k (omega arith) near pos in let l = e.each k (omega arith) near in (p.0, p.1, omega arith)

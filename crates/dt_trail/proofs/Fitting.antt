@@ -1,5 +1,5 @@
 -- What each step needs of the rule.
-use Rattle.std.proofs.Common.{◌≡◌, ◌≢◌, ℕ, suc, ◌+◌, ◌<◌, ◌≤◌, ◌^◌, List, [], ◌∷◌, ◌++◌, length, set, true, false, true≢false, refl, sym, ap, ◌∙◌, subst, ⊎_elim, arith, length-set}
+use Rattle.std.proofs.Common.{◌≡◌, ◌≢◌, ℕ, suc, ◌+◌, ◌<◌, ◌≤◌, List, [], ◌∷◌, ◌++◌, length, set, true, false, true≢false, refl, sym, ap, ◌∙◌, subst, ⊎_elim, arith, length-set}
 use mathlib.Core.Option.{some}
 use lib.ListN.{get_elem?}
 use denote.RawPtr.{Ptr, InBlock}
@@ -13,6 +13,7 @@ use Rattle.dt_trail.specs.Blocks.{flat, before, Laid, BlockLiesAt}
 use Rattle.dt_trail.specs.Rule.{NoSlot, RowWorld, FitsRow, FitsEach, Kept, Turn, nobody, IsBegun}
 use Rattle.dt_trail.proofs.Begins.{at_snoc_at}
 use Rattle.dt_trail.proofs.Flats.{flat_at, flat_long, before_set}
+use Rattle.dt_trail.specs.Limits.{block_bound, cells_bound, widenings}
 
 pub off : false ≡ true → ⊥
 off e = true≢false (sym e)
@@ -76,12 +77,12 @@ pub laid_alike : (root : Ptr) (base : Row NoSlot) (old new : List (Row NoSlot)) 
 laid_alike root base old new a l = record {
   at = l.at;
   long = l.long;
-  few = subst (λ (n : ℕ). n ≤ 32) (sym a.count) l.few;
+  few = subst (λ (n : ℕ). n ≤ widenings + 1) (sym a.count) l.few;
   some = subst (λ (n : ℕ). 0 < n) (sym a.count) l.some;
-  wide = subst (λ (n : ℕ). n < 2 ^ 60) (sym a.long) l.wide;
+  wide = subst (λ (n : ℕ). n < cells_bound) (sym a.long) l.wide;
   sizes = λ j h. l.sizes j h ∙ sym (a.each j).1;
   places = λ j h. let p = l.places j (subst (λ (n : ℕ). j < n) a.count h) in let e = a.each j in
-      (p.0 ∙ sym e.0, subst InBlock (sym e.0) p.1, subst (λ (n : ℕ). 0 < n) (sym e.1) p.2, subst (λ (n : ℕ). n < 2 ^ 40) (sym e.1) p.3);
+      (p.0 ∙ sym e.0, subst InBlock (sym e.0) p.1, subst (λ (n : ℕ). 0 < n) (sym e.1) p.2, subst (λ (n : ℕ). n < block_bound) (sym e.1) p.3);
 }
 
 module _ {K : Type 0} (lawful : K → List TrailItem → Type 0) (root : Ptr) (acct : K) where
@@ -94,7 +95,7 @@ module _ {K : Type 0} (lawful : K → List TrailItem → Type 0) (root : Ptr) (a
   pub root_is : (s : State NoSlot (TrailView K)) (h : H s) → row s.rows 0 ≡ h.world.base
   root_is s h = ap (λ (rs : List (Row NoSlot)). row rs 0) h.is
 
-  pub in_root : (s : State NoSlot (TrailView K)) (h : H s) (i : ℕ) → i < 33 → Lies s.rows 0 root i
+  pub in_root : (s : State NoSlot (TrailView K)) (h : H s) (i : ℕ) → i < widenings + 2 → Lies s.rows 0 root i
   in_root s h i near = subst (λ (r : Row NoSlot). (r.at ≡ root) × (i < length r.cells)) (sym (root_is s h)) (h.laid.at, subst (λ (n : ℕ). i < n) (sym h.laid.long) near)
 
   pub in_block : (s : State NoSlot (TrailView K)) (h : H s) (d : Door) (i : ℕ) → BlockLiesAt h.world.blocks d → i < d.len → Lies s.rows (suc d.block) d.link.ptr i

@@ -1,5 +1,5 @@
 -- Cells that are made, and the rule at the start.
-use Rattle.std.proofs.Common.{◌≡◌, ◌≢◌, ℕ, zero, suc, ◌+◌, ◌<◌, ◌^◌, List, [], ◌∷◌, ◌++◌, length, refl, sym, ap, ◌∙◌, subst, arith, length-append, append-nil}
+use Rattle.std.proofs.Common.{◌≡◌, ◌≢◌, ℕ, zero, suc, ◌+◌, ◌<◌, List, [], ◌∷◌, ◌++◌, length, refl, sym, ap, ◌∙◌, subst, arith, length-append, append-nil}
 use Rattle.std.specs.Prelude.{Option, Some}
 use mathlib.Core.Option.{some, some-injective, some-ne-none}
 use mathlib.Core.Logic.{dite}
@@ -13,6 +13,7 @@ use Rattle.dt_trail.specs.Items.{TrailItem}
 use Rattle.dt_trail.specs.Blocks.{flat, Blank, Rooted}
 use Rattle.dt_trail.specs.Rule.{NoSlot, RowWorld, FitsRow, Kept, maker, first_door, first_extent}
 use Rattle.dt_trail.proofs.Fitting.{off}
+use Rattle.dt_trail.specs.Limits.{block_bound, widenings}
 
 module _ {S : Type 0} where
   pushed : (cs : List (Cell S)) (c : Cell S) (F : ℕ → Cell S → Type 0) (n : ℕ) → length cs ≡ n → F n c → ((j : ℕ) → j < n → F j (cell_in cs j)) → (j : ℕ) → j < n + 1 → F j (cell_in (cs ++ c ∷ []) j)
@@ -29,8 +30,8 @@ module _ {S : Type 0} where
   blank_more (c ∷ cs) p h b zero = b 0
   blank_more (c ∷ cs) p h b (suc k) = blank_more cs p h (λ j. b (suc j)) k
 
-pub begins : {K : Type 0} (lawful : K → List TrailItem → Type 0) (key : About K) (p q : Ptr) (cs ds : List (Cell NoSlot)) → p ≡ key.root.ptr → q ≡ key.first.ptr → Rooted key.first.ptr key.size 33 cs
-    → length ds ≡ key.size → Blank ds → 0 < key.size → key.size < 2 ^ 40 → InBlock q → lawful key.account []
+pub begins : {K : Type 0} (lawful : K → List TrailItem → Type 0) (key : About K) (p q : Ptr) (cs ds : List (Cell NoSlot)) → p ≡ key.root.ptr → q ≡ key.first.ptr → Rooted key.first.ptr key.size (widenings + 2) cs
+    → length ds ≡ key.size → Blank ds → 0 < key.size → key.size < block_bound → InBlock q → lawful key.account []
     → Kept lawful key.root.ptr key.account record { rows = row_at p cs ∷ row_at q ds ∷ []; views = maker (Some key.account) 0 (first_door key.size key.first.ptr) (first_extent key.size) ∷ [] }
 begins {K = K} lawful key p q cs ds ep eq rooted long blank pos small placed ok = record {
   world = world;
@@ -55,11 +56,11 @@ begins {K = K} lawful key p q cs ds ep eq rooted long blank pos small placed ok 
     flat_long : length (flat (row_at q ds ∷ [])) ≡ key.size
     flat_long = ap length (append-nil ds) ∙ long
 
-    sizes : (j : ℕ) → j < 33 → (cell_in cs j).word ≡ length (row (row_at q ds ∷ []) j).cells
+    sizes : (j : ℕ) → j < widenings + 2 → (cell_in cs j).word ≡ length (row (row_at q ds ∷ []) j).cells
     sizes zero h = (rooted.1 0 h).1 refl ∙ sym long
     sizes (suc j) h = (rooted.1 (suc j) h).2 (λ e. omega arith)
 
-    places : (j : ℕ) → j < 1 → ((cell_in cs j).link ≡ (row (row_at q ds ∷ []) j).at) × InBlock (row (row_at q ds ∷ []) j).at × (0 < length (row (row_at q ds ∷ []) j).cells) × (length (row (row_at q ds ∷ []) j).cells < 2 ^ 40)
+    places : (j : ℕ) → j < 1 → ((cell_in cs j).link ≡ (row (row_at q ds ∷ []) j).at) × InBlock (row (row_at q ds ∷ []) j).at × (0 < length (row (row_at q ds ∷ []) j).cells) × (length (row (row_at q ds ∷ []) j).cells < block_bound)
     places zero h = ((rooted.1 0 (omega arith)).0 ∙ sym eq, placed, omega arith, omega arith)
     places (suc j) h = absurd (omega arith)
 

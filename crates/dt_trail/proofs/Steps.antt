@@ -1,5 +1,5 @@
 -- Each step on a word keeps the rule.
-use Rattle.std.proofs.Common.{◌≡◌, ◌≢◌, ℕ, suc, ◌+◌, ◌<◌, ◌≤◌, ◌^◌, List, [], ◌∷◌, ◌++◌, length, true, false, refl, sym, ap, ◌∙◌, subst, arith, append_assoc, length-append, eq-eqb, ne_eqb}
+use Rattle.std.proofs.Common.{◌≡◌, ◌≢◌, ℕ, suc, ◌+◌, ◌<◌, ◌≤◌, List, [], ◌∷◌, ◌++◌, length, true, false, refl, sym, ap, ◌∙◌, subst, arith, append_assoc, length-append, eq-eqb, ne_eqb}
 use Rattle.std.specs.Prelude.{Option, MatchBool}
 use native.Mathlib.Decide.{dec_le}
 use denote.RawPtr.{Ptr, InBlock}
@@ -13,6 +13,7 @@ use Rattle.dt_trail.specs.Rule.{NoSlot, FitsRow, Kept, Turn, appender, through, 
 use Rattle.dt_trail.proofs.Begins.{starts_length, starts_longer, own_rest, own_longer, not_own, All-at, code_some, code_behind, stands_begun}
 use Rattle.dt_trail.proofs.Flats.{before_first, before_next, before_all, before_le}
 use Rattle.dt_trail.proofs.Fitting.{off, root_is, in_root, in_block, word_is, quiet, quiet_link, fits_again, legal_begun}
+use Rattle.dt_trail.specs.Limits.{block_bound, cells_bound, widenings}
 
 module _ {K : Type 0} (lawful : K → List TrailItem → Type 0) (root : Ptr) (acct : K) where
   abbrev H : State NoSlot (TrailView K) → Type 0
@@ -81,7 +82,7 @@ module _ {K : Type 0} (lawful : K → List TrailItem → Type 0) (root : Ptr) (a
           )
 
   -- a read of the root: what the next block is
-  pub turns : (id : ℕ) (m : Turn K) (i : ℕ) → 0 < m.view.door.len → i ≡ suc m.view.door.block → i < 33
+  pub turns : (id : ℕ) (m : Turn K) (i : ℕ) → 0 < m.view.door.len → i ≡ suc m.view.door.block → i < widenings + 2
       → Allows H id m 0 root i (λ n. n) (IsTurned lawful (step 0 root i 0 0) m)
   turns id m i pos ei near s h at = (in_root lawful root acct s h i near, λ _. by_case (dec_le (suc i) (length h.world.blocks)))
     where
@@ -113,14 +114,14 @@ module _ {K : Type 0} (lawful : K → List TrailItem → Type 0) (root : Ptr) (a
       from_is = ap (before bs) ei ∙ (before_next bs d.block ∙ (λ t. sym st.from t + sym st.len t))
 
       Next : TrailView K → Type 0
-      Next u = (p : Ptr) × InBlock p × (found < 2 ^ 40) × (d.from + d.len + found < 2 ^ 60) × (i < 32) × (reviewed m u ≡ reviewed m (through v (door_at i (d.from + d.len) found p)))
+      Next u = (p : Ptr) × InBlock p × (found < block_bound) × (d.from + d.len + found < cells_bound) × (i < widenings + 1) × (reviewed m u ≡ reviewed m (through v (door_at i (d.from + d.len) found p)))
 
       by_case : Dec (suc i ≤ length bs) → Goes H s (with_word s.rows 0 i found) id m (IsTurned lawful st0 m found)
       by_case (yes there) =
           let pl = h.laid.places i (omega arith) in
           let p : Ptr = (row bs i).at in
           let some : found ≢ 0 = (λ z. let x : 0 < length (row bs i).cells = pl.2 in let y : length (row bs i).cells ≡ 0 = sym found_is ∙ z in omega arith) in
-          let few : length bs ≤ 32 = h.laid.few in
+          let few : length bs ≤ widenings + 1 = h.laid.few in
           let w : TrailView K = through v (door_at i (d.from + d.len) found p) in
           quiet lawful root acct s h 0 i id m w (IsTurned lawful st0 m found)
           (fits_again lawful root acct s h id w record {
@@ -137,7 +138,7 @@ module _ {K : Type 0} (lawful : K → List TrailItem → Type 0) (root : Ptr) (a
           }) (
             legal_begun lawful root acct s h id v v.knows f f.begins,
             subst (λ b. MatchBool b (IsLast m (reviewed m w)) (Next w)) (sym (ne_eqb found 0 some))
-                (p, pl.1, subst (λ (n : ℕ). n < 2 ^ 40) (sym found_is) pl.3, (let a = before_le bs i in let b = h.laid.wide in let e = from_is in let g = found_is in omega arith), omega arith, refl),
+                (p, pl.1, subst (λ (n : ℕ). n < block_bound) (sym found_is) pl.3, (let a = before_le bs i in let b = h.laid.wide in let e = from_is in let g = found_is in omega arith), omega arith, refl),
           )
       by_case (no none) =
           let gone : row bs i ≡ no_row = lib.ListN.get_or-eq_default bs no_row (omega arith) in
@@ -177,7 +178,7 @@ module _ {K : Type 0} (lawful : K → List TrailItem → Type 0) (root : Ptr) (a
               extent = f.extent;
               plan = f.plan;
             })
-            ((row bs 0).at, pl.1, subst (λ (n : ℕ). 0 < n) (sym found_is) pl.2, subst (λ (n : ℕ). n < 2 ^ 40) (sym found_is) pl.3, refl),
+            ((row bs 0).at, pl.1, subst (λ (n : ℕ). 0 < n) (sym found_is) pl.2, subst (λ (n : ℕ). n < block_bound) (sym found_is) pl.3, refl),
       )
 
   -- a read of a cell whose item the seat knows
@@ -195,7 +196,7 @@ module _ {K : Type 0} (lawful : K → List TrailItem → Type 0) (root : Ptr) (a
       )
 
   -- a read of the root: where the block lies
-  pub sees : (id : ℕ) (m : Turn K) (i : ℕ) → 0 < m.view.door.len → i ≡ m.view.door.block → i < 33
+  pub sees : (id : ℕ) (m : Turn K) (i : ℕ) → 0 < m.view.door.len → i ≡ m.view.door.block → i < widenings + 2
       → AllowsLink H id m 0 root i (λ q. q) (IsSeen 0 i m)
   sees id m i pos ei near s h at =
       let f = h.each id m.view at in

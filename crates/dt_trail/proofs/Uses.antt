@@ -1,5 +1,5 @@
 -- The steps at views that are known.
-use Rattle.std.proofs.Common.{◌≡◌, ◌≢◌, ℕ, suc, ◌+◌, ◌-◌, ◌<◌, ◌≤◌, ◌^◌, List, [], ◌∷◌, ◌++◌, length, true, false, sym, ap, ◌∙◌, subst, arith, ne_eqb}
+use Rattle.std.proofs.Common.{◌≡◌, ◌≢◌, ℕ, suc, ◌+◌, ◌-◌, ◌<◌, ◌≤◌, List, [], ◌∷◌, ◌++◌, length, true, false, sym, ap, ◌∙◌, subst, arith, ne_eqb}
 use Rattle.std.specs.Prelude.{Option, Some, MatchBool}
 use denote.RawPtr.{Ptr, InBlock}
 use Rattle.atomic_blocks.specs.Cells.{Cell, Step, me, step, row_at, cell_in, Allows, AllowsLink, Splits, Joins}
@@ -14,6 +14,7 @@ use Rattle.dt_trail.proofs.Steps as steps
 use Rattle.dt_trail.proofs.Grows as grows
 use Rattle.dt_trail.proofs.Widens as widens
 use Rattle.dt_trail.proofs.Seats as seats
+use Rattle.dt_trail.specs.Limits.{block_bound, cells_bound, widenings}
 
 module _ {K : Type 0} (lawful : K → List TrailItem → Type 0) (key about : About K) (keyed : key ≡ about) where
   abbrev H : Rattle.atomic_blocks.specs.Cells.State NoSlot (TrailView K) → Type 0
@@ -43,7 +44,7 @@ module _ {K : Type 0} (lawful : K → List TrailItem → Type 0) (key about : Ab
       (λ i l h. subst (λ (b : ℕ). Allows H id m b m.view.door.link.ptr (k - m.view.door.from) (λ n. n) (IsFoundAgain (step b m.view.door.link.ptr (k - m.view.door.from) 0 0) m)) (let o : suc m.view.door.block ≡ m.view.door.block + 1 = omega arith in o)
       (steps.reads_again lawful key.root.ptr key.account id m (k - m.view.door.from) i.some (let x = known in omega arith) (omega arith))) is low high
 
-  pub sees_as : (id : ℕ) (m : Turn K) (i : ℕ) → 0 < m.view.door.len → i ≡ m.view.door.block → i < 32 → AllowsLink H id m 0 about.root.ptr i (λ q. q) (IsSeen 0 i m)
+  pub sees_as : (id : ℕ) (m : Turn K) (i : ℕ) → 0 < m.view.door.len → i ≡ m.view.door.block → i < widenings + 1 → AllowsLink H id m 0 about.root.ptr i (λ q. q) (IsSeen 0 i m)
   sees_as id m i pos ei near = subst (λ (p : Ptr). AllowsLink H id m 0 p i (λ q. q) (IsSeen 0 i m)) root_is (steps.sees lawful key.root.ptr key.account id m i pos ei (omega arith))
 
   pub lends_as : (id : ℕ) (v : TrailView K) (other : ℕ) (w : TrailView K) → v ≡ note v.account v.note v.knows v.door → w ≡ owner w.account w.knows w.door w.extent → w.account ≡ v.account
@@ -71,11 +72,11 @@ module _ {K : Type 0} (lawful : K → List TrailItem → Type 0) (key about : Ab
   pub opens_as : (id : ℕ) (v : TrailView K) (a : Option K) (n : ℕ) (d : Door) (t : Extent) → v ≡ maker a n d t → Splits H 0 about.root.ptr id v (row_ended v) (right_of v)
   opens_as id v a n d t e = subst (λ (p : Ptr × TrailView K). Splits H 0 p.0 id p.1 (row_ended p.1) (right_of p.1)) (λ i. (root_is i, sym e i)) (seats.opens lawful key.root.ptr key.account id a n d t)
 
-  pub plans_as : (id : ℕ) (m : Turn K) (i : ℕ) (q : Ptr) → m.view.owns ≡ true → i ≡ m.view.extent.blocks → i < 32 → AllowsLink H id m 0 about.root.ptr i (λ _. q) (λ _. IsPlanned 0 i m q)
+  pub plans_as : (id : ℕ) (m : Turn K) (i : ℕ) (q : Ptr) → m.view.owns ≡ true → i ≡ m.view.extent.blocks → i < widenings + 1 → AllowsLink H id m 0 about.root.ptr i (λ _. q) (λ _. IsPlanned 0 i m q)
   plans_as id m i q owns ei few = subst (λ (p : Ptr). AllowsLink H id m 0 p i (λ _. q) (λ _. IsPlanned 0 i m q)) root_is (widens.plans lawful key.root.ptr key.account id m i q owns ei few)
 
   pub widens_as : (id : ℕ) (blocks total : ℕ) (m : Turn K) (i size : ℕ) (q : Ptr) (cs : List (Cell NoSlot)) → m.view.owns ≡ true → m.view.extent ≡ extent_of blocks total true q → m.spare ≡ Some (row_at q cs)
-      → i ≡ blocks → i < 32 → length cs ≡ size → 0 < size → size < 2 ^ 40 → InBlock q → ((k : ℕ) → (cell_in cs k).word ≡ 0) → total + size < 2 ^ 60
+      → i ≡ blocks → i < widenings + 1 → length cs ≡ size → 0 < size → size < block_bound → InBlock q → ((k : ℕ) → (cell_in cs k).word ≡ 0) → total + size < cells_bound
       → Allows H id m 0 about.root.ptr i (λ _. size) (λ _. IsLaid (step 0 about.root.ptr i size 0) m size)
   widens_as id blocks total m i size q cs owns extent carried ei few long pos small placed empty room =
       subst (λ (p : Ptr). Allows H id m 0 p i (λ _. size) (λ _. IsLaid (step 0 p i size 0) m size)) root_is (widens.widens lawful key.root.ptr key.account id blocks total m i size q cs owns extent carried ei few long pos small placed empty room)
@@ -91,6 +92,6 @@ module _ {K : Type 0} (lawful : K → List TrailItem → Type 0) (key about : Ab
 
 -- what the root told, where there is a block
 pub turned : {K : Type 0} (lawful : K → List TrailItem → Type 0) (st : Step) (m : Turn K) (found : ℕ) (n : Turn K) → found ≢ 0 → IsTurned lawful st m found n
-    → (p : Ptr) × InBlock p × (found < 2 ^ 40) × (m.view.door.from + m.view.door.len + found < 2 ^ 60) × (st.index < 32) × (n ≡ reviewed m (through m.view (door_at st.index (m.view.door.from + m.view.door.len) found p)))
+    → (p : Ptr) × InBlock p × (found < block_bound) × (m.view.door.from + m.view.door.len + found < cells_bound) × (st.index < widenings + 1) × (n ≡ reviewed m (through m.view (door_at st.index (m.view.door.from + m.view.door.len) found p)))
 turned {K = K} lawful st m found n some h = subst (λ b. MatchBool b (IsLast m n)
-    ((p : Ptr) × InBlock p × (found < 2 ^ 40) × (m.view.door.from + m.view.door.len + found < 2 ^ 60) × (st.index < 32) × (n ≡ reviewed m (through m.view (door_at st.index (m.view.door.from + m.view.door.len) found p))))) (ne_eqb found 0 some) h.1
+    ((p : Ptr) × InBlock p × (found < block_bound) × (m.view.door.from + m.view.door.len + found < cells_bound) × (st.index < widenings + 1) × (n ≡ reviewed m (through m.view (door_at st.index (m.view.door.from + m.view.door.len) found p))))) (ne_eqb found 0 some) h.1

@@ -1,5 +1,5 @@
 -- The next block's place is written into the root, and the block is set.
-use Rattle.std.proofs.Common.{◌≡◌, ◌≢◌, ℕ, suc, ◌+◌, ◌<◌, ◌^◌, List, [], ◌∷◌, ◌++◌, length, set, true, refl, sym, ap, ◌∙◌, subst, arith, length-append, length-set, get_or-set_same, get_or-set_other}
+use Rattle.std.proofs.Common.{◌≡◌, ◌≢◌, ℕ, suc, ◌+◌, ◌<◌, List, [], ◌∷◌, ◌++◌, length, set, true, refl, sym, ap, ◌∙◌, subst, arith, length-append, length-set, get_or-set_same, get_or-set_other}
 use Rattle.std.specs.Prelude.{Some, None}
 use mathlib.Core.Option.{some}
 use mathlib.Core.Logic.{dite}
@@ -16,6 +16,7 @@ use Rattle.dt_trail.specs.Blocks.{flat, Laid, BlockLiesAt}
 use Rattle.dt_trail.specs.Rule.{NoSlot, RowWorld, FitsRow, Kept, Turn, extent_of, wider, planned_at, HadAll, IsPlanned, IsLaid}
 use Rattle.dt_trail.proofs.Flats.{flat_push, before_push, words_more}
 use Rattle.dt_trail.proofs.Fitting.{off, fits_set, root_is, in_root}
+use Rattle.dt_trail.specs.Limits.{block_bound, cells_bound, widenings}
 
 abbrev cell_none : Cell NoSlot
 cell_none = cell 0 null_ptr None
@@ -25,7 +26,7 @@ module _ {K : Type 0} (lawful : K → List TrailItem → Type 0) (root : Ptr) (a
   H = Kept lawful root acct
 
   -- the place of the next block is written into the root
-  pub plans : (id : ℕ) (m : Turn K) (i : ℕ) (q : Ptr) → m.view.owns ≡ true → i ≡ m.view.extent.blocks → i < 32
+  pub plans : (id : ℕ) (m : Turn K) (i : ℕ) (q : Ptr) → m.view.owns ≡ true → i ≡ m.view.extent.blocks → i < widenings + 1
       → AllowsLink H id m 0 root i (λ _. q) (λ _. IsPlanned 0 i m q)
   plans id m i q owns ei few s h at = (in_root lawful root acct s h i (omega arith), (w, keeps, tt, kept, refl))
     where
@@ -51,7 +52,7 @@ module _ {K : Type 0} (lawful : K → List TrailItem → Type 0) (root : Ptr) (a
       world = record { account = h.world.account; base = base; blocks = h.world.blocks; items = h.world.items; place = h.world.place; keeper = h.world.keeper; made = h.world.made }
 
       near : i < length h.world.base.cells
-      near = let l : length h.world.base.cells ≡ 33 = h.laid.long in omega arith
+      near = let l : length h.world.base.cells ≡ widenings + 2 = h.laid.long in omega arith
 
       same_word : (j : ℕ) → (cell_in base.cells j).word ≡ (cell_in h.world.base.cells j).word
       same_word j = dite (ℕ_discrete j i)
@@ -108,7 +109,7 @@ module _ {K : Type 0} (lawful : K → List TrailItem → Type 0) (root : Ptr) (a
 
   -- the block is set
   pub widens : (id : ℕ) (blocks total : ℕ) (m : Turn K) (i size : ℕ) (q : Ptr) (cs : List (Cell NoSlot)) → m.view.owns ≡ true → m.view.extent ≡ extent_of blocks total true q → m.spare ≡ Some (row_at q cs)
-      → i ≡ blocks → i < 32 → length cs ≡ size → 0 < size → size < 2 ^ 40 → InBlock q → ((k : ℕ) → (cell_in cs k).word ≡ 0) → total + size < 2 ^ 60
+      → i ≡ blocks → i < widenings + 1 → length cs ≡ size → 0 < size → size < block_bound → InBlock q → ((k : ℕ) → (cell_in cs k).word ≡ 0) → total + size < cells_bound
       → Allows H id m 0 root i (λ _. size) (λ _. IsLaid (step 0 root i size 0) m size)
   widens id blocks total m i size q cs owns extent_is carried ei few long pos small placed empty room s h at = (in_root lawful root acct s h i (omega arith), λ _. (w, lays x, carried, kept, (refl, had)))
     where
@@ -140,7 +141,7 @@ module _ {K : Type 0} (lawful : K → List TrailItem → Type 0) (root : Ptr) (a
       world = record { account = h.world.account; base = base; blocks = new; items = h.world.items; place = h.world.place; keeper = h.world.keeper; made = h.world.made }
 
       near : i < length h.world.base.cells
-      near = let l : length h.world.base.cells ≡ 33 = h.laid.long in omega arith
+      near = let l : length h.world.base.cells ≡ widenings + 2 = h.laid.long in omega arith
 
       count_new : length new ≡ suc i
       count_new = length-append bs (x ∷ []) ∙ (let y = count_is in omega arith)
@@ -182,11 +183,11 @@ module _ {K : Type 0} (lawful : K → List TrailItem → Type 0) (root : Ptr) (a
             (λ t. subst (λ (z : ℕ). (cell_in base.cells z).word ≡ length (row new z).cells) (sym t) (ap (λ (y : Cell NoSlot). y.word) here ∙ (sym long ∙ ap (λ (r : Row NoSlot). length r.cells) (sym last))))
             (λ n. ap (λ (y : Cell NoSlot). y.word) (else j n) ∙ (h.laid.sizes j lt ∙ dite (dec_le (suc j) i) (λ l. ap (λ (r : Row NoSlot). length r.cells) (sym (old j l))) (λ g. sym (gone j (omega arith))))));
         places = (λ j lt. dite (ℕ_discrete j i)
-            (λ t. subst (λ (z : ℕ). ((cell_in base.cells z).link ≡ (row new z).at) × InBlock (row new z).at × (0 < length (row new z).cells) × (length (row new z).cells < 2 ^ 40)) (sym t)
-            (subst (λ (r : Row NoSlot). ((cell_in base.cells i).link ≡ r.at) × InBlock r.at × (0 < length r.cells) × (length r.cells < 2 ^ 40)) (sym last)
+            (λ t. subst (λ (z : ℕ). ((cell_in base.cells z).link ≡ (row new z).at) × InBlock (row new z).at × (0 < length (row new z).cells) × (length (row new z).cells < block_bound)) (sym t)
+            (subst (λ (r : Row NoSlot). ((cell_in base.cells i).link ≡ r.at) × InBlock r.at × (0 < length r.cells) × (length r.cells < block_bound)) (sym last)
             (ap (λ (y : Cell NoSlot). y.link) here ∙ link_here, placed, omega arith, omega arith)))
             (λ n. let l : j < i = (let y = count_new in omega arith) in let p = h.laid.places j (let y = count_is in omega arith) in
-            subst (λ (r : Row NoSlot). ((cell_in base.cells j).link ≡ r.at) × InBlock r.at × (0 < length r.cells) × (length r.cells < 2 ^ 40)) (sym (old j l))
+            subst (λ (r : Row NoSlot). ((cell_in base.cells j).link ≡ r.at) × InBlock r.at × (0 < length r.cells) × (length r.cells < block_bound)) (sym (old j l))
             (ap (λ (y : Cell NoSlot). y.link) (else j n) ∙ p.0, p.1, p.2, p.3)));
       }
 

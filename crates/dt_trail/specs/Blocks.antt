@@ -1,8 +1,8 @@
 -- Blocks one behind the other, as one row of cells.
-use Rattle.std.specs.Prelude.{◌≡◌, ◌≢◌, ℕ, zero, suc, ◌+◌, ◌<◌, ◌≤◌, ◌^◌, List, [], ◌∷◌, ◌++◌, length}
+use Rattle.std.specs.Prelude.{◌≡◌, ◌≢◌, ℕ, zero, suc, ◌+◌, ◌<◌, ◌≤◌, List, [], ◌∷◌, ◌++◌, length}
 use denote.RawPtr.{Ptr, InBlock}
 use Rattle.atomic_blocks.specs.Cells.{Cell, Row, row, cell_in}
-use Rattle.dt_trail.specs.Limits.{block_bound, widenings}
+use Rattle.dt_trail.specs.Limits.{block_bound, cells_bound, widenings}
 use Rattle.dt_trail.specs.declared.door.Door.{Door}
 
 module _ {S : Type 0} where
@@ -23,7 +23,7 @@ module _ {S : Type 0} where
     pub long : length base.cells ≡ widenings + 2
     pub few : length blocks ≤ widenings + 1
     pub some : 0 < length blocks
-    pub wide : length (flat blocks) < 2 ^ 60
+    pub wide : length (flat blocks) < cells_bound
     pub sizes : (j : ℕ) → j < widenings + 2 → (cell_in base.cells j).word ≡ length (row blocks j).cells
     pub places : (j : ℕ) → j < length blocks → ((cell_in base.cells j).link ≡ (row blocks j).at) × InBlock (row blocks j).at × (0 < length (row blocks j).cells) × (length (row blocks j).cells < block_bound)
 

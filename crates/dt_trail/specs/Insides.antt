@@ -1,5 +1,5 @@
 -- What holds of the fields of an owner and a note.
-use Rattle.std.specs.Prelude.{◌≡◌, ◌<◌, ◌≤◌, ◌+◌, ◌*◌, ◌^◌, ℕ, List, [], length, Option, Some, None, false}
+use Rattle.std.specs.Prelude.{◌≡◌, ◌<◌, ◌≤◌, ◌+◌, ◌*◌, ℕ, List, [], length, Option, Some, None, false}
 use denote.RawPtr.{Ptr, null_ptr, InBlock}
 use Rattle.atomic_blocks.specs.Cells.{me, Row, row, cell_in, AllHome}
 use Rattle.atomic_blocks.specs.declared.rows.shared.Seat.{Seat}
@@ -9,7 +9,7 @@ use Rattle.dt_trail.specs.declared.rule.TrailView.{TrailView}
 use Rattle.dt_trail.specs.declared.inner.Inner.{Inner}
 use Rattle.dt_trail.specs.Rule.{NoSlot, note, appender, owner, claim, extent_of, Turn}
 use Rattle.dt_trail.specs.declared.law.Named.{Named}
-use Rattle.dt_trail.specs.Limits.{block_bound, widenings}
+use Rattle.dt_trail.specs.Limits.{block_bound, cells_bound, widenings}
 use Rattle.dt_trail.specs.Items.{TrailItem}
 use Rattle.dt_trail.specs.Known.{Known, Noted, Heard, named_row, known_row, noted}
 
@@ -21,7 +21,7 @@ pub record IsDoor (d : Door) : Type 0 where
   pub some : 0 < d.len
   pub small : d.len < block_bound
   pub near : d.block < widenings + 1
-  pub wide : d.from + d.len < 2 ^ 60
+  pub wide : d.from + d.len < cells_bound
   pub placed : InBlock d.link.ptr
 
 -- the next cell lies behind the door, or at its end

@@ -1,11 +1,11 @@
 -- The rule of a row of blocks, what seats know of it, and what each step tells.
-use Rattle.std.specs.Prelude.{◌≡◌, ◌≢◌, ℕ, ◌+◌, ◌<◌, ◌≤◌, ◌==◌, ◌^◌, List, [], ◌∷◌, ◌++◌, length, Bool, true, false, cond, nat_lt, MatchBool, Option, Some, None}
+use Rattle.std.specs.Prelude.{◌≡◌, ◌≢◌, ℕ, ◌+◌, ◌<◌, ◌≤◌, ◌==◌, List, [], ◌∷◌, ◌++◌, length, Bool, true, false, cond, nat_lt, MatchBool, Option, Some, None}
 use mathlib.Core.Option.{some}
 use lib.ListN.{get_elem?}
 use denote.RawPtr.{Ptr, null_ptr, InBlock}
 use Rattle.atomic_blocks.specs.Cells.{Cell, Row, State, Step, Me, me, cell_in}
 use Rattle.atomic_blocks.specs.declared.rows.loose.Link.{Link}
-use Rattle.dt_trail.specs.Limits.{block_bound, widenings}
+use Rattle.dt_trail.specs.Limits.{block_bound, cells_bound, widenings}
 use Rattle.dt_trail.specs.declared.door.Door.{Door}
 use Rattle.dt_trail.specs.declared.rule.Extent.{Extent}
 use Rattle.dt_trail.specs.declared.rule.TrailView.{TrailView}
@@ -174,7 +174,7 @@ module _ {K : Type 0} where
   IsTurned lawful st m found n =
       IsBegun lawful m.view.account n.view.knows
       × MatchBool (found == 0) (IsLast m n)
-      ((p : Ptr) × InBlock p × (found < block_bound) × (m.view.door.from + m.view.door.len + found < 2 ^ 60) × (st.index < widenings + 1) × (n ≡ reviewed m (through m.view (door_at st.index (m.view.door.from + m.view.door.len) found p))))
+      ((p : Ptr) × InBlock p × (found < block_bound) × (m.view.door.from + m.view.door.len + found < cells_bound) × (st.index < widenings + 1) × (n ≡ reviewed m (through m.view (door_at st.index (m.view.door.from + m.view.door.len) found p))))
 
   abbrev pub IsSeen : ℕ → ℕ → Turn K → Ptr → Turn K → Type 0
   IsSeen k i m q n = (n ≡ m) × (q ≡ m.view.door.link.ptr)

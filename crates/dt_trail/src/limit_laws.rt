@@ -1,6 +1,6 @@
 //! The limits that the code keeps are those of the definitions.
-ghost use Rattle.std.specs.Prelude.{◌≡◌, ◌+◌, ◌*◌};
-ghost use Rattle.dt_trail.specs.Limits.{trail_cpus_max, block_bound, widenings, opening_cells, block_cells, longest};
+ghost use Rattle.std.specs.Prelude.{◌≡◌, ◌+◌, ◌*◌, ◌<◌};
+ghost use Rattle.dt_trail.specs.Limits.{trail_cpus_max, block_bound, widenings, opening_cells, block_cells, longest, longest_widenings};
 
 use crate::limits::{
     BLOCK_CELLS, BLOCK_CELLS_MAX, TRAIL_CELLS, TRAIL_CELLS_MAX, TRAIL_CPUS_MAX, WIDENINGS_MAX,
@@ -15,5 +15,6 @@ pub fn limits_agree()
     ensures opening { TRAIL_CELLS ≡ opening_cells }
     ensures wider { BLOCK_CELLS ≡ block_cells }
     ensures longest { TRAIL_CELLS_MAX ≡ longest }
-    ensures enough { longest ≡ opening_cells + 15 * block_cells }
+    ensures enough { longest ≡ opening_cells + longest_widenings * block_cells }
+    ensures fewer { longest_widenings < widenings }
 {}

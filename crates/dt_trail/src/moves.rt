@@ -1,9 +1,9 @@
 //! What a seat does at the row.
-ghost use Rattle.std.specs.Prelude.{◌≡◌, ◌<◌, ◌≤◌, ◌+◌, ◌++◌, ◌==◌, ◌^◌, [], ◌∷◌, length, true, false, Some, None, MatchBool, MatchOption};
+ghost use Rattle.std.specs.Prelude.{◌≡◌, ◌<◌, ◌≤◌, ◌+◌, ◌++◌, ◌==◌, [], ◌∷◌, length, true, false, Some, None, MatchBool, MatchOption};
 ghost use denote.RawPtr.{null_ptr, InBlock};
 ghost use Rattle.atomic_blocks.specs.Cells.{me, AllHome};
 ghost use Rattle.dt_trail.specs.Blocks.{Blank};
-ghost use Rattle.dt_trail.specs.Limits.{block_bound, widenings};
+ghost use Rattle.dt_trail.specs.Limits.{block_bound, cells_bound, widenings};
 ghost use Rattle.dt_trail.specs.Items.{whose, own, StartsWith};
 ghost use Rattle.dt_trail.specs.Rule.{note, owner, appender, FindsItem, extent_of, through, reviewed, claim_of, learnt, informed, wider, HadAll};
 ghost use Rattle.dt_trail.specs.Insides.{OfRow, SameSeat, IsDoor, IsDoorAt, Owner, Note, Appender, Claim};
@@ -162,7 +162,7 @@ pub fn lay<K, L: Law<K>>(
 )
     requires seat { OfRow inner.now seat.old × (seat.old.me.view.owns ≡ true) × (seat.old.me.spare ≡ None) }
     requires extent { seat.old.me.view.extent ≡ extent_of blocks seat.old.me.view.extent.cells false null_ptr }
-    requires room { (blocks < widenings + 1) × (seat.old.me.view.extent.cells + cells < 2 ^ 60) }
+    requires room { (blocks < widenings + 1) × (seat.old.me.view.extent.cells + cells < cells_bound) }
     requires block { (block.heap ≡ inner.now.rows.heap) × (block.at ≡ link.ptr) × InBlock link.ptr × (block.left ≡ 0) × AllHome block.cells × (length block.cells ≡ cells) × Blank block.cells }
     requires wide { (0 < cells) × (cells < block_bound) }
     ensures same { SameSeat seat.old seat.new }
@@ -192,7 +192,7 @@ pub fn lay_in<K, L: Law<K>>(
     requires seat { OfRow inner.now seat.old × Note seat.old }
     requires right { OfRow inner.now right × Owner right × (right.me.view.account ≡ seat.old.me.view.account) }
     requires extent { right.me.view.extent ≡ extent_of blocks right.me.view.extent.cells false null_ptr }
-    requires room { (blocks < widenings + 1) × (right.me.view.extent.cells + cells < 2 ^ 60) }
+    requires room { (blocks < widenings + 1) × (right.me.view.extent.cells + cells < cells_bound) }
     requires block { (block.heap ≡ inner.now.rows.heap) × (block.at ≡ link.ptr) × InBlock link.ptr × (block.left ≡ 0) × AllHome block.cells × (length block.cells ≡ cells) × Blank block.cells }
     requires wide { (0 < cells) × (cells < block_bound) }
     ensures seat { (seat.new.rows ≡ seat.old.rows) × (seat.new.heap ≡ seat.old.heap) × (seat.new.me ≡ me (note seat.old.me.view.account seat.old.me.view.note right.me.view.knows right.me.view.door) None None) }

@@ -1,9 +1,10 @@
 //! Who follows a row.
-ghost use Rattle.std.specs.Prelude.{◌≡◌, ◌<◌, ◌^◌, [], length, MatchOption, Some, None};
+ghost use Rattle.std.specs.Prelude.{◌≡◌, ◌<◌, [], length, MatchOption, Some, None};
 ghost use Rattle.std.specs.Arc.{arc_value};
 ghost use Rattle.atomic_blocks.specs.Cells.{me};
 ghost use Rattle.dt_trail.specs.Insides.{row_of, IsDoor, OfRow};
 ghost use Rattle.dt_trail.specs.Rule.{note};
+ghost use Rattle.dt_trail.specs.Limits.{cells_bound};
 
 use crate::again::word_again;
 use crate::door::Door;
@@ -87,7 +88,7 @@ impl<K, L: Law<K>> TrailNote<K, L> {
     pub fn read(&mut self) -> Option<Seen>
         ensures next { MatchOption result (self.new ≡ self.old) (λ seen. KnowsNext self.old seen self.new) }
         ensures lawful { L.lawful self.new.row.account self.new.knows }
-        ensures small { length self.new.knows < 2 ^ 60 }
+        ensures small { length self.new.knows < cells_bound }
     {
         let inner: &Inner<K, L> = &self.cells;
         let mut door = self.door;
