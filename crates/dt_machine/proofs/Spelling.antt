@@ -21,6 +21,7 @@ use Rattle.dt_cred.specs.declared.probe.Probe.{Probe}
 use Rattle.dt_machine.specs.Rows.{AreProbes}
 use Rattle.dt_machine.specs.Sections.{IsTraced, eq_tuples}
 use Rattle.dt_machine.specs.laws.Spelling.{spells_one, names_one, no_pid_syscall, no_pid_profile, no_pid_dtrace}
+use Rattle.dt_names.specs.Limits.{name_max}
 
 pub probes_push : (id : ℕ) (texts : List (List ℕ)) (probes : List Probe) (text : List ℕ) (probe : Probe)
     → AreProbes id texts probes → probe.id ≡ id + length probes → SpellsTuple text probe.tuple
@@ -89,7 +90,7 @@ letter_in_name byte h = record {
   no_quote = λ e. omega arith;
 }
 
-name_of_letters : (bytes : List ℕ) → length bytes ≤ 31 → AllByRecursion IsLetter bytes → IsName bytes
+name_of_letters : (bytes : List ℕ) → length bytes ≤ name_max → AllByRecursion IsLetter bytes → IsName bytes
 name_of_letters bytes short letters = record
     { short = short; plain = λ k d inside. letter_in_name _ (All-from_recursion IsLetter bytes letters k d inside) }
 

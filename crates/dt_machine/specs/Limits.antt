@@ -1,5 +1,5 @@
 -- The limits, with their numbers. The law `limits_agree` says that the code keeps these.
-use Rattle.std.specs.Prelude.{ℕ}
+use Rattle.std.specs.Prelude.{ℕ, ◌+◌, ◌/◌}
 
 -- the most processors of a machine
 abbrev pub cpus_max : ℕ
@@ -36,3 +36,7 @@ script_max = 65536
 -- how many numbers a word of a set has
 abbrev pub word_bits : ℕ
 word_bits = 64
+
+-- how many words a set of probes has: a bit for each identifier of a probe from 0 on
+abbrev pub interest_words : ℕ
+interest_words = probe_id_max / word_bits + 1

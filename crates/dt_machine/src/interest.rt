@@ -8,7 +8,7 @@ use crate::bit_word::{BitWord, WORD_BITS};
 use crate::limits::PROBE_ID_MAX;
 
 /// How many words a set of probes has: a bit for each identifier from 0 on.
-pub const INTEREST_WORDS: usize = 65;
+pub const INTEREST_WORDS: usize = (PROBE_ID_MAX / WORD_BITS + 1) as usize;
 
 const _: () = prove!(PROBE_ID_MAX < INTEREST_WORDS as u32 * WORD_BITS);
 

@@ -22,6 +22,7 @@ use Rattle.dt_machine.specs.laws.Numbers.{IsRowIn, arguments_fit, frames_fit, ro
 use Rattle.dt_machine.specs.laws.Scripts.{script_at, scripts_at}
 use Rattle.dt_machine.specs.laws.Spelling.{spelled_at}
 use Rattle.dt_machine.specs.laws.Soundness.{at_pid, described_sound, registry_one, one_or_other}
+use Rattle.dt_cred.specs.Limits.{argument_count, frame_count}
 
 -- what is found among things that are all so
 found_so : {A B : Type 0} (test : B → Bool) (f : A → B) (P : B → Type 0) (rows : List A)
@@ -55,20 +56,20 @@ known_pid processes pid limit few some = at (find (at_pid pid) processes) refl f
     at (Some p) e few some = subst (λ n. n ≤ limit)
         (eqb-true p.pid pid (found_passes (at_pid pid) processes p e)) few
 
-args_many : (given : List (Option ℤ)) → AreArguments given → length (arguments given) ≡ 10
+args_many : (given : List (Option ℤ)) → AreArguments given → length (arguments given) ≡ argument_count
 args_many given are =
     let few = are.few in
-    let whole = length-append (map (λ o. unwrap_or o (pos 0)) given) (replicate (10 - length given) (pos 0)) in
+    let whole = length-append (map (λ o. unwrap_or o (pos 0)) given) (replicate (argument_count - length given) (pos 0)) in
     let front = length-map given (λ (o : Option ℤ). unwrap_or o (pos 0)) in
-    let zeros = length-replicate {A = ℤ} (10 - length given) (pos 0) in
+    let zeros = length-replicate {A = ℤ} (argument_count - length given) (pos 0) in
     omega (arith, few, whole, front, zeros)
 
-frames_many : (given : List (Option ℕ)) → AreGivenFrames given → length (frames given) ≡ 8
+frames_many : (given : List (Option ℕ)) → AreGivenFrames given → length (frames given) ≡ frame_count
 frames_many given are =
     let few = are.few in
-    let whole = length-append (map number_in given) (replicate (8 - length given) 0) in
+    let whole = length-append (map number_in given) (replicate (frame_count - length given) 0) in
     let front = length-map given number_in in
-    let zeros = length-replicate {A = ℕ} (8 - length given) 0 in
+    let zeros = length-replicate {A = ℕ} (frame_count - length given) 0 in
     omega (arith, few, whole, front, zeros)
 
 -- a firing of a right row that belongs to a sound machine

@@ -22,6 +22,7 @@ use Rattle.dt_machine.specs.Given as given
 use Rattle.dt_machine.specs.Given.{list_of, items_of, list_at}
 use Rattle.dt_machine.specs.Reading.{scripts_in}
 use Rattle.dt_machine.specs.Rows.{FiringRow, firing_row, script_rows, number_in, arguments, frames}
+use Rattle.dt_cred.specs.Limits.{argument_count, frame_count}
 
 abbrev IsNumberIn : Num → Type 0
 IsNumberIn (unsigned n) = n < 2 ^ 64
@@ -264,9 +265,9 @@ argument_in (Some z) h = h
 -- so have the arguments and the frames of the firing that it stands for
 pub arguments_fit : (list : List (Option ℤ)) → AllByRecursion SignedIn list → AllByRecursion (FitsSigned w64) (arguments list)
 arguments_fit list h =
-    all_joined (FitsSigned w64) (map (λ o. unwrap_or o (pos 0)) list) (replicate (10 - length list) (pos 0))
+    all_joined (FitsSigned w64) (map (λ o. unwrap_or o (pos 0)) list) (replicate (argument_count - length list) (pos 0))
     (all_mapped SignedIn (FitsSigned w64) (λ o. unwrap_or o (pos 0)) argument_in list h)
-    (all_same (FitsSigned w64) (10 - length list) (pos 0) (record { sfits = lit< tt }))
+    (all_same (FitsSigned w64) (argument_count - length list) (pos 0) (record { sfits = lit< tt }))
 
 frame_in : (o : Option ℕ) → UnsignedIn o → IsFrameInBounds (number_in o)
 frame_in None h = lit< tt
@@ -274,6 +275,6 @@ frame_in (Some n) h = h
 
 pub frames_fit : (list : List (Option ℕ)) → AllByRecursion UnsignedIn list → AllByRecursion IsFrameInBounds (frames list)
 frames_fit list h =
-    all_joined IsFrameInBounds (map number_in list) (replicate (8 - length list) 0)
+    all_joined IsFrameInBounds (map number_in list) (replicate (frame_count - length list) 0)
     (all_mapped UnsignedIn IsFrameInBounds number_in frame_in list h)
-    (all_same IsFrameInBounds (8 - length list) 0 (lit< tt))
+    (all_same IsFrameInBounds (frame_count - length list) 0 (lit< tt))

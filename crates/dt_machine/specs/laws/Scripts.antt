@@ -8,6 +8,7 @@ use Rattle.dt_cred.specs.declared.firing.Firing.{Firing as FiringType}
 use Rattle.dt_machine.specs.Reading.{AllRight, AllRightIn}
 use Rattle.dt_machine.specs.Registry.{Registry, Belongs, IsInScript, firing_at}
 use Rattle.dt_machine.specs.Rows.{FiringRow, HasRoom, firing, script, scripts}
+use Rattle.dt_machine.specs.Limits.{script_max}
 
 pub length-front : {A : Type 0} (rows : List A) (i : ℕ) (row : A) → slice_get rows i ≡ Some row
     → length (take i rows) ≡ i
@@ -82,14 +83,14 @@ length-scripts cpu [] = refl
 length-scripts cpu (rows ∷ all) = ap suc (length-scripts (cpu + 1) all)
 
 pub length-script_at : (all : List (List FiringRow)) (k : ℕ) → AllRightIn HasRoom all
-    → IfSome (slice_get (scripts 0 all) k) (λ found. length found ≤ 65536)
+    → IfSome (slice_get (scripts 0 all) k) (λ found. length found ≤ script_max)
 length-script_at all k room = step (slice_get (scripts 0 all) k) refl
   where
-    step : (o : Option (List FiringType)) → slice_get (scripts 0 all) k ≡ o → IfSome o (λ found. length found ≤ 65536)
+    step : (o : Option (List FiringType)) → slice_get (scripts 0 all) k ≡ o → IfSome o (λ found. length found ≤ script_max)
     step None there = tt
     step (Some found) there =
         let at = scripts_at 0 all k found there in
-        let few = few_rows at.rows 65536 (room k at.rows at.there) in
+        let few = few_rows at.rows script_max (room k at.rows at.there) in
         let counted : length found ≡ length at.rows = ap length at.is ∙ length-script (0 + k) 0 at.rows in
         omega arith
 

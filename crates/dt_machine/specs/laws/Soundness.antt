@@ -1,5 +1,5 @@
 -- A machine that a text describes is sound.
-use Rattle.std.proofs.Common.{◌≡◌, ◌≢◌, ◌∙◌, ◌<◌, ◌≤◌, ◌==◌, ℕ, Bool, true, false, cond, zero, suc, [], ◌∷◌, List}
+use Rattle.std.proofs.Common.{◌+◌, ◌≡◌, ◌≢◌, ◌∙◌, ◌<◌, ◌≤◌, ◌==◌, ℕ, Bool, true, false, cond, zero, suc, [], ◌∷◌, List}
 use Rattle.std.proofs.Common.{Option, Some, None, IfSome, IsSomeAnd, All, AllPairs, map, take, slice_get, get_or}
 use Rattle.std.proofs.Common.{length, option_map, codes, refl, sym, ap, subst, arith}
 use Rattle.std.specs.Prelude.{find}
@@ -19,6 +19,7 @@ use Rattle.dt_machine.specs.Rows.{AccountRow, ProcessRow, account, process, scri
 use Rattle.dt_machine.specs.Rows.{IsGivenBelow, IsRightAccount, IsRightProcess}
 use Rattle.dt_machine.specs.laws.Scripts.{within, few_rows, length-scripts, length-script_at, placed_at, same_some}
 use Rattle.dt_machine.specs.laws.Spelling.{length-probes, spelled_at, first_probe, second_probe, probes_one}
+use Rattle.dt_machine.specs.Limits.{cpus_max, accounts_max, processes_max, pid_max, probes_max}
 
 abbrev pub at_pid : ℕ → ProcessType → Bool
 at_pid pid p = p.pid == pid
@@ -63,7 +64,7 @@ below_some limit (Some n) h = refl
 pids_differ : (x y : ProcessRow) (before earlier : List ProcessRow) → IsRightProcess earlier x
     → IsRightProcess before y → x.pid ≢ y.pid → number_in x.pid ≢ number_in y.pid
 pids_differ x y before earlier right_x right_y differ same =
-    differ (below_some 1000000 x.pid right_x.pid ∙ ap Some same ∙ sym (below_some 1000000 y.pid right_y.pid))
+    differ (below_some (pid_max + 1) x.pid right_x.pid ∙ ap Some same ∙ sym (below_some (pid_max + 1) y.pid right_y.pid))
 
 pub pids_apart : (rows : List ProcessRow) → AllRight IsRightProcess rows
     → AllPairs (λ (a b : ProcessType). a.pid ≢ b.pid) (map process rows)
@@ -73,29 +74,29 @@ pids_apart rows right =
     (before_at rows i j x (λ (e : ProcessRow). e.pid ≢ y.pid) less there (omega arith) right_y.new))
 
 -- the number of every process is of six digits at most
-below_value : (number : Option ℕ) → IsGivenBelow 1000000 number → number_in number ≤ 999999
+below_value : (number : Option ℕ) → IsGivenBelow (pid_max + 1) number → number_in number ≤ pid_max
 below_value None h = absurd h
 below_value (Some n) h = omega arith
 
-small_rows : (rows : List ProcessRow) → AllRight IsRightProcess rows → All (λ row. number_in row.pid ≤ 999999) rows
+small_rows : (rows : List ProcessRow) → AllRight IsRightProcess rows → All (λ row. number_in row.pid ≤ pid_max) rows
 small_rows rows right k d inside =
     let at = within rows k inside in
     let is : get_or rows k d ≡ at.0 = get_or_from_slice_get rows k at.0 d at.1 in
-    subst (λ (row : ProcessRow). number_in row.pid ≤ 999999) (sym is) (below_value at.0.pid (right k at.0 at.1).pid)
+    subst (λ (row : ProcessRow). number_in row.pid ≤ pid_max) (sym is) (below_value at.0.pid (right k at.0 at.1).pid)
 
 pub one_or_other : {A : Type 0} (b : Bool) (x : A) (o : Option A) (P : A → Type 0) → P x → IfSome o P
     → IfSome (cond b (Some x) o) P
 one_or_other true x o P here there = here
 one_or_other false x o P here there = there
 
-small_pid : (rows : List ProcessRow) (pid : ℕ) → All (λ row. number_in row.pid ≤ 999999) rows
-    → IfSome (find (at_pid pid) (map process rows)) (λ p. p.pid ≤ 999999)
+small_pid : (rows : List ProcessRow) (pid : ℕ) → All (λ row. number_in row.pid ≤ pid_max) rows
+    → IfSome (find (at_pid pid) (map process rows)) (λ p. p.pid ≤ pid_max)
 small_pid [] pid each = tt
 small_pid (row ∷ rows) pid each =
     one_or_other (number_in row.pid == pid) (process row) (find (at_pid pid) (map process rows))
-    (λ (p : ProcessType). p.pid ≤ 999999)
-    (All-head (λ r. number_in r.pid ≤ 999999) row rows each)
-    (small_pid rows pid (All-tail (λ r. number_in r.pid ≤ 999999) row rows each))
+    (λ (p : ProcessType). p.pid ≤ pid_max)
+    (All-head (λ r. number_in r.pid ≤ pid_max) row rows each)
+    (small_pid rows pid (All-tail (λ r. number_in r.pid ≤ pid_max) row rows each))
 
 numbered_at : (registry : Registry) (texts : List (List ℕ)) (id : ℕ) → AreProbes 1 texts registry.probes
     → IfSome (probe_of registry id) (IsNumbered id)
@@ -131,8 +132,8 @@ one_some : {A : Type 0} (o : Option A) (x : A) (P : A → Type 0) → o ≡ Some
 one_some None x P e h = absurd h
 one_some (Some y) x P e h = let same : y ≡ x = cc in subst P same h
 
-pub cpus_within : (d : Data) (registry : Registry) → HasPassed d registry → (1 ≤ registry.cpus) × (registry.cpus ≤ 64)
-cpus_within d registry h = one_some _ registry.cpus (λ cpus. (1 ≤ cpus) × (cpus ≤ 64)) h.registers.cpus h.cpus
+pub cpus_within : (d : Data) (registry : Registry) → HasPassed d registry → (1 ≤ registry.cpus) × (registry.cpus ≤ cpus_max)
+cpus_within d registry h = one_some _ registry.cpus (λ cpus. (1 ≤ cpus) × (cpus ≤ cpus_max)) h.registers.cpus h.cpus
 
 pub one_script_each : (d : Data) (registry : Registry) → HasPassed d registry → length (scripts_in d) ≡ registry.cpus
 one_script_each d registry h = same_some _ _ (sym h.scripts.0 ∙ h.registers.cpus)
@@ -145,9 +146,9 @@ sound d registry h belong =
     let cpus = cpus_within d registry h in
     let A : List AccountType → Type 0 = AllPairs (λ (a b : AccountType). a.name ≢ b.name) in
     let P : List ProcessType → Type 0 = AllPairs (λ (a b : ProcessType). a.pid ≢ b.pid) in
-    let accounts = few_rows (accounts_in d) 16 (λ k row there. (h.accounts k row there).few) in
-    let processes = few_rows (processes_in d) 1024 (λ k row there. (h.processes k row there).few) in
-    let probes = few_rows (probes_in d) 4096 (λ k row there. (h.probes k row there).few) in
+    let accounts = few_rows (accounts_in d) accounts_max (λ k row there. (h.accounts k row there).few) in
+    let processes = few_rows (processes_in d) processes_max (λ k row there. (h.processes k row there).few) in
+    let probes = few_rows (probes_in d) probes_max (λ k row there. (h.probes k row there).few) in
     let counted = length-probes 1 (codes "dtrace:::BEGIN" ∷ codes "dtrace:::END" ∷ probes_in d) registry.probes
     r.probes in
     record {
@@ -158,7 +159,7 @@ sound d registry h belong =
       few_processes = omega (arith, ap length r.processes, length-map (processes_in d) process);
       pids = subst P (sym r.processes) (pids_apart (processes_in d) h.processes);
       small_pids = λ pid. subst (λ (ps : List ProcessType). IfSome (find (at_pid pid) ps)
-          (λ process. process.pid ≤ 999999)) (sym r.processes)
+          (λ process. process.pid ≤ pid_max)) (sym r.processes)
           (small_pid (processes_in d) pid (small_rows (processes_in d) h.processes));
       few_probes = omega arith;
       first = first_probe (codes "dtrace:::BEGIN") (codes "dtrace:::END") (probes_in d) registry.probes r.probes;

@@ -16,6 +16,7 @@ use Rattle.dt_machine.specs.Rows.{number_in, IsPriv, IsAccountName, IsGivenBelow
 use Rattle.dt_machine.proofs.Lists.{any_true, any_false, list_any-map}
 use Rattle.dt_machine.proofs.Exits.{missed, refused_with}
 use Rattle.dt_machine.proofs.accounts.account_of.Goals as goal
+use Rattle.dt_machine.specs.Limits.{accounts_max}
 
 taken : (before : List Account) (rows : List AccountRow) (name : List ℕ) → before ≡ map account rows
     → list_any (λ account. bytes_eq account.name name) before
@@ -41,7 +42,7 @@ returns-then-is_taken c rows e =
     let named = MatchOption-at_some _ _ _ c.in_ok-name.ensures.ok_part c.account_name.ensures in
     let given : c.as_bytes.result.now ≡ row.name = c.as_bytes.ensures.value ∙ c.text_at.ensures in
     let spelled : c.as_bytes-2.result.now ≡ row.name = c.as_bytes-2.ensures.value ∙ named.1 ∙ given in
-    let few : length rows < 16 = omega (arith, ap length e, length-map rows account) in
+    let few : length rows < accounts_max = omega (arith, ap length e, length-map rows account) in
     let found : list_any (λ (earlier : AccountRow). bytes_eq earlier.name row.name) rows ≡ true =
     sym (taken c.args.before.now rows row.name e)
     ∙ ap (λ text. list_any (λ (a : Account). bytes_eq a.name text) c.args.before.now) (sym spelled)
@@ -69,7 +70,7 @@ returns-in_err-uid c rows e =
     let name : IsAccountName row.name × All (λ (earlier : AccountRow). earlier.name ≢ row.name) rows =
     (subst N given named.0, unseen rows row.name missing) in
     let U : Option ℕ → Type 0 = IsGivenBelow (2 ^ 32) in
-    let few : length rows < 16 = omega (arith, ap length e, length-map rows account) in
+    let few : length rows < accounts_max = omega (arith, ap length e, length-map rows account) in
     let m = missed c.u32_of.result c.has-3.result c.in_err-uid.field-0.0 _ _ c.u32_of.ensures c.in_err-uid.ensures.value in
     refused_with _ (IsFoundOfAccount (length c.args.before.now) rows row) c.from_residual-in_err-uid.result
     c.in_err-uid.field-0.0 c.from_residual-in_err-uid.ensures.1
@@ -89,7 +90,7 @@ returns-in_err-privs c rows e =
     let name : IsAccountName row.name × All (λ (earlier : AccountRow). earlier.name ≢ row.name) rows =
     (subst N given named.0, unseen rows row.name missing) in
     let U : Option ℕ → Type 0 = IsGivenBelow (2 ^ 32) in
-    let few : length rows < 16 = omega (arith, ap length e, length-map rows account) in
+    let few : length rows < accounts_max = omega (arith, ap length e, length-map rows account) in
     let uid = MatchOption-at_some _ _ _ c.in_ok-uid.ensures.ok_part c.u32_of.ensures in
     let P : List (List ℕ) → Type 0 = All IsPriv in
     let held = ap (map text_of) c.list_at.ensures in

@@ -9,6 +9,7 @@ use Rattle.dt_machine.specs.Reading.{AllRight, IsFirstWrong}
 use Rattle.dt_machine.specs.Sections.{registry_of}
 use Rattle.dt_machine.proofs.Searching.{right_more, right_all}
 use Rattle.dt_machine.proofs.belonging.first_foreign.Goals as goal
+use Rattle.dt_machine.specs.Limits.{script_max}
 
 abbrev shown : Vec Firing Global → List Firing
 shown script = script.items
@@ -21,7 +22,7 @@ script_there scripts k script inside is =
 
 pub first_foreign_in-requires-clause-short : goal.first_foreign_in-requires-clause-short
 first_foreign_in-requires-clause-short c =
-    let S : List Firing → Type 0 = AllRight (λ before _. length before < 65536) in
+    let S : List Firing → Type 0 = AllRight (λ before _. length before < script_max) in
     subst S (sym c.as_slice.ensures.value) (c.requires.short c.loop-cpu.cpu c.index-scripts-cpu.result.items
     (script_there c.args.scripts.now c.loop-cpu.cpu c.index-scripts-cpu.result c.loop-cpu-test.true
     c.index-scripts-cpu.is))

@@ -7,6 +7,7 @@ use Rattle.dt_machine.specs.Given.{signed}
 use Rattle.dt_machine.proofs.Padding.{pad_step, some_step, none_there}
 use Rattle.dt_machine.proofs.Searching.{row_at}
 use Rattle.dt_machine.proofs.numbers.arguments_of.Goals as goal
+use Rattle.dt_cred.specs.Limits.{argument_count}
 
 pub returns-in_err-found : goal.returns-in_err-found
 returns-in_err-found c =
@@ -27,5 +28,5 @@ loop-i-preserved c =
     record {
       each = some_step rows i x there c.loop-i.invariant.each;
       found = ap (set c.loop-i.found i) (to_z-of_z w64 x fits)
-          ∙ pad_step f rows i 10 (Some x) (pos 0) c.loop-i.found there (omega arith) c.loop-i.invariant.found;
+          ∙ pad_step f rows i argument_count (Some x) (pos 0) c.loop-i.found there (omega arith) c.loop-i.invariant.found;
     }

@@ -6,6 +6,7 @@ use Rattle.dt_machine.specs.Rows.{number_in}
 use Rattle.dt_machine.proofs.Padding.{pad_step, some_step, none_there}
 use Rattle.dt_machine.proofs.Searching.{row_at}
 use Rattle.dt_machine.proofs.numbers.frames_of.Goals as goal
+use Rattle.dt_cred.specs.Limits.{frame_count}
 
 pub returns-in_err-found : goal.returns-in_err-found
 returns-in_err-found c =
@@ -23,5 +24,5 @@ loop-i-preserved c =
     ∙ ap Some (sym c.as_u64.ensures ∙ c.in_ok-found.was) in
     record {
       each = some_step rows i x there c.loop-i.invariant.each;
-      found = pad_step number_in rows i 8 (Some x) 0 c.loop-i.found there (omega arith) c.loop-i.invariant.found;
+      found = pad_step number_in rows i frame_count (Some x) 0 c.loop-i.found there (omega arith) c.loop-i.invariant.found;
     }

@@ -11,17 +11,18 @@ use Rattle.dt_machine.specs.laws.Spelling.{spells_one, length-probes, spelled_at
 use Rattle.dt_machine.proofs.Spelling.{new_spelling, traced_by_class}
 use Rattle.dt_machine.proofs.Spelling.{class_traced, all_at}
 use Rattle.dt_machine.proofs.probes.probe_of.Goals as goal
+use Rattle.dt_machine.specs.Limits.{probes_max}
 
 pub returns-then-before-ge-PROBES_MAX : goal.returns-then-before-ge-PROBES_MAX
 returns-then-before-ge-PROBES_MAX c rows are =
     let counted = length-probes 3 rows c.args.before.now are in
-    let many : length rows < 4096 → ⊥ = λ few. omega arith in
+    let many : length rows < probes_max → ⊥ = λ few. omega arith in
     inl (many, c.has.ensures)
 
 pub returns-in_err-tuple : goal.returns-in_err-tuple
 returns-in_err-tuple c rows are =
     let counted = length-probes 3 rows c.args.before.now are in
-    let few : length rows < 4096 = omega arith in
+    let few : length rows < probes_max = omega arith in
     let m = missed_text c.parse.result c.has-2.result c.in_err-tuple.field-0.0 _ c.parse.ensures.none
     c.in_err-tuple.ensures.value in
     let none : SpellsNew rows c.args.text.now → ⊥ = λ new. m.0 new.0 new.1 in
@@ -32,7 +33,7 @@ returns-in_err-tuple c rows are =
 pub returns-then-is_taken : goal.returns-then-is_taken
 returns-then-is_taken c rows are =
     let counted = length-probes 3 rows c.args.before.now are in
-    let few : length rows < 4096 = omega arith in
+    let few : length rows < probes_max = omega arith in
     let tuple = c.in_ok-tuple.tuple in
     let spelled = found_text c.parse.result (SpellsTuple c.args.text.now) tuple c.in_ok-tuple.ensures.ok_part
     c.parse.ensures.found in
@@ -48,7 +49,7 @@ returns-then-is_taken c rows are =
 pub returns-then-not-is_traced : goal.returns-then-not-is_traced
 returns-then-not-is_traced c rows are =
     let counted = length-probes 3 rows c.args.before.now are in
-    let few : length rows < 4096 = omega arith in
+    let few : length rows < probes_max = omega arith in
     let tuple = c.in_ok-tuple.tuple in
     let spelled = found_text c.parse.result (SpellsTuple c.args.text.now) tuple c.in_ok-tuple.ensures.ok_part
     c.parse.ensures.found in

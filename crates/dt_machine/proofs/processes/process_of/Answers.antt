@@ -1,5 +1,5 @@
 -- What the proof of `process_of` is told at its goals.
-use Rattle.std.proofs.Common.{◌≡◌, ◌≢◌, ◌∙◌, ◌^◌, ℕ, List, Option, Some, All, ap, sym, subst, map, arith}
+use Rattle.std.proofs.Common.{◌+◌, ◌≡◌, ◌≢◌, ◌∙◌, ◌^◌, ℕ, List, Option, Some, All, ap, sym, subst, map, arith}
 use Rattle.std.proofs.Common.{inl, inr, ◌<◌, length}
 use Rattle.std.specs.Prelude.{is_some}
 use Rattle.std.proofs.lemmas.Option.{MatchOption-at_some}
@@ -11,6 +11,7 @@ use Rattle.dt_machine.specs.laws.Soundness.{below_some}
 use Rattle.dt_machine.proofs.ByPid.{indexed, seen, unseen, none_of}
 use Rattle.dt_machine.proofs.Exits.{missed, refused_with}
 use Rattle.dt_machine.proofs.processes.process_of.Goals as goal
+use Rattle.dt_machine.specs.Limits.{processes_max, pid_max}
 
 same : {pid pid' uid uid' : ℕ} {name name' : List ℕ} → pid ≡ pid' → uid ≡ uid' → name ≡ name'
     → ◌≡◌ {A = Process} (record { pid = pid; uid = uid; execname = name })
@@ -22,12 +23,12 @@ returns-then-is_some c rows e known indexes =
     let row = process_row (view c.args.row.now) in
     let pid = c.in_ok-pid.pid in
     let told = MatchOption-at_some _ _ _ c.in_ok-pid.ensures.ok_part c.pid_of.ensures in
-    let given : row.pid ≡ Some pid = sym c.unsigned_at.ensures ∙ below_some 1000000 c.unsigned_at.result told.0
+    let given : row.pid ≡ Some pid = sym c.unsigned_at.ensures ∙ below_some (pid_max + 1) c.unsigned_at.result told.0
     ∙ ap Some (sym told.1) in
     let P : Option ℕ → Type 0 = λ number. All (λ (earlier : ProcessRow). earlier.pid ≢ number) rows in
     let found = sym (indexed c.args.by_pid.now (map process rows) indexes pid)
     ∙ ap is_some (sym c.place_of.ensures) ∙ sym c.is_some.ensures ∙ c.if-is_some.true in
-    let few : length rows < 1024 = omega arith in
+    let few : length rows < processes_max = omega arith in
     inr (few, inl ((λ right. seen rows pid known found (subst P given right.1)), c.has-then-is_some.ensures))
 
 pub returns-in_err-uid : goal.returns-in_err-uid
@@ -35,17 +36,17 @@ returns-in_err-uid c rows e known indexes =
     let row = process_row (view c.args.row.now) in
     let pid = c.in_ok-pid.pid in
     let told = MatchOption-at_some _ _ _ c.in_ok-pid.ensures.ok_part c.pid_of.ensures in
-    let given : row.pid ≡ Some pid = sym c.unsigned_at.ensures ∙ below_some 1000000 c.unsigned_at.result told.0
+    let given : row.pid ≡ Some pid = sym c.unsigned_at.ensures ∙ below_some (pid_max + 1) c.unsigned_at.result told.0
     ∙ ap Some (sym told.1) in
     let P : Option ℕ → Type 0 = λ number. All (λ (earlier : ProcessRow). earlier.pid ≢ number) rows in
     let missing = sym (indexed c.args.by_pid.now (map process rows) indexes pid)
     ∙ ap is_some (sym c.place_of.ensures) ∙ sym c.is_some.ensures ∙ c.if-is_some.false in
-    let B : Option ℕ → Type 0 = IsGivenBelow 1000000 in
+    let B : Option ℕ → Type 0 = IsGivenBelow (pid_max + 1) in
     let U : Option ℕ → Type 0 = IsGivenBelow (2 ^ 32) in
     let N : List ℕ → Type 0 = IsExecname in
-    let numbered : IsGivenBelow 1000000 row.pid × All (λ (earlier : ProcessRow). earlier.pid ≢ row.pid) rows =
+    let numbered : IsGivenBelow (pid_max + 1) row.pid × All (λ (earlier : ProcessRow). earlier.pid ≢ row.pid) rows =
     (subst B c.unsigned_at.ensures told.0, subst P (sym given) (unseen rows pid missing)) in
-    let few : length rows < 1024 = omega arith in
+    let few : length rows < processes_max = omega arith in
     let m = missed c.u32_of.result c.has-3.result c.in_err-uid.field-0.0 _ _ c.u32_of.ensures c.in_err-uid.ensures.value in
     refused_with _ (IsFoundOfProcess c.args.before rows row) c.from_residual-in_err-uid.result c.in_err-uid.field-0.0
     c.from_residual-in_err-uid.ensures.1
@@ -56,17 +57,17 @@ returns-in_err-execname c rows e known indexes =
     let row = process_row (view c.args.row.now) in
     let pid = c.in_ok-pid.pid in
     let told = MatchOption-at_some _ _ _ c.in_ok-pid.ensures.ok_part c.pid_of.ensures in
-    let given : row.pid ≡ Some pid = sym c.unsigned_at.ensures ∙ below_some 1000000 c.unsigned_at.result told.0
+    let given : row.pid ≡ Some pid = sym c.unsigned_at.ensures ∙ below_some (pid_max + 1) c.unsigned_at.result told.0
     ∙ ap Some (sym told.1) in
     let P : Option ℕ → Type 0 = λ number. All (λ (earlier : ProcessRow). earlier.pid ≢ number) rows in
     let missing = sym (indexed c.args.by_pid.now (map process rows) indexes pid)
     ∙ ap is_some (sym c.place_of.ensures) ∙ sym c.is_some.ensures ∙ c.if-is_some.false in
-    let B : Option ℕ → Type 0 = IsGivenBelow 1000000 in
+    let B : Option ℕ → Type 0 = IsGivenBelow (pid_max + 1) in
     let U : Option ℕ → Type 0 = IsGivenBelow (2 ^ 32) in
     let N : List ℕ → Type 0 = IsExecname in
-    let numbered : IsGivenBelow 1000000 row.pid × All (λ (earlier : ProcessRow). earlier.pid ≢ row.pid) rows =
+    let numbered : IsGivenBelow (pid_max + 1) row.pid × All (λ (earlier : ProcessRow). earlier.pid ≢ row.pid) rows =
     (subst B c.unsigned_at.ensures told.0, subst P (sym given) (unseen rows pid missing)) in
-    let few : length rows < 1024 = omega arith in
+    let few : length rows < processes_max = omega arith in
     let uid = MatchOption-at_some _ _ _ c.in_ok-uid.ensures.ok_part c.u32_of.ensures in
     let name : c.as_bytes.result.now ≡ row.execname = c.as_bytes.ensures.value ∙ c.text_at.ensures in
     let m = missed c.execname_of.result c.has-4.result c.in_err-execname.field-0.0 _ _ c.execname_of.ensures
@@ -89,15 +90,15 @@ returns c rows e known indexes =
     let row = process_row (view c.args.row.now) in
     let pid = c.in_ok-pid.pid in
     let told = MatchOption-at_some _ _ _ c.in_ok-pid.ensures.ok_part c.pid_of.ensures in
-    let given : row.pid ≡ Some pid = sym c.unsigned_at.ensures ∙ below_some 1000000 c.unsigned_at.result told.0
+    let given : row.pid ≡ Some pid = sym c.unsigned_at.ensures ∙ below_some (pid_max + 1) c.unsigned_at.result told.0
     ∙ ap Some (sym told.1) in
     let P : Option ℕ → Type 0 = λ number. All (λ (earlier : ProcessRow). earlier.pid ≢ number) rows in
     let missing = sym (indexed c.args.by_pid.now (map process rows) indexes pid)
     ∙ ap is_some (sym c.place_of.ensures) ∙ sym c.is_some.ensures ∙ c.if-is_some.false in
-    let B : Option ℕ → Type 0 = IsGivenBelow 1000000 in
+    let B : Option ℕ → Type 0 = IsGivenBelow (pid_max + 1) in
     let U : Option ℕ → Type 0 = IsGivenBelow (2 ^ 32) in
     let N : List ℕ → Type 0 = IsExecname in
-    let numbered : IsGivenBelow 1000000 row.pid × All (λ (earlier : ProcessRow). earlier.pid ≢ row.pid) rows =
+    let numbered : IsGivenBelow (pid_max + 1) row.pid × All (λ (earlier : ProcessRow). earlier.pid ≢ row.pid) rows =
     (subst B c.unsigned_at.ensures told.0, subst P (sym given) (unseen rows pid missing)) in
     let uid = MatchOption-at_some _ _ _ c.in_ok-uid.ensures.ok_part c.u32_of.ensures in
     let named = MatchOption-at_some _ _ _ c.in_ok-execname.ensures.ok_part c.execname_of.ensures in

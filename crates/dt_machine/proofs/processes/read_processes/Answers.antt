@@ -1,5 +1,5 @@
 -- What the proof of `read_processes` is told at its goals.
-use Rattle.std.proofs.Common.{◌≡◌, ◌∙◌, ◌<◌, ◌^◌, ℕ, ap, sym, take, find, length, All, IsSome, List, Option, Some}
+use Rattle.std.proofs.Common.{◌+◌, ◌≡◌, ◌∙◌, ◌<◌, ◌^◌, ℕ, ap, sym, take, find, length, All, IsSome, List, Option, Some}
 use Rattle.std.proofs.Common.{None, arith, refl, subst, [], ◌∷◌, ◌++◌}
 use Rattle.std.proofs.lemmas.List.{length-map}
 use Rattle.std.proofs.lemmas.List.Elements.{All-push}
@@ -16,12 +16,13 @@ use Rattle.dt_machine.specs.laws.Scripts.{length-front}
 use Rattle.dt_machine.proofs.Searching.{row_at, right_more, right_all, map_next, take_next}
 use Rattle.dt_machine.proofs.Searching.{length-rows}
 use Rattle.dt_machine.proofs.processes.read_processes.Goals as goal
+use Rattle.dt_machine.specs.Limits.{pid_max}
 
 some_below : (limit : ℕ) (number : Option ℕ) → IsGivenBelow limit number → IsSome number
 some_below limit None h = absurd h
 some_below limit (Some n) h = refl
 
-small_pid : (p : Process) (number : Option ℕ) → p.pid ≡ number_in number → IsGivenBelow 1000000 number → p.pid < 2 ^ 32
+small_pid : (p : Process) (number : Option ℕ) → p.pid ≡ number_in number → IsGivenBelow (pid_max + 1) number → p.pid < 2 ^ 32
 small_pid p None e h = absurd h
 small_pid p (Some n) e h = omega arith
 
@@ -50,7 +51,7 @@ loop-value-preserved c =
       right = right_more IsRightProcess rows i row c.loop-value.invariant.right there right.0;
       known = subst K (sym (take_next rows i row there))
           (All-push (λ (r : ProcessRow). IsSome r.pid) (take i rows) row c.loop-value.invariant.known
-          (some_below 1000000 row.pid right.0.pid));
+          (some_below (pid_max + 1) row.pid right.0.pid));
       read = pushed ∙ ap (λ found. c.loop-value.processes.items ++ found ∷ []) right.1
           ∙ map_next process rows i row c.loop-value.processes.items there read;
       small = subst S (sym pushed) (All-push (λ (found : Process). found.pid < 2 ^ 32) c.loop-value.processes.items

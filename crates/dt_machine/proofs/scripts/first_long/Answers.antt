@@ -7,6 +7,7 @@ use Rattle.dt_machine.specs.Sections.{scripts_rows, firing_rows}
 use Rattle.dt_machine.proofs.Firings.{too_long, short_enough}
 use Rattle.dt_machine.proofs.Searching.{row_at, right_more, right_all, length-rows}
 use Rattle.dt_machine.proofs.scripts.first_long.Goals as goal
+use Rattle.dt_machine.specs.Limits.{script_max}
 
 pub returns-then-items_of-gt-SCRIPT_MAX : goal.returns-then-items_of-gt-SCRIPT_MAX
 returns-then-items_of-gt-SCRIPT_MAX c =
@@ -15,13 +16,13 @@ returns-then-items_of-gt-SCRIPT_MAX c =
     c.loop-cpu-test.true c.index-scripts-cpu.is in
     let counted : length (firing_rows c.items_of.result.now) ≡ length script =
     ap (λ ds. length (map firing_row ds)) c.items_of.ensures in
-    let long : 65536 < length script = omega (
+    let long : script_max < length script = omega (
       arith,
       counted,
       length-rows firing_row c.items_of.result.now,
       c.if-items_of-gt-SCRIPT_MAX.true,
     ) in
-    record { script = script; there = there; first = too_long script 65536 long; right_before = c.loop-cpu.invariant }
+    record { script = script; there = there; first = too_long script script_max long; right_before = c.loop-cpu.invariant }
 
 pub loop-cpu-preserved : goal.loop-cpu-preserved
 loop-cpu-preserved c =
@@ -30,14 +31,14 @@ loop-cpu-preserved c =
     c.loop-cpu-test.true c.index-scripts-cpu.is in
     let counted : length (firing_rows c.items_of.result.now) ≡ length script =
     ap (λ ds. length (map firing_row ds)) c.items_of.ensures in
-    let short : length script ≤ 65536 = omega (
+    let short : length script ≤ script_max = omega (
       arith,
       counted,
       length-rows firing_row c.items_of.result.now,
       c.if-items_of-gt-SCRIPT_MAX.false,
     ) in
     right_more (λ _ rows. AllRight HasRoom rows) (scripts_rows c.args.scripts.now) c.loop-cpu.cpu script
-    c.loop-cpu.invariant there (short_enough script 65536 short)
+    c.loop-cpu.invariant there (short_enough script script_max short)
 
 pub returns : goal.returns
 returns c =

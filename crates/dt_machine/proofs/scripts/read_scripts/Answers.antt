@@ -13,6 +13,7 @@ use Rattle.dt_machine.specs.laws.Scripts.{few_rows}
 use Rattle.dt_machine.proofs.Firings.{scripts_next}
 use Rattle.dt_machine.proofs.Searching.{row_at, right_more, right_all, length-rows}
 use Rattle.dt_machine.proofs.scripts.read_scripts.Goals as goal
+use Rattle.dt_machine.specs.Limits.{script_max}
 
 pub read_script-requires-clause-short : goal.read_script-requires-clause-short
 read_script-requires-clause-short c =
@@ -23,7 +24,7 @@ read_script-requires-clause-short c =
     ap (λ ds. length (map firing_row ds)) c.items_of.ensures in
     omega (
       arith,
-      few_rows rows 65536 (c.requires.short c.loop-cpu.cpu rows there),
+      few_rows rows script_max (c.requires.short c.loop-cpu.cpu rows there),
       counted,
       length-rows firing_row c.items_of.result.now,
     )

@@ -16,6 +16,7 @@ use Rattle.dt_machine.specs.laws.Soundness.{cpus_within, one_script_each, sound}
 use Rattle.dt_machine.specs.laws.Scripts.{length-scripts}
 use Rattle.dt_machine.proofs.Soundness.{has_passed, short_scripts}
 use Rattle.dt_machine.proofs.machine.Machine.read.Goals as goal
+use Rattle.dt_machine.specs.Limits.{script_max}
 
 abbrev shown : Vec FiringType Global → List FiringType
 shown script = script.items
@@ -91,7 +92,7 @@ first_foreign-requires-clause-short c =
     let same : scripts_rows c.list_at.result.now ≡ scripts_in d = ap (map script_rows) c.list_at.ensures in
     let all : map shown c.as_slice.result.now ≡ scripts 0 (scripts_in d) = ap (map shown) c.as_slice.ensures.value
     ∙ c.in_ok-scripts.ensures.scripts ∙ ap (scripts 0) same in
-    let S : List (List FiringType) → Type 0 = AllRightIn (λ before _. length before < 65536) in
+    let S : List (List FiringType) → Type 0 = AllRightIn (λ before _. length before < script_max) in
     subst S (sym all) (short_scripts (scripts_in d) h.scripts.1)
 
 pub returns-in-Some-clause-fault : goal.returns-in-Some-clause-fault

@@ -15,6 +15,7 @@ use Rattle.dt_machine.specs.laws.Scripts.{few_rows}
 use Rattle.dt_machine.proofs.Searching.{length-rows}
 use Rattle.dt_machine.specs.laws.Spelling.{length-probes}
 use Rattle.dt_machine.proofs.sections.Sections.read.Goals as goal
+use Rattle.dt_machine.specs.Limits.{probes_max}
 
 pub returns-in_err-accounts-clause-fault : goal.returns-in_err-accounts-clause-fault
 returns-in_err-accounts-clause-fault c =
@@ -128,7 +129,7 @@ returns-in-None-clause-ok c =
     right in
     let counted = c.in-Some-cpus_of.ensures.1 ∙ ap Some
     (c.in-None.ensures.0 ∙ sym (length-rows script_rows c.list_at-4.result.now) ∙ ap length scripts) in
-    let few = few_rows (probes_in d) 4096 (λ k row there. (right k row there).few) in
+    let few = few_rows (probes_in d) probes_max (λ k row there. (right k row there).few) in
     let all = length-probes 1 (codes "dtrace:::BEGIN" ∷ codes "dtrace:::END" ∷ probes_in d)
     c.in_ok-probes.probes.items are in
     record {
