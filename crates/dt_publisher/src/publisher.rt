@@ -136,7 +136,15 @@ impl<J: Site> Publisher<J> {
         self.writer.published()
     }
 
-    /// Whether all writes of a front are published. If not, the front goes on from those that are: that never comes, but no clause of the chains says so.
+    /// Any front of the site begins `writes`, whoever has it: so does what any reader has seen or was told. Nothing changes, and it takes no memory.
+    pub fn whole(&mut self, front: &Front<J>)
+        ensures whole { IsPrefix front.now self.new.writes }
+        ensures same { self.new ≡ self.old }
+    {
+        self.writer.whole(front);
+    }
+
+    /// Whether all writes of a front are published. If not, the front goes on from those that are, by writes of which the last waits for memory.
     pub fn has(&self, front: &Front<J>) -> bool
         ensures order { MatchBool result (IsPrefix front.now self.now.published) (IsPrefix self.now.published front.now) }
         ensures when { IsTrue result ↔ (length front.now ≤ length self.now.published) }
