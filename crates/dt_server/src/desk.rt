@@ -14,7 +14,7 @@ enum Task {
 }
 
 /// What lies on a desk.
-#[derive(Clone, Copy, Debug)]
+#[derive(Clone, Copy)]
 struct Orders {
     task: Task,
     /// The seats at which sessions have ended since the processor let go of such.
@@ -22,7 +22,7 @@ struct Orders {
 }
 
 /// What a processor's thread does next.
-#[derive(Clone, Copy, Debug, PartialEq, Eq)]
+#[derive(Clone, Copy, PartialEq, Eq)]
 pub(crate) enum Duty {
     /// It makes so many firings.
     Fire(u32),
