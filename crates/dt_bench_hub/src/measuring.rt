@@ -47,7 +47,11 @@ fn fire_together<J: HubSite + Send + Sync, R: Threads + Wait + Sync>(
     other: &mut CpuSeat<J>,
     most: u64,
 ) -> u64 {
-    let (first, second) = join(rt, || fires(rt, hub, one, most), || fires(rt, hub, other, most));
+    let (first, second) = join(
+        rt,
+        || fires(rt, hub, one, most),
+        || fires(rt, hub, other, most),
+    );
     first.wrapping_add(second)
 }
 
