@@ -15,16 +15,16 @@ use Rattle.dt_lang.specs.declared.word.Function.{Function}
 use Rattle.dt_lang.specs.declared.word.Function.TheVariants as function
 use Rattle.dt_lang.specs.declared.word.Word.TheVariants as word
 use Rattle.dt_lang.specs.machine.ExpressionState as expression
-use Rattle.dt_lang.specs.Grammar.{call_of, before_statement, after_statement}
+use Rattle.dt_lang.specs.Grammar.{call_of, statement_of, before_statement, after_statement}
 use Rattle.dt_program.specs.Clause.{ArgForm, number, CallForm, StatementForm, aggregate, ClauseForm}
-use Rattle.dt_lang.specs.Stand.{Slot, predicate, traced, exited, key, value}
+use Rattle.dt_lang.specs.Stand.{Slot, predicate, given, key, value}
 use Rattle.dt_lang.specs.machine.ClauseState.{BoundForm, at_lower, at_upper, at_step, PlaceForm, outside, described, listed}
 use Rattle.dt_lang.specs.machine.ClauseState.{guarded, body, called, stack_opened, closing, named, keyed, assigned, applied, within}
 use Rattle.dt_lang.specs.machine.ClauseState.{bounding, negating, bounded, ProgramState, program_at, ended, entered}
 use Rattle.dt_lang.specs.machine.ClauseState.{from_outside, from_described, from_listed, from_guarded, from_before_statement, from_after_statement}
 use Rattle.dt_lang.specs.machine.ClauseState.{after_call, from_called, stack_of, from_stack_opened, from_closing, from_named, from_keyed}
-use Rattle.dt_lang.specs.machine.ClauseState.{from_assigned, function_given, from_applied, shut_predicate, shut_traced}
-use Rattle.dt_lang.specs.machine.ClauseState.{shut_exited, shut_key, shut_levels, shut_value, shut, go_on, from_within}
+use Rattle.dt_lang.specs.machine.ClauseState.{from_assigned, function_given, from_applied, shut_predicate, shut_given}
+use Rattle.dt_lang.specs.machine.ClauseState.{shut_key, shut_levels, shut_value, shut, go_on, from_within}
 use Rattle.dt_lang.specs.machine.ClauseState.{from_bounding, from_negating, from_bounded, program_step_from, program_step}
 use Rattle.dt_lang.specs.declared.fault.Limit.{Limit}
 use Rattle.dt_lang.specs.declared.fault.Limit.TheVariants as limits
@@ -114,10 +114,9 @@ module _ (cs : List ClauseForm) (c : ClauseForm) where
   }
 
   fits_after_call : (a : Action) → FitsStatement cs c → Fits (after_call a cs c)
-  fits_after_call action.Trace h = record { fits = h; few = omega arith }
-  fits_after_call action.Exit h = record { fits = h; few = omega arith }
   fits_after_call action.Stack h = h
   fits_after_call action.Ustack h = h
+  fits_after_call _ h = record { fits = h; few = omega arith }
 
   fits_called : (a : Action) (t : Token) (next : ProgramState) → FitsStatement cs c → from_called cs c a t ≡ Some next
       → Fits next
@@ -186,15 +185,15 @@ module _ (cs : List ClauseForm) (c : ClauseForm) where
   })
   fits_predicate _ _ next h e = absurd (none_some e)
 
-  fits_traced : (a : ArgForm) (t : Token) (next : ProgramState) → FitsStatement cs c
-      → shut_traced cs c a t ≡ Some next → Fits next
-  fits_traced a (token.Sign sign.CloseParen) next h e = landed _ _ e (fits_ended _ h)
-  fits_traced a _ next h e = absurd (none_some e)
+  fits_statement : (s : Option StatementForm) (next : ProgramState) → FitsStatement cs c
+      → option_and_then (λ s. Some (ended cs c s)) s ≡ Some next → Fits next
+  fits_statement (Some s) next h e = landed _ _ e (fits_ended _ h)
+  fits_statement None next h e = absurd (none_some e)
 
-  fits_exited : (a : ArgForm) (t : Token) (next : ProgramState) → FitsStatement cs c
-      → shut_exited cs c a t ≡ Some next → Fits next
-  fits_exited (number f) (token.Sign sign.CloseParen) next h e = landed _ _ e (fits_ended _ h)
-  fits_exited _ _ next h e = absurd (none_some e)
+  fits_argument : (action : Action) (a : ArgForm) (t : Token) (next : ProgramState) → FitsStatement cs c
+      → shut_given cs c action a t ≡ Some next → Fits next
+  fits_argument action a (token.Sign sign.CloseParen) next h e = fits_statement (statement_of action a) next h e
+  fits_argument action a _ next h e = absurd (none_some e)
 
   -- one key more
   fits_more : (keys : List ArgForm) (a : ArgForm) (n : ℕ) (x : expression.State) → FitsKey cs c keys n x
@@ -234,8 +233,7 @@ module _ (cs : List ClauseForm) (c : ClauseForm) where
   fits_shut : (slot : Slot) (a : ArgForm) (n : ℕ) (x : expression.State) (t : Token) (next : ProgramState)
       → FitsSlot cs c slot n x → expression.done x ≡ Some a → shut cs c slot t a ≡ Some next → Fits next
   fits_shut predicate a n x t next h d e = fits_predicate a t next h e
-  fits_shut traced a n x t next h d e = fits_traced a t next h e
-  fits_shut exited a n x t next h d e = fits_exited a t next h e
+  fits_shut (given action) a n x t next h d e = fits_argument action a t next h e
   fits_shut (key name keys) a n x t next h d e = fits_key name keys a n x t next h d e
   fits_shut (value name keys fn) a n x t next h d e = fits_value name keys fn a t next h e
 
@@ -258,8 +256,7 @@ module _ (cs : List ClauseForm) (c : ClauseForm) where
       → limit_within slot n ≡ None
       → FitsSlot cs c slot (n + 1) next
   fits_more_of predicate n x next h l = h
-  fits_more_of traced n x next h l = h
-  fits_more_of exited n x next h l = h
+  fits_more_of (given a) n x next h l = h
   fits_more_of (key name keys) n x next h l = record { target = h.target; room = inl (key_room name keys n x h l) }
   fits_more_of (value name keys fn) n x next h l = h
 

@@ -8,11 +8,12 @@ use Rattle.dt_program.specs.Limits.{frames_max}
 use Rattle.dt_lang.specs.declared.token.Sign.TheVariants as sign
 use Rattle.dt_lang.specs.declared.token.Token.{Token}
 use Rattle.dt_lang.specs.declared.token.Token.TheVariants as token
+use Rattle.dt_lang.specs.declared.word.Action.{Action}
 use Rattle.dt_lang.specs.declared.word.Action.TheVariants as action
 use Rattle.dt_lang.specs.declared.word.Function.{Function}
 use Rattle.dt_lang.specs.declared.word.Function.TheVariants as function
 use Rattle.dt_lang.specs.declared.word.Word.TheVariants as word
-use Rattle.dt_program.specs.Clause.{ArgForm, CallForm, count, sum, avg, min, max, quantize, lquantize, StatementForm, trace, stack, ustack, exit, aggregate, ClauseForm}
+use Rattle.dt_program.specs.Clause.{ArgForm, number, CallForm, count, sum, avg, min, max, quantize, lquantize, StatementForm, trace, stack, ustack, exit, aggregate, ClauseForm}
 use Rattle.dt_lang.specs.Expression.{ReadsExpr, ReadsArgument}
 
 -- The tokens are a head: descriptions with `,` between them.
@@ -80,6 +81,16 @@ pub data ReadsCall : List Token → CallForm → Type 0 where
       (token.Word (word.Function function.Lquantize) ∷ token.Sign sign.OpenParen
       ∷ (ts ++ (us ++ (token.Sign sign.CloseParen ∷ [])))) (lquantize f lower upper step)
 
+-- what an action does with a number or a text, where it is given one
+abbrev pub statement_of : Action → ArgForm → Option StatementForm
+statement_of action.Trace a = Some (trace a)
+statement_of action.Exit (number f) = Some (exit f)
+statement_of _ a = None
+
+-- the action is given a number, whichever it is
+abbrev pub TakesNumber : Action → Type 0
+TakesNumber a = (f : Form) → (s : StatementForm) × (statement_of a (number f) ≡ Some s)
+
 -- some frames of a stack: 1 to 8
 pub record IsFrameCount (n : ℕ) : Type 0 where
   pub some : 1 ≤ n
@@ -87,10 +98,10 @@ pub record IsFrameCount (n : ℕ) : Type 0 where
 
 -- The tokens are a statement.
 pub data ReadsStatement : List Token → StatementForm → Type 0 where
-  tracing : (ts : List Token) (a : ArgForm) → ReadsArgument ts a
+  of_argument : (a : Action) (ts : List Token) (x : ArgForm) (s : StatementForm) → statement_of a x ≡ Some s
+      → ReadsArgument ts x
       → ReadsStatement
-      (token.Word (word.Action action.Trace) ∷ token.Sign sign.OpenParen ∷ (ts ++ (token.Sign sign.CloseParen ∷ [])))
-      (trace a)
+      (token.Word (word.Action a) ∷ token.Sign sign.OpenParen ∷ (ts ++ (token.Sign sign.CloseParen ∷ []))) s
   of_stack : (n : ℕ) → IsFrameCount n
       → ReadsStatement
       (token.Word (word.Action action.Stack) ∷ token.Sign sign.OpenParen ∷ token.Number (pos n)
@@ -99,10 +110,6 @@ pub data ReadsStatement : List Token → StatementForm → Type 0 where
       → ReadsStatement
       (token.Word (word.Action action.Ustack) ∷ token.Sign sign.OpenParen ∷ token.Number (pos n)
       ∷ token.Sign sign.CloseParen ∷ []) (ustack n)
-  exiting : (ts : List Token) (f : Form) → ReadsExpr true 0 ts f
-      → ReadsStatement
-      (token.Word (word.Action action.Exit) ∷ token.Sign sign.OpenParen ∷ (ts ++ (token.Sign sign.CloseParen ∷ [])))
-      (exit f)
   aggregating : (ts us : List Token) (name : List ℕ) (keys : List ArgForm) (call : CallForm)
       → ReadsTarget ts name keys → ReadsCall us call
       → ReadsStatement (ts ++ (token.Sign sign.Equal ∷ us)) (aggregate name keys call)

@@ -4,12 +4,12 @@ use Rattle.dt_program.specs.Description.{DescForm}
 use Rattle.dt_lang.specs.declared.token.Sign.TheVariants as sign
 use Rattle.dt_lang.specs.declared.token.Token.{Token}
 use Rattle.dt_lang.specs.declared.token.Token.TheVariants as token
-use Rattle.dt_lang.specs.declared.word.Action.TheVariants as action
+use Rattle.dt_lang.specs.declared.word.Action.{Action}
 use Rattle.dt_lang.specs.declared.word.Function.{Function}
 use Rattle.dt_lang.specs.declared.word.Function.TheVariants as function
 use Rattle.dt_lang.specs.declared.word.Word.TheVariants as word
 use Rattle.dt_program.specs.Clause.{ArgForm, ClauseForm}
-use Rattle.dt_lang.specs.Grammar.{ReadsHead, ReadsOpening, ReadsKeys, ReadsTarget, Spot, before_statement, ReadsBody, ReadsClauses}
+use Rattle.dt_lang.specs.Grammar.{ReadsHead, ReadsOpening, ReadsKeys, ReadsTarget, TakesNumber, Spot, before_statement, ReadsBody, ReadsClauses}
 
 -- The tokens are whole clauses and a head.
 pub record HeadStands (ts : List Token) (cs : List ClauseForm) (ds : List DescForm) : Type 0 where
@@ -50,8 +50,7 @@ pub record TargetStands (ts : List Token) (cs : List ClauseForm) (c : ClauseForm
 -- what an expression or a text is read for
 pub data Slot : Type 0 where
   predicate : Slot
-  traced : Slot
-  exited : Slot
+  given : Action → Slot
   key : (name : List ℕ) (before : List ArgForm) → Slot
   value : (name : List ℕ) (keys : List ArgForm) → Function → Slot
 
@@ -65,10 +64,9 @@ pub data SlotOpens : Slot → List Token → List ClauseForm → ClauseForm → 
   a_predicate : (ts : List Token) (cs : List ClauseForm) (ds : List DescForm) → HeadStands ts cs ds
       → SlotOpens predicate (ts ++ (token.Sign sign.Slash ∷ [])) cs
       (record { descriptions = ds; predicate = None; statements = [] })
-  an_argument : (ts : List Token) (cs : List ClauseForm) (c : ClauseForm) → BodyStands before_statement ts cs c
-      → SlotOpens traced (ts ++ (token.Word (word.Action action.Trace) ∷ token.Sign sign.OpenParen ∷ [])) cs c
-  a_status : (ts : List Token) (cs : List ClauseForm) (c : ClauseForm) → BodyStands before_statement ts cs c
-      → SlotOpens exited (ts ++ (token.Word (word.Action action.Exit) ∷ token.Sign sign.OpenParen ∷ [])) cs c
+  an_argument : (ts : List Token) (cs : List ClauseForm) (c : ClauseForm) (a : Action) → TakesNumber a
+      → BodyStands before_statement ts cs c
+      → SlotOpens (given a) (ts ++ (token.Word (word.Action a) ∷ token.Sign sign.OpenParen ∷ [])) cs c
   first_key : (ts : List Token) (cs : List ClauseForm) (c : ClauseForm) (name : List ℕ) → BodyStands before_statement ts cs c
       → SlotOpens (key name []) (ts ++ (token.Aggregation name ∷ token.Sign sign.OpenBracket ∷ [])) cs c
   a_key : (ts : List Token) (cs : List ClauseForm) (c : ClauseForm) (name : List ℕ) (keys : List ArgForm)

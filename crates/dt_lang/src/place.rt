@@ -2,9 +2,9 @@
 ghost use Rattle.std.specs.Prelude.{◌≡◌, ◌≤◌, option_map, vec_len};
 ghost use Rattle.dt_expr.specs.Form.{form_of};
 ghost use Rattle.dt_lang.specs.machine.Cause.{keys_full, limit_within};
-ghost use Rattle.dt_lang.specs.Grammar.{call_of};
+ghost use Rattle.dt_lang.specs.Grammar.{call_of, statement_of};
 ghost use Rattle.dt_lang.specs.machine.PlaceView.{key_forms, slot_form};
-ghost use Rattle.dt_program.specs.Clause.{aggregate, form_of_call, form_of_statement};
+ghost use Rattle.dt_program.specs.Clause.{aggregate, form_of_argument, form_of_call, form_of_statement};
 ghost use Rattle.dt_lang.specs.Stand.{divides_in};
 
 use crate::fault::Limit;
@@ -39,10 +39,8 @@ impl Target {
 pub(crate) enum Slot {
     /// A predicate.
     Predicate,
-    /// What `trace` is given.
-    Traced,
-    /// What `exit` is given.
-    Exited,
+    /// What an action is given.
+    Given(Action),
     /// A key, after those before it.
     Key(Target),
     /// What an aggregating function is given.
@@ -134,6 +132,18 @@ pub(crate) enum ReaderPlace {
     Negating(Levels),
     /// A bound.
     Bounded(Levels, i64),
+}
+
+/// What an action does with a number or a text, where it is given one.
+pub(crate) fn statement_of(action: Action, argument: Argument) -> Option<Statement>
+    ensures { option_map form_of_statement result ≡ statement_of action (form_of_argument argument) }
+{
+    match (action, argument) {
+        (Action::Trace, argument) => Some(Statement::Trace(argument)),
+        (Action::Exit, Argument::Number(status)) => Some(Statement::Exit(status)),
+        // a stack's frames are no expression, and a text is only traced
+        _ => None,
+    }
 }
 
 /// What a function of one value is given, where it is one.

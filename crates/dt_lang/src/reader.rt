@@ -1,7 +1,7 @@
 //! The reader of programs: a token at a time.
 ghost use Rattle.std.specs.Prelude.{◌≡◌, ◌≤◌, ◌<◌, IfOk, None, Some, false, if◌then◌else◌, option_map, [], ◌∷◌, ◌++◌, vec_len};
 ghost use Rattle.dt_expr.specs.Form.{form_of};
-ghost use Rattle.dt_lang.specs.machine.ClauseState.{program_step, bounded, bounding, from_bounded, ended, entered, finished, from_applied, from_assigned, from_before_statement, from_bounding, from_called, from_closing, from_described, from_after_statement, from_stack_opened, from_guarded, from_keyed, from_listed, from_named, from_negating, from_outside, headed, outside, shut, shut_key, shut_predicate, shut_value, program_at, program_start, from_within};
+ghost use Rattle.dt_lang.specs.machine.ClauseState.{program_step, bounded, bounding, from_bounded, ended, entered, finished, from_applied, from_assigned, from_before_statement, from_bounding, from_called, from_closing, from_described, from_after_statement, from_stack_opened, from_guarded, from_keyed, from_listed, from_named, from_negating, from_outside, headed, outside, shut, shut_key, shut_predicate, shut_value, program_at, program_start, from_within, shut_given};
 ghost use Rattle.dt_lang.specs.machine.Cause.{out_of_range_at, is_one_more, too_long_at};
 ghost use Rattle.dt_lang.specs.machine.ShownCause.{AnswersToken, ShownOutcome, cause_of_refusal, shown_at};
 ghost use Rattle.dt_lang.specs.machine.Fits.{Fits, FitsClause, FitsWithin, SlotHasRoom};
@@ -15,7 +15,7 @@ ghost use Rattle.dt_program.specs.declared.clause.TheConstants.{DESCRIPTIONS_MAX
 
 use crate::expression::ExpressionReader;
 use crate::fault::{Flaw, Limit, TokenRefusal};
-use crate::place::{Bound, Levels, ReaderPlace, Slot, Target, call_of};
+use crate::place::{Bound, Levels, ReaderPlace, Slot, Target, call_of, statement_of};
 use crate::shown_cause::{shown_assigned, shown_before_statement, shown_elsewhere, shown_operand};
 use crate::token::{Sign, Token};
 use crate::word::{Action, Function, Word};
@@ -237,10 +237,9 @@ impl ProgramReader {
         match token {
             Token::Sign(Sign::OpenParen) => {
                 match action {
-                    Action::Trace => self.enter(Slot::Traced),
-                    Action::Exit => self.enter(Slot::Exited),
                     Action::Stack => self.place = ReaderPlace::StackOpened { process: false },
                     Action::Ustack => self.place = ReaderPlace::StackOpened { process: true },
+                    _ => self.enter(Slot::Given(action)),
                 }
                 true
             }
@@ -394,10 +393,7 @@ impl ProgramReader {
     {
         match (slot, argument) {
             (Slot::Predicate, Argument::Number(value)) => Ok(self.shut_predicate(value, token)),
-            (Slot::Traced, argument) => self.from_closing(Statement::Trace(argument), token),
-            (Slot::Exited, Argument::Number(value)) => {
-                self.from_closing(Statement::Exit(value), token)
-            }
+            (Slot::Given(action), argument) => self.shut_given(action, argument, token),
             (Slot::Key(target), argument) => self.shut_key(target, argument, token),
             (Slot::Value(target, function), Argument::Number(value)) => {
                 self.shut_value(target, function, value, token)
@@ -418,6 +414,29 @@ impl ProgramReader {
                 true
             }
             _ => false,
+        }
+    }
+
+    /// Ends what an action is given.
+    fn shut_given(
+        &mut self,
+        action: Action,
+        argument: Argument,
+        token: &Token,
+    ) -> Result<bool, AllocError>
+        ensures { IfOk result (λ on. Leads
+            (shut_given (clauses_of self.old) (clause_of self.old) action (form_of_argument argument) token.now) on
+            (program_state_of self.new)) }
+    {
+        match token {
+            Token::Sign(Sign::CloseParen) => match statement_of(action, argument) {
+                Some(statement) => {
+                    self.end_statement(statement)?;
+                    Ok(true)
+                }
+                None => Ok(false),
+            },
+            _ => Ok(false),
         }
     }
 

@@ -21,7 +21,7 @@ use Rattle.dt_lang.specs.declared.word.Word.TheVariants as word
 use Rattle.dt_lang.specs.machine.ExpressionState as expression
 use Rattle.dt_lang.specs.Grammar.{before_statement, after_statement, Begins}
 use Rattle.dt_program.specs.Clause.{ArgForm, number, text, ClauseForm}
-use Rattle.dt_lang.specs.Stand.{Slot, predicate, traced, exited, key, value}
+use Rattle.dt_lang.specs.Stand.{Slot, predicate, given, key, value}
 use Rattle.dt_program.specs.declared.description.DescriptionFault.{DescriptionFault}
 use Rattle.dt_lang.specs.declared.fault.Flaw.TheVariants.{Syntax, Probe, Action, Variable, TooLong, Range}
 use Rattle.dt_lang.specs.Refused.{Cause, because, destroys, rank, StatementBegins, IsDestructive, NameStands, a_statement, a_function}
@@ -47,9 +47,7 @@ shut_word : (cs : List ClauseForm) (c : ClauseForm) (slot : Slot) (w : Word) (a 
     → shut cs c slot (token.Word w) a ≡ None
 shut_word cs c predicate w (number f) = refl
 shut_word cs c predicate w (text a) = refl
-shut_word cs c traced w a = refl
-shut_word cs c exited w (number f) = refl
-shut_word cs c exited w (text a) = refl
+shut_word cs c (given action) w a = refl
 shut_word cs c (key name keys) w a = refl
 shut_word cs c (value name keys fn) w (number f) = refl
 shut_word cs c (value name keys fn) w (text a) = refl

@@ -1,13 +1,15 @@
 -- What is read as a program leads through the states of its reading to its end.
 use Rattle.std.proofs.Common.{◌≡◌, ◌≢◌, ℕ, ◌+◌, leb, true, false, ◌&&◌, List, [], ◌∷◌, ◌++◌, length, Option, Some, None}
-use Rattle.std.proofs.Common.{refl, sym, ap, ◌∙◌, append_assoc, ℤ, le-leb, add-zero, suc, arith}
+use Rattle.std.proofs.Common.{refl, sym, ap, ◌∙◌, append_assoc, ℤ, pos, le-leb, add-zero, suc, arith}
 use Rattle.std.specs.Prelude.{option_and_then}
-use Rattle.dt_expr.specs.Form.{Form}
+use Rattle.dt_expr.specs.Form.{Form, Num}
 use Rattle.dt_program.specs.Description.{DescForm}
 use Rattle.dt_program.specs.declared.clause.TheConstants.{FRAMES_MAX}
 use Rattle.dt_lang.specs.declared.token.Sign.TheVariants as sign
 use Rattle.dt_lang.specs.declared.token.Token.{Token}
 use Rattle.dt_lang.specs.declared.token.Token.TheVariants as token
+use Rattle.dt_lang.specs.declared.word.Action.{Action}
+use Rattle.dt_lang.specs.declared.word.Action.TheVariants as action
 use Rattle.dt_lang.specs.declared.word.Function.{Function}
 use Rattle.dt_lang.specs.declared.word.Function.TheVariants as function
 use Rattle.dt_lang.specs.machine.ExpressionState as expression
@@ -15,16 +17,16 @@ use Rattle.dt_lang.specs.machine.ExpressionState.{IsRead, ends_argument}
 use Rattle.dt_lang.specs.Grammar.{ReadsHead, a_description, another, ReadsOpening, always, ReadsKeys, a_key}
 use Rattle.dt_lang.specs.Grammar.{ReadsTarget, bare, ReadsConstant, plain, negative, ReadsBounds, by_one, stepped}
 use Rattle.dt_lang.specs.Grammar.{call_of, ReadsCall, counting, of_one, in_levels, IsFrameCount, ReadsStatement}
-use Rattle.dt_lang.specs.Grammar.{tracing, of_stack, of_ustack, exiting, aggregating, Spot, before_statement, after_statement, ReadsBody}
+use Rattle.dt_lang.specs.Grammar.{statement_of, TakesNumber, of_argument, of_stack, of_ustack, aggregating, Spot, before_statement, after_statement, ReadsBody}
 use Rattle.dt_lang.specs.Grammar.{nothing, stated, separated, ReadsClause, a_clause, ReadsClauses, ReadsProgram}
 use Rattle.dt_lang.specs.Grammar as grammar
 use Rattle.dt_program.specs.Clause.{ArgForm, number, CallForm, lquantize, StatementForm, aggregate, ClauseForm}
-use Rattle.dt_lang.specs.Stand.{HeadStands, BodyStands, KeysStand, TargetStands, Slot, predicate, traced, exited, key}
+use Rattle.dt_lang.specs.Stand.{HeadStands, BodyStands, KeysStand, TargetStands, Slot, predicate, given, key}
 use Rattle.dt_lang.specs.Stand.{value, divides_in, SlotOpens}
 use Rattle.dt_lang.specs.Stand as stand
 use Rattle.dt_lang.specs.machine.ClauseState.{BoundForm, at_lower, at_upper, at_step, outside, described, body, keyed, assigned}
 use Rattle.dt_lang.specs.machine.ClauseState.{within, bounding, bounded, ProgramState, program_at, headed, ended, entered}
-use Rattle.dt_lang.specs.machine.ClauseState.{function_given, shut, program_step, program_run, program_start, whole, finished}
+use Rattle.dt_lang.specs.machine.ClauseState.{after_call, function_given, shut, program_step, program_run, program_start, whole, finished}
 use Rattle.dt_lang.specs.laws.ExpressionLaws.{complete, complete_argument}
 use Rattle.dt_lang.specs.laws.ExpressionLaws as laws
 use Rattle.dt_lang.specs.laws.Reading.{split_last, split_two}
@@ -226,15 +228,20 @@ target_over cs c _ _ _ us (grammar.keyed name ts keys h) =
     (key_ends cs c name ts keys (token.Sign sign.CloseBracket) _ l refl
     (ap (λ (x : List ArgForm). Some (program_at cs c (keyed name x))) (sym l.keys_are)))
 
+given_argument : (cs : List ClauseForm) (c : ClauseForm) (a : Action) (x : ArgForm) (s : StatementForm)
+    → statement_of a x ≡ Some s → after_call a cs c ≡ entered cs c (given a)
+given_argument cs c action.Stack x s m = cc
+given_argument cs c action.Ustack x s m = cc
+given_argument cs c _ x s m = refl
+
 statement_leads : (cs : List ClauseForm) (c : ClauseForm) (ts : List Token) (s : StatementForm) → ReadsStatement ts s
     → program_run (program_at cs c (body before_statement)) ts ≡ Some (ended cs c s)
 unfolding program_run program_step
-statement_leads cs c _ _ (tracing ts a h) =
-    slot_over cs c traced ts [] a (token.Sign sign.CloseParen) _ (complete_argument ts a h) refl refl
+statement_leads cs c _ _ (of_argument a ts x s m h) =
+    rw (given_argument cs c a x s m)
+    (slot_over cs c (given a) ts [] x (token.Sign sign.CloseParen) _ (complete_argument ts x h) refl (rw m refl))
 statement_leads cs c _ _ (of_stack n h) = rw (frames_true n h) refl
 statement_leads cs c _ _ (of_ustack n h) = rw (frames_true n h) refl
-statement_leads cs c _ _ (exiting ts f h) =
-    slot_over cs c exited ts [] (number f) (token.Sign sign.CloseParen) _ (complete true ts f h) refl refl
 statement_leads cs c _ _ (aggregating ts us name keys call h k) =
     target_over cs c name keys ts us h ∙ call_leads cs c name keys us call k
 
@@ -366,12 +373,16 @@ given_other cs c name keys function.Max n = refl
 given_other cs c name keys function.Quantize n = refl
 given_other cs c name keys function.Lquantize n = refl
 
+given_number : (cs : List ClauseForm) (c : ClauseForm) (a : Action) → TakesNumber a
+    → after_call a cs c ≡ entered cs c (given a)
+given_number cs c a n = let some = n (Num (pos 0)) in given_argument cs c a (number (Num (pos 0))) some.0 some.1
+
 pub slot_leads : (slot : Slot) (ts : List Token) (cs : List ClauseForm) (c : ClauseForm) → SlotOpens slot ts cs c
     → program_run program_start ts ≡ Some (entered cs c slot)
 unfolding program_run program_step
 slot_leads _ _ _ _ (stand.a_predicate ts cs ds h) = run_over _ _ ts _ (head_stands_lead ts cs ds h)
-slot_leads _ _ _ _ (stand.an_argument ts cs c h) = run_over _ _ ts _ (body_stands_lead before_statement ts cs c h)
-slot_leads _ _ _ _ (stand.a_status ts cs c h) = run_over _ _ ts _ (body_stands_lead before_statement ts cs c h)
+slot_leads _ _ _ _ (stand.an_argument ts cs c a n h) =
+    run_over _ _ ts _ (body_stands_lead before_statement ts cs c h) ∙ ap Some (given_number cs c a n)
 slot_leads _ _ _ _ (stand.first_key ts cs c name h) = run_over _ _ ts _ (body_stands_lead before_statement ts cs c h)
 slot_leads _ _ _ _ (stand.a_key ts cs c name keys h) =
     let k = keys_stand_lead ts cs c name keys h in

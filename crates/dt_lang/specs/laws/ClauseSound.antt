@@ -16,13 +16,13 @@ use Rattle.dt_lang.specs.declared.word.Word.TheVariants as word
 use Rattle.dt_lang.specs.Expression.{ReadsExpr, ReadsArgument}
 use Rattle.dt_lang.specs.machine.ExpressionState as expression
 use Rattle.dt_lang.specs.Grammar.{ReadsBounds, by_one, stepped, call_of, ReadsCall, counting, of_one, in_levels}
-use Rattle.dt_lang.specs.Grammar.{IsFrameCount, ReadsStatement, tracing, of_stack, of_ustack, exiting, aggregating}
+use Rattle.dt_lang.specs.Grammar.{statement_of, IsFrameCount, ReadsStatement, of_argument, of_stack, of_ustack, aggregating}
 use Rattle.dt_lang.specs.Grammar.{before_statement, after_statement, ReadsClauses}
 use Rattle.dt_lang.specs.Grammar as grammar
-use Rattle.dt_program.specs.Clause.{ArgForm, number, CallForm, count, lquantize, StatementForm, trace, exit, aggregate}
+use Rattle.dt_program.specs.Clause.{ArgForm, number, CallForm, count, lquantize, StatementForm, aggregate}
 use Rattle.dt_program.specs.Clause.{ClauseForm}
-use Rattle.dt_lang.specs.Stand.{HeadStands, BodyStands, KeysStand, TargetStands, Slot, predicate, traced, exited, key}
-use Rattle.dt_lang.specs.Stand.{value, divides_in, SlotOpens, a_predicate, an_argument, a_status, first_key, a_key}
+use Rattle.dt_lang.specs.Stand.{HeadStands, BodyStands, KeysStand, TargetStands, Slot, predicate, given, key}
+use Rattle.dt_lang.specs.Stand.{value, divides_in, SlotOpens, a_predicate, an_argument, first_key, a_key}
 use Rattle.dt_lang.specs.Stand.{a_value}
 use Rattle.dt_lang.specs.machine.ClauseState.{BoundForm, at_lower, at_upper, at_step, PlaceForm, outside, described, listed}
 use Rattle.dt_lang.specs.machine.ClauseState.{guarded, body, called, stack_opened, closing, named, keyed, assigned, applied, within}
@@ -30,7 +30,7 @@ use Rattle.dt_lang.specs.machine.ClauseState.{bounding, negating, bounded, Progr
 use Rattle.dt_lang.specs.machine.ClauseState.{ended, entered, from_outside, from_described, from_listed, from_guarded}
 use Rattle.dt_lang.specs.machine.ClauseState.{from_before_statement, from_after_statement, after_call, from_called, stack_of, from_stack_opened, from_closing}
 use Rattle.dt_lang.specs.machine.ClauseState.{from_named, from_keyed, from_assigned, function_given, from_applied}
-use Rattle.dt_lang.specs.machine.ClauseState.{shut_predicate, shut_traced, shut_exited, shut_key, shut_levels, shut_value, shut}
+use Rattle.dt_lang.specs.machine.ClauseState.{shut_predicate, shut_given, shut_key, shut_levels, shut_value, shut}
 use Rattle.dt_lang.specs.machine.ClauseState.{go_on, from_within, from_bounding, from_negating, from_bounded, program_step_from}
 use Rattle.dt_lang.specs.machine.ClauseState.{program_step, program_run, program_start}
 use Rattle.dt_lang.specs.laws.ExpressionLaws.{sound, sound_argument, run-append}
@@ -121,12 +121,10 @@ opens_in slot tail ts cs c h k = subst (λ (x : List Token). SlotOpens slot x cs
 
 read_opened : (cs : List ClauseForm) (c : ClauseForm) (ts : List Token) (a : Action)
     → Follows (token.Word (word.Action a) ∷ token.Sign sign.OpenParen ∷ []) ts cs c → Read (after_call a cs c) ts
-read_opened cs c ts action.Trace h =
-    enters _ _ _ traced (opens_in traced _ ts cs c h (an_argument h.front cs c h.stands))
-read_opened cs c ts action.Exit h =
-    enters _ _ _ exited (opens_in exited _ ts cs c h (a_status h.front cs c h.stands))
 read_opened cs c ts action.Stack h = h
 read_opened cs c ts action.Ustack h = h
+read_opened cs c ts a h =
+    enters _ _ _ (given a) (opens_in (given a) _ ts cs c h (an_argument h.front cs c a (λ f. (_, refl)) h.stands))
 
 sound_called : (cs : List ClauseForm) (c : ClauseForm) (a : Action) (ts : List Token) (t : Token) (next : ProgramState)
     → Follows (token.Word (word.Action a) ∷ []) ts cs c → from_called cs c a t ≡ Some next
@@ -311,13 +309,9 @@ opens_predicate : {ts : List Token} {cs : List ClauseForm} {c : ClauseForm} → 
     → PredicateOpens ts cs c
 opens_predicate (a_predicate ts cs ds h) = record { front = ts; split = refl; stands = h; fresh = refl }
 
-opens_traced : {ts : List Token} {cs : List ClauseForm} {c : ClauseForm} → SlotOpens traced ts cs c
-    → Follows (token.Word (word.Action action.Trace) ∷ token.Sign sign.OpenParen ∷ []) ts cs c
-opens_traced (an_argument ts cs c h) = record { front = ts; split = refl; stands = h }
-
-opens_exited : {ts : List Token} {cs : List ClauseForm} {c : ClauseForm} → SlotOpens exited ts cs c
-    → Follows (token.Word (word.Action action.Exit) ∷ token.Sign sign.OpenParen ∷ []) ts cs c
-opens_exited (a_status ts cs c h) = record { front = ts; split = refl; stands = h }
+opens_given : {ts : List Token} {cs : List ClauseForm} {c : ClauseForm} {a : Action} → SlotOpens (given a) ts cs c
+    → Follows (token.Word (word.Action a) ∷ token.Sign sign.OpenParen ∷ []) ts cs c
+opens_given (an_argument ts cs c a n h) = record { front = ts; split = refl; stands = h }
 
 opens_value : {ts : List Token} {cs : List ClauseForm} {c : ClauseForm} {name : List ℕ} {keys : List ArgForm}
     {fn : Function} → SlotOpens (value name keys fn) ts cs c
@@ -376,25 +370,23 @@ sound_predicate cs c n e ts (number f) (token.Sign sign.Slash) next h d k =
     })
 sound_predicate cs c n e ts a t next h d k = absurd (none_some k)
 
-sound_traced : (cs : List ClauseForm) (c : ClauseForm) (n : ℕ) (e : expression.State) (ts : List Token)
-    (a : ArgForm) (t : Token) (next : ProgramState) → Within ts cs c traced n e → expression.done e ≡ Some a
-    → shut_traced cs c a t ≡ Some next → Read next (ts ++ (t ∷ []))
-sound_traced cs c n e ts a (token.Sign sign.CloseParen) next h d k =
-    let o = opens_traced h.opens in
+-- an action with what it is given, whole
+given_read : (cs : List ClauseForm) (c : ClauseForm) (a : Action) (n : ℕ) (e : expression.State) (ts : List Token)
+    (x : ArgForm) (next : ProgramState) (s : Option StatementForm) → statement_of a x ≡ s
+    → Within ts cs c (given a) n e → expression.done e ≡ Some x
+    → option_and_then (λ s. Some (ended cs c s)) s ≡ Some next → Read next (ts ++ (token.Sign sign.CloseParen ∷ []))
+given_read cs c a n e ts x next (Some s) m h d k =
+    let o = opens_given h.opens in
     landed _ _ _ k
-    (body_stated _ o.front _ cs c (trace a) (split_three ts h.front h.back o.front _ _ h.split o.split) o.stands
-    (tracing h.back a (sound_argument h.back e a h.runs d)))
-sound_traced cs c n e ts a t next h d k = absurd (none_some k)
+    (body_stated _ o.front _ cs c s (split_three ts h.front h.back o.front _ _ h.split o.split) o.stands
+    (of_argument a h.back x s m (sound_argument h.back e x h.runs d)))
+given_read cs c a n e ts x next None m h d k = absurd (none_some k)
 
-sound_exited : (cs : List ClauseForm) (c : ClauseForm) (n : ℕ) (e : expression.State) (ts : List Token)
-    (a : ArgForm) (t : Token) (next : ProgramState) → Within ts cs c exited n e → expression.done e ≡ Some a
-    → shut_exited cs c a t ≡ Some next → Read next (ts ++ (t ∷ []))
-sound_exited cs c n e ts (number f) (token.Sign sign.CloseParen) next h d k =
-    let o = opens_exited h.opens in
-    landed _ _ _ k
-    (body_stated _ o.front _ cs c (exit f) (split_three ts h.front h.back o.front _ _ h.split o.split) o.stands
-    (exiting h.back f (expression_of ts cs c exited n e f h d)))
-sound_exited cs c n e ts a t next h d k = absurd (none_some k)
+sound_given : (cs : List ClauseForm) (c : ClauseForm) (a : Action) (n : ℕ) (e : expression.State) (ts : List Token)
+    (x : ArgForm) (t : Token) (next : ProgramState) → Within ts cs c (given a) n e → expression.done e ≡ Some x
+    → shut_given cs c a x t ≡ Some next → Read next (ts ++ (t ∷ []))
+sound_given cs c a n e ts x (token.Sign sign.CloseParen) next h d k = given_read cs c a n e ts x next _ refl h d k
+sound_given cs c a n e ts x t next h d k = absurd (none_some k)
 
 sound_key : (cs : List ClauseForm) (c : ClauseForm) (name : List ℕ) (keys : List ArgForm) (n : ℕ)
     (e : expression.State) (ts : List Token) (a : ArgForm) (t : Token) (next : ProgramState)
@@ -452,8 +444,7 @@ sound_shut : (cs : List ClauseForm) (c : ClauseForm) (slot : Slot) (n : ℕ) (e 
     (a : ArgForm) (t : Token) (next : ProgramState) → Within ts cs c slot n e → expression.done e ≡ Some a
     → shut cs c slot t a ≡ Some next → Read next (ts ++ (t ∷ []))
 sound_shut cs c predicate n e ts a t next h d k = sound_predicate cs c n e ts a t next h d k
-sound_shut cs c traced n e ts a t next h d k = sound_traced cs c n e ts a t next h d k
-sound_shut cs c exited n e ts a t next h d k = sound_exited cs c n e ts a t next h d k
+sound_shut cs c (given action) n e ts a t next h d k = sound_given cs c action n e ts a t next h d k
 sound_shut cs c (key name keys) n e ts a t next h d k = sound_key cs c name keys n e ts a t next h d k
 sound_shut cs c (value name keys fn) n e ts a t next h d k = sound_value cs c name keys fn n e ts a t next h d k
 

@@ -13,13 +13,13 @@ use Rattle.dt_lang.specs.declared.word.Function.TheVariants as function
 use Rattle.dt_lang.specs.declared.word.Word.TheVariants as word
 use Rattle.dt_lang.specs.machine.ExpressionState as expression
 use Rattle.dt_lang.specs.machine.ExpressionState.{ends_argument}
-use Rattle.dt_lang.specs.Grammar.{Spot, before_statement, after_statement}
+use Rattle.dt_lang.specs.Grammar.{TakesNumber, Spot, before_statement, after_statement}
 use Rattle.dt_program.specs.Clause.{ArgForm, number, StatementForm, ClauseForm}
-use Rattle.dt_lang.specs.Stand.{Slot, predicate, traced, exited, key, value, divides_in, SlotOpens, a_value}
+use Rattle.dt_lang.specs.Stand.{Slot, predicate, given, key, value, divides_in, SlotOpens, an_argument, a_value}
 use Rattle.dt_lang.specs.machine.ClauseState.{BoundForm, at_lower, at_upper, at_step, PlaceForm, outside, described, listed}
 use Rattle.dt_lang.specs.machine.ClauseState.{guarded, body, called, stack_opened, closing, named, keyed, assigned, applied, within}
 use Rattle.dt_lang.specs.machine.ClauseState.{bounding, negating, bounded, ProgramState, program_at, entered, function_given}
-use Rattle.dt_lang.specs.machine.ClauseState.{shut, program_step, program_run}
+use Rattle.dt_lang.specs.machine.ClauseState.{with_statement, shut, program_step, program_run}
 use Rattle.dt_lang.specs.laws.ExpressionLaws.{complete, run_beginning}
 use Rattle.dt_lang.specs.laws.ExpressionLaws as laws
 use Rattle.dt_lang.specs.laws.Reading.{Within, ReadAt, Read}
@@ -166,6 +166,15 @@ value_shuts cs c name keys fn f n = record {
   completes = body_completes cs _ after_statement;
 }
 
+argument_shuts : (cs : List ClauseForm) (c : ClauseForm) (a : Action) (f : Form) → TakesNumber a → Shuts cs c (given a) f
+argument_shuts cs c a f n = record {
+  end = token.Sign sign.CloseParen;
+  next = program_at cs (with_statement c (n f).0) (body after_statement);
+  ends_it = refl;
+  leads = rw (n f).1 refl;
+  completes = body_completes cs (with_statement c (n f).0) after_statement;
+}
+
 slot_shuts : (ts : List Token) (cs : List ClauseForm) (c : ClauseForm) (slot : Slot) (f : Form)
     → SlotOpens slot ts cs c → Shuts cs c slot f
 slot_shuts ts cs c predicate f h = record {
@@ -175,20 +184,11 @@ slot_shuts ts cs c predicate f h = record {
   leads = refl;
   completes = guarded_completes cs _;
 }
-slot_shuts ts cs c traced f h = record {
-  end = token.Sign sign.CloseParen;
-  next = _;
-  ends_it = refl;
-  leads = refl;
-  completes = body_completes cs _ after_statement;
-}
-slot_shuts ts cs c exited f h = record {
-  end = token.Sign sign.CloseParen;
-  next = _;
-  ends_it = refl;
-  leads = refl;
-  completes = body_completes cs _ after_statement;
-}
+slot_shuts ts cs c (given a) f h = argument_shuts cs c a f (takes h)
+  where
+    takes : {ts : List Token} {cs : List ClauseForm} {c : ClauseForm} {a : Action} → SlotOpens (given a) ts cs c
+        → TakesNumber a
+    takes (an_argument ts cs c a n h) = n
 slot_shuts ts cs c (key name keys) f h = record {
   end = token.Sign sign.CloseBracket;
   next = _;
@@ -228,16 +228,11 @@ within_completes cs c slot n e ts h =
 called_completes : (cs : List ClauseForm) (c : ClauseForm) (a : Action) (ts : List Token)
     → Read (program_at cs c (called a)) ts → Completes (program_at cs c (called a))
 unfolding program_step
-called_completes cs c action.Trace ts h =
-    let r = sound_step (program_at cs c (called action.Trace)) (entered cs c traced) ts
-    (token.Sign sign.OpenParen) h refl in
-    back _ _ (token.Sign sign.OpenParen) refl (within_completes cs c traced 0 _ _ r)
-called_completes cs c action.Exit ts h =
-    let r = sound_step (program_at cs c (called action.Exit)) (entered cs c exited) ts (token.Sign sign.OpenParen)
-    h refl in
-    back _ _ (token.Sign sign.OpenParen) refl (within_completes cs c exited 0 _ _ r)
 called_completes cs c action.Stack ts h = back _ _ (token.Sign sign.OpenParen) refl (stack_opened_completes cs c false)
 called_completes cs c action.Ustack ts h = back _ _ (token.Sign sign.OpenParen) refl (stack_opened_completes cs c true)
+called_completes cs c a ts h =
+    let r = sound_step (program_at cs c (called a)) (entered cs c (given a)) ts (token.Sign sign.OpenParen) h refl in
+    back _ _ (token.Sign sign.OpenParen) refl (within_completes cs c (given a) 0 _ _ r)
 
 given_completes : (cs : List ClauseForm) (c : ClauseForm) (name : List ℕ) (keys : List ArgForm) (fn : Function)
     (ts : List Token) → Read (function_given cs c name keys fn) ts → Completes (function_given cs c name keys fn)

@@ -10,7 +10,7 @@ use Rattle.dt_lang.specs.declared.token.Token.TheVariants as token
 use Rattle.dt_lang.specs.machine.ExpressionState as expression
 use Rattle.dt_lang.specs.Grammar.{before_statement, after_statement, ReadsClauses}
 use Rattle.dt_program.specs.Clause.{ArgForm, ClauseForm}
-use Rattle.dt_lang.specs.Stand.{BodyStands, Slot, predicate, traced, exited, key, value, divides_in, SlotOpens}
+use Rattle.dt_lang.specs.Stand.{BodyStands, Slot, predicate, given, key, value, divides_in, SlotOpens}
 use Rattle.dt_lang.specs.Stand.{first_key, a_key}
 use Rattle.dt_lang.specs.Refused.{GoesOn, IsForStatement, IsTooLong, a_clause, a_description, a_statement, a_token}
 use Rattle.dt_lang.specs.Refused as refused
@@ -85,8 +85,7 @@ slot_too_long : (ts back : List Token) (cs : List ClauseForm) (c : ClauseForm) (
 slot_too_long ts back cs c (key name keys) t h e k g =
     rw (e, append-nil ts) (key_too_long t h k (rw e at g))
 slot_too_long ts back cs c predicate t h e k g = cc
-slot_too_long ts back cs c traced t h e k g = cc
-slot_too_long ts back cs c exited t h e k g = cc
+slot_too_long ts back cs c (given a) t h e k g = cc
 slot_too_long ts back cs c (value name keys fn) t h e k g = cc
 
 -- the limit that is passed within a slot: of tokens, or of keys

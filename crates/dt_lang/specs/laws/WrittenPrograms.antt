@@ -9,7 +9,7 @@ use Rattle.dt_expr.specs.declared.scene.NumberVariable.TheVariants as variable
 use Rattle.dt_expr.specs.declared.text.Text.{Text}
 use Rattle.dt_program.specs.declared.description.Description.{Description}
 use Rattle.dt_aggfn.specs.Bounds.{AreBounds}
-use Rattle.dt_program.specs.Clause.{ArgForm, CallForm, sum, avg, min, max, quantize, StatementForm, ClauseForm}
+use Rattle.dt_program.specs.Clause.{ArgForm, number, CallForm, sum, avg, min, max, quantize, StatementForm, trace, ClauseForm}
 use Rattle.dt_program.specs.Description.{DescForm, form_of_description}
 use Rattle.dt_program.specs.Limits.{descriptions_max, statements_max, keys_max, clauses_max, tokens_max}
 use Rattle.dt_program.specs.Written.{IsWrittenExpression, IsWrittenArgument, AreWrittenBounds, IsWrittenCall}
@@ -19,6 +19,7 @@ use Rattle.dt_lang.specs.declared.fault.Limit.{Limit}
 use Rattle.dt_lang.specs.declared.token.Sign.TheVariants as sign
 use Rattle.dt_lang.specs.declared.token.Token.{Token}
 use Rattle.dt_lang.specs.declared.token.Token.TheVariants as token
+use Rattle.dt_lang.specs.declared.word.Action.{Action}
 use Rattle.dt_lang.specs.declared.word.Action.TheVariants as action
 use Rattle.dt_lang.specs.declared.word.Function.{Function}
 use Rattle.dt_lang.specs.declared.word.Function.TheVariants as function
@@ -29,17 +30,18 @@ use Rattle.dt_program.specs.declared.clause.BoundsFault.{BoundsFault}
 use Rattle.dt_program.specs.declared.description.DescriptionFault.{DescriptionFault}
 use Rattle.dt_lang.specs.Expression.{ReadsExpr, a_variable, ReadsArgument, a_text, an_expression, OPERAND, text_token}
 use Rattle.dt_lang.specs.Grammar.{ReadsHead, ReadsOpening, always, ReadsKeys, ReadsTarget, bare, keyed, ReadsBounds}
-use Rattle.dt_lang.specs.Grammar.{by_one, stepped, call_of, ReadsCall, counting, of_one, in_levels, ReadsStatement, tracing}
-use Rattle.dt_lang.specs.Grammar.{of_stack, of_ustack, exiting, aggregating, Spot, before_statement, ReadsBody, stated, separated}
+use Rattle.dt_lang.specs.Grammar.{by_one, stepped, call_of, ReadsCall, counting, of_one, in_levels, statement_of, TakesNumber, ReadsStatement}
+use Rattle.dt_lang.specs.Grammar.{of_argument, of_stack, of_ustack, aggregating, Spot, before_statement, ReadsBody, stated, separated}
 use Rattle.dt_lang.specs.Grammar.{ReadsClause, ReadsClauses}
 use Rattle.dt_lang.specs.Grammar as grammar
 use Rattle.dt_lang.specs.Reads.{IsProgram}
 use Rattle.dt_lang.specs.Refused.{because, IsTooLong, IsForStatement, GoesOn, fits, taken, IsOperand, OperandStands}
 use Rattle.dt_lang.specs.Refused.{NoneRefused}
 use Rattle.dt_lang.specs.Refused as refused
-use Rattle.dt_lang.specs.Stand.{BodyStands, KeysStand, TargetStands, Slot, predicate, traced, exited, key, value}
-use Rattle.dt_lang.specs.Stand.{divides_in, SlotOpens, a_predicate, an_argument, a_status, first_key, a_value}
+use Rattle.dt_lang.specs.Stand.{BodyStands, KeysStand, TargetStands, Slot, predicate, given, key, value}
+use Rattle.dt_lang.specs.Stand.{divides_in, SlotOpens, a_predicate, an_argument, first_key, a_value}
 use Rattle.dt_lang.specs.Stand as stand
+use Rattle.dt_lang.specs.laws.ClauseSound.{same_some}
 use Rattle.dt_lang.specs.laws.ExpressionSound.{loosen}
 use Rattle.dt_lang.specs.laws.WrittenTokens.{IsWrittenToken, AreWritten, front_all, back_all, joined_all, tokens_written}
 use Rattle.dt_lang.specs.laws.WrittenTokens.{text_written, parts_written, parts_few, expression_begins, constant_written}
@@ -309,22 +311,30 @@ module _ (tokens : List Token) (unrefused : NoneRefused tokens) (each : AreWritt
         )
 
   -- statements
+  takes_number : (a : Action) (x : ArgForm) (s : StatementForm) → statement_of a x ≡ Some s → TakesNumber a
+  takes_number action.Stack x s is = cc
+  takes_number action.Ustack x s is = cc
+  takes_number _ x s is = λ f. (_, refl)
+
+  statement_is : (a : Action) (x : ArgForm) (s : StatementForm) → statement_of a x ≡ Some s → IsWrittenArgument x
+      → IsWrittenStatement s
+  statement_is action.Trace x s is h = let same : trace x ≡ s = cc in subst IsWrittenStatement same h
+  statement_is action.Stack x s is h = cc
+  statement_is action.Ustack x s is h = cc
+  statement_is _ (number f) s is h = subst IsWrittenStatement (same_some is) h
+  statement_is _ _ s is h = cc
+
   statement_at : (cs : List ClauseForm) (c : ClauseForm) (front us : List Token) (s : StatementForm)
       → BodyStands before_statement front cs c → At tokens front us → ReadsStatement us s → IsWrittenStatement s
-  statement_at cs c front _ _ stands h (tracing ts a reads) =
-      let lead = token.Word (word.Action action.Trace) ∷ token.Sign sign.OpenParen ∷ [] in
-      argument_at traced (front ++ lead) ts cs c a refl (an_argument front cs c stands)
+  statement_at cs c front _ _ stands h (of_argument a ts x s is reads) =
+      let lead = token.Word (word.Action a) ∷ token.Sign sign.OpenParen ∷ [] in
+      statement_is a x s is
+      (argument_at (given a) (front ++ lead) ts cs c x refl (an_argument front cs c a (takes_number a x s is) stands)
       (first (front ++ lead) ts (token.Sign sign.CloseParen ∷ [])
       (second front lead (ts ++ (token.Sign sign.CloseParen ∷ [])) h))
-      reads
+      reads)
   statement_at cs c front _ _ stands h (of_stack n counted) = (counted.some, counted.few)
   statement_at cs c front _ _ stands h (of_ustack n counted) = (counted.some, counted.few)
-  statement_at cs c front _ _ stands h (exiting ts f reads) =
-      let lead = token.Word (word.Action action.Exit) ∷ token.Sign sign.OpenParen ∷ [] in
-      expression_at exited (front ++ lead) ts cs c f (a_status front cs c stands)
-      (first (front ++ lead) ts (token.Sign sign.CloseParen ∷ [])
-      (second front lead (ts ++ (token.Sign sign.CloseParen ∷ [])) h))
-      reads
   statement_at cs c front _ _ stands h (aggregating ts us name keys call target calls) =
       let of_target = target_at cs c front ts name keys stands (first front ts (token.Sign sign.Equal ∷ us) h) target in
       record {
@@ -343,10 +353,9 @@ module _ (tokens : List Token) (unrefused : NoneRefused tokens) (each : AreWritt
 
   statement_begins : (us : List Token) (s : StatementForm) → ReadsStatement us s
       → (t : Token) × (rest : List Token) × (us ≡ t ∷ rest) × IsForStatement t
-  statement_begins _ _ (tracing ts a reads) = (token.Word (word.Action action.Trace), _, refl, tt)
+  statement_begins _ _ (of_argument a ts x s is reads) = (token.Word (word.Action a), _, refl, tt)
   statement_begins _ _ (of_stack n counted) = (token.Word (word.Action action.Stack), _, refl, tt)
   statement_begins _ _ (of_ustack n counted) = (token.Word (word.Action action.Ustack), _, refl, tt)
-  statement_begins _ _ (exiting ts f reads) = (token.Word (word.Action action.Exit), _, refl, tt)
   statement_begins _ _ (aggregating ts us name keys call target calls) =
       target_begins ts (token.Sign sign.Equal ∷ us) name keys target
 

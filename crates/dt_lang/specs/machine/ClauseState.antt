@@ -13,9 +13,9 @@ use Rattle.dt_lang.specs.declared.word.Action.TheVariants as action
 use Rattle.dt_lang.specs.declared.word.Function.{Function}
 use Rattle.dt_lang.specs.declared.word.Function.TheVariants as function
 use Rattle.dt_lang.specs.declared.word.Word.TheVariants as word
-use Rattle.dt_program.specs.Clause.{ArgForm, number, count, lquantize, StatementForm, trace, stack, ustack, exit, aggregate, ClauseForm}
-use Rattle.dt_lang.specs.Grammar.{call_of, Spot, before_statement, after_statement}
-use Rattle.dt_lang.specs.Stand.{Slot, predicate, traced, exited, key, value, divides_in}
+use Rattle.dt_program.specs.Clause.{ArgForm, number, count, lquantize, StatementForm, stack, ustack, aggregate, ClauseForm}
+use Rattle.dt_lang.specs.Grammar.{call_of, statement_of, Spot, before_statement, after_statement}
+use Rattle.dt_lang.specs.Stand.{Slot, predicate, given, key, value, divides_in}
 use Rattle.dt_lang.specs.machine.ExpressionState as expression
 
 -- which bound of an `lquantize` is read, and those before it
@@ -118,10 +118,9 @@ from_after_statement cs c _ = None
 
 -- what an action's `(` leads to
 abbrev pub after_call : Action → List ClauseForm → ClauseForm → ProgramState
-after_call action.Trace cs c = entered cs c traced
-after_call action.Exit cs c = entered cs c exited
 after_call action.Stack cs c = program_at cs c (stack_opened false)
 after_call action.Ustack cs c = program_at cs c (stack_opened true)
+after_call a cs c = entered cs c (given a)
 
 abbrev pub from_called : List ClauseForm → ClauseForm → Action → Token → Option ProgramState
 from_called cs c a (token.Sign sign.OpenParen) = Some (after_call a cs c)
@@ -168,13 +167,10 @@ abbrev pub shut_predicate : List ClauseForm → ClauseForm → ArgForm → Token
 shut_predicate cs c (number f) (token.Sign sign.Slash) = Some (program_at cs (with_predicate c f) guarded)
 shut_predicate cs c _ _ = None
 
-abbrev pub shut_traced : List ClauseForm → ClauseForm → ArgForm → Token → Option ProgramState
-shut_traced cs c a (token.Sign sign.CloseParen) = Some (ended cs c (trace a))
-shut_traced cs c a _ = None
-
-abbrev pub shut_exited : List ClauseForm → ClauseForm → ArgForm → Token → Option ProgramState
-shut_exited cs c (number f) (token.Sign sign.CloseParen) = Some (ended cs c (exit f))
-shut_exited cs c _ _ = None
+-- what ends what an action is given
+abbrev pub shut_given : List ClauseForm → ClauseForm → Action → ArgForm → Token → Option ProgramState
+shut_given cs c a x (token.Sign sign.CloseParen) = option_and_then (λ s. Some (ended cs c s)) (statement_of a x)
+shut_given cs c a x _ = None
 
 abbrev pub shut_key : List ClauseForm → ClauseForm → List ℕ → List ArgForm → ArgForm → Token → Option ProgramState
 shut_key cs c name keys a (token.Sign sign.Comma) = Some (entered cs c (key name (keys ++ (a ∷ []))))
@@ -196,8 +192,7 @@ shut_value cs c name keys fn _ _ = None
 -- what ends what is read for a slot
 abbrev pub shut : List ClauseForm → ClauseForm → Slot → Token → ArgForm → Option ProgramState
 shut cs c predicate t a = shut_predicate cs c a t
-shut cs c traced t a = shut_traced cs c a t
-shut cs c exited t a = shut_exited cs c a t
+shut cs c (given action) t a = shut_given cs c action a t
 shut cs c (key name keys) t a = shut_key cs c name keys a t
 shut cs c (value name keys fn) t a = shut_value cs c name keys fn a t
 

@@ -6,7 +6,7 @@ use Rattle.dt_program.specs.Limits.{clauses_max, tokens_max}
 use Rattle.dt_lang.specs.machine.ExpressionState as expression
 use Rattle.dt_lang.specs.machine.ClauseState.{PlaceForm, outside, described, listed, guarded, body, called, stack_opened, closing, named, keyed, assigned, applied, within, bounding, negating, bounded, ProgramState}
 use Rattle.dt_program.specs.Clause.{ArgForm, ClauseForm}
-use Rattle.dt_lang.specs.Stand.{Slot, predicate, traced, exited, key, value}
+use Rattle.dt_lang.specs.Stand.{Slot, predicate, given, key, value}
 
 -- within a clause
 pub record FitsClause (cs : List ClauseForm) (c : ClauseForm) : Type 0 where
@@ -33,8 +33,7 @@ pub record FitsKey (cs : List ClauseForm) (c : ClauseForm) (keys : List ArgForm)
 
 abbrev pub FitsSlot : List ClauseForm → ClauseForm → Slot → ℕ → expression.State → Type 0
 FitsSlot cs c predicate n e = FitsClause cs c
-FitsSlot cs c traced n e = FitsStatement cs c
-FitsSlot cs c exited n e = FitsStatement cs c
+FitsSlot cs c (given a) n e = FitsStatement cs c
 FitsSlot cs c (key name keys) n e = FitsKey cs c keys n e
 FitsSlot cs c (value name keys fn) n e = FitsTarget cs c keys
 

@@ -20,8 +20,7 @@ key_forms t = map form_of_argument t.keys.items
 
 abbrev pub slot_form : Slot → stand.Slot
 slot_form slot.Predicate = stand.predicate
-slot_form slot.Traced = stand.traced
-slot_form slot.Exited = stand.exited
+slot_form (slot.Given a) = stand.given a
 slot_form (slot.Key t) = stand.key t.name (key_forms t)
 slot_form (slot.Value t fn) = stand.value t.name (key_forms t) fn
 
