@@ -18,7 +18,7 @@ use Rattle.dt_lang.specs.machine.ExpressionState as expression
 use Rattle.dt_lang.specs.Grammar.{call_of, statement_of, before_statement, after_statement}
 use Rattle.dt_program.specs.Clause.{ArgForm, number, CallForm, StatementForm, aggregate, ClauseForm}
 use Rattle.dt_lang.specs.Stand.{Slot, predicate, given, key, value}
-use Rattle.dt_lang.specs.machine.ClauseState.{BoundForm, at_lower, at_upper, at_step, PlaceForm, outside, described, listed}
+use Rattle.dt_lang.specs.machine.ClauseState.{BoundForm, at_lower, at_upper, at_step, PlaceForm, outside, described, listed, InsideForm, inside, inside_step_from}
 use Rattle.dt_lang.specs.machine.ClauseState.{guarded, body, called, stack_opened, closing, named, keyed, assigned, applied, within}
 use Rattle.dt_lang.specs.machine.ClauseState.{bounding, negating, bounded, ProgramState, program_at, ended, entered}
 use Rattle.dt_lang.specs.machine.ClauseState.{from_outside, from_described, from_listed, from_guarded, from_before_statement, from_after_statement}
@@ -29,7 +29,7 @@ use Rattle.dt_lang.specs.machine.ClauseState.{from_bounding, from_negating, from
 use Rattle.dt_lang.specs.declared.fault.Limit.{Limit}
 use Rattle.dt_lang.specs.declared.fault.Limit.TheVariants as limits
 use Rattle.dt_lang.specs.machine.Cause.{is_one_more, limit_within, too_long_at}
-use Rattle.dt_lang.specs.machine.Fits.{FitsClause, FitsStatement, FitsTarget, FitsKey, FitsSlot, FitsWithin, FitsAt, Fits}
+use Rattle.dt_lang.specs.machine.Fits.{FitsClause, FitsStatement, FitsTarget, FitsKey, FitsSlot, FitsWithin, FitsInside, FitsAt, Fits}
 use Rattle.dt_lang.specs.laws.ClauseSound.{none_some, same_some}
 use Rattle.dt_lang.specs.laws.TakesLaws.{or_left}
 
@@ -124,7 +124,7 @@ module _ (cs : List ClauseForm) (c : ClauseForm) where
   fits_called a _ next h e = absurd (none_some e)
 
   fits_frames : (process : Bool) (n : ℕ) (few : Bool) (next : ProgramState) → FitsStatement cs c
-      → (if few then Some (program_at cs c (closing (stack_of process n))) else None) ≡ Some next → Fits next
+      → (if few then Some (program_at cs c (inside (closing (stack_of process n)))) else None) ≡ Some next → Fits next
   fits_frames process n true next h e = landed _ _ e h
   fits_frames process n false next h e = absurd (none_some e)
 
@@ -297,6 +297,19 @@ module _ (cs : List ClauseForm) (c : ClauseForm) where
     fits_bounded (at_step lower upper) z (token.Sign sign.CloseParen) next e = landed _ _ e (fits_ended _ h.statement)
     fits_bounded _ z _ next e = absurd (none_some e)
 
+  fits_inside : (p : InsideForm) (t : Token) (next : ProgramState) → FitsInside cs c p
+      → inside_step_from cs c p t ≡ Some next → Fits next
+  fits_inside (called a) t next h e = fits_called a t next h e
+  fits_inside (stack_opened process) t next h e = fits_stack_opened process t next h e
+  fits_inside (closing s) t next h e = fits_closing s t next h e
+  fits_inside (named name) t next h e = fits_named name t next h e
+  fits_inside (keyed name keys) t next h e = fits_keyed name keys t next h e
+  fits_inside (assigned name keys) t next h e = fits_assigned name keys t next h e
+  fits_inside (applied name keys fn) t next h e = fits_applied name keys fn t next h e
+  fits_inside (bounding name keys f b) t next h e = fits_bounding name keys f h b t next e
+  fits_inside (negating name keys f b) t next h e = fits_negating name keys f h b t next e
+  fits_inside (bounded name keys f b z) t next h e = fits_bounded name keys f h b z t next e
+
   fits_from : (p : PlaceForm) (t : Token) (next : ProgramState) → FitsAt cs c p → too_long_at cs c p t ≡ None
       → program_step_from cs c p t ≡ Some next → Fits next
   fits_from outside t next h l e = fits_outside cs t next c l e
@@ -305,17 +318,8 @@ module _ (cs : List ClauseForm) (c : ClauseForm) where
   fits_from guarded t next h l e = fits_guarded t next h e
   fits_from (body before_statement) t next h l e = fits_before_statement t next h l e
   fits_from (body after_statement) t next h l e = fits_after_statement t next h e
-  fits_from (called a) t next h l e = fits_called a t next h e
-  fits_from (stack_opened process) t next h l e = fits_stack_opened process t next h e
-  fits_from (closing s) t next h l e = fits_closing s t next h e
-  fits_from (named name) t next h l e = fits_named name t next h e
-  fits_from (keyed name keys) t next h l e = fits_keyed name keys t next h e
-  fits_from (assigned name keys) t next h l e = fits_assigned name keys t next h e
-  fits_from (applied name keys fn) t next h l e = fits_applied name keys fn t next h e
+  fits_from (inside p) t next h l e = fits_inside p t next h e
   fits_from (within slot n x) t next h l e = fits_within slot n x t next h l e
-  fits_from (bounding name keys f b) t next h l e = fits_bounding name keys f h b t next e
-  fits_from (negating name keys f b) t next h l e = fits_negating name keys f h b t next e
-  fits_from (bounded name keys f b z) t next h l e = fits_bounded name keys f h b z t next e
 
 -- What isn't one too many leaves the lists of the state within the limits.
 pub fits_step : (s next : ProgramState) (t : Token) → Fits s → too_long_at s.clauses s.clause s.place t ≡ None

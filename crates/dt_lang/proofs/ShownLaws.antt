@@ -17,7 +17,7 @@ use Rattle.dt_lang.specs.machine.ExpressionState as expression
 use Rattle.dt_lang.specs.Grammar.{before_statement}
 use Rattle.dt_program.specs.Clause.{ArgForm, ClauseForm}
 use Rattle.dt_lang.specs.Refused.{Cause, because}
-use Rattle.dt_lang.specs.machine.ClauseState.{PlaceForm, body, assigned, within, ProgramState, program_step_from, program_step}
+use Rattle.dt_lang.specs.machine.ClauseState.{PlaceForm, body, assigned, within, ProgramState, program_step_from, program_step, inside}
 use Rattle.dt_lang.specs.machine.Cause.{is_word, names_no_variable, too_long_at, out_of_range_at, where_true, destructive_cause}
 use Rattle.dt_lang.specs.machine.Cause.{probe_cause, action_cause, variable_cause, range_cause, syntax_cause, first_of, cause_of}
 use Rattle.dt_lang.specs.machine.ShownCause.{cause_of_refusal, shown_elsewhere, shown_within, shown_at, ShownOutcome, AnswersToken}
@@ -64,8 +64,8 @@ before_statement_is cs c (token.Word (word.Destructive what)) = refl
 before_statement_is cs c _ = refl
 
 assigned_is : (cs : List ClauseForm) (c : ClauseForm) (name : List ℕ) (keys : List ArgForm) (t : Token)
-    → shown_at (assigned name keys) t
-    ≡ first_of (ShownTests (assigned name keys) t (program_step_from cs c (assigned name keys) t))
+    → shown_at (inside (assigned name keys)) t
+    ≡ first_of (ShownTests (inside (assigned name keys)) t (program_step_from cs c (inside (assigned name keys)) t))
 assigned_is cs c name keys (token.Description (Err fault)) = refl
 assigned_is cs c name keys (token.Description (Ok d)) = refl
 assigned_is cs c name keys (token.Word (word.Number v)) = refl
@@ -76,7 +76,7 @@ assigned_is cs c name keys _ = refl
 shown_is : (cs : List ClauseForm) (c : ClauseForm) (p : PlaceForm) (t : Token)
     → shown_at p t ≡ first_of (ShownTests p t (program_step_from cs c p t))
 shown_is cs c (body before_statement) t = before_statement_is cs c t
-shown_is cs c (assigned name keys) t = assigned_is cs c name keys t
+shown_is cs c (inside (assigned name keys)) t = assigned_is cs c name keys t
 shown_is cs c (within slot n e) t = within_is (expression.wants e) t
 shown_is cs c _ t = elsewhere_is t
 

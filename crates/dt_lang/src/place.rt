@@ -95,6 +95,31 @@ pub(crate) struct Levels {
     pub(crate) bound: Bound,
 }
 
+/// Where in a statement the last token was, and so what stands next.
+#[derive(Drop)]
+pub(crate) enum StatementPlace {
+    /// An action's name.
+    Called(Action),
+    /// The `(` of `stack`, or of `ustack`, which records frames of the process.
+    StackOpened { process: bool },
+    /// All of a statement but its `)`.
+    Closing(Statement),
+    /// An aggregation's name.
+    Named(ShortText),
+    /// The `]` after the keys.
+    Keyed(Target),
+    /// The `=` of an aggregation.
+    Assigned(Target),
+    /// An aggregating function's name.
+    Applied(Target, Function),
+    /// The `,` in front of a bound.
+    Bounding(Levels),
+    /// The `-` of a bound.
+    Negating(Levels),
+    /// A bound.
+    Bounded(Levels, i64),
+}
+
 /// What the last token was, and so what stands next.
 #[derive(Drop)]
 pub(crate) enum ReaderPlace {
@@ -110,28 +135,10 @@ pub(crate) enum ReaderPlace {
     BeforeStatement,
     /// The end of a statement.
     AfterStatement,
-    /// An action's name.
-    Called(Action),
-    /// The `(` of `stack`, or of `ustack`, which records frames of the process.
-    StackOpened { process: bool },
-    /// All of a statement but its `)`.
-    Closing(Statement),
-    /// An aggregation's name.
-    Named(ShortText),
-    /// The `]` after the keys.
-    Keyed(Target),
-    /// The `=` of an aggregation.
-    Assigned(Target),
-    /// An aggregating function's name.
-    Applied(Target, Function),
+    /// In a statement.
+    Inside(StatementPlace),
     /// So many tokens of what is read for a slot.
     Within { slot: Slot, count: usize },
-    /// The `,` in front of a bound.
-    Bounding(Levels),
-    /// The `-` of a bound.
-    Negating(Levels),
-    /// A bound.
-    Bounded(Levels, i64),
 }
 
 /// What an action does with a number or a text, where it is given one.

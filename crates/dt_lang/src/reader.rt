@@ -1,12 +1,12 @@
 //! The reader of programs: a token at a time.
 ghost use Rattle.std.specs.Prelude.{◌≡◌, ◌≤◌, ◌<◌, IfOk, None, Some, false, if◌then◌else◌, option_map, [], ◌∷◌, ◌++◌, vec_len};
 ghost use Rattle.dt_expr.specs.Form.{form_of};
-ghost use Rattle.dt_lang.specs.machine.ClauseState.{program_step, bounded, bounding, from_bounded, ended, entered, finished, from_applied, from_assigned, from_before_statement, from_bounding, from_called, from_closing, from_described, from_after_statement, from_stack_opened, from_guarded, from_keyed, from_listed, from_named, from_negating, from_outside, headed, outside, shut, shut_key, shut_predicate, shut_value, program_at, program_start, from_within, shut_given};
+ghost use Rattle.dt_lang.specs.machine.ClauseState.{program_step, inside_step_from, inside, bounded, bounding, from_bounded, ended, entered, finished, from_applied, from_assigned, from_before_statement, from_bounding, from_called, from_closing, from_described, from_after_statement, from_stack_opened, from_guarded, from_keyed, from_listed, from_named, from_negating, from_outside, headed, outside, shut, shut_key, shut_predicate, shut_value, program_at, program_start, from_within, shut_given};
 ghost use Rattle.dt_lang.specs.machine.Cause.{out_of_range_at, is_one_more, too_long_at};
 ghost use Rattle.dt_lang.specs.machine.ShownCause.{AnswersToken, ShownOutcome, cause_of_refusal, shown_at};
-ghost use Rattle.dt_lang.specs.machine.Fits.{Fits, FitsClause, FitsWithin, SlotHasRoom};
+ghost use Rattle.dt_lang.specs.machine.Fits.{Fits, FitsClause, FitsInside, FitsWithin, SlotHasRoom};
 ghost use Rattle.dt_lang.specs.machine.ExpressionView.{state_of};
-ghost use Rattle.dt_lang.specs.machine.PlaceView.{bound_of, key_forms, place_form, slot_form};
+ghost use Rattle.dt_lang.specs.machine.PlaceView.{bound_of, inside_form, key_forms, place_form, slot_form};
 ghost use Rattle.dt_program.specs.Clause.{aggregate, form_of_argument, lquantize, form_of_statement, number};
 ghost use Rattle.dt_program.specs.Program.{form_of_program};
 ghost use Rattle.dt_lang.specs.machine.ReaderView.{Leads, clause_of, clauses_of, program_state_of};
@@ -15,7 +15,9 @@ ghost use Rattle.dt_program.specs.declared.clause.TheConstants.{DESCRIPTIONS_MAX
 
 use crate::expression::ExpressionReader;
 use crate::fault::{Flaw, Limit, TokenRefusal};
-use crate::place::{Bound, Levels, ReaderPlace, Slot, Target, call_of, statement_of};
+use crate::place::{
+    Bound, Levels, ReaderPlace, Slot, StatementPlace, Target, call_of, statement_of,
+};
 use crate::shown_cause::{shown_assigned, shown_before_statement, shown_elsewhere, shown_operand};
 use crate::token::{Sign, Token};
 use crate::word::{Action, Function, Word};
@@ -206,8 +208,12 @@ impl ProgramReader {
         match token {
             Token::Sign(Sign::Semicolon) => self.place = ReaderPlace::BeforeStatement,
             Token::Sign(Sign::CloseBrace) => self.end_clause(alloc)?,
-            Token::Word(Word::Action(action)) => self.place = ReaderPlace::Called(*action),
-            Token::Aggregation(name) => self.place = ReaderPlace::Named(*name),
+            Token::Word(Word::Action(action)) => self.place = ReaderPlace::Inside(
+                StatementPlace::Called(*action),
+            ),
+            Token::Aggregation(name) => self.place = ReaderPlace::Inside(StatementPlace::Named(
+                *name,
+            )),
             // nothing else begins a statement or ends the clause
             _ => return Ok(false),
         }
@@ -237,8 +243,12 @@ impl ProgramReader {
         match token {
             Token::Sign(Sign::OpenParen) => {
                 match action {
-                    Action::Stack => self.place = ReaderPlace::StackOpened { process: false },
-                    Action::Ustack => self.place = ReaderPlace::StackOpened { process: true },
+                    Action::Stack => self.place = ReaderPlace::Inside(StatementPlace::StackOpened {
+                        process: false,
+                    }),
+                    Action::Ustack => self.place = ReaderPlace::Inside(StatementPlace::StackOpened {
+                        process: true,
+                    }),
                     _ => self.enter(Slot::Given(action)),
                 }
                 true
@@ -265,7 +275,7 @@ impl ProgramReader {
         } else {
             Statement::Stack(frames)
         };
-        self.place = ReaderPlace::Closing(statement);
+        self.place = ReaderPlace::Inside(StatementPlace::Closing(statement));
         true
     }
 
@@ -299,7 +309,7 @@ impl ProgramReader {
                 true
             }
             Token::Sign(Sign::Equal) => {
-                self.place = ReaderPlace::Assigned(target);
+                self.place = ReaderPlace::Inside(StatementPlace::Assigned(target));
                 true
             }
             _ => false,
@@ -313,7 +323,7 @@ impl ProgramReader {
     {
         match token {
             Token::Sign(Sign::Equal) => {
-                self.place = ReaderPlace::Assigned(target);
+                self.place = ReaderPlace::Inside(StatementPlace::Assigned(target));
                 true
             }
             _ => false,
@@ -328,7 +338,7 @@ impl ProgramReader {
     {
         match token {
             Token::Word(Word::Function(function)) => {
-                self.place = ReaderPlace::Applied(target, *function);
+                self.place = ReaderPlace::Inside(StatementPlace::Applied(target, *function));
                 true
             }
             _ => false,
@@ -345,8 +355,8 @@ impl ProgramReader {
         match token {
             Token::Sign(Sign::OpenParen) => {
                 match function {
-                    Function::Count => self.place = ReaderPlace::Closing(target.aggregate(
-                        Call::Count,
+                    Function::Count => self.place = ReaderPlace::Inside(StatementPlace::Closing(
+                        target.aggregate(Call::Count),
                     )),
                     _ => self.enter(Slot::Value(target, function)),
                 }
@@ -455,7 +465,9 @@ impl ProgramReader {
         target.keys.push(argument)?;
         match token {
             Token::Sign(Sign::Comma) => self.enter(Slot::Key(target)),
-            Token::Sign(Sign::CloseBracket) => self.place = ReaderPlace::Keyed(target),
+            Token::Sign(Sign::CloseBracket) => self.place = ReaderPlace::Inside(
+                StatementPlace::Keyed(target),
+            ),
             // after a key stands a further one or the keys' end
             _ => return Ok(false),
         }
@@ -484,11 +496,11 @@ impl ProgramReader {
                 None => Ok(false),
             },
             Token::Sign(Sign::Comma) if function == Function::Lquantize => {
-                self.place = ReaderPlace::Bounding(Levels {
+                self.place = ReaderPlace::Inside(StatementPlace::Bounding(Levels {
                     target,
                     value,
                     bound: Bound::Lower,
-                });
+                }));
                 Ok(true)
             }
             _ => Ok(false),
@@ -503,11 +515,11 @@ impl ProgramReader {
     {
         match token {
             Token::Number(number) if *number >= 0 => {
-                self.place = ReaderPlace::Bounded(levels, *number);
+                self.place = ReaderPlace::Inside(StatementPlace::Bounded(levels, *number));
                 true
             }
             Token::Sign(Sign::Minus) => {
-                self.place = ReaderPlace::Negating(levels);
+                self.place = ReaderPlace::Inside(StatementPlace::Negating(levels));
                 true
             }
             _ => false,
@@ -522,7 +534,7 @@ impl ProgramReader {
     {
         match token {
             Token::Number(number) if *number >= 0 => {
-                self.place = ReaderPlace::Bounded(levels, -*number);
+                self.place = ReaderPlace::Inside(StatementPlace::Bounded(levels, -*number));
                 true
             }
             _ => false,
@@ -541,8 +553,8 @@ impl ProgramReader {
         ensures { IfOk result (λ flaw. ShownOutcome
             (from_bounded (clauses_of self.old) (clause_of self.old) levels.target.name (key_forms levels.target)
             (form_of levels.value) (bound_of levels.bound) last token.now)
-            (out_of_range_at (bounded levels.target.name (key_forms levels.target) (form_of levels.value)
-            (bound_of levels.bound) last) token.now) flaw (program_state_of self.new)) }
+            (out_of_range_at (inside (bounded levels.target.name (key_forms levels.target) (form_of levels.value)
+            (bound_of levels.bound) last)) token.now) flaw (program_state_of self.new)) }
     {
         let Levels {
             target,
@@ -571,13 +583,13 @@ impl ProgramReader {
     /// Begins a bound.
     fn begin_bound(&mut self, target: Target, value: Expr, bound: Bound)
         ensures { program_state_of self.new ≡ program_at (clauses_of self.old) (clause_of self.old)
-            (bounding target.name (key_forms target) (form_of value) (bound_of bound)) }
+            (inside (bounding target.name (key_forms target) (form_of value) (bound_of bound))) }
     {
-        self.place = ReaderPlace::Bounding(Levels {
+        self.place = ReaderPlace::Inside(StatementPlace::Bounding(Levels {
             target,
             value,
             bound,
-        });
+        }));
     }
 
     /// Ends an `lquantize` with these bounds, or says that they are out of range.
@@ -653,7 +665,7 @@ impl ProgramReader {
     {
         match &self.place {
             ReaderPlace::BeforeStatement => shown_before_statement(token),
-            ReaderPlace::Assigned(_) => shown_assigned(token),
+            ReaderPlace::Inside(StatementPlace::Assigned(_)) => shown_assigned(token),
             ReaderPlace::Within { .. } if self.expression.wants_operand() => shown_operand(token),
             _ => shown_elsewhere(token),
         }
@@ -678,25 +690,42 @@ impl ProgramReader {
             ReaderPlace::AfterStatement => Ok(stuck_unless(self.from_after_statement(
                 alloc, &token,
             )?)),
-            ReaderPlace::Called(action) => Ok(stuck_unless(self.from_called(action, &token))),
-            ReaderPlace::StackOpened { process } => Ok(stuck_unless(self.from_stack_opened(
-                process, &token,
-            ))),
-            ReaderPlace::Closing(statement) => Ok(stuck_unless(self.from_closing(
-                statement, &token,
-            )?)),
-            ReaderPlace::Named(name) => Ok(stuck_unless(self.from_named(alloc, name, &token))),
-            ReaderPlace::Keyed(target) => Ok(stuck_unless(self.from_keyed(target, &token))),
-            ReaderPlace::Assigned(target) => Ok(stuck_unless(self.from_assigned(target, &token))),
-            ReaderPlace::Applied(target, function) => {
-                Ok(stuck_unless(self.from_applied(target, function, &token)))
-            }
+            ReaderPlace::Inside(place) => self.step_inside(alloc, place, &token),
             ReaderPlace::Within { slot, count } => Ok(stuck_unless(self.from_within(
                 alloc, slot, count, &token,
             )?)),
-            ReaderPlace::Bounding(levels) => Ok(stuck_unless(self.from_bounding(levels, &token))),
-            ReaderPlace::Negating(levels) => Ok(stuck_unless(self.from_negating(levels, &token))),
-            ReaderPlace::Bounded(levels, last) => self.from_bounded(levels, last, &token),
+        }
+    }
+
+    /// Reads a token in a statement; or says why it is refused.
+    fn step_inside(
+        &mut self,
+        alloc: Global,
+        place: StatementPlace,
+        token: &Token,
+    ) -> Result<Option<Flaw>, AllocError>
+        requires { FitsInside (clauses_of self.old) (clause_of self.old) (inside_form place) }
+        ensures { IfOk result (λ flaw. ShownOutcome
+            (inside_step_from (clauses_of self.old) (clause_of self.old) (inside_form place) token.now)
+            (out_of_range_at (inside (inside_form place)) token.now) flaw (program_state_of self.new)) }
+    {
+        match place {
+            StatementPlace::Called(action) => Ok(stuck_unless(self.from_called(action, token))),
+            StatementPlace::StackOpened { process } => Ok(stuck_unless(self.from_stack_opened(
+                process, token,
+            ))),
+            StatementPlace::Closing(statement) => Ok(stuck_unless(self.from_closing(
+                statement, token,
+            )?)),
+            StatementPlace::Named(name) => Ok(stuck_unless(self.from_named(alloc, name, token))),
+            StatementPlace::Keyed(target) => Ok(stuck_unless(self.from_keyed(target, token))),
+            StatementPlace::Assigned(target) => Ok(stuck_unless(self.from_assigned(target, token))),
+            StatementPlace::Applied(target, function) => {
+                Ok(stuck_unless(self.from_applied(target, function, token)))
+            }
+            StatementPlace::Bounding(levels) => Ok(stuck_unless(self.from_bounding(levels, token))),
+            StatementPlace::Negating(levels) => Ok(stuck_unless(self.from_negating(levels, token))),
+            StatementPlace::Bounded(levels, last) => self.from_bounded(levels, last, token),
         }
     }
 }

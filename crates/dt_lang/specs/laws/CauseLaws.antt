@@ -27,7 +27,7 @@ use Rattle.dt_lang.specs.declared.fault.Flaw.TheVariants.{Syntax, Probe, Action,
 use Rattle.dt_lang.specs.Refused.{Cause, because, destroys, rank, StatementBegins, IsDestructive, NameStands, a_statement, a_function}
 use Rattle.dt_lang.specs.Refused.{IsNoAction, VariableStands, a_number, a_text, NamesNoVariable, IsNoVariable}
 use Rattle.dt_lang.specs.Refused.{CauseHolds, Refused}
-use Rattle.dt_lang.specs.machine.ClauseState.{PlaceForm, body, assigned, within, bounded, at_lower, at_upper, at_step}
+use Rattle.dt_lang.specs.machine.ClauseState.{PlaceForm, body, assigned, within, bounded, at_lower, at_upper, at_step, inside}
 use Rattle.dt_lang.specs.machine.ClauseState.{ProgramState, program_at, shut, go_on, from_within, program_step_from, program_step, program_run}
 use Rattle.dt_lang.specs.machine.ClauseState.{program_start}
 use Rattle.dt_lang.specs.machine.Cause.{too_long_at, out_of_range_at, is_word, names_no_variable, destructive_of}
@@ -78,20 +78,20 @@ statement_place : (cs : List ClauseForm) (c : ClauseForm) (p : PlaceForm) (next 
 statement_place cs c (body before_statement) next h = refl
 statement_place cs c (within slot n e) next h =
     absurd (within_foreign cs c slot n e (word.Action action.Trace) next (foreign e _ refl) h)
-statement_place cs c (bounded name keys f at_lower z) next h = absurd (none_some h)
-statement_place cs c (bounded name keys f (at_upper lower) z) next h = absurd (none_some h)
-statement_place cs c (bounded name keys f (at_step lower upper) z) next h = absurd (none_some h)
+statement_place cs c (inside (bounded name keys f at_lower z)) next h = absurd (none_some h)
+statement_place cs c (inside (bounded name keys f (at_upper lower) z)) next h = absurd (none_some h)
+statement_place cs c (inside (bounded name keys f (at_step lower upper) z)) next h = absurd (none_some h)
 statement_place cs c _ next h = absurd (none_some h)
 
 function_place : (cs : List ClauseForm) (c : ClauseForm) (p : PlaceForm) (next : ProgramState)
     → program_step_from cs c p (token.Word (word.Function function.Count)) ≡ Some next → name_may_stand p ≡ true
 function_place cs c (body before_statement) next h = refl
-function_place cs c (assigned name keys) next h = refl
+function_place cs c (inside (assigned name keys)) next h = refl
 function_place cs c (within slot n e) next h =
     absurd (within_foreign cs c slot n e (word.Function function.Count) next (foreign e _ refl) h)
-function_place cs c (bounded name keys f at_lower z) next h = absurd (none_some h)
-function_place cs c (bounded name keys f (at_upper lower) z) next h = absurd (none_some h)
-function_place cs c (bounded name keys f (at_step lower upper) z) next h = absurd (none_some h)
+function_place cs c (inside (bounded name keys f at_lower z)) next h = absurd (none_some h)
+function_place cs c (inside (bounded name keys f (at_upper lower) z)) next h = absurd (none_some h)
+function_place cs c (inside (bounded name keys f (at_step lower upper) z)) next h = absurd (none_some h)
 function_place cs c _ next h = absurd (none_some h)
 
 number_place : (cs : List ClauseForm) (c : ClauseForm) (p : PlaceForm) (next : ProgramState)
@@ -101,9 +101,9 @@ number_place cs c (within slot n e) next h =
     wants_where_number e r.0 r.1
 number_place cs c (body before_statement) next h = absurd (none_some h)
 number_place cs c (body after_statement) next h = absurd (none_some h)
-number_place cs c (bounded name keys f at_lower z) next h = absurd (none_some h)
-number_place cs c (bounded name keys f (at_upper lower) z) next h = absurd (none_some h)
-number_place cs c (bounded name keys f (at_step lower upper) z) next h = absurd (none_some h)
+number_place cs c (inside (bounded name keys f at_lower z)) next h = absurd (none_some h)
+number_place cs c (inside (bounded name keys f (at_upper lower) z)) next h = absurd (none_some h)
+number_place cs c (inside (bounded name keys f (at_step lower upper) z)) next h = absurd (none_some h)
 number_place cs c _ next h = absurd (none_some h)
 
 text_place : (cs : List ClauseForm) (c : ClauseForm) (p : PlaceForm) (next : ProgramState)
@@ -113,9 +113,9 @@ text_place cs c (within slot n e) next h =
     wants_where_text e r.0 r.1
 text_place cs c (body before_statement) next h = absurd (none_some h)
 text_place cs c (body after_statement) next h = absurd (none_some h)
-text_place cs c (bounded name keys f at_lower z) next h = absurd (none_some h)
-text_place cs c (bounded name keys f (at_upper lower) z) next h = absurd (none_some h)
-text_place cs c (bounded name keys f (at_step lower upper) z) next h = absurd (none_some h)
+text_place cs c (inside (bounded name keys f at_lower z)) next h = absurd (none_some h)
+text_place cs c (inside (bounded name keys f (at_upper lower) z)) next h = absurd (none_some h)
+text_place cs c (inside (bounded name keys f (at_step lower upper) z)) next h = absurd (none_some h)
 text_place cs c _ next h = absurd (none_some h)
 
 -- what steps from places
@@ -130,7 +130,7 @@ name_steps : (cs : List ClauseForm) (c : ClauseForm) (p : PlaceForm) → name_ma
     ⊎ Steps (program_at cs c p) (token.Word (word.Function function.Count))
 unfolding program_step
 name_steps cs c (body before_statement) e = inl (record { next = _; steps = refl })
-name_steps cs c (assigned name keys) e = inr (record { next = _; steps = refl })
+name_steps cs c (inside (assigned name keys)) e = inr (record { next = _; steps = refl })
 name_steps cs c _ e = cc
 
 within_steps : (cs : List ClauseForm) (c : ClauseForm) (slot : Slot) (n : ℕ) (e next : expression.State) (t : Token)

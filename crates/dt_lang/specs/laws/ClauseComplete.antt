@@ -24,7 +24,7 @@ use Rattle.dt_program.specs.Clause.{ArgForm, number, CallForm, lquantize, Statem
 use Rattle.dt_lang.specs.Stand.{HeadStands, BodyStands, KeysStand, TargetStands, Slot, predicate, given, key}
 use Rattle.dt_lang.specs.Stand.{value, divides_in, SlotOpens}
 use Rattle.dt_lang.specs.Stand as stand
-use Rattle.dt_lang.specs.machine.ClauseState.{BoundForm, at_lower, at_upper, at_step, outside, described, body, keyed, assigned}
+use Rattle.dt_lang.specs.machine.ClauseState.{BoundForm, at_lower, at_upper, at_step, outside, described, body, keyed, assigned, inside}
 use Rattle.dt_lang.specs.machine.ClauseState.{within, bounding, bounded, ProgramState, program_at, headed, ended, entered}
 use Rattle.dt_lang.specs.machine.ClauseState.{after_call, function_given, shut, program_step, program_run, program_start, whole, finished}
 use Rattle.dt_lang.specs.laws.ExpressionLaws.{complete, complete_argument}
@@ -122,7 +122,7 @@ given_value cs c name keys function.Lquantize f call h = refl
 
 pub constant_over : (cs : List ClauseForm) (c : ClauseForm) (name : List ℕ) (keys : List ArgForm) (f : Form)
     (b : BoundForm) (ts us : List Token) (z : ℤ) → ReadsConstant ts z
-    → program_run (program_at cs c (bounding name keys f b)) (ts ++ us) ≡ program_run (program_at cs c (bounded name keys f b z)) us
+    → program_run (program_at cs c (inside (bounding name keys f b))) (ts ++ us) ≡ program_run (program_at cs c (inside (bounded name keys f b z))) us
 unfolding program_run program_step
 constant_over cs c name keys f b _ us _ (plain n) = refl
 constant_over cs c name keys f b _ us _ (negative n) = refl
@@ -142,14 +142,14 @@ bounds_lead cs c name keys f ts _ _ _ _ r (stepped vs ws xs lower upper by h k l
     rw append_assoc
     (slot_over cs c (value name keys function.Lquantize) ts _ (number f) (token.Sign sign.Comma) _ r refl refl
     ∙ constant_over cs c name keys f at_lower vs _ lower h
-    ∙ ap (λ (x : List Token). program_run (program_at cs c (bounding name keys f (at_upper lower))) x)
+    ∙ ap (λ (x : List Token). program_run (program_at cs c (inside (bounding name keys f (at_upper lower)))) x)
     (append_assoc ws (token.Sign sign.Comma ∷ xs) (token.Sign sign.CloseParen ∷ []))
     ∙ constant_over cs c name keys f (at_upper lower) ws _ upper k
     ∙ constant_over cs c name keys f (at_step lower upper) xs _ by l)
 
 call_leads : (cs : List ClauseForm) (c : ClauseForm) (name : List ℕ) (keys : List ArgForm) (ts : List Token)
     (call : CallForm) → ReadsCall ts call
-    → program_run (program_at cs c (assigned name keys)) ts ≡ Some (ended cs c (aggregate name keys call))
+    → program_run (program_at cs c (inside (assigned name keys))) ts ≡ Some (ended cs c (aggregate name keys call))
 unfolding program_run program_step
 call_leads cs c name keys _ _ counting = refl
 call_leads cs c name keys _ _ (of_one fn ts f call m h) =
@@ -217,16 +217,16 @@ keys_lead cs c name _ _ (grammar.another ts us keys a h k) =
 target_over : (cs : List ClauseForm) (c : ClauseForm) (name : List ℕ) (keys : List ArgForm) (ts us : List Token)
     → ReadsTarget ts name keys
     → program_run (program_at cs c (body before_statement)) (ts ++ (token.Sign sign.Equal ∷ us))
-    ≡ program_run (program_at cs c (assigned name keys)) us
+    ≡ program_run (program_at cs c (inside (assigned name keys))) us
 unfolding program_run program_step
 target_over cs c _ _ _ us (bare name) = refl
 target_over cs c _ _ _ us (grammar.keyed name ts keys h) =
     let l = keys_lead cs c name ts keys h in
-    run_over (entered cs c (key name [])) (program_at cs c (keyed name keys))
+    run_over (entered cs c (key name [])) (program_at cs c (inside (keyed name keys)))
     (ts ++ (token.Sign sign.CloseBracket ∷ []))
     (token.Sign sign.Equal ∷ us)
     (key_ends cs c name ts keys (token.Sign sign.CloseBracket) _ l refl
-    (ap (λ (x : List ArgForm). Some (program_at cs c (keyed name x))) (sym l.keys_are)))
+    (ap (λ (x : List ArgForm). Some (program_at cs c (inside (keyed name x)))) (sym l.keys_are)))
 
 given_argument : (cs : List ClauseForm) (c : ClauseForm) (a : Action) (x : ArgForm) (s : StatementForm)
     → statement_of a x ≡ Some s → after_call a cs c ≡ entered cs c (given a)
@@ -357,7 +357,7 @@ keys_stand_lead ts cs c name keys h = record {
 
 pub target_stands_lead : (ts us : List Token) (cs : List ClauseForm) (c : ClauseForm) (name : List ℕ)
     (keys : List ArgForm) → TargetStands ts cs c name keys
-    → program_run program_start (ts ++ (token.Sign sign.Equal ∷ us)) ≡ program_run (program_at cs c (assigned name keys)) us
+    → program_run program_start (ts ++ (token.Sign sign.Equal ∷ us)) ≡ program_run (program_at cs c (inside (assigned name keys))) us
 target_stands_lead ts us cs c name keys h =
     rw (split_two ts h.front h.back (token.Sign sign.Equal ∷ us) h.split)
     (run_over _ _ h.front _ (body_stands_lead before_statement h.front cs c h.stands)

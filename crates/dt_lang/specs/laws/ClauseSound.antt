@@ -24,7 +24,7 @@ use Rattle.dt_program.specs.Clause.{ClauseForm}
 use Rattle.dt_lang.specs.Stand.{HeadStands, BodyStands, KeysStand, TargetStands, Slot, predicate, given, key}
 use Rattle.dt_lang.specs.Stand.{value, divides_in, SlotOpens, a_predicate, an_argument, first_key, a_key}
 use Rattle.dt_lang.specs.Stand.{a_value}
-use Rattle.dt_lang.specs.machine.ClauseState.{BoundForm, at_lower, at_upper, at_step, PlaceForm, outside, described, listed}
+use Rattle.dt_lang.specs.machine.ClauseState.{BoundForm, at_lower, at_upper, at_step, PlaceForm, outside, described, listed, InsideForm, inside, inside_step_from}
 use Rattle.dt_lang.specs.machine.ClauseState.{guarded, body, called, stack_opened, closing, named, keyed, assigned, applied, within}
 use Rattle.dt_lang.specs.machine.ClauseState.{bounding, negating, bounded, ProgramState, program_at, headed, with_statement}
 use Rattle.dt_lang.specs.machine.ClauseState.{ended, entered, from_outside, from_described, from_listed, from_guarded}
@@ -35,7 +35,7 @@ use Rattle.dt_lang.specs.machine.ClauseState.{go_on, from_within, from_bounding,
 use Rattle.dt_lang.specs.machine.ClauseState.{program_step, program_run, program_start}
 use Rattle.dt_lang.specs.laws.ExpressionLaws.{sound, sound_argument, run-append}
 use Rattle.dt_lang.specs.laws.Reading.{HeadRead, ListRead, GuardRead, Follows, FollowsTarget, Closing, Within, BoundsBegin}
-use Rattle.dt_lang.specs.laws.Reading.{Levels, Bounded, stack_action, ReadAt, Read, split_last, split_three, split_four}
+use Rattle.dt_lang.specs.laws.Reading.{Levels, Bounded, stack_action, ReadInside, ReadAt, Read, split_last, split_three, split_four}
 use Rattle.dt_lang.specs.laws.Reading.{split_levels, head_begins, head_goes_on, body_begins, guarded_body_begins}
 use Rattle.dt_lang.specs.laws.Reading.{body_separated, body_stated, body_closed}
 
@@ -166,7 +166,7 @@ are_frames n e =
 sound_frames : (cs : List ClauseForm) (c : ClauseForm) (process : Bool) (ts : List Token) (n : ℕ) (next : ProgramState)
     (few : Bool) → leb 1 n && leb n FRAMES_MAX ≡ few
     → Follows (token.Word (word.Action (stack_action process)) ∷ token.Sign sign.OpenParen ∷ []) ts cs c
-    → (if few then Some (program_at cs c (closing (stack_of process n))) else None) ≡ Some next
+    → (if few then Some (program_at cs c (inside (closing (stack_of process n)))) else None) ≡ Some next
     → Read next (ts ++ (token.Number (pos n) ∷ []))
 sound_frames cs c process ts n next true k h e = landed _ _ _ e (stack_opened_closes cs c process ts n (are_frames n k) h)
 sound_frames cs c process ts n next false k h e = absurd (none_some e)
@@ -583,6 +583,20 @@ sound_bounded cs c name keys f (at_upper lower) z ts t next h k =
 sound_bounded cs c name keys f (at_step lower upper) z ts t next h k =
     sound_at_step cs c name keys f lower upper z ts t next h k
 
+sound_inside : (cs : List ClauseForm) (c : ClauseForm) (p : InsideForm) (ts : List Token) (t : Token)
+    (next : ProgramState)
+    → ReadInside cs c p ts → inside_step_from cs c p t ≡ Some next → Read next (ts ++ (t ∷ []))
+sound_inside cs c (called a) ts t next h k = sound_called cs c a ts t next h k
+sound_inside cs c (stack_opened process) ts t next h k = sound_stack_opened cs c process ts t next h k
+sound_inside cs c (closing s) ts t next h k = sound_closing cs c s ts t next h k
+sound_inside cs c (named name) ts t next h k = sound_named cs c name ts t next h k
+sound_inside cs c (keyed name keys) ts t next h k = sound_keyed cs c name keys ts t next h k
+sound_inside cs c (assigned name keys) ts t next h k = sound_assigned cs c name keys ts t next h k
+sound_inside cs c (applied name keys fn) ts t next h k = sound_applied cs c name keys fn ts t next h k
+sound_inside cs c (bounding name keys f b) ts t next h k = sound_bounding cs c name keys f b ts t next h k
+sound_inside cs c (negating name keys f b) ts t next h k = sound_negating cs c name keys f b ts t next h k
+sound_inside cs c (bounded name keys f b z) ts t next h k = sound_bounded cs c name keys f b z ts t next h k
+
 sound_from : (cs : List ClauseForm) (c : ClauseForm) (p : PlaceForm) (ts : List Token) (t : Token)
     (next : ProgramState)
     → ReadAt cs c p ts → program_step_from cs c p t ≡ Some next → Read next (ts ++ (t ∷ []))
@@ -592,17 +606,8 @@ sound_from cs c listed ts t next h k = sound_listed cs c ts t next h k
 sound_from cs c guarded ts t next h k = sound_guarded cs c ts t next h k
 sound_from cs c (body before_statement) ts t next h k = sound_before_statement cs c ts t next h k
 sound_from cs c (body after_statement) ts t next h k = sound_after_statement cs c ts t next h k
-sound_from cs c (called a) ts t next h k = sound_called cs c a ts t next h k
-sound_from cs c (stack_opened process) ts t next h k = sound_stack_opened cs c process ts t next h k
-sound_from cs c (closing s) ts t next h k = sound_closing cs c s ts t next h k
-sound_from cs c (named name) ts t next h k = sound_named cs c name ts t next h k
-sound_from cs c (keyed name keys) ts t next h k = sound_keyed cs c name keys ts t next h k
-sound_from cs c (assigned name keys) ts t next h k = sound_assigned cs c name keys ts t next h k
-sound_from cs c (applied name keys fn) ts t next h k = sound_applied cs c name keys fn ts t next h k
+sound_from cs c (inside p) ts t next h k = sound_inside cs c p ts t next h k
 sound_from cs c (within slot n e) ts t next h k = sound_within cs c slot n e ts t next h k
-sound_from cs c (bounding name keys f b) ts t next h k = sound_bounding cs c name keys f b ts t next h k
-sound_from cs c (negating name keys f b) ts t next h k = sound_negating cs c name keys f b ts t next h k
-sound_from cs c (bounded name keys f b z) ts t next h k = sound_bounded cs c name keys f b z ts t next h k
 
 -- a step reads one more token
 pub sound_step : (s next : ProgramState) (ts : List Token) (t : Token) → Read s ts → program_step s t ≡ Some next

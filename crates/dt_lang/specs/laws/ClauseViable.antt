@@ -16,13 +16,13 @@ use Rattle.dt_lang.specs.machine.ExpressionState.{ends_argument}
 use Rattle.dt_lang.specs.Grammar.{TakesNumber, Spot, before_statement, after_statement}
 use Rattle.dt_program.specs.Clause.{ArgForm, number, StatementForm, ClauseForm}
 use Rattle.dt_lang.specs.Stand.{Slot, predicate, given, key, value, divides_in, SlotOpens, an_argument, a_value}
-use Rattle.dt_lang.specs.machine.ClauseState.{BoundForm, at_lower, at_upper, at_step, PlaceForm, outside, described, listed}
+use Rattle.dt_lang.specs.machine.ClauseState.{BoundForm, at_lower, at_upper, at_step, PlaceForm, outside, described, listed, InsideForm, inside}
 use Rattle.dt_lang.specs.machine.ClauseState.{guarded, body, called, stack_opened, closing, named, keyed, assigned, applied, within}
 use Rattle.dt_lang.specs.machine.ClauseState.{bounding, negating, bounded, ProgramState, program_at, entered, function_given}
 use Rattle.dt_lang.specs.machine.ClauseState.{with_statement, shut, program_step, program_run}
 use Rattle.dt_lang.specs.laws.ExpressionLaws.{complete, run_beginning}
 use Rattle.dt_lang.specs.laws.ExpressionLaws as laws
-use Rattle.dt_lang.specs.laws.Reading.{Within, ReadAt, Read}
+use Rattle.dt_lang.specs.laws.Reading.{Within, ReadInside, ReadAt, Read}
 use Rattle.dt_lang.specs.laws.ClauseSound.{same_some, sound_step}
 use Rattle.dt_lang.specs.laws.ClauseComplete.{run_over, run_within, step_shut}
 
@@ -66,7 +66,7 @@ module _ (cs : List ClauseForm) (c : ClauseForm) where
   body_completes after_statement = back _ _ (token.Sign sign.CloseBrace) refl (whole_clause _)
 
 closing_completes : (cs : List ClauseForm) (c : ClauseForm) (s : StatementForm)
-    → Completes (program_at cs c (closing s))
+    → Completes (program_at cs c (inside (closing s)))
 unfolding program_step
 closing_completes cs c s = back _ _ (token.Sign sign.CloseParen) refl (body_completes cs _ after_statement)
 
@@ -91,52 +91,52 @@ unfolding program_step
 outside_completes cs c = back _ _ (token.Description (Ok all_probes)) refl (described_completes cs _)
 
 stack_opened_completes : (cs : List ClauseForm) (c : ClauseForm) (process : Bool)
-    → Completes (program_at cs c (stack_opened process))
+    → Completes (program_at cs c (inside (stack_opened process)))
 unfolding program_step
 stack_opened_completes cs c process = back _ _ (token.Number (pos 1)) refl (closing_completes cs c _)
 
 -- aggregations
 applied_completes : (cs : List ClauseForm) (c : ClauseForm) (name : List ℕ) (keys : List ArgForm)
-    → Completes (program_at cs c (applied name keys function.Count))
+    → Completes (program_at cs c (inside (applied name keys function.Count)))
 unfolding program_step
 applied_completes cs c name keys = back _ _ (token.Sign sign.OpenParen) refl (closing_completes cs c _)
 
 assigned_completes : (cs : List ClauseForm) (c : ClauseForm) (name : List ℕ) (keys : List ArgForm)
-    → Completes (program_at cs c (assigned name keys))
+    → Completes (program_at cs c (inside (assigned name keys)))
 unfolding program_step
 assigned_completes cs c name keys =
     back _ _ (token.Word (word.Function function.Count)) refl (applied_completes cs c name keys)
 
 keyed_completes : (cs : List ClauseForm) (c : ClauseForm) (name : List ℕ) (keys : List ArgForm)
-    → Completes (program_at cs c (keyed name keys))
+    → Completes (program_at cs c (inside (keyed name keys)))
 unfolding program_step
 keyed_completes cs c name keys = back _ _ (token.Sign sign.Equal) refl (assigned_completes cs c name keys)
 
-named_completes : (cs : List ClauseForm) (c : ClauseForm) (name : List ℕ) → Completes (program_at cs c (named name))
+named_completes : (cs : List ClauseForm) (c : ClauseForm) (name : List ℕ) → Completes (program_at cs c (inside (named name)))
 unfolding program_step
 named_completes cs c name = back _ _ (token.Sign sign.Equal) refl (assigned_completes cs c name [])
 
 -- bounds
 module _ (cs : List ClauseForm) (c : ClauseForm) (name : List ℕ) (keys : List ArgForm) (f : Form) where
-  upper_completes : (lower z : ℤ) → Completes (program_at cs c (bounded name keys f (at_upper lower) z))
+  upper_completes : (lower z : ℤ) → Completes (program_at cs c (inside (bounded name keys f (at_upper lower) z)))
   unfolding program_step
   upper_completes lower z = back _ _ (token.Sign sign.CloseParen) refl (body_completes cs _ after_statement)
 
-  next_completes : (lower : ℤ) → Completes (program_at cs c (bounding name keys f (at_upper lower)))
+  next_completes : (lower : ℤ) → Completes (program_at cs c (inside (bounding name keys f (at_upper lower))))
   unfolding program_step
   next_completes lower = back _ _ (token.Number (pos 0)) refl (upper_completes lower (pos 0))
 
-  bounded_completes : (b : BoundForm) (z : ℤ) → Completes (program_at cs c (bounded name keys f b z))
+  bounded_completes : (b : BoundForm) (z : ℤ) → Completes (program_at cs c (inside (bounded name keys f b z)))
   unfolding program_step
   bounded_completes at_lower z = back _ _ (token.Sign sign.Comma) refl (next_completes z)
   bounded_completes (at_upper lower) z = upper_completes lower z
   bounded_completes (at_step lower upper) z = back _ _ (token.Sign sign.CloseParen) refl (body_completes cs _ after_statement)
 
-  bounding_completes : (b : BoundForm) → Completes (program_at cs c (bounding name keys f b))
+  bounding_completes : (b : BoundForm) → Completes (program_at cs c (inside (bounding name keys f b)))
   unfolding program_step
   bounding_completes b = back _ _ (token.Number (pos 0)) refl (bounded_completes b (pos 0))
 
-  negating_completes : (b : BoundForm) → Completes (program_at cs c (negating name keys f b))
+  negating_completes : (b : BoundForm) → Completes (program_at cs c (inside (negating name keys f b)))
   unfolding program_step
   negating_completes b = back _ _ (token.Number (pos 0)) refl (bounded_completes b _)
 
@@ -153,7 +153,7 @@ value_shuts : (cs : List ClauseForm) (c : ClauseForm) (name : List ℕ) (keys : 
 value_shuts cs c name keys function.Count f n = absurd (n refl)
 value_shuts cs c name keys function.Lquantize f n = record {
   end = token.Sign sign.Comma;
-  next = program_at cs c (bounding name keys f at_lower);
+  next = program_at cs c (inside (bounding name keys f at_lower));
   ends_it = refl;
   leads = refl;
   completes = bounding_completes cs c name keys f at_lower;
@@ -226,12 +226,12 @@ within_completes cs c slot n e ts h =
 
 -- what a word or a name leads to goes on where what its `(` leads to does
 called_completes : (cs : List ClauseForm) (c : ClauseForm) (a : Action) (ts : List Token)
-    → Read (program_at cs c (called a)) ts → Completes (program_at cs c (called a))
+    → Read (program_at cs c (inside (called a))) ts → Completes (program_at cs c (inside (called a)))
 unfolding program_step
 called_completes cs c action.Stack ts h = back _ _ (token.Sign sign.OpenParen) refl (stack_opened_completes cs c false)
 called_completes cs c action.Ustack ts h = back _ _ (token.Sign sign.OpenParen) refl (stack_opened_completes cs c true)
 called_completes cs c a ts h =
-    let r = sound_step (program_at cs c (called a)) (entered cs c (given a)) ts (token.Sign sign.OpenParen) h refl in
+    let r = sound_step (program_at cs c (inside (called a))) (entered cs c (given a)) ts (token.Sign sign.OpenParen) h refl in
     back _ _ (token.Sign sign.OpenParen) refl (within_completes cs c (given a) 0 _ _ r)
 
 given_completes : (cs : List ClauseForm) (c : ClauseForm) (name : List ℕ) (keys : List ArgForm) (fn : Function)
@@ -245,13 +245,26 @@ given_completes cs c name keys function.Quantize ts h = within_completes cs c _ 
 given_completes cs c name keys function.Lquantize ts h = within_completes cs c _ 0 _ ts h
 
 function_completes : (cs : List ClauseForm) (c : ClauseForm) (name : List ℕ) (keys : List ArgForm) (fn : Function)
-    (ts : List Token) → Read (program_at cs c (applied name keys fn)) ts
-    → Completes (program_at cs c (applied name keys fn))
+    (ts : List Token) → Read (program_at cs c (inside (applied name keys fn))) ts
+    → Completes (program_at cs c (inside (applied name keys fn)))
 unfolding program_step
 function_completes cs c name keys fn ts h =
-    let r = sound_step (program_at cs c (applied name keys fn)) (function_given cs c name keys fn) ts
+    let r = sound_step (program_at cs c (inside (applied name keys fn))) (function_given cs c name keys fn) ts
     (token.Sign sign.OpenParen) h refl in
     back _ _ (token.Sign sign.OpenParen) refl (given_completes cs c name keys fn _ r)
+
+inside_completes : (cs : List ClauseForm) (c : ClauseForm) (p : InsideForm) (ts : List Token) → ReadInside cs c p ts
+    → Completes (program_at cs c (inside p))
+inside_completes cs c (called a) ts h = called_completes cs c a ts h
+inside_completes cs c (stack_opened process) ts h = stack_opened_completes cs c process
+inside_completes cs c (closing s) ts h = closing_completes cs c s
+inside_completes cs c (named name) ts h = named_completes cs c name
+inside_completes cs c (keyed name keys) ts h = keyed_completes cs c name keys
+inside_completes cs c (assigned name keys) ts h = assigned_completes cs c name keys
+inside_completes cs c (applied name keys fn) ts h = function_completes cs c name keys fn ts h
+inside_completes cs c (bounding name keys f b) ts h = bounding_completes cs c name keys f b
+inside_completes cs c (negating name keys f b) ts h = negating_completes cs c name keys f b
+inside_completes cs c (bounded name keys f b z) ts h = bounded_completes cs c name keys f b z
 
 place_completes : (cs : List ClauseForm) (c : ClauseForm) (p : PlaceForm) (ts : List Token) → ReadAt cs c p ts
     → Completes (program_at cs c p)
@@ -260,17 +273,8 @@ place_completes cs c described ts h = described_completes cs c
 place_completes cs c listed ts h = listed_completes cs c
 place_completes cs c guarded ts h = guarded_completes cs c
 place_completes cs c (body spot) ts h = body_completes cs c spot
-place_completes cs c (called a) ts h = called_completes cs c a ts h
-place_completes cs c (stack_opened process) ts h = stack_opened_completes cs c process
-place_completes cs c (closing s) ts h = closing_completes cs c s
-place_completes cs c (named name) ts h = named_completes cs c name
-place_completes cs c (keyed name keys) ts h = keyed_completes cs c name keys
-place_completes cs c (assigned name keys) ts h = assigned_completes cs c name keys
-place_completes cs c (applied name keys fn) ts h = function_completes cs c name keys fn ts h
+place_completes cs c (inside p) ts h = inside_completes cs c p ts h
 place_completes cs c (within slot n e) ts h = within_completes cs c slot n e ts h
-place_completes cs c (bounding name keys f b) ts h = bounding_completes cs c name keys f b
-place_completes cs c (negating name keys f b) ts h = negating_completes cs c name keys f b
-place_completes cs c (bounded name keys f b z) ts h = bounded_completes cs c name keys f b z
 
 -- From each state that was reached some tokens lead to the end of a clause.
 pub completes : (s : ProgramState) (ts : List Token) → Read s ts → Completes s

@@ -11,7 +11,7 @@ use Rattle.dt_lang.specs.Grammar.{ReadsConstant, plain, negative, ReadsBounds, b
 use Rattle.dt_program.specs.Clause.{ArgForm, number, ClauseForm}
 use Rattle.dt_lang.specs.Stand.{value}
 use Rattle.dt_lang.specs.Refused.{IsOutOfRange}
-use Rattle.dt_lang.specs.machine.ClauseState.{BoundForm, at_lower, at_upper, at_step, PlaceForm, bounding, bounded}
+use Rattle.dt_lang.specs.machine.ClauseState.{BoundForm, at_lower, at_upper, at_step, PlaceForm, bounding, bounded, inside}
 use Rattle.dt_lang.specs.machine.ClauseState.{ProgramState, program_at, entered, program_step, program_run, program_start}
 use Rattle.dt_lang.specs.machine.Cause.{fault_of_bounds, out_of_range_at}
 use Rattle.dt_lang.specs.machine.ExpressionState.{IsRead}
@@ -65,14 +65,14 @@ bounded_out ts cs c name keys f (at_step lower upper) z fault h e =
 
 bounded_out_at : (ts : List Token) (cs : List ClauseForm) (c : ClauseForm) (name : List ℕ) (keys : List ArgForm)
     (f : Form) (b : BoundForm) (z : ℤ) (t : Token) (fault : BoundsFault) → Bounded ts cs c name keys f b z
-    → out_of_range_at (bounded name keys f b z) t ≡ Some fault → IsOutOfRange ts t fault
+    → out_of_range_at (inside (bounded name keys f b z)) t ≡ Some fault → IsOutOfRange ts t fault
 bounded_out_at ts cs c name keys f b z (token.Sign sign.CloseParen) fault h e =
     bounded_out ts cs c name keys f b z fault h e
 bounded_out_at ts cs c name keys f b z t fault h e = absurd (none_some e)
 
 read_out_of_range : (ts : List Token) (cs : List ClauseForm) (c : ClauseForm) (p : PlaceForm) (t : Token)
     (fault : BoundsFault) → ReadAt cs c p ts → out_of_range_at p t ≡ Some fault → IsOutOfRange ts t fault
-read_out_of_range ts cs c (bounded name keys f b z) t fault h e = bounded_out_at ts cs c name keys f b z t fault h e
+read_out_of_range ts cs c (inside (bounded name keys f b z)) t fault h e = bounded_out_at ts cs c name keys f b z t fault h e
 read_out_of_range ts cs c _ t fault h e = absurd (none_some e)
 
 -- where bounds lead, after an `lquantize`'s value
@@ -82,11 +82,11 @@ pub record BoundsLead (cs : List ClauseForm) (c : ClauseForm) (name : List ℕ) 
   pub last : ℤ
   pub levels : fault_of_bounds bound last ≡ bounds_fault lower upper by
   pub runs : program_run (entered cs c (value name keys function.Lquantize)) ts
-      ≡ Some (program_at cs c (bounded name keys f bound last))
+      ≡ Some (program_at cs c (inside (bounded name keys f bound last)))
 
 constant_lead : (cs : List ClauseForm) (c : ClauseForm) (name : List ℕ) (keys : List ArgForm) (f : Form)
     (b : BoundForm) (ts : List Token) (z : ℤ) → ReadsConstant ts z
-    → program_run (program_at cs c (bounding name keys f b)) ts ≡ Some (program_at cs c (bounded name keys f b z))
+    → program_run (program_at cs c (inside (bounding name keys f b))) ts ≡ Some (program_at cs c (inside (bounded name keys f b z)))
 unfolding program_run program_step
 constant_lead cs c name keys f b _ _ (plain n) = refl
 constant_lead cs c name keys f b _ _ (negative n) = refl
@@ -126,7 +126,7 @@ out_there ts t fault k =
     k.reads_bounds in
     let first = slot_leads (value k.name k.keys function.Lquantize) k.front k.clauses k.clause k.opens in
     record {
-      at = program_at k.clauses k.clause (bounded k.name k.keys k.form l.bound l.last);
+      at = program_at k.clauses k.clause (inside (bounded k.name k.keys k.form l.bound l.last));
       runs = rw k.split (run_on _ _ _ k.front (k.expression ++ k.bounds) first l.runs);
       says = rw k.ends (l.levels ∙ k.wrong);
     }

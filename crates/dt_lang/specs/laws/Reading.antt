@@ -106,6 +106,21 @@ abbrev pub stack_action : Bool → Action
 stack_action true = action.Ustack
 stack_action false = action.Stack
 
+-- the tokens that were read, in a statement
+abbrev pub ReadInside : List ClauseForm → ClauseForm → place.InsideForm → List Token → Type 0
+ReadInside cs c (place.called a) ts = Follows (token.Word (word.Action a) ∷ []) ts cs c
+ReadInside cs c (place.stack_opened process) ts =
+    Follows (token.Word (word.Action (stack_action process)) ∷ token.Sign sign.OpenParen ∷ []) ts cs c
+ReadInside cs c (place.closing s) ts = Closing ts cs c s
+ReadInside cs c (place.named name) ts = Follows (token.Aggregation name ∷ []) ts cs c
+ReadInside cs c (place.keyed name keys) ts = TargetStands ts cs c name keys
+ReadInside cs c (place.assigned name keys) ts = FollowsTarget (token.Sign sign.Equal ∷ []) ts cs c name keys
+ReadInside cs c (place.applied name keys fn) ts =
+    FollowsTarget (token.Sign sign.Equal ∷ token.Word (word.Function fn) ∷ []) ts cs c name keys
+ReadInside cs c (place.bounding name keys f b) ts = Levels [] ts cs c name keys f b
+ReadInside cs c (place.negating name keys f b) ts = Levels (token.Sign sign.Minus ∷ []) ts cs c name keys f b
+ReadInside cs c (place.bounded name keys f b z) ts = Bounded ts cs c name keys f b z
+
 -- the tokens that were read
 abbrev pub ReadAt : List ClauseForm → ClauseForm → PlaceForm → List Token → Type 0
 ReadAt cs c place.outside ts = ReadsClauses ts cs
@@ -113,19 +128,8 @@ ReadAt cs c place.described ts = HeadRead ts cs c
 ReadAt cs c place.listed ts = ListRead ts cs c
 ReadAt cs c place.guarded ts = GuardRead ts cs c
 ReadAt cs c (place.body spot) ts = BodyStands spot ts cs c
-ReadAt cs c (place.called a) ts = Follows (token.Word (word.Action a) ∷ []) ts cs c
-ReadAt cs c (place.stack_opened process) ts =
-    Follows (token.Word (word.Action (stack_action process)) ∷ token.Sign sign.OpenParen ∷ []) ts cs c
-ReadAt cs c (place.closing s) ts = Closing ts cs c s
-ReadAt cs c (place.named name) ts = Follows (token.Aggregation name ∷ []) ts cs c
-ReadAt cs c (place.keyed name keys) ts = TargetStands ts cs c name keys
-ReadAt cs c (place.assigned name keys) ts = FollowsTarget (token.Sign sign.Equal ∷ []) ts cs c name keys
-ReadAt cs c (place.applied name keys fn) ts =
-    FollowsTarget (token.Sign sign.Equal ∷ token.Word (word.Function fn) ∷ []) ts cs c name keys
+ReadAt cs c (place.inside p) ts = ReadInside cs c p ts
 ReadAt cs c (place.within slot n e) ts = Within ts cs c slot n e
-ReadAt cs c (place.bounding name keys f b) ts = Levels [] ts cs c name keys f b
-ReadAt cs c (place.negating name keys f b) ts = Levels (token.Sign sign.Minus ∷ []) ts cs c name keys f b
-ReadAt cs c (place.bounded name keys f b z) ts = Bounded ts cs c name keys f b z
 
 abbrev pub Read : place.ProgramState → List Token → Type 0
 Read s ts = ReadAt s.clauses s.clause s.place ts

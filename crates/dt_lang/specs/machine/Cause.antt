@@ -18,7 +18,7 @@ use Rattle.dt_lang.specs.declared.word.Destructive.{Destructive}
 use Rattle.dt_lang.specs.declared.word.Word.TheVariants as word
 use Rattle.dt_lang.specs.machine.ExpressionState as expression
 use Rattle.dt_lang.specs.machine.ExpressionState.{is_operand}
-use Rattle.dt_lang.specs.machine.ClauseState.{BoundForm, at_lower, at_upper, at_step, PlaceForm, outside, listed, body, assigned, within, bounded, ProgramState, program_step}
+use Rattle.dt_lang.specs.machine.ClauseState.{BoundForm, at_lower, at_upper, at_step, PlaceForm, outside, listed, body, assigned, within, bounded, ProgramState, program_step, inside}
 use Rattle.dt_lang.specs.Grammar.{before_statement}
 use Rattle.dt_program.specs.Clause.{ClauseForm}
 use Rattle.dt_lang.specs.Refused.{Cause, because, destroys}
@@ -88,7 +88,7 @@ statement_at _ = false
 -- where a statement may begin, or an aggregating function's name stands
 abbrev pub name_may_stand : PlaceForm → Bool
 name_may_stand (body before_statement) = true
-name_may_stand (assigned name keys) = true
+name_may_stand (inside (assigned name keys)) = true
 name_may_stand _ = false
 
 -- where an operand stands
@@ -103,7 +103,7 @@ fault_of_bounds (at_upper lower) z = bounds_fault lower z (pos 1)
 fault_of_bounds (at_step lower upper) z = bounds_fault lower upper z
 
 abbrev pub out_of_range_at : PlaceForm → Token → Option BoundsFault
-out_of_range_at (bounded name keys f b z) (token.Sign sign.CloseParen) = fault_of_bounds b z
+out_of_range_at (inside (bounded name keys f b z)) (token.Sign sign.CloseParen) = fault_of_bounds b z
 out_of_range_at _ _ = None
 
 -- the destructive action that a token names, where a statement may begin

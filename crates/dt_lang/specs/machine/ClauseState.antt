@@ -24,6 +24,22 @@ pub data BoundForm : Type 0 where
   at_upper : (lower : ℤ) → BoundForm
   at_step : (lower upper : ℤ) → BoundForm
 
+-- where in a statement the last token was, and so what stands next
+pub data InsideForm : Type 0 where
+  -- an action's name; the `(` of a stack's action; all of a statement but its `)`
+  called : Action → InsideForm
+  stack_opened : (process : Bool) → InsideForm
+  closing : StatementForm → InsideForm
+  -- an aggregation's name; its keys' `]`; its `=`; its function's name
+  named : (name : List ℕ) → InsideForm
+  keyed : (name : List ℕ) (keys : List ArgForm) → InsideForm
+  assigned : (name : List ℕ) (keys : List ArgForm) → InsideForm
+  applied : (name : List ℕ) (keys : List ArgForm) → Function → InsideForm
+  -- the `,` in front of a bound; its `-`; its number
+  bounding : (name : List ℕ) (keys : List ArgForm) → Form → BoundForm → InsideForm
+  negating : (name : List ℕ) (keys : List ArgForm) → Form → BoundForm → InsideForm
+  bounded : (name : List ℕ) (keys : List ArgForm) → Form → BoundForm → ℤ → InsideForm
+
 -- what the last token was, and so what stands next
 pub data PlaceForm : Type 0 where
   -- a whole clause, or nothing: a clause may begin
@@ -34,21 +50,10 @@ pub data PlaceForm : Type 0 where
   guarded : PlaceForm
   -- a spot of a body
   body : Spot → PlaceForm
-  -- an action's name; the `(` of a stack's action; all of a statement but its `)`
-  called : Action → PlaceForm
-  stack_opened : (process : Bool) → PlaceForm
-  closing : StatementForm → PlaceForm
-  -- an aggregation's name; its keys' `]`; its `=`; its function's name
-  named : (name : List ℕ) → PlaceForm
-  keyed : (name : List ℕ) (keys : List ArgForm) → PlaceForm
-  assigned : (name : List ℕ) (keys : List ArgForm) → PlaceForm
-  applied : (name : List ℕ) (keys : List ArgForm) → Function → PlaceForm
+  -- in a statement
+  inside : InsideForm → PlaceForm
   -- so many tokens of what is read for a slot
   within : Slot → ℕ → expression.State → PlaceForm
-  -- the `,` in front of a bound; its `-`; its number
-  bounding : (name : List ℕ) (keys : List ArgForm) → Form → BoundForm → PlaceForm
-  negating : (name : List ℕ) (keys : List ArgForm) → Form → BoundForm → PlaceForm
-  bounded : (name : List ℕ) (keys : List ArgForm) → Form → BoundForm → ℤ → PlaceForm
 
 -- the whole clauses, what was read of the next, and where in it
 pub record ProgramState : Type 0 where
@@ -107,8 +112,8 @@ from_guarded cs c _ = None
 abbrev pub from_before_statement : List ClauseForm → ClauseForm → Token → Option ProgramState
 from_before_statement cs c (token.Sign sign.Semicolon) = Some (program_at cs c (body before_statement))
 from_before_statement cs c (token.Sign sign.CloseBrace) = Some (program_at (cs ++ (c ∷ [])) (headed []) outside)
-from_before_statement cs c (token.Word (word.Action a)) = Some (program_at cs c (called a))
-from_before_statement cs c (token.Aggregation name) = Some (program_at cs c (named name))
+from_before_statement cs c (token.Word (word.Action a)) = Some (program_at cs c (inside (called a)))
+from_before_statement cs c (token.Aggregation name) = Some (program_at cs c (inside (named name)))
 from_before_statement cs c _ = None
 
 abbrev pub from_after_statement : List ClauseForm → ClauseForm → Token → Option ProgramState
@@ -118,8 +123,8 @@ from_after_statement cs c _ = None
 
 -- what an action's `(` leads to
 abbrev pub after_call : Action → List ClauseForm → ClauseForm → ProgramState
-after_call action.Stack cs c = program_at cs c (stack_opened false)
-after_call action.Ustack cs c = program_at cs c (stack_opened true)
+after_call action.Stack cs c = program_at cs c (inside (stack_opened false))
+after_call action.Ustack cs c = program_at cs c (inside (stack_opened true))
 after_call a cs c = entered cs c (given a)
 
 abbrev pub from_called : List ClauseForm → ClauseForm → Action → Token → Option ProgramState
@@ -132,7 +137,7 @@ stack_of false n = stack n
 
 abbrev pub from_stack_opened : List ClauseForm → ClauseForm → (process : Bool) → Token → Option ProgramState
 from_stack_opened cs c process (token.Number (pos n)) =
-    if leb 1 n && leb n frames_max then Some (program_at cs c (closing (stack_of process n))) else None
+    if leb 1 n && leb n frames_max then Some (program_at cs c (inside (closing (stack_of process n)))) else None
 from_stack_opened cs c process _ = None
 
 abbrev pub from_closing : List ClauseForm → ClauseForm → StatementForm → Token → Option ProgramState
@@ -141,20 +146,20 @@ from_closing cs c s _ = None
 
 abbrev pub from_named : List ClauseForm → ClauseForm → List ℕ → Token → Option ProgramState
 from_named cs c name (token.Sign sign.OpenBracket) = Some (entered cs c (key name []))
-from_named cs c name (token.Sign sign.Equal) = Some (program_at cs c (assigned name []))
+from_named cs c name (token.Sign sign.Equal) = Some (program_at cs c (inside (assigned name [])))
 from_named cs c name _ = None
 
 abbrev pub from_keyed : List ClauseForm → ClauseForm → List ℕ → List ArgForm → Token → Option ProgramState
-from_keyed cs c name keys (token.Sign sign.Equal) = Some (program_at cs c (assigned name keys))
+from_keyed cs c name keys (token.Sign sign.Equal) = Some (program_at cs c (inside (assigned name keys)))
 from_keyed cs c name keys _ = None
 
 abbrev pub from_assigned : List ClauseForm → ClauseForm → List ℕ → List ArgForm → Token → Option ProgramState
-from_assigned cs c name keys (token.Word (word.Function fn)) = Some (program_at cs c (applied name keys fn))
+from_assigned cs c name keys (token.Word (word.Function fn)) = Some (program_at cs c (inside (applied name keys fn)))
 from_assigned cs c name keys _ = None
 
 -- what a function's `(` leads to
 abbrev pub function_given : List ClauseForm → ClauseForm → List ℕ → List ArgForm → Function → ProgramState
-function_given cs c name keys function.Count = program_at cs c (closing (aggregate name keys count))
+function_given cs c name keys function.Count = program_at cs c (inside (closing (aggregate name keys count)))
 function_given cs c name keys fn = entered cs c (value name keys fn)
 
 abbrev pub from_applied : List ClauseForm → ClauseForm → List ℕ → List ArgForm → Function → Token
@@ -174,12 +179,12 @@ shut_given cs c a x _ = None
 
 abbrev pub shut_key : List ClauseForm → ClauseForm → List ℕ → List ArgForm → ArgForm → Token → Option ProgramState
 shut_key cs c name keys a (token.Sign sign.Comma) = Some (entered cs c (key name (keys ++ (a ∷ []))))
-shut_key cs c name keys a (token.Sign sign.CloseBracket) = Some (program_at cs c (keyed name (keys ++ (a ∷ []))))
+shut_key cs c name keys a (token.Sign sign.CloseBracket) = Some (program_at cs c (inside (keyed name (keys ++ (a ∷ [])))))
 shut_key cs c name keys a _ = None
 
 -- a function's value ends with `)`, and that of `lquantize` with the `,` in front of its bounds
 abbrev pub shut_levels : List ClauseForm → ClauseForm → List ℕ → List ArgForm → Function → Form → Option ProgramState
-shut_levels cs c name keys function.Lquantize f = Some (program_at cs c (bounding name keys f at_lower))
+shut_levels cs c name keys function.Lquantize f = Some (program_at cs c (inside (bounding name keys f at_lower)))
 shut_levels cs c name keys fn f = None
 
 abbrev pub shut_value : List ClauseForm → ClauseForm → List ℕ → List ArgForm → Function → ArgForm → Token
@@ -207,25 +212,38 @@ from_within cs c slot n e t = go_on cs c slot n e t (expression.step e t)
 
 abbrev pub from_bounding : List ClauseForm → ClauseForm → List ℕ → List ArgForm → Form → BoundForm → Token
     → Option ProgramState
-from_bounding cs c name keys f b (token.Number (pos n)) = Some (program_at cs c (bounded name keys f b (pos n)))
-from_bounding cs c name keys f b (token.Sign sign.Minus) = Some (program_at cs c (negating name keys f b))
+from_bounding cs c name keys f b (token.Number (pos n)) = Some (program_at cs c (inside (bounded name keys f b (pos n))))
+from_bounding cs c name keys f b (token.Sign sign.Minus) = Some (program_at cs c (inside (negating name keys f b)))
 from_bounding cs c name keys f b _ = None
 
 abbrev pub from_negating : List ClauseForm → ClauseForm → List ℕ → List ArgForm → Form → BoundForm → Token
     → Option ProgramState
-from_negating cs c name keys f b (token.Number (pos n)) = Some (program_at cs c (bounded name keys f b (neg_ℤ (pos n))))
+from_negating cs c name keys f b (token.Number (pos n)) = Some (program_at cs c (inside (bounded name keys f b (neg_ℤ (pos n)))))
 from_negating cs c name keys f b _ = None
 
 abbrev pub from_bounded : List ClauseForm → ClauseForm → List ℕ → List ArgForm → Form → BoundForm → ℤ → Token
     → Option ProgramState
-from_bounded cs c name keys f at_lower z (token.Sign sign.Comma) = Some (program_at cs c (bounding name keys f (at_upper z)))
+from_bounded cs c name keys f at_lower z (token.Sign sign.Comma) = Some (program_at cs c (inside (bounding name keys f (at_upper z))))
 from_bounded cs c name keys f (at_upper lower) z (token.Sign sign.Comma) =
-    Some (program_at cs c (bounding name keys f (at_step lower z)))
+    Some (program_at cs c (inside (bounding name keys f (at_step lower z))))
 from_bounded cs c name keys f (at_upper lower) z (token.Sign sign.CloseParen) =
     Some (ended cs c (aggregate name keys (lquantize f lower z (pos 1))))
 from_bounded cs c name keys f (at_step lower upper) z (token.Sign sign.CloseParen) =
     Some (ended cs c (aggregate name keys (lquantize f lower upper z)))
 from_bounded cs c name keys f _ z _ = None
+
+-- what a token in a statement leads to
+abbrev pub inside_step_from : List ClauseForm → ClauseForm → InsideForm → Token → Option ProgramState
+inside_step_from cs c (called a) t = from_called cs c a t
+inside_step_from cs c (stack_opened process) t = from_stack_opened cs c process t
+inside_step_from cs c (closing s) t = from_closing cs c s t
+inside_step_from cs c (named name) t = from_named cs c name t
+inside_step_from cs c (keyed name keys) t = from_keyed cs c name keys t
+inside_step_from cs c (assigned name keys) t = from_assigned cs c name keys t
+inside_step_from cs c (applied name keys fn) t = from_applied cs c name keys fn t
+inside_step_from cs c (bounding name keys f b) t = from_bounding cs c name keys f b t
+inside_step_from cs c (negating name keys f b) t = from_negating cs c name keys f b t
+inside_step_from cs c (bounded name keys f b z) t = from_bounded cs c name keys f b z t
 
 abbrev pub program_step_from : List ClauseForm → ClauseForm → PlaceForm → Token → Option ProgramState
 program_step_from cs c outside t = from_outside cs t
@@ -234,17 +252,8 @@ program_step_from cs c listed t = from_listed cs c t
 program_step_from cs c guarded t = from_guarded cs c t
 program_step_from cs c (body before_statement) t = from_before_statement cs c t
 program_step_from cs c (body after_statement) t = from_after_statement cs c t
-program_step_from cs c (called a) t = from_called cs c a t
-program_step_from cs c (stack_opened process) t = from_stack_opened cs c process t
-program_step_from cs c (closing s) t = from_closing cs c s t
-program_step_from cs c (named name) t = from_named cs c name t
-program_step_from cs c (keyed name keys) t = from_keyed cs c name keys t
-program_step_from cs c (assigned name keys) t = from_assigned cs c name keys t
-program_step_from cs c (applied name keys fn) t = from_applied cs c name keys fn t
+program_step_from cs c (inside p) t = inside_step_from cs c p t
 program_step_from cs c (within slot n e) t = from_within cs c slot n e t
-program_step_from cs c (bounding name keys f b) t = from_bounding cs c name keys f b t
-program_step_from cs c (negating name keys f b) t = from_negating cs c name keys f b t
-program_step_from cs c (bounded name keys f b z) t = from_bounded cs c name keys f b z t
 
 -- what a token leads to, or none where no program goes on with it
 unfoldable pub program_step : ProgramState → Token → Option ProgramState

@@ -4,7 +4,7 @@ use Rattle.std.specs.Prelude.{◌≡◌, ◌⊎◌, ℕ, ◌<◌, ◌≤◌, Lis
 use Rattle.dt_program.specs.Limits.{descriptions_max, statements_max, keys_max}
 use Rattle.dt_program.specs.Limits.{clauses_max, tokens_max}
 use Rattle.dt_lang.specs.machine.ExpressionState as expression
-use Rattle.dt_lang.specs.machine.ClauseState.{PlaceForm, outside, described, listed, guarded, body, called, stack_opened, closing, named, keyed, assigned, applied, within, bounding, negating, bounded, ProgramState}
+use Rattle.dt_lang.specs.machine.ClauseState.{PlaceForm, outside, described, listed, guarded, body, called, stack_opened, closing, named, keyed, assigned, applied, within, bounding, negating, bounded, ProgramState, InsideForm, inside}
 use Rattle.dt_program.specs.Clause.{ArgForm, ClauseForm}
 use Rattle.dt_lang.specs.Stand.{Slot, predicate, given, key, value}
 
@@ -48,23 +48,24 @@ pub record FitsWithin (cs : List ClauseForm) (c : ClauseForm) (slot : Slot) (n :
   pub fits : FitsSlot cs c slot n e
   pub few : n ≤ tokens_max
 
+-- within a statement, at this place
+abbrev pub FitsInside : List ClauseForm → ClauseForm → InsideForm → Type 0
+FitsInside cs c (keyed name keys) = FitsTarget cs c keys
+FitsInside cs c (assigned name keys) = FitsTarget cs c keys
+FitsInside cs c (applied name keys fn) = FitsTarget cs c keys
+FitsInside cs c (bounding name keys f b) = FitsTarget cs c keys
+FitsInside cs c (negating name keys f b) = FitsTarget cs c keys
+FitsInside cs c (bounded name keys f b z) = FitsTarget cs c keys
+FitsInside cs c _ = FitsStatement cs c
+
 abbrev pub FitsAt : List ClauseForm → ClauseForm → PlaceForm → Type 0
 FitsAt cs c outside = length cs ≤ clauses_max
 FitsAt cs c described = FitsClause cs c
 FitsAt cs c listed = FitsClause cs c
 FitsAt cs c guarded = FitsClause cs c
 FitsAt cs c (body spot) = FitsClause cs c
-FitsAt cs c (called a) = FitsStatement cs c
-FitsAt cs c (stack_opened process) = FitsStatement cs c
-FitsAt cs c (closing s) = FitsStatement cs c
-FitsAt cs c (named name) = FitsStatement cs c
-FitsAt cs c (keyed name keys) = FitsTarget cs c keys
-FitsAt cs c (assigned name keys) = FitsTarget cs c keys
-FitsAt cs c (applied name keys fn) = FitsTarget cs c keys
+FitsAt cs c (inside p) = FitsInside cs c p
 FitsAt cs c (within slot n e) = FitsWithin cs c slot n e
-FitsAt cs c (bounding name keys f b) = FitsTarget cs c keys
-FitsAt cs c (negating name keys f b) = FitsTarget cs c keys
-FitsAt cs c (bounded name keys f b z) = FitsTarget cs c keys
 
 abbrev pub Fits : ProgramState → Type 0
 Fits s = FitsAt s.clauses s.clause s.place

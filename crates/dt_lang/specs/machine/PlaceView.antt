@@ -6,6 +6,8 @@ use Rattle.dt_lang.specs.declared.place.Bound.{Bound}
 use Rattle.dt_lang.specs.declared.place.Bound.TheVariants as bound
 use Rattle.dt_lang.specs.declared.place.ReaderPlace.{ReaderPlace}
 use Rattle.dt_lang.specs.declared.place.ReaderPlace.TheVariants as place
+use Rattle.dt_lang.specs.declared.place.StatementPlace.{StatementPlace}
+use Rattle.dt_lang.specs.declared.place.StatementPlace.TheVariants as inside
 use Rattle.dt_lang.specs.declared.place.Slot.{Slot}
 use Rattle.dt_lang.specs.declared.place.Slot.TheVariants as slot
 use Rattle.dt_lang.specs.declared.place.Target.{Target}
@@ -29,6 +31,19 @@ bound_of bound.Lower = state.at_lower
 bound_of (bound.Upper lower) = state.at_upper lower
 bound_of (bound.Step lower upper) = state.at_step lower upper
 
+-- the place in a statement
+abbrev pub inside_form : StatementPlace → state.InsideForm
+inside_form (inside.Called a) = state.called a
+inside_form (inside.StackOpened process) = state.stack_opened process
+inside_form (inside.Closing s) = state.closing (form_of_statement s)
+inside_form (inside.Named name) = state.named name
+inside_form (inside.Keyed t) = state.keyed t.name (key_forms t)
+inside_form (inside.Assigned t) = state.assigned t.name (key_forms t)
+inside_form (inside.Applied t fn) = state.applied t.name (key_forms t) fn
+inside_form (inside.Bounding l) = state.bounding l.target.name (key_forms l.target) (form_of l.value) (bound_of l.bound)
+inside_form (inside.Negating l) = state.negating l.target.name (key_forms l.target) (form_of l.value) (bound_of l.bound)
+inside_form (inside.Bounded l z) = state.bounded l.target.name (key_forms l.target) (form_of l.value) (bound_of l.bound) z
+
 -- the place, where expressions are read in this state
 abbrev pub place_form : expression.State → ReaderPlace → state.PlaceForm
 place_form e place.Outside = state.outside
@@ -37,14 +52,5 @@ place_form e place.Listed = state.listed
 place_form e place.Guarded = state.guarded
 place_form e place.BeforeStatement = state.body before_statement
 place_form e place.AfterStatement = state.body after_statement
-place_form e (place.Called a) = state.called a
-place_form e (place.StackOpened process) = state.stack_opened process
-place_form e (place.Closing s) = state.closing (form_of_statement s)
-place_form e (place.Named name) = state.named name
-place_form e (place.Keyed t) = state.keyed t.name (key_forms t)
-place_form e (place.Assigned t) = state.assigned t.name (key_forms t)
-place_form e (place.Applied t fn) = state.applied t.name (key_forms t) fn
+place_form e (place.Inside p) = state.inside (inside_form p)
 place_form e (place.Within s count) = state.within (slot_form s) count e
-place_form e (place.Bounding l) = state.bounding l.target.name (key_forms l.target) (form_of l.value) (bound_of l.bound)
-place_form e (place.Negating l) = state.negating l.target.name (key_forms l.target) (form_of l.value) (bound_of l.bound)
-place_form e (place.Bounded l z) = state.bounded l.target.name (key_forms l.target) (form_of l.value) (bound_of l.bound) z

@@ -14,7 +14,7 @@ use Rattle.dt_lang.specs.declared.word.Word.TheVariants as word
 use Rattle.dt_lang.specs.machine.ExpressionState as expression
 use Rattle.dt_lang.specs.Grammar.{before_statement}
 use Rattle.dt_lang.specs.machine.Cause.{cause_of}
-use Rattle.dt_lang.specs.machine.ClauseState.{PlaceForm, body, assigned, within, ProgramState, program_step}
+use Rattle.dt_lang.specs.machine.ClauseState.{PlaceForm, body, assigned, within, ProgramState, program_step, inside}
 use Rattle.dt_lang.specs.machine.Fits.{Fits}
 use Rattle.dt_lang.specs.Refused.{Cause, because, destroys}
 
@@ -54,7 +54,7 @@ shown_within false t = shown_elsewhere t
 
 abbrev pub shown_at : PlaceForm → Token → Option Cause
 shown_at (body before_statement) t = shown_before_statement t
-shown_at (assigned name keys) t = shown_assigned t
+shown_at (inside (assigned name keys)) t = shown_assigned t
 shown_at (within slot n e) t = shown_within (expression.wants e) t
 shown_at _ t = shown_elsewhere t
 
