@@ -1,8 +1,8 @@
 -- The names of the facts of a processor: they come after those of all seats.
-use Rattle.std.specs.Prelude.{ℕ, ◌+◌, ◌*◌}
+use Rattle.std.specs.Prelude.{ℕ, ◌+◌}
 use Rattle.dt_chain.specs.Limits.{seat_count}
-use Rattle.dt_seat.specs.Names.{names_of_seat}
+use Rattle.dt_seat.specs.Names.{first_name}
 
 -- the name of a processor's log
 abbrev pub log_name : (cpus cpu : ℕ) → ℕ
-log_name cpus cpu = seat_count * names_of_seat cpus + cpu
+log_name cpus cpu = first_name cpus seat_count + cpu

@@ -1,10 +1,10 @@
 //! The hub.
 ghost use Rattle.std.specs.Prelude.{◌≡◌, IfOk};
 
-use dt_chain::{ChainWriter, Chains, SEATS};
+use dt_chain::{Chains, SEATS};
 use dt_facts::{Facts, Maker};
 use dt_machine::Machine;
-use dt_seat::{HubSite, LockedSeat};
+use dt_seat::{HubPublisher, HubSite, LockedSeat};
 use std::alloc::{AllocError, Global};
 use std::marker::Model;
 use std::sync::Mutex;
@@ -56,7 +56,7 @@ impl HubParts {
 pub struct Hub<J: HubSite> {
     pub(crate) machine: Machine,
     pub(crate) facts: Facts,
-    pub(crate) chains: Mutex<ChainWriter<J>>,
+    pub(crate) chains: Mutex<HubPublisher<J>>,
     pub(crate) seats: Vec<Mutex<LockedSeat<J>>>,
 }
 

@@ -1,17 +1,18 @@
 //! How a hub is made, and ended.
-ghost use Rattle.std.specs.Prelude.{◌≡◌, ◌+◌, ◌*◌, ℕ, IfOk, IfSome, OnOk, slice_get, vec_len};
+ghost use Rattle.std.specs.Prelude.{◌≡◌, ◌+◌, ℕ, [], IfOk, IfSome, OnOk, slice_get, vec_len};
 ghost use Rattle.dt_chain.specs.Limits.{seat_count};
 ghost use Rattle.dt_facts.specs.Handles.{making};
 ghost use Rattle.dt_hub.specs.Hubs.{AreDealt, IsFresh};
 ghost use Rattle.dt_seat.specs.Keeps.{followed_at};
-ghost use Rattle.dt_seat.specs.Names.{names_of_seat};
+ghost use Rattle.dt_publisher.specs.Publishers.{AreOwnWrites};
+ghost use Rattle.dt_seat.specs.Names.{first_book, first_name};
 
 use crate::cpu_seat::CpuSeat;
 use crate::hub::{Hub, HubParts};
-use dt_chain::{ChainWriter, SEATS, Seat};
-use dt_facts::{Facts, Maker};
+use dt_chain::{SEATS, Seat};
+use dt_facts::{Facts, Maker, Share};
 use dt_machine::Machine;
-use dt_seat::{Follower, HubSite, LockedSeat};
+use dt_seat::{Follower, HubPublisher, HubSite, LockedSeat};
 use std::alloc::{AllocError, Global};
 use std::mem;
 use std::sync::{Mutex, Wait};
@@ -55,21 +56,25 @@ fn seats<J: HubSite>(
     machine: &Machine,
     facts: &Facts,
     maker: &mut Maker,
+    shares: Vec<Share>,
 ) -> Result<(Vec<Mutex<LockedSeat<J>>>, Vec<Vec<Follower<J>>>), AllocError>
     requires machine { machine.now ≡ J.contents }
     requires facts { facts.now ≡ J.word }
-    requires maker { maker.old ≡ making J.word 0 }
+    requires maker { maker.old ≡ making J.word (first_name J.contents.registry.cpus 0) }
+    requires shares { AreOwnWrites J.word first_book [] shares.items }
     ensures many { IfOk result (λ t. vec_len t.0 ≡ seat_count) }
     ensures dealt { IfOk result (λ t. AreDealt J.contents.registry.cpus seat_count t.1.items) }
-    ensures maker { OnOk result (maker.new ≡ making J.word (seat_count * names_of_seat J.contents.registry.cpus)) }
+    ensures maker { OnOk result (maker.new ≡ making J.word (first_name J.contents.registry.cpus seat_count)) }
 {
     let mut hands = empty_hands(alloc, machine.cpus())?;
     let mut seats = Vec::with_capacity(alloc, SEATS)?;
+    let mut shares = shares;
     'seats: for number in 0..SEATS as u32 {
         let Some(seat) = Seat::new(number) else {
             unreachable!()
         };
-        let (locked, followers) = LockedSeat::new(alloc, machine, facts, maker, seat)?;
+        let writes = shares.remove(0);
+        let (locked, followers) = LockedSeat::new(alloc, machine, facts, maker, writes, seat)?;
         deal(&mut hands, seat, followers)?;
         seats.push(Mutex::new(locked))?;
     }
@@ -84,12 +89,12 @@ fn tokens<J: HubSite>(
     machine: &Machine,
     facts: &Facts,
     maker: &mut Maker,
-    writer: &ChainWriter<J>,
+    publisher: &HubPublisher<J>,
     hands: Vec<Vec<Follower<J>>>,
 ) -> Result<Vec<CpuSeat<J>>, AllocError>
     requires machine { machine.now ≡ J.contents }
     requires facts { facts.now ≡ J.word }
-    requires maker { maker.old ≡ making J.word (seat_count * names_of_seat J.contents.registry.cpus) }
+    requires maker { maker.old ≡ making J.word (first_name J.contents.registry.cpus seat_count) }
     requires dealt { AreDealt J.contents.registry.cpus seat_count hands.items }
     ensures many { IfOk result (λ tokens. vec_len tokens ≡ J.contents.registry.cpus) }
     ensures each { IfOk result (λ tokens. (cpu : ℕ) → IfSome (slice_get tokens.items cpu) (IsFresh cpu)) }
@@ -98,11 +103,35 @@ fn tokens<J: HubSite>(
     let mut made = Vec::with_capacity(alloc, hands.len())?;
     'processors: for cpu in 0..machine.cpus() {
         let followers = mem::replace(&mut hands[cpu as usize], Vec::new(alloc));
-        let reader = writer.reader()?;
+        let reader = publisher.reader()?;
         let log = facts.make(maker);
         made.push(CpuSeat::new(alloc, facts, cpu, reader, followers, log)?)?;
     }
     Ok(made)
+}
+
+/// All seats, under their locks, and the tokens of all processors.
+///
+/// `Err`: there was no memory, or the chains gave no reader.
+fn all_seats<J: HubSite>(
+    alloc: Global,
+    machine: &Machine,
+    facts: &Facts,
+    maker: &mut Maker,
+    publisher: &HubPublisher<J>,
+    shares: Vec<Share>,
+) -> Result<(Vec<Mutex<LockedSeat<J>>>, Vec<CpuSeat<J>>), AllocError>
+    requires machine { machine.now ≡ J.contents }
+    requires facts { facts.now ≡ J.word }
+    requires maker { maker.old ≡ making J.word (first_name J.contents.registry.cpus 0) }
+    requires shares { AreOwnWrites J.word first_book [] shares.items }
+    ensures seats { IfOk result (λ t. vec_len t.0 ≡ seat_count) }
+    ensures many { IfOk result (λ t. vec_len t.1 ≡ J.contents.registry.cpus) }
+    ensures each { IfOk result (λ t. (cpu : ℕ) → IfSome (slice_get t.1.items cpu) (IsFresh cpu)) }
+{
+    let (seats, hands) = seats::<J>(alloc, machine, facts, maker, shares)?;
+    let tokens = tokens(alloc, machine, facts, maker, publisher, hands)?;
+    Ok((seats, tokens))
 }
 
 impl<J: HubSite> Hub<J> {
@@ -127,20 +156,20 @@ impl<J: HubSite> Hub<J> {
             facts,
             mut maker,
         } = parts;
-        let (seats, hands) = seats::<J>(alloc, &machine, &facts, &mut maker)?;
         let writer = chains.writer::<J>(alloc, machine.cpus() as usize)?;
-        match tokens(alloc, &machine, &facts, &mut maker, &writer, hands) {
-            Ok(tokens) => {
+        let (publisher, shares) = HubPublisher::new(rt, alloc, writer, &facts, &mut maker)?;
+        match all_seats(alloc, &machine, &facts, &mut maker, &publisher, shares) {
+            Ok((seats, tokens)) => {
                 let hub = Hub {
                     machine,
                     facts,
-                    chains: Mutex::new(writer),
+                    chains: Mutex::new(publisher),
                     seats,
                 };
                 Ok((hub, tokens))
             }
             Err(fault) => {
-                writer.end(rt);
+                publisher.end(rt);
                 Err(fault)
             }
         }

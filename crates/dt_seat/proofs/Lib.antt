@@ -12,3 +12,4 @@ pub mod Openings
 pub mod Trails
 pub mod Seats
 pub mod Owning
+pub mod Writing

@@ -6,6 +6,7 @@ pub mod Trailed
 pub mod Sessions
 pub mod Places
 pub mod Publications
+pub mod Written
 pub mod Receipts
 pub mod Keeps
 pub mod Names

@@ -1,6 +1,6 @@
 -- What a session published.
 use Rattle.std.specs.Prelude.{◌≡◌, ◌++◌, ◌∷◌, ℕ, Bool, List, [], Option, Some, None, Contains}
-use Rattle.dt_chain.specs.Writes.{Write, published, withdrawn}
+use Rattle.dt_chain.specs.Writes.{Write, published}
 use Rattle.dt_cred.specs.declared.account.Account.{Account}
 use Rattle.dt_legal.specs.Rows.{AreOfEcbs, IsGoAfter}
 use Rattle.dt_machine.specs.Registry.{Contents}
@@ -16,9 +16,9 @@ abbrev pub IsPublicationAfter : Contents → (seat life : ℕ) → Account → L
 IsPublicationAfter contents seat life account row write =
     (probes : List Bool) × (write ≡ published seat life account probes) × AreOfEcbs account contents row probes
 
--- The last of these writes is the withdrawal of this seat.
-abbrev pub EndsWithdrawn : ℕ → List Write → Type 0
-EndsWithdrawn seat writes = (before : List Write) × (writes ≡ before ++ withdrawn seat ∷ [])
+-- This write is the last of these.
+abbrev pub EndsWith : Write → List Write → Type 0
+EndsWith write writes = (before : List Write) × (writes ≡ before ++ write ∷ [])
 
 -- For a line of the row that is a `go` and accepted, these writes have the life's publication.
 abbrev pub IsPublished : Contents → (seat life : ℕ) → Account → List TrailItem → List Write → Type 0

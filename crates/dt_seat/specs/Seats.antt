@@ -1,6 +1,7 @@
 -- What a seat keeps under its lock, and what a processor finds there.
 use Rattle.std.specs.Prelude.{◌≡◌, ◌<◌, ◌≤◌, ◌+◌, ◌^◌, ◌++◌, ◌∷◌, ℕ, List, [], Option, Some, None, IfSome, IsSomeAnd, MatchOption, length, option_map, slice_get, if◌then◌else◌}
 use Rattle.atomic_table.specs.Seated.{TableId}
+use Rattle.dt_chain.specs.Writes.{Write}
 use Rattle.dt_cred.specs.declared.account.Account.{Account}
 use Rattle.dt_cred.specs.declared.firing.Firing.{Firing}
 use Rattle.dt_facts.specs.Facts.{last_note}
@@ -16,6 +17,7 @@ use Rattle.dt_seat.specs.Keeps.{Carries, Followed, IsKeptFor, IsLeft, KeptNote, 
 use Rattle.dt_seat.specs.Knowledge.{AreUnknownFrom, SaysLives, known_items, steps_in}
 use Rattle.dt_seat.specs.Names.{known_name}
 use Rattle.dt_seat.specs.Trailed.{IsDue, IsTrailed, row_after}
+use Rattle.dt_seat.specs.Written.{HasNotNamed, HasWritten, writes_in}
 use Rattle.dt_seat.specs.declared.after_line.AfterLine.{AfterLine}
 use Rattle.dt_seat.specs.declared.after_line.AfterLine.TheVariants.{GoesOn, Closes, OverQuota}
 use Rattle.dt_seat.specs.declared.held.Held.{Held}
@@ -31,6 +33,7 @@ pub record Seated : Type 0 where
   pub number : ℕ
   pub life : ℕ
   pub trail : Option (Known Account)
+  pub writes : List Write
 
 module _ {J : Type 0} where
   -- A seat with an open life: its book says that this one is the last and open, with its trail; the consumer stands for the trail; and what is kept for
@@ -68,9 +71,16 @@ module _ {J : Type 0} where
       (IsFree word contents number life lives free keeps)
       (λ p. IsTaken word contents number life lives p keeps × (life + 1 < 2 ^ 64))
 
-  -- what contracts see of it: which seat it is, how many sessions were there before, and the trail of the present one
-  abbrev pub seated : ℕ → ℕ → Option (Present J) → Seated
-  seated number life present = record { number = number; life = life; trail = option_map (λ p. p.owner) present }
+  -- What the share under a seat's lock says that the seat wrote: for the life that is open there, or with none.
+  abbrev pub Wrote : TableId → Contents → (number life : ℕ) → Option (Present J) → HeldFact → Type 0
+  Wrote word contents number life present writes = MatchOption present
+      (HasNotNamed word number life writes)
+      (λ p. HasWritten word contents number life p.account p.owner.knows writes)
+
+  -- what contracts see of it: which seat it is, how many sessions were there before, the trail of the present one, and what the seat wrote
+  abbrev pub seated : ℕ → ℕ → Option (Present J) → HeldFact → Seated
+  seated number life present writes =
+      record { number = number; life = life; trail = option_map (λ p. p.owner) present; writes = writes_in writes.fact }
 
 -- A trail goes on: it is the same row, which has lost nothing and no cell.
 pub record TrailGoesOn (old new : Known Account) : Type 0 where

@@ -8,19 +8,21 @@ ghost use Rattle.dt_seat.specs.Publications.{IsPublished};
 ghost use mathlib.Core.List.{IsPrefix};
 ghost use Rattle.dt_seat.specs.Seats.{IsRepliedTo, ComesOfFiring, StaysOn, kept_items};
 ghost use Rattle.dt_seat.specs.Trailed.{item_of_line};
+ghost use Rattle.dt_seat.specs.Written.{AreWritesOf};
 ghost use Rattle.dt_trail.specs.Items.{StartsWith, own};
 
 use crate::asking::ask_at;
 use crate::follower::Follower;
 use crate::held::Held;
+use crate::hub_publisher::HubPublisher;
 use crate::idle::Idle;
 use crate::keep::Keep;
 use crate::present::{Present, hold_at};
 use crate::replied::Replied;
 use crate::session::Session;
 use crate::site::HubSite;
-use dt_chain::{ChainWriter, Seat};
-use dt_facts::{Book, Facts};
+use dt_chain::Seat;
+use dt_facts::{Book, Facts, Share};
 use dt_machine::{Context, Machine};
 use dt_proto::Asked;
 use std::alloc::{AllocError, Global};
@@ -28,7 +30,7 @@ use std::marker::Model;
 use std::sync::{Mutex, Wait};
 
 /// What lies under the lock of a seat: the session that is open there, if there is one, with its trail and the consumer that stands for it;
-/// how many sessions were there before; and what is kept for each processor.
+/// how many sessions were there before; what is kept for each processor; and the share of what the seat wrote into the chains.
 ///
 /// Contracts see it as a `Seated` of `specs/Seats.antt`.
 #[derive(Drop)]
@@ -39,16 +41,18 @@ pub struct LockedSeat<J: HubSite> {
     pub(crate) lives: Book,
     pub(crate) free: Option<Idle>,
     pub(crate) keeps: Vec<Keep<J>>,
+    pub(crate) writes: Share,
 }
 
 impl<J: HubSite> Model for LockedSeat<J> {
-    ghost use Rattle.dt_seat.specs.Seats.{Seated, IsSeat, seated};
+    ghost use Rattle.dt_seat.specs.Seats.{Seated, IsSeat, Wrote, seated};
 
     ghost Value = { Seated };
 
-    ghost view = { λ l. seated l.number l.life l.present };
+    ghost view = { λ l. seated l.number l.life l.present l.writes };
 
-    ghost invariant = { λ l. IsSeat J.word J.contents l.number l.life l.present l.lives l.free l.keeps.items };
+    ghost invariant = { λ l. IsSeat J.word J.contents l.number l.life l.present l.lives l.free l.keeps.items
+        × Wrote J.word J.contents l.number l.life l.present l.writes };
 }
 
 impl<J: HubSite> LockedSeat<J> {
@@ -83,7 +87,7 @@ impl<J: HubSite> LockedSeat<J> {
         alloc: Global,
         machine: &Machine,
         facts: &Facts,
-        chains: &Mutex<ChainWriter<J>>,
+        chains: &Mutex<HubPublisher<J>>,
         session: &mut Session<J>,
         asked: &Asked,
     ) -> Result<Replied, AllocError>
@@ -101,6 +105,7 @@ impl<J: HubSite> LockedSeat<J> {
         ensures seat { (self.new.number ≡ self.old.number) × (self.new.life ≡ self.old.life) × (self.old.life ≡ session.old.life) }
         ensures trail { StaysOn self.old.trail self.new.trail }
         ensures own { IsSomeAnd self.new.trail (λ trail. trail.row ≡ session.old.row) }
+        ensures writes { IsSomeAnd self.new.trail (λ trail. AreWritesOf J.contents trail.row.account self.new.life trail.knows self.new.writes) }
     {
         facts.agree(&mut self.lives, &mut session.share);
         let Some(present) = &mut self.present else {
@@ -110,10 +115,12 @@ impl<J: HubSite> LockedSeat<J> {
             rt,
             alloc,
             machine,
+            facts,
             chains,
             self.number,
             self.life,
             present,
+            &mut self.writes,
             &mut session.notebook,
             asked,
         );
@@ -144,6 +151,7 @@ impl<J: HubSite> LockedSeat<J> {
             ≡ own (context.now.firing.now.cpu + 1) (noted_of life follower.old) ++ kept_items result context.now.firing.now }
         ensures seat { (self.new.number ≡ self.old.number) × (self.new.life ≡ self.old.life) }
         ensures trail { StaysOn self.old.trail self.new.trail }
+        ensures writes { self.new.writes ≡ self.old.writes }
     {
         if self.life != life {
             return Held::Gone;

@@ -1,10 +1,10 @@
 //! How a seat is made.
 ghost use Rattle.std.specs.Prelude.{◌≡◌, ◌+◌, ◌*◌, ℕ, [], None, IfOk, IfSome, OnOk, slice_get, vec_len};
-ghost use Rattle.dt_facts.specs.Facts.{life_fact};
+ghost use Rattle.dt_facts.specs.Facts.{life_fact, writes_fact};
 ghost use Rattle.dt_facts.specs.Handles.{holding, making};
 ghost use Rattle.dt_seat.specs.Keeps.{IsLeft, followed_at};
 ghost use Rattle.dt_seat.specs.Knowledge.{known_items};
-ghost use Rattle.dt_seat.specs.Names.{known_name, life_name, names_of_seat, processor_name};
+ghost use Rattle.dt_seat.specs.Names.{book_name, first_name, known_name, life_name, processor_name};
 
 use crate::follower::Follower;
 use crate::idle::Idle;
@@ -56,7 +56,7 @@ fn first_keep<J: HubSite>(
 }
 
 impl<J: HubSite> LockedSeat<J> {
-    /// A seat on which no session was open yet, and what each processor has there.
+    /// A seat on which no session was open yet, and what each processor has there. `writes` is the share of what the seat wrote: nothing.
     ///
     /// `Err`: there was no memory.
     pub fn new(
@@ -64,15 +64,18 @@ impl<J: HubSite> LockedSeat<J> {
         machine: &Machine,
         facts: &Facts,
         maker: &mut Maker,
+        writes: Share,
         number: Seat,
     ) -> Result<(LockedSeat<J>, Vec<Follower<J>>), AllocError>
         requires machine { machine.now ≡ J.contents }
         requires facts { facts.now ≡ J.word }
-        requires maker { maker.old ≡ making J.word (number * names_of_seat J.contents.registry.cpus) }
-        ensures seat { IfOk result (λ t. (t.0.number ≡ number) × (t.0.life ≡ 0) × (t.0.trail ≡ None)) }
+        requires maker { maker.old ≡ making J.word (first_name J.contents.registry.cpus number) }
+        requires writes { writes ≡ holding J.word (book_name number) (writes_fact []) }
+        ensures seat { IfOk result (λ t. (t.0.number ≡ number) × (t.0.life ≡ 0) × (t.0.trail ≡ None)
+            × (t.0.writes ≡ [])) }
         ensures many { IfOk result (λ t. vec_len t.1 ≡ J.contents.registry.cpus) }
         ensures followers { IfOk result (λ t. (cpu : ℕ) → IfSome (slice_get t.1.items cpu) (λ f. f ≡ followed_at number cpu)) }
-        ensures maker { OnOk result (maker.new ≡ making J.word ((number + 1) * names_of_seat J.contents.registry.cpus)) }
+        ensures maker { OnOk result (maker.new ≡ making J.word (first_name J.contents.registry.cpus (number + 1))) }
     {
         let cpus = machine.cpus();
         let (mut lives, share) = no_lives(facts, maker);
@@ -93,6 +96,7 @@ impl<J: HubSite> LockedSeat<J> {
             lives,
             free: Some(Idle { share, known }),
             keeps,
+            writes,
         };
         Ok((seat, followers))
     }

@@ -1,10 +1,13 @@
 //! How a session comes to a seat, and leaves it.
 ghost use Rattle.std.specs.Prelude.{◌≡◌, ◌+◌, ◌<◌, ◌^◌, [], None, Some, IfOk, OnErr};
 ghost use Rattle.dt_chain.specs.Limits.{seat_count};
+ghost use Rattle.dt_chain.specs.Writes.{withdrawn};
+ghost use Rattle.dt_seat.specs.Written.{MayEndWith};
 ghost use Rattle.dt_trail.specs.Known.{known_row};
 ghost use Rattle.dt_trail.specs.Limits.{opening_cells};
 
 use crate::asking::withdraw;
+use crate::hub_publisher::HubPublisher;
 use crate::idle::Idle;
 use crate::locked::LockedSeat;
 use crate::notebook::Notebook;
@@ -13,7 +16,6 @@ use crate::present::Present;
 use crate::session::Session;
 use crate::site::HubSite;
 use crate::trailed::{Owner, new_trail};
-use dt_chain::ChainWriter;
 use dt_consumer::Consumer;
 use dt_cred::Account;
 use dt_facts::Facts;
@@ -80,7 +82,7 @@ impl<J: HubSite> LockedSeat<J> {
         &mut self,
         rt: &R,
         facts: &Facts,
-        chains: &Mutex<ChainWriter<J>>,
+        chains: &Mutex<HubPublisher<J>>,
         session: Session<J>,
     )
         requires facts { facts.now ≡ J.word }
@@ -88,6 +90,7 @@ impl<J: HubSite> LockedSeat<J> {
         ensures free { self.new.trail ≡ None }
         ensures seat { self.new.number ≡ self.old.number }
         ensures life { (session.life ≡ self.old.life) × (self.new.life ≡ self.old.life + 1) }
+        ensures writes { MayEndWith (withdrawn self.old.number) self.old.writes self.new.writes }
     {
         let Session {
             seat: _,
@@ -104,10 +107,16 @@ impl<J: HubSite> LockedSeat<J> {
         let Some(present) = self.present.take() else {
             unreachable!()
         };
-        if present.is_published {
-            let _withdrawn = withdraw(rt, chains, self.number);
-        }
+        let is_published = present.is_published;
         drop(present);
+        withdraw(
+            rt,
+            facts,
+            chains,
+            self.number,
+            is_published,
+            &mut self.writes,
+        );
         forget_notes(&mut self.keeps);
         self.free = Some(Idle { share, known });
         self.life += 1;

@@ -51,6 +51,7 @@ pub(crate) fn hold_at<J: HubSite>(
     ensures own { own (context.now.firing.now.cpu + 1) (noted_of life follower.new)
         ≡ own (context.now.firing.now.cpu + 1) (noted_of life follower.old) ++ kept_items result context.now.firing.now }
     ensures trail { TrailGoesOn present.old.owner present.new.owner }
+    ensures account { present.new.account ≡ present.old.account }
 {
     let keep = &mut keeps[context.firing.cpu as usize];
     keep.lend(facts, lives, life, &present.owner, follower);

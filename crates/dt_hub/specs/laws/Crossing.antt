@@ -11,7 +11,7 @@ use mir.Syntax.{Ty}
 use Prim.Native.Nat.{ℕ}
 use Rattle.std.proofs.Crossing as std
 use Rattle.dt_chain.specs.declared.book.Site as site
-use Rattle.dt_chain.proofs.chain_writer.ChainWriter.TheSendSync as writer
+use Rattle.dt_seat.proofs.hub_publisher.HubPublisher.TheSendSync as writer
 use Rattle.dt_facts.proofs.word.Facts.TheSendSync as facts
 use Rattle.dt_legal.specs.declared.law.Traced as traced
 use Rattle.dt_machine.proofs.machine.Machine.TheSendSync as machine

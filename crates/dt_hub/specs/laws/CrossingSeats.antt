@@ -8,6 +8,7 @@ use Rattle.dt_chain.specs.declared.book.Site as site
 use Rattle.dt_chain.proofs.seat.Seat.TheSendSync as seat
 use Rattle.dt_hub.specs.laws.CrossingConsumers.{consumer_field}
 use Rattle.dt_facts.proofs.handles.Book.TheSendSync as book
+use Rattle.dt_facts.proofs.handles.Share.TheSendSync as share
 use Rattle.dt_legal.specs.declared.law.Traced as traced
 use Rattle.dt_trail.proofs.owner.TrailOwner.TheSendSync as trail_owner
 use Rattle.dt_seat.specs.declared.site.HubSite as hub_site
@@ -34,7 +35,7 @@ inside_send J h s t = recorded_send (inside.the_field J h s t).row _ _ (inside.t
       search (present_send, sendable),
       (
         search (book.the_send, sendable),
-        (search (idle.the_send, sendable), (search (keep.the_send, std.crosses, sendable), tt)),
+        (search (idle.the_send, sendable), (search (keep.the_send, std.crosses, sendable), (search (share.the_send, sendable), tt))),
       ),
     ),
   ),

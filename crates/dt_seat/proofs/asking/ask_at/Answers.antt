@@ -4,10 +4,12 @@ use Rattle.std.specs.List.{Contains}
 use Rattle.dt_chain.specs.Writes.{Write}
 use Rattle.dt_cred.specs.declared.account.Account.{Account}
 use Rattle.dt_facts.specs.laws.Beginnings.{prefix_trans}
-use Rattle.dt_seat.proofs.Offering.{goes_on_asked, goes_on_wider, starts_after}
+use Rattle.dt_seat.proofs.Offering.{goes_on_asked, goes_on_self, goes_on_wider, starts_after}
 use Rattle.dt_seat.proofs.Published.{contained_still}
 use Rattle.dt_seat.proofs.Seats.{answered_from}
 use Rattle.dt_seat.proofs.Sitting.{lines_grown, notebook_asked, notebook_goes_on}
+use Rattle.dt_life.specs.Life.{is_stopped}
+use Rattle.dt_seat.proofs.Writing.{has_written_on}
 use Rattle.dt_seat.proofs.asking.ask_at.Goals as goal
 use Rattle.dt_seat.specs.Publications.{IsPublicationAfter, writes_seen}
 use Rattle.dt_legal.specs.Rows.{IsGoAfter}
@@ -137,3 +139,31 @@ returns-clause-note g c =
 
 pub returns-clause-front : goal.returns-clause-front
 returns-clause-front g c = prefix_trans _ _ _ c.take_down.ensures.before c.take_down-2.ensures.before
+
+pub returns-in_err-published-clause-written : goal.returns-in_err-published-clause-written
+returns-in_err-published-clause-written g c =
+    rw (c.make_ready.ensures.same.0, c.make_ready.ensures.row.1) c.make_ready.ensures.written
+
+pub retire-withdrawn-requires-clause-trailed : goal.retire-withdrawn-requires-clause-trailed
+retire-withdrawn-requires-clause-trailed g c = trailed_as _ _ _ _ _ c.make_ready.ensures.trailed.whose_is c.finish-text.ensures.kept
+
+pub retire-withdrawn-requires-clause-written : goal.retire-withdrawn-requires-clause-written
+retire-withdrawn-requires-clause-written g c =
+    let contents = g.J.Traced.contents in
+    let mid = c.make_ready.new.present in
+    let trailed = trailed_as _ _ _ _ _ c.make_ready.ensures.trailed.whose_is c.finish-text.ensures.kept in
+    let written = rw (← c.make_ready.ensures.same.0, ← c.make_ready.ensures.row.1) at c.make_ready.ensures.written in
+    let on = goes_on_asked mid.owner.row.account contents mid.owner mid.owner c.in_ok-prepared.prepared.item (goes_on_self mid.owner) in
+    let longer = subst (λ (o : Known Account). StartsWith o.knows mid.owner.knows) (sym c.finish-text.ensures.trail) on.longer in
+    has_written_on g.J.HubSite.word contents c.args.number c.args.life mid.account mid.owner.knows c.finish-text.new.owner.knows c.make_ready.new.writes
+    longer trailed.legal written
+
+pub returns-clause-written : goal.returns-clause-written
+returns-clause-written g c =
+    rw (c.retire-withdrawn.ensures.same.0, c.retire-withdrawn.ensures.same.1) c.retire-withdrawn.ensures.written
+
+pub make_ready-requires-clause-going : goal.make_ready-requires-clause-going
+make_ready-requires-clause-going g c = λ is_go.
+    let made = rw c.requires.machine at c.in_ok-prepared.ensures.prepared in
+    let prepared = made c.args.present.now.account c.args.present.now.owner.knows c.requires.trailed.stands in
+    ap is_stopped ((c.publishes-is_go.ensures _ _ _ _ prepared.drafted).0 is_go).1

@@ -1,12 +1,9 @@
 -- What is to be shown of `withdraw`.
-use Rattle.std.proofs.Common.{◌≡◌, ◌++◌, ◌∷◌, [], ap, ◌∙◌}
-use Rattle.dt_chain.specs.Chains.{Chained}
-use Rattle.dt_chain.specs.Writes.{withdrawn}
+use Rattle.std.proofs.Common.{◌≡◌, ℕ, ap, sym, subst}
+use Rattle.dt_chain.specs.Writes.{Write, seat_of}
 use Rattle.dt_seat.proofs.asking.withdraw.Goals as goal
+use Rattle.dt_seat.specs.Written.{MayEndWith, SaysWrites, writes_in}
 
-pub returns-in-Ok : goal.returns-in-Ok
-returns-in-Ok g c =
-    let before = c.deref_mut.result.now.writes in
-    let whole : c.published-later.result ≡ before ++ withdrawn c.args.number ∷ [] =
-    c.published-later.ensures.list ∙ ap (λ (w : Chained). w.published) c.deref.ensures ∙ c.in-Ok.ensures.ok.1 ∙ c.in-Ok.ensures.ok.0 in
-    (before, whole)
+pub write_down-withdrawn-requires-clause-writes : goal.write_down-withdrawn-requires-clause-writes
+write_down-withdrawn-requires-clause-writes g c =
+    subst (λ (n : ℕ). SaysWrites g.J.HubSite.word n c.args.writes.now) (sym (ap seat_of c.withdrawal.ensures)) c.requires.says

@@ -9,6 +9,8 @@ use Rattle.dt_seat.specs.Knowledge.{steps_in}
 use Rattle.dt_seat.specs.Names.{life_name}
 use Rattle.dt_seat.specs.Seats.{Seated}
 use Rattle.dt_seat.proofs.Openings.{first_note, notebook_opened, notes_dealt, seat_open, seat_says, session_opened, unmapped}
+use Rattle.dt_seat.proofs.Writing.{writes_opened}
+use Rattle.dt_seat.specs.Written.{writes_in}
 use Rattle.dt_seat.proofs.locked.LockedSeat.open.Goals as goal
 use Rattle.dt_machine.specs.Registry.{Contents}
 use Rattle.dt_trail.specs.Known.{AreNew, Known}
@@ -20,7 +22,7 @@ invariant_of-result g c =
     let inside = c.self.inside in
     let owner = c.in_ok-owner.owner in
     let none : inside.present ≡ None = unmapped _ inside.present (ap (λ (x : Seated). x.trail) c.self.view_is ∙ c.requires.free) in
-    let free = rw none at c.self.invariant in
+    let free = rw none at c.self.invariant.0 in
     let idle_is : inside.free ≡ Some c.in-Some.field-0 = sym c.take.ensures.value ∙ c.in-Some.is in
     let idle = rw idle_is at free.idle in
     let fact = life_fact (steps_in c.in-Some.field-0.share.fact ++ opened owner.row ∷ []) in
@@ -48,7 +50,8 @@ invariant_of-self g c =
     let inside = c.self.inside in
     let owner = c.in_ok-owner.owner in
     let none : inside.present ≡ None = unmapped _ inside.present (ap (λ (x : Seated). x.trail) c.self.view_is ∙ c.requires.free) in
-    let free = rw none at c.self.invariant in
+    let wrote = rw none at c.self.invariant.1 in
+    let free = rw none at c.self.invariant.0 in
     let idle_is : inside.free ≡ Some c.in-Some.field-0 = sym c.take.ensures.value ∙ c.in-Some.is in
     let idle = rw idle_is at free.idle in
     let fact = life_fact (steps_in c.in-Some.field-0.share.fact ++ opened owner.row ∷ []) in
@@ -66,15 +69,21 @@ invariant_of-self g c =
     let empty : owner.knows ≡ [] = ap (λ (k : Known Account). k.knows) c.in_ok-owner.ensures.owner in
     let dealt = notes_dealt word contents inside.number inside.life inside.lives inside.free inside.keeps.items free c.in-Some.field-0 idle owner.row
     c.go_on_apart.new.book c.go_on_apart.new.share book mine notes new left.items c.hand_out-note.ensures.each in (
+      (
+        record {
+          few = free.few;
+          many = many ∙ free.many;
+          lives_are = rw c.begin.ensures.same (seat_says word contents inside.number inside.life inside.lives inside.free inside.keeps.items free
+              c.in-Some.field-0 idle owner.row c.go_on_apart.new.book c.go_on_apart.new.share book mine);
+          is_open = rw c.begin.ensures.same (seat_open word contents inside.number inside.life inside.lives inside.free inside.keeps.items free
+              c.in-Some.field-0 idle owner.row c.go_on_apart.new.book c.go_on_apart.new.share book mine);
+          trailed = search rules;
+          each = λ cpu. rw empty (dealt cpu);
+        },
+        search rules,
+      ),
       record {
-        few = free.few;
-        many = many ∙ free.many;
-        lives_are = rw c.begin.ensures.same (seat_says word contents inside.number inside.life inside.lives inside.free inside.keeps.items free
-            c.in-Some.field-0 idle owner.row c.go_on_apart.new.book c.go_on_apart.new.share book mine);
-        is_open = rw c.begin.ensures.same (seat_open word contents inside.number inside.life inside.lives inside.free inside.keeps.items free
-            c.in-Some.field-0 idle owner.row c.go_on_apart.new.book c.go_on_apart.new.share book mine);
-        trailed = search rules;
-        each = λ cpu. rw empty (dealt cpu);
+        says = wrote.says;
+        are = writes_opened contents c.args.account.now inside.life owner.knows (writes_in inside.writes.fact) wrote.later;
       },
-      search rules,
     )
