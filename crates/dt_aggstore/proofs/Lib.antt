@@ -10,7 +10,7 @@ pub mod Standing
 pub mod Steps
 pub mod Costs
 pub mod Rising
-pub mod Beginnings
+pub mod KeyStarts
 pub mod Joins
 pub mod Sharing
 pub mod Gathering

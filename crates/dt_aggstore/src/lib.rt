@@ -9,12 +9,12 @@
 //! (`specs/Table.antt`).
 #![tactic(auto)]
 
-mod beginning;
 mod cells;
 mod entry_index;
 mod entry_name;
 mod joining;
 mod key;
+mod key_start;
 mod laws;
 mod limit_laws;
 mod limits;

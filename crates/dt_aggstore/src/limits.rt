@@ -18,4 +18,4 @@ pub(crate) const COST_MIN: usize = 16;
 pub(crate) const RECENT_MAX: usize = 64;
 
 /// How many bytes of a text are held by value where keys are sorted.
-pub(crate) const BEGINNING_BYTES: usize = 8;
+pub(crate) const START_BYTES: usize = 8;

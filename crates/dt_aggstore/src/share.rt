@@ -1,19 +1,19 @@
 //! What single stores have of an aggregation's keys, before it is joined.
 ghost use Rattle.std.specs.Prelude.{◌≡◌};
-ghost use Rattle.dt_aggstore.specs.Beginnings.{beginning_of};
+ghost use Rattle.dt_aggstore.specs.KeyStarts.{start_of_key};
 
-use crate::beginning::Beginning;
 use crate::key::Key;
+use crate::key_start::KeyStart;
 use std::alloc::AllocError;
 use std::cmp::Ordering;
 
 /// A key with the cell that one store has of it.
 #[derive(Clone, Copy)]
 pub(crate) struct KeyShare<'a> {
-    beginning: Beginning,
+    start: KeyStart,
     pub(crate) key: &'a Key,
     pub(crate) cell: &'a [u64],
-    ghost begins: { beginning ≡ beginning_of key.now.parts.items },
+    ghost begins: { start ≡ start_of_key key.now.parts.items },
 }
 
 impl<'a> KeyShare<'a> {
@@ -31,7 +31,7 @@ impl<'a> KeyShare<'a> {
         ensures cell { result.cell.now ≡ cell.now }
     {
         KeyShare {
-            beginning: Beginning::of(key),
+            start: KeyStart::of(key),
             key,
             cell,
         }
@@ -41,9 +41,9 @@ impl<'a> KeyShare<'a> {
     fn order(&self, other: &KeyShare<'_>) -> Ordering
         ensures { result ≡ key_cmp (shared_key self.now) (shared_key other.now) }
     {
-        match self.beginning.order(&other.beginning) {
+        match self.start.order(&other.start) {
             // keys that begin alike and have nothing more are the same, and needn't be read
-            Ordering::Equal if self.beginning.is_whole() => Ordering::Equal,
+            Ordering::Equal if self.start.is_whole() => Ordering::Equal,
             Ordering::Equal => self.key.order(other.key),
             decided => decided,
         }
@@ -60,7 +60,7 @@ impl<'a> KeyShare<'a> {
     pub(crate) fn key(&self) -> Key
         ensures { result.parts.items ≡ shared_key self.now }
     {
-        match self.beginning.whole() {
+        match self.start.whole() {
             Some(key) => key,
             None => self.key.copy(),
         }

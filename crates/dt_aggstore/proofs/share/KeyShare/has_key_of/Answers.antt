@@ -1,7 +1,7 @@
 -- Keys that are ordered as equal are the same.
 use Rattle.std.proofs.Common.{sym, ◌∙◌}
 use Rattle.dt_aggstore.specs.Joining.{shared_key}
-use Rattle.dt_aggstore.proofs.Beginnings.{equal_same}
+use Rattle.dt_aggstore.proofs.KeyStarts.{equal_same}
 use Rattle.dt_aggstore.proofs.share.KeyShare.has_key_of.Goals as goal
 
 pub returns : goal.returns
