@@ -1,9 +1,10 @@
 -- What identifiers are names of. Guide, Actions and Subroutines, Aggregations and Variables.
-use Rattle.std.specs.Prelude.{◌≡◌, ◌≢◌, ℕ, List, Option, Some, None, codes}
+use Rattle.std.specs.Prelude.{◌≡◌, ◌≢◌, ℕ, ◌<◌, ◌≤◌, List, length, Option, Some, None, codes}
 use Rattle.dt_expr.specs.declared.scene.NumberVariable.{NumberVariable}
 use Rattle.dt_expr.specs.declared.scene.NumberVariable.TheVariants as number
 use Rattle.dt_expr.specs.declared.scene.TextVariable.{TextVariable}
 use Rattle.dt_expr.specs.declared.scene.TextVariable.TheVariants as text
+use Rattle.dt_names.specs.Limits.{short_text_max}
 use Rattle.dt_lang.specs.declared.word.Action.{Action}
 use Rattle.dt_lang.specs.declared.word.Action.TheVariants as action
 use Rattle.dt_lang.specs.declared.word.Function.{Function}
@@ -71,9 +72,14 @@ name_of_word (word.Function f) = Some (name_of_function f)
 name_of_word (word.Destructive d) = Some (name_of_destructive d)
 name_of_word (word.Number v) = Some (name_of_number v)
 name_of_word (word.Text v) = Some (name_of_text v)
-name_of_word word.Unknown = None
+name_of_word (word.Unknown kept) = None
+
+-- what is kept of an unknown name: its bytes, or that there are too many for a short text
+abbrev pub IsKeptName : List ℕ → Option (List ℕ) → Type 0
+IsKeptName name (Some bytes) = (bytes ≡ name) × (length name ≤ short_text_max)
+IsKeptName name None = short_text_max < length name
 
 -- The identifier is the known word of this name, or unknown where no known word has it.
 abbrev pub IsWord : List ℕ → Word → Type 0
-IsWord name word.Unknown = (known : Word) → name_of_word known ≢ Some name
+IsWord name (word.Unknown kept) = ((known : Word) → name_of_word known ≢ Some name) × IsKeptName name kept
 IsWord name known = name_of_word known ≡ Some name

@@ -8,9 +8,9 @@ pub mod Starts
 pub mod Fronts
 pub mod Bodies
 pub mod Heads
+pub mod Words
 pub mod Names
 pub mod Sameness
-pub mod Words
 pub mod Existence
 pub mod Progress
 pub mod Standing

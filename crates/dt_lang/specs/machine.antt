@@ -1,4 +1,5 @@
 -- Private to the proofs: what the readers of tokens, expressions and programs know after each step. No promise names these.
+pub mod KnownWord
 pub mod Piece
 pub mod ExpressionState
 pub mod ExpressionView

@@ -2,9 +2,11 @@
 ghost use Rattle.std.specs.Prelude.{◌≡◌, ◌≢◌, ℕ, ◌↔◌, List, Some, IsTrue, IfSome, IfNone};
 ghost use Rattle.std.specs.List.{All};
 ghost use Rattle.dt_lang.specs.declared.word.Word.{Word};
-ghost use Rattle.dt_lang.specs.Word.{name_of_action, name_of_function, name_of_destructive, name_of_number, name_of_text, name_of_word, IsWord};
+ghost use Rattle.dt_lang.specs.machine.KnownWord.{as_word};
+ghost use Rattle.dt_lang.specs.Word.{name_of_action, name_of_function, name_of_destructive, name_of_number, name_of_text, name_of_word, IsKeptName, IsWord};
 
 use dt_expr::{NumberVariable, TextVariable};
+use dt_names::ShortText;
 use std::fmt;
 
 /// A statement's name. (illumos Dynamic Tracing Guide, "Actions and Subroutines".)
@@ -62,7 +64,7 @@ pub enum Destructive {
 }
 
 /// What an identifier is a name of.
-#[derive(Clone, Copy, Debug, PartialEq, Eq)]
+#[derive(Clone, Copy, PartialEq, Eq)]
 pub enum Word {
     /// A statement.
     Action(Action),
@@ -74,8 +76,18 @@ pub enum Word {
     Number(NumberVariable),
     /// A variable that names a text.
     Text(TextVariable),
-    /// Nothing that the language knows.
-    Unknown,
+    /// Nothing that the language knows: the name, where it has no more bytes than a [`ShortText`] holds.
+    Unknown(Option<ShortText>),
+}
+
+/// A word that the language knows.
+#[derive(Clone, Copy)]
+pub(crate) enum KnownWord {
+    Action(Action),
+    Function(Function),
+    Destructive(Destructive),
+    Number(NumberVariable),
+    Text(TextVariable),
 }
 
 impl Action {
@@ -177,48 +189,48 @@ fn name_of_text(variable: TextVariable) -> &'static str
 }
 
 /// All words that the language knows.
-const WORDS: [Word; 41] = [
-    Word::Action(Action::Trace),
-    Word::Action(Action::Stack),
-    Word::Action(Action::Ustack),
-    Word::Action(Action::Exit),
-    Word::Function(Function::Count),
-    Word::Function(Function::Sum),
-    Word::Function(Function::Avg),
-    Word::Function(Function::Min),
-    Word::Function(Function::Max),
-    Word::Function(Function::Quantize),
-    Word::Function(Function::Lquantize),
-    Word::Destructive(Destructive::Stop),
-    Word::Destructive(Destructive::Raise),
-    Word::Destructive(Destructive::Copyout),
-    Word::Destructive(Destructive::Copyoutstr),
-    Word::Destructive(Destructive::System),
-    Word::Destructive(Destructive::Breakpoint),
-    Word::Destructive(Destructive::Panic),
-    Word::Destructive(Destructive::Chill),
-    Word::Number(NumberVariable::Arg0),
-    Word::Number(NumberVariable::Arg1),
-    Word::Number(NumberVariable::Arg2),
-    Word::Number(NumberVariable::Arg3),
-    Word::Number(NumberVariable::Arg4),
-    Word::Number(NumberVariable::Arg5),
-    Word::Number(NumberVariable::Arg6),
-    Word::Number(NumberVariable::Arg7),
-    Word::Number(NumberVariable::Arg8),
-    Word::Number(NumberVariable::Arg9),
-    Word::Number(NumberVariable::Cpu),
-    Word::Number(NumberVariable::Pid),
-    Word::Number(NumberVariable::Tid),
-    Word::Number(NumberVariable::Uid),
-    Word::Number(NumberVariable::Timestamp),
-    Word::Number(NumberVariable::Id),
-    Word::Number(NumberVariable::Epid),
-    Word::Text(TextVariable::Execname),
-    Word::Text(TextVariable::Probeprov),
-    Word::Text(TextVariable::Probemod),
-    Word::Text(TextVariable::Probefunc),
-    Word::Text(TextVariable::Probename),
+const WORDS: [KnownWord; 41] = [
+    KnownWord::Action(Action::Trace),
+    KnownWord::Action(Action::Stack),
+    KnownWord::Action(Action::Ustack),
+    KnownWord::Action(Action::Exit),
+    KnownWord::Function(Function::Count),
+    KnownWord::Function(Function::Sum),
+    KnownWord::Function(Function::Avg),
+    KnownWord::Function(Function::Min),
+    KnownWord::Function(Function::Max),
+    KnownWord::Function(Function::Quantize),
+    KnownWord::Function(Function::Lquantize),
+    KnownWord::Destructive(Destructive::Stop),
+    KnownWord::Destructive(Destructive::Raise),
+    KnownWord::Destructive(Destructive::Copyout),
+    KnownWord::Destructive(Destructive::Copyoutstr),
+    KnownWord::Destructive(Destructive::System),
+    KnownWord::Destructive(Destructive::Breakpoint),
+    KnownWord::Destructive(Destructive::Panic),
+    KnownWord::Destructive(Destructive::Chill),
+    KnownWord::Number(NumberVariable::Arg0),
+    KnownWord::Number(NumberVariable::Arg1),
+    KnownWord::Number(NumberVariable::Arg2),
+    KnownWord::Number(NumberVariable::Arg3),
+    KnownWord::Number(NumberVariable::Arg4),
+    KnownWord::Number(NumberVariable::Arg5),
+    KnownWord::Number(NumberVariable::Arg6),
+    KnownWord::Number(NumberVariable::Arg7),
+    KnownWord::Number(NumberVariable::Arg8),
+    KnownWord::Number(NumberVariable::Arg9),
+    KnownWord::Number(NumberVariable::Cpu),
+    KnownWord::Number(NumberVariable::Pid),
+    KnownWord::Number(NumberVariable::Tid),
+    KnownWord::Number(NumberVariable::Uid),
+    KnownWord::Number(NumberVariable::Timestamp),
+    KnownWord::Number(NumberVariable::Id),
+    KnownWord::Number(NumberVariable::Epid),
+    KnownWord::Text(TextVariable::Execname),
+    KnownWord::Text(TextVariable::Probeprov),
+    KnownWord::Text(TextVariable::Probemod),
+    KnownWord::Text(TextVariable::Probefunc),
+    KnownWord::Text(TextVariable::Probename),
 ];
 
 impl Word {
@@ -226,16 +238,31 @@ impl Word {
     pub fn of(name: &[u8]) -> Word
         ensures { IsWord name.now result }
     {
-        match Word::named_in(&WORDS, name) {
-            Some(word) => word,
-            None => Word::Unknown,
+        match KnownWord::named_in(&WORDS, name) {
+            Some(known) => known.as_word(),
+            None => Word::Unknown(kept(name)),
+        }
+    }
+}
+
+impl KnownWord {
+    /// The word that it is.
+    fn as_word(self) -> Word
+        ensures { result ≡ as_word self }
+    {
+        match self {
+            KnownWord::Action(action) => Word::Action(action),
+            KnownWord::Function(function) => Word::Function(function),
+            KnownWord::Destructive(destructive) => Word::Destructive(destructive),
+            KnownWord::Number(variable) => Word::Number(variable),
+            KnownWord::Text(variable) => Word::Text(variable),
         }
     }
 
     /// The first of these words with this name.
-    fn named_in(words: &[Word], name: &[u8]) -> Option<Word>
-        ensures some { IfSome result (λ word. name_of_word word ≡ Some name.now) }
-        ensures none { IfNone result (All (λ word. name_of_word word ≢ Some name.now) words.now) }
+    fn named_in(words: &[KnownWord], name: &[u8]) -> Option<KnownWord>
+        ensures some { IfSome result (λ word. name_of_word (as_word word) ≡ Some name.now) }
+        ensures none { IfNone result (All (λ word. name_of_word (as_word word) ≢ Some name.now) words.now) }
     {
         for word in words {
             // a name is that of one word only, so no later one has it
@@ -246,21 +273,26 @@ impl Word {
         None
     }
 
-    /// Whether this is a word that the language knows, and this is its name.
+    /// Whether this is its name.
     fn is_named(self, name: &[u8]) -> bool
-        ensures { IsTrue result ↔ (name_of_word self ≡ Some name.now) }
+        ensures { IsTrue result ↔ (name_of_word (as_word self) ≡ Some name.now) }
     {
         let own = match self {
-            Word::Action(action) => action.name(),
-            Word::Function(function) => function.name(),
-            Word::Destructive(destructive) => destructive.name(),
-            Word::Number(variable) => name_of_number(variable),
-            Word::Text(variable) => name_of_text(variable),
-            // it stands for all names that the language doesn't know, and has none of its own
-            Word::Unknown => return false,
+            KnownWord::Action(action) => action.name(),
+            KnownWord::Function(function) => function.name(),
+            KnownWord::Destructive(destructive) => destructive.name(),
+            KnownWord::Number(variable) => name_of_number(variable),
+            KnownWord::Text(variable) => name_of_text(variable),
         };
         own.as_bytes() == name
     }
+}
+
+/// What is kept of a name that the language doesn't know.
+fn kept(name: &[u8]) -> Option<ShortText>
+    ensures { IsKeptName name.now result }
+{
+    ShortText::new(name)
 }
 
 /// Law: each name is that of a word, and of one only.

@@ -499,13 +499,14 @@ fn expressions_come_to_what_the_tables_say(rt: HostRuntime) -> Result<(), Fail> 
 
 #[test]
 fn knows_the_words(rt: HostRuntime) {
-    let rows: [(&[u8], Word); 6] = [
+    let rows: [(&[u8], Word); 7] = [
         (b"ustack", Word::Action(Action::Ustack)),
         (b"lquantize", Word::Function(Function::Lquantize)),
         (b"copyoutstr", Word::Destructive(Destructive::Copyoutstr)),
         (b"arg9", Word::Number(NumberVariable::Arg9)),
         (b"probemod", Word::Text(TextVariable::Probemod)),
-        (b"Trace", Word::Unknown),
+        (b"Trace", Word::Unknown(ShortText::new(b"Trace"))),
+        (b"a_name_that_takes_32_bytes_to_be", Word::Unknown(None)),
     ];
     for (name, word) in rows {
         assert!(rt; Word::of(name) == word, "{name:?}");

@@ -5,6 +5,7 @@ use Rattle.std.proofs.lemmas.Bool.{cases_eq, cases_lt}
 use Rattle.std.specs.Char.{digit_value}
 use Rattle.std.specs.List.{take_while, All, Contains}
 use Rattle.std.specs.Str.Parse.{digits_value, AllDigits}
+use Rattle.dt_names.specs.Limits.{short_text_max}
 use Rattle.dt_expr.specs.Operators.{wrapped}
 use Rattle.dt_program.specs.Description.{DescForm, ReadsDescription}
 use Rattle.dt_program.specs.declared.description.DescriptionFault.{DescriptionFault}
@@ -12,11 +13,12 @@ use Rattle.dt_program.specs.declared.description.Description.{Description}
 use Rattle.dt_lang.specs.Class.{is_word_byte, is_string_byte, is_description_byte}
 use Rattle.dt_lang.specs.Lexeme.{IsDescriptionToken}
 use Rattle.dt_lang.specs.Number.{IsNumber, IsDecimal, IsOctal, IsHexadecimal}
+use Rattle.dt_lang.specs.machine.KnownWord.{as_word}
 use Rattle.dt_lang.specs.machine.Piece.{start_of, identifier_at, NumberOf, string_piece, aggregation_read, BeginsWith, FindsSign}
 use Rattle.dt_lang.specs.machine.Piece.{FindsAs, FindsInBody, head_sign, FindsRun, FindsInHead, FindsInMode, FindsUncommented}
 use Rattle.dt_lang.specs.machine.Piece.{FindsPiece, opens_comment}
 use Rattle.dt_lang.specs.Spelling.{spelling}
-use Rattle.dt_lang.specs.Word.{name_of_word, IsWord}
+use Rattle.dt_lang.specs.Word.{name_of_word, IsKeptName, IsWord}
 use Rattle.dt_lang.specs.declared.mode.LexerMode.{LexerMode}
 use Rattle.dt_lang.specs.declared.mode.LexerMode.TheVariants as mode
 use Rattle.dt_lang.specs.declared.piece.Piece.{Piece}
@@ -27,6 +29,7 @@ use Rattle.dt_lang.specs.declared.sign.TheConstants.{PAIRS, SINGLES}
 use Rattle.dt_lang.specs.declared.token.Sign.{Sign}
 use Rattle.dt_lang.specs.declared.token.Token.TheVariants as token
 use Rattle.dt_lang.specs.declared.word.TheConstants.{WORDS}
+use Rattle.dt_lang.specs.declared.word.KnownWord.{KnownWord}
 use Rattle.dt_lang.specs.declared.word.Word.{Word}
 use Rattle.dt_lang.specs.declared.word.Word.TheVariants as word
 use Rattle.dt_lang.specs.laws.Fronts.{number_run}
@@ -53,21 +56,27 @@ all_more : {X : Type 0} (P : X → Type 0) (x : X) (xs : List X) → P x → All
 all_more P x xs p h zero d below = p
 all_more P x xs p h (suc k) d below = h k d (omega arith)
 
-search : (words : List Word) (name : List ℕ)
-    → ((w : Word) × (name_of_word w ≡ Some name)) ⊎ All (λ w. name_of_word w ≢ Some name) words
+search : (words : List KnownWord) (name : List ℕ)
+    → ((w : KnownWord) × (name_of_word (as_word w) ≡ Some name)) ⊎ All (λ w. name_of_word (as_word w) ≢ Some name) words
 search [] name = inr (λ k d below. absurd (omega arith))
-search (w ∷ words) name = elim (named_or_not (name_of_word w) name) [
+search (w ∷ words) name = elim (named_or_not (name_of_word (as_word w)) name) [
   | inl e ↦ inl (w, e)
   | inr n ↦ elim (search words name) [
     | inl f ↦ inl f
-    | inr h ↦ inr (all_more (λ v. name_of_word v ≢ Some name) w words n h)
+    | inr h ↦ inr (all_more (λ v. name_of_word (as_word v) ≢ Some name) w words n h)
   ]
+]
+
+some_kept : (name : List ℕ) → (kept : Option (List ℕ)) × IsKeptName name kept
+some_kept name = elim (cases_lt short_text_max (length name)) [
+  | inl more ↦ (None, more)
+  | inr few ↦ (Some name, (refl, few))
 ]
 
 pub some_word : (name : List ℕ) → (w : Word) × IsWord name w
 some_word name = elim (search WORDS name) [
-  | inl f ↦ (f.0, named f.0 name f.1)
-  | inr h ↦ (word.Unknown, unknown name h)
+  | inl f ↦ (as_word f.0, named (as_word f.0) name f.1)
+  | inr h ↦ let k = some_kept name in (word.Unknown k.0, unknown name k.0 h k.1)
 ]
 
 -- signs
