@@ -4,7 +4,7 @@ use Rattle.std.specs.Prelude.{◌≡◌, ◌⊎◌, ℕ, ◌<◌, ◌≤◌, Lis
 use Rattle.dt_program.specs.Limits.{descriptions_max, statements_max, keys_max}
 use Rattle.dt_program.specs.Limits.{clauses_max, tokens_max}
 use Rattle.dt_lang.specs.machine.ExpressionState as expression
-use Rattle.dt_lang.specs.machine.ClauseState.{PlaceForm, outside, described, listed, guarded, body, called, stack_opened, closing, named, keyed, assigned, applied, within, bounding, negating, bounded, ProgramState, InsideForm, inside}
+use Rattle.dt_lang.specs.machine.ClauseState.{PlaceForm, outside, described, listed, guarded, body, keyed, assigned, applied, within, bounding, negating, bounded, ProgramState, InsideForm, inside}
 use Rattle.dt_program.specs.Clause.{ArgForm, ClauseForm}
 use Rattle.dt_lang.specs.Stand.{Slot, predicate, given, key, value}
 
