@@ -2,8 +2,8 @@
 //!
 //! `play MACHINE STEPS` plays the lines one after the other, in one thread, and writes the replies as `dtraced replay` does. Lines are `open SEAT ACCOUNT`,
 //! `call SEAT LINE`, `fire CPU` and `close SEAT`; the seats are the first three. `measure MACHINE INTERESTED OTHERS` opens so many sessions that enable the
-//! probe of the scripts, and so many that enable another, and lets the last two processors fire their scripts, one after the other, or, with the word `together`, at the
-//! same time, each on a thread of its own; the whole scripts, or only so many firings each as one more word says. It writes how many firings were made. With no word the
+//! probe of the scripts, and so many that enable another, and lets the last two processors fire their whole scripts, one after the other, or, with the word `together`, at
+//! the same time, each on a thread of its own; with one more word, that many firings each, one after the other. It writes how many firings were made. With no word the
 //! program does nothing.
 #![tactic(auto)]
 

@@ -39,23 +39,22 @@ fn fires<J: HubSite, R: Wait>(rt: &R, hub: &Hub<J>, token: &mut CpuSeat<J>, most
     most
 }
 
-/// Two processors fire their scripts at the same time, each on a thread of its own.
+/// Two processors fire their whole scripts at the same time, each on a thread of its own.
 fn fire_together<J: HubSite + Send + Sync, R: Threads + Wait + Sync>(
     rt: &R,
     hub: &Hub<J>,
     one: &mut CpuSeat<J>,
     other: &mut CpuSeat<J>,
-    most: u64,
 ) -> u64 {
     let (first, second) = join(
         rt,
-        || fires(rt, hub, one, most),
-        || fires(rt, hub, other, most),
+        || fires(rt, hub, one, u64::MAX),
+        || fires(rt, hub, other, u64::MAX),
     );
     first.wrapping_add(second)
 }
 
-/// Two processors fire their scripts, at the same time or one after the other.
+/// Two processors fire their scripts: the whole ones at the same time or one after the other, and so many places of them one after the other.
 fn both_fire<J: HubSite + Send + Sync, R: Threads + Wait + Sync>(
     rt: &R,
     hub: &Hub<J>,
@@ -68,8 +67,8 @@ fn both_fire<J: HubSite + Send + Sync, R: Threads + Wait + Sync>(
     let Some(mut other) = tokens.pop() else {
         return fires(rt, hub, &mut one, scene.most);
     };
-    if scene.is_together {
-        return fire_together(rt, hub, &mut one, &mut other, scene.most);
+    if scene.is_together && scene.most == u64::MAX {
+        return fire_together(rt, hub, &mut one, &mut other);
     }
     let first = fires(rt, hub, &mut other, scene.most);
     first.wrapping_add(fires(rt, hub, &mut one, scene.most))
