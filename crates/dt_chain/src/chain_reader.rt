@@ -22,7 +22,8 @@ pub struct LookRefused;
 
 /// What one processor looks through. It takes no lock and waits for nobody, whatever the writer does meanwhile.
 ///
-/// Contracts see two lists of writes, the oldest first: `seen`, which was published at its last look, and `told`.
+/// Contracts see two lists of writes, the oldest first: `seen`, which was published at its last look, and `told`, which are all that it knows of: it
+/// begins with `seen`, and with all that the reader was told.
 #[derive(Drop)]
 pub struct ChainReader<J: Site> {
     inner: Option<InnerReader<J>>,
@@ -41,7 +42,8 @@ impl<J: Site> Model for ChainReader<J> {
     ghost view = { λ reader. record { seen = reader.seen; told = reader.told } };
 
     ghost invariant = { λ reader. IsSome reader.inner
-        × IfSome reader.inner (λ inner. IsPrefix reader.seen (reached inner.place)) };
+        × IfSome reader.inner (λ inner. IsPrefix reader.seen (reached inner.place))
+        × IsPrefix reader.seen reader.told };
 }
 
 /// Why an entry finds nothing.
@@ -72,7 +74,8 @@ impl<J: Site> ChainReader<J> {
     }
 
     /// The seats that the published writes name for a firing, each with its life, into a mask that is lent. The published
-    /// writes begin with all that were seen before, and with all that this reader was told of. It takes no memory.
+    /// writes begin with all that were seen before, and with all that this reader was told of. They are all that it knows of then. It takes no
+    /// memory.
     ///
     /// Where a seat is named, the firing is answered with the probe and the process that it names, as by
     /// [`Entries::look_into`](crate::Entries::look_into).
@@ -87,7 +90,7 @@ impl<J: Site> ChainReader<J> {
         ensures mask { OnOk result (IsMaskAfter machine.now.registry self.new.seen firing.now mask.new) }
         ensures seen { OnOk result (IsPrefix self.old.seen self.new.seen) }
         ensures told { OnOk result (IsPrefix self.old.told self.new.seen) }
-        ensures told_stays { self.new.told ≡ self.old.told }
+        ensures all { OnOk result (self.new.told ≡ self.new.seen) }
         ensures context { IfOk result (λ found. IfSome found (λ context.
             IsContext machine.now.registry context × (context.firing.now ≡ firing.now))) }
         ensures none { IfOk result (λ found. IfNone found ((seat : ℕ) → life_at mask.new seat ≡ None)) }
@@ -104,6 +107,7 @@ impl<J: Site> ChainReader<J> {
         self.inner = Some(inner);
         match found {
             Ok(FoundWrites { front, context }) => {
+                self.told = front.again();
                 self.seen = front;
                 Ok(context)
             }
@@ -118,7 +122,7 @@ impl<J: Site> ChainReader<J> {
         ensures mask { IfSome result (λ mask. IsMaskAfter machine.now.registry self.new.seen firing.now mask) }
         ensures seen { IfSome result (λ _. IsPrefix self.old.seen self.new.seen) }
         ensures told { IfSome result (λ _. IsPrefix self.old.told self.new.seen) }
-        ensures told_stays { self.new.told ≡ self.old.told }
+        ensures all { IfSome result (λ _. self.new.told ≡ self.new.seen) }
         ensures none { IfNone result (self.new ≡ self.old) }
     {
         let mut mask = SeatMask::new();
@@ -142,6 +146,14 @@ impl<J: Site> ChainReader<J> {
         ensures { result ≡ self.now.seen }
     {
         self.seen.again()
+    }
+
+    /// All writes that it knows of. Those that were published at the last look begin them.
+    pub fn told(&self) -> Front<J>
+        ensures told { result ≡ self.now.told }
+        ensures seen { IsPrefix self.now.seen result }
+    {
+        self.told.again()
     }
 }
 

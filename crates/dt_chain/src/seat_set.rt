@@ -5,7 +5,7 @@ use crate::seat::{SEATS, Seat};
 use dt_machine::{BitWord, WORD_BITS};
 
 /// How many words a set of seats has.
-pub(crate) const SEAT_WORDS: usize = 4;
+pub(crate) const SEAT_WORDS: usize = SEATS / WORD_BITS as usize;
 
 const _: () = prove!(SEATS == SEAT_WORDS * WORD_BITS as usize);
 

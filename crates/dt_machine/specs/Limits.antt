@@ -1,5 +1,5 @@
 -- The limits, with their numbers. The law `limits_agree` says that the code keeps these.
-use Rattle.std.specs.Prelude.{ℕ, ◌+◌, ◌/◌}
+use Rattle.std.specs.Prelude.{ℕ, ◌+◌, ◌-◌, ◌/◌}
 
 -- the most processors of a machine
 abbrev pub cpus_max : ℕ
@@ -27,7 +27,7 @@ first_probe_id = 3
 
 -- the greatest identifier of a probe
 abbrev pub probe_id_max : ℕ
-probe_id_max = 4098
+probe_id_max = first_probe_id + probes_max - 1
 
 -- the most firings of one script
 abbrev pub script_max : ℕ

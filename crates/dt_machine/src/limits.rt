@@ -19,7 +19,7 @@ pub const PROBES_MAX: usize = 4096;
 pub const FIRST_PROBE_ID: u32 = 3;
 
 /// The greatest identifier of a probe: that of the last of the file, where it has as many as it may.
-pub const PROBE_ID_MAX: u32 = 4098;
+pub const PROBE_ID_MAX: u32 = FIRST_PROBE_ID + PROBES_MAX as u32 - 1;
 
 /// The most firings of a processor's script.
 pub const SCRIPT_MAX: usize = 65_536;
