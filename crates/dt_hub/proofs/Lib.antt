@@ -1,3 +1,4 @@
 -- The lemmas of this crate.
 pub mod Places
 pub mod Offers
+pub mod Tracks

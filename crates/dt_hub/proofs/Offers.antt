@@ -30,7 +30,7 @@ get_set_other (y ∷ xs) zero (suc j) x h = refl
 get_set_other (y ∷ xs) (suc i) zero x h = refl
 get_set_other (y ∷ xs) (suc i) (suc j) x h = get_set_other xs i j x (λ e. h (ap suc e))
 
-none_from : {A : Type 0} (o : Option A) → is_some o ≡ false → o ≡ None
+pub none_from : {A : Type 0} (o : Option A) → is_some o ≡ false → o ≡ None
 none_from (Some a) e = absurd (true≢false e)
 none_from None e = refl
 
@@ -64,7 +64,7 @@ module _ (contents : Contents) (firing : Firing) (mask : SeatMask) (start : List
   named_first = some_from (life_at mask s) (sym (left_from s from_next) ∙ first_is)
 
   -- those before it that aren't done aren't named
-  between : (seat : ℕ) → next ≤ seat → seat < s → life_at mask seat ≡ None
+  pub between : (seat : ℕ) → next ≤ seat → seat < s → life_at mask seat ≡ None
   between seat le lt = none_from (life_at mask seat) (sym (left_from seat le) ∙ before seat lt)
 
   module _ (taken : (other : ℕ) → has new other ≡ (if other == s then false else has left other)) where

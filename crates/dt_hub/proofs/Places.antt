@@ -82,7 +82,7 @@ at_seat_after contents life firing (Unseen known) old new seat comes own_is h = 
   cpu_is = comes.0.cpu ∙ h.cpu_is;
   below = below_after life firing (Unseen known) old new seat own_is h comes.1.0 comes.1.1;
 }
-at_seat_after contents life firing Gone old new seat comes own_is h = rw comes (at_seat_next firing.cpu firing.place seat old h)
+at_seat_after contents life firing Gone old new seat comes own_is h = rw comes.0 (at_seat_next firing.cpu firing.place seat old h)
 
 -- after a processor was told of a session there
 pub at_seat_told : (cpu place seat : ℕ) (received : Received) (old new : Followed) → HasHeard received old new → IsAtSeat cpu place seat old

@@ -34,13 +34,13 @@ ComesToSeat contents firing mask held old new seat = MatchOption (life_at mask s
     (slice_get new seat ≡ slice_get old seat)
     (λ life. IsOffered contents firing life (slice_get held seat) (slice_get old seat) (slice_get new seat))
 
--- A processor looks after all writes that it saw before and was told of, and finds the seats that these writes name for its next firing.
+-- A processor looks after all writes that it saw before and was told of, and finds the seats that these writes name for its next firing. It knows of these writes then.
 pub record LooksAfter (contents : Contents) (old new : Processing) (place : ℕ) (firing : Firing) (mask : SeatMask) : Type 0 where
   pub place_is : place ≡ old.place
   pub firing_is : firing_at contents.scripts old.cpu old.place ≡ Some firing
   pub seen : IsPrefix old.seen new.seen
   pub told : IsPrefix old.told new.seen
-  pub told_stays : new.told ≡ old.told
+  pub knows : IsPrefix new.seen new.told
   pub mask_is : IsMaskAfter contents.registry new.seen firing mask
 
 -- A processor makes the next firing of its script: it looks, it offers the firing to the seats that are named and to no others, and its log then has what
@@ -69,10 +69,10 @@ ComesOfCall contents fired.Refused old new =
     KnowsTheSame old new × ((seat : ℕ) → life_at new.mask seat ≡ None)
 ComesOfCall contents (fired.At place) old new = HasFired contents old new place
 
--- What comes of a look: nothing is taken from the script, and what is known at seats stays.
+-- What comes of a look: nothing is taken from the script, and what is known at seats stays. Of the writes just those are known that were looked at.
 abbrev pub ComesOfLook : Contents → Looked → (old new : Processing) → Type 0
 ComesOfLook contents looked.End old new = (new ≡ old) × (firing_at contents.scripts old.cpu old.place ≡ None)
 ComesOfLook contents looked.Refused old new = new ≡ old
 ComesOfLook contents (looked.At place mask) old new =
     (firing : Firing) × LooksAfter contents old new place firing mask
-    × (new ≡ record old { seen = new.seen })
+    × (new ≡ record old { seen = new.seen; told = new.seen })

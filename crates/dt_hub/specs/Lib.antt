@@ -7,6 +7,7 @@ pub mod Asking
 pub mod Tellings
 pub mod Processors
 pub mod Forgetting
+pub mod Meetings
 -- The laws of these.
 pub mod laws
 -- Private to the proofs: the names of the facts. No promise of a call names them.

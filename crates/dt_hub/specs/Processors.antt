@@ -1,7 +1,6 @@
 -- What a processor has: its place in its script, the writes that it saw and was told of, what it has at each seat, its log, and what came
 -- of its last firing.
-use Rattle.std.specs.Prelude.{◌≡◌, ◌<◌, ℕ, List, Option, Some, None, IfSome, [], length, map, slice_get}
-use Rattle.std.specs.Option.{option_map_or}
+use Rattle.std.specs.Prelude.{◌≡◌, ◌<◌, ◌==◌, ℕ, List, Option, Some, None, IfSome, [], length, map, slice_get, if◌then◌else◌}
 use Rattle.atomic_table.specs.Seated.{TableId}
 use Rattle.dt_chain.specs.Chains.{Watched}
 use Rattle.dt_chain.specs.Seats.{life_at}
@@ -19,6 +18,7 @@ use Rattle.dt_hub.specs.declared.offered.Offered.TheVariants as offered
 use Rattle.dt_legal.specs.Rows.{AreBelowPlace}
 use Rattle.dt_machine.specs.Registry.{Contents}
 use Rattle.dt_seat.specs.Keeps.{Followed, known_by, known_of}
+use Rattle.dt_seat.specs.Tracked.{AreTracked, known_life}
 use Rattle.dt_seat.specs.declared.held.Held.{Held}
 use Rattle.dt_seat.specs.declared.held.Held.TheVariants as helds
 
@@ -38,16 +38,22 @@ abbrev pub places_in : Fact → List (List Knew)
 places_in (kinds.Log log) = log.places
 places_in fact = []
 
--- which life of a seat a processor knows of last, by what it was told or by its note, and how many items
-abbrev pub known_life : Followed → ℕ
-known_life f = option_map_or (λ t. t.life) f.told (option_map_or (λ last. last.life) f.took 0)
-
+-- which life of a seat a processor knows of last, and how many of its items
 abbrev pub knew_of : Followed → Knew
 knew_of f = knew (known_life f) (length (known_of (known_life f) f))
 
 -- the place of a log that is being fired: what is known at each seat
 abbrev pub knew_at_seats : List Followed → List Knew
 knew_at_seats at_seats = map knew_of at_seats
+
+-- how many items of a life of a seat were known at a place
+abbrev pub count_in : ℕ → Option Knew → ℕ
+count_in life None = 0
+count_in life (Some one) = if one.life == life then one.items else 0
+
+-- how many items of a life of a seat a processor knew at each place that it fired, by its log
+abbrev pub counts_at : (seat : ℕ) → List (List Knew) → (life : ℕ) → List ℕ
+counts_at seat log life = map (λ place. count_in life (slice_get place seat)) log
 
 -- What a processor has at a seat: it is that seat's and this processor's, and all its own firings that it knows of stand below this place.
 pub record IsAtSeat (cpu place seat : ℕ) (f : Followed) : Type 0 where
@@ -60,13 +66,19 @@ pub record AreAtSeats (cpu place : ℕ) (at_seats : List Followed) : Type 0 wher
   pub many : length at_seats ≡ seat_count
   pub each : (seat : ℕ) → IfSome (slice_get at_seats seat) (IsAtSeat cpu place seat)
 
+-- A processor that knows of these writes keeps track of the lives of each seat, by its log.
+abbrev pub AreTrackedBy : Contents → List Write → List (List Knew) → List Followed → Type 0
+AreTrackedBy contents writes log at_seats = (seat : ℕ) → IfSome (slice_get at_seats seat) (AreTracked contents writes (counts_at seat log))
+
 -- what a processor's token keeps
-pub record IsProcessor (word : TableId) (contents : Contents) (cpu place : ℕ) (at_seats : List Followed) (held : List Held)
+pub record IsProcessor (word : TableId) (contents : Contents) (cpu place : ℕ) (told : List Write) (at_seats : List Followed) (held : List Held)
     (log : HeldFact) : Type 0 where
   pub there : cpu < contents.registry.cpus
   pub seats : AreAtSeats cpu place at_seats
   pub many : length held ≡ seat_count
   pub log_is : log ≡ holding word (log_name contents.registry.cpus cpu) (log_fact (places_in log.fact))
+  pub places : length (places_in log.fact) ≡ place
+  pub tracked : AreTrackedBy contents told (places_in log.fact) at_seats
 
 abbrev pub processing : (cpu place : ℕ) → Watched → List Followed → HeldFact → SeatMask → List Held → Processing
 processing cpu place reader at_seats log mask held = record {

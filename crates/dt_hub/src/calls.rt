@@ -49,6 +49,7 @@ impl<J: HubSite> Hub<J> {
                 &cpu_seat.mask,
                 &mut cpu_seat.followers,
                 &mut cpu_seat.held,
+                &mut cpu_seat.reader,
                 gate,
             );
         }

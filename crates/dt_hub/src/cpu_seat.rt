@@ -38,7 +38,7 @@ impl<J: HubSite> Model for CpuSeat<J> {
 
     ghost view = { λ c. processing c.cpu c.place c.reader c.followers.items c.log c.mask c.held.items };
 
-    ghost invariant = { λ c. IsProcessor J.word J.contents c.cpu c.place c.followers.items c.held.items c.log };
+    ghost invariant = { λ c. IsProcessor J.word J.contents c.cpu c.place c.reader.told c.followers.items c.held.items c.log };
 }
 
 /// A log goes on by a place: what is known at each seat. The log is there in proofs alone, and so `followers` is for the contract.

@@ -19,6 +19,7 @@ pub mod laws;
 mod letting_go;
 mod looking;
 mod making;
+mod meeting;
 mod offered;
 mod offering;
 mod opening;

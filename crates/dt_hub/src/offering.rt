@@ -1,18 +1,24 @@
 //! How a firing is offered to the seats that are named.
-ghost use Rattle.std.specs.Prelude.{◌≡◌, ◌+◌, ◌++◌, ℕ, Some, vec_len};
+ghost use Rattle.std.specs.Prelude.{◌≡◌, ◌+◌, ◌++◌, ◌∷◌, ℕ, List, [], Some, length, vec_len};
+ghost use mathlib.Core.List.{IsPrefix};
+ghost use Rattle.dt_chain.specs.Chains.{IsMaskAfter};
 ghost use Rattle.dt_chain.specs.Limits.{seat_count};
+ghost use Rattle.dt_chain.specs.Seats.{life_at};
+ghost use Rattle.dt_chain.specs.declared.seat_mask.SeatMask.{SeatMask};
+ghost use Rattle.dt_facts.specs.declared.fact.Knew.{Knew};
 ghost use Rattle.dt_hub.specs.Firings.{ComesToSeat};
-ghost use Rattle.dt_hub.specs.Processors.{AreAtSeats};
+ghost use Rattle.dt_hub.specs.Processors.{AreAtSeats, AreTrackedBy, knew_at_seats};
 ghost use Rattle.dt_legal.specs.Rows.{AreBelowPlace};
 ghost use Rattle.dt_machine.specs.Context.{IsContext};
 ghost use Rattle.dt_machine.specs.Registry.{firing_at};
 ghost use Rattle.dt_seat.specs.Keeps.{known_by, noted_of};
 ghost use Rattle.dt_seat.specs.Seats.{ComesOfFiring, kept_items};
+ghost use Rattle.dt_seat.specs.Tracked.{AreTracked, counts_with};
 ghost use Rattle.dt_trail.specs.Items.{own};
 
 use crate::gate::{Gate, Moment};
 use crate::hub::Hub;
-use dt_chain::{Seat, SeatMask};
+use dt_chain::{ChainReader, Seat, SeatMask};
 use dt_machine::Context;
 use dt_seat::{Follower, Held, HubSite};
 use std::sync::{MutexGuard, Wait};
@@ -26,6 +32,7 @@ impl<J: HubSite> Hub<J> {
         life: u64,
         context: &Context,
         follower: &mut Follower<J>,
+        reader: &mut ChainReader<J>,
         gate: &G,
     ) -> Held
         requires context { IsContext J.contents.registry context.now }
@@ -33,9 +40,16 @@ impl<J: HubSite> Hub<J> {
             ≡ Some context.now.firing.now }
         requires follower { (follower.old.seat ≡ seat) × (follower.old.cpu ≡ context.now.firing.now.cpu) }
         requires below { AreBelowPlace context.now.firing.now.cpu context.now.firing.now.place (known_by follower.old.note) }
+        requires named { (mask : SeatMask) × IsMaskAfter J.contents.registry reader.old.seen context.now.firing.now mask
+            × (life_at mask seat ≡ Some life) }
+        requires reader { IsPrefix reader.old.seen reader.old.told }
         ensures held { ComesOfFiring J.contents life context.now.firing.now result follower.old follower.new }
         ensures own { own (context.now.firing.now.cpu + 1) (noted_of life follower.new)
             ≡ own (context.now.firing.now.cpu + 1) (noted_of life follower.old) ++ kept_items result context.now.firing.now }
+        ensures tracked { (knew : ℕ → List ℕ) → ((l : ℕ) → length (knew l) ≡ context.now.firing.now.place)
+            → AreTracked J.contents reader.old.seen knew follower.old
+            → AreTracked J.contents reader.new.told (counts_with knew follower.old) follower.new }
+        ensures reader { (reader.new.seen ≡ reader.old.seen) × IsPrefix reader.old.told reader.new.told }
     {
         let cpu = context.firing.cpu;
         let number = seat.number();
@@ -45,7 +59,16 @@ impl<J: HubSite> Hub<J> {
             let mut locked = self.seats[number as usize].lock(rt);
             if locked.number().number() == number {
                 gate.at(cpu, number, Moment::Locked);
-                let held = locked.hold(&self.machine, &self.facts, life, context, follower);
+                let held = locked.hold(
+                    rt,
+                    &self.machine,
+                    &self.facts,
+                    &self.chains,
+                    life,
+                    context,
+                    follower,
+                    reader,
+                );
                 MutexGuard::unlock(locked);
                 gate.at(cpu, number, Moment::After);
                 return held;
@@ -63,6 +86,7 @@ impl<J: HubSite> Hub<J> {
         mask: &SeatMask,
         followers: &mut Vec<Follower<J>>,
         held: &mut Vec<Held>,
+        reader: &mut ChainReader<J>,
         gate: &G,
     )
         requires context { IsContext J.contents.registry context.now }
@@ -70,10 +94,15 @@ impl<J: HubSite> Hub<J> {
             ≡ Some context.now.firing.now }
         requires seats { AreAtSeats context.now.firing.now.cpu context.now.firing.now.place followers.old.items }
         requires many { vec_len held.old ≡ seat_count }
+        requires look { IsMaskAfter J.contents.registry reader.old.seen context.now.firing.now mask.now }
+        requires reader { IsPrefix reader.old.seen reader.old.told }
         ensures seats { AreAtSeats context.now.firing.now.cpu (context.now.firing.now.place + 1) followers.new.items }
         ensures many { vec_len held.new ≡ seat_count }
         ensures each { (seat : ℕ) → ComesToSeat J.contents context.now.firing.now mask.now held.new.items followers.old.items
             followers.new.items seat }
+        ensures tracked { (log : List (List Knew)) → length log ≡ context.now.firing.now.place → AreTrackedBy J.contents reader.old.seen log followers.old.items
+            → AreTrackedBy J.contents reader.new.told (log ++ knew_at_seats followers.old.items ∷ []) followers.new.items }
+        ensures reader { (reader.new.seen ≡ reader.old.seen) × IsPrefix reader.old.told reader.new.told }
     {
         let mut left = mask.seats();
         let mut next = 0;
@@ -83,7 +112,15 @@ impl<J: HubSite> Hub<J> {
             let Some(life) = mask.life_of(seat) else {
                 unreachable!()
             };
-            held[at] = self.offer_at(rt, seat, life, context, &mut followers[at], gate);
+            held[at] = self.offer_at(
+                rt,
+                seat,
+                life,
+                context,
+                &mut followers[at],
+                reader,
+                gate,
+            );
             next = at + 1;
         }
     }

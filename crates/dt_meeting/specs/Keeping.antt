@@ -16,9 +16,10 @@ module _ (account : Account) (contents : Contents) where
       → IsGoAfter account contents before item
       → (probes : List Bool) × Contains writes (published seat life account probes) × AreOfEcbs account contents before probes
 
-  -- A processor keeps track of a life, as far as the seat's writes are in order: where all writes of the seat, which begin with those that the processor has seen, are in
-  -- order for a trail that is legal, begins with what it knows and has no more of its own firings, it tracks the life by what it has seen and knows.
-  abbrev pub KeepsTrack : (cpu life : ℕ) → (seen : List Write) → (known : List TrailItem) → (knew : List ℕ) → Type 0
-  KeepsTrack cpu life seen known knew = (writes : List Write) (trail : List TrailItem) → IsPrefix seen writes → StartsWith trail known
-      → own (cpu + 1) trail ≡ own (cpu + 1) known → IsLegalRow account contents trail → IsInOrder account contents life writes trail
-      → Tracks account contents cpu life seen known knew
+  -- A processor keeps track of a life, as far as the seat's writes are in order. Its note has these of its own firings (`mine`). Where all writes of the seat begin with those
+  -- that it has seen, and are in order for a legal trail that begins with what it knows and has just the firings of its note, it tracks the life by what it has seen and knows.
+  -- It may be told items with no lock in hand, and then can't know that they have no other firing of its own. A trail that has another isn't spoken of.
+  abbrev pub KeepsTrack : (cpu life : ℕ) → (seen : List Write) → (known mine : List TrailItem) → (knew : List ℕ) → Type 0
+  KeepsTrack cpu life seen known mine knew = (writes : List Write) (trail : List TrailItem) → IsPrefix seen writes
+      → StartsWith trail known → own (cpu + 1) trail ≡ mine → IsLegalRow account contents trail
+      → IsInOrder account contents life writes trail → Tracks account contents cpu life seen known knew

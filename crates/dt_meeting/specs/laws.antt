@@ -8,6 +8,7 @@ pub mod Staging
 pub mod Ordering
 pub mod Looking
 pub mod Announcing
+pub mod Owning
 pub mod Sharing
 pub mod Tracking
 pub mod Keeping

@@ -111,55 +111,66 @@ pub fn go_stays_published()
         → GoIsPublished account contents seat life row writes → GoIsPublished account contents seat life row (writes_of writes seat) }
 {}
 
-/// Law: a processor that knows nothing keeps track of each life, as far as the seat's writes are in order. It goes on to as it sees more writes; as it knows more items, and has seen the publication of a
+/// Law: a processor that knows nothing keeps track of each life, as far as the seat's writes are in order. It goes on to as it sees more writes; as it knows more items, whoever's firings they have, and has seen the publication of a
 /// `go` among them; as it fires and its writes pass the life by, as they do where its look doesn't name the seat with the life; as the life is over and the processor sees all writes of the seat, which have come past it; and as its firing is offered to the life, and isn't
-/// seen there, or is, with all writes of the seat in order then, or by a look that names the seat with the life. Where all writes of the seat are in order for the trail, its firings and the trail stand in one row.
+/// seen there. Where it is seen there, and its note then has it, it goes on to with all writes of the seat in order, or by a look that names the seat with the life.
+/// Where all writes of the seat are in order for the trail, and the trail has just the firings of its note, all its firings and the trail stand in one row.
 pub fn keeping_goes_on()
-    ensures new { (account : Account) (contents : Contents) (cpu life : ℕ) (seen : List Write)
-        → KeepsTrack account contents cpu life seen [] [] }
-    ensures writes { (account : Account) (contents : Contents) (cpu life : ℕ) (seen more : List Write) (known : List TrailItem) (knew : List ℕ)
-        → IsPrefix seen more → KeepsTrack account contents cpu life seen known knew → KeepsTrack account contents cpu life more known knew }
-    ensures known { (account : Account) (contents : Contents) (cpu seat life : ℕ) (seen : List Write) (known more : List TrailItem) (knew : List ℕ)
-        → StartsWith more known → own (cpu + 1) more ≡ own (cpu + 1) known → IsLegalRow account contents more
+    ensures new { (account : Account) (contents : Contents) (cpu life : ℕ) (seen : List Write) (mine : List TrailItem)
+        → KeepsTrack account contents cpu life seen [] mine [] }
+    ensures writes { (account : Account) (contents : Contents) (cpu life : ℕ) (seen more : List Write) (known mine : List TrailItem) (knew : List ℕ)
+        → IsPrefix seen more → KeepsTrack account contents cpu life seen known mine knew
+        → KeepsTrack account contents cpu life more known mine knew }
+    ensures known { (account : Account) (contents : Contents) (cpu seat life : ℕ) (seen : List Write) (known mine more : List TrailItem) (knew : List ℕ)
+        → StartsWith more known → StartsWith (own (cpu + 1) known) mine → IsLegalRow account contents more
         → GoIsPublished account contents seat life more seen
-        → KeepsTrack account contents cpu life seen known knew → KeepsTrack account contents cpu life seen more knew }
-    ensures passed { (account : Account) (contents : Contents) (cpu life : ℕ) (seen : List Write) (known : List TrailItem) (knew : List ℕ)
-        → IsPassedBy account contents cpu (length knew) (stage life seen) → KeepsTrack account contents cpu life seen known knew
-        → KeepsTrack account contents cpu life seen known (knew ++ length known ∷ []) }
-    ensures looked { (account : Account) (contents : Contents) (cpu seat life : ℕ) (writes : List Write) (known : List TrailItem) (knew : List ℕ)
+        → KeepsTrack account contents cpu life seen known mine knew → KeepsTrack account contents cpu life seen more mine knew }
+    ensures passed { (account : Account) (contents : Contents) (cpu life : ℕ) (seen : List Write) (known mine : List TrailItem) (knew : List ℕ)
+        → IsPassedBy account contents cpu (length knew) (stage life seen) → KeepsTrack account contents cpu life seen known mine knew
+        → KeepsTrack account contents cpu life seen known mine (knew ++ length known ∷ []) }
+    ensures looked { (account : Account) (contents : Contents) (cpu seat life : ℕ) (writes : List Write) (known mine : List TrailItem) (knew : List ℕ)
         (firing : Firing) (mask : SeatMask)
         → firing_at contents.scripts cpu (length knew) ≡ Some firing → IsMaskAfter contents.registry writes firing mask
-        → life_at mask seat ≢ Some life → KeepsTrack account contents cpu life (writes_of writes seat) known knew
-        → KeepsTrack account contents cpu life (writes_of writes seat) known (knew ++ length known ∷ []) }
-    ensures gone { (account : Account) (contents : Contents) (cpu life : ℕ) (seen whole : List Write) (known : List TrailItem) (knew : List ℕ)
-        → IsPrefix seen whole → stage life whole ≡ past → KeepsTrack account contents cpu life seen known knew
-        → KeepsTrack account contents cpu life whole known (knew ++ length known ∷ []) }
-    ensures unseen { (account : Account) (contents : Contents) (cpu seat life : ℕ) (seen : List Write) (known more : List TrailItem) (knew : List ℕ)
-        → StartsWith more known → own (cpu + 1) more ≡ own (cpu + 1) known → IsLegalRow account contents more
+        → life_at mask seat ≢ Some life → KeepsTrack account contents cpu life (writes_of writes seat) known mine knew
+        → KeepsTrack account contents cpu life (writes_of writes seat) known mine (knew ++ length known ∷ []) }
+    ensures gone { (account : Account) (contents : Contents) (cpu life : ℕ) (seen whole : List Write) (known mine : List TrailItem) (knew : List ℕ)
+        → IsPrefix seen whole → stage life whole ≡ past → KeepsTrack account contents cpu life seen known mine knew
+        → KeepsTrack account contents cpu life whole known mine (knew ++ length known ∷ []) }
+    ensures unseen { (account : Account) (contents : Contents) (cpu seat life : ℕ) (seen : List Write) (known mine more : List TrailItem) (knew : List ℕ)
+        → StartsWith more known → StartsWith (own (cpu + 1) known) mine → own (cpu + 1) more ≡ mine → IsLegalRow account contents more
         → is_seen_after account contents more cpu (length knew) ≡ false → GoIsPublished account contents seat life more seen
-        → KeepsTrack account contents cpu life seen known knew
-        → KeepsTrack account contents cpu life seen more (knew ++ length known ∷ []) }
-    ensures kept { (account : Account) (contents : Contents) (cpu seat life : ℕ) (seen all : List Write) (known more : List TrailItem) (knew : List ℕ)
+        → KeepsTrack account contents cpu life seen known mine knew
+        → KeepsTrack account contents cpu life seen more mine (knew ++ length known ∷ []) }
+    ensures kept { (account : Account) (contents : Contents) (cpu seat life : ℕ) (seen all : List Write) (known mine more : List TrailItem) (knew : List ℕ)
         → IsPrefix seen all → IsInOrder account contents life all more
-        → StartsWith more known → own (cpu + 1) more ≡ own (cpu + 1) known → IsLegalRow account contents more
+        → StartsWith more known → StartsWith (own (cpu + 1) known) mine → own (cpu + 1) more ≡ mine → IsLegalRow account contents more
         → is_seen_after account contents more cpu (length knew) ≡ true
         → IsLegalRow account contents (more ++ fired cpu (length knew) ∷ []) → GoIsPublished account contents seat life more seen
-        → KeepsTrack account contents cpu life seen known knew
-        → KeepsTrack account contents cpu life seen (more ++ fired cpu (length knew) ∷ []) (knew ++ length known ∷ []) }
-    ensures offered { (account : Account) (contents : Contents) (cpu seat life : ℕ) (writes : List Write) (known more : List TrailItem) (knew : List ℕ)
+        → KeepsTrack account contents cpu life seen known mine knew
+        → KeepsTrack account contents cpu life seen (more ++ fired cpu (length knew) ∷ []) (mine ++ fired cpu (length knew) ∷ [])
+        (knew ++ length known ∷ []) }
+    ensures offered { (account : Account) (contents : Contents) (cpu seat life : ℕ) (writes : List Write) (known mine more : List TrailItem) (knew : List ℕ)
         (firing : Firing) (mask : SeatMask)
         → IsMaskAfter contents.registry writes firing mask → life_at mask seat ≡ Some life
-        → StartsWith more known → own (cpu + 1) more ≡ own (cpu + 1) known → IsLegalRow account contents more
+        → StartsWith more known → StartsWith (own (cpu + 1) known) mine → own (cpu + 1) more ≡ mine → IsLegalRow account contents more
         → phase account contents.registry (life_of_row account contents more) ≡ Active
         → is_seen_after account contents more cpu (length knew) ≡ true
         → IsLegalRow account contents (more ++ fired cpu (length knew) ∷ [])
         → GoIsPublished account contents seat life more (writes_of writes seat)
-        → KeepsTrack account contents cpu life (writes_of writes seat) known knew
-        → KeepsTrack account contents cpu life (writes_of writes seat) (more ++ fired cpu (length knew) ∷ []) (knew ++ length known ∷ []) }
-    ensures shared { (account : Account) (contents : Contents) (cpu life : ℕ) (seen all : List Write) (known trail : List TrailItem) (knew : List ℕ)
+        → KeepsTrack account contents cpu life (writes_of writes seat) known mine knew
+        → KeepsTrack account contents cpu life (writes_of writes seat) (more ++ fired cpu (length knew) ∷ [])
+        (mine ++ fired cpu (length knew) ∷ []) (knew ++ length known ∷ []) }
+    ensures shared { (account : Account) (contents : Contents) (cpu life : ℕ) (seen all : List Write) (known mine trail : List TrailItem) (knew : List ℕ)
         → IsPrefix seen all → IsInOrder account contents life all trail
-        → StartsWith trail known → own (cpu + 1) trail ≡ own (cpu + 1) known → IsLegalRow account contents trail
-        → KeepsTrack account contents cpu life seen known knew → (row : List TrailItem) × IsShared account contents cpu trail knew row }
+        → StartsWith trail known → StartsWith (own (cpu + 1) known) mine → own (cpu + 1) trail ≡ mine → IsLegalRow account contents trail
+        → KeepsTrack account contents cpu life seen known mine knew → (row : List TrailItem) × IsShared account contents cpu trail knew row }
+{}
+
+/// Law: a look names a seat only with a life that the seat has published. So where all writes of the seat begin with those of the look, they name the life, or are past it.
+pub fn named_is_published()
+    ensures begun { (contents : Contents) (seat life : ℕ) (writes all : List Write) (firing : Firing) (mask : SeatMask)
+        → IsMaskAfter contents.registry writes firing mask → life_at mask seat ≡ Some life → IsPrefix (writes_of writes seat) all
+        → stage life all ≢ never }
 {}
 
 /// Law: in a shared row each firing of the processor so far stands after all items of the trail that the processor knew, and where it is seen there, it is on the

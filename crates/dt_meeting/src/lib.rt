@@ -5,12 +5,12 @@
 //! that aren't seen at their place are left out. While both go on, the processor keeps track of each life (`specs/Tracking.antt`): its firings stand in
 //! such a row, but for those that it made once the seat's writes had come past the life (`specs/Stages.antt`). The laws here say how that
 //! goes on, one step after another, and that such a row is there in the end. A processor that holds no lock does so as far as the seat's writes are
-//! in order for the life (`specs/Order.antt`, `specs/Keeping.antt`). No code runs here, and no law speaks of threads or locks.
+//! in order for the life (`specs/Order.antt`, `specs/Keeping.antt`), and the trail has just those of its firings that its note has. No code runs here, and no law speaks of threads or locks.
 #![tactic(auto)]
 
 mod laws;
 
 pub use laws::{
-    answered_alike, go_stays_published, keeping_goes_on, nothing_is_skipped, rows_are_seen,
-    shared_rows_grow, tracking_goes_on, writes_stay_in_order,
+    answered_alike, go_stays_published, keeping_goes_on, named_is_published, nothing_is_skipped,
+    rows_are_seen, shared_rows_grow, tracking_goes_on, writes_stay_in_order,
 };

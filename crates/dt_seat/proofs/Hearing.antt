@@ -1,5 +1,5 @@
 -- What a processor knows of lives once it was told of one.
-use Rattle.std.proofs.Common.{◌≡◌, ◌≢◌, ◌<◌, ◌≤◌, ◌==◌, ◌⊎◌, ℕ, Bool, true, false, cond, List, [], ltb, eqb, refl, sym, ap, ◌∙◌, subst, arith, Option, Some, None, IfSome, inl, inr}
+use Rattle.std.proofs.Common.{◌≡◌, ◌≢◌, ◌<◌, ◌≤◌, ◌==◌, ◌⊎◌, ℕ, Bool, true, false, cond, List, [], ◌∷◌, ltb, eqb, refl, sym, ap, ◌∙◌, subst, arith, Option, Some, None, IfSome, inl, inr}
 use Rattle.std.proofs.lemmas.Bool.{ltb-true}
 use Rattle.std.proofs.lemmas.Bool.Decides.{nat_tests}
 use mathlib.Core.List.{IsPrefix}
@@ -24,6 +24,11 @@ same_known : (l : ℕ) (took : Option LastNote) (knows : List TrailItem) (one ot
 same_known l None knows one other e = e
 same_known l (Some last) knows one other e = ap (λ (items : List TrailItem). cond (last.life == l) knows items) e
 
+-- the longer of nothing and some items is the items
+longer_none : (row : List TrailItem) → longer [] row ≡ row
+longer_none [] = refl
+longer_none (x ∷ row) = refl
+
 starts_none : (row : List TrailItem) → StartsWith row []
 starts_none row = (row, refl)
 
@@ -47,6 +52,7 @@ module _ (lives : List LifeStep) (known : List LifeItem) (took : Option LastNote
     pub right : IsToldOf lives known took after
     pub hears : (l < lives_over lives) ⊎ StartsWith (known_in l took knows (Some after)) heard.knows
     pub kept : (l < lives_over lives) ⊎ StartsWith (known_in l took knows (Some after)) (known_in l took knows told)
+    pub one : (l < lives_over lives) ⊎ (known_in l took knows (Some after) ≡ longer (known_in l took knows told) heard.knows)
     pub same : (k : ℕ) → k ≢ l → (k < lives_over lives) ⊎ (known_in k took knows (Some after) ≡ known_in k took knows told)
 
   here : (t : ToldOf) → t.life ≡ l → known_in l took knows (Some t) ≡ t.told.knows
@@ -61,6 +67,7 @@ module _ (lives : List LifeStep) (known : List LifeItem) (took : Option LastNote
     hears = inr (subst (λ (row : List TrailItem). StartsWith row heard.knows) (sym (here (told_of l heard) refl)) (starts_self heard.knows));
     kept = inr (subst (λ (row : List TrailItem). StartsWith (known_in l took knows (Some (told_of l heard))) row) (sym (not_here None))
         (starts_none (known_in l took knows (Some (told_of l heard)))));
+    one = inr (here (told_of l heard) refl ∙ sym (ap (λ (row : List TrailItem). longer row heard.knows) (not_here None) ∙ longer_none heard.knows));
     same = λ k other. inr (same_known k took knows (Some (told_of l heard)) None (told_elsewhere k (told_of l heard) (λ e. other (sym e))));
   }
 
@@ -71,6 +78,9 @@ module _ (lives : List LifeStep) (known : List LifeItem) (took : Option LastNote
     kept = inr (subst (λ (row : List TrailItem). StartsWith (known_in l took knows (Some (told_of l heard))) row)
         (sym (not_here (Some t) ∙ told_elsewhere l t (λ e. omega (arith, below, e))))
         (starts_none (known_in l took knows (Some (told_of l heard)))));
+    one = inr (here (told_of l heard) refl
+        ∙ sym (ap (λ (row : List TrailItem). longer row heard.knows) (not_here (Some t) ∙ told_elsewhere l t (λ e. omega (arith, below, e)))
+        ∙ longer_none heard.knows));
     same = λ k other. by_life k other (eqb t.life k) refl;
   }
     where
@@ -86,7 +96,7 @@ module _ (lives : List LifeStep) (known : List LifeItem) (took : Option LastNote
   hears_over : (t : ToldOf) → IsToldOf lives known took t → l < t.life → Hears (Some t) t
   hears_over t h above =
       let ended : l < lives_over lives = let named = named_over lives t.life h.row h.named in omega (arith, named, above) in
-      record { right = h; hears = inl ended; kept = inl ended; same = λ k other. inr refl }
+      record { right = h; hears = inl ended; kept = inl ended; one = inl ended; same = λ k other. inr refl }
 
   hears_longer : (t : ToldOf) → IsToldOf lives known took t → t.life ≡ l → Hears (Some t) (told_of l (record { row = heard.row; knows = longer t.told.knows heard.knows }))
   hears_longer t h e =
@@ -100,6 +110,7 @@ module _ (lives : List LifeStep) (known : List LifeItem) (took : Option LastNote
         right = record { row = mine.row; named = mine.named; same_row = mine.same_row; begins = as_start whole (longer t.told.knows heard.knows) all.0; later = mine.later };
         hears = inr (subst (λ (row : List TrailItem). StartsWith row heard.knows) (sym now) (as_start (longer t.told.knows heard.knows) heard.knows all.2));
         kept = inr (subst (λ (p : List TrailItem × List TrailItem). StartsWith p.0 p.1) (λ i. (sym now i, sym (here t e) i)) (as_start (longer t.told.knows heard.knows) t.told.knows all.1));
+        one = inr (now ∙ ap (λ (row : List TrailItem). longer row heard.knows) (sym (here t e)));
         same = λ k other. inr (same_known k took knows (Some after) (Some t)
             (told_elsewhere k after (λ is. other (sym is)) ∙ sym (told_elsewhere k t (λ is. other (sym is ∙ e)))));
       }

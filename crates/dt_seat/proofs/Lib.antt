@@ -13,3 +13,6 @@ pub mod Trails
 pub mod Seats
 pub mod Owning
 pub mod Writing
+pub mod Holds
+pub mod Tells
+pub mod Meets

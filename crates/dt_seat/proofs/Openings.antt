@@ -162,6 +162,10 @@ no_start before rest item e =
     let none : 0 ≡ length ((before ++ item ∷ []) ++ rest) = ap length e in
     omega (arith, whole, part, none)
 
+-- nothing is published where there is no item
+pub nothing_published : (contents : Contents) (seat life : ℕ) (account : Account) → IsPublished contents seat life account [] []
+nothing_published contents seat life account = λ before item at mine go. absurd (no_start before at.0 item at.1)
+
 -- a session that knows nothing has published nothing
 pub notebook_opened : (contents : Contents) (seat life : ℕ) (row : Named Account) (note : Noted Account) (lines : List LineKept)
     → note ≡ noted row 0 [] → lines ≡ [] → IsNotebook contents seat life note lines None
@@ -169,5 +173,5 @@ notebook_opened contents seat life row note lines first none = record {
   first = ap (λ (n : Noted Account). n.number) first;
   own_lines = subst (λ (n : Noted Account). lines ≡ lines_from 0 n.knows) (sym first) none;
   published = subst (λ (n : Noted Account). IsPublished contents seat life n.row.account n.knows []) (sym first)
-      (λ before item at mine go. absurd (no_start before at.0 item at.1));
+      (nothing_published contents seat life note.row.account);
 }

@@ -14,7 +14,7 @@ pub noted_earlier : (life : ℕ) (took : Option LastNote) (knows : List TrailIte
 noted_earlier life None knows h = refl
 noted_earlier life (Some last) knows h = ap (λ (b : Bool). cond b knows []) (ne_eqb last.life life (λ e. absurd (omega (arith, h, e))))
 
-own_fired : (cpu place : ℕ) (row : List TrailItem) → own (cpu + 1) (row ++ fired cpu place ∷ []) ≡ own (cpu + 1) row ++ fired cpu place ∷ []
+pub own_fired : (cpu place : ℕ) (row : List TrailItem) → own (cpu + 1) (row ++ fired cpu place ∷ []) ≡ own (cpu + 1) row ++ fired cpu place ∷ []
 own_fired cpu place row =
     filter-append (λ x. whose x == cpu + 1) row (fired cpu place ∷ [])
     ∙ ap (λ (b : Bool). own (cpu + 1) row ++ cond b (fired cpu place ∷ []) []) (eq-eqb (cpu + 1) (cpu + 1) refl)

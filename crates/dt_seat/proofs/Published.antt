@@ -49,3 +49,9 @@ module _ (contents : Contents) (seat life : ℕ) (account : Account) where
       by_quota : (b : Bool) → IsPublished contents seat life account (if b then row else (row ++ item ∷ [])) writes
       by_quota true = h
       by_quota false = added row item writes h new
+
+  -- where more is published
+  pub still_published : (row : List TrailItem) (writes more : List Write) → IsPrefix writes more → IsPublished contents seat life account row writes
+      → IsPublished contents seat life account row more
+  still_published row writes more begins h = λ before item at mine go.
+      let found = h before item at mine go in (found.0, contained_still writes more found.0 begins found.1, found.2)

@@ -17,7 +17,7 @@ use Rattle.dt_life.specs.laws.Lists.{replaced}
 use Rattle.dt_life.specs.laws.Options.{if_some_map}
 use Rattle.dt_machine.specs.Registry.{Contents}
 use Rattle.dt_seat.proofs.Known.{by_note, not_by_note}
-use Rattle.dt_seat.specs.Keeps.{Carries, Followed, IsKeptFor, KeptNote, known_by, known_in, known_of, told_in}
+use Rattle.dt_seat.specs.Keeps.{Carries, Followed, IsKeptFor, KeptNote, known_by, known_in, known_of, noted_in, noted_of, over_of, told_in}
 use Rattle.dt_seat.specs.Seats.{IsRepliedTo, ComesOfFiring, IsTaken, Reaches, TrailGoesOn, after_line_of}
 use Rattle.dt_seat.specs.declared.after_line.AfterLine.{AfterLine}
 use Rattle.dt_seat.specs.declared.held.Held.TheVariants.{Kept as WasKept, Unseen}
@@ -77,6 +77,7 @@ module _ {J : Type 0} (word : TableId) (contents : Contents) (number life : ℕ)
         owner = with_items present.owner (row_offered present.owner.knows firing is_seen);
         consumer = consumer;
         is_published = present.is_published;
+        front = present.front;
       }) (slice_set keeps firing.cpu k)
   taken_offered firing is_seen consumer k trailed none right = record {
     few = h.few;
@@ -99,26 +100,36 @@ module _ {J : Type 0} (word : TableId) (contents : Contents) (number life : ℕ)
   }
 
 abbrev with_note : Followed → Noted Account → Followed
-with_note f note = record { seat = f.seat; cpu = f.cpu; took = f.took; over = f.over; note = Some note; told = f.told }
+with_note f note = record { seat = f.seat; cpu = f.cpu; took = f.took; lives = f.lives; note = Some note; told = f.told }
 
 module _ (contents : Contents) (life : ℕ) (firing : Firing) (old lent : Followed) (note : Noted Account)
-    (took : lent.took ≡ Some (last_note life note.row)) (has : lent.note ≡ Some note) (over : lent.over ≡ life)
+    (took : lent.took ≡ Some (last_note life note.row)) (has : lent.note ≡ Some note) (over : over_of lent ≡ life)
     (known : known_of life lent ≡ known_of life old) (carried : Carries old lent life) where
   elsewhere : (l : ℕ) (knows : List TrailItem) → l ≢ life → known_in l lent.took knows lent.told ≡ told_in l lent.told
   elsewhere l knows other =
       ap (λ (t : Option LastNote). known_in l t knows lent.told) took
       ∙ not_by_note life l note.row knows lent.told (λ e. other (sym e))
 
+  unnoted : (l : ℕ) (knows : List TrailItem) → l ≢ life → noted_in l lent.took knows ≡ []
+  unnoted l knows other =
+      ap (λ (t : Option LastNote). noted_in l t knows) took
+      ∙ ap (λ (b : Bool). cond b knows []) (ne_eqb life l (λ e. other (sym e)))
+
   carries_on : (new : Noted Account) → Carries old (with_note lent new) life
   carries_on new = record {
     seat = carried.seat;
     cpu = carried.cpu;
-    over = carried.over;
+    lives = carried.lives;
     same = λ l other. ⊎_elim
-        (λ (over : l < lent.over). inl over)
+        (λ (over : l < over_of lent). inl over)
         (λ (same : known_of l lent ≡ known_of l old). inr
         (elsewhere l new.knows other ∙ sym (elsewhere l (known_by lent.note) other) ∙ same))
         (carried.same l other);
+    noted = λ l other. ⊎_elim
+        (λ (over : l < over_of lent). inl over)
+        (λ (same : noted_of l lent ≡ noted_of l old). inr
+        (unnoted l new.knows other ∙ sym (unnoted l (known_by lent.note) other) ∙ same))
+        (carried.noted l other);
   }
 
   -- what was known of the life is what the note knows

@@ -120,9 +120,10 @@ module _ (seat cpu : ℕ) (share : HeldFact) (lives more : BegunLists) (note : O
     seat = refl;
     cpu = refl;
     took = refl;
-    over = over_stays lives.lists.lives more.lists.lives grown;
+    lives = grown;
     told = inl over;
     kept = inl over;
+    one = inl over;
     same = λ k other. inr refl;
     own_same = refl;
   }
@@ -137,9 +138,10 @@ module _ (seat cpu : ℕ) (share : HeldFact) (lives more : BegunLists) (note : O
     seat = refl;
     cpu = refl;
     took = refl;
-    over = over_stays lives.lists.lives more.lists.lives grown;
+    lives = grown;
     told = h.hears;
     kept = h.kept;
+    one = h.one;
     same = h.same;
     own_same = refl;
   }

@@ -21,7 +21,7 @@ use Rattle.dt_machine.specs.Registry.{Contents, firing_at}
 use Rattle.dt_proto.specs.Line.{ask_in}
 use Rattle.dt_trail.specs.Items.{TrailItem, fired, own, whose}
 use Rattle.dt_trail.specs.Known.{Known, known_row}
-use Rattle.dt_trail.specs.Limits.{block_cells, longest}
+use Rattle.dt_trail.specs.Limits.{block_cells, longest, widenings}
 use Rattle.dt_proto.specs.Asked.{form_asked}
 use Rattle.dt_proto.specs.declared.asked.Asked.{Asked}
 use Rattle.dt_proto.specs.declared.asked.Asked.TheVariants as lines
@@ -60,7 +60,7 @@ more_suffice cells more s le h = elim h [
 ]
 
 -- a trail that is shorter than the longest can be widened by a block
-pub few_widened : (trail : Known Account) → IsWide trail → trail.cells < longest → trail.widened < 15
+pub few_widened : (trail : Known Account) → IsWide trail → trail.cells < longest → trail.widened < widenings
 few_widened trail h short = omega (arith, h.blocks, short)
 
 -- the account of a trail is its row's

@@ -1,5 +1,6 @@
 -- What a seat wrote, as it publishes and withdraws, as its trail goes on, and as lives open and close.
-use Rattle.std.proofs.Common.{◌≡◌, ◌≢◌, ◌≤◌, ◌+◌, ◌==◌, ℕ, Bool, true, false, cond, List, [], ◌∷◌, ◌++◌, Option, refl, sym, ap, ◌∙◌, subst, arith, ⊎_elim, inl, inr, ◌⊎◌}
+use Rattle.std.proofs.Common.{◌≡◌, ◌≢◌, ◌≤◌, ◌+◌, ◌==◌, ℕ, Bool, true, false, cond, List, [], ◌∷◌, ◌++◌, Option, Some, None, MatchOption, refl, sym, ap, ◌∙◌, subst, arith, append-nil, ⊎_elim, inl, inr, ◌⊎◌}
+use mathlib.Core.List.{IsPrefix}
 use Rattle.std.proofs.lemmas.Bool.{ne_eqb}
 use Rattle.std.specs.Prelude.{fold}
 use Rattle.atomic_table.specs.Seated.{TableId}
@@ -16,6 +17,7 @@ use Rattle.dt_meeting.specs.laws.Staging.{stage_both}
 use Rattle.dt_publisher.specs.Publishers.{own_writes_held}
 use Rattle.dt_publisher.specs.laws.OwnWrites.{own_more}
 use Rattle.dt_seat.specs.Names.{book_name, first_book}
+use Rattle.dt_seat.specs.Publications.{writes_seen}
 use Rattle.dt_seat.specs.Written.{AreUnnamedFrom, AreWritesOf, HasNotNamed, HasWritten, MayEndWith, SaysWrites, writes_in}
 use Rattle.dt_trail.specs.Items.{StartsWith, TrailItem}
 
@@ -23,6 +25,10 @@ use Rattle.dt_trail.specs.Items.{StartsWith, TrailItem}
 pub either_way : (P : List Write → Type 0) (write : Write) (old new : List Write) → MayEndWith write old new → P old → P (old ++ write ∷ []) → P new
 either_way P write old new may as_was ended =
     ⊎_elim (λ (t : new ≡ old). subst P (sym t) as_was) (λ (t : new ≡ old ++ write ∷ []). subst P (sym t) ended) may
+
+-- what may end with a write begins with what was there
+pub may_begin : (write : Write) (old new : List Write) → MayEndWith write old new → IsPrefix old new
+may_begin write old new may = either_way (IsPrefix old) write old new may ([], append-nil old) (write ∷ [], refl)
 
 pub unnamed_more : (life : ℕ) (writes : List Write) → AreUnnamedFrom life writes → AreUnnamedFrom (life + 1) writes
 unnamed_more life writes h = λ l le. h l (omega (arith, le))
@@ -99,3 +105,17 @@ not_named word seat held e =
       says = e ∙ ap (λ (l : List Write). holding word (book_name seat) (writes_fact l)) (sym none);
       later = λ l le. ap (stage l) none;
     }
+
+-- the writes of a seat in the longer of two fronts begin what it wrote, as those in both do
+pub front_begins : (seat : ℕ) (old published front : Option (List Write)) (writes : List Write) → (front ≡ old) ⊎ (front ≡ published)
+    → IsPrefix (writes_of (writes_seen old) seat) writes → IsPrefix (writes_of (writes_seen published) seat) writes
+    → IsPrefix (writes_of (writes_seen front) seat) writes
+front_begins seat old published front writes one a b =
+    let P : Option (List Write) → Type 0 = λ f. IsPrefix (writes_of (writes_seen f) seat) writes in
+    ⊎_elim (λ (e : front ≡ old). subst P (sym e) a) (λ (e : front ≡ published). subst P (sym e) b) one
+
+-- what a seat wrote before it withdrew, or didn't
+pub retired : (seat : ℕ) (old new : List Write) (front : Option (List Write))
+    → MatchOption front (MayEndWith (withdrawn seat) old new) (λ _. new ≡ old ++ withdrawn seat ∷ []) → IsPrefix old new
+retired seat old new None h = may_begin (withdrawn seat) old new h
+retired seat old new (Some front) h = may_begin (withdrawn seat) old new (inr h)

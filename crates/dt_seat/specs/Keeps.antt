@@ -1,5 +1,6 @@
 -- What a seat keeps for each processor, and what a processor has at a seat.
-use Rattle.std.specs.Prelude.{◌≡◌, ◌≢◌, ◌≤◌, ◌<◌, ◌+◌, ◌==◌, ◌⊎◌, ℕ, List, [], Option, Some, None, IfSome, if◌then◌else◌}
+use Rattle.std.specs.Prelude.{◌≡◌, ◌≢◌, ◌<◌, ◌+◌, ◌==◌, ◌⊎◌, ℕ, List, [], Option, Some, None, IfSome, if◌then◌else◌}
+use mathlib.Core.List.{IsPrefix}
 use Rattle.atomic_table.specs.Seated.{TableId}
 use Rattle.dt_cred.specs.declared.account.Account.{Account}
 use Rattle.dt_facts.specs.Facts.{processor_fact, last_note}
@@ -27,19 +28,22 @@ kept note book = record { note = note; book = book }
 abbrev pub without_note : KeptNote → KeptNote
 without_note k = kept None k.book
 
--- what a processor has at a seat: which life's note it took last, below which number all lives are over, that note, and what it was told of
--- a later life
+-- what a processor has at a seat: which life's note it took last, which lives of the seat it knows, that note, and what it was told of a later life
 pub record Followed : Type 0 where
   pub seat : ℕ
   pub cpu : ℕ
   pub took : Option LastNote
-  pub over : ℕ
+  pub lives : List LifeStep
   pub note : Option (Noted Account)
   pub told : Option ToldOf
 
+-- below which number a processor knows that all lives are over
+abbrev pub over_of : Followed → ℕ
+over_of f = lives_over f.lives
+
 -- what a processor has at a seat where it took nothing
 abbrev pub followed_at : (seat cpu : ℕ) → Followed
-followed_at seat cpu = record { seat = seat; cpu = cpu; took = None; over = 0; note = None; told = None }
+followed_at seat cpu = record { seat = seat; cpu = cpu; took = None; lives = []; note = None; told = None }
 
 -- what a fact says that a processor took
 abbrev pub took_in : Fact → Option LastNote
@@ -91,7 +95,7 @@ pub record IsFollower (word : TableId) (cpus seat cpu life : ℕ) (share : HeldF
 
 abbrev pub followed : (seat cpu : ℕ) → HeldFact → BegunLists → Option (Noted Account) → Option ToldOf → Followed
 followed seat cpu share lives note told =
-    record { seat = seat; cpu = cpu; took = took_in share.fact; over = lives_over lives.lists.lives; note = note; told = told }
+    record { seat = seat; cpu = cpu; took = took_in share.fact; lives = lives.lists.lives; note = note; told = told }
 
 -- the items that a note knows
 abbrev pub known_by : Option (Noted Account) → List TrailItem
@@ -119,21 +123,26 @@ noted_in life (Some last) knows = if last.life == life then knows else []
 abbrev pub noted_of : ℕ → Followed → List TrailItem
 noted_of life f = noted_in life f.took (known_by f.note)
 
--- Of a life that isn't over the same is known as before, but for this one; and no fewer lives are over.
+-- Of a life that isn't over the same is known as before, and by the same note, but for this one; and no less is known of the seat's lives.
 pub record Carries (old new : Followed) (life : ℕ) : Type 0 where
   pub seat : new.seat ≡ old.seat
   pub cpu : new.cpu ≡ old.cpu
-  pub over : old.over ≤ new.over
-  pub same : (l : ℕ) → l ≢ life → (l < new.over) ⊎ (known_of l new ≡ known_of l old)
+  pub lives : IsPrefix old.lives new.lives
+  pub same : (l : ℕ) → l ≢ life → (l < over_of new) ⊎ (known_of l new ≡ known_of l old)
+  pub noted : (l : ℕ) → l ≢ life → (l < over_of new) ⊎ (noted_of l new ≡ noted_of l old)
+
+-- the same, with these lives known of the seat
+abbrev pub with_lives : Followed → List LifeStep → Followed
+with_lives f lives = record { seat = f.seat; cpu = f.cpu; took = f.took; lives = lives; note = f.note; told = f.told }
 
 -- what a processor has at a seat once it let go of its note: it took none
 abbrev pub without_taken : Followed → Followed
-without_taken f = record { seat = f.seat; cpu = f.cpu; took = None; over = f.over; note = None; told = f.told }
+without_taken f = record { seat = f.seat; cpu = f.cpu; took = None; lives = f.lives; note = None; told = f.told }
 
--- Only of lives that are over anything is forgotten, and no fewer lives are over. The note is the same, or let go.
+-- Only of lives that are over anything is forgotten, and no less is known of the seat's lives. The note is the same, or let go.
 pub record Forgets (old new : Followed) : Type 0 where
   pub seat : new.seat ≡ old.seat
   pub cpu : new.cpu ≡ old.cpu
-  pub over : old.over ≤ new.over
+  pub lives : IsPrefix old.lives new.lives
   pub note : (new.note ≡ old.note) ⊎ (new.note ≡ None)
-  pub same : (l : ℕ) → (l < new.over) ⊎ (known_of l new ≡ known_of l old)
+  pub same : (l : ℕ) → (l < over_of new) ⊎ (known_of l new ≡ known_of l old)

@@ -9,6 +9,7 @@ pub mod Publications
 pub mod Written
 pub mod Receipts
 pub mod Keeps
+pub mod Tracked
 pub mod Names
 -- Private to the proofs: what the facts of a seat's lives say, and of what its sessions knew. No promise of a call names them.
 pub mod Knowledge

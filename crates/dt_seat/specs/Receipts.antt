@@ -1,12 +1,13 @@
 -- What a session hands on, and what a processor that was told knows.
-use Rattle.std.specs.Prelude.{◌≡◌, ◌≢◌, ◌<◌, ◌≤◌, ◌+◌, ◌⊎◌, ◌==◌, ℕ, List, [], Option, Some, None, nat_lt, if◌then◌else◌}
+use Rattle.std.specs.Prelude.{◌≡◌, ◌≢◌, ◌<◌, ◌+◌, ◌⊎◌, ◌==◌, ℕ, List, [], Option, Some, None, nat_lt, if◌then◌else◌}
+use mathlib.Core.List.{IsPrefix}
 use Rattle.atomic_table.specs.Seated.{TableId}
 use Rattle.dt_chain.specs.Writes.{Write}
 use Rattle.dt_cred.specs.declared.account.Account.{Account}
 use Rattle.dt_facts.specs.Facts.{growing_lists}
 use Rattle.dt_facts.specs.Handles.{BegunLists, begun}
 use Rattle.dt_facts.specs.Lives.{IsOpenAs, items_of_life}
-use Rattle.dt_seat.specs.Keeps.{Followed, known_by, known_of}
+use Rattle.dt_seat.specs.Keeps.{Followed, known_by, known_of, over_of}
 use Rattle.dt_seat.specs.Names.{known_name, life_name}
 use Rattle.dt_seat.specs.declared.told_of.ToldOf.{ToldOf}
 use Rattle.dt_trail.specs.Items.{StartsWith, TrailItem, longer, own}
@@ -37,10 +38,11 @@ pub record HasHeard (received : Received) (old new : Followed) : Type 0 where
   pub seat : new.seat ≡ old.seat
   pub cpu : new.cpu ≡ old.cpu
   pub took : new.took ≡ old.took
-  pub over : old.over ≤ new.over
-  pub told : (received.life < new.over) ⊎ StartsWith (known_of received.life new) received.knows
-  pub kept : (received.life < new.over) ⊎ StartsWith (known_of received.life new) (known_of received.life old)
-  pub same : (l : ℕ) → l ≢ received.life → (l < new.over) ⊎ (known_of l new ≡ known_of l old)
+  pub lives : IsPrefix old.lives new.lives
+  pub told : (received.life < over_of new) ⊎ StartsWith (known_of received.life new) received.knows
+  pub kept : (received.life < over_of new) ⊎ StartsWith (known_of received.life new) (known_of received.life old)
+  pub one : (received.life < over_of new) ⊎ (known_of received.life new ≡ longer (known_of received.life old) received.knows)
+  pub same : (l : ℕ) → l ≢ received.life → (l < over_of new) ⊎ (known_of l new ≡ known_of l old)
   pub own_same : own (old.cpu + 1) (known_by new.note) ≡ own (old.cpu + 1) (known_by old.note)
 
 abbrev pub told_of : ℕ → Heard → ToldOf

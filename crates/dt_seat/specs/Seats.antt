@@ -1,5 +1,6 @@
 -- What a seat keeps under its lock, and what a processor finds there.
 use Rattle.std.specs.Prelude.{◌≡◌, ◌<◌, ◌≤◌, ◌+◌, ◌^◌, ◌++◌, ◌∷◌, ℕ, List, [], Option, Some, None, IfSome, IsSomeAnd, MatchOption, length, option_map, slice_get, if◌then◌else◌}
+use mathlib.Core.List.{IsPrefix}
 use Rattle.atomic_table.specs.Seated.{TableId}
 use Rattle.dt_chain.specs.Writes.{Write}
 use Rattle.dt_cred.specs.declared.account.Account.{Account}
@@ -13,11 +14,12 @@ use Rattle.dt_life.specs.Life.{is_over}
 use Rattle.dt_life.specs.Sees.{Sees}
 use Rattle.dt_machine.specs.Registry.{Contents}
 use Rattle.dt_proto.specs.Line.{ask_in}
-use Rattle.dt_seat.specs.Keeps.{Carries, Followed, IsKeptFor, IsLeft, KeptNote, known_of}
+use Rattle.dt_seat.specs.Keeps.{Carries, Followed, IsKeptFor, IsLeft, KeptNote, known_of, over_of, with_lives}
 use Rattle.dt_seat.specs.Knowledge.{AreUnknownFrom, SaysLives, known_items, steps_in}
 use Rattle.dt_seat.specs.Names.{known_name}
 use Rattle.dt_seat.specs.Trailed.{IsDue, IsTrailed, row_after}
-use Rattle.dt_seat.specs.Written.{HasNotNamed, HasWritten, writes_in}
+use Rattle.dt_seat.specs.Publications.{writes_seen}
+use Rattle.dt_seat.specs.Written.{HasNotNamed, HasPublished, HasWritten, writes_in}
 use Rattle.dt_seat.specs.declared.after_line.AfterLine.{AfterLine}
 use Rattle.dt_seat.specs.declared.after_line.AfterLine.TheVariants.{GoesOn, Closes, OverQuota}
 use Rattle.dt_seat.specs.declared.held.Held.{Held}
@@ -77,6 +79,11 @@ module _ {J : Type 0} where
       (HasNotNamed word number life writes)
       (λ p. HasWritten word contents number life p.account p.owner.knows writes)
 
+  -- What is known under the lock of what its session published, if one is open.
+  abbrev pub Published : Contents → (number life : ℕ) → Option (Present J) → HeldFact → Type 0
+  Published contents number life present writes =
+      IfSome present (λ p. HasPublished contents number life p.account p.owner.knows (writes_seen p.front) (writes_in writes.fact))
+
   -- what contracts see of it: which seat it is, how many sessions were there before, the trail of the present one, and what the seat wrote
   abbrev pub seated : ℕ → ℕ → Option (Present J) → HeldFact → Seated
   seated number life present writes =
@@ -102,10 +109,11 @@ pub record Reaches (contents : Contents) (account : Account) (cpu : ℕ) (known 
 pub record HasNote (life : ℕ) (f : Followed) (note : Noted Account) : Type 0 where
   pub took : f.took ≡ Some (last_note life note.row)
   pub has : f.note ≡ Some note
-  pub over_is : f.over ≡ life
+  pub over_is : over_of f ≡ life
 
 -- What comes of a firing that is offered to a life. Kept: the life's account sees it after a trail that begins with what was known, and it is
--- then the last item that is known. Unseen: it isn't seen after such a trail, which is then known. Gone: nothing changes.
+-- then the last item that is known. Unseen: it isn't seen after such a trail, which is then known. Gone: the life is over, as the processor then knows, and nothing else
+-- changes.
 abbrev pub ComesOfFiring : Contents → (life : ℕ) → Firing → Held → Followed → Followed → Type 0
 ComesOfFiring contents life firing WasKept old new =
     Carries old new life
@@ -119,7 +127,7 @@ ComesOfFiring contents life firing (Unseen known) old new =
     × Reaches contents note.row.account firing.cpu (known_of life old) note.knows
     × (Sees note.row.account contents.registry (life_of_row note.row.account contents note.knows) firing → ⊥)
     × (length note.knows ≡ known))
-ComesOfFiring contents life firing Gone old new = new ≡ old
+ComesOfFiring contents life firing Gone old new = (new ≡ with_lives old new.lives) × IsPrefix old.lives new.lives × (life < over_of new)
 
 -- the item of a firing that is kept
 abbrev pub kept_items : Held → Firing → List TrailItem

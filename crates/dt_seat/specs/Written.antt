@@ -1,7 +1,8 @@
 -- What a seat wrote into the chains: its publications and withdrawals so far, one that waits for memory too. The share that lies under the seat's lock says it.
 use Rattle.std.specs.Prelude.{◌≡◌, ◌≤◌, ◌+◌, ◌++◌, ◌∷◌, ◌⊎◌, ℕ, List, []}
 use Rattle.atomic_table.specs.Seated.{TableId}
-use Rattle.dt_chain.specs.Writes.{Write}
+use mathlib.Core.List.{IsPrefix}
+use Rattle.dt_chain.specs.Writes.{Write, writes_of}
 use Rattle.dt_cred.specs.declared.account.Account.{Account}
 use Rattle.dt_facts.specs.Facts.{lists_in, writes_fact}
 use Rattle.dt_facts.specs.Handles.{HeldFact, holding}
@@ -10,6 +11,7 @@ use Rattle.dt_machine.specs.Registry.{Contents}
 use Rattle.dt_meeting.specs.Order.{IsInOrder}
 use Rattle.dt_meeting.specs.Stages.{never, stage}
 use Rattle.dt_seat.specs.Names.{book_name}
+use Rattle.dt_seat.specs.Publications.{IsPublished}
 use Rattle.dt_trail.specs.Items.{TrailItem}
 
 -- the writes that a fact says
@@ -42,3 +44,8 @@ pub record HasWritten (word : TableId) (contents : Contents) (number life : ℕ)
 pub record HasNotNamed (word : TableId) (number life : ℕ) (writes : HeldFact) : Type 0 where
   pub says : SaysWrites word number writes
   pub later : AreUnnamedFrom life (writes_in writes.fact)
+
+-- What a seat knows of its session's publication: once the `go` was accepted these writes have it, and those of the seat among them begin what it wrote.
+pub record HasPublished (contents : Contents) (number life : ℕ) (account : Account) (trail : List TrailItem) (go writes : List Write) : Type 0 where
+  pub there : IsPublished contents number life account trail go
+  pub begins : IsPrefix (writes_of go number) writes

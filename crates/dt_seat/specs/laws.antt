@@ -1,2 +1,3 @@
 -- What holds of these, for those who prove over seats.
 pub mod Notes
+pub mod Tracked

@@ -1,7 +1,7 @@
 //! How a session asks a line of the consumer on its seat.
 ghost use Rattle.std.specs.Prelude.{◌≡◌, ◌≤◌, ◌++◌, ◌∷◌, true, false, List, [], None, IfOk, MatchOption, OnOk, OnErr, Contains};
 ghost use mathlib.Core.List.{IsPrefix};
-ghost use Rattle.dt_chain.specs.Writes.{Write as ChainWrite, withdrawn};
+ghost use Rattle.dt_chain.specs.Writes.{Write as ChainWrite, withdrawn, writes_of};
 ghost use Rattle.dt_consumer.specs.StandsFor.{StandsFor};
 ghost use Rattle.dt_cred.specs.declared.account.Account.{Account};
 ghost use Rattle.dt_legal.specs.Rows.{life_of_row};
@@ -11,13 +11,13 @@ ghost use Rattle.dt_seat.specs.Publications.{EndsWith, IsPublicationAfter, write
 ghost use Rattle.dt_seat.specs.Seats.{TrailGoesOn, IsRepliedTo};
 ghost use Rattle.dt_seat.specs.Sessions.{IsNotebook};
 ghost use Rattle.dt_seat.specs.Trailed.{IsWideEnough, IsTrailed, item_of_line, row_after};
-ghost use Rattle.dt_seat.specs.Written.{HasWritten, MayEndWith, SaysWrites, writes_in};
+ghost use Rattle.dt_seat.specs.Written.{HasPublished, HasWritten, MayEndWith, SaysWrites, writes_in};
 ghost use Rattle.dt_trail.specs.Items.{StartsWith};
 ghost use Rattle.dt_trail.specs.Known.{Grows};
 
 use crate::after_line::AfterLine;
 use crate::hub_publisher::{HubPublisher, write_down};
-use crate::notebook::{Notebook, take_down};
+use crate::notebook::{Notebook, again, take_down};
 use crate::present::Present;
 use crate::replied::Replied;
 use crate::site::HubSite;
@@ -51,6 +51,8 @@ fn publish<J: HubSite, R: Wait>(
     ensures written { HasWritten J.word J.contents number life present.now.account present.now.owner.knows writes.new }
     ensures published { IfOk result (λ front. (write : ChainWrite) × Contains front write
         × IsPublicationAfter J.contents number life present.now.account present.now.owner.knows write) }
+    ensures own { IfOk result (λ front. writes_of front number ≡ writes_in writes.new.fact) }
+    ensures more { IsPrefix (writes_in writes.old.fact) (writes_in writes.new.fact) }
 {
     let interest = present.consumer.interest()?;
     let write = Write::publication(alloc, number, life, &present.account, &interest)?;
@@ -94,7 +96,10 @@ fn make_ready<J: HubSite, R: Wait>(
     ensures room { OnOk result (is_go ≡ true → IsWideEnough J.contents present.new.account present.new.owner) }
     ensures published { IfOk result (λ front. is_go ≡ true → (write : ChainWrite) × Contains (writes_seen front) write
         × IsPublicationAfter J.contents number life present.old.account present.old.owner.knows write) }
-    ensures same { (present.new.account ≡ present.old.account) × (present.new.consumer ≡ present.old.consumer) }
+    ensures own { IfOk result (λ front. IsPrefix (writes_of (writes_seen front) number) (writes_in writes.new.fact)) }
+    ensures more { IsPrefix (writes_in writes.old.fact) (writes_in writes.new.fact) }
+    ensures same { (present.new.account ≡ present.old.account) × (present.new.consumer ≡ present.old.consumer)
+        × (present.new.front ≡ present.old.front) }
     ensures row { (present.new.owner.row ≡ present.old.owner.row) × (present.new.owner.knows ≡ present.old.owner.knows)
         × (present.old.owner.cells ≤ present.new.owner.cells) }
     ensures note { Grows note.old note.new }
@@ -125,7 +130,7 @@ fn retire<J: HubSite, R: Wait>(
     requires written { HasWritten J.word J.contents number life present.old.account present.old.owner.knows writes.old }
     ensures written { HasWritten J.word J.contents number life present.old.account present.old.owner.knows writes.new }
     ensures same { (present.new.account ≡ present.old.account) × (present.new.owner ≡ present.old.owner)
-        × (present.new.consumer ≡ present.old.consumer) }
+        × (present.new.consumer ≡ present.old.consumer) × (present.new.front ≡ present.old.front) }
     ensures withdrawn { MatchOption result (present.new.is_published ≡ present.old.is_published)
         (λ front. EndsWith (withdrawn number) front × (present.old.is_published ≡ true) × (present.new.is_published ≡ false)) }
     ensures own { MatchOption result (MayEndWith (withdrawn number) (writes_in writes.old.fact) (writes_in writes.new.fact))
@@ -186,6 +191,10 @@ pub(crate) fn ask_at<J: HubSite, R: Wait>(
     requires trailed { IsTrailed J.contents present.old.account present.old.owner present.old.consumer }
     requires row { notebook.old.note.row ≡ present.old.owner.row }
     requires notebook { IsNotebook J.contents number life notebook.old.note notebook.old.lines.items notebook.old.front }
+    requires published { HasPublished J.contents number life present.old.account present.old.owner.knows (writes_seen present.old.front)
+        (writes_in writes.old.fact) }
+    ensures published { HasPublished J.contents number life present.new.account present.new.owner.knows (writes_seen present.new.front)
+        (writes_in writes.new.fact) }
     ensures trailed { IsTrailed J.contents present.new.account present.new.owner present.new.consumer }
     ensures written { HasWritten J.word J.contents number life present.new.account present.new.owner.knows writes.new }
     ensures notebook { IsNotebook J.contents number life notebook.new.note notebook.new.lines.items notebook.new.front }
@@ -215,6 +224,7 @@ pub(crate) fn ask_at<J: HubSite, R: Wait>(
         &mut notebook.lines,
         prepared,
     );
+    take_down(&mut present.front, again(&published));
     take_down(&mut notebook.front, published);
     let withdrawn = retire(rt, facts, chains, number, life, present, writes);
     take_down(&mut notebook.front, withdrawn);

@@ -1,9 +1,13 @@
 //! What a processor has at one seat.
-ghost use Rattle.std.specs.Prelude.{◌≡◌, None, is_some};
-ghost use Rattle.dt_facts.specs.Facts.{no_lists, processor_fact};
+ghost use Rattle.std.specs.Prelude.{◌≡◌, ℕ, None, Some, is_some};
+ghost use Rattle.dt_cred.specs.declared.account.Account.{Account};
+ghost use Rattle.dt_facts.specs.Facts.{last_note, no_lists, processor_fact};
 ghost use Rattle.dt_facts.specs.Handles.{begun, holding};
+ghost use Rattle.dt_facts.specs.Lives.{IsRowOfLife};
 ghost use Rattle.dt_seat.specs.Keeps.{followed_at};
 ghost use Rattle.dt_seat.specs.Names.{known_name, life_name, processor_name};
+ghost use Rattle.dt_seat.specs.Tracked.{IsOrderly};
+ghost use Rattle.dt_trail.specs.Known.{Noted};
 
 use crate::site::HubSite;
 use crate::told_of::ToldOf;
@@ -68,6 +72,14 @@ impl<J: HubSite> Follower<J> {
         ensures { result ≡ self.now.seat }
     {
         self.seat
+    }
+
+    /// What it has is right: what was told is of a later life than the note, and the note's trail is the one that the life opened with.
+    pub(crate) fn is_right(&self)
+        ensures orderly { IsOrderly self.now }
+        ensures row { (life : ℕ) (note : Noted Account) → self.now.note ≡ Some note → self.now.took ≡ Some (last_note life note.row)
+            → IsRowOfLife life note.row self.now.lives }
+    {
     }
 
     /// Whether it has the note of a life there.

@@ -1,15 +1,16 @@
 //! Who publishes for the hub that is meant.
 ghost use Rattle.std.specs.Prelude.{◌≡◌, ◌+◌, ◌++◌, ◌∷◌, [], IfOk, IfSome, MatchResult, OnOk};
 ghost use Rattle.dt_chain.specs.Limits.{seat_count};
-ghost use Rattle.dt_chain.specs.Writes.{Write as ChainWrite, seat_of, withdrawn};
+ghost use Rattle.dt_chain.specs.Writes.{seat_of, writes_of};
 ghost use Rattle.dt_facts.specs.Handles.{making};
+ghost use mathlib.Core.List.{IsPrefix};
 ghost use Rattle.dt_publisher.specs.Publishers.{AreOwnWrites};
 ghost use Rattle.dt_seat.specs.Names.{first_book};
 ghost use Rattle.dt_seat.specs.Publications.{EndsWith};
 ghost use Rattle.dt_seat.specs.Written.{MayEndWith, SaysWrites, writes_in};
 
 use crate::site::HubSite;
-use dt_chain::{ChainReader, ChainWriter, Front, Write};
+use dt_chain::{ChainReader, ChainWriter, Front, Seat, Write};
 use dt_facts::{Facts, Maker, Share};
 use dt_publisher::Publisher;
 use std::alloc::{AllocError, Global};
@@ -87,11 +88,42 @@ impl<J: HubSite> HubPublisher<J> {
         ensures writes { SaysWrites J.word (seat_of write) writes.new }
         ensures front { IfOk result (EndsWith write) }
         ensures done { OnOk result (writes_in writes.new.fact ≡ writes_in writes.old.fact ++ write ∷ []) }
+        ensures own { IfOk result (λ front. writes_of front (seat_of write) ≡ writes_in writes.new.fact) }
         ensures may { MayEndWith write (writes_in writes.old.fact) (writes_in writes.new.fact) }
     {
         self.publisher.publish(rt, facts, writes, write)?;
         Ok(self.publisher.published())
     }
+
+    /// The writes of a front are among all writes, and the share of a seat holds those of the seat. Nothing changes.
+    fn look_up(&mut self, facts: &Facts, writes: &mut Share, seat: Seat, front: &Front<J>)
+        requires facts { facts.now ≡ J.word }
+        requires writes { SaysWrites J.word seat writes.old }
+        ensures begins { IsPrefix (writes_of front.now seat) (writes_in writes.old.fact) }
+        ensures writes { writes.new ≡ writes.old }
+    {
+        self.publisher.whole(front);
+        self.publisher.agree(facts, writes, seat);
+    }
+}
+
+/// The writes of a seat in a front begin what its share says. Nothing changes.
+pub(crate) fn among_own<J: HubSite, R: Wait>(
+    rt: &R,
+    facts: &Facts,
+    chains: &Mutex<HubPublisher<J>>,
+    writes: &mut Share,
+    seat: Seat,
+    front: &Front<J>,
+)
+    requires facts { facts.now ≡ J.word }
+    requires writes { SaysWrites J.word seat writes.old }
+    ensures begins { IsPrefix (writes_of front.now seat) (writes_in writes.old.fact) }
+    ensures writes { writes.new ≡ writes.old }
+{
+    let mut publisher = chains.lock(rt);
+    publisher.look_up(facts, writes, seat, front);
+    MutexGuard::unlock(publisher);
 }
 
 /// A seat writes: a publication, or the withdrawal of the one that it has. Answers what is then published, of which the write is the last. Its share goes on with it.
@@ -109,6 +141,7 @@ pub(crate) fn write_down<J: HubSite, R: Wait>(
     ensures writes { SaysWrites J.word (seat_of write) writes.new }
     ensures front { IfOk result (EndsWith write) }
     ensures done { OnOk result (writes_in writes.new.fact ≡ writes_in writes.old.fact ++ write ∷ []) }
+    ensures own { IfOk result (λ front. writes_of front (seat_of write) ≡ writes_in writes.new.fact) }
     ensures may { MayEndWith write (writes_in writes.old.fact) (writes_in writes.new.fact) }
 {
     let mut publisher = chains.lock(rt);

@@ -77,7 +77,7 @@ impl<J: HubSite> Keep<J> {
         ensures lent { self.new.note ≡ None }
         ensures note { follower.new.note ≡ Some (noted owner.now.row (follower.old.cpu + 1) (known_by follower.new.note)) }
         ensures took { follower.new.took ≡ Some (last_note life owner.now.row) }
-        ensures over { follower.new.over ≡ life }
+        ensures lives_known { follower.new.lives ≡ steps_in lives.old.fact }
         ensures known { known_of life follower.new ≡ known_of life follower.old }
         ensures own_known { own (follower.old.cpu + 1) (known_by follower.new.note)
             ≡ own (follower.old.cpu + 1) (noted_of life follower.old) }
@@ -112,7 +112,7 @@ impl<J: HubSite> Keep<J> {
         ensures lent { self.new.note ≡ None }
         ensures note { follower.new.note ≡ Some (noted owner.now.row (follower.old.cpu + 1) (known_by follower.new.note)) }
         ensures took { follower.new.took ≡ Some (last_note life owner.now.row) }
-        ensures over { follower.new.over ≡ life }
+        ensures lives_known { follower.new.lives ≡ steps_in lives.old.fact }
         ensures known { known_of life follower.new ≡ known_of life follower.old }
         ensures own_known { own (follower.old.cpu + 1) (known_by follower.new.note)
             ≡ own (follower.old.cpu + 1) (noted_of life follower.old) }

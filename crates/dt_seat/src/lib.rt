@@ -14,6 +14,7 @@ mod line_kept;
 mod lines;
 mod locked;
 mod making;
+mod meeting;
 mod notebook;
 mod notes;
 mod opening;

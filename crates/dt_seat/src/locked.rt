@@ -1,5 +1,9 @@
 //! What lies under the lock of a seat.
-ghost use Rattle.std.specs.Prelude.{◌≡◌, ◌<◌, ◌≤◌, ◌+◌, ◌++◌, Some, None, IfOk, IfSome, IsSome, IsSomeAnd, MatchBool, OnErr, option_map};
+ghost use Rattle.std.specs.Prelude.{◌≡◌, ◌<◌, ◌≤◌, ◌+◌, ◌++◌, ℕ, List, Some, None, IfOk, IfSome, IsSome, IsSomeAnd, MatchBool, OnErr, length, option_map};
+ghost use Rattle.dt_chain.specs.Chains.{IsMaskAfter};
+ghost use Rattle.dt_chain.specs.Seats.{life_at};
+ghost use Rattle.dt_chain.specs.Writes.{Write};
+ghost use Rattle.dt_chain.specs.declared.seat_mask.SeatMask.{SeatMask};
 ghost use Rattle.dt_legal.specs.Rows.{AreBelowPlace};
 ghost use Rattle.dt_machine.specs.Context.{IsContext};
 ghost use Rattle.dt_machine.specs.Registry.{firing_at};
@@ -7,6 +11,7 @@ ghost use Rattle.dt_seat.specs.Keeps.{Forgets, known_by, noted_of};
 ghost use Rattle.dt_seat.specs.Publications.{IsPublished};
 ghost use mathlib.Core.List.{IsPrefix};
 ghost use Rattle.dt_seat.specs.Seats.{IsRepliedTo, ComesOfFiring, StaysOn, kept_items};
+ghost use Rattle.dt_seat.specs.Tracked.{AreTracked, counts_with};
 ghost use Rattle.dt_seat.specs.Trailed.{item_of_line};
 ghost use Rattle.dt_seat.specs.Written.{AreWritesOf};
 ghost use Rattle.dt_trail.specs.Items.{StartsWith, own};
@@ -14,14 +19,15 @@ ghost use Rattle.dt_trail.specs.Items.{StartsWith, own};
 use crate::asking::ask_at;
 use crate::follower::Follower;
 use crate::held::Held;
-use crate::hub_publisher::HubPublisher;
+use crate::hub_publisher::{HubPublisher, among_own};
 use crate::idle::Idle;
 use crate::keep::Keep;
+use crate::notebook::hear;
 use crate::present::{Present, hold_at};
 use crate::replied::Replied;
 use crate::session::Session;
 use crate::site::HubSite;
-use dt_chain::Seat;
+use dt_chain::{ChainReader, Seat};
 use dt_facts::{Book, Facts, Share};
 use dt_machine::{Context, Machine};
 use dt_proto::Asked;
@@ -45,14 +51,15 @@ pub struct LockedSeat<J: HubSite> {
 }
 
 impl<J: HubSite> Model for LockedSeat<J> {
-    ghost use Rattle.dt_seat.specs.Seats.{Seated, IsSeat, Wrote, seated};
+    ghost use Rattle.dt_seat.specs.Seats.{Seated, IsSeat, Published, Wrote, seated};
 
     ghost Value = { Seated };
 
     ghost view = { λ l. seated l.number l.life l.present l.writes };
 
     ghost invariant = { λ l. IsSeat J.word J.contents l.number l.life l.present l.lives l.free l.keeps.items
-        × Wrote J.word J.contents l.number l.life l.present l.writes };
+        × Wrote J.word J.contents l.number l.life l.present l.writes
+        × Published J.contents l.number l.life l.present l.writes };
 }
 
 impl<J: HubSite> LockedSeat<J> {
@@ -130,14 +137,18 @@ impl<J: HubSite> LockedSeat<J> {
         result
     }
 
-    /// A processor offers a firing of its script to a life of the seat. Its note, if it has one, has no firing of it at this place or a later one.
-    pub fn hold(
+    /// A processor offers a firing of its script to a life of the seat that its look has named. Its note, if it has one, has no firing of it at this place or a later
+    /// one. Its reader is told of the publication of the session's `go`, once that was accepted.
+    pub fn hold<R: Wait>(
         &mut self,
+        rt: &R,
         machine: &Machine,
         facts: &Facts,
+        chains: &Mutex<HubPublisher<J>>,
         life: u64,
         context: &Context,
         follower: &mut Follower<J>,
+        reader: &mut ChainReader<J>,
     ) -> Held
         requires machine { machine.now ≡ J.contents }
         requires facts { facts.now ≡ J.word }
@@ -146,20 +157,36 @@ impl<J: HubSite> LockedSeat<J> {
             ≡ Some context.now.firing.now }
         requires follower { (follower.old.seat ≡ self.old.number) × (follower.old.cpu ≡ context.now.firing.now.cpu) }
         requires below { AreBelowPlace context.now.firing.now.cpu context.now.firing.now.place (known_by follower.old.note) }
+        requires named { (mask : SeatMask) × IsMaskAfter J.contents.registry reader.old.seen context.now.firing.now mask
+            × (life_at mask self.old.number ≡ Some life) }
+        requires reader { IsPrefix reader.old.seen reader.old.told }
         ensures held { ComesOfFiring J.contents life context.now.firing.now result follower.old follower.new }
         ensures own { own (context.now.firing.now.cpu + 1) (noted_of life follower.new)
             ≡ own (context.now.firing.now.cpu + 1) (noted_of life follower.old) ++ kept_items result context.now.firing.now }
+        ensures tracked { (knew : ℕ → List ℕ) → ((l : ℕ) → length (knew l) ≡ context.now.firing.now.place)
+            → AreTracked J.contents reader.old.seen knew follower.old
+            → AreTracked J.contents reader.new.told (counts_with knew follower.old) follower.new }
+        ensures reader { (reader.new.seen ≡ reader.old.seen) × IsPrefix reader.old.told reader.new.told }
         ensures seat { (self.new.number ≡ self.old.number) × (self.new.life ≡ self.old.life) }
         ensures trail { StaysOn self.old.trail self.new.trail }
         ensures writes { self.new.writes ≡ self.old.writes }
     {
-        if self.life != life {
+        if life < self.life {
+            facts.catch_up(&mut self.lives, &mut follower.lives);
+            follower.is_right();
             return Held::Gone;
         }
+        if life > self.life || self.present.is_none() {
+            // no look names a life that wasn't open yet, as the list of all writes shows
+            let seen = reader.seen();
+            among_own(rt, facts, chains, &mut self.writes, self.number, &seen);
+            unreachable!()
+        }
         let Some(present) = &mut self.present else {
-            return Held::Gone;
+            unreachable!()
         };
-        hold_at(
+        hear(reader, &present.front);
+        let held = hold_at(
             machine,
             facts,
             life,
@@ -168,7 +195,9 @@ impl<J: HubSite> LockedSeat<J> {
             &mut self.keeps,
             context,
             follower,
-        )
+        );
+        follower.is_right();
+        held
     }
 
     /// A processor lets go of its note of a life of the seat that is over, and so of that life's trail, whose memory is given back once nobody has it. It forgets
@@ -178,6 +207,8 @@ impl<J: HubSite> LockedSeat<J> {
         requires follower { (follower.old.seat ≡ self.old.number) × (follower.old.cpu < J.contents.registry.cpus) }
         ensures follower { Forgets follower.old follower.new }
         ensures gone { IfSome follower.new.took (λ last. self.old.life ≤ last.life) }
+        ensures tracked { (writes : List Write) (knew : ℕ → List ℕ) → AreTracked J.contents writes knew follower.old
+            → AreTracked J.contents writes knew follower.new }
         ensures seat { self.new ≡ self.old }
     {
         if follower.note.is_none() || follower.life >= self.life {

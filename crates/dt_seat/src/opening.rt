@@ -61,6 +61,7 @@ impl<J: HubSite> LockedSeat<J> {
             owner,
             consumer,
             is_published: false,
+            front: None,
         });
         Ok(Session {
             seat: self.number,

@@ -1,5 +1,6 @@
 //! The session on a seat, as long as it is open.
 ghost use Rattle.std.specs.Prelude.{◌≡◌, ◌+◌, ◌++◌, Some};
+ghost use Rattle.dt_facts.specs.Facts.{last_note};
 ghost use Rattle.dt_legal.specs.Rows.{AreBelowPlace};
 ghost use Rattle.dt_machine.specs.Context.{IsContext};
 ghost use Rattle.dt_machine.specs.Registry.{firing_at};
@@ -12,6 +13,7 @@ use crate::held::Held;
 use crate::keep::Keep;
 use crate::site::HubSite;
 use crate::trailed::{Owner, offer};
+use dt_chain::Front;
 use dt_consumer::Consumer;
 use dt_cred::Account;
 use dt_facts::{Book, Facts};
@@ -25,6 +27,8 @@ pub(crate) struct Present<J: HubSite> {
     pub(crate) consumer: Consumer,
     /// Whether its interest may stand in the chains.
     pub(crate) is_published: bool,
+    /// The writes that were published as its `go` was accepted, once it was.
+    pub(crate) front: Option<Front<J>>,
 }
 
 /// A processor offers a firing to the session, having taken its note of the trail.
@@ -51,7 +55,10 @@ pub(crate) fn hold_at<J: HubSite>(
     ensures own { own (context.now.firing.now.cpu + 1) (noted_of life follower.new)
         ≡ own (context.now.firing.now.cpu + 1) (noted_of life follower.old) ++ kept_items result context.now.firing.now }
     ensures trail { TrailGoesOn present.old.owner present.new.owner }
-    ensures account { present.new.account ≡ present.old.account }
+    ensures kept { present.new.owner.knows ≡ present.old.owner.knows ++ kept_items result context.now.firing.now }
+    ensures whole { known_by follower.new.note ≡ present.new.owner.knows }
+    ensures took { follower.new.took ≡ Some (last_note life present.old.owner.row) }
+    ensures same { (present.new.account ≡ present.old.account) × (present.new.front ≡ present.old.front) }
 {
     let keep = &mut keeps[context.firing.cpu as usize];
     keep.lend(facts, lives, life, &present.owner, follower);

@@ -1,12 +1,16 @@
 //! What a session hands on.
 ghost use Rattle.std.specs.Prelude.{◌≡◌};
+ghost use Rattle.dt_legal.specs.Rows.{IsLegalRow};
 ghost use Rattle.dt_seat.specs.Publications.{IsPublished, writes_seen};
 
+use crate::notebook::again;
 use crate::session::Session;
 use crate::site::HubSite;
+use crate::trailed::Note;
 use dt_chain::{Front, Seat};
 use dt_cred::Account;
 use dt_facts::{Beginning, Facts};
+use dt_legal::Traced;
 use dt_trail::Told;
 use std::marker::Model;
 
@@ -25,24 +29,29 @@ pub struct Receipt<J: HubSite> {
 }
 
 impl<J: HubSite> Model for Receipt<J> {
-    ghost use Rattle.dt_seat.specs.Publications.{writes_seen};
+    ghost use Rattle.dt_legal.specs.Rows.{IsLegalRow};
+    ghost use Rattle.dt_seat.specs.Publications.{IsPublished, writes_seen};
     ghost use Rattle.dt_seat.specs.Receipts.{Received, IsReceipt};
 
     ghost Value = { Received };
 
     ghost view = { λ r. record { seat = r.seat; life = r.life; account = r.account; knows = r.told.knows; published = writes_seen r.front } };
 
-    ghost invariant = { λ r. IsReceipt J.word J.contents.registry.cpus r.seat r.life r.account r.told r.lives r.known };
+    ghost invariant = { λ r. IsReceipt J.word J.contents.registry.cpus r.seat r.life r.account r.told r.lives r.known
+        × IsLegalRow r.account J.contents r.told.knows
+        × IsPublished J.contents r.seat r.life r.account r.told.knows (writes_seen r.front) };
 }
 
-/// The same writes once more.
-fn again<J: HubSite>(front: &Option<Front<J>>) -> Option<Front<J>>
-    ensures { result ≡ front.now }
+/// What a note knows, to be told, which is legal. The note is as it was.
+fn told_by<J: Traced>(note: &mut Note<J>) -> Told<Account>
+    ensures told { (result.row ≡ note.old.row.id) × (result.knows ≡ note.old.knows) }
+    ensures legal { IsLegalRow note.old.row.account J.contents result.knows }
+    ensures same { note.new ≡ note.old }
 {
-    match front {
-        Some(front) => Some(front.again()),
-        None => None,
-    }
+    // a note that learns says that what it knows is legal, and this one learns nothing that it doesn't know
+    let own = note.told();
+    note.learn(own);
+    note.told()
 }
 
 impl<J: HubSite> Receipt<J> {
@@ -76,7 +85,7 @@ impl<J: HubSite> Session<J> {
             seat: self.seat,
             life: self.life,
             account: self.account,
-            told: notebook.note.told(),
+            told: told_by(&mut notebook.note),
             lives: facts.again(&mut self.lives),
             known: self.known.begin(facts),
             front: again(&notebook.front),

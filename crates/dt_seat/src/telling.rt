@@ -1,6 +1,12 @@
 //! What a processor is told of a session.
-ghost use Rattle.std.specs.Prelude.{◌≡◌, IfSome};
+ghost use Rattle.std.specs.Prelude.{◌≡◌, ℕ, List, IfSome};
+ghost use mathlib.Core.List.{IsPrefix};
+ghost use Rattle.dt_chain.specs.Writes.{Write};
+ghost use Rattle.dt_cred.specs.declared.account.Account.{Account};
+ghost use Rattle.dt_facts.specs.Lives.{IsRowOfLife};
 ghost use Rattle.dt_seat.specs.Receipts.{HasHeard, later_told};
+ghost use Rattle.dt_seat.specs.Tracked.{AreTracked};
+ghost use Rattle.dt_trail.specs.declared.law.Named.{Named};
 
 use crate::follower::Follower;
 use crate::receipt::Receipt;
@@ -36,7 +42,20 @@ impl<J: HubSite> Follower<J> {
     pub fn tell(&mut self, facts: &Facts, receipt: Receipt<J>)
         requires facts { facts.now ≡ J.word }
         requires seat { receipt.seat ≡ self.old.seat }
-        ensures { HasHeard receipt self.old self.new }
+        ensures heard { HasHeard receipt self.old self.new }
+        ensures tracked { (writes : List Write) (knew : ℕ → List ℕ) → IsPrefix receipt.published writes
+            → AreTracked J.contents writes knew self.old → AreTracked J.contents writes knew self.new }
+    {
+        self.take_in(facts, receipt);
+        self.is_right();
+    }
+
+    /// The same, without what is kept track of.
+    fn take_in(&mut self, facts: &Facts, receipt: Receipt<J>)
+        requires facts { facts.now ≡ J.word }
+        requires seat { receipt.seat ≡ self.old.seat }
+        ensures heard { HasHeard receipt self.old self.new }
+        ensures whose { (row : Named Account) × IsRowOfLife receipt.life row self.new.lives × (receipt.account ≡ row.account) }
     {
         let Receipt {
             seat: _,

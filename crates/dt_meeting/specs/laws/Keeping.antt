@@ -23,6 +23,7 @@ use Rattle.dt_meeting.specs.laws.Announcing.{announced_fired, announced_on, publ
 use Rattle.dt_meeting.specs.laws.Going.{HasGone, active_has_gone}
 use Rattle.dt_meeting.specs.laws.Lasting.{ecbs_since}
 use Rattle.dt_meeting.specs.laws.Looking.{look_passes, mask_names}
+use Rattle.dt_meeting.specs.laws.Owning.{own_between, own_starts}
 use Rattle.dt_meeting.specs.laws.Seen.{unseen_after_to}
 use Rattle.dt_meeting.specs.laws.Sharing.{shared_late}
 use Rattle.dt_meeting.specs.laws.Staging.{prefix_self, prefix_trans, stage_past}
@@ -35,40 +36,45 @@ stopped_off p is e = let bad : false ≡ true = sym (ap is_stopped e) ∙ is in 
 
 module _ (account : Account) (contents : Contents) where
   -- nothing is known yet
-  pub keeps_new : (cpu life : ℕ) (seen : List Write) → KeepsTrack account contents cpu life seen [] []
-  keeps_new cpu life seen writes trail b t same legal order = tracks_new account contents cpu life seen
+  pub keeps_new : (cpu life : ℕ) (seen : List Write) (mine : List TrailItem) → KeepsTrack account contents cpu life seen [] mine []
+  keeps_new cpu life seen mine writes trail b t same legal order = tracks_new account contents cpu life seen
 
   -- more writes are seen
-  pub keeps_writes : (cpu life : ℕ) (seen more : List Write) (known : List TrailItem) (knew : List ℕ) → IsPrefix seen more
-      → KeepsTrack account contents cpu life seen known knew → KeepsTrack account contents cpu life more known knew
-  keeps_writes cpu life seen more known knew begins h writes trail b t same legal order =
+  pub keeps_writes : (cpu life : ℕ) (seen more : List Write) (known mine : List TrailItem) (knew : List ℕ) → IsPrefix seen more
+      → KeepsTrack account contents cpu life seen known mine knew → KeepsTrack account contents cpu life more known mine knew
+  keeps_writes cpu life seen more known mine knew begins h writes trail b t same legal order =
       let tracks = h writes trail (prefix_trans seen more writes begins b) t same legal order in
       tracks_writes account contents cpu life seen more known knew begins
       (announced_on account contents life seen more writes known trail begins b t legal order tracks.announced) tracks
 
-  -- more items are known
-  pub keeps_known : (cpu seat life : ℕ) (seen : List Write) (known more : List TrailItem) (knew : List ℕ)
-      → StartsWith more known → own (cpu + 1) more ≡ own (cpu + 1) known → IsLegalRow account contents more
+  -- More items are known. They may have further firings of the processor: then there is no trail to speak of.
+  pub keeps_known : (cpu seat life : ℕ) (seen : List Write) (known mine more : List TrailItem) (knew : List ℕ)
+      → StartsWith more known → StartsWith (own (cpu + 1) known) mine → IsLegalRow account contents more
       → GoIsPublished account contents seat life more seen
-      → KeepsTrack account contents cpu life seen known knew → KeepsTrack account contents cpu life seen more knew
-  keeps_known cpu seat life seen known more knew a alike whole told h writes trail b t same legal order =
+      → KeepsTrack account contents cpu life seen known mine knew → KeepsTrack account contents cpu life seen more mine knew
+  keeps_known cpu seat life seen known mine more knew a its whole told h writes trail b t same legal order =
+      let later = starts_trans trail more known t a in
+      let alike : own (cpu + 1) more ≡ own (cpu + 1) known =
+      own_between (cpu + 1) trail more mine t (own_starts (cpu + 1) more known mine a its) same
+      ∙ sym (own_between (cpu + 1) trail known mine later its same) in
       tracks_known account contents cpu life seen known more knew a alike whole
       (published_is_announced account contents seat life seen writes more trail b t legal order told)
-      (h writes trail b (starts_trans trail more known t a) (same ∙ alike) legal order)
+      (h writes trail b later same legal order)
 
   -- the processor fires, and its writes don't offer the firing to the life
-  pub keeps_passed : (cpu life : ℕ) (seen : List Write) (known : List TrailItem) (knew : List ℕ)
-      → IsPassedBy account contents cpu (length knew) (stage life seen) → KeepsTrack account contents cpu life seen known knew
-      → KeepsTrack account contents cpu life seen known (knew ++ length known ∷ [])
-  keeps_passed cpu life seen known knew passed h writes trail b t same legal order =
+  pub keeps_passed : (cpu life : ℕ) (seen : List Write) (known mine : List TrailItem) (knew : List ℕ)
+      → IsPassedBy account contents cpu (length knew) (stage life seen) → KeepsTrack account contents cpu life seen known mine knew
+      → KeepsTrack account contents cpu life seen known mine (knew ++ length known ∷ [])
+  keeps_passed cpu life seen known mine knew passed h writes trail b t same legal order =
       tracks_passed account contents cpu life seen known knew passed (h writes trail b t same legal order)
 
   -- the processor fires, and a look after these writes doesn't name the seat with the life
-  pub keeps_looked : (cpu seat life : ℕ) (writes : List Write) (known : List TrailItem) (knew : List ℕ) (firing : Firing) (mask : SeatMask)
+  pub keeps_looked : (cpu seat life : ℕ) (writes : List Write) (known mine : List TrailItem) (knew : List ℕ)
+      (firing : Firing) (mask : SeatMask)
       → firing_at contents.scripts cpu (length knew) ≡ Some firing → IsMaskAfter contents.registry writes firing mask
-      → life_at mask seat ≢ Some life → KeepsTrack account contents cpu life (writes_of writes seat) known knew
-      → KeepsTrack account contents cpu life (writes_of writes seat) known (knew ++ length known ∷ [])
-  keeps_looked cpu seat life writes known knew firing mask found look unnamed h all trail b t same legal order =
+      → life_at mask seat ≢ Some life → KeepsTrack account contents cpu life (writes_of writes seat) known mine knew
+      → KeepsTrack account contents cpu life (writes_of writes seat) known mine (knew ++ length known ∷ [])
+  keeps_looked cpu seat life writes known mine knew firing mask found look unnamed h all trail b t same legal order =
       tracks_passed account contents cpu life (writes_of writes seat) known knew
       (look_passes account contents cpu (length knew) life seat writes firing mask found look unnamed
       (λ before at by probes p. order.its_account before at by probes
@@ -76,24 +82,27 @@ module _ (account : Account) (contents : Contents) where
       (h all trail b t same legal order)
 
   -- the life is over, and all writes of the seat are seen, which have come past it
-  pub keeps_gone : (cpu life : ℕ) (seen whole : List Write) (known : List TrailItem) (knew : List ℕ) → IsPrefix seen whole
-      → stage life whole ≡ past → KeepsTrack account contents cpu life seen known knew
-      → KeepsTrack account contents cpu life whole known (knew ++ length known ∷ [])
-  keeps_gone cpu life seen whole known knew begins is h =
-      keeps_passed cpu life whole known knew (subst (IsPassedBy account contents cpu (length knew)) (sym is) tt)
-      (keeps_writes cpu life seen whole known knew begins h)
+  pub keeps_gone : (cpu life : ℕ) (seen whole : List Write) (known mine : List TrailItem) (knew : List ℕ) → IsPrefix seen whole
+      → stage life whole ≡ past → KeepsTrack account contents cpu life seen known mine knew
+      → KeepsTrack account contents cpu life whole known mine (knew ++ length known ∷ [])
+  keeps_gone cpu life seen whole known mine knew begins is h =
+      keeps_passed cpu life whole known mine knew (subst (IsPassedBy account contents cpu (length knew)) (sym is) tt)
+      (keeps_writes cpu life seen whole known mine knew begins h)
 
   -- the firing is offered after this trail, and isn't seen there
-  pub keeps_unseen : (cpu seat life : ℕ) (seen : List Write) (known more : List TrailItem) (knew : List ℕ)
-      → StartsWith more known → own (cpu + 1) more ≡ own (cpu + 1) known → IsLegalRow account contents more
+  pub keeps_unseen : (cpu seat life : ℕ) (seen : List Write) (known mine more : List TrailItem) (knew : List ℕ)
+      → StartsWith more known → StartsWith (own (cpu + 1) known) mine → own (cpu + 1) more ≡ mine → IsLegalRow account contents more
       → is_seen_after account contents more cpu (length knew) ≡ false → GoIsPublished account contents seat life more seen
-      → KeepsTrack account contents cpu life seen known knew
-      → KeepsTrack account contents cpu life seen more (knew ++ length known ∷ [])
-  keeps_unseen cpu seat life seen known more knew a alike whole unseen told h writes trail b t same legal order =
+      → KeepsTrack account contents cpu life seen known mine knew
+      → KeepsTrack account contents cpu life seen more mine (knew ++ length known ∷ [])
+  keeps_unseen cpu seat life seen known mine more knew a its just whole unseen told h writes trail b t same legal order =
       by_case (stage life seen) refl
     where
+      alike : own (cpu + 1) more ≡ own (cpu + 1) known
+      alike = just ∙ sym (own_between (cpu + 1) more known mine a its just)
+
       tracks : Tracks account contents cpu life seen known knew
-      tracks = h writes trail b (starts_trans trail more known t a) (same ∙ alike) legal order
+      tracks = h writes trail b (starts_trans trail more known t a) same legal order
 
       announced : GoIsAnnounced account contents more (stage life seen)
       announced = published_is_announced account contents seat life seen writes more trail b t legal order told
@@ -116,19 +125,22 @@ module _ (account : Account) (contents : Contents) where
   quiet trail cpu off place = unseen_after_to account contents trail cpu place (λ firing found sees. off sees.active)
 
   -- the firing is offered after this trail, and kept, and all writes of the seat are in order then
-  pub keeps_kept : (cpu seat life : ℕ) (seen all : List Write) (known more : List TrailItem) (knew : List ℕ)
+  pub keeps_kept : (cpu seat life : ℕ) (seen all : List Write) (known mine more : List TrailItem) (knew : List ℕ)
       → IsPrefix seen all → IsInOrder account contents life all more
-      → StartsWith more known → own (cpu + 1) more ≡ own (cpu + 1) known → IsLegalRow account contents more
+      → StartsWith more known → StartsWith (own (cpu + 1) known) mine → own (cpu + 1) more ≡ mine → IsLegalRow account contents more
       → is_seen_after account contents more cpu (length knew) ≡ true
       → IsLegalRow account contents (more ++ fired cpu (length knew) ∷ [])
       → GoIsPublished account contents seat life more seen
-      → KeepsTrack account contents cpu life seen known knew
-      → KeepsTrack account contents cpu life seen (more ++ fired cpu (length knew) ∷ []) (knew ++ length known ∷ [])
-  keeps_kept cpu seat life seen all known more knew begins now a alike whole seen_there longer told h writes trail b t same legal order =
-      tracks_kept account contents cpu life seen known more knew still a alike whole seen_there longer
+      → KeepsTrack account contents cpu life seen known mine knew
+      → KeepsTrack account contents cpu life seen (more ++ fired cpu (length knew) ∷ []) (mine ++ fired cpu (length knew) ∷ [])
+      (knew ++ length known ∷ [])
+  keeps_kept cpu seat life seen all known mine more knew begins now a its just whole seen_there longer told h
+      writes trail b t same legal order =
+      tracks_kept account contents cpu life seen known more knew still a
+      (just ∙ sym (own_between (cpu + 1) more known mine a its just)) whole seen_there longer
       (announced_fired account contents more (stage life seen) cpu (length knew)
       (published_is_announced account contents seat life seen all more more begins ([], sym (append-nil more)) whole now told))
-      (h all more begins a alike whole now)
+      (h all more begins a just whole now)
     where
       still : stage life seen ≢ past
       still e =
@@ -161,31 +173,34 @@ module _ (account : Account) (contents : Contents) where
           ∙ sym gone.same
 
   -- the firing is offered after this trail, as a look names the seat with the life, and kept
-  pub keeps_offered : (cpu seat life : ℕ) (writes : List Write) (known more : List TrailItem) (knew : List ℕ) (firing : Firing) (mask : SeatMask)
+  pub keeps_offered : (cpu seat life : ℕ) (writes : List Write) (known mine more : List TrailItem) (knew : List ℕ)
+      (firing : Firing) (mask : SeatMask)
       → IsMaskAfter contents.registry writes firing mask → life_at mask seat ≡ Some life
-      → StartsWith more known → own (cpu + 1) more ≡ own (cpu + 1) known → IsLegalRow account contents more
+      → StartsWith more known → StartsWith (own (cpu + 1) known) mine → own (cpu + 1) more ≡ mine → IsLegalRow account contents more
       → phase account contents.registry (life_of_row account contents more) ≡ Active
       → is_seen_after account contents more cpu (length knew) ≡ true
       → IsLegalRow account contents (more ++ fired cpu (length knew) ∷ [])
       → GoIsPublished account contents seat life more (writes_of writes seat)
-      → KeepsTrack account contents cpu life (writes_of writes seat) known knew
-      → KeepsTrack account contents cpu life (writes_of writes seat) (more ++ fired cpu (length knew) ∷ []) (knew ++ length known ∷ [])
-  keeps_offered cpu seat life writes known more knew firing mask look named_there a alike whole on seen_there longer told h all trail b t same legal order =
+      → KeepsTrack account contents cpu life (writes_of writes seat) known mine knew
+      → KeepsTrack account contents cpu life (writes_of writes seat) (more ++ fired cpu (length knew) ∷ [])
+      (mine ++ fired cpu (length knew) ∷ []) (knew ++ length known ∷ [])
+  keeps_offered cpu seat life writes known mine more knew firing mask look named_there a its just whole on seen_there longer told h
+      all trail b t same legal order =
       let seen = writes_of writes seat in
       let still = mask_names contents life seat writes firing mask look named_there
       (λ before write p. order.once before write (prefix_trans (before ++ write ∷ []) seen all p b)) in
       let there = starts_trans trail (more ++ fired cpu (length knew) ∷ []) more t (fired cpu (length knew) ∷ [], refl) in
-      keeps_kept cpu seat life seen seen known more knew (prefix_self seen)
+      keeps_kept cpu seat life seen seen known mine more knew (prefix_self seen)
       (earlier_in_order life seen all more trail b still there whole legal on order)
-      a alike whole seen_there longer told h all trail b t same legal order
+      a its just whole seen_there longer told h all trail b t same legal order
 
   -- under both locks, all writes of the seat and its trail are at hand
-  pub keeps_shared : (cpu life : ℕ) (seen all : List Write) (known trail : List TrailItem) (knew : List ℕ)
+  pub keeps_shared : (cpu life : ℕ) (seen all : List Write) (known mine trail : List TrailItem) (knew : List ℕ)
       → IsPrefix seen all → IsInOrder account contents life all trail
-      → StartsWith trail known → own (cpu + 1) trail ≡ own (cpu + 1) known → IsLegalRow account contents trail
-      → KeepsTrack account contents cpu life seen known knew
+      → StartsWith trail known → StartsWith (own (cpu + 1) known) mine → own (cpu + 1) trail ≡ mine → IsLegalRow account contents trail
+      → KeepsTrack account contents cpu life seen known mine knew
       → (row : List TrailItem) × IsShared account contents cpu trail knew row
-  keeps_shared cpu life seen all known trail knew begins now a alike legal h =
+  keeps_shared cpu life seen all known mine trail knew begins now a its just legal h =
       ⊎_elim
       (λ (e : tracks.late ≡ []). (
         tracks.shared ++ a.0,
@@ -200,7 +215,9 @@ module _ (account : Account) (contents : Contents) where
       tracks.over
     where
       tracks : Tracks account contents cpu life seen known knew
-      tracks = h all trail begins a alike legal now
+      tracks = h all trail begins a just legal now
 
       early : IsShared account contents cpu trail tracks.early (tracks.shared ++ a.0)
-      early = grown account contents cpu life seen known trail knew tracks a alike legal
+      early =
+          grown account contents cpu life seen known trail knew tracks a
+          (just ∙ sym (own_between (cpu + 1) trail known mine a its just)) legal

@@ -17,7 +17,7 @@ use Rattle.dt_machine.specs.Shown.{IsShown}
 use Rattle.dt_meeting.specs.Order.{IsOfOthers}
 use Rattle.dt_meeting.specs.Stages.{Stage, named, past, never, stage}
 use Rattle.dt_meeting.specs.Tracking.{IsPassedBy}
-use Rattle.dt_meeting.specs.laws.Staging.{named_by_last, prefix_self, unnamed_by_last}
+use Rattle.dt_meeting.specs.laws.Staging.{IsBegun, named_by_last, prefix_self, stage_begun, unnamed_by_last}
 
 same_probes : (some other : List Bool) → named some ≡ named other → some ≡ other
 same_probes some other e = cc e
@@ -149,6 +149,53 @@ published_last seat (write ∷ earlier) p e =
         passed rest_of (of_seat false mine ∙ append-nil older)
         (ap (λ (v : Write). published_on (v ∷ earlier) seat) is ∙ ap (λ (b : Bool). cond b None (published_on earlier seat)) off)
 
+-- A look names a seat with a life: the seat's last write is a publication of the life.
+mask_publishes : (contents : Contents) (life seat : ℕ) (writes : List Write) (firing : Firing) (mask : SeatMask)
+    → IsMaskAfter contents.registry writes firing mask → life_at mask seat ≡ Some life
+    → (before : List Write) × (by : Account) × (probes : List Bool)
+    × (writes_of writes seat ≡ before ++ published seat life by probes ∷ [])
+mask_publishes contents life seat writes firing mask look named_there =
+    by_option (published_on (reverse writes) seat) refl ((look.exactly seat life).0 named_there)
+  where
+    Shows : Option Published → Type 0
+    Shows o = IsSomeAnd o (λ publication. (publication.life ≡ life) × NamesFiring contents.registry publication firing)
+
+    Ends : Type 0
+    Ends = (before : List Write) × (by : Account) × (probes : List Bool)
+        × (writes_of writes seat ≡ before ++ published seat life by probes ∷ [])
+
+    mine : writes_of (reverse (reverse writes)) seat ≡ writes_of writes seat
+    mine = ap (λ (l : List Write). writes_of l seat) (reverse-reverse writes)
+
+    by_option : (o : Option Published) → published_on (reverse writes) seat ≡ o → Shows o → Ends
+    by_option None e h = absurd h
+    by_option (Some p) e h =
+        let last = published_last seat (reverse writes) p e in (
+          last.0,
+          p.account,
+          p.probes,
+          sym mine ∙ last.1 ∙ ap (λ (l : ℕ). last.0 ++ published seat l p.account p.probes ∷ []) h.0,
+        )
+
+-- A look names a seat with a life: all writes of the seat, which begin with the look's, name it or are past it.
+pub mask_is_begun : (contents : Contents) (seat life : ℕ) (writes all : List Write) (firing : Firing) (mask : SeatMask)
+    → IsMaskAfter contents.registry writes firing mask → life_at mask seat ≡ Some life → IsPrefix (writes_of writes seat) all
+    → stage life all ≢ never
+mask_is_begun contents seat life writes all firing mask look named_there begins unnamed =
+    subst IsBegun unnamed (stage_begun life (writes_of writes seat) all begins (subst IsBegun (sym (ap (stage life) last.3)) begun))
+  where
+    last : (before : List Write) × (by : Account) × (probes : List Bool)
+        × (writes_of writes seat ≡ before ++ published seat life by probes ∷ [])
+    last = mask_publishes contents life seat writes firing mask look named_there
+
+    begun : IsBegun (stage life (last.0 ++ published seat life last.1 last.2 ∷ []))
+    begun =
+        ⊎_elim
+        (λ (t : stage life (last.0 ++ published seat life last.1 last.2 ∷ []) ≡ named last.2). subst IsBegun (sym t) tt)
+        (λ (t : (stage life last.0 ≡ past) × (stage life (last.0 ++ published seat life last.1 last.2 ∷ []) ≡ past)).
+        subst IsBegun (sym t.1) tt)
+        (named_by_last life last.0 seat last.1 last.2)
+
 -- A look that names a seat with a life hasn't come past it, if a life that is past isn't published again.
 pub mask_names : (contents : Contents) (life seat : ℕ) (writes : List Write) (firing : Firing) (mask : SeatMask)
     → IsMaskAfter contents.registry writes firing mask → life_at mask seat ≡ Some life
@@ -156,29 +203,21 @@ pub mask_names : (contents : Contents) (life seat : ℕ) (writes : List Write) (
     → IsOfOthers life write)
     → stage life (writes_of writes seat) ≢ past
 mask_names contents life seat writes firing mask look named_there once over =
-    by_option (published_on (reverse writes) seat) refl ((look.exactly seat life).0 named_there)
+    ⊎_elim
+    (λ (t : stage life with_last ≡ named last.2). let bad : named last.2 ≡ past = sym t ∙ there in cc bad)
+    (λ (t : (stage life last.0 ≡ past) × (stage life with_last ≡ past)).
+    once last.0 (published seat life last.1 last.2) (subst (IsPrefix with_last) (sym last.3) (prefix_self with_last)) t.0 refl)
+    (named_by_last life last.0 seat last.1 last.2)
   where
-    Shows : Option Published → Type 0
-    Shows o = IsSomeAnd o (λ publication. (publication.life ≡ life) × NamesFiring contents.registry publication firing)
+    last : (before : List Write) × (by : Account) × (probes : List Bool)
+        × (writes_of writes seat ≡ before ++ published seat life by probes ∷ [])
+    last = mask_publishes contents life seat writes firing mask look named_there
 
-    mine : writes_of (reverse (reverse writes)) seat ≡ writes_of writes seat
-    mine = ap (λ (l : List Write). writes_of l seat) (reverse-reverse writes)
+    with_last : List Write
+    with_last = last.0 ++ published seat life last.1 last.2 ∷ []
 
-    by_option : (o : Option Published) → published_on (reverse writes) seat ≡ o → Shows o → ⊥
-    by_option None e h = absurd h
-    by_option (Some p) e h =
-        let last = published_last seat (reverse writes) p e in
-        let own : writes_of writes seat ≡ last.0 ++ published seat life p.account p.probes ∷ [] =
-        sym mine ∙ last.1 ∙ ap (λ (l : ℕ). last.0 ++ published seat l p.account p.probes ∷ []) h.0 in
-        let there : stage life (last.0 ++ published seat life p.account p.probes ∷ []) ≡ past = sym (ap (stage life) own) ∙ over in
-        ⊎_elim
-        (λ (t : stage life (last.0 ++ published seat life p.account p.probes ∷ []) ≡ named p.probes).
-        let bad : named p.probes ≡ past = sym t ∙ there in cc bad)
-        (λ (t : (stage life last.0 ≡ past) × (stage life (last.0 ++ published seat life p.account p.probes ∷ []) ≡ past)).
-        once last.0 (published seat life p.account p.probes)
-        (subst (IsPrefix (last.0 ++ published seat life p.account p.probes ∷ [])) (sym own)
-        (prefix_self (last.0 ++ published seat life p.account p.probes ∷ []))) t.0 refl)
-        (named_by_last life last.0 seat p.account p.probes)
+    there : stage life with_last ≡ past
+    there = sym (ap (stage life) last.3) ∙ over
 
 module _ (account : Account) (contents : Contents) where
   -- a look that doesn't name the seat with the life passes the life by

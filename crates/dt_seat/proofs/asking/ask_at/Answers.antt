@@ -5,16 +5,17 @@ use Rattle.dt_chain.specs.Writes.{Write}
 use Rattle.dt_cred.specs.declared.account.Account.{Account}
 use Rattle.dt_facts.specs.laws.Beginnings.{prefix_trans}
 use Rattle.dt_seat.proofs.Offering.{goes_on_asked, goes_on_self, goes_on_wider, starts_after}
-use Rattle.dt_seat.proofs.Published.{contained_still}
+use Rattle.dt_seat.proofs.Published.{contained_still, published_line, still_published}
 use Rattle.dt_seat.proofs.Seats.{answered_from}
 use Rattle.dt_seat.proofs.Sitting.{lines_grown, notebook_asked, notebook_goes_on}
 use Rattle.dt_life.specs.Life.{is_stopped}
-use Rattle.dt_seat.proofs.Writing.{has_written_on}
+use Rattle.dt_seat.proofs.Writing.{front_begins, has_written_on, retired}
 use Rattle.dt_seat.proofs.asking.ask_at.Goals as goal
 use Rattle.dt_seat.specs.Publications.{IsPublicationAfter, writes_seen}
 use Rattle.dt_legal.specs.Rows.{IsGoAfter}
 use Rattle.dt_seat.proofs.Trails.{trailed_as, trailed_own}
-use Rattle.dt_seat.specs.Trailed.{row_after}
+use Rattle.dt_seat.specs.Trailed.{row_after, with_items}
+use Rattle.dt_seat.specs.Written.{writes_in}
 use Rattle.dt_trail.specs.Items.{StartsWith}
 use Rattle.dt_trail.specs.Known.{Known, Noted, noted}
 use Rattle.dt_trail.specs.declared.law.Named.{Named}
@@ -167,3 +168,47 @@ make_ready-requires-clause-going g c = λ is_go.
     let made = rw c.requires.machine at c.in_ok-prepared.ensures.prepared in
     let prepared = made c.args.present.now.account c.args.present.now.owner.knows c.requires.trailed.stands in
     ap is_stopped ((c.publishes-is_go.ensures _ _ _ _ prepared.drafted).0 is_go).1
+
+-- Where memory ran out, the publication that is known of is the one that was.
+pub returns-in_err-published-clause-published : goal.returns-in_err-published-clause-published
+returns-in_err-published-clause-published g c =
+    let h = c.requires.published in
+    let made = c.make_ready.ensures in
+    rw (made.same.0, made.same.2, made.row.1) (record {
+      there = h.there;
+      begins = prefix_trans _ _ _ h.begins made.more;
+    })
+
+-- A `go` that is accepted is published, and that is known from then on; what was known before stays.
+pub returns-clause-published : goal.returns-clause-published
+returns-clause-published g c =
+    let contents = g.J.Traced.contents in
+    let item = c.in_ok-prepared.prepared.item in
+    let account = c.args.present.now.account in
+    let row = c.args.present.now.owner.knows in
+    let h = c.requires.published in
+    let old_front = c.args.present.now.front in
+    let whose : c.make_ready.new.present.owner.row.account ≡ account =
+    ap (λ (r : Named Account). r.account) c.make_ready.ensures.row.0 ∙ c.requires.trailed.whose_is in
+    let made = rw c.requires.machine at c.in_ok-prepared.ensures.prepared in
+    let prepared = made account row c.requires.trailed.stands in
+    let after : c.finish-text.new.owner ≡ with_items c.make_ready.new.present.owner (row_after account contents row item) =
+    rw (whose, c.make_ready.ensures.row.1) at c.finish-text.ensures.trail in
+    let knows : c.finish-text.new.owner.knows ≡ row_after account contents row item = ap (λ (o : Known Account). o.knows) after in
+    let taken = rw (c.make_ready.ensures.same.2, c.again.ensures) at c.take_down.ensures in
+    let announced : IsGoAfter account contents row item → (write : Write) × Contains (writes_seen c.take_down.new.front) write
+    × IsPublicationAfter contents c.args.number c.args.life account row write = λ go.
+    let is_go = (c.publishes-is_go.ensures _ _ _ _ prepared.drafted).1 go in
+    let found = c.in_ok-published.ensures.published is_go in
+    (found.0, contained_still _ _ found.0 taken.now found.1, found.2) in
+    let whole = published_line contents c.args.number c.args.life account row item (writes_seen c.take_down.new.front)
+    (still_published contents c.args.number c.args.life account row (writes_seen old_front) (writes_seen c.take_down.new.front) taken.before h.there) announced in
+    let by_old = prefix_trans _ _ _ h.begins c.make_ready.ensures.more in
+    let begins = front_begins c.args.number old_front c.in_ok-published.published c.take_down.new.front (writes_in c.make_ready.new.writes.fact) taken.one by_old
+    c.in_ok-published.ensures.own in
+    let more = retired c.args.number (writes_in c.make_ready.new.writes.fact) (writes_in c.retire-withdrawn.new.writes.fact) c.retire-withdrawn.result
+    c.retire-withdrawn.ensures.own in
+    rw (c.retire-withdrawn.ensures.same.0, c.retire-withdrawn.ensures.same.1, c.retire-withdrawn.ensures.same.3, c.make_ready.ensures.same.0, knows) (record {
+      there = whole;
+      begins = prefix_trans _ _ _ begins more;
+    })

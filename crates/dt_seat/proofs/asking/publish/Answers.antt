@@ -3,12 +3,12 @@ use Rattle.std.proofs.Common.{◌≡◌, ℕ, List, [], ◌∷◌, ◌++◌, ref
 use Rattle.std.specs.List.{Contains}
 use Rattle.std.proofs.lemmas.List.Elements.{Contains-append_right}
 use Rattle.std.proofs.lemmas.Result.{IfOk-weaker}
-use Rattle.dt_chain.specs.Writes.{Write, seat_of}
+use Rattle.dt_chain.specs.Writes.{Write, seat_of, writes_of}
 use Rattle.dt_cred.specs.declared.account.Account.{Account}
 use Rattle.dt_legal.specs.Rows.{AreOfEcbs, life_of_row}
 use Rattle.dt_machine.specs.Interest.{flags_of}
 use Rattle.dt_machine.specs.laws.Flags.{names_flags}
-use Rattle.dt_seat.proofs.Writing.{writes_published}
+use Rattle.dt_seat.proofs.Writing.{may_begin, writes_published}
 use Rattle.dt_seat.proofs.asking.publish.Goals as goal
 use Rattle.dt_seat.specs.Written.{MayEndWith, SaysWrites, writes_in}
 
@@ -53,3 +53,11 @@ returns-clause-published g c =
             (λ n. names.0 (flag.0 n), λ e. flag.1 (names.1 e)),
       ),
     )) c.write_down.ensures.front
+
+pub returns-clause-own : goal.returns-clause-own
+returns-clause-own g c =
+    IfOk-weaker c.write_down.result _ _ (λ front same.
+    subst (λ (n : ℕ). writes_of front n ≡ writes_in c.write_down.new.writes.fact) (ap seat_of c.in_ok-write.ensures) same) c.write_down.ensures.own
+
+pub returns-clause-more : goal.returns-clause-more
+returns-clause-more g c = may_begin c.in_ok-write.write (writes_in c.args.writes.now.fact) (writes_in c.write_down.new.writes.fact) c.write_down.ensures.may

@@ -1,6 +1,8 @@
 -- What is to be shown of `hold_at`.
-use Rattle.std.proofs.Common.{◌≡◌, ◌+◌, ℕ, true, false, true≢false, length, ap, sym, ◌∙◌, subst}
+use Rattle.std.proofs.Common.{◌≡◌, ◌+◌, ℕ, true, false, true≢false, length, refl, ap, sym, ◌∙◌, subst, append-nil}
 use Rattle.dt_cred.specs.declared.account.Account.{Account}
+use Rattle.dt_facts.specs.Lives.{lives_over}
+use Rattle.dt_facts.specs.laws.Lives.{over_open}
 use Rattle.dt_legal.specs.Rows.{IsLegalRow, life_of_row}
 use Rattle.dt_life.specs.Sees.{Sees}
 use Rattle.dt_seat.proofs.Offering.{goes_on_offered}
@@ -10,7 +12,8 @@ use Rattle.dt_seat.proofs.present.hold_at.Goals as goal
 use Rattle.dt_seat.proofs.present.hold_at.Goals.{then-is_seen, else-is_seen}
 use Rattle.dt_seat.proofs.Owning.{own_kept, own_unseen}
 use Rattle.dt_seat.specs.laws.Notes.{noted_here}
-use Rattle.dt_seat.specs.Keeps.{Carries, Followed, known_by, known_of, noted_of}
+use Rattle.dt_seat.specs.Keeps.{Carries, Followed, known_by, known_of, noted_of, over_of}
+use Rattle.dt_seat.specs.Knowledge.{steps_in}
 use Rattle.dt_seat.specs.Trailed.{IsTrailed}
 use Rattle.dt_trail.specs.Items.{own}
 use Rattle.dt_trail.specs.Known.{Known, Noted, noted}
@@ -43,7 +46,8 @@ returns-clause-held g c =
     let mine : c.in-Some.note.number ≡ c.args.context.now.firing.now.cpu + 1 =
     ap (λ (n : Noted Account). n.number) note ∙ ap (λ (k : ℕ). k + 1) c.requires.follower in
     let took = ap (λ (f : Followed). f.took) view ∙ c.lend.ensures.took in
-    let over = ap (λ (f : Followed). f.over) view ∙ c.lend.ensures.over in
+    let over = ap over_of view ∙ ap lives_over c.lend.ensures.lives_known
+    ∙ over_open (steps_in c.args.lives.now.fact) c.args.life c.args.present.now.owner.row c.requires.taken.is_open in
     let known = ap (known_of c.args.life) view ∙ c.lend.ensures.known in
     let carried = subst (λ (f : Followed). Carries c.args.follower.now f c.args.life) (sym view) c.lend.ensures.carried in
     let legal = subst (λ (a : Account). IsLegalRow a contents c.args.present.now.owner.knows) (sym account)
@@ -98,3 +102,25 @@ returns-clause-own g c =
           (ap (own (firing.cpu + 1)) (noted_here c.args.life owner.row _ _ took)
           ∙ own_unseen firing w.count.result owner.knows (noted_of c.args.life c.args.follower.now) same)
     ]
+
+pub returns-clause-whole : goal.returns-clause-whole
+returns-clause-whole g c = elim c.if-is_seen.branch [
+  | then-is_seen w ↦
+      let last = rw w.if-is_seen.true at c.offer-is_seen.ensures.note in
+      let trail = rw w.if-is_seen.true at c.offer-is_seen.ensures.trail in
+      rw (w.follower-inside-is, last, trail) refl
+  | else-is_seen w ↦
+      let last = rw w.if-is_seen.false at c.offer-is_seen.ensures.note in
+      let trail = rw w.if-is_seen.false at c.offer-is_seen.ensures.trail in
+      rw (w.follower-inside-is, last, trail) refl
+]
+
+pub returns-clause-kept : goal.returns-clause-kept
+returns-clause-kept g c = elim c.if-is_seen.branch [
+  | then-is_seen w ↦
+      let trail = rw w.if-is_seen.true at c.offer-is_seen.ensures.trail in
+      rw (w.result-is, trail) refl
+  | else-is_seen w ↦
+      let trail = rw w.if-is_seen.false at c.offer-is_seen.ensures.trail in
+      rw (w.result-is, trail) (sym (append-nil c.args.present.now.owner.knows))
+]

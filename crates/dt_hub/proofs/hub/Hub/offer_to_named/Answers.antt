@@ -1,10 +1,20 @@
 -- What is to be shown of `offer_to_named`.
-use Rattle.std.proofs.Common.{◌≡◌, ◌<◌, ◌==◌, ℕ, true, false, Some, length, sym, ap, ◌∙◌, subst, arith, if◌then◌else◌}
+use Rattle.std.proofs.Common.{◌≡◌, ◌<◌, ◌==◌, ◌++◌, ◌∷◌, ℕ, [], true, false, Option, Some, length, inl, inr, sym, ap, ◌∙◌, subst, arith, if◌then◌else◌}
+use Rattle.std.proofs.lemmas.Bool.{cases_eq, cases_lt}
+use Rattle.std.specs.Option.{IfSome}
+use mathlib.Core.List.{IsPrefix}
 use Rattle.std.proofs.lemmas.List.{length-set}
 use Rattle.std.proofs.lemmas.Option.{slice_get-get_or}
-use Rattle.std.specs.List.{slice_get}
+use Rattle.std.specs.List.{slice_get, slice_set}
 use Rattle.dt_chain.specs.Seats.{has, life_at}
-use Rattle.dt_hub.proofs.Offers.{all_at_next, at_more, below_taken, done_more, from_next, from_taken, rest_less}
+use Rattle.dt_facts.specs.laws.Beginnings.{prefix_trans}
+use Rattle.dt_hub.proofs.Offers.{all_at_next, at_more, below_taken, between, done_more, from_next, from_taken, get_set_other, get_set_same, rest_less}
+use Rattle.dt_hub.proofs.Tracks.{offered_at_seat, passed_at}
+use Rattle.dt_hub.specs.Processors.{counts_at, knew_at_seats}
+use Rattle.dt_life.specs.laws.Options.{if_some_map}
+use Rattle.dt_seat.specs.Keeps.{Followed}
+use Rattle.dt_seat.specs.Tracked.{AreTracked}
+use Rattle.dt_seat.specs.laws.Tracked.{tracked_writes}
 use Rattle.dt_hub.proofs.hub.Hub.offer_to_named.Goals as goal
 
 pub seats-preserved : goal.seats-preserved
@@ -45,6 +55,33 @@ seats-preserved g c =
       at_below = at_more contents firing mask start c.seats.held.items c.seats.followers.items c.seats.left c.remove.new.self c.seats.next n
           inv.many inv.held c.number-at.ensures.small c.requires.seats inv.left_below inv.left_from inv.done inv.rest inv.at_below first_is before
           c.in-Some-life_of.life c.offer_at.result c.index_mut.result.now c.offer_at.new.follower named is c.offer_at.ensures.held c.offer_at.ensures.own;
+      seen = c.offer_at.ensures.reader.0 ∙ inv.seen;
+      told = prefix_trans _ _ _ inv.told c.offer_at.ensures.reader.1;
+      known = rw c.offer_at.ensures.reader.0 (prefix_trans _ _ _ inv.known c.offer_at.ensures.reader.1);
+      tracked = λ log places h seat lt.
+          let further : IsPrefix c.args.reader.now.seen c.offer_at.new.reader.told = rw inv.seen at (prefix_trans _ _ _ inv.known c.offer_at.ensures.reader.1) in
+          elim (cases_eq seat n) [
+            | inl e ↦ subst (λ (k : ℕ). IfSome (slice_get (slice_set c.seats.followers.items n c.offer_at.new.follower) k)
+                (AreTracked contents c.offer_at.new.reader.told (counts_at k (log ++ knew_at_seats start ∷ [])))) (sym e)
+                (subst (λ (o : Option Followed). IfSome o (AreTracked contents c.offer_at.new.reader.told (counts_at n (log ++ knew_at_seats start ∷ []))))
+                (sym (get_set_same c.seats.followers.items n c.offer_at.new.follower small))
+                (offered_at_seat contents c.args.reader.now.seen firing mask start log c.requires.script c.requires.look places c.requires.seats h
+                c.offer_at.new.reader.told n c.index_mut.result.now c.offer_at.new.follower is (rw inv.seen at c.offer_at.ensures.tracked)))
+            | inr ne ↦ subst (λ (o : Option Followed). IfSome o (AreTracked contents c.offer_at.new.reader.told (counts_at seat (log ++ knew_at_seats start ∷ []))))
+                (sym (get_set_other c.seats.followers.items n seat c.offer_at.new.follower ne))
+                (elim (cases_lt seat c.seats.next) [
+                  | inl earlier ↦ if_some_map (AreTracked contents c.seats.reader.told (counts_at seat (log ++ knew_at_seats start ∷ [])))
+                      (AreTracked contents c.offer_at.new.reader.told (counts_at seat (log ++ knew_at_seats start ∷ []))) (slice_get c.seats.followers.items seat)
+                      (λ f. tracked_writes contents c.seats.reader.told c.offer_at.new.reader.told (counts_at seat (log ++ knew_at_seats start ∷ [])) f
+                      c.offer_at.ensures.reader.1) (inv.tracked log places h seat earlier)
+                  | inr later ↦ rw (inv.rest seat later)
+                      (passed_at contents c.args.reader.now.seen firing mask start log c.requires.script c.requires.look places c.requires.seats h
+                      c.offer_at.new.reader.told further seat
+                      (between contents firing mask start c.seats.held.items c.seats.followers.items c.seats.left c.remove.new.self c.seats.next n
+                      inv.many inv.held c.number-at.ensures.small c.requires.seats inv.left_below inv.left_from inv.done inv.rest inv.at_below first_is before
+                      seat later (omega (arith, lt, ne))))
+                ])
+          ];
     }
 
 pub returns-clause-seats : goal.returns-clause-seats

@@ -2,8 +2,6 @@
 use Rattle.std.proofs.Common.{ap, ◌∙◌, Some}
 use Rattle.dt_facts.specs.Facts.{HaveGrown, lists_in}
 use Rattle.dt_facts.specs.Handles.{BegunLists, HeldFact}
-use Rattle.dt_facts.specs.Lives.{lives_over}
-use Rattle.dt_facts.specs.laws.Lives.{over_open}
 use Rattle.dt_seat.specs.Keeps.{took_in}
 use Rattle.dt_seat.specs.Knowledge.{steps_in}
 use Rattle.dt_seat.proofs.Lending.{carries_taken}
@@ -17,8 +15,3 @@ returns-clause-carried g c =
     rw (c.take-told.ensures.after, ← c.follower.view_is)
     (carries_taken _ _ _ _ _ _ _ _ _ _ c.follower.invariant (steps_in c.args.lives.now.fact) c.args.life c.args.owner.now.row grown.2
     c.requires.is_open c.go_on_apart.new.share c.catch_up.new.beginning (Some c.informed.result) all took)
-
-pub returns-clause-over : goal.returns-clause-over
-returns-clause-over g c =
-    let all = ap (λ (b : BegunLists). b.lists.lives) c.catch_up.ensures.beginning in
-    ap lives_over all ∙ over_open (steps_in c.args.lives.now.fact) c.args.life c.args.owner.now.row c.requires.is_open

@@ -54,6 +54,7 @@ invariant_of-self g c =
         taken.1,
       ),
       made.written,
+      made.published,
     )
 
 pub ask_at-result-requires-clause-written : goal.ask_at-result-requires-clause-written
@@ -78,3 +79,8 @@ returns-clause-published g c =
     let life_is = one_life inside.lives.fact s.share.fact inside.life s.life _ _ c.agree.ensures.agree taken.is_open h.0.is_open in
     let seat_is = same_seat c.session.view_is c.requires.seat c.self.view_is in
     rw (seat_is, life_is) c.ask_at-result.ensures.notebook.published
+
+pub ask_at-result-requires-clause-published : goal.ask_at-result-requires-clause-published
+ask_at-result-requires-clause-published g c =
+    let present_is : c.self.inside.present ≡ Some c.in-Some.present = c.in-Some.is in
+    rw present_is at c.self.invariant.2

@@ -43,6 +43,7 @@ invariant_of-self g c =
         later = unnamed_withdrawn (inside.life + 1) inside.number (writes_in inside.writes.fact) (writes_in c.withdraw.new.writes.fact)
             c.withdraw.ensures.may wrote.are.later;
       },
+      tt,
     )
 
 pub withdraw-requires-clause-says : goal.withdraw-requires-clause-says

@@ -1,18 +1,20 @@
 -- What is to be shown of `open`.
-use Rattle.std.proofs.Common.{rules, ◌≡◌, ◌+◌, ℕ, [], ◌∷◌, ◌++◌, Some, None, length, ap, sym, ◌∙◌, subst}
+use Rattle.std.proofs.Common.{rules, ◌≡◌, ◌+◌, ℕ, [], ◌∷◌, ◌++◌, Some, None, List, length, refl, ap, sym, ◌∙◌, subst}
 use Rattle.atomic_table.specs.Seated.{TableId}
 use Rattle.dt_cred.specs.declared.account.Account.{Account}
 use Rattle.dt_facts.specs.Facts.{life_fact, lists_in}
 use Rattle.dt_facts.specs.Handles.{HeldFact, begun, holding}
 use Rattle.dt_facts.specs.Lives.{opened}
 use Rattle.dt_seat.specs.Knowledge.{steps_in}
+use Rattle.dt_seat.specs.Publications.{IsPublished}
 use Rattle.dt_seat.specs.Names.{life_name}
 use Rattle.dt_seat.specs.Seats.{Seated}
-use Rattle.dt_seat.proofs.Openings.{first_note, notebook_opened, notes_dealt, seat_open, seat_says, session_opened, unmapped}
+use Rattle.dt_seat.proofs.Openings.{first_note, notebook_opened, nothing_published, notes_dealt, seat_open, seat_says, session_opened, unmapped}
 use Rattle.dt_seat.proofs.Writing.{writes_opened}
 use Rattle.dt_seat.specs.Written.{writes_in}
 use Rattle.dt_seat.proofs.locked.LockedSeat.open.Goals as goal
 use Rattle.dt_machine.specs.Registry.{Contents}
+use Rattle.dt_trail.specs.Items.{TrailItem}
 use Rattle.dt_trail.specs.Known.{AreNew, Known}
 
 pub invariant_of-result : goal.invariant_of-result
@@ -85,5 +87,10 @@ invariant_of-self g c =
       record {
         says = wrote.says;
         are = writes_opened contents c.args.account.now inside.life owner.knows (writes_in inside.writes.fact) wrote.later;
+      },
+      record {
+        there = subst (λ (l : List TrailItem). IsPublished contents inside.number inside.life c.args.account.now l []) (sym empty)
+            (nothing_published contents inside.number inside.life c.args.account.now);
+        begins = (writes_in inside.writes.fact, refl);
       },
     )
