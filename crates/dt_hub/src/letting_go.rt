@@ -1,7 +1,9 @@
 //! How a processor lets go of sessions that have ended.
-ghost use Rattle.std.specs.Prelude.{◌<◌};
+ghost use Rattle.std.specs.Prelude.{◌<◌, ℕ, List};
+ghost use Rattle.dt_chain.specs.Writes.{Write};
 ghost use Rattle.dt_hub.specs.Forgetting.{HasLetGo};
 ghost use Rattle.dt_seat.specs.Keeps.{Forgets};
+ghost use Rattle.dt_seat.specs.Tracked.{AreTracked};
 
 use crate::cpu_seat::CpuSeat;
 use crate::hub::Hub;
@@ -13,7 +15,9 @@ impl<J: HubSite> Hub<J> {
     /// What a processor has at one seat.
     fn let_go_at<R: Wait>(&self, rt: &R, follower: &mut Follower<J>)
         requires there { follower.old.cpu < J.contents.registry.cpus }
-        ensures { Forgets follower.old follower.new }
+        ensures forgets { Forgets follower.old follower.new }
+        ensures tracked { (writes : List Write) (knew : ℕ → List ℕ) → AreTracked J.contents writes knew follower.old
+            → AreTracked J.contents writes knew follower.new }
     {
         // most processors have no note of most seats, and these locks aren't taken
         if !follower.has_note() {

@@ -112,15 +112,7 @@ impl<J: HubSite> Hub<J> {
             let Some(life) = mask.life_of(seat) else {
                 unreachable!()
             };
-            held[at] = self.offer_at(
-                rt,
-                seat,
-                life,
-                context,
-                &mut followers[at],
-                reader,
-                gate,
-            );
+            held[at] = self.offer_at(rt, seat, life, context, &mut followers[at], reader, gate);
             next = at + 1;
         }
     }

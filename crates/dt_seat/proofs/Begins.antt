@@ -1,8 +1,9 @@
 -- Beginnings of lists, in both ways of writing them, and what a session kept of its own lines.
-use Rattle.std.proofs.Common.{◌≡◌, ◌<◌, ◌≤◌, ◌+◌, ◌==◌, ◌⊎◌, ℕ, Bool, true, false, cond, List, [], ◌∷◌, ◌++◌, length, ltb, refl, sym, ap, ◌∙◌, subst, arith, eq-eqb, append-nil, append_assoc, inl, inr, ⊎_elim}
+use Rattle.std.proofs.Common.{◌≡◌, ◌≢◌, ◌<◌, ◌≤◌, ◌+◌, ◌==◌, ◌⊎◌, ℕ, Bool, true, false, cond, ne_eqb, List, [], ◌∷◌, ◌++◌, length, ltb, refl, sym, ap, ◌∙◌, subst, arith, eq-eqb, append-nil, append_assoc, inl, inr, ⊎_elim}
 use Rattle.std.proofs.lemmas.Bool.{ltb-true}
 use Rattle.std.proofs.lemmas.Bool.Decides.{nat_tests}
 use Rattle.std.proofs.lemmas.List.{length-append}
+use Rattle.std.proofs.lemmas.List.Elements.{filter-append}
 use mathlib.Core.List.{IsPrefix}
 use Rattle.dt_facts.specs.laws.Beginnings.{prefix_shorter}
 use Rattle.dt_legal.specs.laws.Starts.{own_both, own_here, rest_has_none}
@@ -116,3 +117,11 @@ within_or_last (x ∷ row) (b ∷ before) last item s =
     (λ (t : StartsWith row (before ++ item ∷ [])). inl (t.0, cc (heads, t.1)))
     (λ (t : (before ≡ row) × (item ≡ last)). inr (cc (heads, t.0), t.1))
     (within_or_last row before last item (s.0, cc (s.1)))
+
+-- an item of another note adds nothing to a note's own
+pub own_of_other : (note : ℕ) (row : List TrailItem) (item : TrailItem) → whose item ≢ note
+    → own note (row ++ item ∷ []) ≡ own note row
+own_of_other note row item other =
+    filter-append (λ x. whose x == note) row (item ∷ [])
+    ∙ ap (λ (b : Bool). own note row ++ cond b (item ∷ []) []) (ne_eqb (whose item) note other)
+    ∙ append-nil (own note row)

@@ -1,7 +1,8 @@
 -- What a processor knows of lives once it was told of one.
-use Rattle.std.proofs.Common.{◌≡◌, ◌≢◌, ◌<◌, ◌≤◌, ◌==◌, ◌⊎◌, ℕ, Bool, true, false, cond, List, [], ◌∷◌, ltb, eqb, refl, sym, ap, ◌∙◌, subst, arith, Option, Some, None, IfSome, inl, inr}
+use Rattle.std.proofs.Common.{◌≡◌, ◌≢◌, ◌<◌, ◌≤◌, ◌==◌, ◌⊎◌, ℕ, suc, length, Bool, true, false, cond, List, [], ◌∷◌, ltb, eqb, refl, sym, ap, ◌∙◌, subst, arith, Option, Some, None, IfSome, inl, inr}
 use Rattle.std.proofs.lemmas.Bool.{ltb-true}
 use Rattle.std.proofs.lemmas.Bool.Decides.{nat_tests}
+use Rattle.std.specs.Prelude.{nat_lt}
 use mathlib.Core.List.{IsPrefix}
 use Rattle.dt_facts.specs.Lives.{items_of_life, lives_over}
 use Rattle.dt_facts.specs.declared.fact.LastNote.{LastNote}
@@ -27,7 +28,9 @@ same_known l (Some last) knows one other e = ap (λ (items : List TrailItem). co
 -- the longer of nothing and some items is the items
 longer_none : (row : List TrailItem) → longer [] row ≡ row
 longer_none [] = refl
-longer_none (x ∷ row) = refl
+longer_none (x ∷ row) =
+    let test : nat_lt 0 (suc (length row)) ≡ true = grind (arith, nat_tests) in
+    ap (λ (b : Bool). cond b (x ∷ row) []) test
 
 starts_none : (row : List TrailItem) → StartsWith row []
 starts_none row = (row, refl)

@@ -20,6 +20,7 @@ use Rattle.dt_life.specs.Sees.{Sees}
 use Rattle.dt_machine.specs.Registry.{Contents, firing_at}
 use Rattle.dt_meeting.specs.Keeping.{GoIsPublished, KeepsTrack}
 use Rattle.dt_meeting.specs.Order.{IsInOrder}
+use Rattle.dt_meeting.specs.Sharing.{is_seen_after}
 use Rattle.dt_meeting.specs.laws.Announcing.{published_among_own, published_longer}
 use Rattle.dt_meeting.specs.laws.Keeping.{keeps_kept, keeps_offered, keeps_unseen, keeps_writes}
 use Rattle.dt_meeting.specs.laws.Seen.{seen_after_to, unseen_after_to}
@@ -210,6 +211,7 @@ module _ (contents : Contents) (seen told : List Write) (firing : Firing) (mask 
       own_trail = append_cancel_right (own (old.cpu + 1) trail) mine (item ∷ [])
           (sym (own_fired old.cpu (length (knew life)) trail) ∙ ap (own (old.cpu + 1)) (sym known_item) ∙ own_item)
 
+      shown : is_seen_after account contents trail old.cpu (length (knew life)) ≡ true
       shown = seen_after_to account contents trail old.cpu (length (knew life)) firing place sees
 
       legal_item : IsLegalRow account contents (trail ++ item ∷ [])

@@ -173,5 +173,5 @@ notebook_opened contents seat life row note lines first none = record {
   first = ap (λ (n : Noted Account). n.number) first;
   own_lines = subst (λ (n : Noted Account). lines ≡ lines_from 0 n.knows) (sym first) none;
   published = subst (λ (n : Noted Account). IsPublished contents seat life n.row.account n.knows []) (sym first)
-      (nothing_published contents seat life note.row.account);
+      (nothing_published contents seat life row.account);
 }

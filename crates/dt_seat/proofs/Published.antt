@@ -1,5 +1,5 @@
 -- What a session knows to be published stays so.
-use Rattle.std.proofs.Common.{◌≡◌, ℕ, true, false, Bool, List, [], ◌∷◌, ◌++◌, sym, subst, ⊎_elim, if◌then◌else◌}
+use Rattle.std.proofs.Common.{◌≡◌, ℕ, true, false, Bool, List, [], ◌∷◌, ◌++◌, refl, sym, subst, arith, append-nil, ⊎_elim, if◌then◌else◌}
 use Rattle.std.specs.List.{Contains}
 use Rattle.std.proofs.lemmas.List.Elements.{Contains-append_left}
 use mathlib.Core.List.{IsPrefix}
@@ -10,9 +10,13 @@ use Rattle.dt_life.specs.Life.{is_over}
 use Rattle.dt_machine.specs.Registry.{Contents}
 use Rattle.dt_seat.specs.Publications.{IsPublicationAfter, IsPublished}
 use Rattle.dt_legal.specs.Rows.{IsGoAfter}
+use Rattle.dt_cred.specs.declared.firing.Firing.{Firing}
+use Rattle.dt_seat.specs.Seats.{kept_items}
+use Rattle.dt_seat.specs.declared.held.Held.{Held}
+use Rattle.dt_seat.specs.declared.held.Held.TheVariants.{Gone, Kept, Unseen}
 use Rattle.dt_seat.specs.Trailed.{row_after}
-use Rattle.dt_seat.proofs.Begins.{stood_before, within_or_last}
-use Rattle.dt_trail.specs.Items.{StartsWith, TrailItem, own}
+use Rattle.dt_seat.proofs.Begins.{own_of_other, stood_before, within_or_last}
+use Rattle.dt_trail.specs.Items.{StartsWith, TrailItem, fired, own, whose}
 
 pub contained_still : (writes more : List Write) (write : Write) → IsPrefix writes more → Contains writes write → Contains more write
 contained_still writes more write begins has =
@@ -55,3 +59,11 @@ module _ (contents : Contents) (seat life : ℕ) (account : Account) where
       → IsPublished contents seat life account row more
   still_published row writes more begins h = λ before item at mine go.
       let found = h before item at mine go in (found.0, contained_still writes more found.0 begins found.1, found.2)
+
+  -- where a firing was offered
+  pub still_there : (row : List TrailItem) (writes : List Write) (held : Held) (firing : Firing) → IsPublished contents seat life account row writes
+      → IsPublished contents seat life account (row ++ kept_items held firing) writes
+  still_there row writes Kept firing h = published_on row (row ++ fired firing.cpu firing.place ∷ []) writes writes (fired firing.cpu firing.place ∷ [], refl)
+      (own_of_other 0 row (fired firing.cpu firing.place) (λ e. absurd (omega (arith, e)))) ([], append-nil writes) h
+  still_there row writes (Unseen known) firing h = subst (λ (r : List TrailItem). IsPublished contents seat life account r writes) (sym (append-nil row)) h
+  still_there row writes Gone firing h = subst (λ (r : List TrailItem). IsPublished contents seat life account r writes) (sym (append-nil row)) h

@@ -9,6 +9,10 @@ use Rattle.dt_cred.specs.declared.account.Account.{Account}
 use Rattle.dt_cred.specs.declared.firing.Firing.{Firing}
 use Rattle.dt_facts.specs.Handles.{HeldFact}
 use Rattle.dt_facts.specs.Facts.{last_note}
+use Rattle.dt_facts.specs.Lives.{lives_over}
+use Rattle.dt_facts.specs.laws.Lives.{over_closed, over_open}
+use Rattle.dt_seat.specs.Knowledge.{steps_in}
+use Rattle.dt_seat.specs.declared.idle.Idle.{Idle}
 use Rattle.dt_facts.specs.declared.fact.LastNote.{LastNote}
 use Rattle.dt_legal.specs.Rows.{IsLegalRow, line_form_of, life_of_row}
 use Rattle.dt_life.specs.Life.{is_over}
@@ -16,9 +20,12 @@ use Rattle.dt_life.specs.Sees.{Sees}
 use Rattle.dt_life.specs.laws.Lists.{replaced}
 use Rattle.dt_life.specs.laws.Options.{if_some_map}
 use Rattle.dt_machine.specs.Registry.{Contents}
+use Rattle.std.specs.Option.{option_map}
+use Rattle.dt_seat.proofs.Begins.{own_of_other}
 use Rattle.dt_seat.proofs.Known.{by_note, not_by_note}
-use Rattle.dt_seat.specs.Keeps.{Carries, Followed, IsKeptFor, KeptNote, known_by, known_in, known_of, noted_in, noted_of, over_of, told_in}
-use Rattle.dt_seat.specs.Seats.{IsRepliedTo, ComesOfFiring, IsTaken, Reaches, TrailGoesOn, after_line_of}
+use Rattle.dt_seat.proofs.Offering.{goes_on_self}
+use Rattle.dt_seat.specs.Keeps.{Carries, Followed, IsKeptFor, KeptNote, known_by, known_in, known_of, noted_in, noted_of, over_of, told_in, with_note}
+use Rattle.dt_seat.specs.Seats.{IsRepliedTo, ComesOfFiring, IsSeat, IsTaken, Reaches, StaysOn, TrailGoesOn, after_line_of}
 use Rattle.dt_seat.specs.declared.after_line.AfterLine.{AfterLine}
 use Rattle.dt_seat.specs.declared.held.Held.TheVariants.{Kept as WasKept, Unseen}
 use Rattle.dt_seat.specs.Trailed.{IsDue, IsTrailed, row_after, row_offered, with_items}
@@ -27,14 +34,6 @@ use Rattle.dt_trail.specs.Items.{TrailItem, fired, own, whose}
 use Rattle.dt_trail.specs.Known.{Grows, Meets, Noted, noted}
 use Rattle.dt_trail.specs.declared.law.Named.{Named}
 use Rattle.dt_trail.specs.laws.Starts.{starts_trans}
-
--- an item of another note adds nothing to a note's own
-pub own_of_other : (note : ℕ) (row : List TrailItem) (item : TrailItem) → whose item ≢ note
-    → own note (row ++ item ∷ []) ≡ own note row
-own_of_other note row item other =
-    filter-append (λ x. whose x == note) row (item ∷ [])
-    ∙ ap (λ (b : Bool). own note row ++ cond b (item ∷ []) []) (ne_eqb (whose item) note other)
-    ∙ append-nil (own note row)
 
 own_offered : (row : List TrailItem) (firing : Firing) (is_seen : Bool) (cpu : ℕ) → cpu ≢ firing.cpu
     → own (cpu + 1) (row_offered row firing is_seen) ≡ own (cpu + 1) row
@@ -98,9 +97,6 @@ module _ {J : Type 0} (word : TableId) (contents : Contents) (number life : ℕ)
         (row_offered present.owner.knows firing is_seen) one (own_offered present.owner.knows firing is_seen cpu other))
         (h.each cpu));
   }
-
-abbrev with_note : Followed → Noted Account → Followed
-with_note f note = record { seat = f.seat; cpu = f.cpu; took = f.took; lives = f.lives; note = Some note; told = f.told }
 
 module _ (contents : Contents) (life : ℕ) (firing : Firing) (old lent : Followed) (note : Noted Account)
     (took : lent.took ≡ Some (last_note life note.row)) (has : lent.note ≡ Some note) (over : over_of lent ≡ life)
@@ -170,6 +166,17 @@ module _ (contents : Contents) (life : ℕ) (firing : Firing) (old lent : Follow
 pub some_same : {X : Type 0} (x y : X) → Some x ≡ Some y → x ≡ y
 some_same x y e = cc
 
+-- a trail that is as it was goes on
+pub stays_on_self : {J : Type 0} (present : Option (Present J)) → StaysOn (option_map (λ p. p.owner) present) (option_map (λ p. p.owner) present)
+stays_on_self None = refl
+stays_on_self (Some p) = goes_on_self p.owner
+
+-- with a seat whose life is open, or without: which lives are over
+pub seat_over : {J : Type 0} (word : TableId) (contents : Contents) (number life : ℕ) (present : Option (Present J)) (lives : HeldFact) (free : Option Idle)
+    (keeps : List KeptNote) → IsSeat word contents number life present lives free keeps → lives_over (steps_in lives.fact) ≡ life
+seat_over word contents number life None lives free keeps h = over_closed (steps_in lives.fact) life h.all_closed
+seat_over word contents number life (Some p) lives free keeps h = over_open (steps_in lives.fact) life p.owner.row h.0.is_open
+
 -- what is kept for processors stays right where a line is appended
 own_line : (cpu : ℕ) (row : List TrailItem) (is_over : Bool) (item : TrailItem) → whose item ≡ 0
     → own (cpu + 1) (if is_over then row else (row ++ item ∷ [])) ≡ own (cpu + 1) row
@@ -178,6 +185,18 @@ own_line cpu row false item mine = own_of_other (cpu + 1) row item (λ e. absurd
 
 module _ {J : Type 0} (word : TableId) (contents : Contents) (number life : ℕ) (lives : HeldFact) (present : Present J)
     (keeps : List KeptNote) (h : IsTaken word contents number life lives present keeps) where
+  -- once a processor's note was lent to it
+  pub taken_lent : (cpu : ℕ) (k : KeptNote) → IsKeptFor word contents.registry.cpus number cpu life present.owner.row present.owner.knows k
+      → IsTaken word contents number life lives present (slice_set keeps cpu k)
+  taken_lent cpu k right = record {
+    few = h.few;
+    many = length-set keeps cpu k ∙ h.many;
+    lives_are = h.lives_are;
+    is_open = h.is_open;
+    trailed = h.trailed;
+    each = replaced (λ c. IsKeptFor word contents.registry.cpus number c life present.owner.row present.owner.knows) keeps cpu k right (λ c other. h.each c);
+  }
+
   -- where the trail has the items that it had
   taken_same : (new : Present J) → new.owner.row ≡ present.owner.row → new.owner.knows ≡ present.owner.knows
       → IsTrailed contents new.account new.owner new.consumer

@@ -39,6 +39,12 @@ pub one_life : (book share : Fact) (life other : ℕ) (row theirs : Named Accoun
 one_life book share life other row theirs same here there =
     (one_open (steps_in share) other life theirs row there (subst (λ (f : Fact). IsOpenAs life row (steps_in f)) same here)).0
 
+-- and so is its trail
+pub one_owner : (book share : Fact) (life other : ℕ) (row theirs : Named Account) → book ≡ share → IsOpenAs life row (steps_in book)
+    → IsOpenAs other theirs (steps_in share) → theirs ≡ row
+one_owner book share life other row theirs same here there =
+    (one_open (steps_in share) other life theirs row there (subst (λ (f : Fact). IsOpenAs life row (steps_in f)) same here)).1
+
 pub unknown_on : (life : ℕ) (list : List LifeItem) (knows : List TrailItem) → AreUnknownFrom (life + 1) list
     → AreUnknownFrom (life + 1) (known_more life knows list)
 unknown_on life list knows h = λ l le. items_of_others life l list knows (λ e. omega (arith, le, e)) ∙ h l le

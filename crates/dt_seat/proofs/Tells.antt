@@ -14,7 +14,7 @@ use Rattle.dt_meeting.specs.Keeping.{KeepsTrack}
 use Rattle.dt_meeting.specs.laws.Announcing.{published_among_own, published_longer}
 use Rattle.dt_meeting.specs.laws.Keeping.{keeps_known}
 use Rattle.dt_seat.proofs.Holds.{go_published}
-use Rattle.dt_seat.specs.Keeps.{Followed, known_by, known_of, noted_in, noted_of, over_of}
+use Rattle.dt_seat.specs.Keeps.{Followed, Forgets, known_by, known_of, noted_in, noted_of, over_of}
 use Rattle.dt_seat.specs.Publications.{IsPublished}
 use Rattle.dt_seat.specs.Receipts.{HasHeard, Received}
 use Rattle.dt_seat.specs.Tracked.{AreTracked, IsAllowed, IsOrderly, IsTracked}
@@ -117,3 +117,14 @@ module _ (contents : Contents) (received : Received) (old new : Followed) (h : H
         (λ (apart : l ≢ received.life). moved l account allowed (h.same l apart))
         (cases_eq l received.life);
   }
+
+-- and once it let go of a note there
+pub tracked_forgotten : (contents : Contents) (old new : Followed) → Forgets old new → IsOrderly new → (writes : List Write) (knew : ℕ → List ℕ)
+    → AreTracked contents writes knew old → AreTracked contents writes knew new
+tracked_forgotten contents old new h orderly writes knew tracked = record {
+  orderly = orderly;
+  each = λ l account allowed.
+      life_moved contents writes old new l account (knew l) h.seat h.cpu h.lives (h.same l)
+      (⊎_elim (λ (over : l < over_of new). inl over) (λ (same : noted_of l new ≡ noted_of l old). inr (ap (own (old.cpu + 1)) same)) (h.noted l))
+      (tracked.each l account (allowed_before l account old.lives new.lives h.lives allowed));
+}

@@ -1,5 +1,5 @@
 -- What a seat wrote, as it publishes and withdraws, as its trail goes on, and as lives open and close.
-use Rattle.std.proofs.Common.{◌≡◌, ◌≢◌, ◌≤◌, ◌+◌, ◌==◌, ℕ, Bool, true, false, cond, List, [], ◌∷◌, ◌++◌, Option, Some, None, MatchOption, refl, sym, ap, ◌∙◌, subst, arith, append-nil, ⊎_elim, inl, inr, ◌⊎◌}
+use Rattle.std.proofs.Common.{◌≡◌, ◌≢◌, ◌≤◌, ◌<◌, ◌+◌, ◌==◌, ℕ, Bool, true, false, cond, List, [], ◌∷◌, ◌++◌, Option, Some, None, MatchOption, refl, sym, ap, ◌∙◌, subst, arith, append-nil, ⊎_elim, inl, inr, ◌⊎◌}
 use mathlib.Core.List.{IsPrefix}
 use Rattle.std.proofs.lemmas.Bool.{ne_eqb}
 use Rattle.std.specs.Prelude.{fold}
@@ -18,6 +18,8 @@ use Rattle.dt_publisher.specs.Publishers.{own_writes_held}
 use Rattle.dt_publisher.specs.laws.OwnWrites.{own_more}
 use Rattle.dt_seat.specs.Names.{book_name, first_book}
 use Rattle.dt_seat.specs.Publications.{writes_seen}
+use Rattle.dt_seat.specs.Seats.{Wrote}
+use Rattle.dt_seat.specs.declared.present.Present.{Present}
 use Rattle.dt_seat.specs.Written.{AreUnnamedFrom, AreWritesOf, HasNotNamed, HasWritten, MayEndWith, SaysWrites, writes_in}
 use Rattle.dt_trail.specs.Items.{StartsWith, TrailItem}
 
@@ -107,15 +109,23 @@ not_named word seat held e =
     }
 
 -- the writes of a seat in the longer of two fronts begin what it wrote, as those in both do
-pub front_begins : (seat : ℕ) (old published front : Option (List Write)) (writes : List Write) → (front ≡ old) ⊎ (front ≡ published)
-    → IsPrefix (writes_of (writes_seen old) seat) writes → IsPrefix (writes_of (writes_seen published) seat) writes
+pub front_begins : (seat : ℕ) (old now front : Option (List Write)) (writes : List Write) → (front ≡ old) ⊎ (front ≡ now)
+    → IsPrefix (writes_of (writes_seen old) seat) writes → IsPrefix (writes_of (writes_seen now) seat) writes
     → IsPrefix (writes_of (writes_seen front) seat) writes
-front_begins seat old published front writes one a b =
+front_begins seat old now front writes one a b =
     let P : Option (List Write) → Type 0 = λ f. IsPrefix (writes_of (writes_seen f) seat) writes in
-    ⊎_elim (λ (e : front ≡ old). subst P (sym e) a) (λ (e : front ≡ published). subst P (sym e) b) one
+    ⊎_elim (λ (e : front ≡ old). subst P (sym e) a) (λ (e : front ≡ now). subst P (sym e) b) one
 
 -- what a seat wrote before it withdrew, or didn't
 pub retired : (seat : ℕ) (old new : List Write) (front : Option (List Write))
     → MatchOption front (MayEndWith (withdrawn seat) old new) (λ _. new ≡ old ++ withdrawn seat ∷ []) → IsPrefix old new
 retired seat old new None h = may_begin (withdrawn seat) old new h
 retired seat old new (Some front) h = may_begin (withdrawn seat) old new (inr h)
+
+-- what a seat wrote names no life that wasn't open yet
+pub not_begun : {J : Type 0} (word : TableId) (contents : Contents) (number life later : ℕ) (present : Option (Present J)) (held : HeldFact)
+    → Wrote word contents number life present held → (life < later) ⊎ ((present ≡ None) × (life ≤ later)) → stage later (writes_in held.fact) ≡ never
+not_begun word contents number life later None held h (inl above) = h.later later (omega (arith, above))
+not_begun word contents number life later None held h (inr at) = h.later later at.1
+not_begun word contents number life later (Some p) held h (inl above) = h.are.later later (omega (arith, above))
+not_begun word contents number life later (Some p) held h (inr at) = absurd (let bad : Some p ≡ None = at.0 in cc bad)

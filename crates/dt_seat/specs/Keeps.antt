@@ -135,6 +135,10 @@ pub record Carries (old new : Followed) (life : ℕ) : Type 0 where
 abbrev pub with_lives : Followed → List LifeStep → Followed
 with_lives f lives = record { seat = f.seat; cpu = f.cpu; took = f.took; lives = lives; note = f.note; told = f.told }
 
+-- the same, with this note
+abbrev pub with_note : Followed → Noted Account → Followed
+with_note f note = record { seat = f.seat; cpu = f.cpu; took = f.took; lives = f.lives; note = Some note; told = f.told }
+
 -- what a processor has at a seat once it let go of its note: it took none
 abbrev pub without_taken : Followed → Followed
 without_taken f = record { seat = f.seat; cpu = f.cpu; took = None; lives = f.lives; note = None; told = f.told }
@@ -146,3 +150,4 @@ pub record Forgets (old new : Followed) : Type 0 where
   pub lives : IsPrefix old.lives new.lives
   pub note : (new.note ≡ old.note) ⊎ (new.note ≡ None)
   pub same : (l : ℕ) → (l < over_of new) ⊎ (known_of l new ≡ known_of l old)
+  pub noted : (l : ℕ) → (l < over_of new) ⊎ (noted_of l new ≡ noted_of l old)

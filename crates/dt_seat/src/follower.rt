@@ -1,17 +1,17 @@
 //! What a processor has at one seat.
-ghost use Rattle.std.specs.Prelude.{◌≡◌, ℕ, None, Some, is_some};
+ghost use Rattle.std.specs.Prelude.{◌≡◌, ◌+◌, ℕ, None, Some, is_some};
 ghost use Rattle.dt_cred.specs.declared.account.Account.{Account};
 ghost use Rattle.dt_facts.specs.Facts.{last_note, no_lists, processor_fact};
 ghost use Rattle.dt_facts.specs.Handles.{begun, holding};
 ghost use Rattle.dt_facts.specs.Lives.{IsRowOfLife};
-ghost use Rattle.dt_seat.specs.Keeps.{followed_at};
+ghost use Rattle.dt_seat.specs.Keeps.{followed_at, known_by, with_note};
 ghost use Rattle.dt_seat.specs.Names.{known_name, life_name, processor_name};
 ghost use Rattle.dt_seat.specs.Tracked.{IsOrderly};
-ghost use Rattle.dt_trail.specs.Known.{Noted};
+ghost use Rattle.dt_trail.specs.Known.{Meets, Noted, noted};
 
 use crate::site::HubSite;
 use crate::told_of::ToldOf;
-use crate::trailed::Note;
+use crate::trailed::{Note, Owner};
 use dt_chain::Seat;
 use dt_facts::{Beginning, Share};
 use std::marker::Model;
@@ -80,6 +80,20 @@ impl<J: HubSite> Follower<J> {
         ensures row { (life : ℕ) (note : Noted Account) → self.now.note ≡ Some note → self.now.took ≡ Some (last_note life note.row)
             → IsRowOfLife life note.row self.now.lives }
     {
+        let _ = &self.seat;
+    }
+
+    /// Its note, which is of this trail, then knows the whole trail.
+    pub(crate) fn meet(&mut self, owner: &mut Owner<J>)
+        requires { self.old.note ≡ Some (noted owner.old.row (self.old.cpu + 1) (known_by self.old.note)) }
+        ensures owner { owner.new ≡ owner.old }
+        ensures note { self.new ≡ with_note self.old (noted owner.old.row (self.old.cpu + 1) owner.old.knows) }
+        ensures met { Meets owner.old.knows (noted owner.old.row (self.old.cpu + 1) (known_by self.old.note)) }
+    {
+        let Some(note) = &mut self.note else {
+            unreachable!()
+        };
+        owner.meet(note);
     }
 
     /// Whether it has the note of a life there.

@@ -4,6 +4,7 @@ ghost use Rattle.dt_chain.specs.Chains.{IsMaskAfter};
 ghost use Rattle.dt_chain.specs.Seats.{life_at};
 ghost use Rattle.dt_chain.specs.Writes.{Write};
 ghost use Rattle.dt_chain.specs.declared.seat_mask.SeatMask.{SeatMask};
+ghost use Rattle.dt_cred.specs.declared.firing.Firing.{Firing};
 ghost use Rattle.dt_legal.specs.Rows.{AreBelowPlace};
 ghost use Rattle.dt_machine.specs.Context.{IsContext};
 ghost use Rattle.dt_machine.specs.Registry.{firing_at};
@@ -137,6 +138,30 @@ impl<J: HubSite> LockedSeat<J> {
         result
     }
 
+    /// A life that a look has named is open, if it isn't over: no look names one that wasn't open yet, as the list of all writes shows. Nothing changes.
+    fn find_open<R: Wait>(
+        &mut self,
+        rt: &R,
+        facts: &Facts,
+        chains: &Mutex<HubPublisher<J>>,
+        life: u64,
+        reader: &ChainReader<J>,
+    )
+        requires facts { facts.now ≡ J.word }
+        requires there { self.old.life ≤ life }
+        requires named { (firing : Firing) × (mask : SeatMask) × IsMaskAfter J.contents.registry reader.now.seen firing mask
+            × (life_at mask self.old.number ≡ Some life) }
+        ensures same { self.new ≡ self.old }
+        ensures open { (self.old.life ≡ life) × IsSome self.old.trail }
+    {
+        if self.life == life && self.present.is_some() {
+            return;
+        }
+        let seen = reader.seen();
+        among_own(rt, facts, chains, &mut self.writes, self.number, &seen);
+        unreachable!()
+    }
+
     /// A processor offers a firing of its script to a life of the seat that its look has named. Its note, if it has one, has no firing of it at this place or a later
     /// one. Its reader is told of the publication of the session's `go`, once that was accepted.
     pub fn hold<R: Wait>(
@@ -176,16 +201,10 @@ impl<J: HubSite> LockedSeat<J> {
             follower.is_right();
             return Held::Gone;
         }
-        if life > self.life || self.present.is_none() {
-            // no look names a life that wasn't open yet, as the list of all writes shows
-            let seen = reader.seen();
-            among_own(rt, facts, chains, &mut self.writes, self.number, &seen);
-            unreachable!()
-        }
+        self.find_open(rt, facts, chains, life, reader);
         let Some(present) = &mut self.present else {
             unreachable!()
         };
-        hear(reader, &present.front);
         let held = hold_at(
             machine,
             facts,
@@ -196,6 +215,7 @@ impl<J: HubSite> LockedSeat<J> {
             context,
             follower,
         );
+        hear(reader, &present.front);
         follower.is_right();
         held
     }
@@ -209,6 +229,18 @@ impl<J: HubSite> LockedSeat<J> {
         ensures gone { IfSome follower.new.took (λ last. self.old.life ≤ last.life) }
         ensures tracked { (writes : List Write) (knew : ℕ → List ℕ) → AreTracked J.contents writes knew follower.old
             → AreTracked J.contents writes knew follower.new }
+        ensures seat { self.new ≡ self.old }
+    {
+        self.let_go_of_note(facts, follower);
+        follower.is_right();
+    }
+
+    /// The same, without what is kept track of.
+    fn let_go_of_note(&mut self, facts: &Facts, follower: &mut Follower<J>)
+        requires facts { facts.now ≡ J.word }
+        requires follower { (follower.old.seat ≡ self.old.number) × (follower.old.cpu < J.contents.registry.cpus) }
+        ensures follower { Forgets follower.old follower.new }
+        ensures gone { IfSome follower.new.took (λ last. self.old.life ≤ last.life) }
         ensures seat { self.new ≡ self.old }
     {
         if follower.note.is_none() || follower.life >= self.life {

@@ -12,6 +12,7 @@ use crate::follower::Follower;
 use crate::hub_publisher::{HubPublisher, among_own};
 use crate::locked::LockedSeat;
 use crate::notebook::hear;
+use crate::present::meet_at;
 use crate::session::Session;
 use crate::site::HubSite;
 use dt_chain::ChainReader;
@@ -65,18 +66,15 @@ impl<J: HubSite> LockedSeat<J> {
         let Some(present) = &mut self.present else {
             unreachable!()
         };
-        self.keeps[follower.cpu as usize].lend(
+        meet_at(
             facts,
-            &mut self.lives,
             self.life,
-            &present.owner,
+            &mut self.lives,
+            present,
+            &mut self.keeps,
+            &mut session.notebook.note,
             follower,
         );
-        let Some(note) = &mut follower.note else {
-            unreachable!()
-        };
-        present.owner.meet(note);
-        present.owner.meet(&mut session.notebook.note);
         session
             .known
             .go_on(facts, session.life, &session.notebook.note);

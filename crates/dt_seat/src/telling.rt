@@ -4,6 +4,8 @@ ghost use mathlib.Core.List.{IsPrefix};
 ghost use Rattle.dt_chain.specs.Writes.{Write};
 ghost use Rattle.dt_cred.specs.declared.account.Account.{Account};
 ghost use Rattle.dt_facts.specs.Lives.{IsRowOfLife};
+ghost use Rattle.dt_legal.specs.Rows.{IsLegalRow};
+ghost use Rattle.dt_seat.specs.Publications.{IsPublished};
 ghost use Rattle.dt_seat.specs.Receipts.{HasHeard, later_told};
 ghost use Rattle.dt_seat.specs.Tracked.{AreTracked};
 ghost use Rattle.dt_trail.specs.declared.law.Named.{Named};
@@ -56,6 +58,8 @@ impl<J: HubSite> Follower<J> {
         requires seat { receipt.seat ≡ self.old.seat }
         ensures heard { HasHeard receipt self.old self.new }
         ensures whose { (row : Named Account) × IsRowOfLife receipt.life row self.new.lives × (receipt.account ≡ row.account) }
+        ensures legal { IsLegalRow receipt.account J.contents receipt.knows }
+        ensures go { IsPublished J.contents receipt.seat receipt.life receipt.account receipt.knows receipt.published }
     {
         let Receipt {
             seat: _,

@@ -14,7 +14,7 @@ use Rattle.dt_seat.proofs.asking.ask_at.Goals as goal
 use Rattle.dt_seat.specs.Publications.{IsPublicationAfter, writes_seen}
 use Rattle.dt_legal.specs.Rows.{IsGoAfter}
 use Rattle.dt_seat.proofs.Trails.{trailed_as, trailed_own}
-use Rattle.dt_seat.specs.Trailed.{row_after, with_items}
+use Rattle.dt_seat.specs.Trailed.{row_after}
 use Rattle.dt_seat.specs.Written.{writes_in}
 use Rattle.dt_trail.specs.Items.{StartsWith}
 use Rattle.dt_trail.specs.Known.{Known, Noted, noted}
@@ -105,15 +105,15 @@ returns-clause-notebook g c =
     let after : c.finish-text.new.note ≡ noted old.row 0 (row_after c.args.present.now.account contents c.args.present.now.owner.knows item) =
     rw (whose, c.make_ready.ensures.row.1, c.make_ready.ensures.note.row) at c.finish-text.ensures.note in
     let announced : IsGoAfter c.args.present.now.account contents c.args.present.now.owner.knows item → (write : Write)
-    × Contains (writes_seen c.take_down-2.new.front) write
+    × Contains (writes_seen c.take_down-3.new.front) write
     × IsPublicationAfter contents c.args.number c.args.life c.args.present.now.account c.args.present.now.owner.knows write = λ go.
     let is_go = (c.publishes-is_go.ensures _ _ _ _ prepared.drafted).1 go in
     let found = c.in_ok-published.ensures.published is_go in
-    let first = contained_still _ _ found.0 c.take_down.ensures.now found.1 in
-    (found.0, contained_still _ _ found.0 c.take_down-2.ensures.before first, found.2) in
+    let first = contained_still _ _ found.0 c.take_down-2.ensures.now found.1 in
+    (found.0, contained_still _ _ found.0 c.take_down-3.ensures.before first, found.2) in
     notebook_asked contents c.args.number c.args.life c.args.present.now.account old c.make_ready.new.note c.args.notebook.now.lines.items
-    c.args.notebook.now.front c.take_down-2.new.front account c.requires.notebook c.make_ready.ensures.note c.args.present.now.owner.knows met item
-    c.finish-text.new.note c.finish-text.new.lines.items (prefix_trans _ _ _ c.take_down.ensures.before c.take_down-2.ensures.before) announced after c.finish-text.ensures.lines
+    c.args.notebook.now.front c.take_down-3.new.front account c.requires.notebook c.make_ready.ensures.note c.args.present.now.owner.knows met item
+    c.finish-text.new.note c.finish-text.new.lines.items (prefix_trans _ _ _ c.take_down-2.ensures.before c.take_down-3.ensures.before) announced after c.finish-text.ensures.lines
 
 pub returns-clause-trail : goal.returns-clause-trail
 returns-clause-trail g c =
@@ -139,7 +139,7 @@ returns-clause-note g c =
     (ap (λ (n : Noted Account). n.row) after, subst (λ (n : Noted Account). StartsWith n.knows old.knows) (sym after) starts)
 
 pub returns-clause-front : goal.returns-clause-front
-returns-clause-front g c = prefix_trans _ _ _ c.take_down.ensures.before c.take_down-2.ensures.before
+returns-clause-front g c = prefix_trans _ _ _ c.take_down-2.ensures.before c.take_down-3.ensures.before
 
 pub returns-in_err-published-clause-written : goal.returns-in_err-published-clause-written
 returns-in_err-published-clause-written g c =
@@ -192,9 +192,10 @@ returns-clause-published g c =
     ap (λ (r : Named Account). r.account) c.make_ready.ensures.row.0 ∙ c.requires.trailed.whose_is in
     let made = rw c.requires.machine at c.in_ok-prepared.ensures.prepared in
     let prepared = made account row c.requires.trailed.stands in
-    let after : c.finish-text.new.owner ≡ with_items c.make_ready.new.present.owner (row_after account contents row item) =
-    rw (whose, c.make_ready.ensures.row.1) at c.finish-text.ensures.trail in
-    let knows : c.finish-text.new.owner.knows ≡ row_after account contents row item = ap (λ (o : Known Account). o.knows) after in
+    let after : c.finish-text.new.owner.knows
+    ≡ row_after c.make_ready.new.present.owner.row.account contents c.make_ready.new.present.owner.knows item =
+    ap (λ (o : Known Account). o.knows) c.finish-text.ensures.trail in
+    let knows : c.finish-text.new.owner.knows ≡ row_after account contents row item = rw (whose, c.make_ready.ensures.row.1) at after in
     let taken = rw (c.make_ready.ensures.same.2, c.again.ensures) at c.take_down.ensures in
     let announced : IsGoAfter account contents row item → (write : Write) × Contains (writes_seen c.take_down.new.front) write
     × IsPublicationAfter contents c.args.number c.args.life account row write = λ go.

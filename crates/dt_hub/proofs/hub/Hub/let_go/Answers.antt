@@ -6,7 +6,10 @@ use Rattle.std.specs.List.{slice_get, slice_set}
 use Rattle.dt_hub.proofs.Offers.{get_set_other, get_set_same}
 use Rattle.dt_hub.proofs.Places.{at_seat_forgotten}
 use Rattle.dt_hub.proofs.hub.Hub.let_go.Goals as goal
-use Rattle.dt_hub.specs.Processors.{IsAtSeat}
+use Rattle.dt_facts.specs.laws.Beginnings.{prefix_self}
+use Rattle.dt_hub.proofs.Tracks.{all_but_one}
+use Rattle.dt_hub.specs.Processors.{IsAtSeat, counts_at, places_in}
+use Rattle.dt_seat.specs.Tracked.{AreTracked}
 use Rattle.dt_life.specs.laws.Lists.{replaced}
 use Rattle.dt_life.specs.laws.Options.{some_of}
 
@@ -23,12 +26,18 @@ invariant_of-cpu_seat g c =
       seats = record {
         many = length-set inside.followers.items n c.let_go_at.new.follower ∙ inv.seats.many;
         each = replaced (λ seat. IsAtSeat inside.cpu inside.place seat) inside.followers.items n c.let_go_at.new.follower
-            (at_seat_forgotten inside.cpu inside.place n c.index_mut.result.now c.let_go_at.new.follower c.let_go_at.ensures
+            (at_seat_forgotten inside.cpu inside.place n c.index_mut.result.now c.let_go_at.new.follower c.let_go_at.ensures.forgets
             (some_of (slice_get inside.followers.items n) c.index_mut.result.now (IsAtSeat inside.cpu inside.place n) is (inv.seats.each n)))
             (λ seat other. inv.seats.each seat);
       };
       many = inv.many;
       log_is = inv.log_is;
+      places = inv.places;
+      tracked = all_but_one g.J.Traced.contents inside.reader.told inside.reader.told (places_in inside.log.fact) inside.followers.items n
+          c.let_go_at.new.follower small (prefix_self inside.reader.told)
+          (c.let_go_at.ensures.tracked inside.reader.told (counts_at n (places_in inside.log.fact))
+          (some_of (slice_get inside.followers.items n) c.index_mut.result.now
+          (AreTracked g.J.Traced.contents inside.reader.told (counts_at n (places_in inside.log.fact))) is (inv.tracked n))) inv.tracked;
     }
 
 pub returns : goal.returns
@@ -46,7 +55,7 @@ returns g c =
       old_is = subst (λ (k : ℕ). slice_get inside.followers.items k ≡ Some c.index_mut.result.now) value is;
       new_is = subst (λ (k : ℕ). slice_get (slice_set inside.followers.items n c.let_go_at.new.follower) k ≡ Some c.let_go_at.new.follower) value
           (get_set_same inside.followers.items n c.let_go_at.new.follower small);
-      forgets = c.let_go_at.ensures;
+      forgets = c.let_go_at.ensures.forgets;
       others = λ seat other. get_set_other inside.followers.items n seat c.let_go_at.new.follower (λ e. other (e ∙ value));
       seen = refl;
       told = refl;

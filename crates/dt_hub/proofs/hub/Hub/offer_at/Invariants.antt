@@ -4,3 +4,4 @@ use Rattle.dt_hub.proofs.hub.Hub.offer_at.Given as goal
 
 abbrev pub invariant-lock : goal.invariant-lock
 invariant-lock g l = (goal.iterator-lock g).can_next l.iterator' × (goal.iterator-lock g).is_finite l.iterator' × (l.follower ≡ l.fn.follower)
+    × (l.reader ≡ l.fn.reader)

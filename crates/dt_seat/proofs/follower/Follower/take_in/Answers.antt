@@ -4,7 +4,7 @@ use Rattle.dt_cred.specs.declared.account.Account.{Account}
 use Rattle.dt_facts.specs.Facts.{HaveGrown, last_note}
 use Rattle.dt_facts.specs.Handles.{BegunLists}
 use Rattle.dt_facts.specs.Lives.{lives_over}
-use Rattle.dt_facts.specs.laws.Lives.{over_stays}
+use Rattle.dt_facts.specs.laws.Lives.{over_stays, row_stays}
 use Rattle.dt_seat.specs.Keeps.{IsEarlier, known_by, took_in}
 use Rattle.dt_seat.specs.Publications.{writes_seen}
 use Rattle.dt_seat.specs.Receipts.{later_told, told_of}
@@ -136,3 +136,29 @@ returns-clause-heard g c =
           rw (c.later_of.ensures, c.take.ensures.value, w.self-inside-is, ← c.receipt.view_is, ← c.self.view_is)
           (told (subst (IsEarlier c.receipt.inside.life) (sym last) tt))
     ]
+
+pub returns-clause-whose : goal.returns-clause-whose
+returns-clause-whose g c =
+    let theirs : HaveGrown c.receipt.inside.lives.lists c.learn.new.one.lists = c.learn.ensures.begins.1 in
+    let r = c.receipt.invariant.0 in
+    let named = row_stays c.receipt.inside.lives.lists.lives c.learn.new.one.lists.lives c.receipt.inside.life r.row theirs.2 r.is_open.1 in
+    elim c.match-self.branch [
+      | in-Some+else-self-life+else-self-life-2 w ↦ rw (w.self-inside-is, ← c.receipt.view_is) (r.row, named, r.same_account)
+      | in_default w ↦ rw (w.self-inside-is, ← c.receipt.view_is) (r.row, named, r.same_account)
+    ]
+
+pub returns-then-self-life-clause-go : goal.returns-then-self-life-clause-go
+returns-then-self-life-clause-go g c = rw (← c.receipt.view_is) c.receipt.invariant.2
+
+pub returns-then-self-life-2-clause-go : goal.returns-then-self-life-2-clause-go
+returns-then-self-life-2-clause-go g c = rw (← c.receipt.view_is) c.receipt.invariant.2
+
+pub returns-clause-go : goal.returns-clause-go
+returns-clause-go g c = rw (← c.receipt.view_is) c.receipt.invariant.2
+
+pub returns-then-self-life-2-clause-whose : goal.returns-then-self-life-2-clause-whose
+returns-then-self-life-2-clause-whose g c =
+    let theirs : HaveGrown c.receipt.inside.lives.lists c.learn.new.one.lists = c.learn.ensures.begins.1 in
+    let r = c.receipt.invariant.0 in
+    let named = row_stays c.receipt.inside.lives.lists.lives c.learn.new.one.lists.lives c.receipt.inside.life r.row theirs.2 r.is_open.1 in
+    rw (← c.receipt.view_is) (r.row, named, r.same_account)
