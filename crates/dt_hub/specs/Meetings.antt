@@ -17,7 +17,7 @@ pub record HasSeenAll (contents : Contents) (old new : Sat) : Type 0 where
   pub legal : IsLegalRow new.account contents new.knows
 
 -- The processor knows the same of the session's life, and what the session published. It has lost nothing, and all else is as it was.
-pub record HasLearnt (session : Sat) (old new : Processing) : Type 0 where
+pub record HasLearntAll (session : Sat) (old new : Processing) : Type 0 where
   pub before : Followed
   pub after : Followed
   pub old_is : slice_get old.at_seats session.seat ≡ Some before
@@ -38,7 +38,7 @@ pub record HasLearnt (session : Sat) (old new : Processing) : Type 0 where
 -- the processor knew as it fired; lines and the other processors' firings as the trail has them; and without the firings that aren't seen where they stand it is the trail.
 pub record HaveMet (contents : Contents) (old new : Sat) (before after : Processing) : Type 0 where
   pub session : HasSeenAll contents old new
-  pub processor : HasLearnt new before after
+  pub processor : HasLearntAll new before after
   pub row : List TrailItem
   pub shared : IsShared new.account contents after.cpu new.knows (counts_at new.seat after.log new.life) row
   pub places : length (counts_at new.seat after.log new.life) ≡ after.place

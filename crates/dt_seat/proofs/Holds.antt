@@ -30,7 +30,7 @@ use Rattle.dt_seat.proofs.Owning.{own_fired}
 use Rattle.dt_seat.specs.Keeps.{Carries, Followed, known_by, known_in, known_of, noted_in, noted_of, over_of, with_lives}
 use Rattle.dt_seat.specs.Publications.{IsPublished}
 use Rattle.dt_seat.specs.Seats.{ComesOfFiring, HasNote, Reaches, kept_items}
-use Rattle.dt_seat.specs.Tracked.{AreTracked, IsAllowed, IsOrderly, IsTracked, count_of, counts_with}
+use Rattle.dt_seat.specs.Tracked.{AreTracked, IsAllowed, IsToldLater, IsTracked, count_of, counts_with}
 use Rattle.dt_seat.specs.Written.{HasPublished}
 use Rattle.dt_seat.specs.declared.held.Held.{Held}
 use Rattle.dt_seat.specs.declared.held.Held.TheVariants.{Gone, Kept as WasKept, Unseen}
@@ -69,7 +69,7 @@ module _ (contents : Contents) (seen told : List Write) (firing : Firing) (mask 
       some_of a b e = cc
 
   -- the life is over
-  pub held_gone : new ≡ with_lives old new.lives → IsPrefix old.lives new.lives → life < over_of new → IsOrderly new
+  pub held_gone : new ≡ with_lives old new.lives → IsPrefix old.lives new.lives → life < over_of new → IsToldLater new
       → AreTracked contents told (counts_with knew old) new
   held_gone is begins over orderly = record {
     orderly = orderly;
@@ -88,7 +88,7 @@ module _ (contents : Contents) (seen told : List Write) (firing : Firing) (mask 
         noted = λ l apart. inr (ap (noted_of l) is);
       }
 
-  module _ (note : Noted Account) (has : HasNote life new note) (row : IsRowOfLife life note.row new.lives) (orderly : IsOrderly new)
+  module _ (note : Noted Account) (has : HasNote life new note) (row : IsRowOfLife life note.row new.lives) (orderly : IsToldLater new)
       (carries : Carries old new life) (trail : List TrailItem) (reaches : Reaches contents note.row.account firing.cpu (known_of life old) trail)
       (go : List Write) (go_told : IsPrefix go told) (published_go : IsPublished contents old.seat life note.row.account trail go) where
     abbrev account : Account
@@ -241,7 +241,7 @@ module _ (contents : Contents) (seen told : List Write) (firing : Firing) (mask 
   -- whatever came of it, by what lies under the lock: the life's trail before and after it, and what the session published
   module _ (account : Account) (row : Named Account) (before after : List TrailItem) (held : Held) (took : new.took ≡ Some (last_note life row))
       (whose_is : row.account ≡ account) (whole : known_by new.note ≡ after) (kept_is : after ≡ before ++ kept_items held firing)
-      (legal : IsLegalRow account contents after) (orderly : IsOrderly new)
+      (legal : IsLegalRow account contents after) (orderly : IsToldLater new)
       (rows : (l : ℕ) (note : Noted Account) → new.note ≡ Some note → new.took ≡ Some (last_note l note.row) → IsRowOfLife l note.row new.lives)
       (go : List Write) (go_told : IsPrefix go told) (order : IsPrefix go seen ⊎ IsPrefix seen go) (all_writes : List Write)
       (go_is : HasPublished contents old.seat life account before go all_writes) (in_order : IsInOrder account contents life all_writes before) where
@@ -263,7 +263,7 @@ module _ (contents : Contents) (seen told : List Write) (firing : Firing) (mask 
 
   module _ (account : Account) (row : Named Account) (before after : List TrailItem) (took : new.took ≡ Some (last_note life row))
       (whose_is : row.account ≡ account) (whole : known_by new.note ≡ after)
-      (legal : IsLegalRow account contents after) (orderly : IsOrderly new)
+      (legal : IsLegalRow account contents after) (orderly : IsToldLater new)
       (rows : (l : ℕ) (note : Noted Account) → new.note ≡ Some note → new.took ≡ Some (last_note l note.row) → IsRowOfLife l note.row new.lives)
       (go : List Write) (go_told : IsPrefix go told) (order : IsPrefix go seen ⊎ IsPrefix seen go) (all_writes : List Write)
       (go_is : HasPublished contents old.seat life account before go all_writes) (in_order : IsInOrder account contents life all_writes before) where

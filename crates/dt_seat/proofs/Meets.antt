@@ -17,7 +17,7 @@ use Rattle.dt_publisher.specs.laws.OwnWrites.{own_begin}
 use Rattle.dt_seat.proofs.Holds.{go_published}
 use Rattle.dt_seat.specs.Keeps.{Carries, Followed, known_of, noted_of, over_of}
 use Rattle.dt_seat.specs.Publications.{IsPublished}
-use Rattle.dt_seat.specs.Tracked.{AreTracked, IsAllowed, IsOrderly, IsTracked}
+use Rattle.dt_seat.specs.Tracked.{AreTracked, IsAllowed, IsToldLater, IsTracked}
 use Rattle.dt_seat.specs.laws.Notes.{noted_within}
 use Rattle.dt_seat.specs.laws.Tracked.{allowed_before, life_moved, life_writes}
 use Rattle.dt_trail.specs.Items.{StartsWith, TrailItem, own}
@@ -55,7 +55,7 @@ module _ (contents : Contents) (told further : List Write) (knew : ℕ → List 
       (noted_within old.cpu life old) own_is legal keeps
 
   -- and it keeps track further, once it knows of the publication
-  pub meets_tracked : (go : List Write) → IsPrefix told further → IsPrefix go further → IsPublished contents old.seat life account trail go → IsOrderly new
+  pub meets_tracked : (go : List Write) → IsPrefix told further → IsPrefix go further → IsPublished contents old.seat life account trail go → IsToldLater new
       → AreTracked contents further knew new
   meets_tracked go more go_told published_go orderly = record {
     orderly = orderly;

@@ -17,7 +17,7 @@ use Rattle.dt_seat.proofs.Holds.{go_published}
 use Rattle.dt_seat.specs.Keeps.{Followed, Forgets, known_by, known_of, noted_in, noted_of, over_of}
 use Rattle.dt_seat.specs.Publications.{IsPublished}
 use Rattle.dt_seat.specs.Receipts.{HasHeard, Received}
-use Rattle.dt_seat.specs.Tracked.{AreTracked, IsAllowed, IsOrderly, IsTracked}
+use Rattle.dt_seat.specs.Tracked.{AreTracked, IsAllowed, IsToldLater, IsTracked}
 use Rattle.dt_seat.specs.laws.Notes.{noted_within}
 use Rattle.dt_seat.specs.laws.Tracked.{allowed_before, life_moved}
 use Rattle.dt_trail.specs.Items.{StartsWith, TrailItem, longer, own}
@@ -41,7 +41,7 @@ noted_alike note life (Some last) knows more same = by_test (last.life == life)
     by_test true = same
     by_test false = refl
 
-module _ (contents : Contents) (received : Received) (old new : Followed) (h : HasHeard received old new) (orderly : IsOrderly new)
+module _ (contents : Contents) (received : Received) (old new : Followed) (h : HasHeard received old new) (orderly : IsToldLater new)
     (seat : received.seat ≡ old.seat) (row : Named Account) (named : IsRowOfLife received.life row new.lives) (whose_is : received.account ≡ row.account)
     (legal : IsLegalRow received.account contents received.knows)
     (go : IsPublished contents received.seat received.life received.account received.knows received.published)
@@ -119,7 +119,7 @@ module _ (contents : Contents) (received : Received) (old new : Followed) (h : H
   }
 
 -- and once it let go of a note there
-pub tracked_forgotten : (contents : Contents) (old new : Followed) → Forgets old new → IsOrderly new → (writes : List Write) (knew : ℕ → List ℕ)
+pub tracked_forgotten : (contents : Contents) (old new : Followed) → Forgets old new → IsToldLater new → (writes : List Write) (knew : ℕ → List ℕ)
     → AreTracked contents writes knew old → AreTracked contents writes knew new
 tracked_forgotten contents old new h orderly writes knew tracked = record {
   orderly = orderly;

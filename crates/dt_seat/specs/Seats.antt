@@ -80,8 +80,8 @@ module _ {J : Type 0} where
       (λ p. HasWritten word contents number life p.account p.owner.knows writes)
 
   -- What is known under the lock of what its session published, if one is open.
-  abbrev pub Published : Contents → (number life : ℕ) → Option (Present J) → HeldFact → Type 0
-  Published contents number life present writes =
+  abbrev pub HoldsPublication : Contents → (number life : ℕ) → Option (Present J) → HeldFact → Type 0
+  HoldsPublication contents number life present writes =
       IfSome present (λ p. HasPublished contents number life p.account p.owner.knows (writes_seen p.front) (writes_in writes.fact))
 
   -- what contracts see of it: which seat it is, how many sessions were there before, the trail of the present one, and what the seat wrote

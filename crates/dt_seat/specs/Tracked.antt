@@ -28,8 +28,8 @@ abbrev pub IsAllowed : (life : ℕ) → Account → List LifeStep → Type 0
 IsAllowed life account lives = (row : Named Account) → IsRowOfLife life row lives → account ≡ row.account
 
 -- What was told is of a life that has begun, and a later one than that of the note.
-abbrev pub IsOrderly : Followed → Type 0
-IsOrderly f = IfSome f.told (λ t. (t.life ≤ over_of f) × IsEarlier t.life f.took)
+abbrev pub IsToldLater : Followed → Type 0
+IsToldLater f = IfSome f.told (λ t. (t.life ≤ over_of f) × IsEarlier t.life f.took)
 
 -- A processor that knows these writes and, at each place that it fired, knew so many items of a life, keeps track of the life for an account, or the life is over.
 abbrev pub IsTracked : Contents → List Write → Followed → (life : ℕ) → Account → (counts : List ℕ) → Type 0
@@ -38,5 +38,5 @@ IsTracked contents writes f life account counts = (life < over_of f)
 
 -- It does so for each life of the seat, and each account that the life may be of.
 pub record AreTracked (contents : Contents) (writes : List Write) (knew : ℕ → List ℕ) (f : Followed) : Type 0 where
-  pub orderly : IsOrderly f
+  pub orderly : IsToldLater f
   pub each : (life : ℕ) (account : Account) → IsAllowed life account f.lives → IsTracked contents writes f life account (knew life)

@@ -6,7 +6,7 @@ ghost use Rattle.dt_facts.specs.Handles.{begun, holding};
 ghost use Rattle.dt_facts.specs.Lives.{IsRowOfLife};
 ghost use Rattle.dt_seat.specs.Keeps.{followed_at, known_by, with_note};
 ghost use Rattle.dt_seat.specs.Names.{known_name, life_name, processor_name};
-ghost use Rattle.dt_seat.specs.Tracked.{IsOrderly};
+ghost use Rattle.dt_seat.specs.Tracked.{IsToldLater};
 ghost use Rattle.dt_trail.specs.Known.{Meets, Noted, noted};
 
 use crate::site::HubSite;
@@ -76,7 +76,7 @@ impl<J: HubSite> Follower<J> {
 
     /// What it has is right: what was told is of a later life than the note, and the note's trail is the one that the life opened with.
     pub(crate) fn is_right(&self)
-        ensures orderly { IsOrderly self.now }
+        ensures orderly { IsToldLater self.now }
         ensures row { (life : ℕ) (note : Noted Account) → self.now.note ≡ Some note → self.now.took ≡ Some (last_note life note.row)
             → IsRowOfLife life note.row self.now.lives }
     {

@@ -52,7 +52,7 @@ pub struct LockedSeat<J: HubSite> {
 }
 
 impl<J: HubSite> Model for LockedSeat<J> {
-    ghost use Rattle.dt_seat.specs.Seats.{Seated, IsSeat, Published, Wrote, seated};
+    ghost use Rattle.dt_seat.specs.Seats.{Seated, HoldsPublication, IsSeat, Wrote, seated};
 
     ghost Value = { Seated };
 
@@ -60,7 +60,7 @@ impl<J: HubSite> Model for LockedSeat<J> {
 
     ghost invariant = { λ l. IsSeat J.word J.contents l.number l.life l.present l.lives l.free l.keeps.items
         × Wrote J.word J.contents l.number l.life l.present l.writes
-        × Published J.contents l.number l.life l.present l.writes };
+        × HoldsPublication J.contents l.number l.life l.present l.writes };
 }
 
 impl<J: HubSite> LockedSeat<J> {

@@ -18,7 +18,7 @@ use Rattle.dt_meeting.specs.Keeping.{KeepsTrack}
 use Rattle.dt_meeting.specs.laws.Keeping.{keeps_looked, keeps_new, keeps_writes}
 use Rattle.dt_publisher.specs.laws.OwnWrites.{own_begin}
 use Rattle.dt_seat.specs.Keeps.{Followed, IsEarlier, followed_at, known_by, known_in, known_of, noted_of, over_of, told_in}
-use Rattle.dt_seat.specs.Tracked.{AreTracked, IsAllowed, IsOrderly, IsTracked, count_of, counts_with, known_life}
+use Rattle.dt_seat.specs.Tracked.{AreTracked, IsAllowed, IsToldLater, IsTracked, count_of, counts_with, known_life}
 use Rattle.dt_seat.specs.declared.told_of.ToldOf.{ToldOf}
 use Rattle.dt_trail.specs.Items.{TrailItem, own}
 use Rattle.dt_trail.specs.declared.law.Named.{Named}
@@ -42,7 +42,7 @@ nothing_known l over (Some last) knows (Some t) h other = by_test (eqb last.life
     by_test false is = inr (ap (λ (b : Bool). cond b knows (told_in l (Some t))) is ∙ told_apart l t other)
 
 -- how many items are counted is how many are known, or the life is over
-pub counted : (f : Followed) (l : ℕ) → IsOrderly f → (l < over_of f) ⊎ (count_of f l ≡ length (known_of l f))
+pub counted : (f : Followed) (l : ℕ) → IsToldLater f → (l < over_of f) ⊎ (count_of f l ≡ length (known_of l f))
 counted f l h = by_test (eqb (known_life f) l) refl
   where
     by_test : (b : Bool) → eqb (known_life f) l ≡ b → (l < over_of f) ⊎ (count_of f l ≡ length (known_of l f))
