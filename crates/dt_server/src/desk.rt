@@ -70,16 +70,17 @@ impl Desk {
         self.turned.notify_all();
     }
 
-    /// Waits until there is something to do, and says what. Sessions that have ended come first: it is soon done, and gives memory back.
+    /// Waits until there is something to do, and says what. Firings come first: to let go of a session that has ended takes the lock of its seat, which a later session may have
+    /// for a long line.
     pub(crate) fn next<R: Wait>(&self, rt: &R) -> Duty {
         let mut orders = self.orders.lock(rt);
         for _ in rt.forever() {
+            if let Task::Asked(count) = orders.task {
+                return Duty::Fire(count);
+            }
             if let Some(seat) = orders.ended.first() {
                 orders.ended.remove(seat);
                 return Duty::LetGo(seat);
-            }
-            if let Task::Asked(count) = orders.task {
-                return Duty::Fire(count);
             }
             orders = self.turned.wait(rt, orders);
         }
