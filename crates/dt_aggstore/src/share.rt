@@ -42,10 +42,8 @@ impl<'a> KeyShare<'a> {
         ensures { result ≡ key_cmp (shared_key self.now) (shared_key other.now) }
     {
         match self.start.order(&other.start) {
-            // keys that begin alike and have nothing more are the same, and needn't be read
-            Ordering::Equal if self.start.is_whole() => Ordering::Equal,
-            Ordering::Equal => self.key.order(other.key),
-            decided => decided,
+            Some(order) => order,
+            None => self.key.order(other.key),
         }
     }
 
