@@ -1,5 +1,6 @@
 -- Shares and rows while a table is made.
-use Rattle.std.specs.Prelude.{◌≡◌, ◌≢◌, ◌↔◌, ℤ, cond, List, [], ◌++◌, map, filter, Contains, FitsSigned}
+use Rattle.std.specs.Prelude.{◌≡◌, ◌≢◌, ◌↔◌, ℕ, ℤ, Option, None, Some, Vec, cond, List, [], ◌++◌, map, filter, Contains, FitsSigned}
+use Rattle.std.specs.Global.{Global}
 use Rattle.std.specs.Int.{w64}
 use Rattle.std.specs.List.{AllByRecursion, AllZip, flat_map}
 use Rattle.dt_aggfn.specs.declared.function.AggFn.{AggFn}
@@ -17,12 +18,20 @@ key_of row = row.share.key.now.parts.items
 abbrev pub keys_of : List Joined → List (List KeyPart)
 keys_of rows = map key_of rows
 
+-- the cell of all values that were joined: the first share's where there is no other
+abbrev pub cell_with : Option (Vec ℕ Global) → List ℕ → List ℕ
+cell_with None first = first
+cell_with (Some cell) first = cell.items
+
+abbrev pub cell_joined : Joined → List ℕ
+cell_joined row = cell_with row.more row.share.cell.now
+
 -- Rows have been joined from bags: they rise by key, the keys whose bag has a value have one, and each has its bag's
 -- cell.
 pub record AreJoined (function : AggFn) (bags : List KeyPart → List ℤ) (rows : List Joined) : Type 0 where
   pub rising : IsRising (keys_of rows)
   pub has : (key : List KeyPart) → Contains (keys_of rows) key ↔ (bags key ≢ [])
-  pub cells : AllByRecursion (λ row. row.cell.items ≡ cell_of function (bags (key_of row))) rows
+  pub cells : AllByRecursion (λ row. cell_joined row ≡ cell_of function (bags (key_of row))) rows
   pub words : (key : List KeyPart) → AllByRecursion (λ z. FitsSigned w64 z) (bags key)
 
 -- the bags with one more for a key

@@ -35,6 +35,7 @@ impl PartStart {
     }
 
     /// How parts that begin so are ordered. `None`: they begin alike, and one is open.
+    #[inline]
     pub(crate) fn order(&self, other: &PartStart) -> Option<Ordering>
         ensures { result ≡ part_starts_tell self.now other.now }
     {

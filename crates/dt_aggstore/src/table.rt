@@ -94,7 +94,7 @@ fn rows_of(alloc: Global, joining: &Joining<'_>) -> Result<Vec<Row>, AllocError>
     for row in &joining.rows {
         rows.push(Row {
             key: row.share.key(),
-            value: joining.function.answer(alloc, &row.cell)?,
+            value: joining.function.answer(alloc, row.cell())?,
         })?;
     }
     Ok(rows)
