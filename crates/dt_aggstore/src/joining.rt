@@ -1,6 +1,6 @@
 //! Rows while a table is made.
 ghost use Rattle.std.specs.Prelude.{◌≡◌, ◌<◌, ℤ, List, ◌-◌, true, length, slice_index_or, ◌++◌, IfOk, OnOk, All};
-ghost use Rattle.dt_aggstore.specs.Joining.{cell_joined};
+ghost use Rattle.dt_aggstore.specs.Joining.{cell_joined, cell_shared};
 ghost use Rattle.dt_aggfn.specs.Cells.{cell_words, cell_of, IsBag};
 ghost use Rattle.dt_aggfn.specs.declared.limits.TheConstants.{BAG_LIMIT};
 
@@ -23,7 +23,7 @@ impl<'a> Joined<'a> {
     {
         match &self.more {
             Some(cell) => cell,
-            None => self.share.cell,
+            None => self.share.cell(),
         }
     }
 
@@ -40,7 +40,7 @@ impl<'a> Joined<'a> {
         match &mut self.more {
             Some(cell) => function.merge(cell, other),
             None => {
-                let mut cell = Vec::from_slice(alloc, self.share.cell)?;
+                let mut cell = Vec::from_slice(alloc, self.share.cell())?;
                 function.merge(&mut cell, other);
                 self.more = Some(cell);
             }
@@ -71,7 +71,7 @@ impl<'a> Joining<'a> {
         function: AggFn,
         shares: &[KeyShare<'a>],
     ) -> Result<Self, AllocError>
-        requires words { All (λ (share : KeyShare). length share.cell.now ≡ cell_words function) shares.now }
+        requires words { All (λ (share : KeyShare). length (cell_shared share) ≡ cell_words function) shares.now }
         requires sorted { IsSortedByKey shared_key key_cmp shares.now }
         ensures function { IfOk result (λ joining. joining.function ≡ function) }
         // where shares are of bags, the rows are joined from those
@@ -91,7 +91,7 @@ impl<'a> Joining<'a> {
 
     /// Joins a share. `Err`: there was no memory for a new row.
     fn join(&mut self, alloc: Global, share: &KeyShare<'a>) -> Result<(), AllocError>
-        requires { length share.now.cell.now ≡ cell_words self.old.function }
+        requires { length (cell_shared share.now) ≡ cell_words self.old.function }
         ensures function { self.new.function ≡ self.old.function }
         // On success rows joined from bags, of which none comes after the share's key, are those of the same bags with
         // the share's added at its key.
@@ -99,7 +99,7 @@ impl<'a> Joining<'a> {
             → AreJoined self.old.function bags self.old.rows.items
             → NoneAfter (shared_key share.now) (keys_of self.old.rows.items)
             → length (bags (shared_key share.now)) < BAG_LIMIT
-            → IsBag bag → share.now.cell.now ≡ cell_of self.old.function bag
+            → IsBag bag → cell_shared share.now ≡ cell_of self.old.function bag
             → OnOk result (AreJoined self.old.function (joined_at (shared_key share.now) bag bags)
             self.new.rows.items) }
     {
@@ -108,7 +108,7 @@ impl<'a> Joining<'a> {
             let place = self.rows.len() - 1;
             let function = self.function;
             let row = &mut self.rows[place];
-            return row.merge(alloc, function, share.cell);
+            return row.merge(alloc, function, share.cell());
         }
         self.rows.push(Joined {
             share: *share,

@@ -38,7 +38,7 @@ impl KeyStart {
     }
 
     /// How keys that begin so are ordered. `None`: they begin alike, and may go on.
-    #[inline]
+    #[inline(always)]
     pub(crate) fn order(&self, other: &KeyStart) -> Option<Ordering>
         ensures { result ≡ starts_tell self.now other.now }
     {

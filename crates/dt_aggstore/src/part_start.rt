@@ -35,7 +35,7 @@ impl PartStart {
     }
 
     /// How parts that begin so are ordered. `None`: they begin alike, and one is open.
-    #[inline]
+    #[inline(always)]
     pub(crate) fn order(&self, other: &PartStart) -> Option<Ordering>
         ensures { result ≡ part_starts_tell self.now other.now }
     {
@@ -69,6 +69,7 @@ impl PartStart {
 }
 
 /// What an order tells of two parts, of which one is open or none.
+#[inline(always)]
 fn tell(more: bool, order: Ordering) -> Option<Ordering>
     ensures { result ≡ told more order }
 {

@@ -30,7 +30,7 @@ returns-then-ends_with-clause-joins c = λ bags bag j none few own cell.
     (λ joined. merged_at function bags bag rows place key row j within is same c.merge.new.self
     (ap (λ share. shared_key share) c.merge.ensures.share) joined own)
     (c.merge.ensures.cell (bags key) bag (bag_at function bags bag rows place key row j within is same few) own
-    (cell_then function bags bag rows place key row j within is same) cell)
+    (cell_then function bags bag rows place key row j within is same) (c.cell.ensures ∙ cell))
 
 pub returns-clause-joins : goal.returns-clause-joins
 returns-clause-joins c = λ bags bag j none few own cell.
