@@ -4,7 +4,7 @@ use Rattle.std.specs.Prelude.{nat_eq, IfSome, Option, None, Some}
 use Rattle.std.specs.Ordering.{int_cmp, nat_cmp, is_eq, ordering_then}
 use Rattle.std.specs.Cmp.Lexicographic.{pointwise, slice_cmp, bytes_decides}
 use Rattle.std.specs.declared.cmp.Ordering.TheVariants.{Equal, Greater}
-use Rattle.dt_aggstore.specs.KeyStarts.{padded, start_of_part, start_of_rest, start_of_key, told, part_starts_tell, then_tells, starts_tell}
+use Rattle.dt_aggstore.specs.KeyStarts.{zero_filled, start_of_part, start_of_rest, start_of_key, told, part_starts_tell, then_tells, starts_tell}
 use Rattle.std.proofs.lemmas.Cmp.{tied_itself, nat_list_cmp_total}
 use Rattle.std.proofs.lemmas.Map.Lookups.{exact_bytes}
 use Rattle.dt_aggstore.specs.Keys.{part_cmp, key_cmp, same_key}
@@ -51,27 +51,27 @@ yes_of_not true e = refl
 yes_of_not false e = cc
 
 -- a text whose start isn't open is that start, and else zeros
-pub text_whole : (more : Bool) (a : List ℕ) → (more || not (pointwise nat_eq a (padded (take START_BYTES a)))) ≡ false
-    → (more ≡ false) × (a ≡ padded (take START_BYTES a))
+pub text_whole : (more : Bool) (a : List ℕ) → (more || not (pointwise nat_eq a (zero_filled (take START_BYTES a)))) ≡ false
+    → (more ≡ false) × (a ≡ zero_filled (take START_BYTES a))
 text_whole more a e =
-    let two = neither more (not (pointwise nat_eq a (padded (take START_BYTES a)))) e in
-    (two.0, (bytes_decides a (padded (take START_BYTES a))).0 (yes_of_not _ two.1))
+    let two = neither more (not (pointwise nat_eq a (zero_filled (take START_BYTES a)))) e in
+    (two.0, (bytes_decides a (zero_filled (take START_BYTES a))).0 (yes_of_not _ two.1))
 
 -- What two starts of parts tell: the order of the parts, and where it is that of equals, no part follows.
 abbrev pub Tells : Bool → Bool → KeyPart → KeyPart → Ordering → Type 0
 Tells more also a b o = (o ≡ part_cmp a b) × (o ≡ Equal → (more ≡ false) × (also ≡ false))
 
 texts_tell : (more also : Bool) (a b : List ℕ) (o : Ordering) → slice_cmp nat_cmp (take START_BYTES a) (take START_BYTES b) ≡ o
-    → IfSome (told ((more || not (pointwise nat_eq a (padded (take START_BYTES a))))
-    || (also || not (pointwise nat_eq b (padded (take START_BYTES b))))) o) (Tells more also (Text a) (Text b))
+    → IfSome (told ((more || not (pointwise nat_eq a (zero_filled (take START_BYTES a))))
+    || (also || not (pointwise nat_eq b (zero_filled (take START_BYTES b))))) o) (Tells more also (Text a) (Text b))
 texts_tell more also a b o e =
     by o _ refl e
   where
     open_a : Bool
-    open_a = more || not (pointwise nat_eq a (padded (take START_BYTES a)))
+    open_a = more || not (pointwise nat_eq a (zero_filled (take START_BYTES a)))
 
     open_b : Bool
-    open_b = also || not (pointwise nat_eq b (padded (take START_BYTES b)))
+    open_b = also || not (pointwise nat_eq b (zero_filled (take START_BYTES b)))
 
     by : (p : Ordering) (open_some : Bool) → (open_a || open_b) ≡ open_some
         → slice_cmp nat_cmp (take START_BYTES a) (take START_BYTES b) ≡ p
@@ -83,7 +83,7 @@ texts_tell more also a b o e =
         let two = neither open_a open_b f in
         let one = text_whole more a two.0 in
         let other = text_whole also b two.1 in
-        let same : a ≡ b = one.1 ∙ ap padded (exact_bytes (take START_BYTES a) (take START_BYTES b) e) ∙ sym other.1 in
+        let same : a ≡ b = one.1 ∙ ap zero_filled (exact_bytes (take START_BYTES a) (take START_BYTES b) e) ∙ sym other.1 in
         (sym (tied_itself nat_list_cmp_total a) ∙ ap (slice_cmp nat_cmp a) same, λ g. (one.0, other.0))
     by Greater true f e = (first_differ START_BYTES a b Greater e (λ g. cc), λ g. cc)
     by Greater false f e = (first_differ START_BYTES a b Greater e (λ g. cc), λ g. cc)

@@ -12,14 +12,15 @@ use Rattle.dt_aggstore.specs.declared.key.KeyPart.TheVariants.{Number, Text}
 use Rattle.dt_aggstore.specs.declared.limits.TheConstants.{START_BYTES, REST_BYTES}
 
 -- the text that has these first bytes, and else zeros
-abbrev pub padded : List ℕ → List ℕ
-padded bytes = bytes ++ replicate REST_BYTES 0
+abbrev pub zero_filled : List ℕ → List ℕ
+zero_filled bytes = bytes ++ replicate REST_BYTES 0
 
--- A part's number, or the first bytes of its text. It is open where more parts follow that are not held, or where the text goes on.
+-- A part's number, or the first bytes of its text. It is open where more parts follow that are not held, or where the
+-- text goes on.
 abbrev pub start_of_part : Bool → KeyPart → PartStart
 start_of_part more (Number n) = start.Number more n
 start_of_part more (Text bytes) =
-    start.Text (more || not (pointwise nat_eq bytes (padded (take START_BYTES bytes)))) (take START_BYTES bytes)
+    start.Text (more || not (pointwise nat_eq bytes (zero_filled (take START_BYTES bytes)))) (take START_BYTES bytes)
 
 -- how the first of some parts begins, of which the others are not held
 abbrev pub start_of_rest : List KeyPart → PartStart
@@ -39,8 +40,8 @@ told true Equal = None
 told _ Less = Some Less
 told _ Greater = Some Greater
 
--- Starts of parts are ordered as parts are: nothing first, then numbers, by size, then texts, by bytes. Of two that are ordered as equal, and of
--- which one is open, they don't tell.
+-- Starts of parts are ordered as parts are: nothing first, then numbers, by size, then texts, by bytes. Of two that are
+-- ordered as equal, and of which one is open, they don't tell.
 abbrev pub part_starts_tell : PartStart → PartStart → Option Ordering
 part_starts_tell start.Nothing start.Nothing = Some Equal
 part_starts_tell start.Nothing _ = Some Less

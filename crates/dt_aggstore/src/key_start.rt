@@ -8,8 +8,8 @@ use crate::part_start::PartStart;
 use arrayvec::ArrayVec;
 use std::cmp::Ordering;
 
-/// How a key begins: its first two parts. Of most keys, their starts tell which comes first: who sorts by them reads a key, which
-/// lies elsewhere, only where two begin alike and may go on.
+/// How a key begins: its first two parts. Of most keys, their starts tell which comes first: who sorts by them reads a
+/// key, which lies elsewhere, only where two begin alike and may go on.
 #[derive(Clone, Copy)]
 pub(crate) struct KeyStart {
     first: PartStart,

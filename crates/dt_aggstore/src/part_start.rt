@@ -1,13 +1,14 @@
 //! How the parts of keys begin, held by value.
 ghost use Rattle.std.specs.Prelude.{◌≡◌, ◌≢◌, Bool, false, IfSome};
-ghost use Rattle.dt_aggstore.specs.KeyStarts.{padded, start_of_part, part_starts_tell, told};
+ghost use Rattle.dt_aggstore.specs.KeyStarts.{zero_filled, start_of_part, part_starts_tell, told};
 ghost use Rattle.dt_aggstore.specs.declared.key.KeyPart.{KeyPart as Part};
 
 use crate::key::KeyPart;
 use crate::limits::START_BYTES;
 use std::cmp::Ordering;
 
-/// How a part of a key begins, and whether it is open: its key may have more than this. A text of few bytes is held whole.
+/// How a part of a key begins, and whether it is open: its key may have more than this. A text of few bytes is held
+/// whole.
 #[derive(Clone, Copy)]
 pub(crate) enum PartStart {
     /// The key has no such part.
@@ -57,8 +58,10 @@ impl PartStart {
     /// The part that begins so, if it isn't open, and there is one.
     pub(crate) fn part(&self) -> Option<KeyPart>
         ensures some { IfSome result (λ part. self.now ≢ Nothing) }
-        ensures whole { IfSome result (λ part. (more : Bool) (p : Part) → start_of_part more p ≡ self.now → part ≡ p) }
-        ensures last { IfSome result (λ part. (more : Bool) (p : Part) → start_of_part more p ≡ self.now → more ≡ false) }
+        ensures whole { IfSome result (λ part. (more : Bool) (p : Part) → start_of_part more p ≡ self.now
+            → part ≡ p) }
+        ensures last { IfSome result (λ part. (more : Bool) (p : Part) → start_of_part more p ≡ self.now
+            → more ≡ false) }
     {
         match self {
             PartStart::Number(false, number) => Some(KeyPart::Number(*number)),
@@ -81,7 +84,7 @@ fn tell(more: bool, order: Ordering) -> Option<Ordering>
 
 /// The text that has these first bytes, and else zeros.
 fn text_of(start: &[u8; START_BYTES]) -> [u8; 32]
-    ensures { result ≡ padded start.now }
+    ensures { result ≡ zero_filled start.now }
 {
     let mut text = [0; 32];
     text[..START_BYTES].copy_from_slice(start);

@@ -7,8 +7,8 @@ use crate::key_start::KeyStart;
 use std::alloc::AllocError;
 use std::cmp::Ordering;
 
-/// The cell that one store has of a key. One word is held by value: it is read where a store is gone over in order, and not
-/// where rows are made in order of key, of which the cells lie far apart.
+/// The cell that one store has of a key. One word is held by value: it is read where a store is gone over in order, and
+/// not where rows are made in order of key, of which the cells lie far apart.
 #[derive(Clone, Copy)]
 pub(crate) enum ShareCell<'a> {
     Word([u64; 1]),
