@@ -12,7 +12,7 @@ use Rattle.dt_aggstore.specs.History.{Past}
 use Rattle.dt_aggstore.specs.Held.{entry_of, counted, held_after, bag}
 use Rattle.dt_aggstore.specs.EntryNames.{entry_named, entries_named, words_of}
 use Rattle.dt_aggstore.specs.IsAt.{IsAt}
-use Rattle.dt_aggstore.specs.Joining.{AreShares, joined_at, shared_key}
+use Rattle.dt_aggstore.specs.Joining.{cell_shared, AreShares, joined_at, shared_key}
 use Rattle.dt_aggstore.specs.declared.key.Aggregation.{Aggregation}
 use Rattle.dt_aggstore.specs.declared.entry_name.EntryName.{EntryName}
 use Rattle.dt_aggstore.specs.declared.share.KeyShare.{KeyShare}
@@ -182,7 +182,7 @@ module _ (past : Past) (store : AggStore) (at : IsAt past store) (aggregation : 
   pub entry_shared : Lengths → same_aggregation aggregation x.aggregation ≡ true
       → (place words : ℕ) → place ≡ words_of So-far → words ≡ cell_words x.aggregation.function
       → (share : KeyShare) → shared_key share ≡ x.key.parts.items
-      → share.cell.now ≡ slice_range store.cells.items place (place + words)
+      → cell_shared share ≡ slice_range store.cells.items place (place + words)
       → AreShares aggregation.function (Gathered past store at aggregation bags Next) (shares ++ share ∷ [])
   entry_shared lengths same place words p w share k c =
       let key = x.key.parts.items in
@@ -191,7 +191,7 @@ module _ (past : Past) (store : AggStore) (at : IsAt past store) (aggregation : 
       let bag-of = bag past.events at.chosen aggregation key in
       let is_bag : IsBag bag-of =
       subst (λ a. IsBag (bag past.events at.chosen a key)) (sym own) (bag_here past store at i x here is) in
-      let has_cell : share.cell.now ≡ cell_of aggregation.function bag-of =
+      let has_cell : cell_shared share ≡ cell_of aggregation.function bag-of =
       c ∙ cell_here past store at i x here is lengths place words p w
       ∙ ap (λ (a : Aggregation). cell_of a.function (bag past.events at.chosen a key)) (sym own) in
       shared_alike aggregation.function (joined_at key bag-of gathered)

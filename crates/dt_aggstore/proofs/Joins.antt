@@ -12,7 +12,7 @@ use Rattle.dt_aggfn.specs.declared.limits.TheConstants.{BAG_LIMIT}
 use Rattle.dt_aggfn.specs.Cells.{cell_of, IsBag}
 use Rattle.dt_aggstore.specs.Keys.{same_key, IsBelow}
 use Rattle.dt_aggstore.specs.Table.{IsRising}
-use Rattle.dt_aggstore.specs.Joining.{key_of, keys_of, AreJoined, joined_at, NoneAfter}
+use Rattle.dt_aggstore.specs.Joining.{cell_joined, key_of, keys_of, AreJoined, joined_at, NoneAfter}
 use Rattle.dt_aggstore.specs.declared.joining.Joined.{Joined}
 use Rattle.dt_aggstore.proofs.Same.{key_decides}
 use Rattle.dt_aggstore.proofs.Filters.{yes_or_no}
@@ -24,7 +24,7 @@ abbrev Bags-of : Type 0
 Bags-of = Key → List ℤ
 
 abbrev Cells-are : AggFn → Bags-of → List Joined → Type 0
-Cells-are function bags rows = AllByRecursion (λ row. row.cell.items ≡ cell_of function (bags (key_of row))) rows
+Cells-are function bags rows = AllByRecursion (λ row. cell_joined row ≡ cell_of function (bags (key_of row))) rows
 
 own_key : (key : Key) → same_key key key ≡ true
 own_key key = (key_decides key key).1 refl
@@ -116,15 +116,15 @@ module _ (function : AggFn) (bags : Bags-of) (bag : List ℤ) (before : List Joi
     words = j.words Row-key;
   }
 
-  pub row_cell : row.cell.items ≡ cell_of function (bags Row-key)
-  row_cell = (all_back (λ row. row.cell.items ≡ cell_of function (bags (key_of row))) before (row ∷ later) j.cells).0
+  pub row_cell : cell_joined row ≡ cell_of function (bags Row-key)
+  row_cell = (all_back (λ row. cell_joined row ≡ cell_of function (bags (key_of row))) before (row ∷ later) j.cells).0
 
   same_keys : key_of new ≡ Row-key → keys_of (before ++ new ∷ later) ≡ keys_of (before ++ row ∷ later)
   same_keys e =
       keys-split before new later ∙ ap (λ k. keys_of before ++ k ∷ keys_of later) e
       ∙ sym (keys-split before row later)
 
-  pub merged : key_of new ≡ Row-key → new.cell.items ≡ cell_of function (bags Row-key ++ bag) → IsBag bag
+  pub merged : key_of new ≡ Row-key → cell_joined new ≡ cell_of function (bags Row-key ++ bag) → IsBag bag
       → AreJoined function (joined_at Row-key bag bags) (before ++ new ∷ later)
   merged e cell own = record {
     rising = subst IsRising (sym (same_keys e)) j.rising;
@@ -138,13 +138,13 @@ module _ (function : AggFn) (bags : Bags-of) (bag : List ℤ) (before : List Joi
           (λ more. (j.has k).1 more)
           (joined_some Row-key bag bags k some))),
     );
-    cells = all_append (λ row. row.cell.items ≡ cell_of function (joined_at Row-key bag bags (key_of row))) before
+    cells = all_append (λ row. cell_joined row ≡ cell_of function (joined_at Row-key bag bags (key_of row))) before
         (new ∷ later)
         (cells_other Row-key bag bags function before before_apart
-        (all_front (λ row. row.cell.items ≡ cell_of function (bags (key_of row))) before (row ∷ later) j.cells)) (
+        (all_front (λ row. cell_joined row ≡ cell_of function (bags (key_of row))) before (row ∷ later) j.cells)) (
           cell ∙ ap (cell_of function) (sym (ap (joined_at Row-key bag bags) e ∙ joined_own Row-key bag bags)),
           cells_other Row-key bag bags function later later_apart
-              (all_back (λ row. row.cell.items ≡ cell_of function (bags (key_of row))) before
+              (all_back (λ row. cell_joined row ≡ cell_of function (bags (key_of row))) before
               (row ∷ later) j.cells).1,
         );
     words = joined_words Row-key bag bags j.words own.words;
@@ -181,7 +181,7 @@ module _ (function : AggFn) (bags : Bags-of) (bag : List ℤ) (before later : Li
       (subst (λ xs. Contains xs New-key) (map-append key_of before later) ((j.has New-key).1 some))))
       (empty_or_not (bags New-key))
 
-  pub inserted : new.cell.items ≡ cell_of function bag → IsBag bag
+  pub inserted : cell_joined new ≡ cell_of function bag → IsBag bag
       → AreJoined function (joined_at New-key bag bags) (before ++ new ∷ later)
   inserted cell own = record {
     rising = subst IsRising (sym (keys-split before new later))
@@ -200,13 +200,13 @@ module _ (function : AggFn) (bags : Bags-of) (bag : List ℤ) (before later : Li
           (subst (λ xs. Contains xs k) (map-append key_of before later) ((j.has k).1 more)))
           (joined_some New-key bag bags k some))),
     );
-    cells = all_append (λ row. row.cell.items ≡ cell_of function (joined_at New-key bag bags (key_of row))) before
+    cells = all_append (λ row. cell_joined row ≡ cell_of function (joined_at New-key bag bags (key_of row))) before
         (new ∷ later)
         (cells_other New-key bag bags function before both_apart.0
-        (all_front (λ row. row.cell.items ≡ cell_of function (bags (key_of row))) before later j.cells)) (
+        (all_front (λ row. cell_joined row ≡ cell_of function (bags (key_of row))) before later j.cells)) (
           cell ∙ ap (cell_of function) (ap (λ b. b ++ bag) (sym no_values) ∙ sym (joined_own New-key bag bags)),
           cells_other New-key bag bags function later both_apart.1
-              (all_back (λ row. row.cell.items ≡ cell_of function (bags (key_of row))) before later j.cells),
+              (all_back (λ row. cell_joined row ≡ cell_of function (bags (key_of row))) before later j.cells),
         );
     words = joined_words New-key bag bags j.words own.words;
   }
@@ -265,12 +265,12 @@ module _ (function : AggFn) (bags : Bags-of) (bag : List ℤ) (rows : List Joine
       subst (λ k. length (bags k) < BAG_LIMIT → IsBag (bags k)) same
       (row_bag function bags bag (take place rows) row row (drop (place + 1) rows) around) few
 
-  pub cell_then : row.cell.items ≡ cell_of function (bags key)
+  pub cell_then : cell_joined row ≡ cell_of function (bags key)
   cell_then =
       row_cell function bags bag (take place rows) row row (drop (place + 1) rows) around
       ∙ ap (λ k. cell_of function (bags k)) same
 
-  pub merged_at : (new : Joined) → key_of new ≡ key_of row → new.cell.items ≡ cell_of function (bags key ++ bag)
+  pub merged_at : (new : Joined) → key_of new ≡ key_of row → cell_joined new ≡ cell_of function (bags key ++ bag)
       → IsBag bag
       → AreJoined function (joined_at key bag bags) (set rows place new)
   merged_at new e cell own =
@@ -282,7 +282,7 @@ module _ (function : AggFn) (bags : Bags-of) (bag : List ℤ) (rows : List Joine
 pub pushed_at : (function : AggFn) (bags : Bags-of) (bag : List ℤ) (rows : List Joined) (key : Key) (new : Joined)
     → AreJoined function bags rows → NoneAfter key (keys_of rows)
     → ((d : Joined) → 0 < length rows → same_key (key_of (get_or rows (length rows - 1) d)) key ≡ false)
-    → key_of new ≡ key → new.cell.items ≡ cell_of function bag → IsBag bag
+    → key_of new ≡ key → cell_joined new ≡ cell_of function bag → IsBag bag
     → AreJoined function (joined_at key bag bags) (rows ++ new ∷ [])
 pushed_at function bags bag rows key new j none apart e cell own =
     let below = all_below_end rows key j.rising none apart in

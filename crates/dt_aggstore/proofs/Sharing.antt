@@ -15,7 +15,7 @@ use Rattle.std.proofs.lemmas.Grind.{flat_map-append}
 use Rattle.dt_aggfn.specs.declared.function.AggFn.{AggFn}
 use Rattle.dt_aggfn.specs.Cells.{cell_of, IsBag}
 use Rattle.dt_aggstore.specs.Keys.{key_cmp, same_key, IsBelow}
-use Rattle.dt_aggstore.specs.Joining.{AreJoined, AreShares, MakeBag, NoneAfter, joined_at, keys_of, shared_key}
+use Rattle.dt_aggstore.specs.Joining.{cell_shared, AreJoined, AreShares, MakeBag, NoneAfter, joined_at, keys_of, shared_key}
 use Rattle.dt_aggstore.specs.declared.joining.Joined.{Joined}
 use Rattle.dt_aggstore.specs.declared.share.KeyShare.{KeyShare}
 use Rattle.dt_aggstore.proofs.Same.{key_decides}
@@ -31,7 +31,7 @@ abbrev pub has_key : Key → KeyShare → Bool
 has_key key share = same_key (shared_key share) key
 
 abbrev Has-cell : AggFn → KeyShare → List ℤ → Type 0
-Has-cell function share part = IsBag part × (share.cell.now ≡ cell_of function part)
+Has-cell function share part = IsBag part × (cell_shared share ≡ cell_of function part)
 
 -- shares are of bags that are the same
 pub shared_alike : (function : AggFn) (bags other : Bags-of) (shares : List KeyShare)
@@ -79,7 +79,7 @@ made_more function bag last shares share m has = record {
 }
 
 module _ (function : AggFn) (bags : Bags-of) (bag : List ℤ) (shares : List KeyShare) (share : KeyShare) where
-  pub shared_more : AreShares function bags shares → IsBag bag → share.cell.now ≡ cell_of function bag
+  pub shared_more : AreShares function bags shares → IsBag bag → cell_shared share ≡ cell_of function bag
       → AreShares function (joined_at (shared_key share) bag bags) (shares ++ share ∷ [])
   shared_more so_far own cell = λ key.
       subst (λ xs. MakeBag function xs (joined_at (shared_key share) bag bags key))
@@ -110,7 +110,7 @@ pub record Before (function : AggFn) (shares : List KeyShare) (share : KeyShare)
   pub last : List ℤ
   pub made : MakeBag function shares front
   pub own : IsBag last
-  pub cell : share.cell.now ≡ cell_of function last
+  pub cell : cell_shared share ≡ cell_of function last
   pub whole : front ++ last ≡ bag
 
 made_before : (function : AggFn) (bag : List ℤ) (shares : List KeyShare) (share : KeyShare)

@@ -1,5 +1,6 @@
 -- Shares and rows while a table is made.
-use Rattle.std.specs.Prelude.{◌≡◌, ◌≢◌, ◌↔◌, ℤ, cond, List, [], ◌++◌, map, filter, Contains, FitsSigned}
+use Rattle.std.specs.Prelude.{◌≡◌, ◌≢◌, ◌↔◌, ℕ, ℤ, Option, None, Some, Vec, cond, List, [], ◌++◌, map, filter, Contains, FitsSigned}
+use Rattle.std.specs.Global.{Global}
 use Rattle.std.specs.Int.{w64}
 use Rattle.std.specs.List.{AllByRecursion, AllZip, flat_map}
 use Rattle.dt_aggfn.specs.declared.function.AggFn.{AggFn}
@@ -10,6 +11,8 @@ use Rattle.dt_aggstore.specs.Table.{IsRising, RowForm}
 use Rattle.dt_aggstore.specs.declared.key.KeyPart.{KeyPart}
 use Rattle.dt_aggstore.specs.declared.joining.Joined.{Joined}
 use Rattle.dt_aggstore.specs.declared.share.KeyShare.{KeyShare}
+use Rattle.dt_aggstore.specs.declared.share.ShareCell.{ShareCell}
+use Rattle.dt_aggstore.specs.declared.share.ShareCell.TheVariants.{Word, Words}
 
 abbrev pub key_of : Joined → List KeyPart
 key_of row = row.share.key.now.parts.items
@@ -17,12 +20,28 @@ key_of row = row.share.key.now.parts.items
 abbrev pub keys_of : List Joined → List (List KeyPart)
 keys_of rows = map key_of rows
 
+-- the words that a share holds, one by value or all by reference
+abbrev pub words_held : ShareCell → List ℕ
+words_held (Word words) = words
+words_held (Words words) = words.now
+
+abbrev pub cell_shared : KeyShare → List ℕ
+cell_shared share = words_held share.cell
+
+-- the cell of all values that were joined: the first share's where there is no other
+abbrev pub cell_with : Option (Vec ℕ Global) → List ℕ → List ℕ
+cell_with None first = first
+cell_with (Some cell) first = cell.items
+
+abbrev pub cell_joined : Joined → List ℕ
+cell_joined row = cell_with row.more (cell_shared row.share)
+
 -- Rows have been joined from bags: they rise by key, the keys whose bag has a value have one, and each has its bag's
 -- cell.
 pub record AreJoined (function : AggFn) (bags : List KeyPart → List ℤ) (rows : List Joined) : Type 0 where
   pub rising : IsRising (keys_of rows)
   pub has : (key : List KeyPart) → Contains (keys_of rows) key ↔ (bags key ≢ [])
-  pub cells : AllByRecursion (λ row. row.cell.items ≡ cell_of function (bags (key_of row))) rows
+  pub cells : AllByRecursion (λ row. cell_joined row ≡ cell_of function (bags (key_of row))) rows
   pub words : (key : List KeyPart) → AllByRecursion (λ z. FitsSigned w64 z) (bags key)
 
 -- the bags with one more for a key
@@ -39,7 +58,7 @@ shared_key share = share.key.now.parts.items
 -- Shares make a bag: each has the cell of a bag, and those bags, joined in order, are it.
 pub record MakeBag (function : AggFn) (shares : List KeyShare) (bag : List ℤ) : Type 0 where
   pub parts : List (List ℤ)
-  pub cells : AllZip (λ share part. IsBag part × (share.cell.now ≡ cell_of function part)) shares parts
+  pub cells : AllZip (λ share part. IsBag part × (cell_shared share ≡ cell_of function part)) shares parts
   pub joined : bag ≡ flat_map (λ part. part) parts
 
 -- Shares are of bags: those of each key make its bag.

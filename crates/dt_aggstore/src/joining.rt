@@ -1,5 +1,6 @@
 //! Rows while a table is made.
-ghost use Rattle.std.specs.Prelude.{◌≡◌, ◌<◌, ℤ, List, ◌-◌, true, length, slice_index_or, IfOk, OnOk, vec_len, All};
+ghost use Rattle.std.specs.Prelude.{◌≡◌, ◌<◌, ℤ, List, ◌-◌, true, length, slice_index_or, ◌++◌, IfOk, OnOk, All};
+ghost use Rattle.dt_aggstore.specs.Joining.{cell_joined, cell_shared};
 ghost use Rattle.dt_aggfn.specs.Cells.{cell_words, cell_of, IsBag};
 ghost use Rattle.dt_aggfn.specs.declared.limits.TheConstants.{BAG_LIMIT};
 
@@ -7,11 +8,45 @@ use crate::share::KeyShare;
 use dt_aggfn::AggFn;
 use std::alloc::{AllocError, Global};
 
-/// The first share of a key, with the cell of all values that were joined so far.
+/// The first share of a key, with the shares that were joined to it.
 #[derive(Drop)]
 pub(crate) struct Joined<'a> {
     pub(crate) share: KeyShare<'a>,
-    pub(crate) cell: Vec<u64>,
+    /// The cell of all values that were joined so far. Where there is one share, it is that one's, and no copy is made.
+    pub(crate) more: Option<Vec<u64>>,
+}
+
+impl<'a> Joined<'a> {
+    /// The cell of all values that were joined so far.
+    pub(crate) fn cell(&self) -> &[u64]
+        ensures { result.now ≡ cell_joined self.now }
+    {
+        match &self.more {
+            Some(cell) => cell,
+            None => self.share.cell(),
+        }
+    }
+
+    /// Joins the cell of a share. `Err`: there was no memory for it.
+    fn merge(&mut self, alloc: Global, function: AggFn, other: &[u64]) -> Result<(), AllocError>
+        requires own { length (cell_joined self.old) ≡ cell_words function }
+        requires others { length other.now ≡ cell_words function }
+        ensures share { self.new.share ≡ self.old.share }
+        ensures words { length (cell_joined self.new) ≡ cell_words function }
+        ensures cell { (bag other_bag : List ℤ) → IsBag bag → IsBag other_bag
+            → cell_joined self.old ≡ cell_of function bag → other.now ≡ cell_of function other_bag
+            → OnOk result (cell_joined self.new ≡ cell_of function (bag ++ other_bag)) }
+    {
+        match &mut self.more {
+            Some(cell) => function.merge(cell, other),
+            None => {
+                let mut cell = Vec::from_slice(alloc, self.share.cell())?;
+                function.merge(&mut cell, other);
+                self.more = Some(cell);
+            }
+        }
+        Ok(())
+    }
 }
 
 /// The rows of one function, in order of key.
@@ -19,7 +54,7 @@ pub(crate) struct Joined<'a> {
 pub(crate) struct Joining<'a> {
     pub(crate) function: AggFn,
     pub(crate) rows: Vec<Joined<'a>>,
-    ghost sized: { All (λ row. vec_len row.cell ≡ cell_words function) rows.items },
+    ghost sized: { All (λ row. length (cell_joined row) ≡ cell_words function) rows.items },
 }
 
 impl<'a> Joining<'a> {
@@ -36,7 +71,7 @@ impl<'a> Joining<'a> {
         function: AggFn,
         shares: &[KeyShare<'a>],
     ) -> Result<Self, AllocError>
-        requires words { All (λ (share : KeyShare). length share.cell.now ≡ cell_words function) shares.now }
+        requires words { All (λ (share : KeyShare). length (cell_shared share) ≡ cell_words function) shares.now }
         requires sorted { IsSortedByKey shared_key key_cmp shares.now }
         ensures function { IfOk result (λ joining. joining.function ≡ function) }
         // where shares are of bags, the rows are joined from those
@@ -56,7 +91,7 @@ impl<'a> Joining<'a> {
 
     /// Joins a share. `Err`: there was no memory for a new row.
     fn join(&mut self, alloc: Global, share: &KeyShare<'a>) -> Result<(), AllocError>
-        requires { length share.now.cell.now ≡ cell_words self.old.function }
+        requires { length (cell_shared share.now) ≡ cell_words self.old.function }
         ensures function { self.new.function ≡ self.old.function }
         // On success rows joined from bags, of which none comes after the share's key, are those of the same bags with
         // the share's added at its key.
@@ -64,7 +99,7 @@ impl<'a> Joining<'a> {
             → AreJoined self.old.function bags self.old.rows.items
             → NoneAfter (shared_key share.now) (keys_of self.old.rows.items)
             → length (bags (shared_key share.now)) < BAG_LIMIT
-            → IsBag bag → share.now.cell.now ≡ cell_of self.old.function bag
+            → IsBag bag → cell_shared share.now ≡ cell_of self.old.function bag
             → OnOk result (AreJoined self.old.function (joined_at (shared_key share.now) bag bags)
             self.new.rows.items) }
     {
@@ -73,13 +108,11 @@ impl<'a> Joining<'a> {
             let place = self.rows.len() - 1;
             let function = self.function;
             let row = &mut self.rows[place];
-            function.merge(&mut row.cell, share.cell);
-            return Ok(());
+            return row.merge(alloc, function, share.cell());
         }
-        let cell = Vec::from_slice(alloc, share.cell)?;
         self.rows.push(Joined {
             share: *share,
-            cell,
+            more: None,
         })?;
         Ok(())
     }

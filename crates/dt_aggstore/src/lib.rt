@@ -18,6 +18,7 @@ mod key_start;
 mod laws;
 mod limit_laws;
 mod limits;
+mod part_start;
 mod share;
 mod store;
 mod table;

@@ -18,4 +18,7 @@ pub(crate) const COST_MIN: usize = 16;
 pub(crate) const RECENT_MAX: usize = 64;
 
 /// How many bytes of a text are held by value where keys are sorted.
-pub(crate) const START_BYTES: usize = 8;
+pub(crate) const START_BYTES: usize = 14;
+
+/// How many bytes a text has after those.
+pub(crate) const REST_BYTES: usize = 32 - START_BYTES;

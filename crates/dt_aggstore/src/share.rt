@@ -7,12 +7,42 @@ use crate::key_start::KeyStart;
 use std::alloc::AllocError;
 use std::cmp::Ordering;
 
+/// The cell that one store has of a key. One word is held by value: it is read where a store is gone over in order, and
+/// not where rows are made in order of key, of which the cells lie far apart.
+#[derive(Clone, Copy)]
+pub(crate) enum ShareCell<'a> {
+    Word([u64; 1]),
+    Words(&'a [u64]),
+}
+
+impl<'a> ShareCell<'a> {
+    ghost use Rattle.dt_aggstore.specs.Joining.{words_held};
+
+    fn of(cell: &'a [u64]) -> Self
+        ensures { words_held result ≡ cell.now }
+    {
+        match cell {
+            [word] => ShareCell::Word([*word]),
+            _ => ShareCell::Words(cell),
+        }
+    }
+
+    fn words(&self) -> &[u64]
+        ensures { result.now ≡ words_held self.now }
+    {
+        match self {
+            ShareCell::Word(word) => word,
+            ShareCell::Words(words) => words,
+        }
+    }
+}
+
 /// A key with the cell that one store has of it.
 #[derive(Clone, Copy)]
 pub(crate) struct KeyShare<'a> {
     start: KeyStart,
     pub(crate) key: &'a Key,
-    pub(crate) cell: &'a [u64],
+    cell: ShareCell<'a>,
     ghost begins: { start ≡ start_of_key key.now.parts.items },
 }
 
@@ -20,7 +50,7 @@ impl<'a> KeyShare<'a> {
     ghost use Rattle.std.specs.Prelude.{ℕ, ℤ, List, length, All, OnOk};
     ghost use Rattle.std.specs.List.Sorted.{IsSortedByKey};
     ghost use Rattle.dt_aggfn.specs.declared.function.AggFn.{AggFn};
-    ghost use Rattle.dt_aggstore.specs.Joining.{shared_key, AreShares};
+    ghost use Rattle.dt_aggstore.specs.Joining.{cell_shared, shared_key, AreShares};
     ghost use Rattle.dt_aggstore.specs.Keys.{key_cmp, same_key};
     ghost use Rattle.dt_aggstore.specs.declared.key.KeyPart.{KeyPart};
     ghost use Rattle.dt_aggstore.specs.declared.share.KeyShare.{KeyShare};
@@ -28,13 +58,20 @@ impl<'a> KeyShare<'a> {
     /// The share of a key with this cell.
     pub(crate) fn of(key: &'a Key, cell: &'a [u64]) -> Self
         ensures key { result.key.now ≡ key.now }
-        ensures cell { result.cell.now ≡ cell.now }
+        ensures cell { cell_shared result ≡ cell.now }
     {
         KeyShare {
             start: KeyStart::of(key),
             key,
-            cell,
+            cell: ShareCell::of(cell),
         }
+    }
+
+    /// The words of its cell.
+    pub(crate) fn cell(&self) -> &[u64]
+        ensures { result.now ≡ cell_shared self.now }
+    {
+        self.cell.words()
     }
 
     /// How the keys of this share and another are ordered.
@@ -42,10 +79,8 @@ impl<'a> KeyShare<'a> {
         ensures { result ≡ key_cmp (shared_key self.now) (shared_key other.now) }
     {
         match self.start.order(&other.start) {
-            // keys that begin alike and have nothing more are the same, and needn't be read
-            Ordering::Equal if self.start.is_whole() => Ordering::Equal,
-            Ordering::Equal => self.key.order(other.key),
-            decided => decided,
+            Some(order) => order,
+            None => self.key.order(other.key),
         }
     }
 
@@ -72,8 +107,8 @@ impl<'a> KeyShare<'a> {
         ensures sorted { OnOk result (IsSortedByKey shared_key key_cmp shares.new.items) }
         ensures bags { (function : AggFn) (bags : List KeyPart → List ℤ) → AreShares function bags shares.old.items
             → AreShares function bags shares.new.items }
-        ensures words { (words : ℕ) → All (λ (share : KeyShare). length share.cell.now ≡ words) shares.old.items
-            → All (λ (share : KeyShare). length share.cell.now ≡ words) shares.new.items }
+        ensures words { (words : ℕ) → All (λ (share : KeyShare). length (cell_shared share) ≡ words) shares.old.items
+            → All (λ (share : KeyShare). length (cell_shared share) ≡ words) shares.new.items }
     {
         shares.sort_by(|one, other| one.order(other))
     }

@@ -6,7 +6,7 @@ ghost use Rattle.dt_aggstore.specs.EntryNames.{form_of_row};
 ghost use Rattle.dt_aggstore.specs.History.{Past};
 ghost use Rattle.dt_aggstore.specs.Held.{bag};
 ghost use Rattle.dt_aggstore.specs.IsAt.{IsAt};
-ghost use Rattle.dt_aggstore.specs.Joining.{AreJoined, AreShares, MakesRows};
+ghost use Rattle.dt_aggstore.specs.Joining.{cell_shared, AreJoined, AreShares, MakesRows};
 ghost use Rattle.dt_aggstore.specs.Table.{IsTable};
 ghost use Rattle.dt_aggstore.specs.TableOf.{table_of};
 ghost use Rattle.dt_aggfn.specs.Cells.{cell_words};
@@ -60,9 +60,9 @@ impl AggStore {
         aggregation: Aggregation,
         shares: &mut Vec<KeyShare<'a>>,
     ) -> Result<(), AllocError>
-        ensures words { All (λ (share : KeyShare). length share.cell.now ≡ cell_words aggregation.function)
+        ensures words { All (λ (share : KeyShare). length (cell_shared share) ≡ cell_words aggregation.function)
             shares.old.items
-            → All (λ (share : KeyShare). length share.cell.now ≡ cell_words aggregation.function) shares.new.items }
+            → All (λ (share : KeyShare). length (cell_shared share) ≡ cell_words aggregation.function) shares.new.items }
         // on success shares of bags are those of the same bags with what this store keeps of each key
         ensures shares { (past : Past) (at : IsAt past self.now) (bags : List KeyPart → List ℤ)
             → AreShares aggregation.function bags shares.old.items
@@ -94,7 +94,7 @@ fn rows_of(alloc: Global, joining: &Joining<'_>) -> Result<Vec<Row>, AllocError>
     for row in &joining.rows {
         rows.push(Row {
             key: row.share.key(),
-            value: joining.function.answer(alloc, &row.cell)?,
+            value: joining.function.answer(alloc, row.cell())?,
         })?;
     }
     Ok(rows)

@@ -48,7 +48,7 @@ loop-row-preserved c = λ bags j few.
     let is : x ≡ get_or rows i x = c.row-item.is ∙ ap (λ xs. get_or xs i x) same in
     let answer = c.in_ok-answer.ensures (bags (key_of x))
     (bag_at function bags [] rows i (key_of x) x j within is refl (few (key_of x)))
-    (c.deref.ensures.value ∙ cell_then function bags [] rows i (key_of x) x j within is refl) in
+    (c.cell.ensures ∙ cell_then function bags [] rows i (key_of x) x j within is refl) in
     subst (λ xs. MakesRows function bags (take (i + 1) rows) (map form_of_row xs)) (sym c.in_ok-push.ensures.items)
     (one_more function bags rows items i x c.loop-row.rows.items _ same c.loop-row-test.true c.row-item.is
     (λ k. record { key = c.key.ensures k; value = answer k }) (c.loop-row.invariant bags j few))

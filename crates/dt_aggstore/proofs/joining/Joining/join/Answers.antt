@@ -1,7 +1,8 @@
 -- A share's bag joins the row of its key, or makes one.
 use Rattle.std.proofs.Common.{◌≡◌, List, ◌-◌, ◌<◌, length, get_or, refl, sym}
 use Rattle.std.proofs.Common.{ap, ◌∙◌, subst, arith}
-use Rattle.std.proofs.lemmas.List.{with_items_is}
+use Rattle.std.proofs.lemmas.Result.{on_ok_weaker}
+use Rattle.std.specs.Prelude.{None}
 use Rattle.dt_aggstore.specs.Keys.{same_key}
 use Rattle.dt_aggstore.specs.Joining.{key_of, AreJoined, joined_at, shared_key}
 use Rattle.dt_aggstore.specs.declared.joining.Joined.{Joined}
@@ -25,12 +26,11 @@ returns-then-ends_with-clause-joins c = λ bags bag j none few own cell.
     (ap (λ (r : Joined). same_key (key_of r) key) (is ∙ ap (λ n. get_or rows n row) (sym last))
     ∙ sym (c.ends_with.ensures.last row some)
     ∙ c.if-ends_with.true) in
-    let now = c.deref_mut.ensures.value in
-    merged_at function bags bag rows place key row j within is same _ refl
-    (with_items_is row.cell c.merge.new.cell (omega (arith, c.merge.ensures.len, c.deref_mut.ensures.len))
-    ∙ c.merge.ensures.cell (bags key) bag (bag_at function bags bag rows place key row j within is same few) own
-    (now ∙ cell_then function bags bag rows place key row j within is same) cell)
-    own
+    on_ok_weaker c.merge.result
+    (λ joined. merged_at function bags bag rows place key row j within is same c.merge.new.self
+    (ap (λ share. shared_key share) c.merge.ensures.share) joined own)
+    (c.merge.ensures.cell (bags key) bag (bag_at function bags bag rows place key row j within is same few) own
+    (cell_then function bags bag rows place key row j within is same) (c.cell.ensures ∙ cell))
 
 pub returns-clause-joins : goal.returns-clause-joins
 returns-clause-joins c = λ bags bag j none few own cell.
@@ -38,6 +38,6 @@ returns-clause-joins c = λ bags bag j none few own cell.
     let key = shared_key c.args.share.now in
     subst (AreJoined function (joined_at key bag bags)) (sym {A = List Joined} c.in_ok-push.ensures.items)
     (pushed_at function bags bag c.args.self.now.rows.items key
-    (record { share = c.args.share.now; cell = c.in_ok-cell.cell }) j none
+    (record { share = c.args.share.now; more = None }) j none
     (λ d some. sym (c.ends_with.ensures.last d some) ∙ c.if-ends_with.false) refl
-    (c.in_ok-cell.ensures.items ∙ cell) own)
+    cell own)

@@ -3,7 +3,7 @@ use Rattle.std.proofs.Common.{◌≡◌, [], ◌∷◌, ◌++◌, length, take, 
 use Rattle.std.proofs.lemmas.List.{take_all, take_more}
 use Rattle.std.proofs.lemmas.List.Elements.{All-get_or}
 use Rattle.dt_aggfn.specs.Cells.{cell_of, cell_words}
-use Rattle.dt_aggstore.specs.Joining.{AreJoined, AreShares, joined_at, shared_key}
+use Rattle.dt_aggstore.specs.Joining.{cell_shared, AreJoined, AreShares, joined_at, shared_key}
 use Rattle.dt_aggstore.specs.declared.share.KeyShare.{KeyShare}
 use Rattle.dt_aggstore.proofs.Joins.{joined_alike, none_joined}
 use Rattle.dt_aggstore.proofs.Sharing.{at_own, bags_before, before_short, before_whole, none_after, nothing_made, shared_before}
@@ -21,8 +21,8 @@ join-requires c =
     let shares = c.args.shares.now in
     let i = c.loop-share.share-index in
     let x = c.share-item.result in
-    ap (λ (share : KeyShare). length share.cell.now) c.share-item.is
-    ∙ All-get_or (λ (share : KeyShare). length share.cell.now ≡ cell_words c.args.function) shares i x
+    ap (λ (share : KeyShare). length (cell_shared share)) c.share-item.is
+    ∙ All-get_or (λ (share : KeyShare). length (cell_shared share) ≡ cell_words c.args.function) shares i x
     c.loop-share-test.true c.requires.words
     ∙ ap cell_words (sym c.loop-share.invariant.function)
 

@@ -3,7 +3,7 @@ use Rattle.std.proofs.Common.{◌≡◌, length, rules}
 use Rattle.std.proofs.lemmas.Fn.{always_returns_same}
 use Rattle.std.proofs.lemmas.List.Sorted.{ranks_by, All-permutation}
 use Rattle.std.proofs.lemmas.Result.{on_ok_weaker}
-use Rattle.dt_aggstore.specs.Joining.{shared_key}
+use Rattle.dt_aggstore.specs.Joining.{cell_shared, shared_key}
 use Rattle.dt_aggstore.specs.declared.share.KeyShare.{KeyShare}
 use Rattle.dt_aggstore.proofs.Rising.{keys_total}
 use Rattle.dt_aggstore.proofs.Sharing.{comes_before, sorted_shares}
@@ -25,5 +25,5 @@ returns-clause-bags c = λ function bags a.
 
 pub returns-clause-words : goal.returns-clause-words
 returns-clause-words c = λ words all.
-    All-permutation (λ (share : KeyShare). length share.cell.now ≡ words) c.args.shares.now.items
+    All-permutation (λ (share : KeyShare). length (cell_shared share) ≡ words) c.args.shares.now.items
     c.sort_by.new.self.items c.sort_by.ensures.permutation all

@@ -5,7 +5,7 @@ use Rattle.dt_aggfn.specs.declared.limits.TheConstants.{BAG_LIMIT}
 use Rattle.dt_aggfn.specs.declared.function.AggFn.{AggFn}
 use Rattle.dt_aggstore.specs.EntryNames.{form_of_row}
 use Rattle.dt_aggstore.specs.Table.{joined_bag}
-use Rattle.dt_aggstore.specs.Joining.{AreJoined, AreShares, MakesRows}
+use Rattle.dt_aggstore.specs.Joining.{cell_shared, AreJoined, AreShares, MakesRows}
 use Rattle.dt_aggstore.specs.declared.share.KeyShare.{KeyShare}
 use Rattle.dt_aggfn.specs.Cells.{cell_words}
 use Rattle.std.proofs.lemmas.List.Elements.{All-nil}
@@ -24,9 +24,9 @@ use Rattle.dt_aggstore.proofs.store.AggStore.merge_all.Goals as goal
 
 pub loop-store-init : goal.loop-store-init
 loop-store-init c = record {
-  words = subst (All (λ (share : KeyShare). length share.cell.now ≡ cell_words c.args.aggregation.function))
+  words = subst (All (λ (share : KeyShare). length (cell_shared share) ≡ cell_words c.args.aggregation.function))
       (sym c.new-shares.ensures.items)
-      (All-nil (λ (share : KeyShare). length share.cell.now ≡ cell_words c.args.aggregation.function));
+      (All-nil (λ (share : KeyShare). length (cell_shared share) ≡ cell_words c.args.aggregation.function));
   shares = λ pasts at. none_shared c.args.aggregation.function _ c.new-shares.result.items
       c.new-shares.ensures.items (λ key. refl);
 }
@@ -42,7 +42,7 @@ loop-store-preserved c = record {
 
 pub of-requires-clause-words : goal.of-requires-clause-words
 of-requires-clause-words c =
-    subst (All (λ (share : KeyShare). length share.cell.now ≡ cell_words c.args.aggregation.function))
+    subst (All (λ (share : KeyShare). length (cell_shared share) ≡ cell_words c.args.aggregation.function))
     (sym c.deref.ensures.value)
     (c.in_ok-sort.ensures.words (cell_words c.args.aggregation.function) c.loop-store.invariant.words)
 

@@ -6,7 +6,7 @@ use Rattle.std.proofs.lemmas.List.{take_all, length-take-le, length-drop}
 use Rattle.std.proofs.lemmas.List.Elements.{All-push}
 use Rattle.dt_aggfn.specs.Cells.{cell_words}
 use Rattle.dt_aggstore.specs.EntryNames.{entries_named, words_of}
-use Rattle.dt_aggstore.specs.Joining.{AreShares}
+use Rattle.dt_aggstore.specs.Joining.{cell_shared, AreShares}
 use Rattle.dt_aggstore.specs.declared.key.Aggregation.{Aggregation}
 use Rattle.dt_aggstore.specs.declared.key.Key.{Key}
 use Rattle.dt_aggstore.specs.declared.share.KeyShare.{KeyShare}
@@ -71,8 +71,8 @@ loop-name-preserved c =
           ap (λ (v : Vec KeyShare Global). v.items) w.shares-is ∙ w.in_ok-push.ensures.items in
           record {
             place_is = place_is;
-            words = λ all. subst (All (λ (share : KeyShare). length share.cell.now ≡ cell_words function)) (sym pushed)
-                (All-push (λ (share : KeyShare). length share.cell.now ≡ cell_words function) c.loop-name.shares.items _
+            words = λ all. subst (All (λ (share : KeyShare). length (cell_shared share) ≡ cell_words function)) (sym pushed)
+                (All-push (λ (share : KeyShare). length (cell_shared share) ≡ cell_words function) c.loop-name.shares.items _
                 (c.loop-name.invariant.words all)
                 (ap length (w.of.ensures.cell ∙ w.cell_at-cell.ensures)
                 ∙ length_range w.deref.result.now c.loop-name.place c.cell_words-words.result
@@ -103,7 +103,7 @@ loop-name-preserved c =
           })
       | else-is w ↦ (record {
         place_is = place_is;
-        words = λ all. subst (All (λ (share : KeyShare). length share.cell.now ≡ cell_words function))
+        words = λ all. subst (All (λ (share : KeyShare). length (cell_shared share) ≡ cell_words function))
             (sym (ap (λ (v : Vec KeyShare Global). v.items) w.shares-is)) (c.loop-name.invariant.words all);
         shares = λ past at bags a.
             subst (AreShares function
