@@ -1,5 +1,5 @@
 -- Where a processor's own firings stand in what it knows.
-use Rattle.std.proofs.Common.{◌≡◌, ◌+◌, ◌==◌, ℕ, Bool, true, false, cond, List, [], ◌∷◌, ◌++◌, sym, ◌∙◌, subst, ⊎_elim, arith, Option, Some, None}
+use Rattle.std.proofs.Common.{◌≡◌, ◌+◌, ◌==◌, ℕ, Bool, true, false, cond, List, [], ◌∷◌, ◌++◌, ap, sym, ◌∙◌, subst, ⊎_elim, arith, Option, Some, None}
 use Rattle.std.specs.List.{AllByRecursion}
 use Rattle.dt_cred.specs.declared.account.Account.{Account}
 use Rattle.dt_cred.specs.declared.firing.Firing.{Firing}
@@ -7,7 +7,7 @@ use Rattle.dt_facts.specs.declared.fact.LastNote.{LastNote}
 use Rattle.dt_hub.specs.Processors.{IsAtSeat}
 use Rattle.dt_legal.specs.Rows.{AreBelowPlace, IsAtLowerPlace}
 use Rattle.dt_machine.specs.Registry.{Contents}
-use Rattle.dt_seat.specs.Keeps.{Followed, Forgets, known_by, noted_in, noted_of}
+use Rattle.dt_seat.specs.Keeps.{Carries, Followed, Forgets, known_by, noted_in, noted_of}
 use Rattle.dt_seat.specs.Receipts.{HasHeard, Received}
 use Rattle.dt_seat.specs.Seats.{ComesOfFiring, HasNote, kept_items}
 use Rattle.dt_seat.specs.declared.held.Held.{Held}
@@ -82,7 +82,12 @@ at_seat_after contents life firing (Unseen known) old new seat comes own_is h = 
   cpu_is = comes.0.cpu ∙ h.cpu_is;
   below = below_after life firing (Unseen known) old new seat own_is h comes.1.0 comes.1.1;
 }
-at_seat_after contents life firing Gone old new seat comes own_is h = rw comes.0 (at_seat_next firing.cpu firing.place seat old h)
+at_seat_after contents life firing Gone old new seat comes own_is h = record {
+  seat_is = ap (λ (f : Followed). f.seat) comes.0 ∙ h.seat_is;
+  cpu_is = ap (λ (f : Followed). f.cpu) comes.0 ∙ h.cpu_is;
+  below = subst (λ (n : Option (Noted Account)). AreBelowPlace firing.cpu (firing.place + 1) (known_by n)) (sym (ap (λ (f : Followed). f.note) comes.0))
+      (at_seat_next firing.cpu firing.place seat old h).below;
+}
 
 -- after a processor was told of a session there
 pub at_seat_told : (cpu place seat : ℕ) (received : Received) (old new : Followed) → HasHeard received old new → IsAtSeat cpu place seat old
@@ -102,4 +107,16 @@ at_seat_forgotten cpu place seat old new forgotten h = record {
   cpu_is = forgotten.cpu ∙ h.cpu_is;
   below = ⊎_elim (λ same. subst (λ note. AreBelowPlace cpu place (known_by note)) (sym same) h.below)
       (λ none. subst (λ note. AreBelowPlace cpu place (known_by note)) (sym none) tt) forgotten.note;
+}
+
+-- after it met a session there
+pub at_seat_met : (cpu place seat life : ℕ) (old new : Followed) (knows : List TrailItem) → Carries old new life → known_by new.note ≡ knows
+    → own (old.cpu + 1) knows ≡ own (old.cpu + 1) (noted_of life old) → IsAtSeat cpu place seat old → IsAtSeat cpu place seat new
+at_seat_met cpu place seat life old new knows carries whole same h = record {
+  seat_is = carries.seat ∙ h.seat_is;
+  cpu_is = carries.cpu ∙ h.cpu_is;
+  below = subst (λ (l : List TrailItem). AllByRecursion (IsAtLowerPlace place) (own (cpu + 1) l)) (sym whole)
+      (subst (AllByRecursion (IsAtLowerPlace place))
+      (sym (subst (λ (c : ℕ). own (c + 1) knows ≡ own (c + 1) (noted_of life old)) h.cpu_is same))
+      (below_in cpu place life old.took (known_by old.note) h.below));
 }

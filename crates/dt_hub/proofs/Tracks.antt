@@ -2,17 +2,18 @@
 use Rattle.std.proofs.Common.{◌≡◌, ◌<◌, ◌≤◌, ◌==◌, ◌+◌, ℕ, Bool, true, false, cond, List, [], ◌∷◌, ◌++◌, length, eqb, refl, sym, ap, ◌∙◌, subst, arith, inl, inr, Option, Some, None}
 use Rattle.std.proofs.lemmas.Bool.{cases_eq, cases_lt}
 use Rattle.std.proofs.lemmas.Bool.Decides.{nat_tests}
-use Rattle.std.proofs.lemmas.List.{length-map, map-append}
+use Rattle.std.proofs.lemmas.List.{length-append, length-map, map-append}
 use Rattle.std.proofs.lemmas.Option.{slice_get-map}
 use Rattle.std.specs.List.{slice_get, slice_set}
-use Rattle.std.specs.Option.{IfSome, option_map}
+use Rattle.std.specs.Option.{IfNone, IfSome, option_map}
 use mathlib.Core.List.{IsPrefix}
-use Rattle.dt_chain.specs.Chains.{IsMaskAfter}
+use Rattle.dt_chain.specs.Chains.{IsMaskAfter, Watched}
 use Rattle.dt_chain.specs.Seats.{life_at}
 use Rattle.dt_chain.specs.Writes.{Write}
 use Rattle.dt_chain.specs.declared.seat_mask.SeatMask.{SeatMask}
 use Rattle.dt_cred.specs.declared.firing.Firing.{Firing}
 use Rattle.dt_facts.specs.declared.fact.Knew.{Knew}
+use Rattle.dt_facts.specs.laws.Beginnings.{prefix_self}
 use Rattle.dt_hub.proofs.Offers.{get_set_other, get_set_same}
 use Rattle.dt_hub.specs.Processors.{AreAtSeats, AreTrackedBy, IsAtSeat, count_in, counts_at, knew_at_seats, knew_of}
 use Rattle.dt_life.specs.laws.Options.{if_some_map, some_of}
@@ -42,6 +43,17 @@ counts_more seat log at_seats f there life =
     map-append (λ place. count_in life (slice_get place seat)) log (knew_at_seats at_seats ∷ [])
     ∙ ap (λ (n : ℕ). counts_at seat log life ++ n ∷ [])
     (ap (count_in life) (slice_get-map knew_of at_seats seat) ∙ ap (λ (o : Option Followed). count_in life (option_map knew_of o)) there ∙ count_last f life)
+
+-- a log with one place more
+pub log_longer : (log : List (List Knew)) (last : List Knew) (new : List (List Knew)) (place : ℕ) → new ≡ log ++ last ∷ [] → length log ≡ place
+    → length new ≡ place + 1
+log_longer log last new place is many = ap length is ∙ length-append log (last ∷ []) ∙ ap (λ (n : ℕ). n + 1) many
+
+-- a reader that looked, or was refused, knows of no fewer writes
+pub look_knows : {X : Type 0} (o : Option X) (old new : Watched) → IfSome o (λ _. IsPrefix old.told new.seen) → IfSome o (λ _. new.told ≡ new.seen)
+    → IfNone o (new ≡ old) → IsPrefix old.told new.told
+look_knows None old new told all none = subst (λ (w : Watched). IsPrefix old.told w.told) (sym none) (prefix_self old.told)
+look_knows (Some x) old new told all none = subst (λ (l : List Write). IsPrefix old.told l) (sym all) told
 
 module _ (contents : Contents) where
   -- more writes are known

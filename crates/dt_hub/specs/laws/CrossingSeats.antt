@@ -5,6 +5,7 @@ use denote.Struct.Declared.{shape}
 use Rattle.std.proofs.Crossing as std
 use Rattle.dt_cred.proofs.account.Account.TheSendSync as account
 use Rattle.dt_chain.specs.declared.book.Site as site
+use Rattle.dt_chain.proofs.front.Front.TheSendSync as front
 use Rattle.dt_chain.proofs.seat.Seat.TheSendSync as seat
 use Rattle.dt_hub.specs.laws.CrossingConsumers.{consumer_field}
 use Rattle.dt_facts.proofs.handles.Book.TheSendSync as book
@@ -18,13 +19,18 @@ use Rattle.dt_seat.specs.contracts.locked.LockedSeat.TheInside as inside
 use Rattle.dt_seat.proofs.idle.Idle.TheSendSync as idle
 use Rattle.dt_seat.proofs.keep.Keep.TheSendSync as keep
 
--- the consumer and its trail
-present_field : (J : RattleType) (t : traced.Ghosts J.Denot) → IsSend (present.the_field J t).row
-present_field J t = struct_send (shape (present.the_type J t))
-    (account.the_field_send, (search (trail_owner.the_send, account.the_send, std.crosses, sendable) depth 60, (consumer_field, (search sendable, tt))))
+-- the consumer and its trail, and what its session published
+present_field : (J : RattleType) (s : site.Ghosts J.Denot) (t : traced.Ghosts J.Denot) → IsSend (present.the_field J s t).row
+present_field J s t = struct_send (shape (present.the_type J s t)) (
+  account.the_field_send,
+  (
+    search (trail_owner.the_send, account.the_send, std.crosses, sendable) depth 60,
+    (consumer_field, (search sendable, (search (front.the_send, std.crosses, sendable), tt))),
+  ),
+)
 
-present_send : (J : RattleType) (t : traced.Ghosts J.Denot) → IsSend (present.the_row J t)
-present_send J t = recorded_send (present.the_field J t).row _ _ (present.the_type J t).to_one (present_field J t)
+present_send : (J : RattleType) (s : site.Ghosts J.Denot) (t : traced.Ghosts J.Denot) → IsSend (present.the_row J s t)
+present_send J s t = recorded_send (present.the_field J s t).row _ _ (present.the_type J s t).to_one (present_field J s t)
 
 inside_send : (J : RattleType) (h : hub_site.Ghosts J.Denot) (s : site.Ghosts J.Denot) (t : traced.Ghosts J.Denot) → IsSend (inside.the_row J h s t)
 inside_send J h s t = recorded_send (inside.the_field J h s t).row _ _ (inside.the_type J h s t).to_one (struct_send (shape (inside.the_type J h s t)) (

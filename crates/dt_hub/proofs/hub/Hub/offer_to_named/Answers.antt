@@ -8,7 +8,7 @@ use Rattle.std.proofs.lemmas.Option.{slice_get-get_or}
 use Rattle.std.specs.List.{slice_get, slice_set}
 use Rattle.dt_chain.specs.Seats.{has, life_at}
 use Rattle.dt_facts.specs.laws.Beginnings.{prefix_trans}
-use Rattle.dt_hub.proofs.Offers.{all_at_next, at_more, below_taken, between, done_more, from_next, from_taken, get_set_other, get_set_same, rest_less}
+use Rattle.dt_hub.proofs.Offers.{all_at_next, at_more, below_taken, between, done_more, from_next, from_taken, get_set_other, get_set_same, none_from, rest_less}
 use Rattle.dt_hub.proofs.Tracks.{offered_at_seat, passed_at}
 use Rattle.dt_hub.specs.Processors.{counts_at, knew_at_seats}
 use Rattle.dt_life.specs.laws.Options.{if_some_map}
@@ -90,3 +90,16 @@ returns-clause-seats g c =
     let inv = c.seats.invariant in
     all_at_next firing.cpu firing.place c.seats.next c.args.followers.now.items c.seats.followers.items inv.many c.requires.seats inv.rest
     inv.at_below
+
+pub returns-clause-tracked : goal.returns-clause-tracked
+returns-clause-tracked g c = λ log places h seat.
+    let contents = g.J.Traced.contents in
+    let mask = c.args.mask.now in
+    let inv = c.seats.invariant in
+    elim (cases_lt seat c.seats.next) [
+      | inl lt ↦ inv.tracked log places h seat lt
+      | inr le ↦ rw (inv.rest seat le)
+          (passed_at contents c.args.reader.now.seen c.args.context.now.firing.now mask c.args.followers.now.items log c.requires.script c.requires.look places
+          c.requires.seats h c.seats.reader.told (prefix_trans _ _ _ c.requires.reader inv.told) seat
+          (none_from (life_at mask seat) (sym (inv.left_from seat le) ∙ c.in_default.ensures seat)))
+    ]
