@@ -34,6 +34,8 @@ mod seats;
 #[cfg(test)]
 mod shared_row;
 #[cfg(test)]
+mod stays;
+#[cfg(test)]
 mod telling;
 #[cfg(test)]
 mod trail_text;

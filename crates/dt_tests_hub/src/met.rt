@@ -77,6 +77,23 @@ pub(crate) fn comes_to<J: HubSite, R: Wait + Abort>(
 }
 
 /// A session and a processor meet. The session then knows so many items, which are all, and the processor's firings stand with these in one row.
+pub(crate) fn meet_heard<J: HubSite, R: Wait + Abort>(
+    rt: &R,
+    alloc: Global,
+    hub: &Hub<J>,
+    session: &mut Session<J>,
+    token: &mut CpuSeat<J>,
+    heard: &mut Heard,
+    sight: Sight,
+) -> Result<u64, AllocError> {
+    meets(rt, hub, session, token);
+    let count = shares(rt, alloc, session, token, heard, sight)?;
+    assert_eq!(rt; hub.seen(session), count);
+    heard.learns(count);
+    Ok(count)
+}
+
+/// The same, of a processor with what it was answered.
 pub(crate) fn meet<J: HubSite, R: Wait + Abort>(
     rt: &R,
     alloc: Global,
@@ -85,11 +102,8 @@ pub(crate) fn meet<J: HubSite, R: Wait + Abort>(
     firing: &mut Firing<J>,
     sight: Sight,
 ) -> Result<u64, AllocError> {
-    meets(rt, hub, session, &mut firing.token);
-    let count = shares(rt, alloc, session, &firing.token, &firing.heard, sight)?;
-    assert_eq!(rt; hub.seen(session), count);
-    firing.heard.learns(count);
-    Ok(count)
+    let Firing { token, heard, .. } = firing;
+    meet_heard(rt, alloc, hub, session, token, heard, sight)
 }
 
 /// A processor is told what a session knows, which are so many items.
