@@ -60,19 +60,28 @@ impl<J: HubSite> Firing<J> {
     }
 }
 
-/// A processor fires, and this comes of it at the life of a session.
+/// A processor fires: what comes of it at the life of a session.
+pub(crate) fn comes<J: HubSite, R: Wait + Abort>(
+    rt: &R,
+    hub: &Hub<J>,
+    firing: &mut Firing<J>,
+) -> Result<Offered, AllocError> {
+    let Fired::At(place) = fired(rt, hub, &mut firing.token, &NoGate) else {
+        assert!(rt; false, "no firing");
+        return Ok(Offered::Gone);
+    };
+    let is_wanted = firing.wants_writes || !is_write(firing.token.cpu(), place);
+    firing.heard.fired(&firing.token, is_wanted)
+}
+
+/// A processor fires, and this comes of it.
 pub(crate) fn comes_to<J: HubSite, R: Wait + Abort>(
     rt: &R,
     hub: &Hub<J>,
     firing: &mut Firing<J>,
     came: Offered,
 ) -> Result<(), AllocError> {
-    let Fired::At(place) = fired(rt, hub, &mut firing.token, &NoGate) else {
-        assert!(rt; false, "no firing");
-        return Ok(());
-    };
-    let is_wanted = firing.wants_writes || !is_write(firing.token.cpu(), place);
-    assert_eq!(rt; firing.heard.fired(&firing.token, is_wanted)?, came);
+    assert_eq!(rt; comes(rt, hub, firing)?, came);
     Ok(())
 }
 

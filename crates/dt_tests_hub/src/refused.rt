@@ -3,7 +3,7 @@ use crate::calls::{Play, answered, both, opened, run, says};
 use crate::endings::CLOSE;
 use crate::meeting::ENABLE_WRITES;
 use crate::met;
-use crate::met::{Firing, MANY, comes_to, meet};
+use crate::met::{Firing, MANY, comes, comes_to, meet};
 use crate::paths::{DONE, ENABLE, ENABLED, GO, MACHINE, STOP, looks};
 use crate::shared_row::Sight;
 use dt_hub::{CpuSeat, Hub, HubSite, LineAnswer, Offered, Session};
@@ -83,8 +83,27 @@ impl Play for AfterGo {
     }
 }
 
-/// The lines of a session whose `go` is asked before it enables another probe, and once more after that, with what a processor fires. Where the first `go` was refused
-/// for memory, its publication, which has one probe, comes with the next write, and the second publishes both.
+/// A processor fires what a session wants that has asked its `go` once: it is kept, or isn't seen yet, or named, where that `go` was refused for memory.
+fn comes_early<J: HubSite, R: Wait + Abort>(
+    rt: &R,
+    hub: &Hub<J>,
+    one: &mut Firing<J>,
+    refused: bool,
+) -> Result<(), AllocError> {
+    let came = comes(rt, hub, one)?;
+    if refused {
+        assert!(rt;
+            matches!(came, Offered::Unseen { known: 2 } | Offered::NotNamed),
+            "kept before its go"
+        );
+    } else {
+        assert_eq!(rt; came, Offered::Kept);
+    }
+    Ok(())
+}
+
+/// A session asks its `go`, enables another probe and asks it again, as a processor fires. Where the first `go` was refused for memory, its publication, which has one
+/// probe, may come with the next write, and the second `go` publishes both.
 fn goes_twice<J: HubSite, R: Wait + Abort>(
     rt: &R,
     alloc: Global,
@@ -96,25 +115,20 @@ fn goes_twice<J: HubSite, R: Wait + Abort>(
     let refused = matches!(answered(rt, alloc, hub, first, GO), LineAnswer::Memory);
     one.wants_writes = refused;
     let (go, stop) = if refused { (2, 3) } else { (1, 4) };
-    let early = if refused {
-        Offered::Unseen { known: 2 }
-    } else {
-        Offered::Kept
-    };
-    let other = if refused {
+    drop(answered(rt, alloc, hub, first, ENABLE_WRITES));
+    says(rt, alloc, hub, second, GO, DONE);
+    comes_early(rt, hub, one, refused)?;
+    comes_early(rt, hub, one, refused)?;
+    comes_early(rt, hub, one, refused)?;
+    comes_to(rt, hub, one, Offered::NotNamed)?;
+    drop(answered(rt, alloc, hub, first, GO));
+    comes_to(rt, hub, one, Offered::Kept)?;
+    let write = if refused {
         Offered::Kept
     } else {
         Offered::NotNamed
     };
-    drop(answered(rt, alloc, hub, first, ENABLE_WRITES));
-    says(rt, alloc, hub, second, GO, DONE);
-    comes_to(rt, hub, one, early)?;
-    comes_to(rt, hub, one, early)?;
-    comes_to(rt, hub, one, early)?;
-    comes_to(rt, hub, one, Offered::NotNamed)?;
-    drop(answered(rt, alloc, hub, first, GO));
-    comes_to(rt, hub, one, Offered::Kept)?;
-    comes_to(rt, hub, one, other)?;
+    comes_to(rt, hub, one, write)?;
     let sight = Sight {
         go,
         stop: Some(stop),

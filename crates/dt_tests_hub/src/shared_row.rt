@@ -235,6 +235,7 @@ impl Seen {
         answer: Answer,
     ) -> Result<(), AllocError> {
         self.places = self.places.wrapping_add(1);
+        assert!(rt; answer.came != Offered::Gone, "an open life is gone");
         self.knows = self.knows.max(answer.knew);
         assert!(rt;
             self.items.len() as u64 >= self.knows,

@@ -62,8 +62,8 @@ impl<J: HubSite> Firer<J> {
         Ok(())
     }
 
-    /// Fires its script to the end.
-    fn ends<R: Wait>(&mut self, rt: &R, hub: &Hub<J>, most: u32) -> Result<(), AllocError> {
+    /// Fires so often, unless its script ends.
+    fn fires<R: Wait>(&mut self, rt: &R, hub: &Hub<J>, most: u32) -> Result<(), AllocError> {
         for _ in 0..most {
             if let Fired::At(place) = fired(rt, hub, &mut self.token, &NoGate) {
                 self.fired(place)?;
@@ -152,21 +152,25 @@ impl<J: HubSite> Stay<J> {
         Ok(firers)
     }
 
-    /// Both meet a processor.
-    fn meets<R: Wait + Abort>(
+    /// Each processor makes at most so many firings, and both meet it.
+    fn meets_all<R: Wait + Abort>(
         &mut self,
         rt: &R,
         alloc: Global,
         hub: &Hub<J>,
-        firer: &mut Firer<J>,
+        firers: &mut Vec<Firer<J>>,
+        most: u32,
     ) -> Result<(), AllocError> {
-        let Firer {
-            token,
-            first,
-            second,
-        } = firer;
-        meet_heard(rt, alloc, hub, &mut self.first, token, first, FIRST)?;
-        meet_heard(rt, alloc, hub, &mut self.second, token, second, SECOND)?;
+        for firer in firers {
+            firer.fires(rt, hub, most)?;
+            let Firer {
+                token,
+                first,
+                second,
+            } = firer;
+            meet_heard(rt, alloc, hub, &mut self.first, token, first, FIRST)?;
+            meet_heard(rt, alloc, hub, &mut self.second, token, second, SECOND)?;
+        }
         Ok(())
     }
 
@@ -193,7 +197,8 @@ impl<J: HubSite> Stay<J> {
         self.asks(rt, alloc, hub, &STATUS, &STATUS)
     }
 
-    /// After all firings but a few both stop, the processors make the rest of them, and both meet each processor. Answers how many firings are on the two trails.
+    /// After all firings but a few both meet each processor, and stop; then the processors make the rest of them, and both meet each once more. Answers how many firings
+    /// are on the two trails.
     pub(crate) fn ends<R: Wait + Abort>(
         &mut self,
         rt: &R,
@@ -203,11 +208,9 @@ impl<J: HubSite> Stay<J> {
         firers: &mut Vec<Firer<J>>,
         most: u32,
     ) -> Result<u64, AllocError> {
+        self.meets_all(rt, alloc, hub, firers, 0)?;
         self.asks(rt, alloc, hub, &LAST_LINES, &LAST_LINES)?;
-        for firer in firers {
-            firer.ends(rt, hub, most)?;
-            self.meets(rt, alloc, hub, firer)?;
-        }
+        self.meets_all(rt, alloc, hub, firers, most)?;
         let first = judged(
             rt,
             alloc,
