@@ -302,6 +302,10 @@ fn rounds<J: HubSite + Send + Sync, R: Threads + Wait + Abort + Clock + Sync>(
     let (early, mut firers) = round(rt, alloc, hub, board, firers)?;
     stay.goes_on(rt, alloc, hub, &mut firers)?;
     let (late, mut firers) = round(rt, alloc, hub, board, firers)?;
+    assert!(rt;
+        early.and(late).seen > 0,
+        "no firing was kept by those that came and went"
+    );
     let seen = stay.ends(rt, alloc, hub, board, &mut firers, LAST)?;
     let own = Tally { kept: 0, seen };
     Ok(early.and(late).and(own))
