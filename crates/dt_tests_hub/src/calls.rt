@@ -123,6 +123,16 @@ pub(crate) fn fired<J: HubSite, R: Wait, G: Gate>(
     hub.fire(rt, token, gate)
 }
 
+/// A session and a processor meet.
+pub(crate) fn meets<J: HubSite, R: Wait>(
+    rt: &R,
+    hub: &Hub<J>,
+    session: &mut Session<J>,
+    token: &mut CpuSeat<J>,
+) {
+    hub.meet(rt, session, token);
+}
+
 /// The last firing came to this at one seat, and named no other.
 pub(crate) fn only_at<J: HubSite, R: Abort>(
     rt: &R,

@@ -4,8 +4,7 @@ use crate::histories::with_scripts;
 use crate::rows;
 use crate::rows::{Row, fires_row, plays_row};
 use crate::scenes::{Scene, run};
-use crate::trail_text::trail_text;
-use dt_alone::{Verdict, check};
+use crate::stays::{Firer, Stay, judged};
 use dt_chain::SEATS;
 use dt_hub::{CpuSeat, Fired, Hub, HubSite, NoGate, Offered, Session};
 use dt_machine::Machine;
@@ -28,6 +27,12 @@ const FIRINGS: &str =
 
 /// How often.
 const TIMES: u32 = 2_500;
+
+/// How many firings of its script a processor makes at last, when no other thread is at work.
+const LAST: u32 = 20;
+
+/// How many it makes in each of two rounds.
+const ROUND: u32 = 2 * TIMES - LAST / 2;
 
 /// What a session asks before and while it traces.
 const LINES: [&str; 3] = [
@@ -52,8 +57,8 @@ fn machine(alloc: Global) -> Result<String, Fail> {
 /// What a thread does.
 #[derive(Drop)]
 enum Work<J: HubSite> {
-    /// Fires a script to its end.
-    Fire(CpuSeat<J>),
+    /// Fires a round of a script.
+    Fire(Firer<J>),
     /// Opens sessions of this account, one after the other, while a processor fires.
     Trace(&'static str),
     /// Fires a script to its end once three sessions trace.
@@ -98,11 +103,11 @@ pub(crate) struct Board {
 }
 
 impl Board {
-    /// The board of so many processors that fire.
-    fn new(machine: Machine, firing: u64) -> Board {
+    /// The board of a machine whose processors don't fire yet.
+    fn new(machine: Machine) -> Board {
         Board {
             machine,
-            firing: AtomicU64::new(firing),
+            firing: AtomicU64::new(0),
             opened: AtomicU64::new(0),
             tracing: AtomicU64::new(0),
             fired: AtomicU64::new(0),
@@ -121,18 +126,18 @@ fn kept_by<J: HubSite>(token: &CpuSeat<J>) -> u64 {
     count
 }
 
-/// Fires a script to its end, which takes some ten seconds, and counts what was kept.
-fn fires<J: HubSite, R: Wait + Clock>(
+/// Fires a round of a script, which takes some five seconds, and counts what was kept.
+fn fires<J: HubSite, R: Wait + Abort + Clock>(
     rt: &R,
     hub: &Hub<J>,
     board: &Board,
-    token: CpuSeat<J>,
+    firer: &mut Firer<J>,
 ) -> u64 {
-    let mut token = token;
     let mut count = 0u64;
-    for _ in 0..4 * TIMES {
-        if let Fired::At(_) = fired(rt, hub, &mut token, &NoGate) {
-            count = count.wrapping_add(kept_by(&token));
+    for _ in 0..ROUND {
+        if let Fired::At(place) = fired(rt, hub, &mut firer.token, &NoGate) {
+            count = count.wrapping_add(kept_by(&firer.token));
+            assert!(rt; firer.fired(place).is_ok(), "out of memory");
         }
         thread::sleep(rt, Duration::from_millis(1));
     }
@@ -170,10 +175,7 @@ fn traces<J: HubSite, R: Wait + Abort + Clock>(
     thread::sleep(rt, Duration::from_millis(5));
     asks(rt, alloc, hub, session, &LAST_LINES, &mut replies)?;
     hub.seen(session);
-    let (text, firings) = trail_text(alloc, session, name, &replies)?;
-    let verdict = check(alloc, &board.machine, &text);
-    assert_eq!(rt; verdict, Ok(Verdict::Agree(replies.len())));
-    Ok(firings)
+    judged(rt, alloc, board, session, name, &replies)
 }
 
 /// Opens sessions, one after the other, while a processor fires.
@@ -200,6 +202,19 @@ fn come_and_go<J: HubSite, R: Wait + Abort + Clock>(
     count
 }
 
+/// What comes of a thread's work.
+#[derive(Drop)]
+struct Done<J: HubSite> {
+    tally: Tally,
+    /// The processor that fired a round.
+    firer: Option<Firer<J>>,
+}
+
+/// What comes of a work that is done.
+fn counted<J: HubSite>(tally: Tally) -> Done<J> {
+    Done { tally, firer: None }
+}
+
 /// Does a thread's work.
 fn does<J: HubSite, R: Wait + Abort + Clock>(
     rt: &R,
@@ -207,42 +222,93 @@ fn does<J: HubSite, R: Wait + Abort + Clock>(
     hub: &Hub<J>,
     board: &Board,
     work: Work<J>,
-) -> Tally {
+) -> Done<J> {
     match work {
-        Work::Fire(token) => Tally {
-            kept: fires(rt, hub, board, token),
-            seen: 0,
-        },
-        Work::Trace(name) => Tally {
-            kept: 0,
-            seen: come_and_go(rt, alloc, hub, board, name),
-        },
+        Work::Fire(firer) => {
+            let mut firer = firer;
+            let kept = fires(rt, hub, board, &mut firer);
+            Done {
+                tally: Tally { kept, seen: 0 },
+                firer: Some(firer),
+            }
+        }
+        Work::Trace(name) => {
+            let seen = come_and_go(rt, alloc, hub, board, name);
+            counted(Tally { kept: 0, seen })
+        }
         Work::FireRows(token) => {
             fires_row(rt, hub, board, token);
-            NOTHING
+            counted(NOTHING)
         }
         Work::Ask(row) => {
             let played = plays_row(rt, alloc, hub, board, row);
             assert!(rt; played.is_ok(), "out of memory");
-            NOTHING
+            counted(NOTHING)
         }
     }
 }
 
-/// All works at once, each on a thread of its own.
+/// All works at once, each on a thread of its own. Answers what was counted, and the processors that fired a round.
 fn all_do<J: HubSite + Send + Sync, R: Threads + Wait + Abort + Clock + Sync>(
     rt: &R,
     alloc: Global,
     hub: &Hub<J>,
     board: &Board,
     works: Vec<Work<J>>,
-) -> Result<Tally, AllocError> {
-    let tallies = map_vec(rt, works, &move |work| does(rt, alloc, hub, board, work))?;
+) -> Result<(Tally, Vec<Firer<J>>), AllocError> {
+    let results = map_vec(rt, works, &move |work| does(rt, alloc, hub, board, work))?;
     let mut all = NOTHING;
-    for tally in tallies {
+    let mut firers = Vec::new(alloc);
+    for result in results {
+        let Done { tally, firer } = result;
         all = all.and(tally);
+        if let Some(firer) = firer {
+            firers.push(firer)?;
+        }
     }
-    Ok(all)
+    Ok((all, firers))
+}
+
+/// A round: four processors fire, and four threads have sessions come and go.
+fn round<J: HubSite + Send + Sync, R: Threads + Wait + Abort + Clock + Sync>(
+    rt: &R,
+    alloc: Global,
+    hub: &Hub<J>,
+    board: &Board,
+    firers: Vec<Firer<J>>,
+) -> Result<(Tally, Vec<Firer<J>>), AllocError> {
+    board.firing.store(4, Ordering::SeqCst);
+    let mut works = Vec::new(alloc);
+    for firer in firers {
+        works.push(Work::Fire(firer))?;
+    }
+    for name in ["root", "ann", "root", "ann"] {
+        works.push(Work::Trace(name))?;
+    }
+    assert_eq!(rt; works.len(), 8);
+    all_do(rt, alloc, hub, board, works)
+}
+
+/// Two rounds, through which two sessions stay, which meet each processor. Answers what was counted.
+fn rounds<J: HubSite + Send + Sync, R: Threads + Wait + Abort + Clock + Sync>(
+    rt: &R,
+    alloc: Global,
+    hub: &Hub<J>,
+    board: &Board,
+    stay: &mut Stay<J>,
+    tokens: Vec<CpuSeat<J>>,
+) -> Result<Tally, AllocError> {
+    let firers = stay.begins(rt, alloc, hub, tokens)?;
+    let (early, mut firers) = round(rt, alloc, hub, board, firers)?;
+    stay.goes_on(rt, alloc, hub, &mut firers)?;
+    let (late, mut firers) = round(rt, alloc, hub, board, firers)?;
+    assert!(rt;
+        early.and(late).seen > 0,
+        "no firing was kept by those that came and went"
+    );
+    let seen = stay.ends(rt, alloc, hub, board, &mut firers, LAST)?;
+    let own = Tally { kept: 0, seen };
+    Ok(early.and(late).and(own))
 }
 
 /// Four processors and four sessions' threads.
@@ -253,16 +319,13 @@ pub(crate) fn plays<J: HubSite + Send + Sync, R: Threads + Wait + Abort + Clock 
     tokens: Vec<CpuSeat<J>>,
 ) -> Result<(), Fail> {
     let text = machine(alloc)?;
-    let board = Board::new(Machine::read(alloc, text.as_bytes())?, 4);
-    let mut works = Vec::new(alloc);
-    for token in tokens {
-        works.push(Work::Fire(token))?;
-    }
-    for name in ["root", "ann", "root", "ann"] {
-        works.push(Work::Trace(name))?;
-    }
-    assert_eq!(rt; works.len(), 8);
-    let tally = all_do(rt, alloc, hub, &board, works)?;
+    let board = Board::new(Machine::read(alloc, text.as_bytes())?);
+    let first = opened(rt, alloc, hub, "root");
+    let second = opened(rt, alloc, hub, "ann");
+    let mut stay = Stay::new(alloc, first, second);
+    let tally = rounds(rt, alloc, hub, &board, &mut stay, tokens);
+    stay.closes(rt, hub);
+    let tally = tally?;
     assert_eq!(rt; tally.kept, tally.seen);
     assert!(rt; tally.kept > 0, "no firing was kept");
     Ok(())
@@ -275,7 +338,7 @@ pub(crate) fn plays_rows<J: HubSite + Send + Sync, R: Threads + Wait + Abort + C
     hub: &Hub<J>,
     tokens: Vec<CpuSeat<J>>,
 ) -> Result<(), Fail> {
-    let board = Board::new(Machine::read(alloc, rows::MACHINE.as_bytes())?, 0);
+    let board = Board::new(Machine::read(alloc, rows::MACHINE.as_bytes())?);
     let mut works = Vec::new(alloc);
     for token in tokens {
         works.push(Work::FireRows(token))?;
@@ -284,7 +347,7 @@ pub(crate) fn plays_rows<J: HubSite + Send + Sync, R: Threads + Wait + Abort + C
         works.push(Work::Ask(row))?;
     }
     assert_eq!(rt; works.len(), 5);
-    let _tally = all_do(rt, alloc, hub, &board, works)?;
+    let _done = all_do(rt, alloc, hub, &board, works)?;
     Ok(())
 }
 
@@ -294,7 +357,7 @@ fn three_rows_agree(rt: HostRuntime) -> Result<(), Fail> {
     run(&rt, rt.alloc(), rows::MACHINE, Scene::Rows)
 }
 
-/// Each trail is answered as it is due, and has the firings that the processors were told are kept.
+/// Each trail is answered as it is due, and has the firings that the processors were told are kept. The sessions that stayed share a row with each processor.
 #[test]
 fn eight_threads_agree(rt: HostRuntime) -> Result<(), Fail> {
     let machine = machine(rt.alloc())?;

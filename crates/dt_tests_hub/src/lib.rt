@@ -20,6 +20,8 @@ mod histories;
 #[cfg(test)]
 mod meeting;
 #[cfg(test)]
+mod met;
+#[cfg(test)]
 mod paths;
 #[cfg(test)]
 mod refused;
@@ -29,6 +31,10 @@ mod rows;
 mod scenes;
 #[cfg(test)]
 mod seats;
+#[cfg(test)]
+mod shared_row;
+#[cfg(test)]
+mod stays;
 #[cfg(test)]
 mod telling;
 #[cfg(test)]

@@ -18,7 +18,7 @@ const MACHINE: &str = r#"{"cpus":2,
 "probes":["syscall::read:entry","syscall::write:entry"],
 "scripts":[[{"probe":3,"pid":100}],[{"probe":4,"pid":100}]]}"#;
 
-const ENABLE_WRITES: &str = r#"{"cmd":"enable","text":"syscall::write:entry{}"}"#;
+pub(crate) const ENABLE_WRITES: &str = r#"{"cmd":"enable","text":"syscall::write:entry{}"}"#;
 
 /// Processor 0 has the lock of its seat until processor 1 has let go of another's.
 #[derive(Drop)]

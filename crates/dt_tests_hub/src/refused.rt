@@ -1,9 +1,13 @@
 //! What was published goes, though its `go` was refused for memory.
 use crate::calls::{Play, answered, both, opened, run, says};
 use crate::endings::CLOSE;
+use crate::meeting::ENABLE_WRITES;
+use crate::met;
+use crate::met::{Firing, MANY, comes, comes_to, meet};
 use crate::paths::{DONE, ENABLE, ENABLED, GO, MACHINE, STOP, looks};
-use dt_hub::{CpuSeat, Hub, HubSite, Session};
-use std::alloc::Global;
+use crate::shared_row::Sight;
+use dt_hub::{CpuSeat, Hub, HubSite, LineAnswer, Offered, Session};
+use std::alloc::{AllocError, Global};
 use std::process::Abort;
 use std::sync::Wait;
 use std::test::Fail;
@@ -77,6 +81,92 @@ impl Play for AfterGo {
         hub.close(rt, second);
         Ok(())
     }
+}
+
+/// A processor fires what a session wants that has asked its `go` once: it is kept, or isn't seen yet, or named, where that `go` was refused for memory.
+fn comes_early<J: HubSite, R: Wait + Abort>(
+    rt: &R,
+    hub: &Hub<J>,
+    one: &mut Firing<J>,
+    refused: bool,
+) -> Result<(), AllocError> {
+    let came = comes(rt, hub, one)?;
+    if refused {
+        assert!(rt;
+            matches!(came, Offered::Unseen { known: 2 } | Offered::NotNamed),
+            "kept before its go"
+        );
+    } else {
+        assert_eq!(rt; came, Offered::Kept);
+    }
+    Ok(())
+}
+
+/// A session asks its `go`, enables another probe and asks it again, as a processor fires. Where the first `go` was refused for memory, its publication, which has one
+/// probe, may come with the next write, and the second `go` publishes both.
+fn goes_twice<J: HubSite, R: Wait + Abort>(
+    rt: &R,
+    alloc: Global,
+    hub: &Hub<J>,
+    first: &mut Session<J>,
+    second: &mut Session<J>,
+    one: &mut Firing<J>,
+) -> Result<(), AllocError> {
+    let refused = matches!(answered(rt, alloc, hub, first, GO), LineAnswer::Memory);
+    one.wants_writes = refused;
+    let (go, stop) = if refused { (2, 3) } else { (1, 4) };
+    drop(answered(rt, alloc, hub, first, ENABLE_WRITES));
+    says(rt, alloc, hub, second, GO, DONE);
+    comes_early(rt, hub, one, refused)?;
+    comes_early(rt, hub, one, refused)?;
+    comes_early(rt, hub, one, refused)?;
+    comes_to(rt, hub, one, Offered::NotNamed)?;
+    drop(answered(rt, alloc, hub, first, GO));
+    comes_to(rt, hub, one, Offered::Kept)?;
+    let write = if refused {
+        Offered::Kept
+    } else {
+        Offered::NotNamed
+    };
+    comes_to(rt, hub, one, write)?;
+    let sight = Sight {
+        go,
+        stop: Some(stop),
+        history: MANY,
+    };
+    meet(rt, alloc, hub, first, one, sight)?;
+    says(rt, alloc, hub, first, STOP, DONE);
+    comes_to(rt, hub, one, Offered::NotNamed)?;
+    meet(rt, alloc, hub, first, one, sight)?;
+    Ok(())
+}
+
+/// A session that asks its `go` twice meets a processor.
+struct GoesTwice;
+
+impl Play for GoesTwice {
+    fn play<J: HubSite, R: Wait + Abort>(
+        &self,
+        rt: &R,
+        alloc: Global,
+        hub: &Hub<J>,
+        tokens: Vec<CpuSeat<J>>,
+    ) -> Result<(), Fail> {
+        let (one, _other) = both(rt, tokens)?;
+        let mut first = enabled(rt, alloc, hub);
+        let mut second = enabled(rt, alloc, hub);
+        let mut one = Firing::new(alloc, one, &first);
+        let met = goes_twice(rt, alloc, hub, &mut first, &mut second, &mut one);
+        hub.close(rt, first);
+        hub.close(rt, second);
+        met?;
+        Ok(())
+    }
+}
+
+#[test]
+fn a_refused_go_that_comes_later_is_met(rt: HostRuntime) -> Result<(), Fail> {
+    run(&rt, rt.alloc(), met::MACHINE, &GoesTwice)
 }
 
 #[test]

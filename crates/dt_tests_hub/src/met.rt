@@ -1,0 +1,314 @@
+//! A session and a processor that meet.
+use crate::calls::{Play, both, fired, meets, opened, run, says};
+use crate::paths::{DONE, ENABLE, ENABLED, GO, ONE_RECORD, SNAP, STOP, tracing};
+use crate::shared_row::{Heard, Sight, shares};
+use dt_hub::{CpuSeat, Fired, Hub, HubSite, NoGate, Offered, Session};
+use std::alloc::{AllocError, Global};
+use std::process::Abort;
+use std::sync::Wait;
+use std::test::Fail;
+
+/// Processor 0 fires another probe at two places.
+pub(crate) const MACHINE: &str = r#"{"cpus":2,
+"accounts":[{"name":"root","uid":0,"privs":["dtrace_kernel"]}],
+"processes":[{"pid":100,"uid":501,"execname":"sh"}],
+"probes":["syscall::read:entry","syscall::write:entry"],
+"scripts":[[{"probe":3,"pid":100},{"probe":3,"pid":100},{"probe":3,"pid":100},{"probe":4,"pid":100},{"probe":3,"pid":100},
+{"probe":4,"pid":100},{"probe":3,"pid":100}],
+[{"probe":3,"pid":100},{"probe":3,"pid":100},{"probe":3,"pid":100}]]}"#;
+
+/// Whether a firing of a processor is of that probe.
+fn is_write(cpu: u32, place: u32) -> bool {
+    cpu == 0 && (place == 3 || place == 5)
+}
+
+const TWO_FIRINGS: &str = r#"{"cmd":"option","name":"histsize","value":2}"#;
+
+const STATUS: &str = r#"{"cmd":"status"}"#;
+
+const ENDED: &str =
+    "{\"aggdrops\":[0,0],\"cause\":\"history\",\"errors\":[0,0],\"exit\":null,\"ok\":true,\"phase\":\"stopped\",\"seen\":2}\n";
+
+/// More firings than any session of these tests sees.
+pub(crate) const MANY: u64 = 1_000;
+
+/// A session whose second line is its `go`.
+const GOES: Sight = Sight {
+    go: 1,
+    stop: None,
+    history: MANY,
+};
+
+/// A processor, and what it was answered of the life of a session.
+#[derive(Drop)]
+pub(crate) struct Firing<J: HubSite> {
+    pub(crate) token: CpuSeat<J>,
+    heard: Heard,
+    /// Whether the session has enabled the other probe.
+    pub(crate) wants_writes: bool,
+}
+
+impl<J: HubSite> Firing<J> {
+    /// A processor that fired nothing.
+    pub(crate) fn new(alloc: Global, token: CpuSeat<J>, session: &Session<J>) -> Firing<J> {
+        let heard = Heard::new(alloc, session);
+        Firing {
+            token,
+            heard,
+            wants_writes: false,
+        }
+    }
+}
+
+/// A processor fires: what comes of it at the life of a session.
+pub(crate) fn comes<J: HubSite, R: Wait + Abort>(
+    rt: &R,
+    hub: &Hub<J>,
+    firing: &mut Firing<J>,
+) -> Result<Offered, AllocError> {
+    let Fired::At(place) = fired(rt, hub, &mut firing.token, &NoGate) else {
+        assert!(rt; false, "no firing");
+        return Ok(Offered::Gone);
+    };
+    let is_wanted = firing.wants_writes || !is_write(firing.token.cpu(), place);
+    firing.heard.fired(&firing.token, is_wanted)
+}
+
+/// A processor fires, and this comes of it.
+pub(crate) fn comes_to<J: HubSite, R: Wait + Abort>(
+    rt: &R,
+    hub: &Hub<J>,
+    firing: &mut Firing<J>,
+    came: Offered,
+) -> Result<(), AllocError> {
+    assert_eq!(rt; comes(rt, hub, firing)?, came);
+    Ok(())
+}
+
+/// A session and a processor meet. The session then knows so many items, which are all, and the processor's firings stand with these in one row.
+pub(crate) fn meet_heard<J: HubSite, R: Wait + Abort>(
+    rt: &R,
+    alloc: Global,
+    hub: &Hub<J>,
+    session: &mut Session<J>,
+    token: &mut CpuSeat<J>,
+    heard: &mut Heard,
+    sight: Sight,
+) -> Result<u64, AllocError> {
+    meets(rt, hub, session, token);
+    let count = shares(rt, alloc, session, token, heard, sight)?;
+    assert_eq!(rt; hub.seen(session), count);
+    heard.learns(count);
+    Ok(count)
+}
+
+/// The same, of a processor with what it was answered.
+pub(crate) fn meet<J: HubSite, R: Wait + Abort>(
+    rt: &R,
+    alloc: Global,
+    hub: &Hub<J>,
+    session: &mut Session<J>,
+    firing: &mut Firing<J>,
+    sight: Sight,
+) -> Result<u64, AllocError> {
+    let Firing { token, heard, .. } = firing;
+    meet_heard(rt, alloc, hub, session, token, heard, sight)
+}
+
+/// A processor is told what a session knows, which are so many items.
+fn tells<J: HubSite>(hub: &Hub<J>, session: &mut Session<J>, firing: &mut Firing<J>, count: u64) {
+    let receipt = hub.receipt(session);
+    hub.tell(&mut firing.token, receipt);
+    firing.heard.learns(count);
+}
+
+/// A processor fires before a session goes, before it is told of it and after; then they meet, and go on, and meet again.
+fn goes_on<J: HubSite, R: Wait + Abort>(
+    rt: &R,
+    alloc: Global,
+    hub: &Hub<J>,
+    session: &mut Session<J>,
+    one: &mut Firing<J>,
+    other: &mut Firing<J>,
+) -> Result<(), AllocError> {
+    comes_to(rt, hub, one, Offered::NotNamed)?;
+    says(rt, alloc, hub, session, ENABLE, ENABLED);
+    says(rt, alloc, hub, session, GO, DONE);
+    comes_to(rt, hub, one, Offered::Kept)?;
+    says(rt, alloc, hub, session, SNAP, ONE_RECORD);
+    tells(hub, session, one, 4);
+    comes_to(rt, hub, other, Offered::Kept)?;
+    comes_to(rt, hub, one, Offered::Kept)?;
+    comes_to(rt, hub, one, Offered::NotNamed)?;
+    comes_to(rt, hub, other, Offered::Kept)?;
+    assert_eq!(rt; meet(rt, alloc, hub, session, one, GOES)?, 7);
+    comes_to(rt, hub, one, Offered::Kept)?;
+    comes_to(rt, hub, one, Offered::NotNamed)?;
+    says(rt, alloc, hub, session, STOP, DONE);
+    comes_to(rt, hub, one, Offered::NotNamed)?;
+    let stopped = Sight {
+        stop: Some(3),
+        ..GOES
+    };
+    assert_eq!(rt; meet(rt, alloc, hub, session, other, stopped)?, 9);
+    assert_eq!(rt; meet(rt, alloc, hub, session, one, stopped)?, 9);
+    Ok(())
+}
+
+/// A session and two processors that meet as it traces, and once it has stopped.
+struct Told;
+
+impl Play for Told {
+    fn play<J: HubSite, R: Wait + Abort>(
+        &self,
+        rt: &R,
+        alloc: Global,
+        hub: &Hub<J>,
+        tokens: Vec<CpuSeat<J>>,
+    ) -> Result<(), Fail> {
+        let (one, other) = both(rt, tokens)?;
+        let mut session = opened(rt, alloc, hub, "root");
+        let mut one = Firing::new(alloc, one, &session);
+        let mut other = Firing::new(alloc, other, &session);
+        let met = goes_on(rt, alloc, hub, &mut session, &mut one, &mut other);
+        hub.close(rt, session);
+        met?;
+        Ok(())
+    }
+}
+
+#[test]
+fn met_session_and_processor_know_the_same(rt: HostRuntime) -> Result<(), Fail> {
+    run(&rt, rt.alloc(), MACHINE, &Told)
+}
+
+/// A firing ends the life of a session; then its processors fire as it is named, and once it isn't.
+fn fills_up<J: HubSite, R: Wait + Abort>(
+    rt: &R,
+    alloc: Global,
+    hub: &Hub<J>,
+    session: &mut Session<J>,
+    one: &mut Firing<J>,
+    other: &mut Firing<J>,
+) -> Result<(), AllocError> {
+    let full = Sight {
+        go: 2,
+        stop: None,
+        history: 2,
+    };
+    says(rt, alloc, hub, session, TWO_FIRINGS, DONE);
+    says(rt, alloc, hub, session, ENABLE, ENABLED);
+    says(rt, alloc, hub, session, GO, DONE);
+    comes_to(rt, hub, one, Offered::Kept)?;
+    comes_to(rt, hub, other, Offered::Kept)?;
+    comes_to(rt, hub, one, Offered::Unseen { known: 5 })?;
+    comes_to(rt, hub, one, Offered::Unseen { known: 5 })?;
+    comes_to(rt, hub, one, Offered::NotNamed)?;
+    assert_eq!(rt; meet(rt, alloc, hub, session, one, full)?, 5);
+    comes_to(rt, hub, one, Offered::Unseen { known: 5 })?;
+    comes_to(rt, hub, one, Offered::NotNamed)?;
+    says(rt, alloc, hub, session, STATUS, ENDED);
+    comes_to(rt, hub, one, Offered::NotNamed)?;
+    comes_to(rt, hub, other, Offered::NotNamed)?;
+    assert_eq!(rt; meet(rt, alloc, hub, session, other, full)?, 6);
+    assert_eq!(rt; meet(rt, alloc, hub, session, one, full)?, 6);
+    Ok(())
+}
+
+/// A session whose history is full, and processors that fire on.
+struct Filled;
+
+impl Play for Filled {
+    fn play<J: HubSite, R: Wait + Abort>(
+        &self,
+        rt: &R,
+        alloc: Global,
+        hub: &Hub<J>,
+        tokens: Vec<CpuSeat<J>>,
+    ) -> Result<(), Fail> {
+        let (one, other) = both(rt, tokens)?;
+        let mut session = opened(rt, alloc, hub, "root");
+        let mut one = Firing::new(alloc, one, &session);
+        let mut other = Firing::new(alloc, other, &session);
+        let met = fills_up(rt, alloc, hub, &mut session, &mut one, &mut other);
+        hub.close(rt, session);
+        met?;
+        Ok(())
+    }
+}
+
+#[test]
+fn a_session_is_met_whose_history_is_full(rt: HostRuntime) -> Result<(), Fail> {
+    run(&rt, rt.alloc(), MACHINE, &Filled)
+}
+
+/// The first life of the seat: one processor takes its note, and the other is told of it.
+fn lives_first<J: HubSite, R: Wait + Abort>(
+    rt: &R,
+    alloc: Global,
+    hub: &Hub<J>,
+    session: &mut Session<J>,
+    one: &mut Firing<J>,
+    other: &mut Firing<J>,
+) -> Result<(), AllocError> {
+    comes_to(rt, hub, one, Offered::Kept)?;
+    says(rt, alloc, hub, session, SNAP, ONE_RECORD);
+    tells(hub, session, other, 4);
+    assert_eq!(rt; meet(rt, alloc, hub, session, one, GOES)?, 4);
+    Ok(())
+}
+
+/// The next life of the seat: the processors meet its session before they fire for it, and after.
+fn lives_next<J: HubSite, R: Wait + Abort>(
+    rt: &R,
+    alloc: Global,
+    hub: &Hub<J>,
+    session: &mut Session<J>,
+    one: &mut Firing<J>,
+    other: &mut Firing<J>,
+) -> Result<(), AllocError> {
+    assert_eq!(rt; (session.seat().number(), session.life()), (0, 1));
+    one.heard = one.heard.next(alloc, session)?;
+    other.heard = other.heard.next(alloc, session)?;
+    comes_to(rt, hub, one, Offered::Kept)?;
+    assert_eq!(rt; meet(rt, alloc, hub, session, other, GOES)?, 3);
+    comes_to(rt, hub, other, Offered::Kept)?;
+    assert_eq!(rt; meet(rt, alloc, hub, session, one, GOES)?, 4);
+    comes_to(rt, hub, one, Offered::Kept)?;
+    assert_eq!(rt; meet(rt, alloc, hub, session, one, GOES)?, 5);
+    assert_eq!(rt; meet(rt, alloc, hub, session, other, GOES)?, 5);
+    Ok(())
+}
+
+/// A seat that is closed and opened between two firings.
+struct Followed;
+
+impl Play for Followed {
+    fn play<J: HubSite, R: Wait + Abort>(
+        &self,
+        rt: &R,
+        alloc: Global,
+        hub: &Hub<J>,
+        tokens: Vec<CpuSeat<J>>,
+    ) -> Result<(), Fail> {
+        let (one, other) = both(rt, tokens)?;
+        let mut session = tracing(rt, alloc, hub, "root");
+        let mut one = Firing::new(alloc, one, &session);
+        let mut other = Firing::new(alloc, other, &session);
+        let met = lives_first(rt, alloc, hub, &mut session, &mut one, &mut other);
+        let old = hub.receipt(&mut session);
+        hub.close(rt, session);
+        met?;
+        let mut session = tracing(rt, alloc, hub, "root");
+        hub.tell(&mut one.token, old);
+        let met = lives_next(rt, alloc, hub, &mut session, &mut one, &mut other);
+        hub.close(rt, session);
+        met?;
+        Ok(())
+    }
+}
+
+#[test]
+fn the_next_session_of_a_seat_is_met(rt: HostRuntime) -> Result<(), Fail> {
+    run(&rt, rt.alloc(), MACHINE, &Followed)
+}
