@@ -81,6 +81,32 @@ fn act<J: HubSite, R: Wait>(
     }
 }
 
+/// Tells a processor what a session knows, or lets the two meet: then it says how many items the trail has, of which none is missing.
+fn joins<J: HubSite, R: Wait>(
+    rt: &R,
+    alloc: Global,
+    hub: &Hub<J>,
+    session: &mut Option<Session<J>>,
+    token: &mut CpuSeat<J>,
+    word: &str,
+    number: &str,
+) -> Option<Vec<u8>> {
+    let session = match session {
+        Some(session) => session,
+        None => return None,
+    };
+    if word == "tell" {
+        let receipt = hub.receipt(session);
+        hub.tell(token, receipt);
+        return Some(Vec::new(alloc));
+    }
+    hub.meet(rt, session, token);
+    let count = hub.seen(session);
+    let cpu = token.cpu();
+    let text = format!(in alloc; "{number} complete for processor {cpu}: {count} items\n").ok()?;
+    Some(text.into_bytes())
+}
+
 impl<J: HubSite> Player<J> {
     pub(crate) fn new() -> Player<J> {
         Player {
@@ -90,7 +116,7 @@ impl<J: HubSite> Player<J> {
         }
     }
 
-    /// Plays a line, and tells what is answered: nothing, but to a `call`. `None`: it can't be played.
+    /// Plays a line, and tells what is answered: nothing, but to a `call` and a `meet`. `None`: it can't be played.
     pub(crate) fn take<R: Wait>(
         &mut self,
         rt: &R,
@@ -105,6 +131,15 @@ impl<J: HubSite> Player<J> {
             let cpu: usize = number.parse().ok()?;
             let _came = hub.fire(rt, tokens.get_mut(cpu)?, &NoGate);
             return Some(Vec::new(alloc));
+        }
+        if word == "tell" || word == "meet" {
+            let cpu: usize = more.parse().ok()?;
+            let token = tokens.get_mut(cpu)?;
+            return match number {
+                "0" => joins(rt, alloc, hub, &mut self.first, token, word, number),
+                "1" => joins(rt, alloc, hub, &mut self.second, token, word, number),
+                _ => joins(rt, alloc, hub, &mut self.third, token, word, number),
+            };
         }
         match number {
             "0" => act(rt, alloc, hub, &mut self.first, word, number, more),
