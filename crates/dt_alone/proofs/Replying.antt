@@ -1,8 +1,8 @@
 -- A runner after a command.
-use Rattle.std.proofs.Common.{◌≡◌, ℕ, ◌+◌, ◌-◌, ◌<◌, ◌==◌, ◌&&◌, Bool, true, false, not, cond, List, [], ◌∷◌, ◌++◌}
-use Rattle.std.proofs.Common.{length, map, Option, Some, None, Ok, refl, sym, ap, ◌∙◌, subst, ⊎_elim, arith}
+use Rattle.std.proofs.Common.{◌≡◌, ℕ, ◌+◌, ◌-◌, ◌<◌, ◌==◌, ◌&&◌, ◌||◌, Bool, true, false, not, cond, List, [], ◌∷◌, ◌++◌}
+use Rattle.std.proofs.Common.{length, map, Option, Some, None, Result, Ok, Err, refl, sym, ap, ◌∙◌, subst, ⊎_elim, arith}
 use Rattle.std.specs.List.{All}
-use Rattle.std.specs.Option.{IfSome, MatchOption, is_some, option_and_then, option_map}
+use Rattle.std.specs.Option.{IfSome, MatchOption, is_none, is_some, option_and_then, option_map}
 use Rattle.std.proofs.lemmas.Bool.{cases_Bool, ne_eqb}
 use Rattle.std.proofs.lemmas.List.{length-map, map-append}
 use Rattle.dt_cred.specs.declared.account.Account.{Account}
@@ -24,7 +24,7 @@ use Rattle.dt_ecb.specs.Shapes.{ShapeForm, uses_of}
 use Rattle.dt_ecb.specs.declared.parts.Ecb.{Ecb}
 use Rattle.dt_life.specs.Forms.{form_of_options}
 use Rattle.dt_alone.specs.Happened.{Brings, all_to}
-use Rattle.dt_alone.specs.Runs.{Answers, Has, HasIn, HasAsked}
+use Rattle.dt_alone.specs.Runs.{Answers, Has, HasIn, HasAsked, Runs}
 use Rattle.dt_aggstore.specs.declared.key.Aggregation.{Aggregation}
 use Rattle.dt_buffer.specs.Shows.{Shows}
 use Rattle.std.specs.Global.{Vec}
@@ -34,18 +34,22 @@ use Rattle.dt_alone.specs.declared.happened.Happened.TheVariants as happened
 use Rattle.dt_life.specs.declared.options.Options.{Options}
 use Rattle.dt_alone.specs.declared.programs.Programs.{Programs}
 use Rattle.dt_alone.specs.declared.runner.Runner.{Runner}
+use Rattle.dt_life.specs.Acceptance.{after_line}
 use Rattle.dt_life.specs.Answer.{answer_of, enabled}
-use Rattle.dt_life.specs.Ask.{Ask, enable, go, option, snap, stop, trunc, reading_of, is_read}
+use Rattle.dt_life.specs.Answer as answers
+use Rattle.dt_life.specs.Ask.{Ask, close, enable, go, option, snap, stop, trunc, reading_of, is_read}
 use Rattle.dt_life.specs.Buffers.{comes_since, past, reserve_on}
 use Rattle.dt_life.specs.Placed.{AreEcbs, placed_after}
-use Rattle.dt_life.specs.Life.{Item, asked, SetUp, ecbs_in, end_size, happens, has_room, is_inactive, is_readable}
-use Rattle.dt_life.specs.Life.{lines, next_epid, phase, phase_of, set_up, shapes_in, since_then, with_event}
+use Rattle.dt_life.specs.Life.{Item, asked, SetUp, ecbs_in, end_size, happens, has_room, is_inactive, is_over, is_readable}
+use Rattle.dt_life.specs.Life.{is_stopped, lines, next_epid, phase, phase_of, set_up, shapes_in, since_then, with_event}
 use Rattle.dt_life.specs.Life.{with_options, with_program}
 use Rattle.dt_life.specs.Options.{OptionsForm, Setting, is_fill, with_setting}
 use Rattle.dt_life.specs.Refusal.{refused_as}
-use Rattle.dt_life.specs.Reply.{Accepted, known, IsVerdictOnCommand, refusal_of}
+use Rattle.dt_life.specs.Reply.{Accepted, Replies, known, IsVerdictOnCommand, refusal_of}
 use Rattle.dt_life.specs.Stores.{given_since}
-use Rattle.dt_life.specs.Takings.{TracingEvent, began, ended, snapped, truncated, faults as failures, taken_since}
+use Rattle.dt_life.specs.Takings.{TracingEvent, began, ended, snapped, truncated, closed, faults as failures}
+use Rattle.dt_life.specs.TracingSteps.{taken_since}
+use Rattle.dt_life.specs.declared.phase.End.{End}
 use Rattle.dt_life.specs.declared.phase.End.TheVariants as ends
 use Rattle.dt_life.specs.declared.phase.Phase.{Phase}
 use Rattle.dt_life.specs.declared.phase.Phase.TheVariants.{Inactive, Active, Stopped}
@@ -58,9 +62,10 @@ use Rattle.dt_life.specs.laws.Verdicts.{begun_by_go, destructive_refused, fault_
 use Rattle.dt_life.specs.laws.Placed.{are_both}
 use Rattle.dt_life.specs.laws.Verdicts.{snap_taken, some_trunc, stop_taken, stopped_by, truncated_by, idle_program}
 use Rattle.dt_life.specs.laws.Verdicts.{idle_unset, option_refused, option_taken, program_added, program_verdict}
-use Rattle.dt_life.specs.laws.Verdicts.{set_by}
+use Rattle.dt_life.specs.laws.Verdicts.{closed_by, in_quota, set_by}
+use Rattle.dt_life.specs.laws.Lines.{after_counted}
 use Rattle.dt_life.specs.laws.Placed.{are_placed}
-use Rattle.dt_alone.proofs.Running.{Told, has_since, told_snapped, told_truncated}
+use Rattle.dt_alone.proofs.Running.{Told, has_since, told_closed, told_snapped, told_truncated}
 
 pub idle_phase : (phase : Phase) → is_inactive phase ≡ true → phase ≡ Inactive
 idle_phase Inactive e = refl
@@ -106,6 +111,31 @@ has_alike account registry s p old new h a options programs q standing idle = re
   seen = a.seen ∙ h.seen;
   brings = subst (λ (v : Vec Happened). Told account registry s v.items) (sym a.since) h.brings;
 }
+
+-- a line that is no command is refused, and is part of the life
+pub no_command : (account : Account) (registry : Registry) (life : List Item) (old new : Runner)
+    (line : Result Ask Refusal) (why : Refusal) → Runs account registry old life → is_over life ≡ false → line ≡ Err why
+    → Alike old new → new.options ≡ old.options → new.programs ≡ old.programs → new.phase ≡ old.phase
+    → new.lines ≡ old.lines + 1
+    → Replies account registry life line (answers.refused why) × Runs account registry new (after_line life line)
+no_command account registry life old new line why runs fresh is same options programs standing counts =
+    let s = set_up account registry life in
+    let has = has_alike account registry s (phase_of s) old new runs.has same options programs (phase_of s)
+    (standing ∙ runs.has.standing) (λ e. e) in
+    let now : Runs account registry new (asked (Err why) ∷ life) =
+    record { has = has; counted = omega (arith, counts, runs.counted) } in
+    subst
+    (λ l. Replies account registry life l (answers.refused why) × Runs account registry new (after_line life l))
+    (sym is) (
+      in_quota account registry life (Err why) (answers.refused why) fresh refl,
+      subst (Runs account registry new) (sym (after_counted life (Err why) fresh)) now,
+    )
+
+-- a phase that isn't stopped
+pub goes_still : (phase : Phase) → ((cause : Option End) → phase ≡ Stopped cause → ⊥) → is_stopped phase ≡ false
+goes_still Inactive none = refl
+goes_still Active none = refl
+goes_still (Stopped cause) none = absurd (none cause refl)
 
 module _ (account : Account) (registry : Registry) (life : List Item) (r : Runner)
     (k : HasAsked account registry r life) where
@@ -284,6 +314,33 @@ module _ (account : Account) (registry : Registry) (life : List Item) (r : Runne
       (subst (λ hs. Told account registry (with_event now (truncated name)) hs) (sym grown)
       (told_truncated account registry now name a r.since.items is k.has.brings)))
       same
+
+  -- before tracing begins nothing is truncated
+  pub trunc_idle : (name : List ℕ) (a : Aggregation) → is_inactive (phase account registry life) ≡ true
+      → known account registry life name ≡ Some a → Answers account registry life (trunc name) Done r
+  trunc_idle name a off is =
+      accepts_as (trunc name) Done r now (some_trunc account registry life name a is) refl
+      (ap (λ b. cond (b || is_none (known account registry life name)) now (with_event now (truncated name))) off)
+      k.has refl
+
+  -- the session was closed while tracing went on, or before it began
+  pub close_done : (new : Runner) → is_stopped r.phase ≡ false → new.account ≡ r.account → new.options ≡ r.options
+      → new.programs ≡ r.programs → new.phase ≡ Stopped None → new.seen ≡ r.seen → new.since ≡ r.since
+      → new.lines ≡ r.lines → Answers account registry life close Done new
+  close_done new going same_account same_options same_programs same_phase same_seen same_since same =
+      accepts_as close Done new (with_event now closed) refl refl
+      (closed_by account registry life false (sym (ap is_stopped stands) ∙ going))
+      (has_since account registry now (closed ∷ now.since) (phase_of now) (Stopped None) r new k.has same_account
+      same_options same_programs same_phase refl (same_seen ∙ k.has.seen)
+      (subst (λ (v : Vec Happened). Told account registry (with_event now closed) v.items) (sym same_since)
+      (told_closed account registry now r.since.items k.has.brings)))
+      same
+
+  -- or after it had stopped
+  pub close_idle : is_stopped r.phase ≡ true → Answers account registry life close Done r
+  close_idle stopped =
+      accepts_as close Done r now refl refl
+      (closed_by account registry life true (sym (ap is_stopped stands) ∙ stopped)) k.has refl
 
   -- nothing was taken before tracing begins, whatever is enabled
   brings_still : (ecbs : List EcbForm) (shapes : List ShapeForm) → phase account registry life ≡ Inactive → (cpu : ℕ)

@@ -11,7 +11,6 @@ use Rattle.dt_machine.specs.Registry.{Registry}
 use Rattle.dt_lang.specs.Program.{form_of_clause}
 use Rattle.dt_ecb.specs.Ecbs.{EcbForm, of_probe}
 use Rattle.dt_ecb.specs.Forms.{form_of_ecb, shapes_of}
-use Rattle.dt_ecb.specs.Shapes.{ShapeForm}
 use Rattle.dt_ecb.specs.declared.parts.Ecb.{Ecb}
 use Rattle.dt_life.specs.Forms.{form_of_options}
 use Rattle.dt_alone.specs.Happened.{AddsTakings, Brings}
@@ -23,43 +22,25 @@ use Rattle.dt_alone.specs.declared.programs.Programs.{Programs}
 use Rattle.dt_alone.specs.declared.runner.Runner.{Runner}
 use Rattle.dt_alone.proofs.Bringing.{brings_one, same_brings}
 use Rattle.dt_machine.specs.Context.{ContextForm}
-use Rattle.dt_life.specs.Aggregations.{aggregation_of, contributions}
-use Rattle.dt_life.specs.Buffers.{attempts_of, comes_by, comes_since, errors_in}
+use Rattle.dt_life.specs.Aggregations.{aggregation_of}
+use Rattle.dt_life.specs.Buffers.{comes_by, comes_since, errors_in}
 use Rattle.dt_life.specs.Placed.{AreEcbs}
-use Rattle.dt_life.specs.Following.{where_taken}
 use Rattle.dt_life.specs.Life.{SetUp, ecbs_in, end_by, happens, is_inactive, phase_of, seen_count, shapes_in}
 use Rattle.dt_life.specs.Life.{since_then, with_event}
 use Rattle.dt_life.specs.Stores.{given_on, given_since}
 use Rattle.dt_life.specs.Takings.{TracingEvent, Taking, began, seen, snapped, truncated, ended, closed, faults}
-use Rattle.dt_life.specs.Takings.{first_exit, is_end, context_at, taken_at, taken_by, taken_on, taken_since}
+use Rattle.dt_life.specs.Takings.{first_exit, is_end, context_at, taken_at, taken_by}
+use Rattle.dt_life.specs.TracingSteps.{taken_on, taken_since}
 use Rattle.dt_life.specs.declared.phase.End.{End}
 use Rattle.dt_life.specs.declared.phase.End.TheVariants.{Exit, History}
 use Rattle.dt_life.specs.declared.phase.Phase.{Phase}
 use Rattle.dt_life.specs.declared.phase.Phase.TheVariants.{Inactive}
 use Rattle.dt_life.specs.laws.Lists.{filter-map}
-use Rattle.dt_life.specs.laws.Takings.{faults-append}
-use Rattle.dt_life.specs.laws.Tracings.{IsFiring, by_is, end_is, happens_last, happens_on, on_is}
+use Rattle.dt_life.specs.laws.TracingSteps.{after_close, after_snap, after_trunc}
+use Rattle.dt_life.specs.laws.Tracings.{IsFiring, by_is, comes_more, end_is, errors_more, given_more, happens_last}
+use Rattle.dt_life.specs.laws.Tracings.{happens_on}
 
 module _ (account : Account) (registry : Registry) where
-  comes_firing : (ecbs : List EcbForm) (cpu : ℕ) (event : TracingEvent) → IsFiring event
-      → comes_by account registry ecbs cpu event ≡ attempts_of (taken_on account registry ecbs cpu event)
-  comes_firing ecbs cpu began is = refl
-  comes_firing ecbs cpu (seen firing) is = refl
-  comes_firing ecbs cpu (snapped n) is = absurd is
-  comes_firing ecbs cpu (truncated name) is = absurd is
-  comes_firing ecbs cpu (ended end) is = refl
-  comes_firing ecbs cpu closed is = refl
-
-  given_firing : (shapes : List ShapeForm) (ecbs : List EcbForm) (cpu : ℕ) (event : TracingEvent) → IsFiring event
-      → given_on account registry shapes ecbs cpu event
-      ≡ contributions shapes (taken_on account registry ecbs cpu event)
-  given_firing shapes ecbs cpu began is = refl
-  given_firing shapes ecbs cpu (seen firing) is = refl
-  given_firing shapes ecbs cpu (snapped n) is = absurd is
-  given_firing shapes ecbs cpu (truncated name) is = absurd is
-  given_firing shapes ecbs cpu (ended end) is = refl
-  given_firing shapes ecbs cpu closed is = refl
-
   -- What happened is what a set-up says of each processor.
   abbrev pub Told : SetUp → List Happened → Type 0
   Told s happened = (cpu : ℕ) → Brings cpu happened
@@ -76,18 +57,9 @@ module _ (account : Account) (registry : Registry) where
         → AddsTakings (shapes_in s) m.firing.cpu (taken_at (is_end event) (ecbs_in account registry s) m) old new
         → Told s old → Told (with_event s event) new
     told_firing event m old new fires at adds told = λ cpu.
-        let ts = where_taken m.firing.cpu (taken_at (is_end event) ecbs m) cpu in
-        let w : ts ≡ taken_on account registry ecbs cpu event =
-        sym (on_is account registry s event m fires at cpu) in
-        same_brings cpu new _ _ _ _ _ _
-        (ap (λ es. comes_since account registry ecbs cpu s.since ++ es)
-        (ap attempts_of w ∙ sym (comes_firing ecbs cpu event fires)))
-        (ap (λ xs. errors_in account registry s cpu + faults xs) w
-        ∙ sym
-        (faults-append (taken_since account registry ecbs cpu s.since) (taken_on account registry ecbs cpu event)))
-        (ap (λ es. given_since account registry (shapes_in s) ecbs cpu s.since ++ es)
-        (ap (contributions (shapes_in s)) w ∙ sym (given_firing (shapes_in s) ecbs cpu event fires)))
-        (adds cpu _ _ _ (told cpu))
+        same_brings cpu new _ _ _ _ _ _ (sym (comes_more account registry s event m fires at cpu))
+        (sym (errors_more account registry s event m fires at cpu))
+        (sym (given_more account registry s event m fires at cpu)) (adds cpu _ _ _ (told cpu))
 
     no_faults : (xs : List Taking) (n : ℕ) → faults xs ≡ n → n + 0 ≡ faults (xs ++ [])
     no_faults xs n e = omega (arith, e, ap faults (append-nil xs))
@@ -95,15 +67,18 @@ module _ (account : Account) (registry : Registry) where
     -- the session was closed
     pub told_closed : (old : List Happened) → Told s old → Told (with_event s closed) old
     told_closed old told = λ cpu.
-        same_brings cpu old _ _ _ _ _ _ (sym (append-nil (comes_since account registry ecbs cpu s.since)))
-        (omega (arith, ap faults (append-nil (taken_since account registry ecbs cpu s.since))))
-        (sym (append-nil (given_since account registry (shapes_in s) ecbs cpu s.since))) (told cpu)
+        same_brings cpu old _ _ _ _ _ _ (sym (after_close (comes_by cpu) account registry ecbs s.since))
+        (ap faults (sym (after_close (taken_on cpu) account registry ecbs s.since)))
+        (sym (after_close (given_on (shapes_in s) cpu) account registry ecbs s.since)) (told cpu)
 
     -- a buffer was read
     pub told_snapped : (n : ℕ) (old : List Happened) → Told s old → Told (with_event s (snapped n)) (old ++ Snapped n ∷ [])
     told_snapped n old told = λ cpu.
-        same_brings cpu (old ++ Snapped n ∷ []) _ _ _ _ _ _ refl
-        (no_faults (taken_since account registry ecbs cpu s.since) _ refl) refl
+        same_brings cpu (old ++ Snapped n ∷ []) _ _ _ _ _ _
+        (sym (after_snap (comes_by cpu) account registry ecbs s.since n))
+        (no_faults (taken_since account registry ecbs cpu s.since) _ refl
+        ∙ ap faults (sym (after_snap (taken_on cpu) account registry ecbs s.since n)))
+        (sym (after_snap (given_on (shapes_in s) cpu) account registry ecbs s.since n))
         (brings_one cpu old (Snapped n) _ _ _ (told cpu))
 
     -- an aggregation was truncated
@@ -111,10 +86,13 @@ module _ (account : Account) (registry : Registry) where
         → aggregation_of (shapes_in s) name ≡ Some a → Told s old
         → Told (with_event s (truncated name)) (old ++ Truncated a ∷ [])
     told_truncated name a old is told = λ cpu.
-        same_brings cpu (old ++ Truncated a ∷ []) _ _ _ _ _ _ refl
-        (no_faults (taken_since account registry ecbs cpu s.since) _ refl)
+        same_brings cpu (old ++ Truncated a ∷ []) _ _ _ _ _ _
+        (sym (after_trunc (comes_by cpu) account registry ecbs s.since name))
+        (no_faults (taken_since account registry ecbs cpu s.since) _ refl
+        ∙ ap faults (sym (after_trunc (taken_on cpu) account registry ecbs s.since name)))
         (ap (λ o. given_since account registry (shapes_in s) ecbs cpu s.since
-        ++ option_to_list (option_map store.truncated o)) (sym is))
+        ++ option_to_list (option_map store.truncated o)) (sym is)
+        ∙ sym (after_trunc (given_on (shapes_in s) cpu) account registry ecbs s.since name))
         (brings_one cpu old (Truncated a) _ _ _ (told cpu))
 
   -- the ECBs of a runner are those of its set-up

@@ -13,10 +13,11 @@ use Rattle.dt_buffer.specs.declared.policy.Policy.TheVariants.{Switch, Fill, Rin
 use Rattle.dt_cred.specs.declared.account.Account.{Account}
 use Rattle.dt_ecb.specs.Ecbs.{EcbForm}
 use Rattle.dt_machine.specs.Registry.{Registry}
-use Rattle.dt_life.specs.Buffers.{comes_since, past_in}
+use Rattle.dt_life.specs.Buffers.{comes_by, comes_since, past_in}
 use Rattle.dt_consumer.specs.Keeps.{is_quiet}
 use Rattle.dt_life.specs.Life.{SetUp, ecbs_in}
 use Rattle.dt_life.specs.Takings.{TracingEvent, began, seen, snapped, truncated, ended, closed}
+use Rattle.dt_life.specs.laws.TracingSteps.{after_close, after_snap, after_trunc}
 
 abbrev are_swaps : List buffer.BufferEvent → Type 0
 are_swaps = AllByRecursion (λ event. event ≡ swap)
@@ -31,16 +32,19 @@ quiet_swaps account registry ecbs cpu [] e = tt
 quiet_swaps account registry ecbs cpu (began ∷ events) e = cc
 quiet_swaps account registry ecbs cpu (seen firing ∷ events) e = cc
 quiet_swaps account registry ecbs cpu (snapped n ∷ events) e =
-    append_swaps _ _ (quiet_swaps account registry ecbs cpu events e) (here (n == cpu))
+    subst are_swaps (sym (after_snap (comes_by cpu) account registry ecbs events n))
+    (append_swaps _ _ (quiet_swaps account registry ecbs cpu events e) (here (n == cpu)))
   where
     here : (b : Bool) → are_swaps (cond b (swap ∷ []) [])
     here true = (refl, tt)
     here false = tt
 quiet_swaps account registry ecbs cpu (truncated name ∷ events) e =
-    append_swaps _ [] (quiet_swaps account registry ecbs cpu events e) tt
+    subst are_swaps (sym (after_trunc (comes_by cpu) account registry ecbs events name))
+    (append_swaps _ [] (quiet_swaps account registry ecbs cpu events e) tt)
 quiet_swaps account registry ecbs cpu (ended end ∷ events) e = cc
 quiet_swaps account registry ecbs cpu (closed ∷ events) e =
-    append_swaps _ [] (quiet_swaps account registry ecbs cpu events e) tt
+    subst are_swaps (sym (after_close (comes_by cpu) account registry ecbs events))
+    (quiet_swaps account registry ecbs cpu events e)
 
 -- by swaps alone no record comes
 record NoneCame (events : List buffer.BufferEvent) : Type 0 where

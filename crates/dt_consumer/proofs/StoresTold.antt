@@ -1,6 +1,6 @@
 -- What `agg` and `status` tell of the stores.
 use Rattle.std.proofs.Common.{◌≡◌, ℕ, Bool, true, false, List, [], ◌∷◌, ◌++◌, length, Option, Some, None, map}
-use Rattle.std.proofs.Common.{replicate, refl, sym, ap, ◌∙◌, arith}
+use Rattle.std.proofs.Common.{replicate, refl, sym, ap, ◌∙◌, subst, arith}
 use Rattle.std.specs.List.{AllByRecursion, AllZip, flat_map, range_with_len}
 use Rattle.std.specs.Option.{option_map, option_to_list}
 use Rattle.std.specs.Vec.{vec_len}
@@ -21,11 +21,12 @@ use Rattle.dt_life.specs.Aggregations.{aggregation_of}
 use Rattle.dt_consumer.specs.Keeps.{IsTracing, is_quiet}
 use Rattle.dt_life.specs.Life.{Item, SetUp, ecbs_in, set_up, shapes_in}
 use Rattle.dt_life.specs.Reply.{all_aggdrops}
-use Rattle.dt_life.specs.Stores.{aggdrops_in, given_in, given_since, stores_in}
+use Rattle.dt_life.specs.Stores.{aggdrops_in, given_in, given_on, given_since, stores_in}
 use Rattle.dt_life.specs.Takings.{TracingEvent, began, seen, snapped, truncated, ended, closed}
 use Rattle.dt_consumer.specs.declared.tracing.Tracing.{Tracing}
 use Rattle.dt_life.specs.laws.Stores.{are_zipped}
 use Rattle.dt_life.specs.laws.Lists.{all_zero}
+use Rattle.dt_life.specs.laws.TracingSteps.{after_close, after_snap, after_trunc}
 
 -- as many stores as processors
 all_stores : (account : Account) (registry : Registry) (s : SetUp) (t : Tracing) → IsTracing account registry s t
@@ -68,15 +69,18 @@ module _ (fresh : (size : ℕ) → drops (store.new_past size) ≡ 0)
   none_given account registry shapes ecbs cpu size (seen firing ∷ events) e = cc
   none_given account registry shapes ecbs cpu size (snapped n ∷ events) e =
       ap (λ es. drops (record { size = size; events = es }))
-      (append-nil (given_since account registry shapes ecbs cpu events))
+      (after_snap (given_on shapes cpu) account registry ecbs events n
+      ∙ append-nil (given_since account registry shapes ecbs cpu events))
       ∙ none_given account registry shapes ecbs cpu size events e
   none_given account registry shapes ecbs cpu size (truncated name ∷ events) e =
-      one_cut size (given_since account registry shapes ecbs cpu events) (aggregation_of shapes name)
+      ap (λ es. drops (record { size = size; events = es }))
+      (after_trunc (given_on shapes cpu) account registry ecbs events name)
+      ∙ one_cut size (given_since account registry shapes ecbs cpu events) (aggregation_of shapes name)
       ∙ none_given account registry shapes ecbs cpu size events e
   none_given account registry shapes ecbs cpu size (ended end ∷ events) e = cc
   none_given account registry shapes ecbs cpu size (closed ∷ events) e =
       ap (λ es. drops (record { size = size; events = es }))
-      (append-nil (given_since account registry shapes ecbs cpu events))
+      (after_close (given_on shapes cpu) account registry ecbs events)
       ∙ none_given account registry shapes ecbs cpu size events e
 
   pub no_aggdrops : (account : Account) (registry : Registry) (life : List Item)
@@ -112,15 +116,19 @@ module _ (account : Account) (registry : Registry) (shapes : List ShapeForm) (ec
   quiet_gives [] e = tt
   quiet_gives (began ∷ events) e = cc
   quiet_gives (seen firing ∷ events) e = cc
-  quiet_gives (snapped n ∷ events) e = append_none _ [] (quiet_gives events e) tt
+  quiet_gives (snapped n ∷ events) e =
+      subst gives_none (sym (after_snap (given_on shapes cpu) account registry ecbs events n))
+      (append_none _ [] (quiet_gives events e) tt)
   quiet_gives (truncated name ∷ events) e =
-      append_none _ _ (quiet_gives events e) (cut (aggregation_of shapes name))
+      subst gives_none (sym (after_trunc (given_on shapes cpu) account registry ecbs events name))
+      (append_none _ _ (quiet_gives events e) (cut (aggregation_of shapes name)))
     where
       cut : (o : Option Aggregation) → gives_none (option_to_list (option_map store.truncated o))
       cut None = tt
       cut (Some a) = (refl, tt)
   quiet_gives (ended end ∷ events) e = cc
-  quiet_gives (closed ∷ events) e = append_none _ [] (quiet_gives events e) tt
+  quiet_gives (closed ∷ events) e =
+      subst gives_none (sym (after_close (given_on shapes cpu) account registry ecbs events)) (quiet_gives events e)
 
 -- the table of stores to which nothing was given
 all_held : (f : ℕ → store.Past) (cpus : List ℕ) → ((cpu : ℕ) → gives_none (f cpu).events)

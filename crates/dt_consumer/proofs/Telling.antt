@@ -11,11 +11,13 @@ use Rattle.dt_life.specs.Buffers.{errors}
 use Rattle.dt_consumer.specs.Keeps.{IsTracing, is_quiet}
 use Rattle.dt_life.specs.Life.{Item, seen_count, set_up, ecbs_in}
 use Rattle.dt_life.specs.Reply.{all_errors}
-use Rattle.dt_life.specs.Takings.{TracingEvent, began, seen, snapped, truncated, ended, closed, faults, taken_since}
+use Rattle.dt_life.specs.Takings.{TracingEvent, began, seen, snapped, truncated, ended, closed, faults}
+use Rattle.dt_life.specs.TracingSteps.{taken_on, taken_since}
 use Rattle.dt_consumer.specs.declared.processor.Processor.{Processor}
 use Rattle.dt_consumer.specs.declared.tracing.Tracing.{Tracing}
 use Rattle.dt_life.specs.laws.Lists.{all_zero}
 use Rattle.dt_life.specs.laws.Options.{if_some_map}
+use Rattle.dt_life.specs.laws.TracingSteps.{after_close, after_snap, after_trunc}
 
 each_error : (f : ℕ → ℕ) (base : ℕ) (xs : List Processor)
     → ((i : ℕ) → IfSome (slice_get xs i) (λ p. p.errors ≡ f (base + i)))
@@ -37,12 +39,14 @@ none_taken account registry ecbs cpu [] e = refl
 none_taken account registry ecbs cpu (began ∷ events) e = cc
 none_taken account registry ecbs cpu (seen firing ∷ events) e = cc
 none_taken account registry ecbs cpu (snapped n ∷ events) e =
-    append-nil (taken_since account registry ecbs cpu events) ∙ none_taken account registry ecbs cpu events e
+    after_snap (taken_on cpu) account registry ecbs events n
+    ∙ append-nil (taken_since account registry ecbs cpu events) ∙ none_taken account registry ecbs cpu events e
 none_taken account registry ecbs cpu (truncated name ∷ events) e =
-    append-nil (taken_since account registry ecbs cpu events) ∙ none_taken account registry ecbs cpu events e
+    after_trunc (taken_on cpu) account registry ecbs events name
+    ∙ append-nil (taken_since account registry ecbs cpu events) ∙ none_taken account registry ecbs cpu events e
 none_taken account registry ecbs cpu (ended end ∷ events) e = cc
 none_taken account registry ecbs cpu (closed ∷ events) e =
-    append-nil (taken_since account registry ecbs cpu events) ∙ none_taken account registry ecbs cpu events e
+    after_close (taken_on cpu) account registry ecbs events ∙ none_taken account registry ecbs cpu events e
 
 pub none_seen : (events : List TracingEvent) → is_quiet events ≡ true → seen_count events ≡ 0
 none_seen [] e = refl

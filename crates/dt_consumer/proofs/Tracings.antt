@@ -13,15 +13,15 @@ use Rattle.dt_program.specs.declared.clause.Clause.{Clause}
 use Rattle.dt_ecb.specs.Ecbs.{EcbForm, of_probe}
 use Rattle.dt_ecb.specs.Forms.{form_of_ecb}
 use Rattle.dt_ecb.specs.declared.parts.Ecb.{Ecb}
-use Rattle.dt_life.specs.Buffers.{attempts_of, errors_in, past_in, reserve_on}
+use Rattle.dt_life.specs.Buffers.{errors_in, past_in, reserve_on}
 use Rattle.dt_life.specs.Placed.{AreEcbs, placed_after}
 use Rattle.dt_consumer.specs.Keeps.{AreTaken, HasTaken, IsTracing}
-use Rattle.dt_life.specs.Following.{errors_and, followed_by, pasts_and, taking_by, where_taken}
+use Rattle.dt_life.specs.Following.{errors_and, pasts_and, taking_by, where_taken}
 use Rattle.dt_life.specs.Life.{SetUp, ecbs_in, end_size, since_then, with_event}
 use Rattle.dt_life.specs.Options.{OptionsForm, is_fill}
-use Rattle.dt_life.specs.Takings.{TracingEvent, ended, is_end, Taking, faults, first_exit, context_at}
+use Rattle.dt_life.specs.Takings.{TracingEvent, ended, is_end, Taking, first_exit, context_at}
 use Rattle.dt_machine.specs.Context.{ContextForm}
-use Rattle.dt_life.specs.Takings.{own_context, taken_at, taken_by, taken_on, taken_since, taking_of}
+use Rattle.dt_life.specs.Takings.{own_context, taken_at, taken_by, taking_of}
 use Rattle.dt_life.specs.declared.limits.TheConstants.{END}
 use Rattle.dt_life.specs.declared.phase.End.{End}
 use Rattle.dt_consumer.specs.Placing.{ArePlaced, IsPlaced}
@@ -30,9 +30,9 @@ use Rattle.dt_consumer.specs.declared.ecb_lists.EcbList.{EcbList}
 use Rattle.dt_consumer.specs.declared.tracing.Tracing.{Tracing}
 use Rattle.dt_consumer.proofs.Buffers.{same_has}
 use Rattle.dt_life.specs.laws.Lists.{filter-map, found_at, map_twice}
-use Rattle.dt_life.specs.laws.Takings.{faults-append, first_through}
+use Rattle.dt_life.specs.laws.Takings.{first_through}
 use Rattle.dt_life.specs.laws.Options.{if_some_map}
-use Rattle.dt_life.specs.laws.Tracings.{IsFiring, comes_firing, on_is, by_is}
+use Rattle.dt_life.specs.laws.Tracings.{IsFiring, by_is, comes_more, errors_more, past_with}
 use Rattle.dt_life.specs.laws.Contexts.{own_found}
 
 module _ (account : Account) (registry : Registry) (s : SetUp) where
@@ -49,15 +49,12 @@ module _ (account : Account) (registry : Registry) (s : SetUp) where
         → AreTaken (past_in account registry (with_event s event))
         (errors_in account registry (with_event s event)) all
     grown all new is h = λ cpu.
-        let w : where_taken m.firing.cpu new cpu ≡ taken_on account registry own cpu event =
-        ap (λ xs. where_taken m.firing.cpu xs cpu) is ∙ sym (on_is account registry s event m fires at cpu) in
         if_some_map _ _ (slice_get all cpu)
         (λ p. same_has _ _ _ _ p
-        (ap (λ xs. followed_by (past_in account registry s cpu) (attempts_of xs)) w
-        ∙ ap (followed_by (past_in account registry s cpu)) (sym (comes_firing account registry s cpu event fires)))
-        (ap (λ xs. errors_in account registry s cpu + faults xs) w
-        ∙ sym
-        (faults-append (taken_since account registry own cpu s.since) (taken_on account registry own cpu event))))
+        (ap (λ xs. pasts_and (past_in account registry s) (where_taken m.firing.cpu xs) cpu) is
+        ∙ ap (past_with account registry s cpu) (sym (comes_more account registry s event m fires at cpu)))
+        (ap (λ xs. errors_and (errors_in account registry s) (where_taken m.firing.cpu xs) cpu) is
+        ∙ sym (errors_more account registry s event m fires at cpu)))
         (h cpu)
 
 -- the list of a probe has the forms of its ECBs

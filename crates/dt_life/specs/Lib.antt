@@ -7,6 +7,7 @@ pub mod Refusal
 pub mod Ask
 pub mod Phase
 pub mod Takings
+pub mod TracingSteps
 pub mod Aggregations
 pub mod Life
 pub mod Acceptance

@@ -1,6 +1,6 @@
 -- What comes to the stores of a consumer's aggregations, one on each processor. Guide, Aggregations.
-use Rattle.std.specs.Prelude.{ℕ, List, [], ◌∷◌, ◌++◌, map}
-use Rattle.std.specs.List.{range_with_len}
+use Rattle.std.specs.Prelude.{ℕ, ◌==◌, List, [], map, if◌then◌else◌}
+use Rattle.std.specs.List.{flat_map, range_with_len}
 use Rattle.std.specs.Option.{option_map, option_to_list}
 use Rattle.dt_aggstore.specs.Chosen.{drops}
 use Rattle.dt_aggstore.specs.History as store
@@ -8,21 +8,21 @@ use Rattle.dt_cred.specs.declared.account.Account.{Account}
 use Rattle.dt_ecb.specs.Ecbs.{EcbForm}
 use Rattle.dt_ecb.specs.Shapes.{ShapeForm}
 use Rattle.dt_machine.specs.Registry.{Registry}
-use Rattle.dt_life.specs.Aggregations.{aggregation_of, contributions}
+use Rattle.dt_life.specs.Aggregations.{aggregation_of, contributions_of}
 use Rattle.dt_life.specs.Life.{SetUp, ecbs_in, shapes_in}
-use Rattle.dt_life.specs.Takings.{TracingEvent, truncated, taken_on}
+use Rattle.dt_life.specs.Takings.{TracingEvent}
+use Rattle.dt_life.specs.TracingSteps.{TracingStep, takes, reads, truncates, cpu_of, steps_since}
+
+-- what a step brings to a processor's store: contributions, or an aggregation is truncated
+abbrev pub given_on : List ShapeForm → (cpu : ℕ) → TracingStep → List store.Event
+given_on shapes cpu (takes t) = if cpu_of t == cpu then contributions_of shapes t else []
+given_on shapes cpu (reads n) = []
+given_on shapes cpu (truncates name) = option_to_list (option_map store.truncated (aggregation_of shapes name))
 
 module _ (account : Account) (registry : Registry) where
-  module _ (shapes : List ShapeForm) (ecbs : List EcbForm) (cpu : ℕ) where
-    -- what comes to a processor's store by an event: contributions, or an aggregation is truncated
-    abbrev pub given_on : TracingEvent → List store.Event
-    given_on (truncated name) = option_to_list (option_map store.truncated (aggregation_of shapes name))
-    given_on event = contributions shapes (taken_on account registry ecbs cpu event)
-
-    -- the same for events, the newest event first, the oldest contribution first
-    abbrev pub given_since : List TracingEvent → List store.Event
-    given_since [] = []
-    given_since (event ∷ events) = given_since events ++ given_on event
+  -- the same for the steps of events, the newest event first, the oldest contribution first
+  abbrev pub given_since : List ShapeForm → List EcbForm → (cpu : ℕ) → List TracingEvent → List store.Event
+  given_since shapes ecbs cpu events = flat_map (given_on shapes cpu) (steps_since account registry ecbs events)
 
   -- the past of a processor's store
   abbrev pub given_in : SetUp → ℕ → store.Past

@@ -1,6 +1,6 @@
 -- What a consumer takes: its ECBs, one after another, where a probe fires. Guide, Program Structure; Actions and
 -- Subroutines (exit).
-use Rattle.std.specs.Prelude.{ℕ, ℤ, pos, ◌==◌, Bool, true, false, List, [], ◌∷◌, ◌++◌, Option, Some, None, length, map}
+use Rattle.std.specs.Prelude.{ℕ, ℤ, pos, Bool, true, false, List, [], ◌∷◌, Option, Some, None, length, map}
 use Rattle.std.specs.Prelude.{filter, replicate, is_some, option_and_then, if◌then◌else◌}
 use Rattle.std.specs.Option.{option_map_or, option_or}
 use Rattle.dt_cred.specs.declared.account.Account.{Account}
@@ -118,13 +118,3 @@ module _ (account : Account) (registry : Registry) where
     -- what is taken by an event
     abbrev pub taken_by : TracingEvent → List Taking
     taken_by event = option_map_or (taken_at (is_end event) ecbs) (context_at event) []
-
-    -- the same, where it happens on this processor
-    abbrev pub taken_on : ℕ → TracingEvent → List Taking
-    taken_on cpu event = option_map_or
-        (λ m. if m.firing.cpu == cpu then taken_at (is_end event) ecbs m else []) (context_at event) []
-
-    -- what is taken on a processor by events, the newest event first, the oldest taking first
-    abbrev pub taken_since : ℕ → List TracingEvent → List Taking
-    taken_since cpu [] = []
-    taken_since cpu (event ∷ events) = taken_since cpu events ++ taken_on cpu event

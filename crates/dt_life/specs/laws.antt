@@ -3,6 +3,7 @@
 pub mod Options
 pub mod Lists
 pub mod Takings
+pub mod TracingSteps
 pub mod Buffers
 pub mod Contexts
 pub mod Sizes

@@ -21,7 +21,8 @@ ghost use Rattle.dt_life.specs.Life.{Item, asked, ecbs, has_room, phase, seen_co
 ghost use Rattle.dt_life.specs.Reply.{Replies};
 ghost use Rattle.dt_life.specs.Scenes.{IsLifeInBounds, IsLifeOn, IsOfLayout};
 ghost use Rattle.dt_life.specs.Sees.{Sees};
-ghost use Rattle.dt_life.specs.Takings.{began, taken_since};
+ghost use Rattle.dt_life.specs.Takings.{began};
+ghost use Rattle.dt_life.specs.TracingSteps.{taken_since};
 ghost use Rattle.dt_life.specs.Tests.{is_accepted_go, is_seen};
 ghost use Rattle.dt_life.specs.declared.phase.End.{End};
 ghost use Rattle.dt_life.specs.declared.phase.Phase.TheVariants.{Inactive, Active, Stopped};

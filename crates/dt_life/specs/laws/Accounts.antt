@@ -3,7 +3,7 @@ use Rattle.std.proofs.Common.{◌≡◌, ℕ, ◌+◌, ◌==◌, ◌&&◌, ◌||
 use Rattle.std.proofs.Common.{Result, Ok, Err, map, sum, length, MatchBool, MatchOption, refl, ap, subst, ◌∙◌}
 use Rattle.std.proofs.Math.Path.{fun_ext}
 use Rattle.std.specs.Bool.{nat_le}
-use Rattle.std.specs.List.{find, range_with_len}
+use Rattle.std.specs.List.{find, flat_map, range_with_len}
 use Rattle.std.specs.Option.{is_none, option_and_then, option_map, option_map_or, option_or}
 use Rattle.dt_aggstore.specs.Chosen.{drops}
 use Rattle.dt_aggstore.specs.History as store
@@ -17,7 +17,6 @@ use Rattle.dt_cred.specs.laws.Accounts.{renamed}
 use Rattle.dt_ecb.specs.Ecbs.{EcbForm, added, of_probe}
 use Rattle.dt_ecb.specs.Enable.{EnableVerdict, IsVerdict, is_enabled}
 use Rattle.dt_ecb.specs.Interest.{is_wanted}
-use Rattle.dt_ecb.specs.Shapes.{ShapeForm}
 use Rattle.dt_ecb.specs.laws.Accounts.{ecbs_alike, added_alike, listed_alike, enabled_alike, verdict_renamed}
 use Rattle.dt_lang.specs.Program.{ClauseForm}
 use Rattle.dt_lang.specs.Reads.{program, fault, destructive}
@@ -25,10 +24,10 @@ use Rattle.dt_machine.specs.Registry.{Registry, probe_of}
 use Rattle.dt_machine.specs.Tests.{belongs, is_shown}
 use Rattle.dt_machine.specs.laws.Accounts.{shown_alike}
 use Rattle.dt_record.specs.Layout.{layout_of, layout_size}
-use Rattle.dt_life.specs.Aggregations.{aggregation_of, contributions}
+use Rattle.dt_life.specs.Aggregations.{aggregation_of}
 use Rattle.dt_life.specs.Answer.{Answer, enabled, aggregated, described, refused, listed as listed_answer, status as status_answer}
 use Rattle.dt_life.specs.Ask.{Ask, option, enable, go, stop, snap, agg, trunc, status, list, describe, close}
-use Rattle.dt_life.specs.Buffers.{attempts_of, comes_by, comes_since, reserve_on, past_in, errors_in}
+use Rattle.dt_life.specs.Buffers.{comes_by, comes_since, reserve_on, past_in, errors_in}
 use Rattle.dt_life.specs.Life.{Item, asked, fired, SetUp, is_active, is_inactive, is_over, is_readable, phase_of, shapes_in}
 use Rattle.dt_life.specs.Life.{ecbs_in, next_epid, accepts, end_size, has_room, end_by, happens, after_item, set_up, phase, ecbs}
 use Rattle.dt_life.specs.Life.{seen_count, since_then, with_event, with_program}
@@ -37,8 +36,8 @@ use Rattle.dt_life.specs.Options.{is_fill}
 use Rattle.dt_life.specs.Reply.{IsVerdictOnCommand, Accepted, RepliesInQuota, Replies, all_errors, all_aggdrops, ecb_of, refusal_of}
 use Rattle.dt_life.specs.Stores.{given_on, given_since, given_in, aggdrops_in, stores_in}
 use Rattle.dt_life.specs.Takings.{TracingEvent, began, seen, snapped, truncated, ended, closed, is_end, faults}
-use Rattle.dt_machine.specs.Context.{ContextForm}
-use Rattle.dt_life.specs.Takings.{context_at, taken_at, taken_by, taken_on, taken_since, first_exit}
+use Rattle.dt_life.specs.Takings.{context_at, taken_at, taken_by, first_exit}
+use Rattle.dt_life.specs.TracingSteps.{takes, steps_by, steps_since, taken_on, taken_since}
 use Rattle.dt_life.specs.Tests.{is_seen}
 use Rattle.dt_life.specs.declared.phase.End.TheVariants.{Exit, History}
 use Rattle.dt_life.specs.declared.refusal.Refusal.{Refusal}
@@ -61,52 +60,20 @@ module _ (account : Account) (name : List ℕ) (registry : Registry) where
     taken_by_alike : (event : TracingEvent) → taken_by other registry own event ≡ taken_by account registry own event
     taken_by_alike event = ap (λ context. option_map_or (taken_at (is_end event) own) context []) (context_alike event)
 
-    taken_on_alike : (cpu : ℕ) (event : TracingEvent)
-        → taken_on other registry own cpu event ≡ taken_on account registry own cpu event
-    taken_on_alike cpu event = ap
-        (λ context. option_map_or
-        (λ (m : ContextForm). cond (m.firing.cpu == cpu) (taken_at (is_end event) own m) []) context [])
-        (context_alike event)
+    steps_by_alike : (event : TracingEvent) → steps_by other registry own event ≡ steps_by account registry own event
+    steps_by_alike (snapped n) = refl
+    steps_by_alike began = ap (map takes) (taken_by_alike began)
+    steps_by_alike (seen firing) = ap (map takes) (taken_by_alike (seen firing))
+    steps_by_alike (truncated word) = refl
+    steps_by_alike (ended end) = ap (map takes) (taken_by_alike (ended end))
+    steps_by_alike closed = refl
 
-    taken_since_alike : (cpu : ℕ) (events : List TracingEvent)
-        → taken_since other registry own cpu events ≡ taken_since account registry own cpu events
-    taken_since_alike cpu [] = refl
-    taken_since_alike cpu (event ∷ events) =
-        ap (λ before. before ++ taken_on other registry own cpu event) (taken_since_alike cpu events)
-        ∙ ap (λ now. taken_since account registry own cpu events ++ now) (taken_on_alike cpu event)
-
-    comes_by_alike : (cpu : ℕ) (event : TracingEvent)
-        → comes_by other registry own cpu event ≡ comes_by account registry own cpu event
-    comes_by_alike cpu (snapped n) = refl
-    comes_by_alike cpu began = ap attempts_of (taken_on_alike cpu began)
-    comes_by_alike cpu (seen firing) = ap attempts_of (taken_on_alike cpu (seen firing))
-    comes_by_alike cpu (truncated word) = refl
-    comes_by_alike cpu (ended end) = ap attempts_of (taken_on_alike cpu (ended end))
-    comes_by_alike cpu closed = refl
-
-    comes_since_alike : (cpu : ℕ) (events : List TracingEvent)
-        → comes_since other registry own cpu events ≡ comes_since account registry own cpu events
-    comes_since_alike cpu [] = refl
-    comes_since_alike cpu (event ∷ events) =
-        ap (λ before. before ++ comes_by other registry own cpu event) (comes_since_alike cpu events)
-        ∙ ap (λ now. comes_since account registry own cpu events ++ now) (comes_by_alike cpu event)
-
-    module _ (shapes : List ShapeForm) where
-      given_on_alike : (cpu : ℕ) (event : TracingEvent)
-          → given_on other registry shapes own cpu event ≡ given_on account registry shapes own cpu event
-      given_on_alike cpu (truncated word) = refl
-      given_on_alike cpu began = ap (contributions shapes) (taken_on_alike cpu began)
-      given_on_alike cpu (seen firing) = ap (contributions shapes) (taken_on_alike cpu (seen firing))
-      given_on_alike cpu (snapped n) = refl
-      given_on_alike cpu (ended end) = ap (contributions shapes) (taken_on_alike cpu (ended end))
-      given_on_alike cpu closed = refl
-
-      given_since_alike : (cpu : ℕ) (events : List TracingEvent)
-          → given_since other registry shapes own cpu events ≡ given_since account registry shapes own cpu events
-      given_since_alike cpu [] = refl
-      given_since_alike cpu (event ∷ events) =
-          ap (λ before. before ++ given_on other registry shapes own cpu event) (given_since_alike cpu events)
-          ∙ ap (λ now. given_since account registry shapes own cpu events ++ now) (given_on_alike cpu event)
+    steps_since_alike : (events : List TracingEvent)
+        → steps_since other registry own events ≡ steps_since account registry own events
+    steps_since_alike [] = refl
+    steps_since_alike (event ∷ events) =
+        ap (λ before. before ++ steps_by other registry own event) (steps_since_alike events)
+        ∙ ap (λ now. steps_since account registry own events ++ now) (steps_by_alike event)
 
   -- what a set-up comes to
   module _ (s : SetUp) where
@@ -142,13 +109,13 @@ module _ (account : Account) (name : List ℕ) (registry : Registry) where
         ap (λ size. past_with (cond (is_fill s.options.bufpolicy && cpu == 0) size 0)
         (comes_since other registry (ecbs_in other registry s) cpu s.since)) end_alike
         ∙ ap (λ own. past_with (reserve_on account registry s cpu) (comes_since other registry own cpu s.since)) own_ecbs
-        ∙ ap (past_with (reserve_on account registry s cpu))
-        (comes_since_alike (ecbs_in account registry s) cpu s.since)
+        ∙ ap (λ steps. past_with (reserve_on account registry s cpu) (flat_map (comes_by cpu) steps))
+        (steps_since_alike (ecbs_in account registry s) s.since)
 
     errors_alike : (cpu : ℕ) → errors_in other registry s cpu ≡ errors_in account registry s cpu
     errors_alike cpu =
         ap (λ own. faults (taken_since other registry own cpu s.since)) own_ecbs
-        ∙ ap faults (taken_since_alike (ecbs_in account registry s) cpu s.since)
+        ∙ ap (λ steps. faults (flat_map (taken_on cpu) steps)) (steps_since_alike (ecbs_in account registry s) s.since)
 
     abbrev given_with : List store.Event → store.Past
     given_with events = record { size = s.options.aggsize; events = events }
@@ -156,7 +123,8 @@ module _ (account : Account) (name : List ℕ) (registry : Registry) where
     given_alike : (cpu : ℕ) → given_in other registry s cpu ≡ given_in account registry s cpu
     given_alike cpu =
         ap (λ own. given_with (given_since other registry (shapes_in s) own cpu s.since)) own_ecbs
-        ∙ ap given_with (given_since_alike (ecbs_in account registry s) (shapes_in s) cpu s.since)
+        ∙ ap (λ steps. given_with (flat_map (given_on (shapes_in s) cpu) steps))
+        (steps_since_alike (ecbs_in account registry s) s.since)
 
     stores_alike : stores_in other registry s ≡ stores_in account registry s
     stores_alike = ap (λ (given : ℕ → store.Past). map given (range_with_len 0 registry.cpus)) (fun_ext given_alike)

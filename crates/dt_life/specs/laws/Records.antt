@@ -29,8 +29,9 @@ use Rattle.dt_life.specs.Options.{with_setting}
 use Rattle.dt_life.specs.Scenes.{IsItemInBounds, IsLifeInBounds, IsOfLayout}
 use Rattle.dt_life.specs.Takings.{TracingEvent, began, seen, snapped, truncated, ended, closed, is_end, Taking}
 use Rattle.dt_machine.specs.Context.{ContextForm}
-use Rattle.dt_life.specs.Takings.{exit_of, context_at, record_of, scene_at, taken_at, taken_on, taken_since, taking_of}
-use Rattle.dt_life.specs.Takings.{through_exit}
+use Rattle.dt_life.specs.Takings.{exit_of, context_at, record_of, scene_at, taken_at, taken_by, taking_of, through_exit}
+use Rattle.dt_life.specs.TracingSteps.{TracingStep, takes, reads, truncates, cpu_of, steps_by, steps_since, taken_on}
+use Rattle.dt_life.specs.TracingSteps.{taken_since}
 use Rattle.dt_life.specs.declared.phase.End.{End}
 use Rattle.dt_life.specs.declared.phase.End.TheVariants.{Stop}
 use Rattle.dt_life.specs.laws.Lists.{unheld}
@@ -52,10 +53,15 @@ pub all_filtered : {A : Type 0} (P : A → Type 0) (test : A → Bool) (xs : Lis
 all_filtered P test [] h = tt
 all_filtered P test (x ∷ xs) h = all_picked P (test x) x (filter test xs) h.0 (all_filtered P test xs h.1)
 
-all_flat : {A B : Type 0} (P : A → Type 0) (Q : B → Type 0) (f : A → List B) → ((x : A) → P x → AllByRecursion Q (f x))
+pub all_flat : {A B : Type 0} (P : A → Type 0) (Q : B → Type 0) (f : A → List B) → ((x : A) → P x → AllByRecursion Q (f x))
     → (xs : List A) → AllByRecursion P xs → AllByRecursion Q (flat_map f xs)
 all_flat P Q f g [] h = tt
 all_flat P Q f g (x ∷ xs) h = all_joined Q (f x) (flat_map f xs) (g x h.0) (all_flat P Q f g xs h.1)
+
+pub all_where : {A : Type 0} (P : A → Type 0) (b : Bool) (xs : List A) → AllByRecursion P xs
+    → AllByRecursion P (cond b xs [])
+all_where P true xs h = h
+all_where P false xs h = tt
 
 all_so : {A : Type 0} (P : A → Type 0) → ((x : A) → P x) → (xs : List A) → AllByRecursion P xs
 all_so P h [] = tt
@@ -221,6 +227,12 @@ pub record IsTakenOf (clauses : List ClauseForm) (t : Taking) : Type 0 where
   pub context_is : IsContextInBounds context
   pub ecb_is : IsEcbOf clauses ecb
 
+-- and so is a step
+abbrev pub IsStepOf : List ClauseForm → TracingStep → Type 0
+IsStepOf clauses (takes t) = IsTakenOf clauses t
+IsStepOf clauses (reads cpu) = Unit {0}
+IsStepOf clauses (truncates name) = Unit {0}
+
 module _ (clauses : List ClauseForm) where
   through_in : (takings : List Taking) → AllByRecursion (IsTakenOf clauses) takings
       → AllByRecursion (IsTakenOf clauses) (through_exit takings)
@@ -259,26 +271,43 @@ module _ (clauses : List ClauseForm) where
     module _ (account : Account) (registry : Registry)
         (contexts : (event : TracingEvent) → IsEventInBounds event
         → IfSome (context_at account registry event) IsContextInBounds) where
-      pub taken_on_in : (cpu : ℕ) (event : TracingEvent) → IsEventInBounds event
-          → AllByRecursion (IsTakenOf clauses) (taken_on account registry ecbs cpu event)
-      taken_on_in cpu event is = at (context_at account registry event) (contexts event is)
+      taken_by_in : (event : TracingEvent) → IsEventInBounds event
+          → AllByRecursion (IsTakenOf clauses) (taken_by account registry ecbs event)
+      taken_by_in event is = at (context_at account registry event) (contexts event is)
         where
-          on : (b : Bool) (m : ContextForm) → IsContextInBounds m
-              → AllByRecursion (IsTakenOf clauses) (cond b (taken_at (is_end event) ecbs m) [])
-          on true m h = taken_at_in (is_end event) m h
-          on false m h = tt
-
-          at : (o : Option ContextForm) → IfSome o IsContextInBounds → AllByRecursion (IsTakenOf clauses)
-              (option_map_or (λ (m : ContextForm). cond (m.firing.cpu == cpu) (taken_at (is_end event) ecbs m) []) o [])
+          at : (o : Option ContextForm) → IfSome o IsContextInBounds
+              → AllByRecursion (IsTakenOf clauses) (option_map_or (taken_at (is_end event) ecbs) o [])
           at None h = tt
-          at (Some m) h = on (m.firing.cpu == cpu) m h
+          at (Some m) h = taken_at_in (is_end event) m h
 
-      pub taken_since_in : (cpu : ℕ) (events : List TracingEvent) → AllByRecursion IsEventInBounds events
-          → AllByRecursion (IsTakenOf clauses) (taken_since account registry ecbs cpu events)
-      taken_since_in cpu [] h = tt
-      taken_since_in cpu (event ∷ events) h =
-          all_joined (IsTakenOf clauses) (taken_since account registry ecbs cpu events)
-          (taken_on account registry ecbs cpu event) (taken_since_in cpu events h.1) (taken_on_in cpu event h.0)
+      all_takes : (event : TracingEvent) → IsEventInBounds event
+          → AllByRecursion (IsStepOf clauses) (map takes (taken_by account registry ecbs event))
+      all_takes event is =
+          all_mapped (IsTakenOf clauses) (IsStepOf clauses) takes (λ t one. one) (taken_by account registry ecbs event)
+          (taken_by_in event is)
+
+      steps_by_in : (event : TracingEvent) → IsEventInBounds event
+          → AllByRecursion (IsStepOf clauses) (steps_by account registry ecbs event)
+      steps_by_in began is = all_takes began is
+      steps_by_in (seen firing) is = all_takes (seen firing) is
+      steps_by_in (snapped cpu) is = (tt, tt)
+      steps_by_in (truncated name) is = (tt, tt)
+      steps_by_in (ended end) is = all_takes (ended end) is
+      steps_by_in closed is = tt
+
+      pub steps_since_in : (events : List TracingEvent) → AllByRecursion IsEventInBounds events
+          → AllByRecursion (IsStepOf clauses) (steps_since account registry ecbs events)
+      steps_since_in [] h = tt
+      steps_since_in (event ∷ events) h =
+          all_joined (IsStepOf clauses) (steps_since account registry ecbs events) (steps_by account registry ecbs event)
+          (steps_since_in events h.1) (steps_by_in event h.0)
+
+  -- those of one processor
+  taken_on_in : (cpu : ℕ) (step : TracingStep) → IsStepOf clauses step
+      → AllByRecursion (IsTakenOf clauses) (taken_on cpu step)
+  taken_on_in cpu (takes t) is = all_where (IsTakenOf clauses) (cpu_of t == cpu) (t ∷ []) (is, tt)
+  taken_on_in cpu (reads n) is = tt
+  taken_on_in cpu (truncates name) is = tt
 
   -- each can be taken
   can_take : (t : Taking) (is : IsTakenOf clauses t) → CanBeTaken (scene_at is.context is.ecb.epid) is.ecb.clause
@@ -344,18 +373,14 @@ module _ (account : Account) (registry : Registry)
   own_ecbs : AllByRecursion (IsEcbOf own_clauses) (ecbs account registry life)
   own_ecbs = ecbs_are account registry (set_up account registry life).clauses own.written own.few
 
-  pub life_taken_on : (cpu : ℕ) (event : TracingEvent) → IsEventInBounds event
-      → AllByRecursion (IsTakenOf own_clauses) (taken_on account registry (ecbs account registry life) cpu event)
-  life_taken_on =
-      taken_on_in own_clauses (ecbs account registry life) own_ecbs account registry
-      (context_in_bounds account registry is.uid is.processes is.probes)
-
-  pub life_seen_in : AllByRecursion IsEventInBounds (set_up account registry life).since
-  life_seen_in = own.seen_in
+  pub life_steps : AllByRecursion (IsStepOf own_clauses)
+      (steps_since account registry (ecbs account registry life) (set_up account registry life).since)
+  life_steps =
+      steps_since_in own_clauses (ecbs account registry life) own_ecbs account registry
+      (context_in_bounds account registry is.uid is.processes is.probes) (set_up account registry life).since own.seen_in
 
   pub life_taken : (cpu : ℕ) → AllByRecursion (IsTakenOf own_clauses)
       (taken_since account registry (ecbs account registry life) cpu (set_up account registry life).since)
   life_taken cpu =
-      taken_since_in own_clauses (ecbs account registry life) own_ecbs account registry
-      (context_in_bounds account registry is.uid is.processes is.probes) cpu (set_up account registry life).since
-      own.seen_in
+      all_flat (IsStepOf own_clauses) (IsTakenOf own_clauses) (taken_on cpu) (taken_on_in own_clauses cpu)
+      (steps_since account registry (ecbs account registry life) (set_up account registry life).since) life_steps

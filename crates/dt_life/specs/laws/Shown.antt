@@ -19,13 +19,14 @@ use Rattle.dt_record.specs.Layout.{layout_of}
 use Rattle.dt_record.specs.Showing.{IsLeftBy}
 use Rattle.dt_record.specs.Split.{IsSplit, RecordForm}
 use Rattle.dt_record.specs.laws.Fitting.{left-split}
-use Rattle.dt_life.specs.Buffers.{attempts_of, comes_by, comes_since, past}
+use Rattle.dt_life.specs.Buffers.{attempt_of, comes_by, past}
 use Rattle.dt_life.specs.Life.{Item, ecbs, set_up}
 use Rattle.dt_life.specs.Scenes.{IsLifeInBounds}
-use Rattle.dt_life.specs.Takings.{TracingEvent, began, seen, snapped, truncated, ended, closed, Taking, record_of, taken_on}
+use Rattle.dt_life.specs.Takings.{Taking, record_of}
+use Rattle.dt_life.specs.TracingSteps.{TracingStep, takes, reads, truncates, cpu_of, steps_since}
 use Rattle.dt_life.specs.laws.Lists.{map_twice}
-use Rattle.dt_life.specs.laws.Records.{IsTakenOf, all_filtered, all_joined, clause_of, life_seen_in, life_taken_on, taken_left}
-use Rattle.dt_life.specs.laws.Scenes.{IsEventInBounds}
+use Rattle.dt_life.specs.laws.Records.{IsStepOf, all_filtered, all_flat, all_joined, all_where, clause_of, life_steps}
+use Rattle.dt_life.specs.laws.Records.{taken_left}
 
 -- some of a list's
 all_taken : {A : Type 0} (P : A → Type 0) (n : ℕ) (xs : List A) → AllByRecursion P xs → AllByRecursion P (take n xs)
@@ -112,19 +113,11 @@ module _ (P : List ℕ → Type 0) where
         shows.0.kept,
       )
 
-  -- what takings attempt
+  -- what a taking attempts
   attempted : (t : Taking) (o : Option (List ℕ)) → ((bytes : List ℕ) → o ≡ Some bytes → P bytes)
       → AllByRecursion IsPutSo (option_to_list (option_map (λ bytes. attempt bytes t.in_end) o))
   attempted t None h = tt
   attempted t (Some bytes) h = (h bytes refl, tt)
-
-  all_attempted : (takings : List Taking) (Q : Taking → Type 0)
-      → ((t : Taking) → Q t → (bytes : List ℕ) → record_of t ≡ Some bytes → P bytes) → AllByRecursion Q takings
-      → AllByRecursion IsPutSo (attempts_of takings)
-  all_attempted [] Q f h = tt
-  all_attempted (t ∷ takings) Q f h =
-      all_joined IsPutSo (option_to_list (option_map (λ bytes. attempt bytes t.in_end) (record_of t))) (attempts_of takings)
-      (attempted t (record_of t) (f t h.0)) (all_attempted takings Q f h.1)
 
   swapped : (b : Bool) → AllByRecursion IsPutSo (cond b (swap ∷ []) [])
   swapped true = (tt, tt)
@@ -140,27 +133,18 @@ module _ (account : Account) (registry : Registry)
   abbrev IsCome : buffer.BufferEvent → Type 0
   IsCome event = IsPutSo (IsLeftBy clauses) event
 
-  taken_come : (event : TracingEvent) → IsEventInBounds event
-      → AllByRecursion IsCome (attempts_of (taken_on account registry (ecbs account registry life) cpu event))
-  taken_come event h =
-      all_attempted (IsLeftBy clauses) (taken_on account registry (ecbs account registry life) cpu event)
-      (IsTakenOf clauses) (taken_left clauses) (life_taken_on account registry go_on life is cpu event h)
+  come_by : (step : TracingStep) → IsStepOf clauses step → AllByRecursion IsCome (comes_by cpu step)
+  come_by (takes t) h =
+      all_where IsCome (cpu_of t == cpu) (attempt_of t)
+      (attempted (IsLeftBy clauses) t (record_of t) (taken_left clauses t h))
+  come_by (reads n) h = swapped (IsLeftBy clauses) (n == cpu)
+  come_by (truncates name) h = tt
 
-  come_by : (event : TracingEvent) → IsEventInBounds event
-      → AllByRecursion IsCome (comes_by account registry (ecbs account registry life) cpu event)
-  come_by began h = taken_come began h
-  come_by (seen firing) h = taken_come (seen firing) h
-  come_by (snapped n) h = swapped (IsLeftBy clauses) (n == cpu)
-  come_by (truncated name) h = taken_come (truncated name) h
-  come_by (ended end) h = taken_come (ended end) h
-  come_by closed h = taken_come closed h
-
-  come_since : (events : List TracingEvent) → AllByRecursion IsEventInBounds events
-      → AllByRecursion IsCome (comes_since account registry (ecbs account registry life) cpu events)
-  come_since [] h = tt
-  come_since (event ∷ events) h =
-      all_joined IsCome (comes_since account registry (ecbs account registry life) cpu events)
-      (comes_by account registry (ecbs account registry life) cpu event) (come_since events h.1) (come_by event h.0)
+  all_come : AllByRecursion IsCome (past account registry life cpu).events
+  all_come =
+      all_flat (IsStepOf clauses) IsCome (comes_by cpu) come_by
+      (steps_since account registry (ecbs account registry life) (set_up account registry life).since)
+      (life_steps account registry go_on life is)
 
   -- the bytes that a buffer shows
   pub shown_split : (bytes : List ℕ) (drops : ℕ) (filled : Bool) → Shows (past account registry life cpu) bytes drops filled
@@ -168,8 +152,7 @@ module _ (account : Account) (registry : Registry)
       × IsSplit (map (λ (ecb : EcbForm). layout_of ecb.clause) (ecbs account registry life)) bytes records
   shown_split bytes drops filled shows =
       let pieces = shown_by (IsLeftBy clauses) (past account registry life cpu) (past account registry life cpu).policy
-      bytes drops filled
-      (come_since (set_up account registry life).since (life_seen_in account registry go_on life is)) shows in
+      bytes drops filled all_come shows in
       let whole : flat_map (λ piece. piece) pieces.0 ≡ bytes = joined_bytes pieces.0 ∙ sym pieces.2 in
       let found = left-split clauses pieces.0 pieces.1 in (
         found.0,

@@ -2,7 +2,7 @@
 use Rattle.std.proofs.Common.{◌≡◌, ◌≢◌, ℕ, zero, suc, ◌+◌, ◌<◌, ◌≤◌, ◌==◌, Bool, true, false, cond, List, [], ◌∷◌, ◌++◌}
 use Rattle.std.proofs.Common.{length, get_or, Some, map, refl, sym, ap, ◌∙◌, subst, ⊎_elim, arith}
 use Rattle.std.specs.Bool.{nat_lt}
-use Rattle.std.specs.List.{slice_get, slice_set, AllZip, range_with_len}
+use Rattle.std.specs.List.{slice_get, slice_set, AllZip, flat_map, range_with_len}
 use Rattle.std.specs.Option.{IfSome, option_map, option_to_list}
 use Rattle.std.proofs.lemmas.Bool.{cases_eq, cases_lt, eq-eqb, le-ltb, lt-ltb, ne_eqb}
 use Rattle.std.proofs.lemmas.List.{map-append}
@@ -12,21 +12,24 @@ use Rattle.dt_aggstore.specs.IsAt.{IsAt}
 use Rattle.dt_aggstore.specs.declared.key.Aggregation.{Aggregation}
 use Rattle.dt_aggstore.specs.declared.store.AggStore.{AggStore}
 use Rattle.dt_cred.specs.declared.account.Account.{Account}
-use Rattle.dt_ecb.specs.Ecbs.{EcbForm}
 use Rattle.dt_ecb.specs.Shapes.{ShapeForm}
 use Rattle.dt_machine.specs.Registry.{Registry}
 use Rattle.dt_life.specs.Aggregations.{aggregation_of, contributions}
 use Rattle.dt_life.specs.Following.{where_taken}
 use Rattle.dt_life.specs.Life.{SetUp, ecbs_in, shapes_in, since_then, with_event}
 use Rattle.dt_life.specs.Stores.{given_in, given_on}
-use Rattle.dt_life.specs.Takings.{TracingEvent, began, seen, snapped, truncated, ended, is_end, Taking}
+use Rattle.dt_life.specs.Takings.{TracingEvent, truncated, is_end, Taking, context_at, taken_at}
+use Rattle.dt_life.specs.TracingSteps.{steps_by}
 use Rattle.dt_machine.specs.Context.{ContextForm}
-use Rattle.dt_life.specs.Takings.{context_at, taken_at, taken_on, closed}
 use Rattle.dt_life.specs.Uses.{AreGiven, given_and, given_then}
 use Rattle.dt_life.specs.laws.Giving.{given_none, same_at}
 use Rattle.dt_life.specs.laws.Lists.{found_at, replaced}
 use Rattle.dt_life.specs.laws.Options.{if_some_map}
-use Rattle.dt_life.specs.laws.Tracings.{IsFiring, on_is}
+use Rattle.dt_life.specs.laws.TracingSteps.{after_event, after_trunc}
+use Rattle.dt_life.specs.laws.Tracings.{IsFiring, given_more}
+
+abbrev given_of_size : ℕ → List store.Event → store.Past
+given_of_size size events = record { size = size; events = events }
 
 module _ (shapes : List ShapeForm) (pasts : ℕ → store.Past) (stores : List AggStore) (there : ℕ) (new : List Taking)
     (at : AreGiven pasts stores) where
@@ -53,18 +56,6 @@ module _ (shapes : List ShapeForm) (pasts : ℕ → store.Past) (stores : List A
       (gave (found_at (IsAt (pasts there)) stores there p inside found (at there))))
       elsewhere
 
--- what comes by an event at which ECBs are taken
-given_firing : (account : Account) (registry : Registry) (shapes : List ShapeForm) (ecbs : List EcbForm) (cpu : ℕ)
-    (event : TracingEvent) → IsFiring event
-    → given_on account registry shapes ecbs cpu event
-    ≡ contributions shapes (taken_on account registry ecbs cpu event)
-given_firing account registry shapes ecbs cpu began is = refl
-given_firing account registry shapes ecbs cpu (seen firing) is = refl
-given_firing account registry shapes ecbs cpu (snapped n) is = absurd is
-given_firing account registry shapes ecbs cpu (truncated name) is = absurd is
-given_firing account registry shapes ecbs cpu (ended end) is = refl
-given_firing account registry shapes ecbs cpu closed is = refl
-
 -- what is given at an event is what the set-up with it says
 pub grown : (account : Account) (registry : Registry) (s : SetUp) (event : TracingEvent) (m : ContextForm) → IsFiring event
     → context_at account registry event ≡ Some m → (stores : List AggStore) (new : List Taking)
@@ -72,23 +63,24 @@ pub grown : (account : Account) (registry : Registry) (s : SetUp) (event : Traci
     → AreGiven (given_and (shapes_in s) (given_in account registry s) (where_taken m.firing.cpu new)) stores
     → AreGiven (given_in account registry (with_event s event)) stores
 grown account registry s event m fires at stores new is h = λ cpu.
-    let w : where_taken m.firing.cpu new cpu ≡ taken_on account registry (ecbs_in account registry s) cpu event =
-    ap (λ xs. where_taken m.firing.cpu xs cpu) is ∙ sym (on_is account registry s event m fires at cpu) in
     if_some_map _ _ (slice_get stores cpu)
     (λ st. same_at _ _ st
-    (ap (λ xs. given_then (given_in account registry s cpu) (contributions (shapes_in s) xs)) w
-    ∙ ap (given_then (given_in account registry s cpu))
-    (sym (given_firing account registry (shapes_in s) (ecbs_in account registry s) cpu event fires))))
+    (ap (λ xs. given_and (shapes_in s) (given_in account registry s) (where_taken m.firing.cpu xs) cpu) is
+    ∙ ap (given_of_size s.options.aggsize) (sym (given_more account registry s event m fires at cpu))))
     (h cpu)
 
 -- an event that gives nothing
 pub gave_none : (account : Account) (registry : Registry) (s : SetUp) (event : TracingEvent) (stores : List AggStore)
-    → ((cpu : ℕ) → given_on account registry (shapes_in s) (ecbs_in account registry s) cpu event ≡ [])
+    → ((cpu : ℕ)
+    → flat_map (given_on (shapes_in s) cpu) (steps_by account registry (ecbs_in account registry s) event) ≡ [])
     → AreGiven (given_in account registry s) stores
     → AreGiven (given_in account registry (with_event s event)) stores
 gave_none account registry s event stores none h = λ cpu.
     if_some_map _ _ (slice_get stores cpu)
-    (λ st had. same_at _ _ st (ap (given_then (given_in account registry s cpu)) (sym (none cpu)))
+    (λ st had. same_at _ _ st
+    (ap (given_then (given_in account registry s cpu)) (sym (none cpu))
+    ∙ ap (given_of_size s.options.aggsize)
+    (sym (after_event (given_on (shapes_in s) cpu) account registry (ecbs_in account registry s) s.since event)))
     (given_none (given_in account registry s cpu) st had))
     (h cpu)
 
@@ -100,8 +92,9 @@ pub trunc_given : (account : Account) (registry : Registry) (s : SetUp) (name : 
 trunc_given account registry s name aggregation stores is h = λ cpu.
     if_some_map _ _ (slice_get stores cpu)
     (λ st. same_at _ _ st
-    (ap (λ o. given_then (given_in account registry s cpu) (option_to_list (option_map store.truncated o)))
-    (sym is)))
+    (ap (λ o. given_then (given_in account registry s cpu) (option_to_list (option_map store.truncated o))) (sym is)
+    ∙ ap (given_of_size s.options.aggsize)
+    (sym (after_trunc (given_on (shapes_in s) cpu) account registry (ecbs_in account registry s) s.since name))))
     (h cpu)
 
 -- new stores are those of a set-up to which nothing has happened

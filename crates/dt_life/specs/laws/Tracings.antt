@@ -1,22 +1,28 @@
 -- What an event makes of a set-up, and what comes of it.
-use Rattle.std.proofs.Common.{◌≡◌, ℕ, ℤ, ◌==◌, Bool, true, false, cond, List, [], ◌∷◌, ◌++◌, Option, Some, None}
+use Rattle.std.proofs.Common.{◌≡◌, ℕ, ℤ, ◌+◌, ◌==◌, Bool, true, false, cond, List, [], ◌∷◌, ◌++◌, Option, Some, None}
 use Rattle.std.proofs.Common.{map, refl, ap, ◌∙◌}
+use Rattle.std.specs.List.{flat_map}
 use Rattle.std.specs.Option.{is_some, option_map, option_map_or, option_or}
-use Rattle.dt_buffer.specs.History.{of_end}
+use Rattle.dt_buffer.specs.History.{BufferEvent, BufferPast, of_end}
 use Rattle.dt_buffer.specs.Shows.{EndLast}
 use Rattle.dt_cred.specs.declared.account.Account.{Account}
 use Rattle.dt_machine.specs.Registry.{Registry}
 use Rattle.dt_ecb.specs.Ecbs.{EcbForm, of_probe}
-use Rattle.dt_life.specs.Buffers.{attempts_of, comes_by, past_in}
-use Rattle.dt_life.specs.Following.{where_taken}
-use Rattle.dt_life.specs.Life.{SetUp, ecbs_in, end_by, happens, seen_count, with_event}
+use Rattle.dt_life.specs.Aggregations.{contributions}
+use Rattle.dt_life.specs.Buffers.{attempts_of, comes_by, comes_since, errors_in, past_in, reserve_on}
+use Rattle.dt_life.specs.Following.{followed_by, where_taken}
+use Rattle.dt_life.specs.Life.{SetUp, ecbs_in, end_by, happens, seen_count, shapes_in, with_event}
+use Rattle.dt_life.specs.Stores.{given_on, given_since}
 use Rattle.dt_life.specs.Takings.{TracingEvent, began, seen, snapped, truncated, ended, closed, is_end, Taking}
 use Rattle.dt_machine.specs.Context.{ContextForm}
-use Rattle.dt_life.specs.Takings.{exit_of, first_exit, context_at, record_of, taken_at, taken_by, taken_on, taking_of}
+use Rattle.dt_life.specs.Takings.{exit_of, faults, first_exit, context_at, record_of, taken_at, taken_by, taking_of}
 use Rattle.dt_life.specs.Takings.{through_exit}
+use Rattle.dt_life.specs.TracingSteps.{takes, reads, steps_by, taken_on, taken_since}
 use Rattle.dt_life.specs.declared.phase.End.{End}
 use Rattle.dt_life.specs.declared.phase.End.TheVariants.{Exit, History}
 use Rattle.dt_life.specs.laws.Buffers.{ordinary_one, of_end-append}
+use Rattle.dt_life.specs.laws.Takings.{faults-append}
+use Rattle.dt_life.specs.laws.TracingSteps.{AllOn, after_event, after_snap, come_of, given_of, taken_of, taken_there}
 
 -- an event at which ECBs are taken
 abbrev pub IsFiring : TracingEvent → Type 0
@@ -28,28 +34,85 @@ module _ (account : Account) (registry : Registry) (s : SetUp) where
   abbrev own : List EcbForm
   own = ecbs_in account registry s
 
-  pub comes_firing : (cpu : ℕ) (event : TracingEvent) → IsFiring event
-      → comes_by account registry (ecbs_in account registry s) cpu event
-      ≡ attempts_of (taken_on account registry (ecbs_in account registry s) cpu event)
-  comes_firing cpu began is = refl
-  comes_firing cpu (seen firing) is = refl
-  comes_firing cpu (snapped n) is = absurd is
-  comes_firing cpu (truncated name) is = absurd is
-  comes_firing cpu (ended end) is = refl
-  comes_firing cpu closed is = refl
+  -- the past of a processor's buffer to which this came
+  abbrev pub past_with : (cpu : ℕ) → List BufferEvent → BufferPast
+  past_with cpu events = record {
+    policy = s.options.bufpolicy;
+    size = s.options.bufsize;
+    reserve = reserve_on account registry s cpu;
+    events = events;
+  }
+
+  -- one event more
+  pub past_after : (cpu : ℕ) (event : TracingEvent) → past_in account registry (with_event s event) cpu
+      ≡ followed_by (past_in account registry s cpu)
+      (flat_map (comes_by cpu) (steps_by account registry (ecbs_in account registry s) event))
+  past_after cpu event = ap (past_with cpu) (after_event (comes_by cpu) account registry own s.since event)
+
+  pub past_read : (cpu n : ℕ) → past_in account registry (with_event s (snapped n)) cpu
+      ≡ followed_by (past_in account registry s cpu) (comes_by cpu (reads n))
+  past_read cpu n = ap (past_with cpu) (after_snap (comes_by cpu) account registry own s.since n)
+
+  pub errors_after : (cpu : ℕ) (event : TracingEvent) → errors_in account registry (with_event s event) cpu
+      ≡ errors_in account registry s cpu
+      + faults (flat_map (taken_on cpu) (steps_by account registry (ecbs_in account registry s) event))
+  errors_after cpu event =
+      ap faults (after_event (taken_on cpu) account registry own s.since event)
+      ∙ faults-append (taken_since account registry own cpu s.since)
+      (flat_map (taken_on cpu) (steps_by account registry own event))
+
+  -- the steps of an event at which ECBs are taken
+  steps_firing : (event : TracingEvent) → IsFiring event → steps_by account registry (ecbs_in account registry s) event
+      ≡ map takes (taken_by account registry (ecbs_in account registry s) event)
+  steps_firing began is = refl
+  steps_firing (seen firing) is = refl
+  steps_firing (snapped n) is = absurd is
+  steps_firing (truncated name) is = absurd is
+  steps_firing (ended end) is = refl
+  steps_firing closed is = refl
 
   module _ (event : TracingEvent) (m : ContextForm) (fires : IsFiring event)
       (at : context_at account registry event ≡ Some m) where
-    pub on_is : (cpu : ℕ) → taken_on account registry (ecbs_in account registry s) cpu event
-        ≡ where_taken m.firing.cpu (taken_at (is_end event) (ecbs_in account registry s) m) cpu
-    on_is cpu = ap
-        (λ o. option_map_or
-        (λ (x : ContextForm). cond (x.firing.cpu == cpu) (taken_at (is_end event) own x) []) o [])
-        at
-
     pub by_is : taken_by account registry (ecbs_in account registry s) event
         ≡ taken_at (is_end event) (ecbs_in account registry s) m
     by_is = ap (λ o. option_map_or (taken_at (is_end event) own) o []) at
+
+    abbrev new : List Taking
+    new = taken_at (is_end event) own m
+
+    here : AllOn m.firing.cpu new
+    here = taken_there (is_end event) own m
+
+    steps_are : steps_by account registry own event ≡ map takes new
+    steps_are = steps_firing event fires ∙ ap (map takes) by_is
+
+    -- what comes to a processor's buffer, the errors there, and what comes to its store
+    pub comes_more : (cpu : ℕ)
+        → comes_since account registry (ecbs_in account registry s) cpu (event ∷ s.since)
+        ≡ comes_since account registry (ecbs_in account registry s) cpu s.since
+        ++ attempts_of (where_taken m.firing.cpu (taken_at (is_end event) (ecbs_in account registry s) m) cpu)
+    comes_more cpu =
+        after_event (comes_by cpu) account registry own s.since event
+        ∙ ap (λ xs. comes_since account registry own cpu s.since ++ xs)
+        (ap (flat_map (comes_by cpu)) steps_are ∙ come_of cpu m.firing.cpu new here)
+
+    pub errors_more : (cpu : ℕ) → errors_in account registry (with_event s event) cpu
+        ≡ errors_in account registry s cpu
+        + faults (where_taken m.firing.cpu (taken_at (is_end event) (ecbs_in account registry s) m) cpu)
+    errors_more cpu =
+        errors_after cpu event
+        ∙ ap (λ xs. errors_in account registry s cpu + faults xs)
+        (ap (flat_map (taken_on cpu)) steps_are ∙ taken_of cpu m.firing.cpu new here)
+
+    pub given_more : (cpu : ℕ)
+        → given_since account registry (shapes_in s) (ecbs_in account registry s) cpu (event ∷ s.since)
+        ≡ given_since account registry (shapes_in s) (ecbs_in account registry s) cpu s.since
+        ++ contributions (shapes_in s)
+        (where_taken m.firing.cpu (taken_at (is_end event) (ecbs_in account registry s) m) cpu)
+    given_more cpu =
+        after_event (given_on (shapes_in s) cpu) account registry own s.since event
+        ∙ ap (λ xs. given_since account registry (shapes_in s) own cpu s.since ++ xs)
+        (ap (flat_map (given_on (shapes_in s) cpu)) steps_are ∙ given_of cpu m.firing.cpu new here (shapes_in s))
 
 -- why tracing ends, written by what is known of it
 pub end_is : (account : Account) (registry : Registry) (s : SetUp) (event : TracingEvent) (exit : Option ℤ) (b : Bool)
@@ -96,10 +159,10 @@ pub still_open : (account : Account) (registry : Registry) (s : SetUp) (event : 
     → (cpu : ℕ) → of_end (past_in account registry (with_event s event) cpu).events ≡ []
 still_open account registry s event m fires at ordinary none cpu =
     let es = ecbs_in account registry s in
-    of_end-append (past_in account registry s cpu).events (comes_by account registry es cpu event)
-    ∙ ap (λ xs. xs ++ of_end (comes_by account registry es cpu event)) (none cpu)
-    ∙ ap of_end (comes_firing account registry s cpu event fires)
-    ∙ ap (λ xs. of_end (attempts_of xs)) (on_is account registry s event m fires at cpu)
+    ap of_end (comes_more account registry s event m fires at cpu)
+    ∙ of_end-append (past_in account registry s cpu).events
+    (attempts_of (where_taken m.firing.cpu (taken_at (is_end event) es m) cpu))
+    ∙ ap (λ xs. xs ++ of_end (attempts_of (where_taken m.firing.cpu (taken_at (is_end event) es m) cpu))) (none cpu)
     ∙ ap (λ b. of_end (attempts_of (where_taken m.firing.cpu (taken_at b es m) cpu))) ordinary
     ∙ none_where (m.firing.cpu == cpu) (taken_at false es m) (none_at m (of_probe m.firing.probe es))
 

@@ -4,7 +4,7 @@ use Rattle.dt_life.specs.laws.Scenes.{all_weaker, life_in}
 use Rattle.dt_life.specs.laws.Shown.{shown_split}
 use Rattle.dt_life.specs.Life.{ecbs, set_up}
 use Rattle.dt_life.specs.Scenes.{IsOfLayout}
-use Rattle.dt_life.specs.Takings.{taken_since}
+use Rattle.dt_life.specs.TracingSteps.{taken_since}
 use Rattle.std.proofs.Common.{map}
 use Rattle.dt_life.proofs.laws.records_are_of_layouts.Goals as goal
 

@@ -1,11 +1,13 @@
--- The drops of one store more.
-use Rattle.std.proofs.Common.{ℕ, ◌∙◌, sym, subst}
+-- The drops of one store more, and then of all.
+use Rattle.std.proofs.Common.{ℕ, length, ap, ◌∙◌, sym, subst, arith}
 use Rattle.dt_aggstore.specs.History.{Past}
 use Rattle.dt_aggstore.specs.IsAt.{IsAt}
 use Rattle.dt_alone.specs.Happened.{given_to}
+use Rattle.dt_life.specs.Life.{phase_of, set_up}
 use Rattle.dt_life.specs.Uses.{AreGiven}
 use Rattle.dt_life.specs.laws.Lists.{found_at}
 use Rattle.dt_life.specs.laws.Stores.{dropped_more}
+use Rattle.dt_alone.proofs.Recounting.{all_drops}
 use Rattle.dt_alone.proofs.runner.Runner.aggdrops.Goals as goal
 
 pub loop-store-preserved : goal.loop-store-preserved
@@ -26,3 +28,18 @@ loop-store-preserved c =
     c.in_ok-push.ensures.items
     ∙ dropped_more pasts c.loop-store.aggdrops.items i c.dropped.result c.loop-store.invariant
     (c.dropped.ensures (pasts i) here)
+
+pub returns : goal.returns
+returns c = λ account life h.
+    let registry = c.args.machine.now.registry in
+    let s = set_up account registry life in
+    c.loop-store.invariant
+    ∙ all_drops account registry s (phase_of s) c.args.self.now h c.loop-store.store-index registry.cpus
+    (omega (
+      arith,
+      c.loop-store-test.false,
+      c.loop-store.auto.store-index-end,
+      ap length c.deref-store-items.ensures.value,
+      c.in_ok-stores.ensures.len,
+      c.cpus.ensures.value,
+    ))

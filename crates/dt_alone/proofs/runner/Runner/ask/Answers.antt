@@ -1,7 +1,7 @@
 -- A line is answered, and then part of the life.
 use Rattle.std.proofs.Common.{Ok, refl, sym, ap, ◌∙◌, subst, arith}
 use Rattle.dt_alone.specs.Runs.{Runs}
-use Rattle.dt_alone.proofs.Replying.{has_alike}
+use Rattle.dt_alone.proofs.Replying.{has_alike, no_command}
 use Rattle.dt_life.specs.Answer.{answer_of}
 use Rattle.dt_life.specs.Ask.{ask_of, line_asks}
 use Rattle.dt_life.specs.Acceptance.{after_line}
@@ -33,3 +33,9 @@ returns-in-Ok c =
           (ask_of c.in-Ok.command)) fresh)) two.1,
     ))
     c.answer.ensures
+
+pub returns-in-Err : goal.returns-in-Err
+returns-in-Err c = λ account life r.
+    no_command account c.args.machine.now.registry life c.args.self.now _ (line_asks c.args.line.now) c.in-Err.refusal r
+    (sym (c.is_over.ensures.over account c.args.machine.now.registry life r) ∙ c.if-is_over.false)
+    (ap line_asks c.in-Err.is) (record { account = refl; seen = refl; since = refl }) refl refl refl refl

@@ -1,9 +1,8 @@
 -- The buffer of a processor was read.
-use Rattle.std.proofs.Common.{◌==◌, ◌∙◌, refl, arith}
+use Rattle.std.proofs.Common.{◌∙◌, refl, arith}
 use Rattle.std.proofs.Math.ListN.{length-set}
-use Rattle.dt_life.specs.Buffers.{past_in}
 use Rattle.dt_life.specs.Takings.{snapped}
-use Rattle.dt_consumer.proofs.Snapping.{still_with, taken_snapped, taken_snapped-past}
+use Rattle.dt_consumer.proofs.Snapping.{still_read, taken_snapped, taken_snapped-past}
 use Rattle.dt_life.specs.laws.Stores.{gave_none}
 use Rattle.dt_consumer.proofs.tracing.Tracing.snap.Goals as goal
 
@@ -22,8 +21,7 @@ returns-then-cpu-len-clause-snapped c = λ account registry s t.
       history = t.history;
       seen = t.seen;
       standing = t.standing;
-      end_last = λ running j. still_with (c.args.cpu == j) (past_in account registry s j).events
-          (t.end_last running j);
+      end_last = λ running j. still_read account registry s c.args.cpu j (t.end_last running j);
     }
 
 pub returns-else-cpu-len-clause-snapped : goal.returns-else-cpu-len-clause-snapped
@@ -39,5 +37,5 @@ returns-else-cpu-len-clause-snapped c = λ account registry s t. record {
   history = t.history;
   seen = t.seen;
   standing = t.standing;
-  end_last = λ running j. still_with (c.args.cpu == j) (past_in account registry s j).events (t.end_last running j);
+  end_last = λ running j. still_read account registry s c.args.cpu j (t.end_last running j);
 }

@@ -3,14 +3,15 @@ use Rattle.std.proofs.Common.{◌∙◌, ap, length, refl, subst, sym}
 use Rattle.std.specs.Global.{Vec}
 use Rattle.std.proofs.lemmas.List.{append-nil}
 use Rattle.dt_buffer.specs.History.{of_end}
-use Rattle.dt_life.specs.Buffers.{errors_in, past_in}
+use Rattle.dt_life.specs.Buffers.{comes_by, errors_in, past_in}
 use Rattle.dt_consumer.specs.Keeps.{AreTaken}
 use Rattle.dt_life.specs.Stores.{given_in}
-use Rattle.dt_life.specs.Life.{with_event}
+use Rattle.dt_life.specs.Life.{ecbs_in, with_event}
 use Rattle.dt_life.specs.Takings.{truncated}
 use Rattle.dt_consumer.specs.declared.processor.Processor.{Processor}
 use Rattle.dt_consumer.proofs.Snapping.{untouched}
 use Rattle.dt_life.specs.laws.Stores.{trunc_given}
+use Rattle.dt_life.specs.laws.TracingSteps.{after_trunc}
 use Rattle.dt_consumer.proofs.tracing.Tracing.trunc.Goals as goal
 
 pub returns-clause-truncated : goal.returns-clause-truncated
@@ -30,5 +31,8 @@ returns-clause-truncated c = λ account registry s name t is. record {
   history = t.history;
   seen = t.seen;
   standing = t.standing;
-  end_last = λ running cpu. ap of_end (append-nil (past_in account registry s cpu).events) ∙ t.end_last running cpu;
+  end_last = λ running cpu.
+      ap of_end (after_trunc (comes_by cpu) account registry (ecbs_in account registry s) s.since name
+      ∙ append-nil (past_in account registry s cpu).events)
+      ∙ t.end_last running cpu;
 }
