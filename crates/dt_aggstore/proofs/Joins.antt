@@ -1,12 +1,12 @@
 -- A bag joins the row of its key, or makes one.
 use Rattle.std.proofs.Common.{◌≡◌, ◌≢◌, ℕ, zero, suc, ◌+◌, ◌-◌, ◌<◌, ◌≤◌, ◌⊎◌, ⊎_elim, inl, inr, ℤ, Bool, true, false, cond}
-use Rattle.std.proofs.Common.{List, [], ◌∷◌, ◌++◌, length, get_or, set, take, drop, refl, sym, ap, ◌∙◌, subst, add-one}
+use Rattle.std.proofs.Common.{List, [], ◌∷◌, ◌++◌, length, get_or, take, drop, refl, sym, ap, ◌∙◌, subst}
 use Rattle.std.proofs.Common.{arith}
 use Rattle.std.specs.Prelude.{FitsSigned, Contains}
 use Rattle.std.specs.Int.{w64}
 use Rattle.std.specs.List.{AllByRecursion}
 use Rattle.std.proofs.lemmas.Bool.{cases_lt, false≢true}
-use Rattle.std.proofs.lemmas.List.{take-append-drop, drop_more, map-append, set_split, append-nil}
+use Rattle.std.proofs.lemmas.List.{take-append-drop, drop_more, map-append, append-nil}
 use Rattle.dt_aggfn.specs.declared.function.AggFn.{AggFn}
 use Rattle.dt_aggfn.specs.declared.limits.TheConstants.{BAG_LIMIT}
 use Rattle.dt_aggfn.specs.Cells.{cell_of, IsBag}
@@ -248,11 +248,6 @@ rows_at rows place row within is =
     ∙ ap (λ xs. take place rows ++ xs) (drop_more rows place row within)
     ∙ ap (λ r. take place rows ++ r ∷ drop (place + 1) rows) (sym is)
 
-pub rows_set : (rows : List Joined) (place : ℕ) (new : Joined) → place < length rows
-    → set rows place new ≡ take place rows ++ new ∷ drop (place + 1) rows
-rows_set rows place new within =
-    set_split rows place new within ∙ ap (λ n. take place rows ++ new ∷ drop n rows) (sym (add-one place))
-
 module _ (function : AggFn) (bags : Bags-of) (bag : List ℤ) (rows : List Joined) (place : ℕ) (key : Key) (row :
     Joined)
     (j : AreJoined function bags rows) (within : place < length rows) (is : row ≡ get_or rows place row)
@@ -270,14 +265,24 @@ module _ (function : AggFn) (bags : Bags-of) (bag : List ℤ) (rows : List Joine
       row_cell function bags bag (take place rows) row row (drop (place + 1) rows) around
       ∙ ap (λ k. cell_of function (bags k)) same
 
-  pub merged_at : (new : Joined) → key_of new ≡ key_of row → cell_joined new ≡ cell_of function (bags key ++ bag)
+-- the last row has the key
+module _ (function : AggFn) (bags : Bags-of) (bag : List ℤ) (before : List Joined) (row : Joined) (key : Key)
+    (j : AreJoined function bags (before ++ row ∷ [])) (same : key_of row ≡ key) where
+  pub last_bag : length (bags key) < BAG_LIMIT → IsBag (bags key)
+  last_bag few =
+      subst (λ k. length (bags k) < BAG_LIMIT → IsBag (bags k)) same
+      (row_bag function bags bag before row row [] j) few
+
+  pub last_cell : cell_joined row ≡ cell_of function (bags key)
+  last_cell = row_cell function bags bag before row row [] j ∙ ap (λ k. cell_of function (bags k)) same
+
+  pub merged_last : (new : Joined) → key_of new ≡ key_of row → cell_joined new ≡ cell_of function (bags key ++ bag)
       → IsBag bag
-      → AreJoined function (joined_at key bag bags) (set rows place new)
-  merged_at new e cell own =
-      subst (λ k. AreJoined function (joined_at k bag bags) (set rows place new)) same
-      (subst (AreJoined function (joined_at (key_of row) bag bags)) (sym (rows_set rows place new within))
-      (merged function bags bag (take place rows) row new (drop (place + 1) rows) around e
-      (cell ∙ ap (λ k. cell_of function (bags k ++ bag)) (sym same)) own))
+      → AreJoined function (joined_at key bag bags) (before ++ new ∷ [])
+  merged_last new e cell own =
+      subst (λ k. AreJoined function (joined_at k bag bags) (before ++ new ∷ [])) same
+      (merged function bags bag before row new [] j e
+      (cell ∙ ap (λ k. cell_of function (bags k ++ bag)) (sym same)) own)
 
 pub pushed_at : (function : AggFn) (bags : Bags-of) (bag : List ℤ) (rows : List Joined) (key : Key) (new : Joined)
     → AreJoined function bags rows → NoneAfter key (keys_of rows)

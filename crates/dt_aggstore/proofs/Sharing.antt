@@ -1,12 +1,10 @@
 -- Shares, and the bags that they are of.
 use Rattle.std.proofs.Common.{◌≡◌, ℕ, ◌<◌, ◌≤◌, ◌⊎◌, ⊎_elim, inl, inr, ℤ, Bool, true, false, cond}
-use Rattle.std.proofs.Common.{List, [], ◌∷◌, ◌++◌, length, get_or, take, refl, sym, ap, ◌∙◌, subst, arith, not, ◌&&◌}
+use Rattle.std.proofs.Common.{List, [], ◌∷◌, ◌++◌, length, get_or, take, refl, sym, ap, ◌∙◌, subst, arith}
 use Rattle.std.proofs.Common.{Ordering, Less, is_lt}
 use Rattle.std.specs.Prelude.{filter, Contains}
-use Rattle.std.specs.Ordering.{ordering_reverse}
 use Rattle.std.specs.List.{AllByRecursion, AllZip, flat_map}
-use Rattle.std.specs.List.Sorted.{IsSortedByKey, IsStableByKey, ties}
-use Rattle.std.specs.declared.cmp.Ordering.TheVariants.{Equal, Greater}
+use Rattle.std.specs.List.Sorted.{IsSortedByKey}
 use Rattle.std.proofs.lemmas.Bool.{false≢true}
 use Rattle.std.proofs.lemmas.List.{append-nil, get_or-take, get_or_default, length-append, length-take-le}
 use Rattle.std.proofs.lemmas.List.Elements.{filter-append}
@@ -20,7 +18,7 @@ use Rattle.dt_aggstore.specs.declared.joining.Joined.{Joined}
 use Rattle.dt_aggstore.specs.declared.share.KeyShare.{KeyShare}
 use Rattle.dt_aggstore.proofs.Same.{key_decides}
 use Rattle.dt_aggstore.proofs.Filters.{yes_or_no}
-use Rattle.dt_aggstore.proofs.Rising.{Key, keys_total, key_exact, above_differs, below_differs, contains_later}
+use Rattle.dt_aggstore.proofs.Rising.{Key, keys_total, contains_later}
 use Rattle.dt_aggstore.proofs.Rising.{contains_here}
 
 abbrev Bags-of : Type 0
@@ -182,32 +180,6 @@ module _ (function : AggFn) (bags : Bags-of) (shares : List KeyShare) (share : K
 abbrev pub comes_before : KeyShare → KeyShare → Bool
 comes_before a b = is_lt (key_cmp (shared_key a) (shared_key b))
 
--- keys tie exactly where they are the same
-tied : (a b : Key) (o p : Ordering) → key_cmp a b ≡ o → key_cmp b a ≡ p
-    → (not (is_lt o) && not (is_lt p)) ≡ same_key a b
-tied a b Less p e f = sym (above_differs a b e)
-tied a b Equal Less e f = sym (below_differs b a f)
-tied a b Greater Less e f = sym (below_differs b a f)
-tied a b Equal Equal e f = sym ((key_decides a b).1 (key_exact a b e))
-tied a b Equal Greater e f = sym ((key_decides a b).1 (key_exact a b e))
-tied a b Greater Equal e f = sym ((key_decides a b).1 (sym (key_exact b a f)))
-tied a b Greater Greater e f = absurd (both_greater (keys_total.antisymm a b) e f)
-  where
-    both_greater : key_cmp a b ≡ ordering_reverse (key_cmp b a) → key_cmp a b ≡ Greater → key_cmp b a ≡ Greater → ⊥
-    both_greater back e f = greater_less (sym e ∙ back ∙ ap ordering_reverse f)
-      where
-        greater_less : Greater ≡ Less → ⊥
-        greater_less e = cc
-
-same_back : (a b : Key) → same_key a b ≡ same_key b a
-same_back a b = ⊎_elim
-    (λ yes. yes ∙ sym ((key_decides b a).1 (sym ((key_decides a b).0 yes))))
-    (λ no. ⊎_elim
-    (λ yes. absurd (false≢true (sym no ∙ (key_decides a b).1 (sym ((key_decides b a).0 yes)))))
-    (λ also. no ∙ sym also)
-    (yes_or_no (same_key b a)))
-    (yes_or_no (same_key a b))
-
 -- a filter keeps nothing, or there is something that passes
 filtered : {X : Type 0} (p : X → Bool) (xs : List X) → (filter p xs ≡ []) ⊎ ((x : X) × Contains xs x × (p x ≡ true))
 filtered p [] = inl refl
@@ -218,35 +190,6 @@ filtered p (x ∷ xs) = ⊎_elim
     (λ some. inr (some.0, contains_later x xs some.0 some.1, some.2))
     (filtered p xs))
     (yes_or_no (p x))
-
--- those of one key stay as they were
-same_filter : (key : Key) (xs ys : List KeyShare) → IsStableByKey shared_key key_cmp xs ys
-    → filter (has_key key) ys ≡ filter (has_key key) xs
-same_filter key xs ys stable = ⊎_elim
-    (λ none. ⊎_elim
-    (λ also. none ∙ sym also)
-    (λ some. by some.0 some.2)
-    (filtered (has_key key) xs))
-    (λ some. by some.0 some.2)
-    (filtered (has_key key) ys)
-  where
-    by : (x : KeyShare) → has_key key x ≡ true → filter (has_key key) ys ≡ filter (has_key key) xs
-    by x e =
-        let is = (key_decides (shared_key x) key).0 e in
-        let same : ties comes_before x ≡ has_key key =
-        (λ i y. tests y i) in
-        subst (λ p. filter p ys ≡ filter p xs) same (stable x)
-      where
-        tests : (y : KeyShare) → ties comes_before x y ≡ has_key key y
-        tests y =
-            tied (shared_key x) (shared_key y) _ _ refl refl
-            ∙ same_back (shared_key x) (shared_key y)
-            ∙ ap (same_key (shared_key y)) ((key_decides (shared_key x) key).0 e)
-
-pub sorted_shares : (function : AggFn) (bags : Bags-of) (xs ys : List KeyShare)
-    → IsStableByKey shared_key key_cmp xs ys → AreShares function bags xs → AreShares function bags ys
-sorted_shares function bags xs ys stable a = λ key.
-    subst (λ zs. MakeBag function zs (bags key)) (sym (same_filter key xs ys stable)) (a key)
 
 -- ---- what is joined comes before what isn't yet
 

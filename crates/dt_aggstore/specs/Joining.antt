@@ -1,5 +1,5 @@
 -- Shares and rows while a table is made.
-use Rattle.std.specs.Prelude.{◌≡◌, ◌≢◌, ◌↔◌, ℕ, ℤ, Option, None, Some, Vec, cond, List, [], ◌++◌, map, filter, Contains, FitsSigned}
+use Rattle.std.specs.Prelude.{◌≡◌, ◌≢◌, ◌↔◌, ℕ, ℤ, Option, None, Some, Vec, cond, List, [], ◌++◌, map, filter, Contains, FitsSigned, IsPermutation}
 use Rattle.std.specs.Global.{Global}
 use Rattle.std.specs.Int.{w64}
 use Rattle.std.specs.List.{AllByRecursion, AllZip, flat_map}
@@ -15,7 +15,7 @@ use Rattle.dt_aggstore.specs.declared.share.ShareCell.{ShareCell}
 use Rattle.dt_aggstore.specs.declared.share.ShareCell.TheVariants.{Word, Words}
 
 abbrev pub key_of : Joined → List KeyPart
-key_of row = row.share.key.now.parts.items
+key_of row = row.share.now.key.now.parts.items
 
 abbrev pub keys_of : List Joined → List (List KeyPart)
 keys_of rows = map key_of rows
@@ -34,7 +34,7 @@ cell_with None first = first
 cell_with (Some cell) first = cell.items
 
 abbrev pub cell_joined : Joined → List ℕ
-cell_joined row = cell_with row.more (cell_shared row.share)
+cell_joined row = cell_with row.more (cell_shared row.share.now)
 
 -- Rows have been joined from bags: they rise by key, the keys whose bag has a value have one, and each has its bag's
 -- cell.
@@ -65,6 +65,12 @@ pub record MakeBag (function : AggFn) (shares : List KeyShare) (bag : List ℤ) 
 abbrev pub AreShares : AggFn → (List KeyPart → List ℤ) → List KeyShare → Type 0
 AreShares function bags shares =
     (key : List KeyPart) → MakeBag function (filter (λ share. same_key (shared_key share) key) shares) (bags key)
+
+-- Shares are of bags whose values may come in another order.
+pub record AreSharesInSomeOrder (function : AggFn) (bags : List KeyPart → List ℤ) (shares : List KeyShare) : Type 0 where
+  pub others : List KeyPart → List ℤ
+  pub same : (key : List KeyPart) → IsPermutation (bags key) (others key)
+  pub are : AreShares function others shares
 
 -- Rows of a table are made of joined ones: each has its key, and the answer of its bag.
 abbrev pub MakesRows : AggFn → (List KeyPart → List ℤ) → List Joined → List RowForm → Type 0

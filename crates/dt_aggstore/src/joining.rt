@@ -11,7 +11,7 @@ use std::alloc::{AllocError, Global};
 /// The first share of a key, with the shares that were joined to it.
 #[derive(Drop)]
 pub(crate) struct Joined<'a> {
-    pub(crate) share: KeyShare<'a>,
+    pub(crate) share: &'a KeyShare<'a>,
     /// The cell of all values that were joined so far. Where there is one share, it is that one's, and no copy is made.
     pub(crate) more: Option<Vec<u64>>,
 }
@@ -27,25 +27,26 @@ impl<'a> Joined<'a> {
         }
     }
 
-    /// Joins the cell of a share. `Err`: there was no memory for it.
-    fn merge(&mut self, alloc: Global, function: AggFn, other: &[u64]) -> Result<(), AllocError>
-        requires own { length (cell_joined self.old) ≡ cell_words function }
+    /// The same with the cell of a share. `Err`: there was no memory for it.
+    fn merged(self, alloc: Global, function: AggFn, other: &[u64]) -> Result<Joined<'a>, AllocError>
+        requires own { length (cell_joined self) ≡ cell_words function }
         requires others { length other.now ≡ cell_words function }
-        ensures share { self.new.share ≡ self.old.share }
-        ensures words { length (cell_joined self.new) ≡ cell_words function }
+        ensures share { IfOk result (λ joined. joined.share ≡ self.entry.share) }
+        ensures words { IfOk result (λ joined. length (cell_joined joined) ≡ cell_words function) }
         ensures cell { (bag other_bag : List ℤ) → IsBag bag → IsBag other_bag
-            → cell_joined self.old ≡ cell_of function bag → other.now ≡ cell_of function other_bag
-            → OnOk result (cell_joined self.new ≡ cell_of function (bag ++ other_bag)) }
+            → cell_joined self.entry ≡ cell_of function bag → other.now ≡ cell_of function other_bag
+            → IfOk result (λ joined. cell_joined joined ≡ cell_of function (bag ++ other_bag)) }
     {
-        match &mut self.more {
-            Some(cell) => function.merge(cell, other),
-            None => {
-                let mut cell = Vec::from_slice(alloc, self.share.cell())?;
-                function.merge(&mut cell, other);
-                self.more = Some(cell);
-            }
-        }
-        Ok(())
+        let share = self.share;
+        let mut cell = match self.more {
+            Some(cell) => cell,
+            None => Vec::from_slice(alloc, share.cell())?,
+        };
+        function.merge(&mut cell, other);
+        Ok(Joined {
+            share,
+            more: Some(cell),
+        })
     }
 }
 
@@ -69,7 +70,7 @@ impl<'a> Joining<'a> {
     pub(crate) fn of(
         alloc: Global,
         function: AggFn,
-        shares: &[KeyShare<'a>],
+        shares: &'a [KeyShare<'a>],
     ) -> Result<Self, AllocError>
         requires words { All (λ (share : KeyShare). length (cell_shared share) ≡ cell_words function) shares.now }
         requires sorted { IsSortedByKey shared_key key_cmp shares.now }
@@ -90,7 +91,7 @@ impl<'a> Joining<'a> {
     }
 
     /// Joins a share. `Err`: there was no memory for a new row.
-    fn join(&mut self, alloc: Global, share: &KeyShare<'a>) -> Result<(), AllocError>
+    fn join(&mut self, alloc: Global, share: &'a KeyShare<'a>) -> Result<(), AllocError>
         requires { length (cell_shared share.now) ≡ cell_words self.old.function }
         ensures function { self.new.function ≡ self.old.function }
         // On success rows joined from bags, of which none comes after the share's key, are those of the same bags with
@@ -104,16 +105,15 @@ impl<'a> Joining<'a> {
             self.new.rows.items) }
     {
         // rows rise by key, and the share's key is before none of theirs: if it has a row, that is the last one
-        if self.ends_with(share) {
-            let place = self.rows.len() - 1;
-            let function = self.function;
-            let row = &mut self.rows[place];
-            return row.merge(alloc, function, share.cell());
+        if !self.ends_with(share) {
+            self.rows.push(Joined { share, more: None })?;
+            return Ok(());
         }
-        self.rows.push(Joined {
-            share: *share,
-            more: None,
-        })?;
+        let Some(last) = self.rows.pop() else {
+            unreachable!()
+        };
+        let joined = last.merged(alloc, self.function, share.cell())?;
+        self.rows.push(joined)?;
         Ok(())
     }
 

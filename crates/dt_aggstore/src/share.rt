@@ -4,7 +4,6 @@ ghost use Rattle.dt_aggstore.specs.KeyStarts.{start_of_key};
 
 use crate::key::Key;
 use crate::key_start::KeyStart;
-use std::alloc::AllocError;
 use std::cmp::Ordering;
 
 /// The cell that one store has of a key. One word is held by value: it is read where a store is gone over in order, and
@@ -47,10 +46,10 @@ pub(crate) struct KeyShare<'a> {
 }
 
 impl<'a> KeyShare<'a> {
-    ghost use Rattle.std.specs.Prelude.{ℕ, ℤ, List, length, All, OnOk};
+    ghost use Rattle.std.specs.Prelude.{ℕ, ℤ, List, length, All};
     ghost use Rattle.std.specs.List.Sorted.{IsSortedByKey};
     ghost use Rattle.dt_aggfn.specs.declared.function.AggFn.{AggFn};
-    ghost use Rattle.dt_aggstore.specs.Joining.{cell_shared, shared_key, AreShares};
+    ghost use Rattle.dt_aggstore.specs.Joining.{cell_shared, shared_key, AreShares, AreSharesInSomeOrder};
     ghost use Rattle.dt_aggstore.specs.Keys.{key_cmp, same_key};
     ghost use Rattle.dt_aggstore.specs.declared.key.KeyPart.{KeyPart};
     ghost use Rattle.dt_aggstore.specs.declared.share.KeyShare.{KeyShare};
@@ -101,15 +100,15 @@ impl<'a> KeyShare<'a> {
         }
     }
 
-    /// Puts shares in order of key, and leaves those of one key in the order of their stores. `Err`: there was no memory
-    /// for it.
-    pub(crate) fn sort(shares: &mut Vec<KeyShare<'_>>) -> Result<(), AllocError>
-        ensures sorted { OnOk result (IsSortedByKey shared_key key_cmp shares.new.items) }
+    /// Puts shares in order of key. In which order those of one key come isn't said: what their bags make together doesn't
+    /// depend on it.
+    pub(crate) fn sort(shares: &mut Vec<KeyShare<'_>>)
+        ensures sorted { IsSortedByKey shared_key key_cmp shares.new.items }
         ensures bags { (function : AggFn) (bags : List KeyPart → List ℤ) → AreShares function bags shares.old.items
-            → AreShares function bags shares.new.items }
+            → AreSharesInSomeOrder function bags shares.new.items }
         ensures words { (words : ℕ) → All (λ (share : KeyShare). length (cell_shared share) ≡ words) shares.old.items
             → All (λ (share : KeyShare). length (cell_shared share) ≡ words) shares.new.items }
     {
-        shares.sort_by(|one, other| one.order(other))
+        shares.sort_unstable_by(|one, other| one.order(other));
     }
 }

@@ -20,7 +20,7 @@ use crate::key::{Aggregation, Key};
 use crate::limits::STORES_MAX;
 use crate::share::KeyShare;
 use crate::store::AggStore;
-use dt_aggfn::{CellAnswer, cell_length};
+use dt_aggfn::{CellAnswer, any_order, cell_length};
 use std::alloc::{AllocError, Global};
 
 /// A row of a table: a key, and what the aggregation's function makes of all its values.
@@ -49,7 +49,9 @@ impl AggStore {
         for store in stores {
             store.share_into(aggregation, &mut shares)?;
         }
-        KeyShare::sort(&mut shares)?;
+        // where several stores have a key, the order in which their bags are joined doesn't matter
+        any_order();
+        KeyShare::sort(&mut shares);
         let joining = Joining::of(alloc, aggregation.function, &shares)?;
         rows_of(alloc, &joining)
     }

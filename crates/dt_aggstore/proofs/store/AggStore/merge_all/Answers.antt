@@ -9,7 +9,9 @@ use Rattle.dt_aggstore.specs.Joining.{cell_shared, AreJoined, AreShares, MakesRo
 use Rattle.dt_aggstore.specs.declared.share.KeyShare.{KeyShare}
 use Rattle.dt_aggfn.specs.Cells.{cell_words}
 use Rattle.std.proofs.lemmas.List.Elements.{All-nil}
+use Rattle.std.proofs.lemmas.List.Sorted.{length_permutation}
 use Rattle.dt_aggstore.proofs.Sharing.{none_shared}
+use Rattle.dt_aggstore.proofs.Anew.{joined_anew}
 use Rattle.std.proofs.lemmas.Result.{IfOk-weaker}
 use Rattle.std.specs.Global.{Vec}
 use Rattle.std.specs.declared.alloc.AllocError.{AllocError}
@@ -44,7 +46,7 @@ pub of-requires-clause-words : goal.of-requires-clause-words
 of-requires-clause-words c =
     subst (All (λ (share : KeyShare). length (cell_shared share) ≡ cell_words c.args.aggregation.function))
     (sym c.deref.ensures.value)
-    (c.in_ok-sort.ensures.words (cell_words c.args.aggregation.function) c.loop-store.invariant.words)
+    (c.sort.ensures.words (cell_words c.args.aggregation.function) c.loop-store.invariant.words)
 
 -- what the rows of a function are
 abbrev AnswersRows : Result (Vec Row) AllocError → List Joined → AggFn → Type 0
@@ -62,10 +64,13 @@ returns-clause-table c = λ pasts at.
     λ key. omega (arith, c.requires, all_short aggregation pasts stores at key) in
     let shares = all_shared aggregation pasts stores at c.loop-store.store-index c.loop-store.shares.items
     c.loop-store-test.false (c.loop-store.invariant.shares pasts at) in
-    let j = c.in_ok-joining.ensures.rows bags
-    (subst (AreShares aggregation.function bags) (sym c.deref.ensures.value)
-    (c.in_ok-sort.ensures.bags aggregation.function bags shares))
-    few in
+    let anew = c.sort.ensures.bags aggregation.function bags shares in
+    let few_anew : (key : Key) → length (anew.others key) < BAG_LIMIT =
+    λ key. omega (arith, few key, length_permutation (bags key) (anew.others key) (anew.same key)) in
+    let j = joined_anew c.any_order.ensures.cell aggregation.function bags anew.others c.in_ok-joining.joining.rows.items
+    anew.same
+    (c.in_ok-joining.ensures.rows anew.others
+    (subst (AreShares aggregation.function anew.others) (sym c.deref.ensures.value) anew.are) few_anew) in
     let answers = subst (AnswersRows c.rows_of.result c.in_ok-joining.joining.rows.items)
     c.in_ok-joining.ensures.function c.rows_of.ensures in
     IfOk-weaker c.rows_of.result _ _
