@@ -5,6 +5,7 @@
 //! written is what such a session is answered alone. [`serve_machine`] runs a hub: a thread for each processor, each socket and each connection.
 #![tactic(auto)]
 
+mod colour;
 mod desk;
 mod device;
 mod ended;

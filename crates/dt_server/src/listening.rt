@@ -1,4 +1,5 @@
 //! Connections of an account's clients.
+use crate::colour::colour;
 use crate::device::Counted;
 use crate::ended::Ended;
 use crate::session::serve_session;
@@ -72,6 +73,7 @@ fn serve_stream<J: HubSite, R: Wait>(
     socket: &AccountSocket,
     stream: UnixStream,
 ) {
+    let room = colour(alloc, shared.next_client());
     match hub.open(rt, alloc, socket.name.as_bytes()) {
         Ok(session) => {
             let seat = session.seat();
@@ -88,6 +90,7 @@ fn serve_stream<J: HubSite, R: Wait>(
             let _told = (&stream).write_all(refusal_line(fault));
         }
     }
+    drop(room);
 }
 
 /// What a client is told that gets no session.

@@ -3,6 +3,7 @@ use crate::desk::Desk;
 use dt_chain::Seat;
 use dt_names::Name;
 use std::os::unix::net::UnixListener;
+use std::sync::atomic::{AtomicU64, Ordering};
 use std::sync::{Condvar, Mutex, Wait};
 
 /// How far a service has come.
@@ -34,6 +35,8 @@ pub struct Shared {
     pub sockets: Vec<AccountSocket>,
     start: Mutex<Startup>,
     started: Condvar,
+    /// How many clients have come.
+    clients: AtomicU64,
 }
 
 impl Shared {
@@ -44,7 +47,13 @@ impl Shared {
             sockets,
             start: Mutex::new(Startup::Begun),
             started: Condvar::new(),
+            clients: AtomicU64::new(0),
         }
+    }
+
+    /// How many clients came before the next.
+    pub(crate) fn next_client(&self) -> u64 {
+        self.clients.fetch_add(1, Ordering::SeqCst)
     }
 
     /// Tells all processors that a session has ended at a seat.
