@@ -1,4 +1,5 @@
 -- The lemmas of this crate.
 pub mod Places
 pub mod Offers
+pub mod Publications
 pub mod Tracks

@@ -15,12 +15,13 @@ use Rattle.dt_cred.specs.declared.firing.Firing.{Firing}
 use Rattle.dt_facts.specs.declared.fact.Knew.{Knew}
 use Rattle.dt_facts.specs.laws.Beginnings.{prefix_self}
 use Rattle.dt_hub.proofs.Offers.{get_set_other, get_set_same}
+use Rattle.dt_hub.specs.Firings.{Counts}
 use Rattle.dt_hub.specs.Processors.{AreAtSeats, AreTrackedBy, IsAtSeat, count_in, counts_at, knew_at_seats, knew_of}
 use Rattle.dt_life.specs.laws.Options.{if_some_map, some_of}
 use Rattle.dt_machine.specs.Registry.{Contents, firing_at}
 use Rattle.dt_seat.specs.Keeps.{Followed, known_of}
 use Rattle.dt_seat.specs.Tracked.{AreTracked, count_of, counts_with, known_life}
-use Rattle.dt_seat.specs.laws.Tracked.{tracked_alike, tracked_passed, tracked_writes}
+use Rattle.dt_seat.specs.laws.Tracked.{counted, tracked_alike, tracked_passed, tracked_writes}
 
 pub counts_length : (seat : ℕ) (log : List (List Knew)) (life : ℕ) → length (counts_at seat log life) ≡ length log
 counts_length seat log life = length-map log (λ place. count_in life (slice_get place seat))
@@ -36,6 +37,22 @@ count_last f life = by_test (eqb (known_life f) life) refl
     by_test false is =
         ap (λ (b : Bool). cond b (length (known_of (known_life f) f)) 0) is
         ∙ sym (ap (λ (b : Bool). cond b (length (known_of life f)) 0) is)
+
+-- so it counts what is known there, of each life that isn't over
+pub counts_said : (contents : Contents) (writes : List Write) (log : List (List Knew)) (at_seats : List Followed) → AreTrackedBy contents writes log at_seats
+    → (seat : ℕ) → IfSome (slice_get at_seats seat) (Counts (slice_get (knew_at_seats at_seats) seat))
+counts_said contents writes log at_seats h seat = by_seat (slice_get at_seats seat) refl
+  where
+    by_seat : (o : Option Followed) → slice_get at_seats seat ≡ o → IfSome o (Counts (slice_get (knew_at_seats at_seats) seat))
+    by_seat None there = tt
+    by_seat (Some f) there = λ life.
+        let tracked = some_of (slice_get at_seats seat) f (AreTracked contents writes (counts_at seat log)) there (h seat) in
+        let noted : slice_get (knew_at_seats at_seats) seat ≡ Some (knew_of f) =
+        slice_get-map knew_of at_seats seat ∙ ap (λ (o : Option Followed). option_map knew_of o) there in
+        elim (counted f life tracked.orderly) [
+          | inl over ↦ inl over
+          | inr same ↦ inr (ap (count_in life) noted ∙ count_last f life ∙ same)
+        ]
 
 pub counts_more : (seat : ℕ) (log : List (List Knew)) (at_seats : List Followed) (f : Followed) → slice_get at_seats seat ≡ Some f
     → (life : ℕ) → counts_at seat (log ++ knew_at_seats at_seats ∷ []) life ≡ counts_with (counts_at seat log) f life

@@ -5,7 +5,7 @@ use Rattle.dt_hub.specs.Processors.{Processing, counts_at}
 use Rattle.dt_legal.specs.Rows.{IsLegalRow}
 use Rattle.dt_machine.specs.Registry.{Contents}
 use Rattle.dt_meeting.specs.Sharing.{IsShared}
-use Rattle.dt_seat.specs.Keeps.{Carries, Followed, known_of}
+use Rattle.dt_seat.specs.Keeps.{Carries, Followed, known_of, noted_of, over_of}
 use Rattle.dt_seat.specs.Sessions.{Sat}
 use Rattle.dt_trail.specs.Items.{StartsWith, TrailItem, own}
 
@@ -16,13 +16,17 @@ pub record HasSeenAll (contents : Contents) (old new : Sat) : Type 0 where
   pub lines : own 0 new.knows ≡ own 0 old.knows
   pub legal : IsLegalRow new.account contents new.knows
 
--- The processor knows the same of the session's life, and what the session published. It has lost nothing, and all else is as it was.
+-- The processor knows the same of the session's life, by its note, and that the life isn't over, and what the session published. It has lost nothing, and all else is as it was.
+-- Its own firings in the trail are those that its note knew.
 pub record HasLearntAll (session : Sat) (old new : Processing) : Type 0 where
   pub before : Followed
   pub after : Followed
   pub old_is : slice_get old.at_seats session.seat ≡ Some before
   pub new_is : slice_get new.at_seats session.seat ≡ Some after
+  pub over : over_of after ≡ session.life
   pub known : known_of session.life after ≡ session.knows
+  pub noted : noted_of session.life after ≡ session.knows
+  pub own_firings : own (old.cpu + 1) session.knows ≡ own (old.cpu + 1) (noted_of session.life before)
   pub begins : StartsWith session.knows (known_of session.life before)
   pub carries : Carries before after session.life
   pub others : (seat : ℕ) → seat ≢ session.seat → slice_get new.at_seats seat ≡ slice_get old.at_seats seat

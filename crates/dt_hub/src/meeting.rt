@@ -3,7 +3,7 @@ ghost use Rattle.std.specs.Prelude.{◌≡◌, ◌<◌, ◌+◌, ℕ, List};
 ghost use mathlib.Core.List.{IsPrefix};
 ghost use Rattle.dt_hub.specs.Meetings.{HaveMet, HasSeenAll};
 ghost use Rattle.dt_meeting.specs.Sharing.{IsShared};
-ghost use Rattle.dt_seat.specs.Keeps.{Carries, known_by, known_of, noted_of};
+ghost use Rattle.dt_seat.specs.Keeps.{Carries, known_by, known_of, noted_of, over_of};
 ghost use Rattle.dt_seat.specs.Tracked.{AreTracked};
 ghost use Rattle.dt_trail.specs.Items.{StartsWith, TrailItem, own};
 
@@ -25,6 +25,7 @@ impl<J: HubSite> Hub<J> {
         requires follower { (follower.old.seat ≡ session.old.seat) × (follower.old.cpu < J.contents.registry.cpus) }
         ensures session { HasSeenAll J.contents session.old session.new }
         ensures carried { Carries follower.old follower.new session.new.life }
+        ensures over { over_of follower.new ≡ session.new.life }
         ensures known { known_of session.new.life follower.new ≡ session.new.knows }
         ensures noted { noted_of session.new.life follower.new ≡ session.new.knows }
         ensures whole { known_by follower.new.note ≡ session.new.knows }
@@ -53,7 +54,8 @@ impl<J: HubSite> Hub<J> {
 
     /// A session and a processor meet: both then know the whole trail and what each other knows, and there is one row in which all firings of the processor so far
     /// stand, each after all that the processor knew of the session as it fired. Without those that the session doesn't see where they stand, that row is the session's
-    /// trail. So no firing that the session should have seen was skipped since the processor knew of its `go`, whatever [`Hub::fire`] answered.
+    /// trail. So, where the session still traces as they meet, no firing that it should see was skipped since the processor knew of its `go`, whatever [`Hub::fire`]
+    /// answered. Of a session that has stopped the row says only where such a firing isn't seen, which may be after the stop.
     ///
     /// It takes the lock of the session's seat and inside it that of the chains' writer, and waits for those that have them. It takes no memory. Its time is linear in what
     /// the two didn't know of each other.

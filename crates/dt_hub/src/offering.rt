@@ -6,13 +6,13 @@ ghost use Rattle.dt_chain.specs.Limits.{seat_count};
 ghost use Rattle.dt_chain.specs.Seats.{life_at};
 ghost use Rattle.dt_chain.specs.declared.seat_mask.SeatMask.{SeatMask};
 ghost use Rattle.dt_facts.specs.declared.fact.Knew.{Knew};
-ghost use Rattle.dt_hub.specs.Firings.{ComesToSeat};
+ghost use Rattle.dt_hub.specs.Firings.{ComesToSeat, KnowsPublicationAt};
 ghost use Rattle.dt_hub.specs.Processors.{AreAtSeats, AreTrackedBy, knew_at_seats};
 ghost use Rattle.dt_legal.specs.Rows.{AreBelowPlace};
 ghost use Rattle.dt_machine.specs.Context.{IsContext};
 ghost use Rattle.dt_machine.specs.Registry.{firing_at};
 ghost use Rattle.dt_seat.specs.Keeps.{known_by, noted_of};
-ghost use Rattle.dt_seat.specs.Seats.{ComesOfFiring, kept_items};
+ghost use Rattle.dt_seat.specs.Seats.{ComesOfFiring, KnowsPublication, kept_items};
 ghost use Rattle.dt_seat.specs.Tracked.{AreTracked, counts_with};
 ghost use Rattle.dt_trail.specs.Items.{own};
 
@@ -42,7 +42,6 @@ impl<J: HubSite> Hub<J> {
         requires below { AreBelowPlace context.now.firing.now.cpu context.now.firing.now.place (known_by follower.old.note) }
         requires named { (mask : SeatMask) × IsMaskAfter J.contents.registry reader.old.seen context.now.firing.now mask
             × (life_at mask seat ≡ Some life) }
-        requires reader { IsPrefix reader.old.seen reader.old.told }
         ensures held { ComesOfFiring J.contents life context.now.firing.now result follower.old follower.new }
         ensures own { own (context.now.firing.now.cpu + 1) (noted_of life follower.new)
             ≡ own (context.now.firing.now.cpu + 1) (noted_of life follower.old) ++ kept_items result context.now.firing.now }
@@ -50,6 +49,7 @@ impl<J: HubSite> Hub<J> {
             → AreTracked J.contents reader.old.seen knew follower.old
             → AreTracked J.contents reader.new.told (counts_with knew follower.old) follower.new }
         ensures reader { (reader.new.seen ≡ reader.old.seen) × IsPrefix reader.old.told reader.new.told }
+        ensures published { KnowsPublication J.contents life follower.new reader.new.told }
     {
         let cpu = context.firing.cpu;
         let number = seat.number();
@@ -103,6 +103,7 @@ impl<J: HubSite> Hub<J> {
         ensures tracked { (log : List (List Knew)) → length log ≡ context.now.firing.now.place → AreTrackedBy J.contents reader.old.seen log followers.old.items
             → AreTrackedBy J.contents reader.new.told (log ++ knew_at_seats followers.old.items ∷ []) followers.new.items }
         ensures reader { (reader.new.seen ≡ reader.old.seen) × IsPrefix reader.old.told reader.new.told }
+        ensures published { (seat : ℕ) → KnowsPublicationAt J.contents mask.now followers.new.items reader.new.told seat }
     {
         let mut left = mask.seats();
         let mut next = 0;

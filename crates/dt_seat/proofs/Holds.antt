@@ -1,5 +1,5 @@
 -- What a processor keeps track of at a seat, once it was offered a firing there.
-use Rattle.std.proofs.Common.{◌≡◌, ◌≢◌, ◌<◌, ◌≤◌, ◌+◌, ◌⊎◌, ℕ, true, false, List, [], ◌∷◌, ◌++◌, length, refl, sym, ap, ◌∙◌, subst, arith, append-nil, Option, Some, inl, inr, ⊎_elim}
+use Rattle.std.proofs.Common.{◌≡◌, ◌≢◌, ◌<◌, ◌+◌, ◌⊎◌, ℕ, true, List, [], ◌∷◌, ◌++◌, length, refl, sym, ap, ◌∙◌, subst, arith, append-nil, Option, Some, inl, inr, ⊎_elim}
 use Rattle.std.proofs.lemmas.Bool.{cases_eq}
 use Rattle.std.proofs.lemmas.List.{append_cancel_right}
 use Rattle.std.specs.List.{Contains}
@@ -7,7 +7,7 @@ use Rattle.std.specs.Option.{option_map_or}
 use mathlib.Core.List.{IsPrefix}
 use Rattle.dt_chain.specs.Chains.{IsMaskAfter}
 use Rattle.dt_chain.specs.Seats.{life_at}
-use Rattle.dt_chain.specs.Writes.{Write, published, writes_of}
+use Rattle.dt_chain.specs.Writes.{Write, writes_of}
 use Rattle.dt_chain.specs.declared.seat_mask.SeatMask.{SeatMask}
 use Rattle.dt_cred.specs.declared.account.Account.{Account}
 use Rattle.dt_cred.specs.declared.firing.Firing.{Firing}
@@ -27,7 +27,7 @@ use Rattle.dt_meeting.specs.laws.Seen.{seen_after_to, unseen_after_to}
 use Rattle.dt_publisher.specs.laws.OwnWrites.{own_begin}
 use Rattle.dt_seat.proofs.Known.{by_note}
 use Rattle.dt_seat.proofs.Owning.{own_fired}
-use Rattle.dt_seat.specs.Keeps.{Carries, Followed, known_by, known_in, known_of, noted_in, noted_of, over_of, with_lives}
+use Rattle.dt_seat.specs.Keeps.{Carries, Followed, known_by, known_in, known_of, noted_of, over_of, with_lives}
 use Rattle.dt_seat.specs.Publications.{IsPublished}
 use Rattle.dt_seat.specs.Seats.{ComesOfFiring, HasNote, Reaches, kept_items}
 use Rattle.dt_seat.specs.Tracked.{AreTracked, IsAllowed, IsToldLater, IsTracked, count_of, counts_with}

@@ -1,10 +1,10 @@
 -- What a seat wrote, as it publishes and withdraws, as its trail goes on, and as lives open and close.
-use Rattle.std.proofs.Common.{◌≡◌, ◌≢◌, ◌≤◌, ◌<◌, ◌+◌, ◌==◌, ℕ, Bool, true, false, cond, List, [], ◌∷◌, ◌++◌, Option, Some, None, MatchOption, refl, sym, ap, ◌∙◌, subst, arith, append-nil, ⊎_elim, inl, inr, ◌⊎◌}
+use Rattle.std.proofs.Common.{◌≡◌, ◌≢◌, ◌≤◌, ◌<◌, ◌+◌, ℕ, Bool, true, false, cond, List, [], ◌∷◌, ◌++◌, Option, Some, None, MatchOption, refl, sym, ap, ◌∙◌, subst, arith, append-nil, ⊎_elim, inl, inr, ◌⊎◌}
 use mathlib.Core.List.{IsPrefix}
 use Rattle.std.proofs.lemmas.Bool.{ne_eqb}
 use Rattle.std.specs.Prelude.{fold}
 use Rattle.atomic_table.specs.Seated.{TableId}
-use Rattle.dt_chain.specs.Writes.{Write, published, seat_of, withdrawn, writes_of}
+use Rattle.dt_chain.specs.Writes.{Write, published, withdrawn, writes_of}
 use Rattle.dt_cred.specs.declared.account.Account.{Account}
 use Rattle.dt_facts.specs.Facts.{writes_fact}
 use Rattle.dt_facts.specs.Handles.{HeldFact, holding}
@@ -14,13 +14,11 @@ use Rattle.dt_machine.specs.Registry.{Contents}
 use Rattle.dt_meeting.specs.Stages.{Stage, named, never, next_stage, stage}
 use Rattle.dt_meeting.specs.laws.Ordering.{in_order_ended, in_order_new, in_order_published, in_order_trail}
 use Rattle.dt_meeting.specs.laws.Staging.{stage_both}
-use Rattle.dt_publisher.specs.Publishers.{own_writes_held}
-use Rattle.dt_publisher.specs.laws.OwnWrites.{own_more}
-use Rattle.dt_seat.specs.Names.{book_name, first_book}
+use Rattle.dt_seat.specs.Names.{book_name}
 use Rattle.dt_seat.specs.Publications.{writes_seen}
 use Rattle.dt_seat.specs.Seats.{Wrote}
 use Rattle.dt_seat.specs.declared.present.Present.{Present}
-use Rattle.dt_seat.specs.Written.{AreUnnamedFrom, AreWritesOf, HasNotNamed, HasWritten, MayEndWith, SaysWrites, writes_in}
+use Rattle.dt_seat.specs.Written.{AreUnnamedFrom, AreWritesOf, HasNotNamed, HasWritten, MayEndWith, writes_in}
 use Rattle.dt_trail.specs.Items.{StartsWith, TrailItem}
 
 -- what may end with a write has what both have

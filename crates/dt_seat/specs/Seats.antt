@@ -18,7 +18,7 @@ use Rattle.dt_seat.specs.Keeps.{Carries, Followed, IsKeptFor, IsLeft, KeptNote, 
 use Rattle.dt_seat.specs.Knowledge.{AreUnknownFrom, SaysLives, known_items, steps_in}
 use Rattle.dt_seat.specs.Names.{known_name}
 use Rattle.dt_seat.specs.Trailed.{IsDue, IsTrailed, row_after}
-use Rattle.dt_seat.specs.Publications.{writes_seen}
+use Rattle.dt_seat.specs.Publications.{IsPublished, writes_seen}
 use Rattle.dt_seat.specs.Written.{HasNotNamed, HasPublished, HasWritten, writes_in}
 use Rattle.dt_seat.specs.declared.after_line.AfterLine.{AfterLine}
 use Rattle.dt_seat.specs.declared.after_line.AfterLine.TheVariants.{GoesOn, Closes, OverQuota}
@@ -110,6 +110,10 @@ pub record HasNote (life : ℕ) (f : Followed) (note : Noted Account) : Type 0 w
   pub took : f.took ≡ Some (last_note life note.row)
   pub has : f.note ≡ Some note
   pub over_is : over_of f ≡ life
+
+-- A processor that has the note of a life knows of the life's publication, once the trail that it knows has the accepted `go`.
+abbrev pub KnowsPublication : Contents → (life : ℕ) → Followed → (told : List Write) → Type 0
+KnowsPublication contents life f told = (note : Noted Account) → HasNote life f note → IsPublished contents f.seat life note.row.account note.knows told
 
 -- What comes of a firing that is offered to a life. Kept: the life's account sees it after a trail that begins with what was known, and it is
 -- then the last item that is known. Unseen: it isn't seen after such a trail, which is then known. Gone: the life is over, as the processor then knows, and nothing else

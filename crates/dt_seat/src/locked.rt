@@ -11,7 +11,7 @@ ghost use Rattle.dt_machine.specs.Registry.{firing_at};
 ghost use Rattle.dt_seat.specs.Keeps.{Forgets, known_by, noted_of};
 ghost use Rattle.dt_seat.specs.Publications.{IsPublished};
 ghost use mathlib.Core.List.{IsPrefix};
-ghost use Rattle.dt_seat.specs.Seats.{IsRepliedTo, ComesOfFiring, StaysOn, kept_items};
+ghost use Rattle.dt_seat.specs.Seats.{IsRepliedTo, ComesOfFiring, KnowsPublication, StaysOn, kept_items};
 ghost use Rattle.dt_seat.specs.Tracked.{AreTracked, counts_with};
 ghost use Rattle.dt_seat.specs.Trailed.{item_of_line};
 ghost use Rattle.dt_seat.specs.Written.{AreWritesOf};
@@ -184,7 +184,6 @@ impl<J: HubSite> LockedSeat<J> {
         requires below { AreBelowPlace context.now.firing.now.cpu context.now.firing.now.place (known_by follower.old.note) }
         requires named { (mask : SeatMask) × IsMaskAfter J.contents.registry reader.old.seen context.now.firing.now mask
             × (life_at mask self.old.number ≡ Some life) }
-        requires reader { IsPrefix reader.old.seen reader.old.told }
         ensures held { ComesOfFiring J.contents life context.now.firing.now result follower.old follower.new }
         ensures own { own (context.now.firing.now.cpu + 1) (noted_of life follower.new)
             ≡ own (context.now.firing.now.cpu + 1) (noted_of life follower.old) ++ kept_items result context.now.firing.now }
@@ -192,10 +191,13 @@ impl<J: HubSite> LockedSeat<J> {
             → AreTracked J.contents reader.old.seen knew follower.old
             → AreTracked J.contents reader.new.told (counts_with knew follower.old) follower.new }
         ensures reader { (reader.new.seen ≡ reader.old.seen) × IsPrefix reader.old.told reader.new.told }
+        ensures published { KnowsPublication J.contents life follower.new reader.new.told }
         ensures seat { (self.new.number ≡ self.old.number) × (self.new.life ≡ self.old.life) }
         ensures trail { StaysOn self.old.trail self.new.trail }
         ensures writes { self.new.writes ≡ self.old.writes }
     {
+        // for the proof: what the reader has seen begins what it knows
+        let _known = reader.told();
         if life < self.life {
             facts.catch_up(&mut self.lives, &mut follower.lives);
             follower.is_right();

@@ -2,7 +2,7 @@
 ghost use Rattle.std.specs.Prelude.{◌≡◌, ◌<◌, ◌+◌, ℕ, List, IsSomeAnd};
 ghost use Rattle.dt_legal.specs.Rows.{IsLegalRow};
 ghost use Rattle.dt_meeting.specs.Sharing.{IsShared};
-ghost use Rattle.dt_seat.specs.Keeps.{Carries, known_by, known_of, noted_of};
+ghost use Rattle.dt_seat.specs.Keeps.{Carries, known_by, known_of, noted_of, over_of};
 ghost use Rattle.dt_seat.specs.Seats.{StaysOn};
 ghost use Rattle.dt_seat.specs.Tracked.{AreTracked};
 ghost use Rattle.dt_trail.specs.Items.{StartsWith, TrailItem, own};
@@ -41,6 +41,7 @@ impl<J: HubSite> LockedSeat<J> {
         ensures lines { own 0 session.new.knows ≡ own 0 session.old.knows }
         ensures legal { IsLegalRow session.old.account J.contents session.new.knows }
         ensures carried { Carries follower.old follower.new session.old.life }
+        ensures over { over_of follower.new ≡ session.old.life }
         ensures known { known_of session.old.life follower.new ≡ session.new.knows }
         ensures noted { noted_of session.old.life follower.new ≡ session.new.knows }
         ensures whole { known_by follower.new.note ≡ session.new.knows }

@@ -1,5 +1,5 @@
 -- What a processor's note knows of a life.
-use Rattle.std.proofs.Common.{◌≡◌, ◌+◌, ◌==◌, ℕ, Bool, true, false, cond, List, [], ◌++◌, Option, Some, None, ap, ◌∙◌, refl, eq-eqb}
+use Rattle.std.proofs.Common.{◌≡◌, ◌+◌, ◌==◌, ℕ, Bool, true, false, cond, List, [], Option, Some, None, ap, ◌∙◌, refl, eq-eqb}
 use Rattle.std.proofs.lemmas.List.Elements.{filter-append}
 use Rattle.dt_cred.specs.declared.account.Account.{Account}
 use Rattle.dt_facts.specs.Facts.{last_note}

@@ -1,5 +1,5 @@
 -- What a processor keeps track of at a seat goes on.
-use Rattle.std.proofs.Common.{◌≡◌, ◌≢◌, ◌<◌, ◌≤◌, ◌+◌, ◌==◌, ◌⊎◌, ℕ, Bool, true, false, cond, List, [], ◌∷◌, ◌++◌, length, eqb, refl, sym, ap, ◌∙◌, subst, arith, ne_eqb, Option, Some, None, IfSome, inl, inr, ⊎_elim}
+use Rattle.std.proofs.Common.{◌≡◌, ◌≢◌, ◌<◌, ◌≤◌, ◌+◌, ◌⊎◌, ℕ, Bool, true, false, cond, List, [], ◌∷◌, ◌++◌, length, eqb, refl, sym, ap, ◌∙◌, subst, arith, ne_eqb, Option, Some, None, IfSome, inl, inr, ⊎_elim}
 use Rattle.std.proofs.lemmas.Bool.Decides.{nat_tests}
 use Rattle.std.specs.Option.{option_map_or}
 use mathlib.Core.List.{IsPrefix}
@@ -9,7 +9,6 @@ use Rattle.dt_chain.specs.Writes.{Write, writes_of}
 use Rattle.dt_chain.specs.declared.seat_mask.SeatMask.{SeatMask}
 use Rattle.dt_cred.specs.declared.account.Account.{Account}
 use Rattle.dt_cred.specs.declared.firing.Firing.{Firing}
-use Rattle.dt_facts.specs.Lives.{IsRowOfLife, lives_over}
 use Rattle.dt_facts.specs.declared.fact.LastNote.{LastNote}
 use Rattle.dt_facts.specs.declared.fact.LifeStep.{LifeStep}
 use Rattle.dt_facts.specs.laws.Lives.{over_stays, row_stays}
@@ -21,7 +20,6 @@ use Rattle.dt_seat.specs.Keeps.{Followed, IsEarlier, followed_at, known_by, know
 use Rattle.dt_seat.specs.Tracked.{AreTracked, IsAllowed, IsToldLater, IsTracked, count_of, counts_with, known_life}
 use Rattle.dt_seat.specs.declared.told_of.ToldOf.{ToldOf}
 use Rattle.dt_trail.specs.Items.{TrailItem, own}
-use Rattle.dt_trail.specs.declared.law.Named.{Named}
 
 told_apart : (l : ℕ) (t : ToldOf) → t.life ≢ l → told_in l (Some t) ≡ []
 told_apart l t other = ap (λ (b : Bool). cond b t.told.knows []) (ne_eqb t.life l other)

@@ -5,7 +5,8 @@ use Rattle.dt_chain.specs.Writes.{Write}
 use Rattle.dt_cred.specs.declared.account.Account.{Account}
 use Rattle.dt_facts.specs.laws.Beginnings.{prefix_trans}
 use Rattle.dt_seat.proofs.Offering.{goes_on_asked, goes_on_self, goes_on_wider, starts_after}
-use Rattle.dt_seat.proofs.Published.{contained_still, published_line, still_published}
+use Rattle.dt_seat.proofs.Published.{published_line}
+use Rattle.dt_seat.specs.laws.Publications.{contained_still, still_published}
 use Rattle.dt_seat.proofs.Seats.{answered_from}
 use Rattle.dt_seat.proofs.Sitting.{lines_grown, notebook_asked, notebook_goes_on}
 use Rattle.dt_life.specs.Life.{is_stopped}

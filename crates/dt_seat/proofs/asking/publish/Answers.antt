@@ -1,10 +1,9 @@
 -- What is to be shown of `publish`.
-use Rattle.std.proofs.Common.{◌≡◌, ℕ, List, [], ◌∷◌, ◌++◌, refl, ap, sym, subst, arith}
+use Rattle.std.proofs.Common.{◌≡◌, ℕ, List, [], ◌∷◌, refl, ap, sym, subst, arith}
 use Rattle.std.specs.List.{Contains}
 use Rattle.std.proofs.lemmas.List.Elements.{Contains-append_right}
 use Rattle.std.proofs.lemmas.Result.{IfOk-weaker}
 use Rattle.dt_chain.specs.Writes.{Write, seat_of, writes_of}
-use Rattle.dt_cred.specs.declared.account.Account.{Account}
 use Rattle.dt_legal.specs.Rows.{AreOfEcbs, life_of_row}
 use Rattle.dt_machine.specs.Interest.{flags_of}
 use Rattle.dt_machine.specs.laws.Flags.{names_flags}

@@ -1,8 +1,8 @@
 -- What is to be shown of `withdraw`.
-use Rattle.std.proofs.Common.{◌≡◌, ℕ, ap, sym, subst}
-use Rattle.dt_chain.specs.Writes.{Write, seat_of}
+use Rattle.std.proofs.Common.{ℕ, ap, sym, subst}
+use Rattle.dt_chain.specs.Writes.{seat_of}
 use Rattle.dt_seat.proofs.asking.withdraw.Goals as goal
-use Rattle.dt_seat.specs.Written.{MayEndWith, SaysWrites, writes_in}
+use Rattle.dt_seat.specs.Written.{SaysWrites}
 
 pub write_down-withdrawn-requires-clause-writes : goal.write_down-withdrawn-requires-clause-writes
 write_down-withdrawn-requires-clause-writes g c =

@@ -10,7 +10,8 @@ use Rattle.dt_cred.specs.declared.firing.Firing.{Firing}
 use Rattle.dt_facts.specs.Handles.{HeldFact}
 use Rattle.dt_facts.specs.declared.fact.Knew.{Knew}
 use Rattle.dt_facts.specs.laws.Beginnings.{prefix_self}
-use Rattle.dt_hub.proofs.Tracks.{all_writes, log_longer, passed_at}
+use Rattle.dt_hub.proofs.Publications.{known_unnamed}
+use Rattle.dt_hub.proofs.Tracks.{all_writes, counts_said, log_longer, passed_at}
 use Rattle.dt_hub.proofs.hub.Hub.fire.Goals as goal
 use Rattle.dt_hub.proofs.hub.Hub.fire.Goals.{in-Some-found, in_default-found}
 use Rattle.dt_hub.proofs.Places.{at_seat_next}
@@ -64,5 +65,36 @@ invariant_of-cpu_seat-2 g c =
             let unnamed : (seat : ℕ) → life_at c.look_into.new.mask seat ≡ None = search rules in
             rw more (λ seat. passed_at contents reader.seen firing c.look_into.new.mask start log script look (inv.places ∙ sym place_is) begun before reader.told
             (subst (λ (l : List Write). IsPrefix reader.seen l) (sym all) (prefix_self reader.seen)) seat (unnamed seat));
+      })
+    ]
+
+pub returns : goal.returns
+returns g c =
+    let contents = g.J.Traced.contents in
+    let inside = c.cpu_seat.inside in
+    let log = places_in inside.log.fact in
+    let counts = counts_said contents inside.reader.told log inside.followers.items c.cpu_seat.invariant.tracked in
+    elim c.match-found.branch [
+      | in-Some-found w ↦ rw (← c.cpu_seat.view_is, w.cpu_seat-inside-is) (record {
+        firing = c.in-Some.firing.now;
+        looks = search rules;
+        cpu = search rules;
+        next = search rules;
+        log = search rules;
+        each = search rules;
+        published = search rules;
+        counts = counts;
+      })
+      | in_default-found w ↦ rw (← c.cpu_seat.view_is, w.cpu_seat-inside-is) (record {
+        firing = c.in-Some.firing.now;
+        looks = search rules;
+        cpu = search rules;
+        next = search rules;
+        log = search rules;
+        each = search rules;
+        published =
+            let unnamed : (seat : ℕ) → life_at c.look_into.new.mask seat ≡ None = search rules in
+            λ seat. known_unnamed contents c.look_into.new.mask seat inside.followers.items c.look_into.new.self.told (unnamed seat);
+        counts = counts;
       })
     ]

@@ -9,7 +9,9 @@ use Rattle.std.specs.List.{slice_get, slice_set}
 use Rattle.dt_chain.specs.Seats.{has, life_at}
 use Rattle.dt_facts.specs.laws.Beginnings.{prefix_trans}
 use Rattle.dt_hub.proofs.Offers.{all_at_next, at_more, below_taken, between, done_more, from_next, from_taken, get_set_other, get_set_same, none_from, rest_less}
+use Rattle.dt_hub.proofs.Publications.{known_before, known_here, known_unnamed}
 use Rattle.dt_hub.proofs.Tracks.{offered_at_seat, passed_at}
+use Rattle.dt_hub.specs.Firings.{KnowsPublicationAt}
 use Rattle.dt_hub.specs.Processors.{counts_at, knew_at_seats}
 use Rattle.dt_life.specs.laws.Options.{if_some_map}
 use Rattle.dt_seat.specs.Keeps.{Followed}
@@ -58,6 +60,20 @@ seats-preserved g c =
       seen = c.offer_at.ensures.reader.0 ∙ inv.seen;
       told = prefix_trans _ _ _ inv.told c.offer_at.ensures.reader.1;
       known = rw c.offer_at.ensures.reader.0 (prefix_trans _ _ _ inv.known c.offer_at.ensures.reader.1);
+      published = λ seat lt. elim (cases_eq seat n) [
+        | inl e ↦ subst (KnowsPublicationAt contents mask (slice_set c.seats.followers.items n c.offer_at.new.follower) c.offer_at.new.reader.told) (sym e)
+            (known_here contents mask n (slice_set c.seats.followers.items n c.offer_at.new.follower) c.offer_at.new.reader.told c.in-Some-life_of.life
+            c.offer_at.new.follower named (get_set_same c.seats.followers.items n c.offer_at.new.follower small) c.offer_at.ensures.published)
+        | inr ne ↦ elim (cases_lt seat c.seats.next) [
+          | inl earlier ↦ known_before contents mask seat c.seats.followers.items (slice_set c.seats.followers.items n c.offer_at.new.follower)
+              c.seats.reader.told c.offer_at.new.reader.told (get_set_other c.seats.followers.items n seat c.offer_at.new.follower ne)
+              c.offer_at.ensures.reader.1 (inv.published seat earlier)
+          | inr later ↦ known_unnamed contents mask seat (slice_set c.seats.followers.items n c.offer_at.new.follower) c.offer_at.new.reader.told
+              (between contents firing mask start c.seats.held.items c.seats.followers.items c.seats.left c.remove.new.self c.seats.next n
+              inv.many inv.held c.number-at.ensures.small c.requires.seats inv.left_below inv.left_from inv.done inv.rest inv.at_below first_is before
+              seat later (omega (arith, lt, ne)))
+        ]
+      ];
       tracked = λ log places h seat lt.
           let further : IsPrefix c.args.reader.now.seen c.offer_at.new.reader.told = rw inv.seen at (prefix_trans _ _ _ inv.known c.offer_at.ensures.reader.1) in
           elim (cases_eq seat n) [
@@ -90,6 +106,16 @@ returns-clause-seats g c =
     let inv = c.seats.invariant in
     all_at_next firing.cpu firing.place c.seats.next c.args.followers.now.items c.seats.followers.items inv.many c.requires.seats inv.rest
     inv.at_below
+
+pub returns-clause-published : goal.returns-clause-published
+returns-clause-published g c = λ seat.
+    let mask = c.args.mask.now in
+    let inv = c.seats.invariant in
+    elim (cases_lt seat c.seats.next) [
+      | inl lt ↦ inv.published seat lt
+      | inr le ↦ known_unnamed g.J.Traced.contents mask seat c.seats.followers.items c.seats.reader.told
+          (none_from (life_at mask seat) (sym (inv.left_from seat le) ∙ c.in_default.ensures seat))
+    ]
 
 pub returns-clause-tracked : goal.returns-clause-tracked
 returns-clause-tracked g c = λ log places h seat.

@@ -5,7 +5,7 @@ use Rattle.std.specs.Option.{is_some, IfSome}
 use mathlib.Core.List.{IsPrefix}
 use Rattle.dt_chain.specs.Seats.{has, life_at}
 use Rattle.dt_chain.specs.Limits.{seat_count}
-use Rattle.dt_hub.specs.Firings.{ComesToSeat}
+use Rattle.dt_hub.specs.Firings.{ComesToSeat, KnowsPublicationAt}
 use Rattle.dt_facts.specs.declared.fact.Knew.{Knew}
 use Rattle.dt_hub.specs.Processors.{AreTrackedBy, IsAtSeat, counts_at, knew_at_seats}
 use Rattle.dt_seat.specs.Tracked.{AreTracked}
@@ -25,6 +25,7 @@ invariant-seats g l = let firing = l.context.firing.now in record {
   seen : l.reader.seen ≡ l.fn.reader.seen;
   told : IsPrefix l.fn.reader.told l.reader.told;
   known : IsPrefix l.reader.seen l.reader.told;
+  published : (seat : ℕ) → seat < l.next → KnowsPublicationAt g.J.Traced.contents l.mask l.followers.items l.reader.told seat;
   tracked : (log : List (List Knew)) → length log ≡ firing.place → AreTrackedBy g.J.Traced.contents l.fn.reader.seen log l.fn.followers.items
       → (seat : ℕ) → seat < l.next → IfSome (slice_get l.followers.items seat)
       (AreTracked g.J.Traced.contents l.reader.told (counts_at seat (log ++ knew_at_seats l.fn.followers.items ∷ [])));

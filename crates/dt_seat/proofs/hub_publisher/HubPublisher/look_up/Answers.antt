@@ -1,8 +1,7 @@
 -- What is to be shown of `look_up`.
-use Rattle.std.proofs.Common.{◌≡◌, List, sym, ap, ◌∙◌, subst}
+use Rattle.std.proofs.Common.{List, sym, ap, subst}
 use mathlib.Core.List.{IsPrefix}
 use Rattle.dt_chain.specs.Writes.{Write, writes_of}
-use Rattle.dt_publisher.specs.Publishers.{Publishing}
 use Rattle.dt_publisher.specs.laws.OwnWrites.{own_begin}
 use Rattle.dt_seat.proofs.hub_publisher.HubPublisher.look_up.Goals as goal
 use Rattle.dt_seat.specs.Written.{writes_in}

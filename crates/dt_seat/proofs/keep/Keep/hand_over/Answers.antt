@@ -1,5 +1,5 @@
 -- What is to be shown of `hand_over`.
-use Rattle.std.proofs.Common.{ap, ◌∙◌, Some}
+use Rattle.std.proofs.Common.{ap, Some}
 use Rattle.dt_facts.specs.Facts.{HaveGrown, lists_in}
 use Rattle.dt_facts.specs.Handles.{BegunLists, HeldFact}
 use Rattle.dt_seat.specs.Keeps.{took_in}

@@ -1,5 +1,5 @@
 -- What is to be shown of `find_open`.
-use Rattle.std.proofs.Common.{rules, ◌≡◌, ◌<◌, ◌≤◌, ◌⊎◌, ℕ, Some, None, inl, inr, ap, sym, subst}
+use Rattle.std.proofs.Common.{rules, ◌≡◌, ◌<◌, ◌≤◌, ◌⊎◌, ℕ, Some, None, ap, sym, subst}
 use mathlib.Core.List.{IsPrefix}
 use Rattle.dt_chain.specs.Seats.{life_at}
 use Rattle.dt_chain.specs.Writes.{writes_of}

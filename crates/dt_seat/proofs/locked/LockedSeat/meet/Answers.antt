@@ -1,9 +1,8 @@
 -- What is to be shown of `meet`.
-use Rattle.std.proofs.Common.{◌≡◌, ◌+◌, ℕ, List, Option, Some, ap, sym, ◌∙◌, subst}
+use Rattle.std.proofs.Common.{◌≡◌, ℕ, List, Option, Some, ap, sym, ◌∙◌, subst}
 use mathlib.Core.List.{IsPrefix}
 use Rattle.dt_chain.specs.Writes.{Write, writes_of}
 use Rattle.dt_cred.specs.declared.account.Account.{Account}
-use Rattle.dt_facts.specs.Handles.{HeldFact}
 use Rattle.dt_facts.specs.Lives.{IsRowOfLife, lives_over}
 use Rattle.dt_facts.specs.declared.fact.LastNote.{LastNote}
 use Rattle.dt_facts.specs.declared.fact.LifeStep.{LifeStep}
@@ -18,14 +17,14 @@ use Rattle.dt_seat.proofs.Offering.{goes_on_self}
 use Rattle.dt_seat.proofs.Seats.{grows_met}
 use Rattle.dt_seat.proofs.Sitting.{notebook_goes_on, one_life, one_owner, session_goes_on}
 use Rattle.dt_seat.proofs.locked.LockedSeat.meet.Goals as goal
-use Rattle.dt_seat.specs.Keeps.{known_by, known_in, known_of, noted_in, noted_of, over_of}
+use Rattle.dt_seat.specs.Keeps.{known_by, known_in, known_of, noted_of}
 use Rattle.dt_seat.specs.Knowledge.{steps_in}
 use Rattle.dt_seat.specs.Publications.{IsPublished, writes_seen}
 use Rattle.dt_seat.specs.Seats.{Seated, TrailGoesOn}
 use Rattle.dt_seat.specs.Sessions.{Sat}
 use Rattle.dt_seat.specs.Written.{writes_in}
 use Rattle.dt_seat.specs.laws.Notes.{noted_here}
-use Rattle.dt_trail.specs.Items.{StartsWith, TrailItem, own}
+use Rattle.dt_trail.specs.Items.{TrailItem}
 use Rattle.dt_trail.specs.Known.{Grows, Known, Noted}
 use Rattle.dt_trail.specs.declared.law.Named.{Named}
 
@@ -56,6 +55,18 @@ returns-clause-trail g c =
           (subst (λ (o : Known Account). TrailGoesOn c.in-Some.present.owner o) (sym owner) (goes_on_self c.in-Some.present.owner)),
       ap (λ (o : Known Account). o.knows) owner ∙ sym (ap (λ (n : Noted Account). n.knows) c.meet_at.ensures.session),
     )
+
+pub returns-clause-over : goal.returns-clause-over
+returns-clause-over g c =
+    let inside = c.self.inside in
+    let s = c.session.inside in
+    let present_is : inside.present ≡ Some c.in-Some.present = c.in-Some.is in
+    let taken = (rw present_is at c.self.invariant.0).0 in
+    let life_is : s.life ≡ inside.life =
+    one_life inside.lives.fact s.share.fact inside.life s.life _ _ c.agree.ensures.agree taken.is_open c.session.invariant.0.is_open in
+    let steps : c.meet_at.new.follower.lives ≡ steps_in inside.lives.fact = rw c.agree.ensures.book at c.meet_at.ensures.lives_known in
+    let now : c.args.session.now.life ≡ inside.life = sym (ap (λ (x : Sat). x.life) c.session.view_is) ∙ life_is in
+    ap lives_over steps ∙ over_open (steps_in inside.lives.fact) inside.life c.in-Some.present.owner.row taken.is_open ∙ sym now
 
 pub returns-clause-shared : goal.returns-clause-shared
 returns-clause-shared g c = λ knew tracked.
