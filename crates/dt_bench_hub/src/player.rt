@@ -4,6 +4,9 @@ use dt_proto::Asked;
 use std::alloc::Global;
 use std::sync::Wait;
 
+/// What a session is asked, once it has met a processor, to know whether it still traces.
+const STATUS: &str = r#"{"cmd":"status"}"#;
+
 /// The sessions that are open on the first three seats. It isn't `Drop`: [`Player::end`] closes them.
 pub(crate) struct Player<J: HubSite> {
     first: Option<Session<J>>,
@@ -81,7 +84,21 @@ fn act<J: HubSite, R: Wait>(
     }
 }
 
-/// Tells a processor what a session knows, or lets the two meet: then it says how many items the trail has, of which none is missing.
+/// Whether a session traces, as its own `status` is answered. A session that traces now has traced since its `go`.
+fn traces<J: HubSite, R: Wait>(
+    rt: &R,
+    alloc: Global,
+    hub: &Hub<J>,
+    session: &mut Session<J>,
+) -> Option<bool> {
+    let asked = Asked::Line(STATUS.as_bytes().to_vec(alloc).ok()?);
+    let answer = hub.ask(rt, alloc, session, &asked);
+    let text = str::from_utf8(answer.text()).ok()?;
+    Some(text.contains(r#""phase":"active""#))
+}
+
+/// Tells a processor what a session knows, or lets the two meet: then it says how many items the trail has, and that it is complete, where the session still traces: then it
+/// lacks no firing that the processor made for the session once it knew of its `go`.
 fn joins<J: HubSite, R: Wait>(
     rt: &R,
     alloc: Global,
@@ -103,7 +120,12 @@ fn joins<J: HubSite, R: Wait>(
     hub.meet(rt, session, token);
     let count = hub.seen(session);
     let cpu = token.cpu();
-    let text = format!(in alloc; "{number} complete for processor {cpu}: {count} items\n").ok()?;
+    let came = if traces(rt, alloc, hub, session)? {
+        "complete for"
+    } else {
+        "met"
+    };
+    let text = format!(in alloc; "{number} {came} processor {cpu}: {count} items\n").ok()?;
     Some(text.into_bytes())
 }
 

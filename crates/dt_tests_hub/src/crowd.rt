@@ -1,8 +1,6 @@
 //! Sessions that come and go and processors that fire, each on a thread of its own.
 use crate::calls::{answered, at_seat, fired, opened};
 use crate::histories::with_scripts;
-use crate::rows;
-use crate::rows::{Row, fires_row, plays_row};
 use crate::scenes::{Scene, run};
 use crate::stays::{Firer, Stay, judged};
 use dt_chain::SEATS;
@@ -61,10 +59,6 @@ enum Work<J: HubSite> {
     Fire(Firer<J>),
     /// Opens sessions of this account, one after the other, while a processor fires.
     Trace(&'static str),
-    /// Fires a script to its end once three sessions trace.
-    FireRows(CpuSeat<J>),
-    /// Asks a row's lines before all firings and after them.
-    Ask(Row),
 }
 
 /// What threads have counted: the firings that were kept, as the processors were told, and those that stood on the sessions' trails.
@@ -74,7 +68,7 @@ struct Tally {
     seen: u64,
 }
 
-/// What a thread has counted that counts nothing.
+/// What threads have counted that did nothing yet.
 const NOTHING: Tally = Tally { kept: 0, seen: 0 };
 
 impl Tally {
@@ -94,12 +88,6 @@ pub(crate) struct Board {
     pub(crate) machine: Machine,
     /// How many processors still fire.
     firing: AtomicU64,
-    /// How many sessions of rows were opened.
-    pub(crate) opened: AtomicU64,
-    /// How many of them trace.
-    pub(crate) tracing: AtomicU64,
-    /// How many firings of rows were made.
-    pub(crate) fired: AtomicU64,
 }
 
 impl Board {
@@ -108,9 +96,6 @@ impl Board {
         Board {
             machine,
             firing: AtomicU64::new(0),
-            opened: AtomicU64::new(0),
-            tracing: AtomicU64::new(0),
-            fired: AtomicU64::new(0),
         }
     }
 }
@@ -210,11 +195,6 @@ struct Done<J: HubSite> {
     firer: Option<Firer<J>>,
 }
 
-/// What comes of a work that is done.
-fn counted<J: HubSite>(tally: Tally) -> Done<J> {
-    Done { tally, firer: None }
-}
-
 /// Does a thread's work.
 fn does<J: HubSite, R: Wait + Abort + Clock>(
     rt: &R,
@@ -234,16 +214,10 @@ fn does<J: HubSite, R: Wait + Abort + Clock>(
         }
         Work::Trace(name) => {
             let seen = come_and_go(rt, alloc, hub, board, name);
-            counted(Tally { kept: 0, seen })
-        }
-        Work::FireRows(token) => {
-            fires_row(rt, hub, board, token);
-            counted(NOTHING)
-        }
-        Work::Ask(row) => {
-            let played = plays_row(rt, alloc, hub, board, row);
-            assert!(rt; played.is_ok(), "out of memory");
-            counted(NOTHING)
+            Done {
+                tally: Tally { kept: 0, seen },
+                firer: None,
+            }
         }
     }
 }
@@ -329,32 +303,6 @@ pub(crate) fn plays<J: HubSite + Send + Sync, R: Threads + Wait + Abort + Clock 
     assert_eq!(rt; tally.kept, tally.seen);
     assert!(rt; tally.kept > 0, "no firing was kept");
     Ok(())
-}
-
-/// Two processors that fire once three sessions of rows trace.
-pub(crate) fn plays_rows<J: HubSite + Send + Sync, R: Threads + Wait + Abort + Clock + Sync>(
-    rt: &R,
-    alloc: Global,
-    hub: &Hub<J>,
-    tokens: Vec<CpuSeat<J>>,
-) -> Result<(), Fail> {
-    let board = Board::new(Machine::read(alloc, rows::MACHINE.as_bytes())?);
-    let mut works = Vec::new(alloc);
-    for token in tokens {
-        works.push(Work::FireRows(token))?;
-    }
-    for row in [Row::Switch, Row::History, Row::Store] {
-        works.push(Work::Ask(row))?;
-    }
-    assert_eq!(rt; works.len(), 5);
-    let _done = all_do(rt, alloc, hub, &board, works)?;
-    Ok(())
-}
-
-/// Each trail of a row is answered as it is due, and each firing is kept where it should be, by processors that were told nothing.
-#[test]
-fn three_rows_agree(rt: HostRuntime) -> Result<(), Fail> {
-    run(&rt, rt.alloc(), rows::MACHINE, Scene::Rows)
 }
 
 /// Each trail is answered as it is due, and has the firings that the processors were told are kept. The sessions that stayed share a row with each processor.

@@ -155,33 +155,6 @@ fn goes_on<J: HubSite, R: Wait + Abort>(
     Ok(())
 }
 
-/// A session and two processors that meet as it traces, and once it has stopped.
-struct Told;
-
-impl Play for Told {
-    fn play<J: HubSite, R: Wait + Abort>(
-        &self,
-        rt: &R,
-        alloc: Global,
-        hub: &Hub<J>,
-        tokens: Vec<CpuSeat<J>>,
-    ) -> Result<(), Fail> {
-        let (one, other) = both(rt, tokens)?;
-        let mut session = opened(rt, alloc, hub, "root");
-        let mut one = Firing::new(alloc, one, &session);
-        let mut other = Firing::new(alloc, other, &session);
-        let met = goes_on(rt, alloc, hub, &mut session, &mut one, &mut other);
-        hub.close(rt, session);
-        met?;
-        Ok(())
-    }
-}
-
-#[test]
-fn met_session_and_processor_know_the_same(rt: HostRuntime) -> Result<(), Fail> {
-    run(&rt, rt.alloc(), MACHINE, &Told)
-}
-
 /// A firing ends the life of a session; then its processors fire as it is named, and once it isn't.
 fn fills_up<J: HubSite, R: Wait + Abort>(
     rt: &R,
@@ -215,10 +188,46 @@ fn fills_up<J: HubSite, R: Wait + Abort>(
     Ok(())
 }
 
-/// A session whose history is full, and processors that fire on.
-struct Filled;
+/// A processor fires before a session goes, as it traces, and once it has stopped; then they meet.
+fn keeps_one<J: HubSite, R: Wait + Abort>(
+    rt: &R,
+    alloc: Global,
+    hub: &Hub<J>,
+    session: &mut Session<J>,
+    firing: &mut Firing<J>,
+    is_told: bool,
+) -> Result<(), AllocError> {
+    let stopped = Sight {
+        stop: Some(2),
+        ..GOES
+    };
+    says(rt, alloc, hub, session, ENABLE, ENABLED);
+    comes_to(rt, hub, firing, Offered::NotNamed)?;
+    says(rt, alloc, hub, session, GO, DONE);
+    if is_told {
+        tells(hub, session, firing, 2);
+    }
+    comes_to(rt, hub, firing, Offered::Kept)?;
+    says(rt, alloc, hub, session, STOP, DONE);
+    comes_to(rt, hub, firing, Offered::NotNamed)?;
+    assert_eq!(rt; fired(rt, hub, &mut firing.token, &NoGate), Fired::End);
+    assert_eq!(rt; meet(rt, alloc, hub, session, firing, stopped)?, 4);
+    assert_eq!(rt; hub.seen(session), 4);
+    Ok(())
+}
 
-impl Play for Filled {
+/// How a session and two processors go on until they meet.
+#[derive(Clone, Copy)]
+enum Course {
+    /// Of a script of three firings one is kept, by a processor that was told of the `go`, or that wasn't.
+    KeepsOne { is_told: bool },
+    /// They meet as the session traces, and once it has stopped.
+    GoesOn,
+    /// The session's history is full, and the processors fire on.
+    FillsUp,
+}
+
+impl Play for Course {
     fn play<J: HubSite, R: Wait + Abort>(
         &self,
         rt: &R,
@@ -230,7 +239,13 @@ impl Play for Filled {
         let mut session = opened(rt, alloc, hub, "root");
         let mut one = Firing::new(alloc, one, &session);
         let mut other = Firing::new(alloc, other, &session);
-        let met = fills_up(rt, alloc, hub, &mut session, &mut one, &mut other);
+        let met = match *self {
+            Course::KeepsOne { is_told } => {
+                keeps_one(rt, alloc, hub, &mut session, &mut other, is_told)
+            }
+            Course::GoesOn => goes_on(rt, alloc, hub, &mut session, &mut one, &mut other),
+            Course::FillsUp => fills_up(rt, alloc, hub, &mut session, &mut one, &mut other),
+        };
         hub.close(rt, session);
         met?;
         Ok(())
@@ -238,8 +253,21 @@ impl Play for Filled {
 }
 
 #[test]
+fn the_firing_between_go_and_stop_is_kept(rt: HostRuntime) -> Result<(), Fail> {
+    for is_told in [false, true] {
+        run(&rt, rt.alloc(), MACHINE, &Course::KeepsOne { is_told })?;
+    }
+    Ok(())
+}
+
+#[test]
+fn met_session_and_processor_know_the_same(rt: HostRuntime) -> Result<(), Fail> {
+    run(&rt, rt.alloc(), MACHINE, &Course::GoesOn)
+}
+
+#[test]
 fn a_session_is_met_whose_history_is_full(rt: HostRuntime) -> Result<(), Fail> {
-    run(&rt, rt.alloc(), MACHINE, &Filled)
+    run(&rt, rt.alloc(), MACHINE, &Course::FillsUp)
 }
 
 /// The first life of the seat: one processor takes its note, and the other is told of it.

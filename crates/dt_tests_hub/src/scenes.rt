@@ -3,7 +3,7 @@
 ghost use Rattle.std.specs.Prelude.{◌≡◌};
 
 use crate::gates::Meanwhile;
-use crate::{crowd, gates, meeting};
+use crate::{crowd, gates, meeting, rows};
 use dt_hub::{Hub, HubParts, HubSite};
 use dt_machine::Machine;
 use std::alloc::Global;
@@ -23,7 +23,7 @@ pub(crate) enum Scene {
     Meeting,
     /// Sessions come and go, and processors fire.
     Crowd,
-    /// Three sessions ask the lines of rows, and two processors fire.
+    /// Three sessions ask the lines of rows, two processors fire, and then they meet.
     Rows,
 }
 
@@ -54,7 +54,7 @@ fn staged<J: HubSite + Send + Sync, R: Threads + Wait + Abort + Clock + Sync>(
         Scene::Held(meanwhile) => gates::plays(rt, alloc, &hub, tokens, meanwhile),
         Scene::Meeting => meeting::plays(rt, alloc, &hub, tokens),
         Scene::Crowd => crowd::plays(rt, alloc, &hub, tokens),
-        Scene::Rows => crowd::plays_rows(rt, alloc, &hub, tokens),
+        Scene::Rows => rows::plays(rt, alloc, &hub, tokens),
     };
     hub.end(rt);
     result
