@@ -1,8 +1,8 @@
 //! Plays step lines on a hub, which `examples/test` compares, and has sessions and processors at work on one, which `bench/hub` measures.
 //!
 //! `play MACHINE STEPS` plays the lines one after the other, in one thread, and writes the replies as `dtraced replay` does. Lines are `open SEAT ACCOUNT`,
-//! `call SEAT LINE`, `fire CPU`, `tell SEAT CPU`, `meet SEAT CPU` and `close SEAT`; the seats are the first three. To a `meet` it writes for which processor the seat's
-//! trail is complete, and how many items it has. `measure MACHINE INTERESTED OTHERS` opens so many sessions that enable the
+//! `call SEAT LINE`, `fire CPU`, `tell SEAT CPU`, `meet SEAT CPU` and `close SEAT`; the seats are the first three. To a `meet` it writes which processor was met,
+//! whether the seat's trail is complete for it, which is where the session still traces by its `status`, and how many items the trail had. `measure MACHINE INTERESTED OTHERS` opens so many sessions that enable the
 //! probe of the scripts, and so many that enable another, and lets the last two processors fire their whole scripts, one after the other, or, with the word `together`, at
 //! the same time, each on a thread of its own; with one more word, that many firings each, one after the other. It writes how many firings were made. With no word the
 //! program does nothing.
