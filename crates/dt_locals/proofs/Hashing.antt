@@ -11,7 +11,7 @@ use Rattle.dt_locals.specs.Values.{is_set}
 use Rattle.dt_locals.specs.Slots.{free_slot, slot_at, value_at, local_at, taken_count, HasValue, AreHashed, IsSlotFor}
 use Rattle.dt_locals.specs.declared.slots.LocalSlot.{LocalSlot}
 use Rattle.dt_locals.specs.declared.variable.LocalVariable.{LocalVariable}
-use Rattle.dt_locals.proofs.Same.{zero_or, set_yes}
+use Rattle.dt_locals.specs.laws.Same.{zero_or, set_yes}
 
 abbrev pub IsTaken : LocalSlot → Type 0
 IsTaken slot = slot.value ≢ pos 0

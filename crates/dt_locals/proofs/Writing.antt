@@ -8,7 +8,7 @@ use Rattle.dt_locals.specs.History.{same_local}
 use Rattle.dt_locals.specs.Slots.{free_slot, slot_at, value_at, local_at, HasValue, AreHashed, AreHashedBut, IsSlotFor}
 use Rattle.dt_locals.specs.declared.slots.LocalSlot.{LocalSlot}
 use Rattle.dt_locals.specs.declared.variable.LocalVariable.{LocalVariable}
-use Rattle.dt_locals.proofs.Same.{local_same, local_other, one_or_two}
+use Rattle.dt_locals.specs.laws.Same.{local_same, local_other, one_or_two}
 use Rattle.dt_locals.proofs.Hashing.{IsTaken, none_between, found_only}
 
 abbrev Local-of : LocalSlot → LocalVariable

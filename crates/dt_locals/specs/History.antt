@@ -17,12 +17,13 @@ pub record LocalsPast : Type 0 where
 abbrev pub new_locals_past : ℕ → LocalsPast
 new_locals_past dynvarsize = record { dynvarsize = dynvarsize; assignments = [] }
 
+-- the past, some assignments longer
+abbrev pub locals_then : LocalsPast → List Assignment → LocalsPast
+locals_then past assignments = record { dynvarsize = past.dynvarsize; assignments = past.assignments ++ assignments }
+
 -- the past, one assignment longer
 abbrev pub locals_after : LocalsPast → Assignment → LocalsPast
-locals_after past assignment = record {
-  dynvarsize = past.dynvarsize;
-  assignments = past.assignments ++ assignment ∷ [];
-}
+locals_after past assignment = locals_then past (assignment ∷ [])
 
 -- the variable of this name of a thread of a process
 abbrev pub local_of : ℕ → ℕ → List ℕ → LocalVariable

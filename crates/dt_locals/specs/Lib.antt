@@ -10,3 +10,5 @@ pub mod LocalsAreAt
 -- Private to the crate: no public contract names them.
 pub mod Hash
 pub mod Slots
+-- The laws of these.
+pub mod laws

@@ -1,21 +1,27 @@
 //! What holds of the definitions alone.
-ghost use Rattle.std.specs.Prelude.{◌≡◌, ◌≢◌, ◌+◌, ℕ, pos, Bool, List, cond};
+ghost use Rattle.std.specs.Prelude.{◌≡◌, ◌≢◌, ◌+◌, ℕ, pos, Bool, List, [], ◌∷◌, ◌++◌, cond, length};
 ghost use Rattle.std.specs.List.{IsDistinct, list_any};
-ghost use Rattle.dt_locals.specs.History.{Assignment, LocalsPast, new_locals_past, locals_after, local_of, same_local};
+ghost use Rattle.dt_locals.specs.History.{Assignment, LocalsPast, new_locals_past, locals_after, locals_then, local_of, same_local};
 ghost use Rattle.dt_locals.specs.Values.{assigned_locals, assigns, is_set, set_count};
 ghost use Rattle.dt_locals.specs.Kept.{IsLocalsChoice};
 ghost use Rattle.dt_locals.specs.Chosen.{is_kept_assignment, locals_choice, value_after, local_drops};
 ghost use Rattle.dt_locals.specs.declared.variable.LocalVariable.{LocalVariable};
 
-/// Each past has exactly one choice, which is `locals_choice`.
+/// Each past has exactly one choice, which is `locals_choice`. What comes later changes none of it.
 pub fn one_locals_choice()
     ensures value { (past : LocalsPast) → IsLocalsChoice past (locals_choice past) }
     ensures one { (past : LocalsPast) (a b : List Bool) → IsLocalsChoice past a → IsLocalsChoice past b → a ≡ b }
+    ensures begins { (assignments : List Assignment) (past : LocalsPast) → (more : List Bool)
+        × (length more ≡ length assignments)
+        × (locals_choice (locals_then past assignments) ≡ locals_choice past ++ more) }
 {}
 
-/// What one assignment does: its variable has its value if it is kept, and else is 0; every other keeps its own; as many more or
+/// What one assignment does: the choice gets one place more, chosen where it is kept; its variable has its value if it is kept, and else is 0; every other keeps its own; as many more or
 /// fewer aren't 0 as that makes; and it is a drop where it isn't kept.
 pub fn one_assignment()
+    ensures chosen { (past : LocalsPast) (assignment : Assignment) → locals_choice (locals_after past assignment)
+        ≡ locals_choice past
+        ++ is_kept_assignment past.dynvarsize past.assignments (locals_choice past) assignment ∷ [] }
     ensures own { (past : LocalsPast) (assignment : Assignment)
         → value_after (locals_after past assignment) assignment.variable
         ≡ cond (is_kept_assignment past.dynvarsize past.assignments (locals_choice past) assignment)

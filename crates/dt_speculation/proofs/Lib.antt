@@ -5,3 +5,4 @@ pub mod Places
 pub mod Uses
 pub mod Pasts
 pub mod Definite
+pub mod Dropping

@@ -48,23 +48,21 @@ module _ (size : ℕ) (records : List (List ℕ)) (bytes : List ℕ) (old new : 
 
 -- A record is kept exactly where it fits, since records have one choice.
 module _ (one : (size : ℕ) (attempts : List (List ℕ)) (a b : List Bool) → IsFittingChoice size attempts a
-    → IsFittingChoice size attempts b → a ≡ b) (size : ℕ) (records : List (List ℕ)) (bytes : List ℕ) (part : SpecPart)
-    (s : PartIsAt size records part) (b : Bool) (fits : IsTrue b ↔ (length part.kept.items + length bytes ≤ part.size)) where
-  more : IsFittingChoice size (records ++ bytes ∷ []) (s.shows.chosen ++ b ∷ [])
+    → IsFittingChoice size attempts b → a ≡ b) (size : ℕ) (records : List (List ℕ)) (bytes part : List ℕ) (drops : ℕ)
+    (s : ShowsSwitch size records part drops) (b : Bool) (fits : IsTrue b ↔ (length part + length bytes ≤ size)) where
+  more : IsFittingChoice size (records ++ bytes ∷ []) (s.chosen ++ b ∷ [])
   more =
       let P : ℕ → Type 0 = λ n. IsTrue b ↔ (n + length bytes ≤ size) in
-      let Q : ℕ → Type 0 = λ n. IsTrue b ↔ (length part.kept.items + length bytes ≤ n) in
-      choice_more size records s.shows.chosen bytes b s.shows.choice
-      (subst P (ap length s.shows.kept) (subst Q s.same_size fits))
+      choice_more size records s.chosen bytes b s.choice (subst P (ap length s.kept) fits)
 
-  last_bit : get_or (s.shows.chosen ++ b ∷ []) (length records) false ≡ b
-  last_bit = get_or-last s.shows.chosen b false (length records) (sym s.shows.choice.whole)
+  last_bit : get_or (s.chosen ++ b ∷ []) (length records) false ≡ b
+  last_bit = get_or-last s.chosen b false (length records) (sym s.choice.whole)
 
   pub part_keeps : IsTrue b ↔ KeepsSwitch size records bytes
   part_keeps =
       let P : Bool → Type 0 = λ x. IsTrue x in
       let Q : List Bool → Type 0 = λ c. IsTrue (get_or c (length records) false) in (
-        (λ t. record { chosen = s.shows.chosen ++ b ∷ []; choice = more; last = subst P (sym last_bit) t }),
+        (λ t. record { chosen = s.chosen ++ b ∷ []; choice = more; last = subst P (sym last_bit) t }),
         (λ k. subst P last_bit (subst Q
-            (one size (records ++ bytes ∷ []) k.chosen (s.shows.chosen ++ b ∷ []) k.choice more) k.last)),
+            (one size (records ++ bytes ∷ []) k.chosen (s.chosen ++ b ∷ []) k.choice more) k.last)),
       )

@@ -18,10 +18,10 @@ pub record SpecPast : Type 0 where
 abbrev pub new_spec_past : ℕ → ℕ → SpecPast
 new_spec_past nspec specsize = record { nspec = nspec; specsize = specsize; events = [] }
 
+-- the past, some events longer
+abbrev pub specs_then : SpecPast → List SpecEvent → SpecPast
+specs_then past events = record { nspec = past.nspec; specsize = past.specsize; events = past.events ++ events }
+
 -- the past, one event longer
 abbrev pub spec_after : SpecPast → SpecEvent → SpecPast
-spec_after past event = record {
-  nspec = past.nspec;
-  specsize = past.specsize;
-  events = past.events ++ event ∷ [];
-}
+spec_after past event = specs_then past (event ∷ [])

@@ -6,6 +6,7 @@ pub mod History
 pub mod Uses
 pub mod Records
 pub mod Answers
+pub mod Parts
 pub mod IsAt
 -- The laws of these.
 pub mod laws

@@ -2,3 +2,6 @@
 pub mod Joins
 pub mod Steps
 pub mod Lives
+pub mod Parts
+pub mod Drops
+pub mod Pieces

@@ -1,9 +1,13 @@
 //! What holds of the definitions alone: a past gives one answer, and what one event does to every identifier.
-ghost use Rattle.std.specs.Prelude.{◌≡◌, ◌≢◌, ◌≤◌, ◌⊎◌, ℕ, Bool, true, false, List, [], ◌∷◌, ◌++◌};
-ghost use Rattle.dt_speculation.specs.Answers.{AreAnswered, DrawAnswers, IsLeastFree};
-ghost use Rattle.dt_speculation.specs.History.{SpecEvent, SpecPast, draw, free, put_under};
+ghost use Rattle.std.specs.Prelude.{◌≡◌, ◌≢◌, ◌+◌, ◌≤◌, ◌⊎◌, ◌↔◌, ℕ, Bool, true, false, cond, List, [], ◌∷◌, ◌++◌};
+ghost use Rattle.dt_buffer.specs.Choice.{chosen_bytes};
+ghost use Rattle.dt_speculation.specs.Answers.{AreAnswered, DrawAnswers, IsLeastFree, SpecPutAnswers};
+ghost use Rattle.dt_speculation.specs.History.{SpecEvent, SpecPast, draw, free, put_under, spec_after};
+ghost use Rattle.dt_speculation.specs.Parts.{draw_answer, is_dropped, part_bytes, spec_drops};
 ghost use Rattle.dt_speculation.specs.Records.{HasPart, records_of, records_under};
 ghost use Rattle.dt_speculation.specs.Uses.{is_freed, is_in_use, until_freed};
+ghost use Rattle.dt_speculation.specs.declared.answer.SpecPut.{SpecPut};
+ghost use Rattle.dt_speculation.specs.declared.answer.SpecPut.TheVariants.{Dropped};
 
 use dt_buffer::one_choice;
 
@@ -65,3 +69,27 @@ pub fn draws_last()
         → (is_in_use id past.events ≡ true) × ((cpu : ℕ) → records_of id cpu past.events ≡ records_under id cpu later) }
     ensures until { (id : ℕ) (later rest : List SpecEvent) → is_freed id later ≡ false → until_freed id (later ++ free id ∷ rest) ≡ later }
 {}
+
+/// The functions read off a past what the relations say of it: the answer of a draw, and the bytes of a part.
+pub fn read_off_pasts()
+    ensures answer { (past : SpecPast) → DrawAnswers past.nspec past.events (draw_answer past) }
+    ensures part { (past : SpecPast) (id cpu : ℕ) → HasPart past id cpu (part_bytes past id cpu) }
+{}
+
+/// What a part keeps is some of the records put under its identifier on its processor since that was drawn, whole and one after
+/// another.
+pub fn parts_of_records()
+    ensures { (past : SpecPast) (id cpu : ℕ)
+        → (chosen : List Bool) × (part_bytes past id cpu ≡ chosen_bytes (records_of id cpu past.events) chosen) }
+{}
+
+/// A put answers that the record was dropped exactly where its part drops it; and one event more is one drop more of a processor
+/// exactly where a part of it drops a record by it.
+pub fn drops_told()
+    ensures told { (past : SpecPast) (id cpu : ℕ) (bytes : List ℕ) (answer : SpecPut) → SpecPutAnswers past id cpu bytes answer
+        → (answer ≡ Dropped) ↔ (is_dropped cpu past (put_under id cpu bytes) ≡ true) }
+    ensures counted { (past : SpecPast) (event : SpecEvent) (cpu : ℕ) → spec_drops (spec_after past event) cpu
+        ≡ spec_drops past cpu + cond (is_dropped cpu past event) 1 0 }
+{
+    one_choice();
+}

@@ -17,7 +17,10 @@ mod speculation;
 mod speculations;
 
 pub use answer::SpecPut;
-pub use laws::{draws_begin, draws_last, frees_end, one_answer, one_part, puts_add};
+pub use laws::{
+    draws_begin, draws_last, drops_told, frees_end, one_answer, one_part, parts_of_records,
+    puts_add, read_off_pasts,
+};
 pub use limit_laws::limits_agree;
 pub use limits::{CPUS_MAX, FAILS_LIMIT, NSPEC_MAX, SPECSIZE_MAX, SPECSIZE_MIN};
 pub use speculations::Specs;

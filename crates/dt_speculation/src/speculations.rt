@@ -1,6 +1,7 @@
 //! The speculative buffers of one consumer.
 ghost use Rattle.std.specs.Prelude.{◌≡◌, ◌+◌, ◌<◌, ◌≤◌, ◌⊎◌, ◌==◌, IfOk, MatchOption, true, length, vec_len, if◌then◌else◌};
 ghost use Rattle.std.specs.List.{All};
+ghost use Rattle.dt_speculation.specs.declared.limits.TheConstants.{NSPEC_MAX};
 
 use crate::answer::SpecPut;
 use crate::limits::{CPUS_MAX, FAILS_LIMIT, NSPEC_MAX, SPECSIZE_MAX, SPECSIZE_MIN};
@@ -14,11 +15,12 @@ pub struct Specs {
     pub(crate) all: Vec<Speculation>,
     pub(crate) cpus: usize,
     pub(crate) fails: u64,
+    ghost few: { vec_len all ≤ NSPEC_MAX },
     ghost parts: { All (λ one. vec_len one.parts ≡ cpus) all.items },
 }
 
 impl Specs {
-    ghost use Rattle.dt_speculation.specs.declared.limits.TheConstants.{CPUS_MAX, FAILS_LIMIT, NSPEC_MAX, SPECSIZE_MAX, SPECSIZE_MIN};
+    ghost use Rattle.dt_speculation.specs.declared.limits.TheConstants.{CPUS_MAX, FAILS_LIMIT, SPECSIZE_MAX, SPECSIZE_MIN};
     ghost use Rattle.dt_speculation.specs.History.{SpecPast, draw, free, new_spec_past, put_under, spec_after};
     ghost use Rattle.dt_speculation.specs.Answers.{DrawAnswers, SpecPutAnswers, failed_draws};
     ghost use Rattle.dt_speculation.specs.Records.{HasPart};
@@ -59,6 +61,7 @@ impl Specs {
         ensures answers { (past : SpecPast) → SpecsAt past self.old → DrawAnswers past.nspec past.events result }
         ensures stands { (past : SpecPast) → SpecsAt past self.old → SpecsAt (spec_after past (draw result)) self.new }
         ensures fails { fails_of self.new ≡ (if result == 0 then fails_of self.old + 1 else fails_of self.old) }
+        ensures few { result ≤ NSPEC_MAX }
         ensures cpus { cpus_of self.new ≡ cpus_of self.old }
     {
         let Some(place) = self.first_free() else {

@@ -1,5 +1,5 @@
 -- Nothing was assigned.
-use Rattle.dt_locals.proofs.Pasts.{fresh_value, fresh_drops}
+use Rattle.dt_locals.specs.laws.After.{fresh_value, fresh_drops}
 use Rattle.dt_locals.proofs.laws.all_zero_at_first.Goals as goal
 
 pub returns-clause-values : goal.returns-clause-values

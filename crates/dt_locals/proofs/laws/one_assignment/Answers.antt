@@ -3,9 +3,13 @@ use Rattle.std.proofs.Common.{◌≡◌, ◌+◌, ℕ, Bool, true, false, cond, 
 use Rattle.std.specs.Prelude.{not}
 use Rattle.dt_locals.specs.Values.{set_count, is_set}
 use Rattle.dt_locals.specs.Chosen.{locals_choice, value_after, local_drops}
-use Rattle.dt_locals.proofs.Same.{local_same, local_other}
-use Rattle.dt_locals.proofs.Pasts.{Kept, Gives, value_more, count_more, drops_more}
+use Rattle.dt_locals.specs.laws.Choices.{locals_choice-after}
+use Rattle.dt_locals.specs.laws.Same.{local_same, local_other}
+use Rattle.dt_locals.specs.laws.After.{Kept, Gives, value_more, count_more, drops_more}
 use Rattle.dt_locals.proofs.laws.one_assignment.Goals as goal
+
+pub returns-clause-chosen : goal.returns-clause-chosen
+returns-clause-chosen c = locals_choice-after
 
 pub returns-clause-own : goal.returns-clause-own
 returns-clause-own c = λ past assignment.

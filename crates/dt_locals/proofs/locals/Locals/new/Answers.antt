@@ -1,7 +1,7 @@
 -- All are 0, and nothing was dropped.
 use Rattle.std.proofs.Common.{sym, subst}
 use Rattle.dt_locals.specs.Slots.{HasValue}
-use Rattle.dt_locals.proofs.Pasts.{fresh_value, fresh_drops}
+use Rattle.dt_locals.specs.laws.After.{fresh_value, fresh_drops}
 use Rattle.dt_locals.proofs.locals.Locals.new.Goals as goal
 
 pub returns-clause-stands : goal.returns-clause-stands

@@ -3,7 +3,7 @@ use Rattle.std.proofs.Common.{◌≡◌, ℕ, ◌+◌, Bool, true, false, cond, 
 use Rattle.std.specs.Prelude.{not}
 use Rattle.std.proofs.lemmas.Int.{to_z-of_z}
 use Rattle.dt_locals.specs.History.{assigned}
-use Rattle.dt_locals.proofs.Assigning.{Bit}
+use Rattle.dt_locals.specs.laws.Assigning.{Bit}
 use Rattle.dt_locals.proofs.Pasts.{keeps, has, stands}
 use Rattle.dt_locals.proofs.locals.Locals.set.Goals as goal
 

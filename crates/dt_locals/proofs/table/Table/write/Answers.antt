@@ -8,8 +8,8 @@ use Rattle.std.proofs.lemmas.List.Sums.{sum_by-set}
 use Rattle.dt_locals.specs.Hash.{home_in}
 use Rattle.dt_locals.specs.Slots.{free_slot, slot_at, value_at}
 use Rattle.dt_locals.specs.declared.slots.LocalSlot.{LocalSlot}
-use Rattle.dt_locals.proofs.Same.{set_yes, set_no}
-use Rattle.dt_locals.proofs.Assigning.{Bit}
+use Rattle.dt_locals.specs.laws.Same.{set_yes, set_no}
+use Rattle.dt_locals.specs.laws.Assigning.{Bit}
 use Rattle.dt_locals.proofs.Hashing.{Counted}
 use Rattle.dt_locals.proofs.Writing.{written_values, written_hashed}
 use Rattle.dt_locals.proofs.table.Table.write.Goals as goal

@@ -6,8 +6,8 @@ use Rattle.dt_speculation.proofs.part.SpecPart.put.Goals as goal
 
 pub returns-then-self-len-clause-kept : goal.returns-then-self-len-clause-kept
 returns-then-self-len-clause-kept c = λ size records s.
-    part_keeps c.one_choice.ensures.one size records c.args.bytes.now c.args.self.now s false
-    ((λ e. absurd (false≢true e)), (λ fits. absurd (omega arith)))
+    part_keeps c.one_choice.ensures.one size records c.args.bytes.now c.args.self.now.kept.items s.drops s.shows false
+    ((λ e. absurd (false≢true e)), (λ fits. absurd (omega (arith, s.same_size))))
 
 pub returns-then-self-len-clause-stands : goal.returns-then-self-len-clause-stands
 returns-then-self-len-clause-stands c = λ size records s.
@@ -15,8 +15,8 @@ returns-then-self-len-clause-stands c = λ size records s.
 
 pub returns-clause-kept : goal.returns-clause-kept
 returns-clause-kept c = λ size records s.
-    part_keeps c.one_choice.ensures.one size records c.args.bytes.now c.args.self.now s true
-    ((λ _. omega arith), (λ _. refl))
+    part_keeps c.one_choice.ensures.one size records c.args.bytes.now c.args.self.now.kept.items s.drops s.shows true
+    ((λ _. omega (arith, s.same_size)), (λ _. refl))
 
 pub returns-clause-stands : goal.returns-clause-stands
 returns-clause-stands c = λ size records s.

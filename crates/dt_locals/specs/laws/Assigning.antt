@@ -11,7 +11,7 @@ use Rattle.std.proofs.lemmas.List.Sums.{sum_by-append, sum_by-cons}
 use Rattle.dt_locals.specs.History.{Assignment, same_local}
 use Rattle.dt_locals.specs.Values.{assigns, last_assignment, given_by, local_value, assigned_locals, is_set, set_count}
 use Rattle.dt_locals.specs.declared.variable.LocalVariable.{LocalVariable}
-use Rattle.dt_locals.proofs.Same.{local_is, local_same, set_no}
+use Rattle.dt_locals.specs.laws.Same.{local_is, local_same, set_no}
 
 -- ---- lists
 

@@ -11,11 +11,11 @@ use Rattle.std.proofs.lemmas.Bool.Decides.{Decides-int_eq}
 use Rattle.std.proofs.lemmas.List.{append_assoc, append-nil, take-append-le, take_all, length_push}
 use Rattle.std.proofs.lemmas.Option.{slice_get_within}
 use Rattle.dt_locals.specs.Limits.{local_size}
-use Rattle.dt_locals.specs.History.{Assignment, LocalsPast, locals_after}
+use Rattle.dt_locals.specs.History.{Assignment, LocalsPast, locals_after, locals_then}
 use Rattle.dt_locals.specs.Values.{local_value, set_count, is_set}
 use Rattle.dt_locals.specs.Kept.{IsKeptAssignment, IsLocalsChoice}
 use Rattle.dt_locals.specs.Chosen.{is_kept_assignment, locals_choice}
-use Rattle.dt_locals.proofs.Same.{set_is, set_yes}
+use Rattle.dt_locals.specs.laws.Same.{set_is, set_yes}
 
 -- what is true exactly where the same holds is the same
 pub same_bits : (x y : Bool) (P : Type 0) → IsTrue x ↔ P → IsTrue y ↔ P → x ≡ y
@@ -211,3 +211,22 @@ locals_choice-after past assignment =
     (is_choice (locals_after past assignment))
     (choice_more past chosen assignment b (is_choice past)
     (kept_exactly past.dynvarsize past.assignments chosen assignment))
+
+-- the choice of a past that is some assignments longer begins with that of the past
+pub locals_choice-then : (assignments : List Assignment) (past : LocalsPast)
+    → (more : List Bool) × (length more ≡ length assignments)
+    × (locals_choice (locals_then past assignments) ≡ locals_choice past ++ more)
+locals_choice-then [] past = (
+  [],
+  refl,
+  ap (λ l. locals_choice (Of past.dynvarsize l)) (append-nil past.assignments) ∙ sym (append-nil (locals_choice past)),
+)
+locals_choice-then (assignment ∷ assignments) past =
+    let b = is_kept_assignment past.dynvarsize past.assignments (locals_choice past) assignment in
+    let rest = locals_choice-then assignments (locals_after past assignment) in (
+      b ∷ rest.0,
+      ap suc rest.1,
+      ap (λ l. locals_choice (Of past.dynvarsize l)) (sym (append_assoc past.assignments (assignment ∷ []) assignments))
+          ∙ rest.2 ∙ ap (λ c. c ++ rest.0) (locals_choice-after past assignment)
+          ∙ append_assoc (locals_choice past) (b ∷ []) rest.0,
+    )
