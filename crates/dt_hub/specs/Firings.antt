@@ -41,10 +41,12 @@ abbrev pub KnowsPublicationAt : Contents → SeatMask → List Followed → (tol
 KnowsPublicationAt contents mask at_seats told seat =
     IfSome (life_at mask seat) (λ life. IfSome (slice_get at_seats seat) (λ f. KnowsPublication contents life f told))
 
--- A processor looks after all writes that it saw before and was told of, and finds the seats that these writes name for its next firing. It knows of these writes then.
+-- A processor looks after all writes that it saw before and was told of, and finds the seats that these writes name for its next firing, which is its own. It knows of these
+-- writes then.
 pub record LooksAfter (contents : Contents) (old new : Processing) (place : ℕ) (firing : Firing) (mask : SeatMask) : Type 0 where
   pub place_is : place ≡ old.place
   pub firing_is : firing_at contents.scripts old.cpu old.place ≡ Some firing
+  pub of_processor : (firing.cpu ≡ old.cpu) × (firing.place ≡ place)
   pub seen : IsPrefix old.seen new.seen
   pub told : IsPrefix old.told new.seen
   pub knows : IsPrefix new.seen new.told

@@ -5,16 +5,18 @@ use Rattle.dt_hub.specs.Processors.{Processing, counts_at}
 use Rattle.dt_legal.specs.Rows.{IsLegalRow}
 use Rattle.dt_machine.specs.Registry.{Contents}
 use Rattle.dt_meeting.specs.Sharing.{IsShared}
+use Rattle.dt_seat.specs.Publications.{IsPublished}
 use Rattle.dt_seat.specs.Keeps.{Carries, Followed, known_of, noted_of, over_of}
 use Rattle.dt_seat.specs.Sessions.{Sat}
 use Rattle.dt_trail.specs.Items.{StartsWith, TrailItem, own}
 
--- The session knows its whole trail, which begins with what it knew, has no further line, and is legal.
+-- The session knows of its trail what begins with all that it knew, has no further line, and is legal; and of each accepted `go` in it the publication.
 pub record HasSeenAll (contents : Contents) (old new : Sat) : Type 0 where
   pub same : (new.seat ≡ old.seat) × (new.life ≡ old.life) × (new.row ≡ old.row) × (new.account ≡ old.account) × (new.published ≡ old.published)
   pub longer : StartsWith new.knows old.knows
   pub lines : own 0 new.knows ≡ own 0 old.knows
   pub legal : IsLegalRow new.account contents new.knows
+  pub own_go : IsPublished contents new.seat new.life new.account new.knows new.published
 
 -- The processor knows the same of the session's life, by its note, and that the life isn't over, and what the session published. It has lost nothing, and all else is as it was.
 -- Its own firings in the trail are those that its note knew.

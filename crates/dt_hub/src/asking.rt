@@ -59,6 +59,8 @@ impl<J: HubSite> Hub<J> {
         ensures longer { StartsWith session.new.knows session.old.knows }
         ensures lines { own 0 session.new.knows ≡ own 0 session.old.knows }
         ensures legal { IsLegalRow session.new.account J.contents session.new.knows }
+        ensures own_go { IsPublished J.contents session.new.seat session.new.life session.new.account session.new.knows
+            session.new.published }
         ensures same { (session.new.seat ≡ session.old.seat) × (session.new.life ≡ session.old.life)
             × (session.new.row ≡ session.old.row) × (session.new.published ≡ session.old.published)
             × (session.new.account ≡ session.old.account) }

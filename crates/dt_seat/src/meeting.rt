@@ -3,6 +3,7 @@ ghost use Rattle.std.specs.Prelude.{◌≡◌, ◌<◌, ◌+◌, ℕ, List, IsSo
 ghost use Rattle.dt_legal.specs.Rows.{IsLegalRow};
 ghost use Rattle.dt_meeting.specs.Sharing.{IsShared};
 ghost use Rattle.dt_seat.specs.Keeps.{Carries, known_by, known_of, noted_of, over_of};
+ghost use Rattle.dt_seat.specs.Publications.{IsPublished};
 ghost use Rattle.dt_seat.specs.Seats.{StaysOn};
 ghost use Rattle.dt_seat.specs.Tracked.{AreTracked};
 ghost use Rattle.dt_trail.specs.Items.{StartsWith, TrailItem, own};
@@ -40,6 +41,7 @@ impl<J: HubSite> LockedSeat<J> {
         ensures longer { StartsWith session.new.knows session.old.knows }
         ensures lines { own 0 session.new.knows ≡ own 0 session.old.knows }
         ensures legal { IsLegalRow session.old.account J.contents session.new.knows }
+        ensures own_go { IsPublished J.contents session.new.seat session.new.life session.new.account session.new.knows session.new.published }
         ensures carried { Carries follower.old follower.new session.old.life }
         ensures over { over_of follower.new ≡ session.old.life }
         ensures known { known_of session.old.life follower.new ≡ session.new.knows }

@@ -37,6 +37,7 @@ impl<J: HubSite> Model for Session<J> {
 impl<J: HubSite> Session<J> {
     ghost use Rattle.std.specs.Prelude.{◌≡◌, length};
     ghost use Rattle.dt_legal.specs.Rows.{IsLegalRow};
+    ghost use Rattle.dt_seat.specs.Publications.{IsPublished};
     ghost use Rattle.dt_trail.specs.Items.{StartsWith, own};
 
     /// The seat that it is on.
@@ -60,6 +61,7 @@ impl<J: HubSite> Session<J> {
         ensures longer { StartsWith self.new.knows self.old.knows }
         ensures lines { own 0 self.new.knows ≡ own 0 self.old.knows }
         ensures legal { IsLegalRow self.new.account J.contents self.new.knows }
+        ensures own_go { IsPublished J.contents self.new.seat self.new.life self.new.account self.new.knows self.new.published }
         ensures same { (self.new.seat ≡ self.old.seat) × (self.new.life ≡ self.old.life) × (self.new.row ≡ self.old.row)
             × (self.new.published ≡ self.old.published) × (self.new.account ≡ self.old.account) }
     {

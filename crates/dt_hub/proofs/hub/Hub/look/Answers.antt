@@ -31,6 +31,7 @@ returns g c = elim c.match-look.branch [
         record {
           place_is = refl;
           firing_is = search rules;
+          of_processor = (search rules, search rules);
           seen = found.seen;
           told = found.told;
           knows = prefix_self c.look.new.self.seen;

@@ -39,6 +39,13 @@ invariant_of-session g c =
       notebook_goes_on _ _ _ note c.meet_at.new.note _ _ h.1 grows,
     )
 
+pub returns-clause-own_go : goal.returns-clause-own_go
+returns-clause-own_go g c =
+    let note = c.session.inside.notebook.note in
+    let grows : Grows note c.meet_at.new.note =
+    subst (λ (n : Noted Account). Grows note n) (sym c.meet_at.ensures.session) (grows_met note c.in-Some.present.owner.knows c.meet_at.ensures.met) in
+    (notebook_goes_on _ _ _ note c.meet_at.new.note _ _ c.session.invariant.1 grows).published
+
 pub returns-clause-reader : goal.returns-clause-reader
 returns-clause-reader g c =
     let mine = ap (λ (s : Sat). s.published) c.session.view_is in (

@@ -10,3 +10,7 @@ invariant_of-self g c =
           (session_goes_on _ _ _ _ _ _ _ _ c.self.inside.notebook.note c.catch_up-count.new.self h.0 grows.row grows.longer),
       notebook_goes_on _ _ _ c.self.inside.notebook.note c.catch_up-count.new.self _ _ h.1 grows,
     )
+
+pub returns-clause-own_go : goal.returns-clause-own_go
+returns-clause-own_go g c =
+    (notebook_goes_on _ _ _ c.self.inside.notebook.note c.catch_up-count.new.self _ _ c.self.invariant.1 c.catch_up-count.ensures.grows).published
