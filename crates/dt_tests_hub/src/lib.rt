@@ -16,6 +16,8 @@ mod fronts;
 #[cfg(test)]
 mod gates;
 #[cfg(test)]
+mod gone;
+#[cfg(test)]
 mod histories;
 #[cfg(test)]
 mod meeting;

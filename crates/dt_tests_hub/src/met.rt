@@ -33,7 +33,7 @@ const ENDED: &str =
 pub(crate) const MANY: u64 = 1_000;
 
 /// A session whose second line is its `go`.
-const GOES: Sight = Sight {
+pub(crate) const GOES: Sight = Sight {
     go: 1,
     stop: None,
     history: MANY,
@@ -57,6 +57,17 @@ impl<J: HubSite> Firing<J> {
             heard,
             wants_writes: false,
         }
+    }
+
+    /// Its firing, which was offered to the session before on the seat of this one, found that life gone: nothing of it came to this session.
+    pub(crate) fn found_gone(
+        &mut self,
+        alloc: Global,
+        session: &Session<J>,
+    ) -> Result<(), AllocError> {
+        self.heard.fired(&self.token, true)?;
+        self.heard = self.heard.next(alloc, session)?;
+        Ok(())
     }
 }
 
